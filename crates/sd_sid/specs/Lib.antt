@@ -1,0 +1,4 @@
+pub mod Mask
+pub mod Mapping
+pub mod Sid
+pub mod SidParts

@@ -1,0 +1,39 @@
+-- SIDs ([MS-DTYP] 2.4.2).
+use Rattle.std.specs.Prelude.{◌≡◌, ℕ, ◌-◌, ◌^◌, ◌<◌, ◌≤◌, ◌==◌, ◌||◌, List, ◌++◌, length, take, drop, replicate, Result, Ok, Err, if◌then◌else◌, nat_lt, All}
+use Rattle.sd_sid.specs.declared.sid.SidError.{SidError}
+use Rattle.sd_sid.specs.declared.sid.SidError.TheVariants.{Revision, Count, Short, Authority}
+
+-- the identifier authority and the sub-authorities
+pub record SidValue : Type 0 where
+  pub authority : ℕ
+  pub subs : List ℕ
+
+-- what every SID is: an authority of 48 bits, and 1 to 15 sub-authorities of 32
+pub record IsSid (s : SidValue) : Type 0 where
+  pub authority : s.authority < 2 ^ 48
+  pub some : 0 < length s.subs
+  pub few : length s.subs ≤ 15
+  pub words : All (λ sub. sub < 2 ^ 32) s.subs
+
+-- the SID of an authority and sub-authorities: their number is tested first
+abbrev pub sid_of : ℕ → List ℕ → Result SidValue SidError
+sid_of authority subs =
+    if (length subs == 0 || nat_lt 15 (length subs)) then Err Count
+    else if nat_lt authority (2 ^ 48) then Ok (record { authority = authority; subs = subs })
+    else Err Authority
+
+-- how a SID is kept: the sub-authorities at the front of fifteen padded, zeros behind them
+pub record IsPadded (number : ℕ) (padded : List ℕ) (count : ℕ) : Type 0 where
+  pub authority : number < 2 ^ 48
+  pub some : 0 < count
+  pub few : count ≤ 15
+  pub room : length padded ≡ 15
+  pub padding : drop count padded ≡ replicate (15 - count) 0
+  pub words : All (λ sub. sub < 2 ^ 32) padded
+
+-- each error's number
+abbrev pub sid_error_number : SidError → ℕ
+sid_error_number Revision = 1
+sid_error_number Count = 2
+sid_error_number Short = 3
+sid_error_number Authority = 4

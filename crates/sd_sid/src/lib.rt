@@ -1,0 +1,18 @@
+//! Security identifiers, access masks and generic mappings: [MS-DTYP] 2.4.2 and 2.4.3.
+//!
+//! Every other crate stands on this one. It takes no memory and asks nothing of the system.
+//!
+//! ```text
+//! let everyone = Sid::new(1, &[0])?;
+//! let asked = Mask(0x8000_0000);
+//! let mapped = GenericMapping::file().map(asked); // Mask(0x0012_0089)
+//! ```
+#![tactic(auto)]
+
+mod mapping;
+mod mask;
+mod sid;
+
+pub use mapping::{BadMapping, GenericMapping};
+pub use mask::Mask;
+pub use sid::{Sid, SidError};

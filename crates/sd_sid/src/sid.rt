@@ -1,0 +1,105 @@
+// Security identifiers.
+
+ghost use Rattle.std.specs.Prelude.{◌≡◌, ◌==◌};
+ghost use Rattle.sd_sid.specs.Sid.{sid_of, sid_error_number, IsSid};
+
+use std::marker::Model;
+use thiserror::Error;
+
+/// The most sub-authorities that a SID has ([MS-DTYP] 2.4.2.2, SubAuthorityCount).
+const MAX_SUBS: usize = 15;
+
+/// An identifier authority is below this: it has six bytes ([MS-DTYP] 2.4.2.2, IdentifierAuthority).
+const AUTHORITY_LIMIT: u64 = 0x1_0000_0000_0000;
+
+/// A security identifier ([MS-DTYP] 2.4.2): an authority below 2^48, and 1 to 15 sub-authorities of 32 bits.
+/// Contracts see it as that pair. It is a plain value: two are compared whole, without a look at the number
+/// of sub-authorities first, since those that a SID doesn't have are kept as zeros.
+#[derive(Clone, Copy, Debug, PartialEq, Eq, PartialOrd, Ord, Hash)]
+pub struct Sid {
+    authority: u64,
+    subs: [u32; MAX_SUBS],
+    count: usize,
+}
+
+impl Model for Sid {
+    ghost use Rattle.std.specs.Prelude.{◌-◌, ◌++◌, length, take, replicate};
+    ghost use Rattle.sd_sid.specs.Sid.{SidValue, IsPadded};
+
+    ghost Value = { SidValue };
+
+    ghost view = { λ s. record { authority = s.authority; subs = take s.count s.subs } };
+
+    ghost invariant = { λ s. IsPadded s.authority s.subs s.count };
+
+    ghost inverse = { λ v. record { authority = v.authority; subs = v.subs ++ replicate (15 - length v.subs) 0; count = length v.subs } };
+
+    ghost use Rattle.sd_sid.specs.SidParts.{parts_come_back};
+
+    ghost inverse_ok = { parts_come_back };
+}
+
+/// Why no SID was made or read.
+#[derive(Clone, Copy, Debug, PartialEq, Eq, Error)]
+pub enum SidError {
+    #[error("the SID's revision isn't 1")]
+    Revision,
+    #[error("a SID has 1 to 15 sub-authorities")]
+    Count,
+    #[error("the bytes end before the SID does")]
+    Short,
+    #[error("a SID's authority is below 2^48")]
+    Authority,
+}
+
+impl SidError {
+    /// The error's number.
+    pub fn number(self) -> u8
+        ensures { result ≡ sid_error_number self }
+    {
+        match self {
+            SidError::Revision => 1,
+            SidError::Count => 2,
+            SidError::Short => 3,
+            SidError::Authority => 4,
+        }
+    }
+}
+
+impl Sid {
+    /// The SID of an authority and its sub-authorities: `Count` unless there are 1 to 15 of them, else
+    /// `Authority` unless the authority is below 2^48 ([MS-DTYP] 2.4.2).
+    pub fn new(authority: u64, subs: &[u32]) -> Result<Sid, SidError>
+        ensures { result ≡ sid_of authority subs.now }
+    {
+        if subs.is_empty() || subs.len() > MAX_SUBS {
+            return Err(SidError::Count);
+        }
+        if authority >= AUTHORITY_LIMIT {
+            return Err(SidError::Authority);
+        }
+        let mut padded = [0; MAX_SUBS];
+        padded[..subs.len()].copy_from_slice(subs);
+        Ok(Sid {
+            authority,
+            subs: padded,
+            count: subs.len(),
+        })
+    }
+
+    /// The identifier authority, below 2^48.
+    pub fn authority(&self) -> u64
+        ensures authority { result ≡ self.now.authority }
+        ensures known { IsSid self.now }
+    {
+        self.authority
+    }
+
+    /// The 1 to 15 sub-authorities, in order.
+    pub fn subs(&self) -> &[u32]
+        ensures subs { result.now ≡ self.now.subs }
+        ensures known { IsSid self.now }
+    {
+        &self.subs[..self.count]
+    }
+}
