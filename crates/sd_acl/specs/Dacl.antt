@@ -1,0 +1,13 @@
+-- The three kinds of DACL.
+use Rattle.std.specs.Prelude.{Bool, true, false, IsTrue}
+use Rattle.sd_acl.specs.declared.descriptor.Dacl.{Dacl}
+use Rattle.sd_acl.specs.declared.descriptor.Dacl.TheVariants.{Absent, Null, List}
+
+abbrev pub is_absent : Dacl → Bool
+is_absent Absent = true
+is_absent Null = false
+is_absent (List es) = false
+
+-- the descriptor has no DACL
+abbrev pub IsAbsent : Dacl → Type 0
+IsAbsent dacl = IsTrue (is_absent dacl)

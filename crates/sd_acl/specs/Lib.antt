@@ -1,0 +1,3 @@
+pub mod Ace
+pub mod Dacl
+pub mod Descriptor

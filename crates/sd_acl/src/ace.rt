@@ -1,0 +1,34 @@
+// Access control entries.
+
+ghost use Rattle.std.specs.Prelude.{◌≡◌, ◌≤◌};
+ghost use Rattle.sd_acl.specs.Ace.{ace_size};
+
+use crate::flags::AceFlags;
+use sd_sid::{Mask, Sid};
+
+/// Whether an entry allows or denies ([MS-DTYP] 2.4.4.1, AceType 0x00 and 0x01).
+#[derive(Clone, Copy, Debug, PartialEq, Eq, Hash)]
+pub enum AceKind {
+    Allow,
+    Deny,
+}
+
+/// An access control entry ([MS-DTYP] 2.4.4.2 and 2.4.4.4): what the trustee with this SID is allowed or denied.
+#[derive(Clone, Copy, Debug, PartialEq, Eq, Hash)]
+pub struct Ace {
+    pub kind: AceKind,
+    pub flags: AceFlags,
+    pub mask: Mask,
+    pub sid: Sid,
+}
+
+impl Ace {
+    /// The bytes that the entry takes in a list ([MS-DTYP] 2.4.4.1, AceSize): 16, and 4 for each
+    /// sub-authority of its SID.
+    pub fn size(&self) -> u64
+        ensures size { result ≡ ace_size self.now }
+        ensures most { result ≤ 76 }
+    {
+        16 + 4 * self.sid.subs().len() as u64
+    }
+}
