@@ -1,5 +1,9 @@
 -- SIDs ([MS-DTYP] 2.4.2).
-use Rattle.std.specs.Prelude.{◌≡◌, ℕ, ◌-◌, ◌^◌, ◌<◌, ◌≤◌, ◌==◌, ◌||◌, List, ◌++◌, length, take, drop, replicate, Result, Ok, Err, if◌then◌else◌, nat_lt, All}
+use Rattle.std.specs.Prelude.{◌≡◌, ℕ, Bool, ◌&&◌, ◌-◌, ◌^◌, ◌<◌, ◌≤◌, ◌==◌, ◌||◌, List, ◌++◌, length, take, drop, replicate, Result, Ok, Err, if◌then◌else◌, nat_lt, All}
+use Rattle.std.specs.Str.{bytes_eq}
+use Rattle.std.specs.Ordering.{nat_cmp, ordering_then}
+use Rattle.std.specs.Cmp.Lexicographic.{slice_cmp}
+use Rattle.std.specs.declared.cmp.Ordering.{Ordering}
 use Rattle.sd_sid.specs.declared.sid.SidError.{SidError}
 use Rattle.sd_sid.specs.declared.sid.SidError.TheVariants.{Revision, Count, Short, Authority}
 
@@ -37,3 +41,11 @@ sid_error_number Revision = 1
 sid_error_number Count = 2
 sid_error_number Short = 3
 sid_error_number Authority = 4
+
+-- whether two SIDs have the same authority and the same sub-authorities
+abbrev pub same_sid : SidValue → SidValue → Bool
+same_sid a b = a.authority == b.authority && bytes_eq a.subs b.subs
+
+-- SIDs are ordered by the authority, and then by the list of sub-authorities
+abbrev pub sid_cmp : SidValue → SidValue → Ordering
+sid_cmp a b = ordering_then (nat_cmp a.authority b.authority) (slice_cmp nat_cmp a.subs b.subs)

@@ -15,4 +15,4 @@ mod sid;
 
 pub use mapping::{BadMapping, GenericMapping};
 pub use mask::Mask;
-pub use sid::{Sid, SidError};
+pub use sid::{Sid, SidError, sids_compare_by_value};

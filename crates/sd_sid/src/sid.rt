@@ -1,7 +1,7 @@
 // Security identifiers.
 
-ghost use Rattle.std.specs.Prelude.{◌≡◌, ◌==◌};
-ghost use Rattle.sd_sid.specs.Sid.{sid_of, sid_error_number, IsSid};
+ghost use Rattle.std.specs.Prelude.{◌≡◌, ◌==◌, IsTrue, ◌↔◌};
+ghost use Rattle.sd_sid.specs.Sid.{SidValue, sid_of, sid_error_number, same_sid, sid_cmp, IsSid};
 
 use std::marker::Model;
 use thiserror::Error;
@@ -103,3 +103,12 @@ impl Sid {
         &self.subs[..self.count]
     }
 }
+
+/// The law that `==` and `cmp` of SIDs, which compare how they are kept, are those of their values: two SIDs
+/// are equal where they have the same authority and the same sub-authorities, and they are ordered by the
+/// authority and then by the list of sub-authorities ([MS-DTYP] 2.4.2).
+pub fn sids_compare_by_value()
+    ensures equal { (a b : SidValue) → IsSid a → IsSid b → ⟦<Sid as PartialEq>⟧.eq a b ≡ same_sid a b }
+    ensures same { (a b : SidValue) → IsTrue (same_sid a b) ↔ (a ≡ b) }
+    ensures ordered { (a b : SidValue) → IsSid a → IsSid b → ⟦<Sid as Ord>⟧.cmp a b ≡ sid_cmp a b }
+{}
