@@ -1,6 +1,11 @@
--- The sizes of entries and of lists ([MS-DTYP] 2.4.4.1, AceSize, and 2.4.5, AclSize).
-use Rattle.std.specs.Prelude.{ℕ, ◌+◌, ◌*◌, List, length, sum_by}
+-- Entries: whether they count in a check, and the sizes of entries and of lists ([MS-DTYP] 2.4.4.1, AceSize, and 2.4.5, AclSize).
+use Rattle.std.specs.Prelude.{ℕ, Bool, ◌+◌, ◌*◌, List, length, sum_by}
+use Rattle.sd_sid.specs.Mask.{holds}
 use Rattle.sd_acl.specs.declared.ace.Ace.{Ace}
+
+-- an inherit-only entry has no part in a check (2.4.4.1, INHERIT_ONLY_ACE)
+abbrev pub is_inherit_only : Ace → Bool
+is_inherit_only e = holds e.flags.0 3
 
 -- the entry's header and mask, and its SID
 abbrev pub ace_size : Ace → ℕ

@@ -1,3 +1,4 @@
 pub mod Ace
 pub mod Dacl
 pub mod Descriptor
+pub mod Verdict

@@ -1,9 +1,10 @@
 // Access control entries.
 
 ghost use Rattle.std.specs.Prelude.{◌≡◌, ◌≤◌};
-ghost use Rattle.sd_acl.specs.Ace.{ace_size};
+ghost use Rattle.sd_acl.specs.Ace.{ace_size, is_inherit_only};
 
 use crate::flags::AceFlags;
+use bitflags::Flags;
 use sd_sid::{Mask, Sid};
 
 /// Whether an entry allows or denies ([MS-DTYP] 2.4.4.1, AceType 0x00 and 0x01).
@@ -23,6 +24,14 @@ pub struct Ace {
 }
 
 impl Ace {
+    /// Whether the entry is there to be inherited only, and has no part in a check ([MS-DTYP] 2.4.4.1,
+    /// INHERIT_ONLY_ACE).
+    pub fn is_inherit_only(&self) -> bool
+        ensures { result ≡ is_inherit_only self.now }
+    {
+        self.flags.contains(AceFlags::IO)
+    }
+
     /// The bytes that the entry takes in a list ([MS-DTYP] 2.4.4.1, AceSize): 16, and 4 for each
     /// sub-authority of its SID.
     pub fn size(&self) -> u64

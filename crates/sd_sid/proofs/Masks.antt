@@ -1,10 +1,12 @@
 -- Masks as sets of places: what `mask_of` holds, and when two masks are one.
 use Rattle.std.proofs.Common.{◌≡◌, ℕ, zero, suc, ◌+◌, ◌-◌, ◌*◌, ◌^◌, ◌<◌, ◌≤◌, Bool, true, false, ◌&&◌, ◌||◌, not, ◌==◌, nat_lt, cond, refl, sym, ◌∙◌, ap, arith, inl, inr, ◌⊎◌, bit_and, bit_or, lit<, min, max}
 use Rattle.std.specs.Int.{bit_at, bit_not, w32}
-use Rattle.std.proofs.lemmas.Nat.Bits.{bit_at_cat_low, bit_at_cat_high, bit_at-zero, bit_at_lowest, bit_at-lt, bit_at_above, same_from_bits_below, bit_at_and, bit_at_or, bit_at_not}
+use Rattle.std.proofs.lemmas.Nat.Bits.{bit_at_cat_low, bit_at_cat_high, bit_at-zero, bit_at_lowest, bit_at-lt, bit_at_above, same_from_bits_below, bit_at_and, bit_at_or, bit_at_not, and_pow}
 use Rattle.std.proofs.lemmas.Nat.{or_lt}
 use Rattle.std.specs.Int.Bits.{and_lt}
-use Rattle.std.proofs.lemmas.Bool.{cases_order, lt-ltb, le-ltb}
+use Rattle.std.proofs.lemmas.Bool.{cases_order, lt-ltb, le-ltb, ne_eqb, eq-eqb}
+use Rattle.std.proofs.Math.Pow.{pow_pos}
+use Rattle.std.proofs.Math.Nat.{zero-mul, one-mul}
 use Rattle.std.proofs.Math.Nat.{pow-suc}
 use Rattle.std.proofs.lemmas.Grind.{common_steps}
 use Rattle.std.proofs.lemmas.Bool.Decides.{nat_tests}
@@ -131,3 +133,10 @@ mask_of-alike p q (suc k) h =
 pub holds_when : (b : Bool) (m k : ℕ) → holds (cond b m 0) k ≡ (b && holds m k)
 holds_when true m k = refl
 holds_when false m k = ap (λ n. n == 1) (bit_at-zero k)
+
+-- the test `n & (1 << k) == 1 << k`
+pub flag_test : (n k : ℕ) → (bit_and n (2 ^ k) == 2 ^ k) ≡ holds n k
+flag_test n k = rw and_pow (elim (bit_cases (bit_at n k) (bit_at-lt n k)) [
+  | inl off ↦ rw (off, zero-mul) (ne_eqb 0 (2 ^ k) (λ e. let h : 0 < 2 ^ k = pow_pos k in absurd (omega arith)))
+  | inr on ↦ rw (on, one-mul) (eq-eqb (2 ^ k) (2 ^ k) refl)
+])

@@ -1,5 +1,5 @@
 -- SIDs ([MS-DTYP] 2.4.2).
-use Rattle.std.specs.Prelude.{◌≡◌, ℕ, Bool, ◌&&◌, ◌-◌, ◌^◌, ◌<◌, ◌≤◌, ◌==◌, ◌||◌, List, ◌++◌, length, take, drop, replicate, Result, Ok, Err, if◌then◌else◌, nat_lt, All}
+use Rattle.std.specs.Prelude.{◌≡◌, ℕ, Bool, ◌&&◌, ◌-◌, ◌^◌, ◌<◌, ◌≤◌, ◌==◌, ◌||◌, List, [], ◌∷◌, ◌++◌, length, take, drop, replicate, Result, Ok, Err, if◌then◌else◌, nat_lt, All}
 use Rattle.std.specs.Str.{bytes_eq}
 use Rattle.std.specs.Ordering.{nat_cmp, ordering_then}
 use Rattle.std.specs.Cmp.Lexicographic.{slice_cmp}
@@ -45,6 +45,10 @@ sid_error_number Authority = 4
 -- whether two SIDs have the same authority and the same sub-authorities
 abbrev pub same_sid : SidValue → SidValue → Bool
 same_sid a b = a.authority == b.authority && bytes_eq a.subs b.subs
+
+-- OWNER RIGHTS, S-1-3-4 (2.4.2.4)
+abbrev pub owner_rights : SidValue
+owner_rights = record { authority = 3; subs = 4 ∷ [] }
 
 -- SIDs are ordered by the authority, and then by the list of sub-authorities
 abbrev pub sid_cmp : SidValue → SidValue → Ordering

@@ -1,7 +1,7 @@
 // Security identifiers.
 
 ghost use Rattle.std.specs.Prelude.{◌≡◌, ◌==◌, IsTrue, ◌↔◌};
-ghost use Rattle.sd_sid.specs.Sid.{SidValue, sid_of, sid_error_number, same_sid, sid_cmp, IsSid};
+ghost use Rattle.sd_sid.specs.Sid.{SidValue, sid_of, sid_error_number, same_sid, owner_rights, sid_cmp, IsSid};
 
 use std::marker::Model;
 use thiserror::Error;
@@ -101,6 +101,30 @@ impl Sid {
         ensures known { IsSid self.now }
     {
         &self.subs[..self.count]
+    }
+
+    #[tactic(auto, using(crate::proofs::Compared::equal_by_value))]
+    /// Whether both are one SID: what `==` answers, for callers whose contracts speak of values.
+    pub fn is(&self, other: &Sid) -> bool
+        ensures { result ≡ same_sid self.now other.now }
+    {
+        self.show_padding();
+        other.show_padding();
+        self == other
+    }
+
+    /// Whether this is OWNER RIGHTS, S-1-3-4 ([MS-DTYP] 2.4.2.4).
+    pub fn is_owner_rights(&self) -> bool
+        ensures { result ≡ same_sid self.now owner_rights }
+    {
+        self.authority == 3 && self.count == 1 && self.subs[0] == 4
+    }
+
+    /// Tells contracts what every SID is.
+    fn show_padding(&self)
+        ensures { IsSid self.now }
+    {
+        let _count = self.count;
     }
 }
 

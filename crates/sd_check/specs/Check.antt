@@ -1,0 +1,23 @@
+-- The access check ([MS-DTYP] 2.5.3.2).
+use Rattle.std.specs.Prelude.{ℕ, Bool, not, ◌&&◌, ◌||◌, List, Option, Some, None}
+use Rattle.sd_sid.specs.Mapping.{MappingValue}
+use Rattle.sd_sid.specs.Sid.{SidValue}
+use Rattle.sd_acl.specs.Verdict.{acl_grants, limits_owner, is_implied, most_of, judged}
+use Rattle.sd_acl.specs.declared.ace.Ace.{Ace}
+use Rattle.sd_acl.specs.declared.ace.AceKind.TheVariants.{Allow}
+use Rattle.sd_acl.specs.declared.verdict.Verdict.{Verdict}
+use Rattle.sd_check.specs.Token.{TokenValue, applies, stands_for_subject}
+
+-- granted without an entry: the owner's two bits, where the list doesn't limit the owner, and the privileges'
+abbrev pub is_given : Option SidValue → Option (List Ace) → TokenValue → ℕ → Bool
+is_given owner dacl t b =
+    is_implied (stands_for_subject t Allow owner && not (limits_owner dacl)) t.privileges.take_ownership t.privileges.security b
+
+-- granted: by the DACL, or without an entry
+abbrev pub is_granted : Option SidValue → Option (List Ace) → MappingValue → TokenValue → ℕ → Bool
+is_granted owner dacl g t b = acl_grants g (applies t owner) dacl b || is_given owner dacl t b
+
+-- the verdict on a request
+abbrev pub verdict : Option SidValue → Option (List Ace) → MappingValue → TokenValue → ℕ → Verdict
+verdict owner dacl g t r =
+    judged g (is_granted owner dacl g t) (most_of g (is_granted owner dacl g t) (is_given owner dacl t) dacl) r

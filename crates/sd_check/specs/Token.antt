@@ -1,0 +1,40 @@
+-- Whom an entry speaks of, and when it applies to a token ([MS-DTYP] 2.5.2 and 2.5.3.1).
+use Rattle.std.specs.Prelude.{Bool, true, false, ◌&&◌, ◌||◌, List, Option, Some, None}
+use Rattle.std.specs.List.{list_any}
+use Rattle.sd_sid.specs.Sid.{SidValue, same_sid}
+use Rattle.sd_acl.specs.Verdict.{subject}
+use Rattle.sd_acl.specs.declared.ace.AceKind.{AceKind}
+use Rattle.sd_acl.specs.declared.ace.AceKind.TheVariants.{Allow, Deny}
+use Rattle.sd_check.specs.declared.token.GroupState.{GroupState}
+use Rattle.sd_check.specs.declared.token.GroupState.TheVariants.{Enabled, DenyOnly, Disabled}
+use Rattle.sd_check.specs.declared.token.Privileges.{Privileges}
+
+-- a user, its groups, each place with its state, and its privileges
+pub record TokenValue : Type 0 where
+  pub user : SidValue
+  pub groups : List (SidValue × GroupState)
+  pub privileges : Privileges
+
+-- an enabled group counts for both kinds, a deny-only one for denies, a disabled one for nothing
+abbrev pub counts : AceKind → GroupState → Bool
+counts kind Enabled = true
+counts Allow DenyOnly = false
+counts Deny DenyOnly = true
+counts kind Disabled = false
+
+-- some place of the groups has the SID, and counts
+abbrev pub a_group_stands_for : List (SidValue × GroupState) → AceKind → SidValue → Bool
+a_group_stands_for groups kind s = list_any (λ (group : SidValue × GroupState). same_sid group.0 s && counts kind group.1) groups
+
+-- the user has the SID, or a group that counts
+abbrev pub stands_for : TokenValue → AceKind → SidValue → Bool
+stands_for t kind s = same_sid t.user s || a_group_stands_for t.groups kind s
+
+-- an entry of the kind applies to the token where it speaks of somebody, and the token stands for that SID
+abbrev pub stands_for_subject : TokenValue → AceKind → Option SidValue → Bool
+stands_for_subject t kind None = false
+stands_for_subject t kind (Some s) = stands_for t kind s
+
+-- whether an entry of the kind for the SID applies, with this owner
+abbrev pub applies : TokenValue → Option SidValue → AceKind → SidValue → Bool
+applies t owner kind s = stands_for_subject t kind (subject owner s)

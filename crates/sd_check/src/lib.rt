@@ -1,0 +1,21 @@
+//! The access check: [MS-DTYP] 2.5.3.2.
+//!
+//! A pure question over a descriptor, a token and a request. It takes no memory and asks nothing of the
+//! system; the rules are told in docs/CHECK.md.
+//!
+//! ```text
+//! let token = Token::new(user, groups, Privileges::default());
+//! match check(&descriptor, &GenericMapping::file(), &token, Mask(0x0002_0000)) {
+//!     Verdict::Granted(mask) => ..,
+//!     Verdict::Denied { missing } => ..,
+//!     ..
+//! }
+//! ```
+#![tactic(auto)]
+
+mod access;
+mod token;
+
+pub use access::DaclRef;
+pub use sd_acl::Verdict;
+pub use token::{GroupState, Privileges, Token};

@@ -1,0 +1,92 @@
+// Who asks.
+
+ghost use Rattle.std.specs.Prelude.{◌≡◌};
+ghost use Rattle.sd_check.specs.Token.{stands_for, a_group_stands_for, counts};
+
+use sd_acl::AceKind;
+use sd_sid::Sid;
+use std::marker::Model;
+
+/// How a group of a token counts ([MS-DTYP] 2.5.2, SE_GROUP_ENABLED and SE_GROUP_USE_FOR_DENY_ONLY).
+#[derive(Clone, Copy, Debug, PartialEq, Eq)]
+pub enum GroupState {
+    /// For allow and deny entries.
+    Enabled,
+    /// For deny entries alone.
+    DenyOnly,
+    /// For nothing.
+    Disabled,
+}
+
+/// The privileges that a check looks at.
+#[derive(Clone, Copy, Debug, PartialEq, Eq, Default)]
+pub struct Privileges {
+    /// SeSecurityPrivilege: grants ACCESS_SYSTEM_SECURITY.
+    pub security: bool,
+    /// SeTakeOwnershipPrivilege: grants WRITE_OWNER.
+    pub take_ownership: bool,
+}
+
+/// Who asks ([MS-DTYP] 2.5.2): a user, its groups as they were given, and its privileges.
+#[derive(Debug, Drop)]
+pub struct Token {
+    user: Sid,
+    groups: Vec<(Sid, GroupState)>,
+    privileges: Privileges,
+}
+
+impl Model for Token {
+    ghost use Rattle.sd_check.specs.Token.{TokenValue};
+
+    ghost Value = { TokenValue };
+
+    ghost view = { λ t. record { user = t.user; groups = t.groups.items; privileges = t.privileges } };
+}
+
+impl GroupState {
+    /// Whether a group in this state counts for an entry of the kind.
+    fn counts(self, kind: AceKind) -> bool
+        ensures { result ≡ counts kind self }
+    {
+        match self {
+            GroupState::Enabled => true,
+            GroupState::DenyOnly => kind == AceKind::Deny,
+            GroupState::Disabled => false,
+        }
+    }
+}
+
+impl Token {
+    /// The token of a user, groups and privileges. A SID may stand in the groups more than once; each place
+    /// counts. Takes no memory.
+    pub fn new(user: Sid, groups: Vec<(Sid, GroupState)>, privileges: Privileges) -> Token
+        ensures { result ≡ record { user = user; groups = groups.items; privileges = privileges } }
+    {
+        Token {
+            user,
+            groups,
+            privileges,
+        }
+    }
+
+    pub(crate) fn privileges(&self) -> Privileges
+        ensures { result ≡ self.now.privileges }
+    {
+        self.privileges
+    }
+
+    /// Whether an entry of the kind for the SID applies: the user has the SID, or a group that counts.
+    pub(crate) fn stands_for(&self, kind: AceKind, sid: &Sid) -> bool
+        ensures { result ≡ stands_for self.now kind sid.now }
+    {
+        self.user.is(sid) || self.a_group_stands_for(kind, sid)
+    }
+
+    fn a_group_stands_for(&self, kind: AceKind, sid: &Sid) -> bool
+        ensures { result ≡ a_group_stands_for self.now.groups kind sid.now }
+    {
+        self.groups
+            .iter()
+            .any(|(group, state)| group.is(sid) && state.counts(kind))
+    }
+}
