@@ -1,7 +1,13 @@
 -- Entries: whether they count in a check, and the sizes of entries and of lists ([MS-DTYP] 2.4.4.1, AceSize, and 2.4.5, AclSize).
-use Rattle.std.specs.Prelude.{ℕ, Bool, ◌+◌, ◌*◌, List, length, sum_by}
+use Rattle.std.specs.Prelude.{ℕ, Bool, true, false, ◌+◌, ◌*◌, List, length, sum_by}
 use Rattle.sd_sid.specs.Mask.{holds}
+use Rattle.sd_acl.specs.declared.ace.AceKind.{AceKind}
+use Rattle.sd_acl.specs.declared.ace.AceKind.TheVariants.{Allow, Deny}
 use Rattle.sd_acl.specs.declared.ace.Ace.{Ace}
+
+abbrev pub is_allow : AceKind → Bool
+is_allow Allow = true
+is_allow Deny = false
 
 -- an inherit-only entry has no part in a check (2.4.4.1, INHERIT_ONLY_ACE)
 abbrev pub is_inherit_only : Ace → Bool

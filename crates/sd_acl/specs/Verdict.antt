@@ -7,10 +7,9 @@ use Rattle.std.specs.List.{list_any}
 use Rattle.sd_sid.specs.Mask.{holds, mask_of}
 use Rattle.sd_sid.specs.Mapping.{MappingValue, mapped}
 use Rattle.sd_sid.specs.Sid.{SidValue, same_sid, owner_rights}
-use Rattle.sd_acl.specs.Ace.{is_inherit_only}
+use Rattle.sd_acl.specs.Ace.{is_allow, is_inherit_only}
 use Rattle.sd_acl.specs.declared.ace.Ace.{Ace}
 use Rattle.sd_acl.specs.declared.ace.AceKind.{AceKind}
-use Rattle.sd_acl.specs.declared.ace.AceKind.TheVariants.{Allow, Deny}
 use Rattle.sd_acl.specs.declared.verdict.Verdict.{Verdict}
 use Rattle.sd_acl.specs.declared.verdict.Verdict.TheVariants.{Granted, Denied, Reserved, EmptyRequest}
 
@@ -24,10 +23,6 @@ decides g applies b e = (not (is_inherit_only e) && applies e.kind e.sid) && hol
 -- the first entry of the list that settles the bit
 abbrev pub first : MappingValue → (AceKind → SidValue → Bool) → List Ace → ℕ → Option Ace
 first g applies es b = find (decides g applies b) es
-
-abbrev pub is_allow : AceKind → Bool
-is_allow Allow = true
-is_allow Deny = false
 
 -- the entry that settles the bit is there, and is an allow
 abbrev pub is_allowed_by : Option Ace → Bool
@@ -81,8 +76,8 @@ plain_verdict q missing =
 
 -- a request with MAXIMUM_ALLOWED: with what was asked for beside it comes all that is granted; where that is
 -- nothing, MAXIMUM_ALLOWED itself is missing
-abbrev pub maximum_verdict : ℕ → ℕ → ℕ → Verdict
-maximum_verdict q missing all =
+abbrev pub maximum_verdict : ℕ → ℕ → Verdict
+maximum_verdict missing all =
     if missing == 0 then (if all == 0 then Denied 0x02000000 else Granted all)
     else Denied missing
 
@@ -93,7 +88,7 @@ joined_with q most = mask_of (λ b. holds q b || holds most b) 32
 -- the mapped request, as it was asked for
 abbrev pub answered : (ℕ → Bool) → ℕ → ℕ → ℕ → Verdict
 answered is_granted most r q =
-    if holds r 25 then maximum_verdict q (missing_of is_granted q) (joined_with q most)
+    if holds r 25 then maximum_verdict (missing_of is_granted q) (joined_with q most)
     else plain_verdict q (missing_of is_granted q)
 
 -- the verdict on the request `r`, from which bits are granted, and `most`, what MAXIMUM_ALLOWED takes in

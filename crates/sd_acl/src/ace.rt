@@ -1,7 +1,7 @@
 // Access control entries.
 
 ghost use Rattle.std.specs.Prelude.{◌≡◌, ◌≤◌};
-ghost use Rattle.sd_acl.specs.Ace.{ace_size, is_inherit_only};
+ghost use Rattle.sd_acl.specs.Ace.{ace_size, is_allow, is_inherit_only};
 
 use crate::flags::AceFlags;
 use bitflags::Flags;
@@ -12,6 +12,18 @@ use sd_sid::{Mask, Sid};
 pub enum AceKind {
     Allow,
     Deny,
+}
+
+impl AceKind {
+    /// Whether entries of this kind allow.
+    pub fn is_allow(self) -> bool
+        ensures { result ≡ is_allow self }
+    {
+        match self {
+            AceKind::Allow => true,
+            AceKind::Deny => false,
+        }
+    }
 }
 
 /// An access control entry ([MS-DTYP] 2.4.4.2 and 2.4.4.4): what the trustee with this SID is allowed or denied.

@@ -1,8 +1,8 @@
 -- The access check ([MS-DTYP] 2.5.3.2).
 use Rattle.std.specs.Prelude.{ℕ, Bool, not, ◌&&◌, ◌||◌, List, Option, Some, None}
-use Rattle.sd_sid.specs.Mapping.{MappingValue}
+use Rattle.sd_sid.specs.Mapping.{MappingValue, mapped}
 use Rattle.sd_sid.specs.Sid.{SidValue}
-use Rattle.sd_acl.specs.Verdict.{acl_grants, limits_owner, is_implied, most_of, judged}
+use Rattle.sd_acl.specs.Verdict.{acl_grants, limits_owner, is_implied, most_of, answered, without_maximum, judged}
 use Rattle.sd_acl.specs.declared.ace.Ace.{Ace}
 use Rattle.sd_acl.specs.declared.ace.AceKind.TheVariants.{Allow}
 use Rattle.sd_acl.specs.declared.verdict.Verdict.{Verdict}
@@ -17,7 +17,14 @@ is_given owner dacl t b =
 abbrev pub is_granted : Option SidValue → Option (List Ace) → MappingValue → TokenValue → ℕ → Bool
 is_granted owner dacl g t b = acl_grants g (applies t owner) dacl b || is_given owner dacl t b
 
+-- what MAXIMUM_ALLOWED takes in
+abbrev pub most : Option SidValue → Option (List Ace) → MappingValue → TokenValue → ℕ
+most owner dacl g t = most_of g (is_granted owner dacl g t) (is_given owner dacl t) dacl
+
+-- the verdict on a request that isn't empty and has no reserved bit
+abbrev pub answer_of : Option SidValue → Option (List Ace) → MappingValue → TokenValue → ℕ → Verdict
+answer_of owner dacl g t r = answered (is_granted owner dacl g t) (most owner dacl g t) r (mapped g (without_maximum r))
+
 -- the verdict on a request
 abbrev pub verdict : Option SidValue → Option (List Ace) → MappingValue → TokenValue → ℕ → Verdict
-verdict owner dacl g t r =
-    judged g (is_granted owner dacl g t) (most_of g (is_granted owner dacl g t) (is_given owner dacl t) dacl) r
+verdict owner dacl g t r = judged g (is_granted owner dacl g t) (most owner dacl g t) r

@@ -1,3 +1,4 @@
 pub mod Token
 pub mod Check
 pub mod Dacl
+pub mod Walk

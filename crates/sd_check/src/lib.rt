@@ -14,8 +14,10 @@
 #![tactic(auto)]
 
 mod access;
+mod request;
 mod token;
 
 pub use access::DaclRef;
+pub use request::{check, check_parts};
 pub use sd_acl::Verdict;
 pub use token::{GroupState, Privileges, Token};

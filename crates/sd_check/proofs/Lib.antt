@@ -1,0 +1,3 @@
+pub mod FirstEntry
+pub mod Given
+pub mod Answered

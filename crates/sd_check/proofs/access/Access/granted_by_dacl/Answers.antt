@@ -1,0 +1,14 @@
+-- Without a list, all of the object's rights are granted.
+use Rattle.std.proofs.Common.{◌≡◌, ◌∙◌, ap}
+use Rattle.sd_sid.specs.Mask.{mask_of}
+use Rattle.sd_acl.specs.Verdict.{acl_grants}
+use Rattle.sd_check.specs.Dacl.{entries_of}
+use Rattle.sd_check.specs.Token.{applies}
+use Rattle.sd_check.proofs.Given.{object_rights}
+use Rattle.sd_check.proofs.access.Access.granted_by_dacl.Goals as goal
+
+pub returns-in-Absent : goal.returns-in-Absent
+returns-in-Absent c = rw c.in-Absent.is object_rights
+
+pub returns-in-Null : goal.returns-in-Null
+returns-in-Null c = rw c.in-Null.is object_rights
