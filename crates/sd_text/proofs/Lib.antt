@@ -1,0 +1,4 @@
+pub mod Letters
+pub mod Parts
+pub mod Runs
+pub mod Engine
