@@ -1,12 +1,12 @@
 -- What find answers is what the relations say, for each grammar; so a text has one value or one fault.
-use Rattle.std.proofs.Common.{◌≡◌, ℕ, zero, suc, ◌<◌, ◌≤◌, ◌⊎◌, inl, inr, true, false, List, [], ◌∷◌, ◌++◌, length, drop, take, Some, None, Ok, Err, refl, arith, ap, sym, ◌∙◌, append_assoc}
-use Rattle.std.specs.Prelude.{nat_lt, not}
+use Rattle.std.proofs.Common.{◌≡◌, ℕ, zero, suc, ◌+◌, ◌<◌, ◌≤◌, ◌⊎◌, inl, inr, true, false, List, [], ◌∷◌, ◌++◌, length, drop, take, Some, None, Ok, Err, refl, arith, ap, sym, ◌∙◌, append_assoc}
+use Rattle.std.specs.Prelude.{nat_lt, not, ◌==◌}
 use Rattle.std.specs.Str.Parse.{digits_value}
-use Rattle.std.proofs.lemmas.Bool.{ltb-true, ltb-false, lt-ltb, le-ltb}
+use Rattle.std.proofs.lemmas.Bool.{ltb-true, ltb-false, lt-ltb, le-ltb, eqb-true}
 use Rattle.std.proofs.lemmas.List.{append-nil, length-drop}
 use Rattle.sd_text.specs.declared.fault.TextFault.{TextFault}
 use Rattle.sd_text.specs.declared.fault.TextFault.TheVariants.{Syntax, Range}
-use Rattle.sd_text.specs.Grammar.{Grammar, Name, value, refused, choose, and_then, word, number, one_of, many, begins, begins_digit, named, Items, spells, faults, Spells, HasFault}
+use Rattle.sd_text.specs.Grammar.{Grammar, Name, value, refused, choose, and_then, word, number, one_of, many, begins, begins_digit, named, Items, spells, faults, Spells, HasFault, end, whole, ◌>>=◌}
 use Rattle.sd_text.specs.Reading.{Found, digits_len, find_number, find_items, find}
 use Rattle.sd_text.proofs.Parts.{chosen, not_holds, not_fails, part_ok, part_err, name_gave, found, found_is, stopped, stopped_is, named_takes, named_none}
 use Rattle.sd_text.proofs.Runs.{run_of, run_digits, run_behind, run_begins}
@@ -79,6 +79,23 @@ module _ {A B : Type 0} (names : List (Name B)) (item : List A → B → List �
             omega arith
       ]
 
+  pub items_there : ((before : List A) (b : B) (text : List ℕ) (a : A) (behind : List ℕ) → item before b text ≡ Ok (a, behind) → length behind ≤ length text) → ((before : List A) (b : B) (text : List ℕ) (f : TextFault) (there : List ℕ) → item before b text ≡ Err (f, there) → length there ≤ length text)
+      → (n : ℕ) (before : List A) (text : List ℕ) (f : TextFault) (there : List ℕ) → find_items names item n before text ≡ Err (f, there) → length there ≤ length text
+  items_there shorter within zero before text f there e = absurd cc
+  items_there shorter within (suc n) before text f there e =
+      elim (name_gave (named names text) _ _ _ e) [
+        | inl h ↦ absurd (let no : found before text ≡ Err (f, there) = h.1 in cc)
+        | inr h ↦
+            let lt = named_takes names text h.0 h.1 h.2 in
+            elim (part_err (item before h.0 h.1) _ (f, there) h.3) [
+              | inl failed ↦ let le = within before h.0 h.1 f there failed in omega arith
+              | inr step ↦
+                  let no_longer = shorter before h.0 h.1 step.0 step.1 step.2 in
+                  let rest = items_there shorter within n (before ++ step.0 ∷ []) step.1 f there step.3 in
+                  omega arith
+            ]
+      ]
+
 -- ---- numbers
 
 number_ok : (radix limit len : ℕ) (run text : List ℕ) (n : ℕ) (behind : List ℕ) → find_number radix limit len run text ≡ Ok (n, behind) → (begins_digit radix run ≡ true) × (digits_value radix (take len run) < limit) × (digits_value radix (take len run) ≡ n) × (drop len run ≡ behind)
@@ -132,6 +149,33 @@ shorter (one_of names p) text a behind e =
       | inr h ↦ let lt = named_takes names text h.0 h.1 h.2 in rw (sym (found_is h.0 a h.1 behind h.3).1) (omega arith)
     ]
 shorter (many names item) text a behind e = items_shorter names (λ before b. find (item before b)) (λ before b. spells (item before b)) (λ before b. shorter (item before b)) (length text) [] text a behind e
+
+-- a fault stands in the text
+pub fault_within : {A : Type 0} (g : Grammar A) (text : List ℕ) (f : TextFault) (there : List ℕ) → find g text ≡ Err (f, there) → length there ≤ length text
+fault_within (value b) text f there e = absurd cc
+fault_within {A = A} (refused d) text f there e = rw (sym (stopped_is {A = A} d f text there e).1) (omega arith)
+fault_within (choose test p q) text f there e = elim (chosen (test text) _ _ _ e) [ inl h ↦ fault_within p text f there h.1 | inr h ↦ fault_within q text f there h.1 ]
+fault_within (and_then p next) text f there e =
+    elim (part_err (find p text) (λ b mid. find (next b) mid) (f, there) e) [
+      | inl h ↦ fault_within p text f there h
+      | inr s ↦ let le = shorter p text s.0 s.1 s.2 in let rest = fault_within (next s.0) s.1 f there s.3 in omega arith
+    ]
+fault_within (word letters) text f there e =
+    elim (chosen (begins text letters) _ _ _ e) [
+      | inl h ↦ absurd (let no : found tt (drop (length letters) text) ≡ Err (f, there) = h.1 in cc)
+      | inr h ↦ rw (sym (stopped_is {A = Unit {0}} Syntax f text there h.1).1) (omega arith)
+    ]
+fault_within (number head radix limit) text f there e =
+    elim (number_err radix limit (digits_len radix (drop head text)) (drop head text) text f there e) [
+      | inl h ↦ rw h.1 (length-drop-le head text)
+      | inr h ↦ rw h.1 (omega arith)
+    ]
+fault_within (one_of names p) text f there e =
+    elim (name_gave (named names text) _ _ _ e) [
+      | inl h ↦ fault_within p text f there h.1
+      | inr h ↦ absurd (let no : found h.0 h.1 ≡ Err (f, there) = h.3 in cc)
+    ]
+fault_within (many names item) text f there e = items_there names (λ before b. find (item before b)) (λ before b. spells (item before b)) (λ before b. shorter (item before b)) (λ before b. fault_within (item before b)) (length text) [] text f there e
 
 -- what is found is spelled
 pub find_spells : {A : Type 0} (g : Grammar A) (text : List ℕ) (a : A) (behind : List ℕ) → find g text ≡ Ok (a, behind) → spells g text a behind
@@ -243,3 +287,22 @@ one_fault {A = A} g text f d p q h k =
     let same = stopped_is {A = A} f d h.0 k.0 (sym (faults_find g text f h.0 h.1) ∙ faults_find g text d k.0 k.1) in
     let lengths = ap length same.1 in
     (same.0, omega arith)
+
+-- ---- what a public call answers
+
+-- nothing is behind a whole text
+pub whole_value : {A : Type 0} (part : Grammar A) (text : List ℕ) (a : A) (rest : List ℕ) → find (whole part) text ≡ Ok (a, rest) → Spells (whole part) text a
+whole_value {A = A} part text a rest e =
+    let first = part_ok (find part text) (λ b mid. find (end >>= λ u. value b) mid) a rest e in
+    let second = part_ok (find end first.1) (λ u mid. find (value first.0) mid) a rest first.3 in
+    let last = found_is first.0 a second.1 rest second.3 in
+    let none : rest ≡ [] = sym last.1 ∙ ends first.1 second.0 second.1 second.2 in
+    find_spells (whole part) text a [] (rw none at e)
+  where
+    ends : (mid : List ℕ) (u : Unit {0}) (after : List ℕ) → find end mid ≡ Ok (u, after) → after ≡ []
+    ends [] u after e = sym (found_is tt u [] after e).1
+    ends (c ∷ mid) u after e = elim (chosen (length (c ∷ mid) == 0) _ _ _ e) [ inl h ↦ absurd (let no = eqb-true (length (c ∷ mid)) 0 h.0 in omega arith) | inr h ↦ absurd (let no : stopped {A = Unit {0}} Syntax (c ∷ mid) ≡ Ok (u, after) = h.1 in cc) ]
+
+-- a fault that is found stands at the place where the reader stopped
+pub fault_at : {A : Type 0} (g : Grammar A) (text : List ℕ) (f : TextFault) (there : List ℕ) (place : ℕ) → find g text ≡ Err (f, there) → place + length there ≡ length text → HasFault g text f place
+fault_at g text f there place e at = (there, find_faults g text f there e, at)

@@ -4,6 +4,8 @@ use Rattle.std.specs.Char.{digit_value}
 use Rattle.std.specs.Str.Parse.{digits_value}
 use Rattle.sd_text.specs.declared.fault.TextFault.{TextFault}
 use Rattle.sd_text.specs.declared.fault.TextFault.TheVariants.{Syntax, Range}
+use Rattle.sd_text.specs.declared.fault.Stop.{Stop}
+use Rattle.sd_text.specs.declared.fault.Stop.TheVariants.{Fault, Memory}
 use Rattle.sd_text.specs.Grammar.{Grammar, Name, value, refused, choose, and_then, word, number, one_of, many, begins, begins_digit, named}
 
 -- a value and what is behind it, or a fault and what stands from there on
@@ -58,3 +60,9 @@ Gives view (Err fault) rest found = found ≡ Err (fault, rest)
 pub record IsCapped (limit number n : ℕ) : Type 0 where
   pub below : number < limit → number ≡ n
   pub above : limit ≤ number → limit ≤ n
+
+-- the same of a reader that takes memory, and may stop for want of it
+abbrev pub GivesUnlessMemory : {X A : Type 0} → (X → A) → Result X Stop → List ℕ → Found A → Type 0
+GivesUnlessMemory view (Ok x) rest found = found ≡ Ok (view x, rest)
+GivesUnlessMemory view (Err (Fault fault)) rest found = found ≡ Err (fault, rest)
+GivesUnlessMemory view (Err Memory) rest found = Unit {0}

@@ -1,8 +1,8 @@
 //! The text from a place on. What stands there is read and left behind; at a fault the cursor stops at its byte.
 
-ghost use Rattle.std.specs.Prelude.{◌≡◌, ◌≤◌, ◌^◌, ◌<◌, ℕ, length, take, IsTrue};
+ghost use Rattle.std.specs.Prelude.{◌≡◌, ◌+◌, ◌≤◌, ◌^◌, ◌<◌, ℕ, length, take, drop, IsTrue, if◌then◌else◌};
 ghost use Rattle.std.specs.Str.Parse.{digits_value};
-ghost use Rattle.sd_text.specs.Grammar.{begins, begins_digit, word, number};
+ghost use Rattle.sd_text.specs.Grammar.{begins, begins_digit, word, number, end};
 ghost use Rattle.sd_text.specs.Reading.{Gives, find, digits_len, IsCapped};
 
 use crate::fault::TextFault;
@@ -12,7 +12,24 @@ pub(crate) struct Cursor<'a> {
     pub(crate) rest: &'a [u8],
 }
 
-impl Cursor<'_> {
+impl<'a> Cursor<'a> {
+    /// The whole text.
+    pub(crate) fn new(text: &'a str) -> Cursor<'a>
+        ensures { result.rest.now ≡ text.now }
+    {
+        Cursor {
+            rest: text.as_bytes(),
+        }
+    }
+
+    /// The place in the text that the cursor has come to.
+    pub(crate) fn place(&self, text: &str) -> u64
+        requires { length self.now.rest.now ≤ length text.now }
+        ensures { result + length self.now.rest.now ≡ length text.now }
+    {
+        (text.len() - self.rest.len()) as u64
+    }
+
     /// Whether these letters stand here, of either case.
     pub(crate) fn begins(&self, letters: &[u8]) -> bool
         ensures { result ≡ begins self.now.rest.now letters.now }
@@ -28,16 +45,39 @@ impl Cursor<'_> {
         begins_digit(self.rest, radix)
     }
 
+    /// Whether these letters stand here, of either case; they are left behind then.
+    pub(crate) fn eat(&mut self, letters: &[u8]) -> bool
+        ensures stood { result ≡ begins self.old.rest.now letters.now }
+        ensures rest { self.new.rest.now ≡ (if result then drop (length letters.now) self.old.rest.now else self.old.rest.now) }
+    {
+        if !begins(self.rest, letters) {
+            return false;
+        }
+        let (_, behind) = self.rest.split_at(letters.len());
+        self.rest = behind;
+        true
+    }
+
     /// These letters, of either case.
     pub(crate) fn word(&mut self, letters: &[u8]) -> Result<(), TextFault>
         ensures { Gives (λ _. tt) result self.new.rest.now (find (word letters.now) self.old.rest.now) }
     {
-        if !begins(self.rest, letters) {
-            return Err(TextFault::Syntax);
+        if self.eat(letters) {
+            Ok(())
+        } else {
+            Err(TextFault::Syntax)
         }
-        let (_, behind) = self.rest.split_at(letters.len());
-        self.rest = behind;
-        Ok(())
+    }
+
+    /// The end of the text.
+    pub(crate) fn end(&self) -> Result<(), TextFault>
+        ensures { Gives (λ _. tt) result self.now.rest.now (find end self.now.rest.now) }
+    {
+        if self.rest.is_empty() {
+            Ok(())
+        } else {
+            Err(TextFault::Syntax)
+        }
     }
 
     /// A head of so many bytes and all digits behind it: a number below the limit.

@@ -2,6 +2,7 @@
 
 ghost use Rattle.std.specs.Prelude.{◌≡◌};
 ghost use Rattle.sd_text.specs.declared.fault.TextError.TheVariants.{Memory};
+ghost use Rattle.sd_text.specs.declared.fault.Stop.TheVariants as stops;
 ghost use Rattle.sd_text.specs.Fault.{number_of};
 
 use std::alloc::{AllocError, AllocFailed};
@@ -68,5 +69,28 @@ impl<T: Drop> From<AllocFailed<T>> for TextError {
 
     fn from(_e: AllocFailed<T>) -> TextError {
         TextError::Memory
+    }
+}
+
+/// Why a reader stopped: at a fault, where its cursor stands, or for want of memory.
+#[derive(Debug, Drop)]
+pub(crate) enum Stop {
+    Fault(TextFault),
+    Memory,
+}
+
+impl From<TextFault> for Stop {
+    ghost from_gives = { λ fault stop. stop ≡ stops.Fault fault };
+
+    fn from(fault: TextFault) -> Stop {
+        Stop::Fault(fault)
+    }
+}
+
+impl<T: Drop> From<AllocFailed<T>> for Stop {
+    ghost from_gives = { λ _ stop. stop ≡ stops.Memory };
+
+    fn from(_e: AllocFailed<T>) -> Stop {
+        Stop::Memory
     }
 }

@@ -1,4 +1,4 @@
-use Rattle.std.proofs.Common.{rules, arith, sym, refl}
+use Rattle.std.proofs.Common.{arith, sym, refl}
 use Rattle.sd_text.proofs.Letters.{begins_matches, matches_at, matches_end}
 use Rattle.sd_text.proofs.cursor.begins.Goals as goal
 

@@ -1,9 +1,7 @@
-use Rattle.std.proofs.Common.{rules, ◌≡◌, ◌≤◌, ◌^◌, ◌<◌, ℕ, length, take, ◌+◌, ◌-◌, ◌*◌, get_or, arith, sym}
-use Rattle.std.specs.Str.Parse.{AllDigits, digits_value}
+use Rattle.std.proofs.Common.{◌≡◌, ◌<◌, length, take, get_or, arith, sym}
+use Rattle.std.specs.Str.Parse.{digits_value}
 use Rattle.std.specs.Char.{digit_value}
 use Rattle.std.proofs.lemmas.Int.Digits.{digits_more, digits_value_more}
-use Rattle.std.proofs.lemmas.Bool.{cases_lt}
-use Rattle.sd_text.specs.Reading.{digits_len, IsCapped}
 use Rattle.sd_text.proofs.Runs.{digits_stop, digits_whole, capped_push, capped_stay}
 use Rattle.sd_text.proofs.cursor.run_of.Goals as goal
 use Rattle.sd_text.proofs.cursor.run_of.Goals.{then-value-limit, else-value-limit}

@@ -1,4 +1,4 @@
-use Rattle.std.proofs.Common.{◌≡◌, ◌≤◌, ◌<◌, ◌^◌, ◌*◌, ◌+◌, take}
+use Rattle.std.proofs.Common.{take}
 use Rattle.std.specs.Str.Parse.{AllDigits, digits_value}
 use Rattle.sd_text.specs.Reading.{IsCapped}
 use Rattle.sd_text.proofs.cursor.run_of.Given as goal
