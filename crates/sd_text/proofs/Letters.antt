@@ -1,0 +1,53 @@
+-- Letters that a text begins with.
+use Rattle.std.proofs.Common.{◌≡◌, ℕ, zero, suc, ◌+◌, ◌<◌, ◌≤◌, Bool, true, false, List, [], ◌∷◌, length, refl, arith, ap, add-one, get_or, drop}
+use Rattle.std.specs.Prelude.{◌&&◌, ◌==◌}
+use Rattle.std.proofs.lemmas.Bool.{ne_eqb}
+use Rattle.std.proofs.lemmas.List.{drop_all}
+use Rattle.std.specs.Char.{eq_ignore_ascii_case}
+use Rattle.sd_text.specs.Grammar.{begins}
+
+pub begins_nothing : (text letters : List ℕ) → length letters ≡ 0 → begins text letters ≡ false
+begins_nothing [] letters e = refl
+begins_nothing (c ∷ text) [] e = refl
+begins_nothing (c ∷ text) (l ∷ letters) e = absurd (omega arith)
+
+and_false : (b : Bool) → (b && false) ≡ false
+and_false true = refl
+and_false false = refl
+
+pub begins_short : (text letters : List ℕ) → length text < length letters → begins text letters ≡ false
+begins_short [] letters lt = refl
+begins_short (c ∷ text) [] lt = refl
+begins_short (c ∷ text) (l ∷ []) lt = absurd (omega arith)
+begins_short (c ∷ text) (l ∷ m ∷ letters) lt = rw (begins_short text (m ∷ letters) (omega arith)) (and_false (eq_ignore_ascii_case c l))
+
+-- the text begins with these letters, or there are none
+abbrev pub matches : List ℕ → List ℕ → Bool
+matches text [] = true
+matches [] (l ∷ letters) = false
+matches (c ∷ text) (l ∷ letters) = eq_ignore_ascii_case c l && matches text letters
+
+and_true : (b : Bool) → b ≡ (b && true)
+and_true true = refl
+and_true false = refl
+
+pub begins_matches : (text letters : List ℕ) → (length letters == 0) ≡ false → begins text letters ≡ matches text letters
+begins_matches text [] some = absurd cc
+begins_matches [] (l ∷ letters) some = refl
+begins_matches (c ∷ text) (l ∷ []) some = and_true (eq_ignore_ascii_case c l)
+begins_matches (c ∷ text) (l ∷ m ∷ letters) some = ap (λ b. eq_ignore_ascii_case c l && b) (begins_matches text (m ∷ letters) (ne_eqb (suc (length letters)) 0 (omega arith)))
+
+-- one letter, and those behind it
+pub matches_at : (text letters : List ℕ) (i : ℕ) → i < length letters → length letters ≤ length text → matches (drop i text) (drop i letters) ≡ (eq_ignore_ascii_case (get_or text i 0) (get_or letters i 0) && matches (drop (i + 1) text) (drop (i + 1) letters))
+matches_at text [] i lt le = absurd (omega arith)
+matches_at [] (l ∷ letters) i lt le = absurd (omega arith)
+matches_at (c ∷ text) (l ∷ letters) zero lt le = refl
+matches_at (c ∷ text) (l ∷ letters) (suc i) lt le = rw (add-one) (let h = matches_at text letters i (omega arith) (omega arith) in rw add-one at h)
+
+matches_none : (text : List ℕ) → matches text [] ≡ true
+matches_none [] = refl
+matches_none (c ∷ text) = refl
+
+-- no letter is left
+pub matches_end : (text letters : List ℕ) (i : ℕ) → length letters ≤ i → matches (drop i text) (drop i letters) ≡ true
+matches_end text letters i le = rw (drop_all i letters le) (matches_none (drop i text))

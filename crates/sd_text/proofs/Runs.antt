@@ -1,0 +1,90 @@
+-- The run of digits that a text begins with.
+use Rattle.std.proofs.Common.{◌≡◌, ℕ, zero, suc, ◌+◌, ◌*◌, ◌<◌, ◌≤◌, inl, inr, true, false, List, [], ◌∷◌, ◌++◌, length, drop, take, get_or, refl, arith, ap, sym}
+use Rattle.std.specs.Prelude.{nat_lt}
+use Rattle.std.specs.Char.{digit_value}
+use Rattle.std.specs.Str.Parse.{AllDigits, IsNumeral}
+use Rattle.std.proofs.lemmas.Bool.{ltb-false, lt-ltb, le-ltb}
+use Rattle.std.proofs.lemmas.List.{take-append-drop}
+use Rattle.std.proofs.Math.Nat.{mul-le-mul_left}
+use borrow.Author.Tests.{ltb-true}
+use Rattle.sd_text.specs.Grammar.{begins_digit, Run}
+use Rattle.sd_text.specs.Reading.{digits_len, IsCapped}
+use Rattle.sd_text.proofs.Parts.{went}
+
+all_digits : (radix : ℕ) (text : List ℕ) → AllDigits radix (take (digits_len radix text) text)
+all_digits radix [] = tt
+all_digits radix (c ∷ text) =
+    elim (went (nat_lt (digit_value c) radix)) [
+      | inl h ↦ rw h (ltb-true (digit_value c) radix h, all_digits radix text)
+      | inr h ↦ rw h tt
+    ]
+
+ends : (radix : ℕ) (text : List ℕ) → begins_digit radix (drop (digits_len radix text) text) ≡ false
+ends radix [] = refl
+ends radix (c ∷ text) =
+    elim (went (nat_lt (digit_value c) radix)) [
+      | inl h ↦ rw h (ends radix text)
+      | inr h ↦ rw h h
+    ]
+
+starts : (radix : ℕ) (text : List ℕ) → begins_digit radix text ≡ true → 0 < length (take (digits_len radix text) text)
+starts radix [] e = absurd cc
+starts radix (c ∷ text) e = rw e (omega arith)
+
+-- the digits that a text begins with are a run
+pub run_of : (radix : ℕ) (text : List ℕ) → begins_digit radix text ≡ true → Run radix text (take (digits_len radix text) text) (drop (digits_len radix text) text)
+run_of radix text e = record { parts = sym (take-append-drop (digits_len radix text) text); numeral = (starts radix text e, all_digits radix text); whole = ends radix text }
+
+len_of : (radix : ℕ) (ds behind : List ℕ) → AllDigits radix ds → begins_digit radix behind ≡ false → digits_len radix (ds ++ behind) ≡ length ds
+len_of radix [] [] all e = refl
+len_of radix [] (c ∷ behind) all e = rw e refl
+len_of radix (d ∷ ds) behind all e =
+    elim (went (nat_lt (digit_value d) radix)) [
+      | inl h ↦ rw h (ap suc (len_of radix ds behind all.1 e))
+      | inr h ↦ absurd (let le = ltb-false (digit_value d) radix h in let lt = all.0 in omega arith)
+    ]
+
+take_front : (ds behind : List ℕ) → take (length ds) (ds ++ behind) ≡ ds
+take_front [] [] = refl
+take_front [] (c ∷ behind) = refl
+take_front (d ∷ ds) behind = ap (λ xs. d ∷ xs) (take_front ds behind)
+
+drop_front : (ds behind : List ℕ) → drop (length ds) (ds ++ behind) ≡ behind
+drop_front [] behind = refl
+drop_front (d ∷ ds) behind = drop_front ds behind
+
+-- and there is one run alone
+pub run_digits : (radix : ℕ) (text ds behind : List ℕ) → Run radix text ds behind → take (digits_len radix text) text ≡ ds
+run_digits radix text ds behind run = rw (run.parts, len_of radix ds behind run.numeral.1 run.whole) (take_front ds behind)
+
+pub run_behind : (radix : ℕ) (text ds behind : List ℕ) → Run radix text ds behind → drop (digits_len radix text) text ≡ behind
+run_behind radix text ds behind run = rw (run.parts, len_of radix ds behind run.numeral.1 run.whole) (drop_front ds behind)
+
+begins_run : (radix : ℕ) (ds behind : List ℕ) → IsNumeral radix ds → begins_digit radix (ds ++ behind) ≡ true
+begins_run radix [] behind n = absurd (let h = n.0 in omega arith)
+begins_run radix (d ∷ ds) behind n = lt-ltb (digit_value d) radix n.1.0
+
+pub run_begins : (radix : ℕ) (text ds behind : List ℕ) → Run radix text ds behind → begins_digit radix text ≡ true
+run_begins radix text ds behind run = rw run.parts (begins_run radix ds behind run.numeral)
+
+-- ---- counting the digits from the front
+
+-- where all before a place are digits, and what stands there is none
+pub digits_stop : (radix : ℕ) (text : List ℕ) (i : ℕ) → i < length text → AllDigits radix (take i text) → radix ≤ digit_value (get_or text i 0) → i ≡ digits_len radix text
+digits_stop radix [] i lt all above = absurd (omega arith)
+digits_stop radix (c ∷ text) zero lt all above = rw (le-ltb (digit_value c) radix above) refl
+digits_stop radix (c ∷ text) (suc i) lt all above = rw (lt-ltb (digit_value c) radix all.0) (ap suc (digits_stop radix text i (omega arith) all.1 above))
+
+-- where all are digits
+pub digits_whole : (radix : ℕ) (text : List ℕ) → AllDigits radix (take (length text) text) → length text ≡ digits_len radix text
+digits_whole radix [] all = refl
+digits_whole radix (c ∷ text) all = rw (lt-ltb (digit_value c) radix all.0) (ap suc (digits_whole radix text all.1))
+
+pub capped_push : (limit value n radix d : ℕ) → value < limit → IsCapped limit value n → IsCapped limit (value * radix + d) (n * radix + d)
+capped_push limit value n radix d lt capped = let same = capped.below lt in record { below = λ _. rw same refl; above = λ le. rw (sym same) le }
+
+pub capped_stay : (limit value n radix d : ℕ) → 1 ≤ radix → limit ≤ value → IsCapped limit value n → IsCapped limit value (n * radix + d)
+capped_stay limit value n radix d some le capped =
+    let from = capped.above le in
+    let grows = mul-le-mul_left n some in
+    record { below = λ lt. absurd (omega arith); above = λ _. omega arith }

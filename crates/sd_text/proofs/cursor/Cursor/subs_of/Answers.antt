@@ -1,0 +1,39 @@
+use Rattle.std.proofs.Common.{rules, ◌≡◌, ◌<◌, ◌+◌, length, take, arith, sym, ◌∙◌, refl}
+use Rattle.std.proofs.lemmas.Result.{err_from_is_err_and}
+use Rattle.std.proofs.lemmas.List.{length-take-le}
+use Rattle.std.proofs.lemmas.Grind.{take-set_at}
+use Rattle.sd_text.proofs.Sids.{subs_more, subs_end, subs_fault, sub_takes, sid_made, the_sid, at_least_one}
+use Rattle.sd_text.proofs.cursor.Cursor.subs_of.Goals as goal
+
+pub returns-in_err-subs : goal.returns-in_err-subs
+returns-in_err-subs c =
+    let p = err_from_is_err_and c.from_residual.result c.from_residual.ensures.1 in
+    let counted : length (take c.subs.count c.subs.subs) ≡ c.subs.count = length-take-le c.subs.count c.subs.subs (omega arith) in
+    rw (p.1, p.2) (subs_fault c.args.authority c.args.self.now.rest.now (take c.subs.count c.subs.subs) c.subs.self.rest.now (c.in_err-subs.field-0.0, c.sub.new.self.rest.now) (sym c.if-not-begins.ensures) c.subs.invariant.reached (sym c.subs-test.ensures.stood)
+    (rw (counted, sym c.subs-test.ensures.rest) c.in_err-subs.ensures.sub))
+
+pub subs-smaller : goal.subs-smaller
+subs-smaller c = sub_takes c.subs.count c.subs.self.rest.now c.in_ok-subs.field-0 c.sub.new.self.rest.now (sym c.subs-test.ensures.stood) (rw (sym c.subs-test.ensures.rest) c.in_ok-subs.ensures.sub)
+
+pub subs-preserved : goal.subs-preserved
+subs-preserved c =
+    let few : c.subs.count < 15 = c.in_ok-subs.ensures.few in
+    let counted : length (take c.subs.count c.subs.subs) ≡ c.subs.count = length-take-le c.subs.count c.subs.subs (omega arith) in
+    record {
+      reached = rw (take-set_at c.subs.subs c.subs.count (c.subs.count + 1) c.in_ok-subs.field-0 refl (omega arith))
+          (subs_more c.args.self.now.rest.now (take c.subs.count c.subs.subs) c.subs.self.rest.now c.in_ok-subs.field-0 c.sub.new.self.rest.now c.subs.invariant.reached (sym c.subs-test.ensures.stood)
+          (rw (counted, sym c.subs-test.ensures.rest) c.in_ok-subs.ensures.sub));
+      room = search (rules, arith);
+      few = omega arith;
+      some = λ none. absurd (omega arith);
+    }
+
+pub returns : goal.returns
+returns c =
+    let subs = take c.subs.count c.subs.subs in
+    let counted : length subs ≡ c.subs.count = length-take-le c.subs.count c.subs.subs (omega arith) in
+    let ends = sym c.subs-test.ensures.stood in
+    let some = at_least_one c.subs.count c.subs.self.rest.now c.subs.invariant.some ends in
+    let made = sid_made c.args.authority subs c.requires (omega arith) (omega arith) in
+    rw (the_sid c.unwrap.result c.args.authority subs (sym c.unwrap.ensures ∙ c.new.ensures ∙ made), c.subs-test.ensures.rest)
+    (subs_end c.args.authority c.args.self.now.rest.now subs c.subs.self.rest.now (sym c.if-not-begins.ensures) c.subs.invariant.reached ends)

@@ -1,0 +1,8 @@
+use Rattle.std.proofs.Common.{take}
+use Rattle.std.specs.Str.Parse.{AllDigits, digits_value}
+use Rattle.sd_text.specs.Reading.{IsCapped}
+use Rattle.sd_text.proofs.cursor.run_of.Given as goal
+
+-- what has been read are digits, and their value stands, or one from the limit on
+abbrev pub invariant-loop-i : goal.invariant-loop-i
+invariant-loop-i l = record { digits : AllDigits l.radix (take l.i l.text); value : IsCapped l.limit l.value (digits_value l.radix (take l.i l.text)) }

@@ -1,0 +1,68 @@
+-- Reading a text by a grammar: what private readers answer. The public calls speak of Spells and HasFault alone.
+use Rattle.std.specs.Prelude.{◌<◌, ◌≤◌, ◌≡◌, ℕ, zero, suc, nat_lt, not, List, [], ◌∷◌, ◌++◌, length, drop, take, Option, Some, None, Result, Ok, Err, if◌then◌else◌}
+use Rattle.std.specs.Char.{digit_value}
+use Rattle.std.specs.Str.Parse.{digits_value}
+use Rattle.sd_text.specs.declared.fault.TextFault.{TextFault}
+use Rattle.sd_text.specs.declared.fault.TextFault.TheVariants.{Syntax, Range}
+use Rattle.sd_text.specs.declared.fault.Stop.{Stop}
+use Rattle.sd_text.specs.declared.fault.Stop.TheVariants.{Fault, Memory}
+use Rattle.sd_text.specs.Grammar.{Grammar, Name, value, refused, choose, and_then, word, number, one_of, many, begins, begins_digit, named}
+
+-- a value and what is behind it, or a fault and what stands from there on
+abbrev pub Found : Type 0 → Type 0
+Found A = Result (A × List ℕ) (TextFault × List ℕ)
+
+-- how many digits the text begins with
+abbrev pub digits_len : ℕ → List ℕ → ℕ
+digits_len radix [] = 0
+digits_len radix (c ∷ text) = if nat_lt (digit_value c) radix then suc (digits_len radix text) else 0
+
+-- the number that the text begins with, behind its head
+abbrev pub find_number : ℕ → ℕ → ℕ → List ℕ → List ℕ → Found ℕ
+find_number radix limit len run text =
+    if not (begins_digit radix run) then Err (Syntax, run)
+    else if nat_lt (digits_value radix (take len run)) limit then Ok (digits_value radix (take len run), drop len run)
+    else Err (Range, text)
+
+-- what follows a part that was found
+abbrev pub behind_part : {A B : Type 0} → Found A → (A → List ℕ → Found B) → Found B
+behind_part (Ok x) next = next x.0 x.1
+behind_part (Err e) next = Err e
+
+-- what follows a name that may stand there
+abbrev pub name_or : {A B : Type 0} → Option (B × List ℕ) → (B → List ℕ → Found A) → Found A → Found A
+name_or None next other = other
+name_or (Some x) next other = next x.0 x.1
+
+-- the items from here on, at most n of them, where those before have been read
+abbrev pub find_items : {A B : Type 0} → List (Name B) → (List A → B → List ℕ → Found A) → ℕ → List A → List ℕ → Found (List A)
+find_items names item zero before text = Ok (before, text)
+find_items names item (suc n) before text =
+    name_or (named names text) (λ b mid. behind_part (item before b mid) (λ x after. find_items names item n (before ++ x ∷ []) after)) (Ok (before, text))
+
+-- the value that the text begins with, or its fault
+abbrev pub find : {A : Type 0} → Grammar A → List ℕ → Found A
+find (value a) text = Ok (a, text)
+find (refused f) text = Err (f, text)
+find (choose test p q) text = if test text then find p text else find q text
+find (and_then p next) text = behind_part (find p text) (λ a mid. find (next a) mid)
+find (word letters) text = if begins text letters then Ok (tt, drop (length letters) text) else Err (Syntax, text)
+find (number head radix limit) text = find_number radix limit (digits_len radix (drop head text)) (drop head text) text
+find (one_of names p) text = name_or (named names text) (λ a mid. Ok (a, mid)) (find p text)
+find (many names item) text = find_items names (λ before b. find (item before b)) (length text) [] text
+
+-- a reader answers what the grammar finds, its value seen by view, and leaves what is behind it, or stops at the fault
+abbrev pub Gives : {X A : Type 0} → (X → A) → Result X TextFault → List ℕ → Found A → Type 0
+Gives view (Ok x) rest found = found ≡ Ok (view x, rest)
+Gives view (Err fault) rest found = found ≡ Err (fault, rest)
+
+-- the number is n, or from the limit on where n is
+pub record IsCapped (limit number n : ℕ) : Type 0 where
+  pub below : number < limit → number ≡ n
+  pub above : limit ≤ number → limit ≤ n
+
+-- the same of a reader that takes memory, and may stop for want of it
+abbrev pub GivesUnlessMemory : {X A : Type 0} → (X → A) → Result X Stop → List ℕ → Found A → Type 0
+GivesUnlessMemory view (Ok x) rest found = found ≡ Ok (view x, rest)
+GivesUnlessMemory view (Err (Fault fault)) rest found = found ≡ Err (fault, rest)
+GivesUnlessMemory view (Err Memory) rest found = Unit {0}

@@ -1,0 +1,155 @@
+//! The text from a place on. What stands there is read and left behind; at a fault the cursor stops at its byte.
+
+ghost use Rattle.std.specs.Prelude.{◌≡◌, ◌+◌, ◌≤◌, ◌^◌, ◌<◌, ℕ, length, take, drop, IsTrue, if◌then◌else◌};
+ghost use Rattle.std.specs.Str.Parse.{digits_value};
+ghost use Rattle.sd_text.specs.Grammar.{begins, begins_digit, word, number, end};
+ghost use Rattle.sd_text.specs.Reading.{Gives, find, digits_len, IsCapped};
+
+use crate::fault::TextFault;
+
+#[derive(Drop)]
+pub(crate) struct Cursor<'a> {
+    pub(crate) rest: &'a [u8],
+}
+
+impl<'a> Cursor<'a> {
+    /// The whole text.
+    pub(crate) fn new(text: &'a str) -> Cursor<'a>
+        ensures { result.rest.now ≡ text.now }
+    {
+        Cursor {
+            rest: text.as_bytes(),
+        }
+    }
+
+    /// The place in the text that the cursor has come to.
+    pub(crate) fn place(&self, text: &str) -> u64
+        requires { length self.now.rest.now ≤ length text.now }
+        ensures { result + length self.now.rest.now ≡ length text.now }
+    {
+        (text.len() - self.rest.len()) as u64
+    }
+
+    /// Whether these letters stand here, of either case.
+    pub(crate) fn begins(&self, letters: &[u8]) -> bool
+        ensures { result ≡ begins self.now.rest.now letters.now }
+    {
+        begins(self.rest, letters)
+    }
+
+    pub(crate) fn begins_digit(&self, radix: u32) -> bool
+        requires low { 2 ≤ radix }
+        requires high { radix ≤ 16 }
+        ensures { result ≡ begins_digit radix self.now.rest.now }
+    {
+        begins_digit(self.rest, radix)
+    }
+
+    /// Whether these letters stand here, of either case; they are left behind then.
+    pub(crate) fn eat(&mut self, letters: &[u8]) -> bool
+        ensures stood { result ≡ begins self.old.rest.now letters.now }
+        ensures rest { self.new.rest.now ≡ (if result then drop (length letters.now) self.old.rest.now else self.old.rest.now) }
+    {
+        if !begins(self.rest, letters) {
+            return false;
+        }
+        let (_, behind) = self.rest.split_at(letters.len());
+        self.rest = behind;
+        true
+    }
+
+    /// These letters, of either case.
+    pub(crate) fn word(&mut self, letters: &[u8]) -> Result<(), TextFault>
+        ensures { Gives (λ _. tt) result self.new.rest.now (find (word letters.now) self.old.rest.now) }
+    {
+        if self.eat(letters) {
+            Ok(())
+        } else {
+            Err(TextFault::Syntax)
+        }
+    }
+
+    /// The end of the text.
+    pub(crate) fn end(&self) -> Result<(), TextFault>
+        ensures { Gives (λ _. tt) result self.now.rest.now (find end self.now.rest.now) }
+    {
+        if self.rest.is_empty() {
+            Ok(())
+        } else {
+            Err(TextFault::Syntax)
+        }
+    }
+
+    /// A head of so many bytes and all digits behind it: a number below the limit.
+    pub(crate) fn number(&mut self, head: usize, radix: u32, limit: u64) -> Result<u64, TextFault>
+        requires within { head ≤ length self.old.rest.now }
+        requires low { 2 ≤ radix }
+        requires high { radix ≤ 16 }
+        requires room { limit ≤ 2 ^ 48 }
+        ensures { Gives (λ n. n) result self.new.rest.now (find (number head radix limit) self.old.rest.now) }
+    {
+        let (_, digits) = self.rest.split_at(head);
+        if !begins_digit(digits, radix) {
+            self.rest = digits;
+            return Err(TextFault::Syntax);
+        }
+        let (value, len) = run_of(digits, radix, limit);
+        if value >= limit {
+            return Err(TextFault::Range);
+        }
+        let (_, behind) = digits.split_at(len);
+        self.rest = behind;
+        Ok(value)
+    }
+}
+
+#[tactic(auto, using(crate::proofs::Letters::begins_nothing, crate::proofs::Letters::begins_short))]
+fn begins(text: &[u8], letters: &[u8]) -> bool
+    ensures value { result ≡ begins text.now letters.now }
+    ensures within { IsTrue result → length letters.now ≤ length text.now }
+{
+    if letters.is_empty() || text.len() < letters.len() {
+        return false;
+    }
+    for (i, letter) in letters.iter().enumerate() {
+        if !text[i].eq_ignore_ascii_case(letter) {
+            return false;
+        }
+    }
+    true
+}
+
+fn begins_digit(text: &[u8], radix: u32) -> bool
+    requires low { 2 ≤ radix }
+    requires high { radix ≤ 16 }
+    ensures { result ≡ begins_digit radix text.now }
+{
+    match text {
+        [] => false,
+        [c, ..] => match char::from(*c).to_digit(radix) {
+            Some(_) => true,
+            None => false,
+        },
+    }
+}
+
+/// What the digits that the text begins with amount to, or a number from the limit on, and how many there are.
+fn run_of(text: &[u8], radix: u32, limit: u64) -> (u64, usize)
+    requires low { 2 ≤ radix }
+    requires high { radix ≤ 16 }
+    requires room { limit ≤ 2 ^ 48 }
+    ensures len { result.1 ≡ digits_len radix text.now }
+    ensures within { result.1 ≤ length text.now }
+    ensures value { IsCapped limit result.0 (digits_value radix (take result.1 text.now)) }
+{
+    let mut value: u64 = 0;
+    for (i, c) in text.iter().enumerate() {
+        let Some(digit) = char::from(*c).to_digit(radix) else {
+            return (value, i);
+        };
+        if value < limit {
+            value = value * u64::from(radix) + u64::from(digit);
+        }
+    }
+    (value, text.len())
+}

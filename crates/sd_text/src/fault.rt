@@ -1,0 +1,96 @@
+//! Why a text is refused, and at which byte.
+
+ghost use Rattle.std.specs.Prelude.{◌≡◌};
+ghost use Rattle.sd_text.specs.declared.fault.TextError.TheVariants.{Memory};
+ghost use Rattle.sd_text.specs.declared.fault.Stop.TheVariants as stops;
+ghost use Rattle.sd_text.specs.Fault.{number_of};
+
+use std::alloc::{AllocError, AllocFailed};
+use thiserror::Error;
+
+/// What is wrong with a text at its first fault from the left.
+#[derive(Clone, Copy, Debug, PartialEq, Eq)]
+pub enum TextFault {
+    /// What stands there may not stand there, or something is missing.
+    Syntax,
+    /// A section `S:`, the system access control list.
+    HasSacl,
+    /// An entry that neither allows nor denies.
+    EntryKind,
+    /// An entry with an object's GUID.
+    ObjectGuid,
+    /// Two letters that are no alias of a SID.
+    UnknownAlias,
+    /// An alias that only a domain could resolve.
+    DomainAlias,
+    /// A number that is too large, or a sixteenth sub-authority.
+    Range,
+    /// The entry with which the list passes the size that its header can say.
+    AclTooLarge,
+}
+
+impl TextFault {
+    /// The fault's number, from 1 on, by which programs name it.
+    pub fn number(self) -> u8
+        ensures { result ≡ number_of self }
+    {
+        match self {
+            TextFault::Syntax => 1,
+            TextFault::HasSacl => 2,
+            TextFault::EntryKind => 3,
+            TextFault::ObjectGuid => 4,
+            TextFault::UnknownAlias => 5,
+            TextFault::DomainAlias => 6,
+            TextFault::Range => 7,
+            TextFault::AclTooLarge => 8,
+        }
+    }
+}
+
+/// Why a text was not read: its first fault and the byte at which it stands, counted from 0, or want of memory.
+#[derive(Debug, Drop, Error)]
+pub enum TextError {
+    #[error("{fault:?} at {place}")]
+    Fault { fault: TextFault, place: u64 },
+    #[error("out of memory")]
+    Memory,
+}
+
+impl From<AllocError> for TextError {
+    ghost from_gives = { λ _ e. e ≡ Memory };
+
+    fn from(_e: AllocError) -> TextError {
+        TextError::Memory
+    }
+}
+
+impl<T: Drop> From<AllocFailed<T>> for TextError {
+    ghost from_gives = { λ _ e. e ≡ Memory };
+
+    fn from(_e: AllocFailed<T>) -> TextError {
+        TextError::Memory
+    }
+}
+
+/// Why a reader stopped: at a fault, where its cursor stands, or for want of memory.
+#[derive(Debug, Drop)]
+pub(crate) enum Stop {
+    Fault(TextFault),
+    Memory,
+}
+
+impl From<TextFault> for Stop {
+    ghost from_gives = { λ fault stop. stop ≡ stops.Fault fault };
+
+    fn from(fault: TextFault) -> Stop {
+        Stop::Fault(fault)
+    }
+}
+
+impl<T: Drop> From<AllocFailed<T>> for Stop {
+    ghost from_gives = { λ _ stop. stop ≡ stops.Memory };
+
+    fn from(_e: AllocFailed<T>) -> Stop {
+        Stop::Memory
+    }
+}

@@ -1,0 +1,11 @@
+//! Security descriptors as text, in the security descriptor definition language of [MS-DTYP] 2.5.1.
+#![tactic(auto)]
+
+mod cursor;
+mod entry;
+mod fault;
+mod first_form;
+mod sid;
+
+pub use fault::{TextError, TextFault};
+pub use first_form::{read_first_dacl, read_first_mask, read_first_sid};

@@ -1,0 +1,50 @@
+//! SIDs as text: [MS-DTYP] 2.4.2.1.
+
+ghost use Rattle.std.specs.Prelude.{◌≡◌, ◌<◌, ◌^◌, OnOk};
+ghost use Rattle.sd_text.specs.Sid.{sub, subs_of};
+ghost use Rattle.sd_text.specs.Reading.{Gives, find};
+
+use crate::cursor::Cursor;
+use crate::fault::TextFault;
+use sd_sid::Sid;
+
+/// The most sub-authorities that a SID has ([MS-DTYP] 2.4.2.2, SubAuthorityCount).
+const MAX_SUBS: usize = 15;
+
+/// A sub-authority is below this: it has 32 bits ([MS-DTYP] 2.4.2.2, SubAuthority).
+const SUB_LIMIT: u64 = 0x1_0000_0000;
+
+impl Cursor<'_> {
+    /// The sub-authorities, each behind a dash, and the SID of them.
+    #[tactic(auto, unfolding(crate::specs::Sid::subs_of))]
+    pub(crate) fn subs_of(&mut self, authority: u64) -> Result<Sid, TextFault>
+        requires { authority < 2 ^ 48 }
+        ensures { Gives (λ sid. sid) result self.new.rest.now (find (subs_of authority) self.old.rest.now) }
+    {
+        if !self.begins(b"-") {
+            return Err(TextFault::Syntax);
+        }
+        let mut subs = [0; MAX_SUBS];
+        let mut count = 0;
+        'subs: while self.eat(b"-") {
+            subs[count] = self.sub(count)?;
+            count += 1;
+        }
+        Ok(Sid::new(authority, &subs[..count]).unwrap())
+    }
+
+    /// A sub-authority, where so many stand before it. Behind fifteen of them no digit may stand.
+    #[tactic(auto, unfolding(crate::specs::Sid::sub))]
+    fn sub(&mut self, before: usize) -> Result<u32, TextFault>
+        ensures sub { Gives (λ n. n) result self.new.rest.now (find (sub before) self.old.rest.now) }
+        ensures few { OnOk result (before < 15) }
+    {
+        if before < MAX_SUBS {
+            Ok(self.number(0, 10, SUB_LIMIT)? as u32)
+        } else if self.begins_digit(10) {
+            Err(TextFault::Range)
+        } else {
+            Err(TextFault::Syntax)
+        }
+    }
+}
