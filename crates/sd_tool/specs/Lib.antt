@@ -1,0 +1,4 @@
+pub mod Answer
+pub mod Arguments
+pub mod Failure
+pub mod Output

@@ -1,0 +1,22 @@
+//! The command line of `sdstore`, as a library.
+//!
+//! `drive` does what the program does with a list of words and three streams, and answers the
+//! status with which the program ends. The program hands it the real streams; a test, or a program
+//! that wants the answers of the command line without a process, hands it streams in memory.
+//!
+//! ```text
+//! let words = ["sdstore", "verdict", "D:(A;;0x1;;;S-1-1-0)", "S-1-1-0", "0x1"];
+//! let status = drive(alloc, &words, &mut input, &mut output, &mut errors);
+//! // status is 0, and output holds "granted 0x1\n"
+//! ```
+#![tactic(auto)]
+
+mod answer;
+mod arguments;
+mod command_line;
+mod failure;
+mod first_form;
+mod output;
+
+pub use command_line::drive;
+pub use first_form::{FirstError, FirstVerdict, first_verdict};
