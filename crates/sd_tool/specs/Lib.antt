@@ -2,3 +2,5 @@ pub mod Answer
 pub mod Arguments
 pub mod Failure
 pub mod Output
+pub mod FirstForm
+pub mod FirstError
