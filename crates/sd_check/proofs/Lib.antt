@@ -1,3 +1,5 @@
 pub mod FirstEntry
 pub mod Given
 pub mod Answered
+pub mod LowMasks
+pub mod LawProofs

@@ -14,10 +14,15 @@
 #![tactic(auto)]
 
 mod access;
+mod laws;
 mod request;
 mod token;
 
 pub use access::DaclRef;
+pub use laws::{
+    enabled_group_takes_nothing, entries_grant_rights_alone, first_entry_decides,
+    grants_what_was_asked, maximum_is_each_by_itself, silent_entry_changes_nothing,
+};
 pub use request::{check, check_parts};
 pub use sd_acl::Verdict;
 pub use token::{GroupState, Privileges, Token};

@@ -7,7 +7,8 @@ use Rattle.std.specs.declared.cmp.Ordering.{Ordering}
 use Rattle.std.specs.declared.cmp.Ordering.TheVariants.{Less, Equal, Greater}
 use Rattle.std.proofs.Math.Dec.{eqb-suc-suc, eqb-zero-suc, eqb-suc-zero, leb-suc-suc}
 use Rattle.std.proofs.lemmas.List.{length-replicate}
-use Rattle.std.proofs.lemmas.Bool.{lt-ltb, le-ltb}
+use Rattle.std.proofs.lemmas.Bool.{lt-ltb, le-ltb, and_parts, eqb-true}
+use lib.Pointwise.{bytes_decides}
 use Rattle.sd_sid.specs.Sid.{SidValue, IsSid, same_sid, sid_cmp}
 
 and_false : (b : Bool) → (b && false) ≡ false
@@ -107,3 +108,11 @@ pub ordered_by_value : (a b : SidValue) → IsSid a → IsSid b
 ordered_by_value a b ha hb =
     ap (ordering_then (nat_cmp a.authority b.authority))
     (padded_cmp a.subs b.subs (15 - length a.subs) (15 - length b.subs) (omega (arith, ha.few, hb.few)))
+
+-- SIDs that pass the test are one
+pub same_sid-true : (a b : SidValue) → same_sid a b ≡ true → a ≡ b
+same_sid-true a b h =
+    let parts = and_parts (nat_eq a.authority b.authority) (bytes_eq a.subs b.subs) h in
+    let authority = eqb-true a.authority b.authority parts.0 in
+    let subs = (bytes_decides a.subs b.subs).0 parts.1 in
+    λ i. record { authority = authority i; subs = subs i }

@@ -1,0 +1,52 @@
+-- Requests for some of the object's own rights and the standard ones alone, the places below 21.
+use Rattle.std.proofs.Common.{◌≡◌, ℕ, ◌^◌, ◌<◌, ◌≤◌, Bool, true, false, ◌&&◌, ◌||◌, not, ◌==◌, inl, inr, refl, sym, ◌∙◌, ap, arith, cond}
+use Rattle.std.proofs.lemmas.Bool.{agree_below_at, cases_lt, lt-ltb}
+use Rattle.std.proofs.lemmas.Nat.Bits.{bit_at_above}
+use Rattle.std.proofs.Math.Bool.{and-false, and-true, or-false}
+use Rattle.sd_sid.specs.Mask.{holds, mask_of}
+use Rattle.sd_sid.specs.Mapping.{MappingValue, mapped, is_mapped}
+use Rattle.sd_sid.proofs.Masks.{is_mask_of, mask_of-alike}
+use Rattle.sd_acl.specs.Verdict.{reserved_of, without_maximum, judged, missing_of}
+use Rattle.sd_acl.specs.declared.verdict.Verdict.TheVariants.{Granted, Denied}
+
+-- such a mask has no place from 21 on
+pub high_place : (q b : ℕ) → q < 2 ^ 21 → 21 ≤ b → holds q b ≡ false
+high_place q b small high = ap (λ n. n == 1) (bit_at_above q 21 b small high)
+
+pub no_places : mask_of (λ b. false) 32 ≡ 0
+unfolding mask_of
+no_places = refl
+
+nothing_reserved : (q : ℕ) → q < 2 ^ 21 → reserved_of q ≡ 0
+nothing_reserved q small = mask_of-alike _ (λ b. false) 32 (λ b h. elim (cases_lt b 21) [
+  | inl low ↦ ap (λ t. holds q b && t) (agree_below_at (holds 0x0CE00000) (λ k. false) 21 b refl low) ∙ and-false (holds q b)
+  | inr high ↦ ap (λ t. t && holds 0x0CE00000 b) (high_place q b small high)
+]) ∙ no_places
+
+-- what isn't MAXIMUM_ALLOWED is kept, and a mask without generic rights is mapped to itself
+kept : (q b : ℕ) → q < 2 ^ 21 → holds q b ≡ (holds q b && not (holds 0x02000000 b))
+kept q b small = elim (cases_lt b 21) [
+  | inl low ↦ sym (ap (λ t. holds q b && not t) (agree_below_at (holds 0x02000000) (λ k. false) 21 b refl low) ∙ and-true (holds q b))
+  | inr high ↦ rw (high_place q b small high) refl
+]
+
+itself : (g : MappingValue) (q b : ℕ) → q < 2 ^ 21 → holds q b ≡ is_mapped g q b
+itself g q b small =
+    let generic : (k : ℕ) → 21 ≤ k → holds q k ≡ false = λ k. high_place q k small in
+    rw (generic 31 (omega arith), generic 30 (omega arith), generic 29 (omega arith), generic 28 (omega arith))
+    (elim (cases_lt b 21) [
+      | inl low ↦ simp (lt-ltb b 28 (omega arith), and-true, or-false) refl
+      | inr high ↦ rw (generic b high) refl
+    ])
+
+mapped_to_itself : (g : MappingValue) (q : ℕ) → q < 2 ^ 21 → mapped g (without_maximum q) ≡ q
+mapped_to_itself g q small =
+    let wide : q < 2 ^ 32 = omega arith in
+    ap (mapped g) (sym (is_mask_of _ q wide (λ b h. kept q b small)))
+    ∙ sym (is_mask_of (is_mapped g q) q wide (λ b h. itself g q b small))
+
+-- the verdict on such a request is granted or denied
+pub judged_plainly : (g : MappingValue) (p : ℕ → Bool) (most q : ℕ) → (q == 0) ≡ false → q < 2 ^ 21
+    → judged g p most q ≡ cond (missing_of p q == 0) (Granted q) (Denied (missing_of p q))
+judged_plainly g p most q some small =
+    rw (some, nothing_reserved q small, high_place q 25 small (omega arith), mapped_to_itself g q small, some) refl

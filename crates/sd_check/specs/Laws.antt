@@ -1,0 +1,71 @@
+-- What follows from the rules of the check, as laws over all lists, tokens and requests.
+use Rattle.std.specs.Prelude.{◌≡◌, ◌↔◌, ℕ, ◌<◌, ◌≤◌, ◌^◌, Bool, true, false, not, ◌&&◌, nat_lt, List, [], ◌∷◌, ◌++◌, Option, Some, None}
+use Rattle.std.specs.List.{AllByRecursion}
+use Rattle.sd_sid.specs.Mask.{holds}
+use Rattle.sd_sid.specs.Mapping.{MappingValue, mapped}
+use Rattle.sd_sid.specs.Sid.{SidValue, same_sid, owner_rights}
+use Rattle.sd_acl.specs.Ace.{is_allow, is_inherit_only}
+use Rattle.sd_acl.specs.Verdict.{decides, acl_grants, subject, without_maximum}
+use Rattle.sd_acl.specs.declared.ace.Ace.{Ace}
+use Rattle.sd_acl.specs.declared.ace.AceKind.{AceKind}
+use Rattle.sd_acl.specs.declared.ace.AceKind.TheVariants.{Deny}
+use Rattle.sd_acl.specs.declared.verdict.Verdict.TheVariants.{Granted}
+use Rattle.sd_check.specs.declared.token.GroupState.TheVariants.{Enabled}
+use Rattle.sd_check.specs.Token.{TokenValue, applies}
+use Rattle.sd_check.specs.Check.{is_granted, verdict}
+
+-- where no entry before it settles the bit, an entry that does decides it
+abbrev pub FirstEntryDecides : Type 0
+FirstEntryDecides =
+    (g : MappingValue) (who : AceKind → SidValue → Bool) (before after : List Ace) (e : Ace) (b : ℕ)
+    → AllByRecursion (λ other. decides g who b other ≡ false) before
+    → decides g who b e ≡ true
+    → acl_grants g who (Some (before ++ e ∷ after)) b ≡ (nat_lt b 21 && is_allow e.kind)
+
+-- the entry has no part in the check: it is inherit-only, or applies to nobody, and doesn't limit the owner
+pub record IsSilent (t : TokenValue) (owner : Option SidValue) (e : Ace) : Type 0 where
+  pub applies_not : (not (is_inherit_only e) && applies t owner e.kind e.sid) ≡ false
+  pub limits_not : (not (is_inherit_only e) && same_sid e.sid owner_rights) ≡ false
+
+abbrev pub SilentEntryChangesNothing : Type 0
+SilentEntryChangesNothing =
+    (owner : Option SidValue) (before after : List Ace) (e : Ace) (g : MappingValue) (t : TokenValue) (r : ℕ)
+    → IsSilent t owner e
+    → verdict owner (Some (before ++ e ∷ after)) g t r ≡ verdict owner (Some (before ++ after)) g t r
+
+abbrev pub GrantsWhatWasAsked : Type 0
+GrantsWhatWasAsked =
+    (owner : Option SidValue) (dacl : Option (List Ace)) (g : MappingValue) (t : TokenValue) (r m : ℕ)
+    → holds r 25 ≡ false → verdict owner dacl g t r ≡ Granted m → m ≡ mapped g (without_maximum r)
+
+-- a bit below place 21 is in what MAXIMUM_ALLOWED, place 25, grants where it is granted by itself
+abbrev pub MaximumIsEachByItself : Type 0
+MaximumIsEachByItself =
+    (owner : Option SidValue) (es : List Ace) (g : MappingValue) (t : TokenValue) (m b : ℕ)
+    → verdict owner (Some es) g t (2 ^ 25) ≡ Granted m → b < 21
+    → (holds m b ≡ true) ↔ (verdict owner (Some es) g t (2 ^ b) ≡ Granted (2 ^ b))
+
+abbrev pub NothingBeyondMaximum : Type 0
+NothingBeyondMaximum =
+    (owner : Option SidValue) (es : List Ace) (g : MappingValue) (t : TokenValue) (m b : ℕ)
+    → verdict owner (Some es) g t (2 ^ 25) ≡ Granted m → 21 ≤ b → holds m b ≡ false
+
+-- the token with one more group, which is enabled
+abbrev pub with_group : TokenValue → SidValue → TokenValue
+with_group t s = record { user = t.user; groups = (s, Enabled) ∷ t.groups; privileges = t.privileges }
+
+-- no effective deny entry that speaks of the SID names the bit
+abbrev pub NamesNot : MappingValue → Option SidValue → SidValue → ℕ → Ace → Type 0
+NamesNot g owner s b e = not (is_inherit_only e) ≡ true → e.kind ≡ Deny → holds (mapped g e.mask) b ≡ true → subject owner e.sid ≡ Some s → ⊥
+
+abbrev pub EnabledGroupTakesNothing : Type 0
+EnabledGroupTakesNothing =
+    (owner : Option SidValue) (es : List Ace) (g : MappingValue) (t : TokenValue) (s : SidValue) (b : ℕ)
+    → AllByRecursion (NamesNot g owner s b) es
+    → is_granted owner (Some es) g t b ≡ true → is_granted owner (Some es) g (with_group t s) b ≡ true
+
+-- what a DACL grants is one of the object's own rights or the standard ones, the places below 21
+abbrev pub EntriesGrantRightsAlone : Type 0
+EntriesGrantRightsAlone =
+    (g : MappingValue) (who : AceKind → SidValue → Bool) (dacl : Option (List Ace)) (b : ℕ)
+    → acl_grants g who dacl b ≡ true → b < 21

@@ -1,0 +1,37 @@
+// What follows from the rules of the check. Each law is the contract of a function that does nothing.
+
+ghost use Rattle.sd_check.specs.Laws.{FirstEntryDecides, SilentEntryChangesNothing, GrantsWhatWasAsked, MaximumIsEachByItself, NothingBeyondMaximum, EnabledGroupTakesNothing, EntriesGrantRightsAlone};
+
+/// A deny in front of an allow of the same bit wins, and behind it loses: the first entry that settles a bit
+/// decides it, whatever stands behind ([MS-DTYP] 2.5.3.2).
+pub fn first_entry_decides()
+    ensures { FirstEntryDecides }
+{}
+
+/// An entry that is inherit-only, or applies to nobody here, changes no verdict; but an effective one for OWNER
+/// RIGHTS limits the owner.
+pub fn silent_entry_changes_nothing()
+    ensures { SilentEntryChangesNothing }
+{}
+
+/// What is granted is what was asked for, its generic rights mapped, unless MAXIMUM_ALLOWED was asked for.
+pub fn grants_what_was_asked()
+    ensures { GrantsWhatWasAsked }
+{}
+
+/// For a list, MAXIMUM_ALLOWED grants just the rights of the object and the standard ones that are granted when
+/// each is asked for by itself.
+pub fn maximum_is_each_by_itself()
+    ensures each { MaximumIsEachByItself }
+    ensures nothing_else { NothingBeyondMaximum }
+{}
+
+/// One more enabled group takes no bit away that no effective deny entry for the group names.
+pub fn enabled_group_takes_nothing()
+    ensures { EnabledGroupTakesNothing }
+{}
+
+/// Neither a reserved bit nor ACCESS_SYSTEM_SECURITY comes from an entry, or for want of a list.
+pub fn entries_grant_rights_alone()
+    ensures { EntriesGrantRightsAlone }
+{}
