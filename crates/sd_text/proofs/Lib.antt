@@ -5,3 +5,5 @@ pub mod Engine
 pub mod Loops
 pub mod Sids
 pub mod Entries
+pub mod Tables
+pub mod Aliases

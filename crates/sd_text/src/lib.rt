@@ -1,11 +1,16 @@
 //! Security descriptors as text, in the security descriptor definition language of [MS-DTYP] 2.5.1.
 #![tactic(auto)]
 
+mod alias;
 mod cursor;
+mod descriptor;
 mod entry;
 mod fault;
 mod first_form;
+mod name;
+mod rights;
 mod sid;
 
+pub use descriptor::read_sddl;
 pub use fault::{TextError, TextFault};
 pub use first_form::{read_first_dacl, read_first_mask, read_first_sid};

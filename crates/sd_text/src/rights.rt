@@ -1,0 +1,145 @@
+//! The rights field of an entry: [MS-DTYP] 2.5.1.1, ace-rights.
+
+ghost use Rattle.sd_text.specs.Rights.{mask_number, rights};
+ghost use Rattle.sd_text.specs.Reading.{Gives, find};
+
+use crate::cursor::Cursor;
+use crate::fault::TextFault;
+use crate::name::Name;
+use sd_sid::Mask;
+
+/// A mask is below this: it has 32 bits ([MS-DTYP] 2.4.3).
+const MASK_LIMIT: u64 = 0x1_0000_0000;
+
+/// The names of rights.
+static RIGHTS: [Name<u32>; 25] = [
+    Name {
+        letters: b"GA",
+        stands_for: 0x1000_0000,
+    },
+    Name {
+        letters: b"GR",
+        stands_for: 0x8000_0000,
+    },
+    Name {
+        letters: b"GW",
+        stands_for: 0x4000_0000,
+    },
+    Name {
+        letters: b"GX",
+        stands_for: 0x2000_0000,
+    },
+    Name {
+        letters: b"SD",
+        stands_for: 0x0001_0000,
+    },
+    Name {
+        letters: b"RC",
+        stands_for: 0x0002_0000,
+    },
+    Name {
+        letters: b"WD",
+        stands_for: 0x0004_0000,
+    },
+    Name {
+        letters: b"WO",
+        stands_for: 0x0008_0000,
+    },
+    Name {
+        letters: b"CC",
+        stands_for: 0x1,
+    },
+    Name {
+        letters: b"DC",
+        stands_for: 0x2,
+    },
+    Name {
+        letters: b"LC",
+        stands_for: 0x4,
+    },
+    Name {
+        letters: b"SW",
+        stands_for: 0x8,
+    },
+    Name {
+        letters: b"RP",
+        stands_for: 0x10,
+    },
+    Name {
+        letters: b"WP",
+        stands_for: 0x20,
+    },
+    Name {
+        letters: b"DT",
+        stands_for: 0x40,
+    },
+    Name {
+        letters: b"LO",
+        stands_for: 0x80,
+    },
+    Name {
+        letters: b"CR",
+        stands_for: 0x100,
+    },
+    Name {
+        letters: b"FA",
+        stands_for: 0x001F_01FF,
+    },
+    Name {
+        letters: b"FR",
+        stands_for: 0x0012_0089,
+    },
+    Name {
+        letters: b"FW",
+        stands_for: 0x0012_0116,
+    },
+    Name {
+        letters: b"FX",
+        stands_for: 0x0012_00A0,
+    },
+    Name {
+        letters: b"KA",
+        stands_for: 0x000F_003F,
+    },
+    Name {
+        letters: b"KR",
+        stands_for: 0x0002_0019,
+    },
+    Name {
+        letters: b"KW",
+        stands_for: 0x0002_0006,
+    },
+    Name {
+        letters: b"KX",
+        stands_for: 0x0002_0019,
+    },
+];
+
+impl Cursor<'_> {
+    /// A number, or a run of names.
+    #[tactic(auto, unfolding(crate::specs::Rights::rights))]
+    pub(crate) fn rights(&mut self) -> Result<Mask, TextFault>
+        ensures { Gives (λ mask. mask) result self.new.rest.now (find rights self.old.rest.now) }
+    {
+        if self.begins_digit(10) {
+            self.mask_number()
+        } else {
+            Ok(Mask(self.bits_of(&RIGHTS)))
+        }
+    }
+
+    /// A number: `0x` heads hexadecimal digits, `0` octal ones.
+    #[tactic(auto, unfolding(crate::specs::Rights::mask_number))]
+    fn mask_number(&mut self) -> Result<Mask, TextFault>
+        ensures { Gives (λ mask. mask) result self.new.rest.now (find mask_number self.old.rest.now) }
+    {
+        let bits = if self.begins(b"0X") {
+            self.number(2, 16, MASK_LIMIT)?
+        } else if self.begins(b"0") {
+            self.number(0, 8, MASK_LIMIT)?
+        } else {
+            self.number(0, 10, MASK_LIMIT)?
+        };
+        Ok(Mask(bits as u32))
+    }
+}
