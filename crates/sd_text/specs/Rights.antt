@@ -1,6 +1,6 @@
 -- The rights field of an entry ([MS-DTYP] 2.5.1.1, ace-rights).
 use Rattle.std.specs.Prelude.{ℕ, ◌^◌, List, [], ◌∷◌, codes, bit_or}
-use Rattle.sd_text.specs.Grammar.{Grammar, Name, choose, number, run, begins, begins_digit}
+use Rattle.sd_text.specs.Grammar.{Grammar, Name, choose, number, run, begins, begins_digit, whole}
 
 -- a name for these bits
 abbrev pub bits : List ℕ → ℕ → Name ℕ
@@ -26,3 +26,7 @@ mask_number = choose (λ text. begins text (codes "0X")) (number 2 16 (2 ^ 32)) 
 -- what begins with a digit is a number
 unfoldable pub rights : Grammar ℕ
 rights = choose (begins_digit 10) mask_number (bits_of right_names)
+
+-- the text of a mask
+abbrev pub mask_text : Grammar ℕ
+mask_text = whole rights

@@ -14,3 +14,5 @@ mod sid;
 pub use descriptor::read_sddl;
 pub use fault::{TextError, TextFault};
 pub use first_form::{read_first_dacl, read_first_mask, read_first_sid};
+pub use rights::read_mask;
+pub use sid::read_sid_text;

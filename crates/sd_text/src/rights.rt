@@ -1,10 +1,13 @@
 //! The rights field of an entry: [MS-DTYP] 2.5.1.1, ace-rights.
 
-ghost use Rattle.sd_text.specs.Rights.{mask_number, rights};
+ghost use Rattle.std.specs.Prelude.{IfOk, IfErr, IsErrOf};
+ghost use Rattle.sd_text.specs.Grammar.{Spells};
+ghost use Rattle.sd_text.specs.Fault.{StandsIn};
+ghost use Rattle.sd_text.specs.Rights.{mask_number, rights, mask_text};
 ghost use Rattle.sd_text.specs.Reading.{Gives, find};
 
 use crate::cursor::Cursor;
-use crate::fault::TextFault;
+use crate::fault::{TextError, TextFault};
 use crate::name::Name;
 use sd_sid::Mask;
 
@@ -115,7 +118,32 @@ static RIGHTS: [Name<u32>; 25] = [
     },
 ];
 
+/// The mask that the text spells, as a rights field of an entry ([MS-DTYP] 2.5.1.1, ace-rights).
+/// Takes no memory: an error is the text's first fault from the left.
+pub fn read_mask(text: &str) -> Result<Mask, TextError>
+    ensures value { IfOk result (λ mask. Spells mask_text text.now mask) }
+    ensures fault { IfErr result (λ e. StandsIn mask_text text.now e) }
+    ensures no_memory { ¬ IsErrOf result TextError.Memory }
+{
+    let mut cursor = Cursor::new(text);
+    match cursor.mask_text() {
+        Ok(mask) => Ok(mask),
+        Err(fault) => Err(TextError::Fault {
+            fault,
+            place: cursor.place(text),
+        }),
+    }
+}
+
 impl Cursor<'_> {
+    fn mask_text(&mut self) -> Result<Mask, TextFault>
+        ensures { Gives (λ mask. mask) result self.new.rest.now (find mask_text self.old.rest.now) }
+    {
+        let mask = self.rights()?;
+        self.end()?;
+        Ok(mask)
+    }
+
     /// A number, or a run of names.
     #[tactic(auto, unfolding(crate::specs::Rights::rights))]
     pub(crate) fn rights(&mut self) -> Result<Mask, TextFault>

@@ -1,11 +1,13 @@
 //! SIDs as text: [MS-DTYP] 2.4.2.1.
 
-ghost use Rattle.std.specs.Prelude.{◌≡◌, ◌<◌, ◌^◌, OnOk, IfOk};
-ghost use Rattle.sd_text.specs.Sid.{sid, authority, sub, subs_of};
+ghost use Rattle.std.specs.Prelude.{◌≡◌, ◌<◌, ◌^◌, OnOk, IfOk, IfErr, IsErrOf};
+ghost use Rattle.sd_text.specs.Grammar.{Spells};
+ghost use Rattle.sd_text.specs.Fault.{StandsIn};
+ghost use Rattle.sd_text.specs.Sid.{sid_text, sid, authority, sub, subs_of};
 ghost use Rattle.sd_text.specs.Reading.{Gives, find};
 
 use crate::cursor::Cursor;
-use crate::fault::TextFault;
+use crate::fault::{TextError, TextFault};
 use sd_sid::Sid;
 
 /// The most sub-authorities that a SID has ([MS-DTYP] 2.4.2.2, SubAuthorityCount).
@@ -17,7 +19,33 @@ const SUB_LIMIT: u64 = 0x1_0000_0000;
 /// An identifier authority is below this: it has six bytes ([MS-DTYP] 2.4.2.2, IdentifierAuthority).
 const AUTHORITY_LIMIT: u64 = 0x1_0000_0000_0000;
 
+/// The SID that the text spells, in full or by its alias ([MS-DTYP] 2.4.2.1). Takes no memory: an error is
+/// the text's first fault from the left.
+pub fn read_sid_text(text: &str) -> Result<Sid, TextError>
+    ensures value { IfOk result (λ sid. Spells sid_text text.now sid) }
+    ensures fault { IfErr result (λ e. StandsIn sid_text text.now e) }
+    ensures no_memory { ¬ IsErrOf result TextError.Memory }
+{
+    let mut cursor = Cursor::new(text);
+    match cursor.sid_text() {
+        Ok(sid) => Ok(sid),
+        Err(fault) => Err(TextError::Fault {
+            fault,
+            place: cursor.place(text),
+        }),
+    }
+}
+
 impl Cursor<'_> {
+    fn sid_text(&mut self) -> Result<Sid, TextFault>
+        ensures { Gives (λ sid. sid) result self.new.rest.now (find sid_text self.old.rest.now) }
+    {
+        let sid = self.sid()?;
+        self.end()?;
+        Ok(sid)
+    }
+
+
     /// A SID, in full or by its alias.
     #[tactic(auto, unfolding(crate::specs::Sid::sid))]
     pub(crate) fn sid(&mut self) -> Result<Sid, TextFault>
