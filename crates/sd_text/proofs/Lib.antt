@@ -7,3 +7,4 @@ pub mod Sids
 pub mod Entries
 pub mod Tables
 pub mod Aliases
+pub mod Printing

@@ -1,13 +1,17 @@
 -- Names of a table, one row after the other.
 use Rattle.std.proofs.Common.{◌≡◌, ℕ, zero, suc, ◌+◌, ◌<◌, ◌^◌, cond, List, [], ◌∷◌, ◌++◌, length, drop, get_or, Some, None, Ok, refl, arith, add-one, ap, sym, subst, ◌∙◌, inl, inr}
-use Rattle.std.specs.Prelude.{fold, bit_or}
+use Rattle.std.specs.Prelude.{fold, bit_or, ◌==◌}
 use Rattle.std.specs.List.{AllByRecursion}
 use Rattle.std.proofs.lemmas.Grind.{fold-append}
 use Rattle.std.proofs.lemmas.Nat.{or_lt, pow_pos}
 use Rattle.sd_text.specs.Grammar.{Name, value, many, named, begins, spells, run, Items}
 use Rattle.sd_text.specs.Reading.{find}
 use Rattle.sd_text.specs.Rights.{bits_of}
-use Rattle.sd_text.specs.Names.{rows, renamed}
+use Rattle.sd_sid.specs.Sid.{SidValue}
+use Rattle.sd_text.specs.declared.alias.WellKnown.{WellKnown}
+use Rattle.sd_text.specs.Alias.{alias_in, same_sid}
+use Rattle.sd_text.specs.Canon.{name_in}
+use Rattle.sd_text.specs.Names.{rows, renamed, well_known}
 use Rattle.sd_text.specs.declared.name.Name.{Name as Row}
 use Rattle.sd_text.proofs.Parts.{chosen, name_is, found_name, found_is, part_ok}
 use Rattle.sd_text.proofs.Engine.{find_spells}
@@ -18,6 +22,20 @@ pub named_at : {T : Type 0} (rs : List (Row T)) (i : ℕ) (r : Row T) (text : Li
 named_at [] i r text lt is = absurd (omega arith)
 named_at (q ∷ rs) zero r text lt is = rw is refl
 named_at (q ∷ rs) (suc i) r text lt is = rw add-one (let h = named_at rs i r text (omega arith) is in rw add-one at h)
+
+-- the same of a table of masks, looked up by the mask
+pub name_at : (rs : List (Row ℕ)) (i : ℕ) (r : Row ℕ) (mask : ℕ) → i < length rs → r ≡ get_or rs i r → name_in (rows (drop i rs)) mask ≡ cond (r.stands_for == mask) (Some r.letters.now) (name_in (rows (drop (i + 1) rs)) mask)
+unfolding name_in
+name_at [] i r mask lt is = absurd (omega arith)
+name_at (q ∷ rs) zero r mask lt is = rw is refl
+name_at (q ∷ rs) (suc i) r mask lt is = rw add-one (let h = name_at rs i r mask (omega arith) is in rw add-one at h)
+
+-- and of the table of aliases, looked up by the SID
+pub alias_at : (rs : List (Row WellKnown)) (i : ℕ) (r : Row WellKnown) (sid : SidValue) → i < length rs → r ≡ get_or rs i r → alias_in (renamed well_known (rows (drop i rs))) sid ≡ cond (same_sid (well_known r.stands_for) sid) (Some r.letters.now) (alias_in (renamed well_known (rows (drop (i + 1) rs))) sid)
+unfolding alias_in
+alias_at [] i r sid lt is = absurd (omega arith)
+alias_at (q ∷ rs) zero r sid lt is = rw is refl
+alias_at (q ∷ rs) (suc i) r sid lt is = rw add-one (let h = alias_at rs i r sid (omega arith) is in rw add-one at h)
 
 -- ---- a run of names, whose meanings are put together one by one
 

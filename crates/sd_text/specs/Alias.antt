@@ -41,8 +41,12 @@ same_numbers [] (b ∷ bs) = false
 same_numbers (a ∷ xs) [] = false
 same_numbers (a ∷ xs) (b ∷ bs) = a == b && same_numbers xs bs
 
+-- the SIDs are the same
+abbrev pub same_sid : SidValue → SidValue → Bool
+same_sid a b = a.authority == b.authority && same_numbers a.subs b.subs
+
 -- the letters of the table's name for the SID
 unfoldable pub alias_in : List (Name SidValue) → SidValue → Option (List ℕ)
 alias_in [] sid = None
 alias_in (name ∷ names) sid =
-    if (name.stands_for.authority == sid.authority && same_numbers name.stands_for.subs sid.subs) then Some name.letters else alias_in names sid
+    if same_sid name.stands_for sid then Some name.letters else alias_in names sid

@@ -7,4 +7,6 @@ pub mod Sid
 pub mod Rights
 pub mod Entry
 pub mod Sddl
+pub mod Canon
+pub mod Laws
 pub mod FirstForm

@@ -1,8 +1,8 @@
 //! The aliases of SIDs: [MS-DTYP] 2.5.1.1, sid-token.
 
-ghost use Rattle.std.specs.Prelude.{◌≡◌, ◌&&◌, ◌<◌, ◌≤◌, Err, length, drop, if◌then◌else◌};
+ghost use Rattle.std.specs.Prelude.{◌≡◌, ◌&&◌, ◌<◌, ◌≤◌, Err, length, drop, option_map, if◌then◌else◌};
 ghost use Rattle.sd_text.specs.Sid.{no_alias, begins_letter};
-ghost use Rattle.sd_text.specs.Alias.{aliases};
+ghost use Rattle.sd_text.specs.Alias.{aliases, alias_in, same_sid};
 ghost use Rattle.sd_text.specs.Names.{rows, renamed, well_known};
 ghost use Rattle.sd_text.specs.Grammar.{one_of};
 ghost use Rattle.sd_text.specs.declared.fault.TextFault.TheVariants.{UnknownAlias, Syntax};
@@ -24,7 +24,43 @@ pub(crate) enum WellKnown {
     AllPackages,
 }
 
+/// The alias of the SID, if it has one ([MS-DTYP] 2.5.1.1, sid-token). Takes no memory.
+pub fn alias_of(sid: &Sid) -> Option<[u8; 2]>
+    ensures { result ≡ alias_in aliases sid.now }
+{
+    match alias_text(sid)?.as_bytes() {
+        [first, second] => Some([*first, *second]),
+        _ => None,
+    }
+}
+
+/// The letters of the SID's alias.
+#[tactic(auto, using(crate::proofs::Tables::alias_at), unfolding(crate::specs::Alias::alias_in))]
+pub(crate) fn alias_text(sid: &Sid) -> Option<&'static str>
+    ensures { option_map (λ letters. letters.now) result ≡ alias_in aliases sid.now }
+{
+    for name in known_aliases() {
+        if name.stands_for.is(sid) {
+            return Some(name.letters);
+        }
+    }
+    None
+}
+
 impl WellKnown {
+    /// Whether this is the SID.
+    fn is(self, sid: &Sid) -> bool
+        ensures { result ≡ same_sid (well_known self) sid.now }
+    {
+        let (authority, subs) = (sid.authority(), sid.subs());
+        match self {
+            WellKnown::One(number, sub) => authority == u64::from(number)
+                && subs == [sub].as_slice(),
+            WellKnown::Builtin(account) => authority == 5 && subs == [32, account].as_slice(),
+            WellKnown::AllPackages => authority == 15 && subs == [2, 1].as_slice(),
+        }
+    }
+
     fn sid(self) -> Sid
         ensures { result ≡ well_known self }
     {
@@ -48,139 +84,139 @@ fn made(authority: u8, subs: &[u32]) -> Sid
 /// The aliases, and the SIDs that they stand for.
 static ALIASES: [Name<WellKnown>; 34] = [
     Name {
-        letters: b"WD",
+        letters: "WD",
         stands_for: WellKnown::One(1, 0),
     },
     Name {
-        letters: b"CO",
+        letters: "CO",
         stands_for: WellKnown::One(3, 0),
     },
     Name {
-        letters: b"CG",
+        letters: "CG",
         stands_for: WellKnown::One(3, 1),
     },
     Name {
-        letters: b"OW",
+        letters: "OW",
         stands_for: WellKnown::One(3, 4),
     },
     Name {
-        letters: b"NU",
+        letters: "NU",
         stands_for: WellKnown::One(5, 2),
     },
     Name {
-        letters: b"IU",
+        letters: "IU",
         stands_for: WellKnown::One(5, 4),
     },
     Name {
-        letters: b"SU",
+        letters: "SU",
         stands_for: WellKnown::One(5, 6),
     },
     Name {
-        letters: b"AN",
+        letters: "AN",
         stands_for: WellKnown::One(5, 7),
     },
     Name {
-        letters: b"ED",
+        letters: "ED",
         stands_for: WellKnown::One(5, 9),
     },
     Name {
-        letters: b"PS",
+        letters: "PS",
         stands_for: WellKnown::One(5, 10),
     },
     Name {
-        letters: b"AU",
+        letters: "AU",
         stands_for: WellKnown::One(5, 11),
     },
     Name {
-        letters: b"RC",
+        letters: "RC",
         stands_for: WellKnown::One(5, 12),
     },
     Name {
-        letters: b"SY",
+        letters: "SY",
         stands_for: WellKnown::One(5, 18),
     },
     Name {
-        letters: b"LS",
+        letters: "LS",
         stands_for: WellKnown::One(5, 19),
     },
     Name {
-        letters: b"NS",
+        letters: "NS",
         stands_for: WellKnown::One(5, 20),
     },
     Name {
-        letters: b"AC",
+        letters: "AC",
         stands_for: WellKnown::AllPackages,
     },
     Name {
-        letters: b"BA",
+        letters: "BA",
         stands_for: WellKnown::Builtin(544),
     },
     Name {
-        letters: b"BU",
+        letters: "BU",
         stands_for: WellKnown::Builtin(545),
     },
     Name {
-        letters: b"BG",
+        letters: "BG",
         stands_for: WellKnown::Builtin(546),
     },
     Name {
-        letters: b"PU",
+        letters: "PU",
         stands_for: WellKnown::Builtin(547),
     },
     Name {
-        letters: b"AO",
+        letters: "AO",
         stands_for: WellKnown::Builtin(548),
     },
     Name {
-        letters: b"SO",
+        letters: "SO",
         stands_for: WellKnown::Builtin(549),
     },
     Name {
-        letters: b"PO",
+        letters: "PO",
         stands_for: WellKnown::Builtin(550),
     },
     Name {
-        letters: b"BO",
+        letters: "BO",
         stands_for: WellKnown::Builtin(551),
     },
     Name {
-        letters: b"RE",
+        letters: "RE",
         stands_for: WellKnown::Builtin(552),
     },
     Name {
-        letters: b"RU",
+        letters: "RU",
         stands_for: WellKnown::Builtin(554),
     },
     Name {
-        letters: b"RD",
+        letters: "RD",
         stands_for: WellKnown::Builtin(555),
     },
     Name {
-        letters: b"NO",
+        letters: "NO",
         stands_for: WellKnown::Builtin(556),
     },
     Name {
-        letters: b"MU",
+        letters: "MU",
         stands_for: WellKnown::Builtin(558),
     },
     Name {
-        letters: b"LU",
+        letters: "LU",
         stands_for: WellKnown::Builtin(559),
     },
     Name {
-        letters: b"IS",
+        letters: "IS",
         stands_for: WellKnown::Builtin(568),
     },
     Name {
-        letters: b"CY",
+        letters: "CY",
         stands_for: WellKnown::Builtin(569),
     },
     Name {
-        letters: b"ER",
+        letters: "ER",
         stands_for: WellKnown::Builtin(573),
     },
     Name {
-        letters: b"CD",
+        letters: "CD",
         stands_for: WellKnown::Builtin(574),
     },
 ];
@@ -195,51 +231,51 @@ fn known_aliases() -> &'static [Name<WellKnown>]
 /// The aliases that only a domain could resolve.
 static DOMAIN_ALIASES: [Name<()>; 12] = [
     Name {
-        letters: b"DA",
+        letters: "DA",
         stands_for: (),
     },
     Name {
-        letters: b"DU",
+        letters: "DU",
         stands_for: (),
     },
     Name {
-        letters: b"DG",
+        letters: "DG",
         stands_for: (),
     },
     Name {
-        letters: b"DC",
+        letters: "DC",
         stands_for: (),
     },
     Name {
-        letters: b"DD",
+        letters: "DD",
         stands_for: (),
     },
     Name {
-        letters: b"CA",
+        letters: "CA",
         stands_for: (),
     },
     Name {
-        letters: b"RS",
+        letters: "RS",
         stands_for: (),
     },
     Name {
-        letters: b"EA",
+        letters: "EA",
         stands_for: (),
     },
     Name {
-        letters: b"SA",
+        letters: "SA",
         stands_for: (),
     },
     Name {
-        letters: b"PA",
+        letters: "PA",
         stands_for: (),
     },
     Name {
-        letters: b"LA",
+        letters: "LA",
         stands_for: (),
     },
     Name {
-        letters: b"LG",
+        letters: "LG",
         stands_for: (),
     },
 ];

@@ -42,19 +42,19 @@ pub(crate) struct DaclPart {
 
 static WORDS: [Name<DaclWord>; 4] = [
     Name {
-        letters: b"P",
+        letters: "P",
         stands_for: DaclWord::Protected,
     },
     Name {
-        letters: b"AR",
+        letters: "AR",
         stands_for: DaclWord::AutoReq,
     },
     Name {
-        letters: b"AI",
+        letters: "AI",
         stands_for: DaclWord::AutoInherited,
     },
     Name {
-        letters: b"NO_ACCESS_CONTROL",
+        letters: "NO_ACCESS_CONTROL",
         stands_for: DaclWord::NoAccessControl,
     },
 ];

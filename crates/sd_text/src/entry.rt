@@ -4,6 +4,7 @@ ghost use Rattle.std.specs.Prelude.{◌≡◌, ◌≤◌, ◌+◌, Ok, IfOk};
 ghost use Rattle.sd_acl.specs.Ace.{ace_size};
 ghost use Rattle.sd_text.specs.Entry.{entries, entry, kind, is_type, flag_names, guid, entry_end};
 ghost use Rattle.sd_text.specs.Rights.{bits_of};
+ghost use Rattle.sd_text.specs.Names.{rows};
 ghost use Rattle.sd_text.specs.Reading.{Gives, GivesUnlessMemory, find};
 
 use crate::cursor::Cursor;
@@ -22,34 +23,40 @@ const MAX_ACL_BYTES: u64 = 0xFFFF;
 /// The names of flags ([MS-DTYP] 2.4.4.1, AceFlags).
 static FLAGS: [Name<u32>; 7] = [
     Name {
-        letters: b"OI",
+        letters: "OI",
         stands_for: 0x01,
     },
     Name {
-        letters: b"CI",
+        letters: "CI",
         stands_for: 0x02,
     },
     Name {
-        letters: b"NP",
+        letters: "NP",
         stands_for: 0x04,
     },
     Name {
-        letters: b"IO",
+        letters: "IO",
         stands_for: 0x08,
     },
     Name {
-        letters: b"ID",
+        letters: "ID",
         stands_for: 0x10,
     },
     Name {
-        letters: b"SA",
+        letters: "SA",
         stands_for: 0x40,
     },
     Name {
-        letters: b"FA",
+        letters: "FA",
         stands_for: 0x80,
     },
 ];
+
+pub(crate) fn flag_names() -> &'static [Name<u32>]
+    ensures { rows result.now ≡ flag_names }
+{
+    &FLAGS
+}
 
 impl Cursor<'_> {
     /// Any number of entries.
@@ -122,7 +129,7 @@ impl Cursor<'_> {
     fn flags(&mut self) -> AceFlags
         ensures { find (bits_of flag_names) self.old.rest.now ≡ Ok (result.0, self.new.rest.now) }
     {
-        AceFlags::from_bits_retain(self.bits_of(&FLAGS) as u8)
+        AceFlags::from_bits_retain(self.bits_of(flag_names()) as u8)
     }
 
     /// An empty field of a GUID.

@@ -11,7 +11,7 @@ use crate::cursor::Cursor;
 /// A name, and what it stands for.
 #[derive(Clone, Copy)]
 pub(crate) struct Name<T> {
-    pub(crate) letters: &'static [u8],
+    pub(crate) letters: &'static str,
     pub(crate) stands_for: T,
 }
 
@@ -22,7 +22,7 @@ impl Cursor<'_> {
         ensures some { IfSome result (λ x. named (rows names.now) self.old.rest.now ≡ Some (x, self.new.rest.now)) }
     {
         for name in names {
-            if self.eat(name.letters) {
+            if self.eat(name.letters.as_bytes()) {
                 return Some(name.stands_for);
             }
         }

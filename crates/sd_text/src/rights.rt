@@ -17,103 +17,103 @@ const MASK_LIMIT: u64 = 0x1_0000_0000;
 /// The names of rights.
 static RIGHTS: [Name<u32>; 25] = [
     Name {
-        letters: b"GA",
+        letters: "GA",
         stands_for: 0x1000_0000,
     },
     Name {
-        letters: b"GR",
+        letters: "GR",
         stands_for: 0x8000_0000,
     },
     Name {
-        letters: b"GW",
+        letters: "GW",
         stands_for: 0x4000_0000,
     },
     Name {
-        letters: b"GX",
+        letters: "GX",
         stands_for: 0x2000_0000,
     },
     Name {
-        letters: b"SD",
+        letters: "SD",
         stands_for: 0x0001_0000,
     },
     Name {
-        letters: b"RC",
+        letters: "RC",
         stands_for: 0x0002_0000,
     },
     Name {
-        letters: b"WD",
+        letters: "WD",
         stands_for: 0x0004_0000,
     },
     Name {
-        letters: b"WO",
+        letters: "WO",
         stands_for: 0x0008_0000,
     },
     Name {
-        letters: b"CC",
+        letters: "CC",
         stands_for: 0x1,
     },
     Name {
-        letters: b"DC",
+        letters: "DC",
         stands_for: 0x2,
     },
     Name {
-        letters: b"LC",
+        letters: "LC",
         stands_for: 0x4,
     },
     Name {
-        letters: b"SW",
+        letters: "SW",
         stands_for: 0x8,
     },
     Name {
-        letters: b"RP",
+        letters: "RP",
         stands_for: 0x10,
     },
     Name {
-        letters: b"WP",
+        letters: "WP",
         stands_for: 0x20,
     },
     Name {
-        letters: b"DT",
+        letters: "DT",
         stands_for: 0x40,
     },
     Name {
-        letters: b"LO",
+        letters: "LO",
         stands_for: 0x80,
     },
     Name {
-        letters: b"CR",
+        letters: "CR",
         stands_for: 0x100,
     },
     Name {
-        letters: b"FA",
+        letters: "FA",
         stands_for: 0x001F_01FF,
     },
     Name {
-        letters: b"FR",
+        letters: "FR",
         stands_for: 0x0012_0089,
     },
     Name {
-        letters: b"FW",
+        letters: "FW",
         stands_for: 0x0012_0116,
     },
     Name {
-        letters: b"FX",
+        letters: "FX",
         stands_for: 0x0012_00A0,
     },
     Name {
-        letters: b"KA",
+        letters: "KA",
         stands_for: 0x000F_003F,
     },
     Name {
-        letters: b"KR",
+        letters: "KR",
         stands_for: 0x0002_0019,
     },
     Name {
-        letters: b"KW",
+        letters: "KW",
         stands_for: 0x0002_0006,
     },
     Name {
-        letters: b"KX",
+        letters: "KX",
         stands_for: 0x0002_0019,
     },
 ];

@@ -45,7 +45,6 @@ impl Cursor<'_> {
         Ok(sid)
     }
 
-
     /// A SID, in full or by its alias.
     #[tactic(auto, unfolding(crate::specs::Sid::sid))]
     pub(crate) fn sid(&mut self) -> Result<Sid, TextFault>
