@@ -21,3 +21,6 @@ pub use laws::{texts_have_a_value_or_a_fault, texts_have_one_fault, texts_have_o
 pub use print::{print_sddl, print_sid};
 pub use rights::read_mask;
 pub use sid::read_sid_text;
+
+#[cfg(test)]
+mod tests;
