@@ -8,3 +8,7 @@ pub mod Entries
 pub mod Tables
 pub mod Aliases
 pub mod Printing
+pub mod CanonSids
+pub mod CanonRights
+pub mod CanonEntries
+pub mod CanonDescriptors

@@ -1,6 +1,6 @@
 //! What holds of every text. Each law is the contract of a function that does nothing.
 
-ghost use Rattle.sd_text.specs.Laws.{HasOneValue, HasValueOrFault, HasOneFault};
+ghost use Rattle.sd_text.specs.Laws.{HasOneValue, HasValueOrFault, HasOneFault, DescriptorsComeBack, SidsComeBack, MasksComeBack};
 ghost use Rattle.sd_text.specs.Rights.{mask_text};
 ghost use Rattle.sd_text.specs.Sddl.{sddl};
 ghost use Rattle.sd_text.specs.Sid.{sid_text};
@@ -24,4 +24,12 @@ pub fn texts_have_one_fault()
     ensures descriptors { HasOneFault sddl }
     ensures sids { HasOneFault sid_text }
     ensures masks { HasOneFault mask_text }
+{}
+
+/// What is printed spells what was printed: a descriptor whose entries have no flag outside the seven that
+/// have names, a SID, and a mask as it stands in an entry.
+pub fn printed_texts_come_back()
+    ensures descriptors { DescriptorsComeBack }
+    ensures sids { SidsComeBack }
+    ensures masks { MasksComeBack }
 {}
