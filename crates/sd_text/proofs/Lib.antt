@@ -5,3 +5,10 @@ pub mod Engine
 pub mod Loops
 pub mod Sids
 pub mod Entries
+pub mod Tables
+pub mod Aliases
+pub mod Printing
+pub mod CanonSids
+pub mod CanonRights
+pub mod CanonEntries
+pub mod CanonDescriptors

@@ -45,6 +45,9 @@ name_gave (Some x) next other r e = inr (x.0, x.1, refl, e)
 pub name_is : {A : Type 0} (a b : A) (x y : List ℕ) → ◌≡◌ {A = Option (A × List ℕ)} (Some (a, x)) (Some (b, y)) → (a ≡ b) × (x ≡ y)
 name_is {A = A} a b x y e = let pair : ◌≡◌ {A = A × List ℕ} (a, x) (b, y) = cc in (ap (λ (p : A × List ℕ). p.0) pair, ap (λ (p : A × List ℕ). p.1) pair)
 
+abbrev pub found_name : {A : Type 0} → A → List ℕ → Option (A × List ℕ)
+found_name a behind = Some (a, behind)
+
 abbrev pub found : {A : Type 0} → A → List ℕ → Found A
 found a behind = Ok (a, behind)
 

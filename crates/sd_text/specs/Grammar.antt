@@ -1,5 +1,5 @@
 -- Grammars: which value a text spells, and where a text that spells none goes wrong.
-use Rattle.std.specs.Prelude.{◌≡◌, ℕ, ◌+◌, ◌<◌, ◌≤◌, ◌==◌, nat_lt, Bool, true, false, ◌&&◌, ◌⊎◌, List, [], ◌∷◌, ◌++◌, length, drop, Option, Some, None, if◌then◌else◌}
+use Rattle.std.specs.Prelude.{◌≡◌, ℕ, ◌+◌, ◌<◌, ◌≤◌, ◌==◌, nat_lt, Bool, true, false, ◌&&◌, ◌⊎◌, List, [], ◌∷◌, ◌++◌, length, drop, fold, Option, Some, None, if◌then◌else◌}
 use Rattle.std.specs.Char.{digit_value, eq_ignore_ascii_case}
 use Rattle.std.specs.Str.Parse.{IsNumeral, digits_value}
 use Rattle.sd_text.specs.declared.fault.TextFault.{TextFault}
@@ -57,6 +57,10 @@ end = choose (λ text. length text == 0) (value tt) (refused Syntax)
 -- the part, and behind it the end of the text
 abbrev pub whole : {A : Type 0} → Grammar A → Grammar A
 whole part = part >>= λ a. end >>= λ u. value a
+
+-- a run of names of the table, perhaps none, each added to what the earlier ones make
+abbrev pub run : {A B : Type 0} → List (Name A) → (B → A → B) → B → Grammar B
+run names add none = many names (λ before meaning. value meaning) >>= λ meanings. value (fold add none meanings)
 
 -- the text is the digits that it begins with, all of them, and what is behind them
 pub record Run (radix : ℕ) (text digits behind : List ℕ) : Type 0 where

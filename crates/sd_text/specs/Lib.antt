@@ -1,6 +1,12 @@
-pub mod Fault
 pub mod Grammar
+pub mod Fault
 pub mod Reading
+pub mod Names
+pub mod Alias
 pub mod Sid
+pub mod Rights
 pub mod Entry
+pub mod Sddl
+pub mod Canon
+pub mod Laws
 pub mod FirstForm

@@ -1,8 +1,10 @@
 -- SIDs as text ([MS-DTYP] 2.4.2.1).
-use Rattle.std.specs.Prelude.{ℕ, ◌^◌, nat_lt, List, [], ◌∷◌, length, codes}
+use Rattle.std.specs.Prelude.{ℕ, ◌^◌, Bool, false, ◌&&◌, is_some, nat_lt, List, [], ◌∷◌, length, drop, codes}
+use Rattle.std.specs.Char.{is_ascii_alphabetic}
 use Rattle.sd_sid.specs.Sid.{SidValue}
-use Rattle.sd_text.specs.declared.fault.TextFault.TheVariants.{Syntax, Range}
-use Rattle.sd_text.specs.Grammar.{Grammar, Name, value, refused, choose, number, many, begins, begins_digit, ◌>>=◌}
+use Rattle.sd_text.specs.declared.fault.TextFault.TheVariants.{Syntax, Range, UnknownAlias, DomainAlias}
+use Rattle.sd_text.specs.Grammar.{Grammar, Name, value, refused, choose, word, number, one_of, many, begins, begins_digit, named, whole, ◌>>=◌}
+use Rattle.sd_text.specs.Alias.{aliases, domain_aliases}
 
 -- what leads a sub-authority
 abbrev pub dash : List (Name (Unit {0}))
@@ -17,3 +19,25 @@ unfoldable pub subs_of : ℕ → Grammar SidValue
 subs_of authority = do
   subs ← choose (λ text. begins text (codes "-")) (many dash (λ before u. sub (length before))) (refused Syntax)
   value (record { authority = authority; subs = subs })
+
+-- an authority, of which `0x` heads hexadecimal digits
+unfoldable pub authority : Grammar ℕ
+authority = choose (λ text. begins text (codes "0X")) (number 2 16 (2 ^ 48)) (number 0 10 (2 ^ 48))
+
+-- the text begins with a letter
+abbrev pub begins_letter : List ℕ → Bool
+begins_letter [] = false
+begins_letter (c ∷ text) = is_ascii_alphabetic c
+
+-- no alias stands there
+unfoldable pub no_alias : Grammar SidValue
+no_alias = choose (λ text. is_some (named domain_aliases text)) (refused DomainAlias)
+    (choose (λ text. begins_letter text && begins_letter (drop 1 text)) (refused UnknownAlias) (refused Syntax))
+
+-- a SID, in full or by its alias
+unfoldable pub sid : Grammar SidValue
+sid = choose (λ text. begins text (codes "S-1-")) (word (codes "S-1-") >>= λ u. authority >>= λ number. subs_of number) (one_of aliases no_alias)
+
+-- the text of a SID
+abbrev pub sid_text : Grammar SidValue
+sid_text = whole sid

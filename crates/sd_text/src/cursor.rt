@@ -3,6 +3,7 @@
 ghost use Rattle.std.specs.Prelude.{◌≡◌, ◌+◌, ◌≤◌, ◌^◌, ◌<◌, ℕ, length, take, drop, IsTrue, if◌then◌else◌};
 ghost use Rattle.std.specs.Str.Parse.{digits_value};
 ghost use Rattle.sd_text.specs.Grammar.{begins, begins_digit, word, number, end};
+ghost use Rattle.sd_text.specs.Sid.{begins_letter};
 ghost use Rattle.sd_text.specs.Reading.{Gives, find, digits_len, IsCapped};
 
 use crate::fault::TextFault;
@@ -32,7 +33,8 @@ impl<'a> Cursor<'a> {
 
     /// Whether these letters stand here, of either case.
     pub(crate) fn begins(&self, letters: &[u8]) -> bool
-        ensures { result ≡ begins self.now.rest.now letters.now }
+        ensures value { result ≡ begins self.now.rest.now letters.now }
+        ensures within { IsTrue result → length letters.now ≤ length self.now.rest.now }
     {
         begins(self.rest, letters)
     }
@@ -43,6 +45,16 @@ impl<'a> Cursor<'a> {
         ensures { result ≡ begins_digit radix self.now.rest.now }
     {
         begins_digit(self.rest, radix)
+    }
+
+    /// Whether a letter stands so many bytes from here.
+    pub(crate) fn letter_at(&self, ahead: usize) -> bool
+        ensures { result ≡ begins_letter (drop ahead self.now.rest.now) }
+    {
+        match self.rest.get(ahead) {
+            Some(c) => c.is_ascii_alphabetic(),
+            None => false,
+        }
     }
 
     /// Whether these letters stand here, of either case; they are left behind then.

@@ -1,13 +1,18 @@
 //! Entries as text: [MS-DTYP] 2.5.1.1, ace.
 
-ghost use Rattle.std.specs.Prelude.{◌≤◌, ◌+◌, IfOk};
+ghost use Rattle.std.specs.Prelude.{◌≡◌, ◌≤◌, ◌+◌, Ok, IfOk};
 ghost use Rattle.sd_acl.specs.Ace.{ace_size};
-ghost use Rattle.sd_text.specs.Entry.{entry_end};
-ghost use Rattle.sd_text.specs.Reading.{Gives, find};
+ghost use Rattle.sd_text.specs.Entry.{entries, entry, kind, is_type, flag_names, guid, entry_end};
+ghost use Rattle.sd_text.specs.Rights.{bits_of};
+ghost use Rattle.sd_text.specs.Names.{rows};
+ghost use Rattle.sd_text.specs.Reading.{Gives, GivesUnlessMemory, find};
 
 use crate::cursor::Cursor;
-use crate::fault::TextFault;
-use sd_acl::Ace;
+use crate::fault::{Stop, TextFault};
+use crate::name::Name;
+use bitflags::Flags;
+use sd_acl::{Ace, AceFlags, AceKind, AceList};
+use std::alloc::Global;
 
 /// The bytes of a list without entries, its header ([MS-DTYP] 2.4.5).
 pub(crate) const EMPTY_ACL_BYTES: u64 = 8;
@@ -15,7 +20,132 @@ pub(crate) const EMPTY_ACL_BYTES: u64 = 8;
 /// The most bytes that a list takes: AclSize is 16 bits wide ([MS-DTYP] 2.4.5).
 const MAX_ACL_BYTES: u64 = 0xFFFF;
 
+/// The names of flags ([MS-DTYP] 2.4.4.1, AceFlags).
+static FLAGS: [Name<u32>; 7] = [
+    Name {
+        letters: "OI",
+        stands_for: 0x01,
+    },
+    Name {
+        letters: "CI",
+        stands_for: 0x02,
+    },
+    Name {
+        letters: "NP",
+        stands_for: 0x04,
+    },
+    Name {
+        letters: "IO",
+        stands_for: 0x08,
+    },
+    Name {
+        letters: "ID",
+        stands_for: 0x10,
+    },
+    Name {
+        letters: "SA",
+        stands_for: 0x40,
+    },
+    Name {
+        letters: "FA",
+        stands_for: 0x80,
+    },
+];
+
+pub(crate) fn flag_names() -> &'static [Name<u32>]
+    ensures { rows result.now ≡ flag_names }
+{
+    &FLAGS
+}
+
 impl Cursor<'_> {
+    /// Any number of entries.
+    pub(crate) fn entries(&mut self, alloc: Global) -> Result<AceList, Stop>
+        ensures { GivesUnlessMemory (λ entries. entries) result self.new.rest.now (find entries self.old.rest.now) }
+    {
+        let mut entries = Vec::new(alloc);
+        let mut size = EMPTY_ACL_BYTES;
+        'entries: while self.eat(b"(") {
+            let entry = self.entry(size)?;
+            size += entry.size();
+            entries.push(entry)?;
+        }
+        Ok(AceList::new(entries).unwrap())
+    }
+
+    /// An entry behind its `(`, where the list has this size so far.
+    #[tactic(auto, unfolding(crate::specs::Entry::entry))]
+    fn entry(&mut self, size: u64) -> Result<Ace, TextFault>
+        requires { size ≤ 65535 }
+        ensures entry { Gives (λ entry. entry) result self.new.rest.now (find (entry size) self.old.rest.now) }
+        ensures fits { IfOk result (λ entry. size + ace_size entry ≤ 65535) }
+    {
+        let kind = self.kind()?;
+        self.word(b";")?;
+        let flags = self.flags();
+        self.word(b";")?;
+        let mask = self.rights()?;
+        self.word(b";")?;
+        self.guid()?;
+        self.guid()?;
+        let sid = self.sid()?;
+        self.entry_end(
+            size,
+            Ace {
+                kind,
+                flags,
+                mask,
+                sid,
+            },
+        )
+    }
+
+    /// The type of an entry: the letters that stand here, all of them.
+    #[tactic(auto, unfolding(crate::specs::Entry::kind))]
+    fn kind(&mut self) -> Result<AceKind, TextFault>
+        ensures { Gives (λ kind. kind) result self.new.rest.now (find kind self.old.rest.now) }
+    {
+        if self.is_type(b"A") {
+            self.word(b"A")?;
+            Ok(AceKind::Allow)
+        } else if self.is_type(b"D") {
+            self.word(b"D")?;
+            Ok(AceKind::Deny)
+        } else if self.letter_at(0) {
+            Err(TextFault::EntryKind)
+        } else {
+            Err(TextFault::Syntax)
+        }
+    }
+
+    /// Whether just this letter stands here, and no other behind it.
+    fn is_type(&self, letter: &[u8]) -> bool
+        ensures { result ≡ is_type letter.now self.now.rest.now }
+    {
+        self.begins(letter) && !self.letter_at(1)
+    }
+
+    /// A run of flags, perhaps none.
+    fn flags(&mut self) -> AceFlags
+        ensures { find (bits_of flag_names) self.old.rest.now ≡ Ok (result.0, self.new.rest.now) }
+    {
+        AceFlags::from_bits_retain(self.bits_of(flag_names()) as u8)
+    }
+
+    /// An empty field of a GUID.
+    #[tactic(auto, unfolding(crate::specs::Entry::guid))]
+    fn guid(&mut self) -> Result<(), TextFault>
+        ensures { Gives (λ _. tt) result self.new.rest.now (find guid self.old.rest.now) }
+    {
+        if self.eat(b";") {
+            Ok(())
+        } else if self.rest.is_empty() {
+            Err(TextFault::Syntax)
+        } else {
+            Err(TextFault::ObjectGuid)
+        }
+    }
+
     /// The end of an entry, with which the list may not grow too large.
     #[tactic(auto, unfolding(crate::specs::Entry::entry_end))]
     pub(crate) fn entry_end(&mut self, size: u64, entry: Ace) -> Result<Ace, TextFault>

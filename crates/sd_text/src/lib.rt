@@ -1,11 +1,26 @@
 //! Security descriptors as text, in the security descriptor definition language of [MS-DTYP] 2.5.1.
 #![tactic(auto)]
 
+mod alias;
 mod cursor;
+mod descriptor;
 mod entry;
 mod fault;
 mod first_form;
+mod laws;
+mod name;
+mod print;
+mod rights;
 mod sid;
 
+pub use alias::alias_of;
+pub use descriptor::read_sddl;
 pub use fault::{TextError, TextFault};
 pub use first_form::{read_first_dacl, read_first_mask, read_first_sid};
+pub use laws::{texts_have_a_value_or_a_fault, texts_have_one_fault, texts_have_one_value};
+pub use print::{print_sddl, print_sid};
+pub use rights::read_mask;
+pub use sid::read_sid_text;
+
+#[cfg(test)]
+mod tests;

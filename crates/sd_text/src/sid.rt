@@ -1,11 +1,13 @@
 //! SIDs as text: [MS-DTYP] 2.4.2.1.
 
-ghost use Rattle.std.specs.Prelude.{◌≡◌, ◌<◌, ◌^◌, OnOk};
-ghost use Rattle.sd_text.specs.Sid.{sub, subs_of};
+ghost use Rattle.std.specs.Prelude.{◌≡◌, ◌<◌, ◌^◌, OnOk, IfOk, IfErr, IsErrOf};
+ghost use Rattle.sd_text.specs.Grammar.{Spells};
+ghost use Rattle.sd_text.specs.Fault.{StandsIn};
+ghost use Rattle.sd_text.specs.Sid.{sid_text, sid, authority, sub, subs_of};
 ghost use Rattle.sd_text.specs.Reading.{Gives, find};
 
 use crate::cursor::Cursor;
-use crate::fault::TextFault;
+use crate::fault::{TextError, TextFault};
 use sd_sid::Sid;
 
 /// The most sub-authorities that a SID has ([MS-DTYP] 2.4.2.2, SubAuthorityCount).
@@ -14,7 +16,61 @@ const MAX_SUBS: usize = 15;
 /// A sub-authority is below this: it has 32 bits ([MS-DTYP] 2.4.2.2, SubAuthority).
 const SUB_LIMIT: u64 = 0x1_0000_0000;
 
+/// An identifier authority is below this: it has six bytes ([MS-DTYP] 2.4.2.2, IdentifierAuthority).
+const AUTHORITY_LIMIT: u64 = 0x1_0000_0000_0000;
+
+/// The SID that the text spells, in full or by its alias ([MS-DTYP] 2.4.2.1). Takes no memory: an error is
+/// the text's first fault from the left.
+pub fn read_sid_text(text: &str) -> Result<Sid, TextError>
+    ensures value { IfOk result (λ sid. Spells sid_text text.now sid) }
+    ensures fault { IfErr result (λ e. StandsIn sid_text text.now e) }
+    ensures no_memory { ¬ IsErrOf result TextError.Memory }
+{
+    let mut cursor = Cursor::new(text);
+    match cursor.sid_text() {
+        Ok(sid) => Ok(sid),
+        Err(fault) => Err(TextError::Fault {
+            fault,
+            place: cursor.place(text),
+        }),
+    }
+}
+
 impl Cursor<'_> {
+    fn sid_text(&mut self) -> Result<Sid, TextFault>
+        ensures { Gives (λ sid. sid) result self.new.rest.now (find sid_text self.old.rest.now) }
+    {
+        let sid = self.sid()?;
+        self.end()?;
+        Ok(sid)
+    }
+
+    /// A SID, in full or by its alias.
+    #[tactic(auto, unfolding(crate::specs::Sid::sid))]
+    pub(crate) fn sid(&mut self) -> Result<Sid, TextFault>
+        ensures { Gives (λ sid. sid) result self.new.rest.now (find sid self.old.rest.now) }
+    {
+        if !self.begins(b"S-1-") {
+            return self.alias();
+        }
+        self.word(b"S-1-")?;
+        let authority = self.authority()?;
+        self.subs_of(authority)
+    }
+
+    /// An authority, of which `0x` heads hexadecimal digits.
+    #[tactic(auto, unfolding(crate::specs::Sid::authority))]
+    fn authority(&mut self) -> Result<u64, TextFault>
+        ensures authority { Gives (λ n. n) result self.new.rest.now (find authority self.old.rest.now) }
+        ensures bound { IfOk result (λ n. n < 2 ^ 48) }
+    {
+        if self.begins(b"0X") {
+            self.number(2, 16, AUTHORITY_LIMIT)
+        } else {
+            self.number(0, 10, AUTHORITY_LIMIT)
+        }
+    }
+
     /// The sub-authorities, each behind a dash, and the SID of them.
     #[tactic(auto, unfolding(crate::specs::Sid::subs_of))]
     pub(crate) fn subs_of(&mut self, authority: u64) -> Result<Sid, TextFault>

@@ -9,7 +9,7 @@ pub returns-in_err-subs : goal.returns-in_err-subs
 returns-in_err-subs c =
     let p = err_from_is_err_and c.from_residual.result c.from_residual.ensures.1 in
     let counted : length (take c.subs.count c.subs.subs) ≡ c.subs.count = length-take-le c.subs.count c.subs.subs (omega arith) in
-    rw (p.1, p.2) (subs_fault c.args.authority c.args.self.now.rest.now (take c.subs.count c.subs.subs) c.subs.self.rest.now (c.in_err-subs.field-0.0, c.sub.new.self.rest.now) (sym c.if-not-begins.ensures) c.subs.invariant.reached (sym c.subs-test.ensures.stood)
+    rw (p.1, p.2) (subs_fault c.args.authority c.args.self.now.rest.now (take c.subs.count c.subs.subs) c.subs.self.rest.now (c.in_err-subs.field-0.0, c.sub.new.self.rest.now) (sym c.if-not-begins.ensures.value) c.subs.invariant.reached (sym c.subs-test.ensures.stood)
     (rw (counted, sym c.subs-test.ensures.rest) c.in_err-subs.ensures.sub))
 
 pub subs-smaller : goal.subs-smaller
@@ -36,4 +36,4 @@ returns c =
     let some = at_least_one c.subs.count c.subs.self.rest.now c.subs.invariant.some ends in
     let made = sid_made c.args.authority subs c.requires (omega arith) (omega arith) in
     rw (the_sid c.unwrap.result c.args.authority subs (sym c.unwrap.ensures ∙ c.new.ensures ∙ made), c.subs-test.ensures.rest)
-    (subs_end c.args.authority c.args.self.now.rest.now subs c.subs.self.rest.now (sym c.if-not-begins.ensures) c.subs.invariant.reached ends)
+    (subs_end c.args.authority c.args.self.now.rest.now subs c.subs.self.rest.now (sym c.if-not-begins.ensures.value) c.subs.invariant.reached ends)

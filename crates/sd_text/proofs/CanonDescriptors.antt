@@ -1,0 +1,166 @@
+-- The printed text of a descriptor is read as the descriptor.
+use Rattle.std.proofs.Common.{◌≡◌, ℕ, Bool, true, false, cond, List, [], ◌∷◌, ◌++◌, Option, Some, None, Ok, refl, sym, subst, append_assoc}
+use Rattle.std.specs.Prelude.{codes, IfSome, IsTrue, not, ◌&&◌}
+use Rattle.std.specs.List.{flat_map}
+use Rattle.std.proofs.lemmas.List.{append-nil}
+use Rattle.sd_sid.specs.Sid.{SidValue, IsSid}
+use Rattle.sd_acl.specs.Dacl.{IsAbsent}
+use Rattle.sd_acl.specs.Descriptor.{DescriptorValue, IsDacl, IsDescriptor}
+use Rattle.sd_acl.specs.declared.ace.Ace.{Ace}
+use Rattle.sd_acl.specs.declared.descriptor.Dacl.{Dacl}
+use Rattle.sd_acl.specs.declared.descriptor.Dacl.TheVariants.{Absent, Null, List as Entries}
+use Rattle.sd_text.specs.declared.descriptor.DaclWord.{DaclWord}
+use Rattle.sd_text.specs.declared.descriptor.DaclWord.TheVariants.{Protected, AutoReq, AutoInherited, NoAccessControl}
+use Rattle.sd_text.specs.declared.descriptor.DaclWords.{DaclWords}
+use Rattle.sd_text.specs.declared.descriptor.DaclPart.{DaclPart}
+use Rattle.sd_text.specs.Grammar.{begins, named}
+use Rattle.sd_text.specs.Reading.{find}
+use Rattle.sd_text.specs.Rights.{mask_text, rights}
+use Rattle.sd_text.specs.Sid.{sid_text, sid}
+use Rattle.sd_text.specs.Sddl.{sid_section, dacl_words, no_words, with_word, words, dacl_behind, dacl_section, no_sacl, sections, sddl}
+use Rattle.sd_text.specs.Canon.{where_set, words_canon, entry_canon, section_canon, dacl_canon, sid_canon, rights_canon, canon}
+use Rattle.sd_text.specs.Laws.{HaveNamedFlags, DescriptorsComeBack, SidsComeBack, MasksComeBack}
+use Rattle.sd_text.proofs.Engine.{find_spells}
+use Rattle.sd_text.proofs.Tables.{IsTogether, run_start, run_more, run_end}
+use Rattle.sd_text.proofs.CanonSids.{Stops, sid_read}
+use Rattle.sd_text.proofs.CanonRights.{rights_read}
+use Rattle.sd_text.proofs.CanonEntries.{entry_text, entries_read}
+
+at_end : Stops []
+at_end = record { no_digit = refl; no_dash = refl }
+
+-- ---- SIDs and masks by themselves
+
+pub sids_come_back : SidsComeBack
+sids_come_back s is =
+    let read : find sid (sid_canon s) ≡ Ok (s, []) = rw append-nil at (sid_read s [] is at_end) in
+    find_spells sid_text (sid_canon s) s [] (rw read refl)
+
+pub masks_come_back : MasksComeBack
+masks_come_back mask lt =
+    let read : find rights (rights_canon mask) ≡ Ok (mask, []) = rw append-nil at (rights_read mask [] lt refl refl) in
+    find_spells mask_text (rights_canon mask) mask [] (rw read refl)
+
+-- ---- words
+
+Reached : List ℕ → DaclWords → List ℕ → Type 0
+Reached start sum rest = IsTogether dacl_words with_word no_words start sum rest
+
+word_again : (test : Bool) (letters : List ℕ) (word : DaclWord) (start : List ℕ) (sum : DaclWords) (rest : List ℕ) → named dacl_words (letters ++ rest) ≡ Some (word, rest) → Reached start sum (where_set test letters ++ rest) → Reached start (cond test (with_word sum word) sum) rest
+unfolding Reached
+word_again true letters word start sum rest stands so_far = run_more dacl_words with_word no_words start sum (letters ++ rest) word rest so_far stands
+word_again false letters word start sum rest stands so_far = so_far
+
+words_sum : (p r i : Bool) → cond i (with_word (cond r (with_word (cond p (with_word no_words Protected) no_words) AutoReq) (cond p (with_word no_words Protected) no_words)) AutoInherited) (cond r (with_word (cond p (with_word no_words Protected) no_words) AutoReq) (cond p (with_word no_words Protected) no_words)) ≡ record { protected = p; auto_req = r; auto_inherited = i; no_access_control = false }
+words_sum true true true = refl
+words_sum true true false = refl
+words_sum true false true = refl
+words_sum true false false = refl
+words_sum false true true = refl
+words_sum false true false = refl
+words_sum false false true = refl
+words_sum false false false = refl
+
+-- the three words, and what is behind them
+words_text : Bool → Bool → Bool → List ℕ → List ℕ
+words_text p r i rest = where_set p (codes "P") ++ (where_set r (codes "AR") ++ (where_set i (codes "AI") ++ rest))
+
+words_again : (p r i : Bool) (rest : List ℕ) → Reached (words_text p r i rest) (record { protected = p; auto_req = r; auto_inherited = i; no_access_control = false }) rest
+unfolding words_text Reached
+words_again p r i rest =
+    let start = words_text p r i rest in
+    let none = run_start dacl_words with_word no_words start in
+    let first = word_again p (codes "P") Protected start no_words (where_set r (codes "AR") ++ (where_set i (codes "AI") ++ rest)) refl none in
+    let second = word_again r (codes "AR") AutoReq start (cond p (with_word no_words Protected) no_words) (where_set i (codes "AI") ++ rest) refl first in
+    let third = word_again i (codes "AI") AutoInherited start (cond r (with_word (cond p (with_word no_words Protected) no_words) AutoReq) (cond p (with_word no_words Protected) no_words)) rest refl second in
+    subst (λ sum. IsTogether dacl_words with_word no_words start sum rest) (words_sum p r i) third
+
+-- ---- the DACL
+
+no_word : (es : List Ace) → named dacl_words (flat_map entry_canon es) ≡ None
+no_word [] = refl
+no_word (e ∷ es) = rw (entry_text e (flat_map entry_canon es)) refl
+
+regroup : (a b c rest : List ℕ) → (a ++ b ++ c) ++ rest ≡ a ++ (b ++ (c ++ rest))
+regroup a b c rest = simp append_assoc
+
+null_read : (p r i : Bool) → find words (words_text p r i (codes "NO_ACCESS_CONTROL")) ≡ Ok (record { protected = p; auto_req = r; auto_inherited = i; no_access_control = true }, [])
+unfolding words Reached
+null_read p r i =
+    let start = words_text p r i (codes "NO_ACCESS_CONTROL") in
+    let so_far = words_again p r i (codes "NO_ACCESS_CONTROL") in
+    let last = run_more dacl_words with_word no_words start (record { protected = p; auto_req = r; auto_inherited = i; no_access_control = false }) (codes "NO_ACCESS_CONTROL") NoAccessControl [] so_far refl in
+    run_end dacl_words with_word no_words start (record { protected = p; auto_req = r; auto_inherited = i; no_access_control = true }) [] last refl
+
+list_read : (p r i : Bool) (es : List Ace) → find words (words_text p r i (flat_map entry_canon es)) ≡ Ok (record { protected = p; auto_req = r; auto_inherited = i; no_access_control = false }, flat_map entry_canon es)
+unfolding words Reached
+list_read p r i es = run_end dacl_words with_word no_words (words_text p r i (flat_map entry_canon es)) (record { protected = p; auto_req = r; auto_inherited = i; no_access_control = false }) (flat_map entry_canon es) (words_again p r i (flat_map entry_canon es)) (no_word es)
+
+-- the flags of a descriptor without a DACL are false
+all_false : (p r i : Bool) → IsTrue (not p && not r && not i) → (p ≡ false) × (r ≡ false) × (i ≡ false)
+all_false true r i e = absurd cc
+all_false false true i e = absurd cc
+all_false false false true e = absurd cc
+all_false false false false e = (refl, refl, refl)
+
+letters_of : Bool → Bool → Bool → List ℕ
+letters_of p r i = where_set p (codes "P") ++ where_set r (codes "AR") ++ where_set i (codes "AI")
+
+-- what the section of a DACL says, and that it is what a descriptor keeps
+part_of : Dacl → Bool → Bool → Bool → DaclPart
+part_of Absent p r i = record { dacl = Absent; words = no_words }
+part_of Null p r i = record { dacl = Null; words = record { protected = p; auto_req = r; auto_inherited = i; no_access_control = true } }
+part_of (Entries es) p r i = record { dacl = Entries es; words = record { protected = p; auto_req = r; auto_inherited = i; no_access_control = false } }
+
+record Keeps (part : DaclPart) (dacl : Dacl) (p r i : Bool) : Type 0 where
+  list : part.dacl ≡ dacl
+  protected : part.words.protected ≡ p
+  auto_req : part.words.auto_req ≡ r
+  auto_inherited : part.words.auto_inherited ≡ i
+
+keeps : (dacl : Dacl) (p r i : Bool) → (IsAbsent dacl → IsTrue (not p && not r && not i)) → Keeps (part_of dacl p r i) dacl p r i
+unfolding part_of
+keeps Absent p r i without = let f = all_false p r i (without refl) in record { list = refl; protected = sym f.0; auto_req = sym f.1; auto_inherited = sym f.2 }
+keeps Null p r i without = record { list = refl; protected = refl; auto_req = refl; auto_inherited = refl }
+keeps (Entries es) p r i without = record { list = refl; protected = refl; auto_req = refl; auto_inherited = refl }
+
+dacl_read : (dacl : Dacl) (p r i : Bool) → IsDacl dacl → HaveNamedFlags dacl → find dacl_section (dacl_canon (letters_of p r i) dacl) ≡ Ok (part_of dacl p r i, [])
+unfolding part_of letters_of dacl_section dacl_behind words_text
+dacl_read Absent p r i is named_only = refl
+dacl_read Null p r i is named_only = rw (regroup (where_set p (codes "P")) (where_set r (codes "AR")) (where_set i (codes "AI")) (codes "NO_ACCESS_CONTROL"), null_read p r i) refl
+dacl_read (Entries es) p r i is named_only = rw (regroup (where_set p (codes "P")) (where_set r (codes "AR")) (where_set i (codes "AI")) (flat_map entry_canon es), list_read p r i es, entries_read es is.each named_only is.fit) refl
+
+-- ---- sections
+
+after_group : (letters : List ℕ) (dacl : Dacl) → Stops (dacl_canon letters dacl) × (begins (dacl_canon letters dacl) (codes "G:") ≡ false) × (begins (dacl_canon letters dacl) (codes "O:") ≡ false)
+after_group letters Absent = (record { no_digit = refl; no_dash = refl }, refl, refl)
+after_group letters Null = (record { no_digit = refl; no_dash = refl }, refl, refl)
+after_group letters (Entries es) = (record { no_digit = refl; no_dash = refl }, refl, refl)
+
+after_owner : (g : Option SidValue) (letters : List ℕ) (dacl : Dacl) → Stops (section_canon (codes "G:") g ++ dacl_canon letters dacl) × (begins (section_canon (codes "G:") g ++ dacl_canon letters dacl) (codes "O:") ≡ false)
+after_owner None letters dacl = let h = after_group letters dacl in (h.0, h.2)
+after_owner (Some s) letters dacl = (record { no_digit = refl; no_dash = refl }, refl)
+
+owner_read : (o : Option SidValue) (rest : List ℕ) → IfSome o IsSid → Stops rest → begins rest (codes "O:") ≡ false → find (sid_section (codes "O:")) (section_canon (codes "O:") o ++ rest) ≡ Ok (o, rest)
+unfolding sid_section
+owner_read None rest is stops other = rw other refl
+owner_read (Some s) rest is stops other = rw (sid_read s rest is stops) refl
+
+group_read : (g : Option SidValue) (rest : List ℕ) → IfSome g IsSid → Stops rest → begins rest (codes "G:") ≡ false → find (sid_section (codes "G:")) (section_canon (codes "G:") g ++ rest) ≡ Ok (g, rest)
+unfolding sid_section
+group_read None rest is stops other = rw other refl
+group_read (Some s) rest is stops other = rw (sid_read s rest is stops) refl
+
+sections_read : (d : DescriptorValue) → IsDescriptor d → HaveNamedFlags d.dacl → find sections (canon d) ≡ Ok (d, [])
+unfolding sections canon no_sacl letters_of words_canon
+sections_read d is named_only =
+    let tail = dacl_canon (words_canon d) d.dacl in
+    let behind_group = after_group (words_canon d) d.dacl in
+    let behind_owner = after_owner d.group (words_canon d) d.dacl in
+    let part = part_of d.dacl d.protected d.auto_req d.auto_inherited in
+    let kept : Keeps part d.dacl d.protected d.auto_req d.auto_inherited = keeps d.dacl d.protected d.auto_req d.auto_inherited is.without_a_dacl in
+    rw (append_assoc (section_canon (codes "O:") d.owner) (section_canon (codes "G:") d.group) tail, owner_read d.owner (section_canon (codes "G:") d.group ++ tail) is.owner behind_owner.0 behind_owner.1, group_read d.group tail is.group behind_group.0 behind_group.1, dacl_read d.dacl d.protected d.auto_req d.auto_inherited is.dacl named_only)
+    (rw (kept.list, kept.protected, kept.auto_req, kept.auto_inherited) refl)
+
+pub descriptors_come_back : DescriptorsComeBack
+descriptors_come_back d is named_only = find_spells sddl (canon d) d [] (rw (sections_read d is named_only) refl)

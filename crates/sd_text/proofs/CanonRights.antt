@@ -1,0 +1,115 @@
+-- The printed text of a mask, and of flags, is read as the mask and the flags.
+use Rattle.std.proofs.Common.{◌≡◌, ℕ, zero, suc, ◌^◌, ◌<◌, Bool, true, false, cond, List, [], ◌∷◌, ◌++◌, Option, Some, None, Ok, refl, arith, sym, append_assoc, inl, inr}
+use Rattle.std.specs.Prelude.{codes, unwrap_or, ◌==◌, ◌&&◌, bit_and, bit_or, fold}
+use Rattle.std.specs.List.{flat_map, AllByRecursion}
+use Rattle.std.proofs.lemmas.Bool.{eqb-true, eq-eqb, cases_lt}
+use Rattle.std.proofs.lemmas.Fmt.{digits_is_IsNumeral}
+use Rattle.sd_text.specs.Grammar.{Name, begins_digit, named}
+use Rattle.sd_text.specs.Reading.{find}
+use Rattle.sd_text.specs.Rights.{right_names, bits_of, mask_number, rights}
+use Rattle.sd_text.specs.Entry.{flag_names}
+use Rattle.sd_text.specs.Canon.{hex, printed_rights, name_in, rights_canon, flag_canon, flags_canon}
+use Rattle.sd_text.proofs.Parts.{went, chosen, both_hold}
+use Rattle.sd_text.proofs.Tables.{IsTogether, run_start, run_more, run_end}
+use Rattle.sd_text.proofs.CanonSids.{number_read}
+
+-- ---- masks
+
+RightReads : Name ℕ → Type 0
+RightReads name = (rest : List ℕ) → (begins_digit 10 (name.letters ++ rest) ≡ false) × (named right_names (name.letters ++ rest) ≡ Some (name.stands_for, rest))
+
+right_rows : AllByRecursion RightReads printed_rights
+unfolding printed_rights RightReads
+right_rows = (λ rest. (refl, refl), (λ rest. (refl, refl), (λ rest. (refl, refl), (λ rest. (refl, refl), (λ rest. (refl, refl), (λ rest. (refl, refl), (λ rest. (refl, refl), (λ rest. (refl, refl), (λ rest. (refl, refl), (λ rest. (refl, refl), (λ rest. (refl, refl), (λ rest. (refl, refl), (λ rest. (refl, refl), (λ rest. (refl, refl), (λ rest. (refl, refl), tt)))))))))))))))
+
+right_row : (names : List (Name ℕ)) (mask : ℕ) (letters : List ℕ) → AllByRecursion RightReads names → name_in names mask ≡ Some letters → (name : Name ℕ) × RightReads name × (name.letters ≡ letters) × (name.stands_for ≡ mask)
+unfolding name_in
+right_row [] mask letters all e = absurd cc
+right_row (name ∷ names) mask letters all e =
+    elim (chosen (name.stands_for == mask) _ _ _ e) [
+      | inl h ↦ (name, all.0, is_same name.letters letters h.1, eqb-true name.stands_for mask h.0)
+      | inr h ↦ right_row names mask letters all.1 h.1
+    ]
+  where
+    is_same : (a b : List ℕ) → ◌≡◌ {A = Option (List ℕ)} (Some a) (Some b) → a ≡ b
+    is_same a b same = cc
+
+one_name : (mask : ℕ) (text rest : List ℕ) → named right_names text ≡ Some (mask, rest) → named right_names rest ≡ None → find (bits_of right_names) text ≡ Ok (mask, rest)
+unfolding bits_of
+one_name mask text rest one none = run_end right_names bit_or 0 text mask rest (run_more right_names bit_or 0 text 0 text mask rest (run_start right_names bit_or 0 text) one) none
+
+name_read : (mask : ℕ) (letters rest : List ℕ) → named right_names rest ≡ None → name_in printed_rights mask ≡ Some letters → find rights (letters ++ rest) ≡ Ok (mask, rest)
+unfolding rights RightReads
+name_read mask letters rest none e =
+    let row = right_row printed_rights mask letters right_rows e in
+    let reads = row.1 rest in
+    rw (sym row.2, reads.0, one_name row.0.stands_for (row.0.letters ++ rest) rest reads.1 none, row.3) refl
+
+hex_read : (mask : ℕ) (rest : List ℕ) → mask < 2 ^ 32 → begins_digit 16 rest ≡ false → find rights (codes "0x" ++ hex mask ++ rest) ≡ Ok (mask, rest)
+unfolding rights mask_number
+hex_read mask rest lt ends = let digits = digits_is_IsNumeral 16 false (omega arith) (omega arith) mask (omega arith) in number_read (codes "0x") 16 (2 ^ 32) mask (hex mask) rest digits.0 digits.1 lt ends refl
+
+pub rights_read : (mask : ℕ) (rest : List ℕ) → mask < 2 ^ 32 → begins_digit 16 rest ≡ false → named right_names rest ≡ None → find rights (rights_canon mask ++ rest) ≡ Ok (mask, rest)
+unfolding rights_canon
+rights_read mask rest lt ends none = by_name (name_in printed_rights mask) refl
+  where
+    by_name : (found : Option (List ℕ)) → name_in printed_rights mask ≡ found → find rights (unwrap_or found (codes "0x" ++ hex mask) ++ rest) ≡ Ok (mask, rest)
+    by_name None e = hex_read mask rest lt ends
+    by_name (Some letters) e = name_read mask letters rest none e
+
+-- ---- flags
+
+FlagReads : Name ℕ → Type 0
+FlagReads name = (rest : List ℕ) → named flag_names (name.letters ++ rest) ≡ Some (name.stands_for, rest)
+
+flag_rows : AllByRecursion FlagReads flag_names
+unfolding FlagReads
+flag_rows = (λ rest. refl, (λ rest. refl, (λ rest. refl, (λ rest. refl, (λ rest. refl, (λ rest. refl, (λ rest. refl, tt)))))))
+
+-- the bits so far, and the name's where it is set
+with_flag : ℕ → ℕ → Name ℕ → ℕ
+with_flag flags sum name = cond (bit_and flags name.stands_for == 0) sum (bit_or sum name.stands_for)
+
+flags_reach : (flags : ℕ) (names : List (Name ℕ)) (start : List ℕ) (sum : ℕ) (rest : List ℕ) → AllByRecursion FlagReads names → IsTogether flag_names bit_or 0 start sum (flat_map (flag_canon flags) names ++ rest) → IsTogether flag_names bit_or 0 start (fold (with_flag flags) sum names) rest
+unfolding FlagReads with_flag
+flags_reach flags [] start sum rest all so_far = so_far
+flags_reach flags (name ∷ names) start sum rest all so_far =
+    elim (went (bit_and flags name.stands_for == 0)) [
+      | inl h ↦ rw h (flags_reach flags names start sum rest all.1 (rw h at so_far))
+      | inr h ↦
+          let after = flat_map (flag_canon flags) names ++ rest in
+          let here : IsTogether flag_names bit_or 0 start sum (name.letters ++ after) = rw (h, append_assoc name.letters (flat_map (flag_canon flags) names) rest) at so_far in
+          rw h (flags_reach flags names start (bit_or sum name.stands_for) rest all.1 (run_more flag_names bit_or 0 start sum (name.letters ++ after) name.stands_for after here (all.0 after)))
+    ]
+
+-- the bits of the names that are set are the flags, where there are no others: each of the 256 is tried
+comes_back : ℕ → Bool
+comes_back flags = cond (bit_and flags 0xDF == flags) (fold (with_flag flags) 0 flag_names == flags) true
+
+all_below : (ℕ → Bool) → ℕ → Bool
+all_below p zero = true
+all_below p (suc n) = p n && all_below p n
+
+each_below : (p : ℕ → Bool) (n k : ℕ) → all_below p n ≡ true → k < n → p k ≡ true
+unfolding all_below
+each_below p zero k all lt = absurd (omega arith)
+each_below p (suc n) k all lt =
+    let both = both_hold (p n) (all_below p n) all in
+    elim (cases_lt k n) [ inl below ↦ each_below p n k both.1 below | inr above ↦ let same : n ≡ k = omega arith in rw (sym same) both.0 ]
+
+tried : all_below comes_back 256 ≡ true
+unfolding all_below comes_back with_flag
+tried = refl
+
+flags_come_back : (flags : ℕ) → flags < 256 → bit_and flags 0xDF ≡ flags → fold (with_flag flags) 0 flag_names ≡ flags
+unfolding comes_back
+flags_come_back flags lt named_only =
+    let test = each_below comes_back 256 flags tried lt in
+    eqb-true (fold (with_flag flags) 0 flag_names) flags (rw (eq-eqb (bit_and flags 0xDF) flags named_only) at test)
+
+pub flags_read : (flags : ℕ) (rest : List ℕ) → flags < 256 → bit_and flags 0xDF ≡ flags → named flag_names rest ≡ None → find (bits_of flag_names) (flags_canon flags ++ rest) ≡ Ok (flags, rest)
+unfolding bits_of flags_canon
+flags_read flags rest lt named_only none =
+    let start = flat_map (flag_canon flags) flag_names ++ rest in
+    let whole = flags_reach flags flag_names start 0 rest flag_rows (run_start flag_names bit_or 0 start) in
+    run_end flag_names bit_or 0 start flags rest (rw (flags_come_back flags lt named_only) at whole) none

@@ -1,0 +1,171 @@
+-- The printed text of a SID is read as the SID.
+use Rattle.std.proofs.Common.{◌≡◌, ℕ, zero, suc, ◌+◌, ◌-◌, ◌^◌, ◌<◌, ◌≤◌, Bool, true, false, List, [], ◌∷◌, ◌++◌, length, drop, replicate, Option, Some, None, Ok, refl, arith, lit<, ap, sym, subst, ◌∙◌, append_assoc, inl, inr}
+use Rattle.std.specs.Prelude.{codes, nat_lt, unwrap_or, ◌==◌, ◌&&◌}
+use Rattle.std.specs.List.{flat_map, All, AllByRecursion}
+use Rattle.std.specs.Char.{digit_value, eq_ignore_ascii_case}
+use Rattle.std.specs.Str.Parse.{IsNumeral, AllDigits, digits_value}
+use Rattle.std.specs.Fmt.{decimal}
+use Rattle.std.proofs.lemmas.Grind.{common_steps}
+use Rattle.std.proofs.lemmas.Bool.Decides.{nat_tests}
+use Rattle.std.proofs.lemmas.Bool.{lt-ltb, eqb-true}
+use Rattle.std.proofs.lemmas.Fmt.{decimal_is_IsNumeral, digits_is_IsNumeral}
+use Rattle.std.proofs.lemmas.List.{append-nil}
+use Rattle.std.proofs.lemmas.List.Elements.{All-head, All-tail}
+use Rattle.sd_sid.specs.Sid.{SidValue, IsSid}
+use Rattle.sd_text.specs.Grammar.{Name, number, begins, begins_digit, named}
+use Rattle.sd_text.specs.Reading.{find}
+use Rattle.sd_text.specs.Alias.{aliases, alias_in, same_sid, same_numbers}
+use Rattle.sd_text.specs.Sid.{sub, subs_of, authority, sid}
+use Rattle.sd_text.specs.Canon.{hex, authority_canon, sub_canon, full_canon, sid_canon}
+use Rattle.sd_text.proofs.Parts.{went, chosen, both_hold}
+use Rattle.sd_text.proofs.Engine.{spells_find}
+use Rattle.sd_text.proofs.Sids.{SubsReach, subs_start, subs_more, subs_end}
+
+-- what may stand behind a SID
+pub record Stops (rest : List ℕ) : Type 0 where
+  pub no_digit : begins_digit 10 rest ≡ false
+  pub no_dash : begins rest (codes "-") ≡ false
+
+-- ---- numbers
+
+pub number_read : (head : List ℕ) (radix limit n : ℕ) (ds rest : List ℕ) → IsNumeral radix ds → digits_value radix ds ≡ n → n < limit → begins_digit radix rest ≡ false → drop (length head) (head ++ (ds ++ rest)) ≡ ds ++ rest → find (number (length head) radix limit) (head ++ (ds ++ rest)) ≡ Ok (n, rest)
+number_read head radix limit n ds rest numeral same lt ends behind =
+    spells_find (number (length head) radix limit) (head ++ (ds ++ rest)) n rest (ds, record { parts = behind; numeral = numeral; whole = ends }, sym same, lt)
+
+pub decimal_read : (limit n : ℕ) (rest : List ℕ) → n < limit → n < 2 ^ 64 → begins_digit 10 rest ≡ false → find (number 0 10 limit) (decimal n ++ rest) ≡ Ok (n, rest)
+decimal_read limit n rest lt fits ends = let digits = decimal_is_IsNumeral n fits in number_read [] 10 limit n (decimal n) rest digits.0 digits.1 lt ends refl
+
+-- ---- sub-authorities
+
+sub_read : (before n : ℕ) (rest : List ℕ) → before < 15 → n < 2 ^ 32 → begins_digit 10 rest ≡ false → find (sub before) (decimal n ++ rest) ≡ Ok (n, rest)
+unfolding sub
+sub_read before n rest few lt ends = rw (lt-ltb before 15 few) (decimal_read (2 ^ 32) n rest lt (omega arith) ends)
+
+subs_stop : (subs rest : List ℕ) → begins_digit 10 rest ≡ false → begins_digit 10 (flat_map sub_canon subs ++ rest) ≡ false
+subs_stop [] rest ends = ends
+subs_stop (n ∷ subs) rest ends = refl
+
+subs_read : (start done subs rest : List ℕ) → length done + length subs ≤ 15 → All (λ n. n < 2 ^ 32) subs → begins_digit 10 rest ≡ false → SubsReach start done (flat_map sub_canon subs ++ rest) → SubsReach start (done ++ subs) rest
+subs_read start done [] rest few words ends reached = rw (append-nil done) reached
+subs_read start done (n ∷ subs) rest few words ends reached =
+    let regroup : flat_map sub_canon (n ∷ subs) ++ rest ≡ 45 ∷ (decimal n ++ (flat_map sub_canon subs ++ rest)) = ap (λ (xs : List ℕ). 45 ∷ xs) (append_assoc (decimal n) (flat_map sub_canon subs) rest) in
+    let here : SubsReach start done (45 ∷ (decimal n ++ (flat_map sub_canon subs ++ rest))) = subst (λ text. SubsReach start done text) regroup reached in
+    let one = sub_read (length done) n (flat_map sub_canon subs ++ rest) (omega arith) (All-head (λ m. m < 2 ^ 32) n subs words) (subs_stop subs rest ends) in
+    let more = subs_more start done (45 ∷ (decimal n ++ (flat_map sub_canon subs ++ rest))) n (flat_map sub_canon subs ++ rest) here refl one in
+    rw (sym (append_assoc done (n ∷ []) subs)) (subs_read start (done ++ n ∷ []) subs rest (omega (arith, length_push done n)) (All-tail (λ m. m < 2 ^ 32) n subs words) ends more)
+  where
+    length_push : (xs : List ℕ) (m : ℕ) → length (xs ++ m ∷ []) ≡ length xs + 1
+    length_push xs m = grind (arith, common_steps)
+
+sid_subs_read : (auth : ℕ) (n : ℕ) (subs rest : List ℕ) → length (n ∷ subs) ≤ 15 → All (λ m. m < 2 ^ 32) (n ∷ subs) → Stops rest → find (subs_of auth) (flat_map sub_canon (n ∷ subs) ++ rest) ≡ Ok (record { authority = auth; subs = n ∷ subs }, rest)
+sid_subs_read auth n subs rest few words stops =
+    let start = flat_map sub_canon (n ∷ subs) ++ rest in
+    subs_end auth start (n ∷ subs) rest refl (subs_read start [] (n ∷ subs) rest (omega arith) words stops.no_digit (subs_start start)) stops.no_dash
+
+-- ---- authorities
+
+-- a decimal number is no head of a hexadecimal one
+not_x : (d : ℕ) → digit_value d < 10 → eq_ignore_ascii_case d 88 ≡ false
+not_x d lt = grind (arith, nat_tests)
+
+no_head : (ds tail : List ℕ) → IsNumeral 10 ds → begins (ds ++ 45 ∷ tail) (codes "0X") ≡ false
+no_head [] tail n = absurd (let some = n.0 in omega arith)
+no_head (d ∷ []) tail n = and_no (eq_ignore_ascii_case d 48)
+  where
+    and_no : (b : Bool) → (b && false) ≡ false
+    and_no true = refl
+    and_no false = refl
+no_head (d ∷ e ∷ ds) tail n = rw (not_x e n.1.1.0) (and_no (eq_ignore_ascii_case d 48))
+  where
+    and_no : (b : Bool) → (b && false) ≡ false
+    and_no true = refl
+    and_no false = refl
+
+-- leading zeros change nothing
+zeros_digits : (k : ℕ) (ds : List ℕ) → AllDigits 16 ds → AllDigits 16 (replicate k 48 ++ ds)
+zeros_digits zero ds all = all
+zeros_digits (suc k) ds all = (lit< tt, zeros_digits k ds all)
+
+zeros_value : (k : ℕ) (ds : List ℕ) → digits_value 16 (replicate k 48 ++ ds) ≡ digits_value 16 ds
+zeros_value zero ds = refl
+zeros_value (suc k) ds = zeros_value k ds
+
+zeros_some : (k : ℕ) (ds : List ℕ) → 0 < length ds → 0 < length (replicate k 48 ++ ds)
+zeros_some zero ds some = some
+zeros_some (suc k) ds some = omega arith
+
+authority_read : (n : ℕ) (tail : List ℕ) → n < 2 ^ 48 → find authority (authority_canon n ++ 45 ∷ tail) ≡ Ok (n, 45 ∷ tail)
+unfolding authority authority_canon
+authority_read n tail lt =
+    elim (went (nat_lt n (2 ^ 32))) [
+      | inl h ↦ rw (h, no_head (decimal n) tail (decimal_is_IsNumeral n (omega arith)).0) (decimal_read (2 ^ 48) n (45 ∷ tail) lt (omega arith) refl)
+      | inr h ↦
+          let digits = digits_is_IsNumeral 16 false (omega arith) (omega arith) n (omega arith) in
+          let zeros = 12 - length (hex n) in
+          let ds = replicate zeros 48 ++ hex n in
+          let numeral : IsNumeral 16 ds = (zeros_some zeros (hex n) digits.0.0, zeros_digits zeros (hex n) digits.0.1) in
+          rw h (number_read (codes "0x") 16 (2 ^ 48) n ds (45 ∷ tail) numeral (zeros_value zeros (hex n) ∙ digits.1) lt refl refl)
+    ]
+
+-- ---- SIDs
+
+full_read : (auth n : ℕ) (subs rest : List ℕ) → auth < 2 ^ 48 → length (n ∷ subs) ≤ 15 → All (λ m. m < 2 ^ 32) (n ∷ subs) → Stops rest → find sid (full_canon (record { authority = auth; subs = n ∷ subs }) ++ rest) ≡ Ok (record { authority = auth; subs = n ∷ subs }, rest)
+unfolding sid full_canon
+full_read auth n subs rest lt few words stops =
+    let regroup = append_assoc (authority_canon auth) (flat_map sub_canon (n ∷ subs)) rest in
+    let tail = decimal n ++ flat_map sub_canon subs ++ rest in
+    rw (regroup, authority_read auth tail lt) (sid_subs_read auth n subs rest few words stops)
+
+AliasReads : Name SidValue → Type 0
+AliasReads name = (rest : List ℕ) → (begins (name.letters ++ rest) (codes "S-1-") ≡ false) × (named aliases (name.letters ++ rest) ≡ Some (name.stands_for, rest))
+
+alias_rows : AllByRecursion AliasReads aliases
+unfolding aliases AliasReads
+alias_rows = (λ rest. (refl, refl), (λ rest. (refl, refl), (λ rest. (refl, refl), (λ rest. (refl, refl), (λ rest. (refl, refl), (λ rest. (refl, refl), (λ rest. (refl, refl), (λ rest. (refl, refl), (λ rest. (refl, refl), (λ rest. (refl, refl), (λ rest. (refl, refl), (λ rest. (refl, refl), (λ rest. (refl, refl), (λ rest. (refl, refl), (λ rest. (refl, refl), (λ rest. (refl, refl), (λ rest. (refl, refl), (λ rest. (refl, refl), (λ rest. (refl, refl), (λ rest. (refl, refl), (λ rest. (refl, refl), (λ rest. (refl, refl), (λ rest. (refl, refl), (λ rest. (refl, refl), (λ rest. (refl, refl), (λ rest. (refl, refl), (λ rest. (refl, refl), (λ rest. (refl, refl), (λ rest. (refl, refl), (λ rest. (refl, refl), (λ rest. (refl, refl), (λ rest. (refl, refl), (λ rest. (refl, refl), (λ rest. (refl, refl), tt))))))))))))))))))))))))))))))))))
+
+same_numbers-true : (xs ys : List ℕ) → same_numbers xs ys ≡ true → xs ≡ ys
+same_numbers-true [] [] e = refl
+same_numbers-true [] (y ∷ ys) e = absurd cc
+same_numbers-true (x ∷ xs) [] e = absurd cc
+same_numbers-true (x ∷ xs) (y ∷ ys) e = let both = both_hold (x == y) (same_numbers xs ys) e in let head = eqb-true x y both.0 in let tail = same_numbers-true xs ys both.1 in cc
+
+same_sid-true : (a b : SidValue) → same_sid a b ≡ true → a ≡ b
+same_sid-true a b e =
+    let both = both_hold (a.authority == b.authority) (same_numbers a.subs b.subs) e in
+    let same_authority = eqb-true a.authority b.authority both.0 in
+    let same_subs = same_numbers-true a.subs b.subs both.1 in
+    ap (λ (n : ℕ). record { authority = n; subs = a.subs }) same_authority ∙ ap (λ (ns : List ℕ). record { authority = b.authority; subs = ns }) same_subs
+
+alias_row : (names : List (Name SidValue)) (s : SidValue) (letters : List ℕ) → AllByRecursion AliasReads names → alias_in names s ≡ Some letters → (name : Name SidValue) × AliasReads name × (name.letters ≡ letters) × (name.stands_for ≡ s)
+unfolding alias_in
+alias_row [] s letters all e = absurd cc
+alias_row (name ∷ names) s letters all e =
+    elim (chosen (same_sid name.stands_for s) _ _ _ e) [
+      | inl h ↦ (name, all.0, is_same name.letters letters h.1, same_sid-true name.stands_for s h.0)
+      | inr h ↦ alias_row names s letters all.1 h.1
+    ]
+  where
+    some_letters : List ℕ → Option (List ℕ)
+    some_letters xs = Some xs
+
+    is_same : (a b : List ℕ) → ◌≡◌ {A = Option (List ℕ)} (Some a) (Some b) → a ≡ b
+    is_same a b same = cc
+
+alias_read : (s : SidValue) (letters rest : List ℕ) → alias_in aliases s ≡ Some letters → find sid (letters ++ rest) ≡ Ok (s, rest)
+unfolding sid AliasReads
+alias_read s letters rest e =
+    let row = alias_row aliases s letters alias_rows e in
+    let reads = row.1 rest in
+    rw (sym row.2, reads.0, reads.1, row.3) refl
+
+pub sid_read : (s : SidValue) (rest : List ℕ) → IsSid s → Stops rest → find sid (sid_canon s ++ rest) ≡ Ok (s, rest)
+unfolding sid_canon
+sid_read s rest is stops = by_alias (alias_in aliases s) refl
+  where
+    in_full : (auth : ℕ) (subs : List ℕ) → IsSid (record { authority = auth; subs = subs }) → find sid (full_canon (record { authority = auth; subs = subs }) ++ rest) ≡ Ok (record { authority = auth; subs = subs }, rest)
+    in_full auth [] h = absurd (let some = h.some in omega arith)
+    in_full auth (n ∷ subs) h = full_read auth n subs rest h.authority h.few h.words stops
+
+    by_alias : (found : Option (List ℕ)) → alias_in aliases s ≡ found → find sid (unwrap_or found (full_canon s) ++ rest) ≡ Ok (s, rest)
+    by_alias None e = in_full s.authority s.subs is
+    by_alias (Some letters) e = alias_read s letters rest e

@@ -1,0 +1,107 @@
+-- Names of a table, one row after the other.
+use Rattle.std.proofs.Common.{◌≡◌, ℕ, zero, suc, ◌+◌, ◌<◌, ◌^◌, cond, List, [], ◌∷◌, ◌++◌, length, drop, get_or, Some, None, Ok, refl, arith, add-one, ap, sym, subst, ◌∙◌, inl, inr}
+use Rattle.std.specs.Prelude.{fold, bit_or, ◌==◌}
+use Rattle.std.specs.List.{AllByRecursion}
+use Rattle.std.proofs.lemmas.Grind.{fold-append}
+use Rattle.std.proofs.lemmas.Nat.{or_lt, pow_pos}
+use Rattle.sd_text.specs.Grammar.{Name, value, many, named, begins, spells, run, Items}
+use Rattle.sd_text.specs.Reading.{find}
+use Rattle.sd_text.specs.Rights.{bits_of}
+use Rattle.sd_sid.specs.Sid.{SidValue}
+use Rattle.sd_text.specs.declared.alias.WellKnown.{WellKnown}
+use Rattle.sd_text.specs.Alias.{alias_in, same_sid}
+use Rattle.sd_text.specs.Canon.{name_in}
+use Rattle.sd_text.specs.Names.{rows, renamed, well_known}
+use Rattle.sd_text.specs.declared.name.Name.{Name as Row}
+use Rattle.sd_text.proofs.Parts.{chosen, name_is, found_name, found_is, part_ok}
+use Rattle.sd_text.proofs.Engine.{find_spells}
+use Rattle.sd_text.proofs.Loops.{Reaches, reaches_start, reaches_more, reaches_end}
+
+-- a row, and those behind it
+pub named_at : {T : Type 0} (rs : List (Row T)) (i : ℕ) (r : Row T) (text : List ℕ) → i < length rs → r ≡ get_or rs i r → named (rows (drop i rs)) text ≡ cond (begins text r.letters.now) (Some (r.stands_for, drop (length r.letters.now) text)) (named (rows (drop (i + 1) rs)) text)
+named_at [] i r text lt is = absurd (omega arith)
+named_at (q ∷ rs) zero r text lt is = rw is refl
+named_at (q ∷ rs) (suc i) r text lt is = rw add-one (let h = named_at rs i r text (omega arith) is in rw add-one at h)
+
+-- the same of a table of masks, looked up by the mask
+pub name_at : (rs : List (Row ℕ)) (i : ℕ) (r : Row ℕ) (mask : ℕ) → i < length rs → r ≡ get_or rs i r → name_in (rows (drop i rs)) mask ≡ cond (r.stands_for == mask) (Some r.letters.now) (name_in (rows (drop (i + 1) rs)) mask)
+unfolding name_in
+name_at [] i r mask lt is = absurd (omega arith)
+name_at (q ∷ rs) zero r mask lt is = rw is refl
+name_at (q ∷ rs) (suc i) r mask lt is = rw add-one (let h = name_at rs i r mask (omega arith) is in rw add-one at h)
+
+-- and of the table of aliases, looked up by the SID
+pub alias_at : (rs : List (Row WellKnown)) (i : ℕ) (r : Row WellKnown) (sid : SidValue) → i < length rs → r ≡ get_or rs i r → alias_in (renamed well_known (rows (drop i rs))) sid ≡ cond (same_sid (well_known r.stands_for) sid) (Some r.letters.now) (alias_in (renamed well_known (rows (drop (i + 1) rs))) sid)
+unfolding alias_in
+alias_at [] i r sid lt is = absurd (omega arith)
+alias_at (q ∷ rs) zero r sid lt is = rw is refl
+alias_at (q ∷ rs) (suc i) r sid lt is = rw add-one (let h = alias_at rs i r sid (omega arith) is in rw add-one at h)
+
+-- ---- a run of names, whose meanings are put together one by one
+
+-- the names so far have been read, and put together
+pub record IsTogether {A B : Type 0} (names : List (Name A)) (add : B → A → B) (none : B) (start : List ℕ) (sum : B) (rest : List ℕ) : Type 0 where
+  pub meanings : List A
+  pub reached : Reaches names (λ before meaning. value meaning) start meanings rest
+  pub together : sum ≡ fold add none meanings
+
+module _ {A B : Type 0} (names : List (Name A)) (add : B → A → B) (none : B) (start : List ℕ) where
+  pub run_start : IsTogether names add none start none start
+  run_start = record { meanings = []; reached = reaches_start names (λ before meaning. value meaning) start; together = refl }
+
+  pub run_more : (sum : B) (rest : List ℕ) (meaning : A) (after : List ℕ) → IsTogether names add none start sum rest → named names rest ≡ Some (meaning, after) → IsTogether names add none start (add sum meaning) after
+  run_more sum rest meaning after so_far name = record {
+    meanings = so_far.meanings ++ meaning ∷ [];
+    reached = reaches_more names (λ before m. value m) start so_far.meanings rest meaning after meaning after so_far.reached name refl;
+    together = ap (λ b. add b meaning) so_far.together ∙ sym (fold-append add none so_far.meanings (meaning ∷ []));
+  }
+
+  pub run_end : (sum : B) (rest : List ℕ) → IsTogether names add none start sum rest → named names rest ≡ None → find (run names add none) start ≡ Ok (sum, rest)
+  run_end sum rest so_far ends = rw (reaches_end names (λ before meaning. value meaning) start so_far.meanings rest so_far.reached ends, so_far.together) refl
+
+-- ---- tables whose names stand for something else
+
+pub named_some : {A B : Type 0} (f : A → B) (names : List (Name A)) (text : List ℕ) (a : A) (behind : List ℕ) → named names text ≡ Some (a, behind) → named (renamed f names) text ≡ Some (f a, behind)
+named_some f [] text a behind e = absurd cc
+named_some {A = A} f (name ∷ names) text a behind e =
+    elim (chosen (begins text name.letters) _ _ _ e) [
+      | inl h ↦ let same = name_is name.stands_for a (drop (length name.letters) text) behind h.1 in rw (h.0, same.0, same.1) refl
+      | inr h ↦ rw h.0 (named_some f names text a behind h.1)
+    ]
+
+pub named_no : {A B : Type 0} (f : A → B) (names : List (Name A)) (text : List ℕ) → named names text ≡ None → named (renamed f names) text ≡ None
+named_no f [] text e = refl
+named_no f (name ∷ names) text e =
+    elim (chosen (begins text name.letters) _ _ _ e) [
+      | inl h ↦ absurd (let no : found_name name.stands_for (drop (length name.letters) text) ≡ None = h.1 in cc)
+      | inr h ↦ rw h.0 (named_no f names text h.1)
+    ]
+
+-- what all names of a table have, the one that stands there has
+pub named_all : {A : Type 0} (P : A → Type 0) (names : List (Name A)) (text : List ℕ) (a : A) (behind : List ℕ) → AllByRecursion (λ name. P name.stands_for) names → named names text ≡ Some (a, behind) → P a
+named_all P [] text a behind all e = absurd cc
+named_all P (name ∷ names) text a behind all e =
+    elim (chosen (begins text name.letters) _ _ _ e) [
+      | inl h ↦ subst P (name_is name.stands_for a (drop (length name.letters) text) behind h.1).0 all.0
+      | inr h ↦ named_all P names text a behind all.1 h.1
+    ]
+
+-- ---- how large joined bits grow
+
+fold_below : (k start : ℕ) (masks : List ℕ) → start < 2 ^ k → AllByRecursion (λ mask. mask < 2 ^ k) masks → fold bit_or start masks < 2 ^ k
+fold_below k start [] lt all = lt
+fold_below k start (mask ∷ masks) lt all = fold_below k (bit_or start mask) masks (or_lt k start mask lt all.0) all.1
+
+items_below : (k : ℕ) (names : List (Name ℕ)) → AllByRecursion (λ name. name.stands_for < 2 ^ k) names → (before : List ℕ) (text : List ℕ) (masks : List ℕ) (behind : List ℕ) → Items names (λ earlier mask. spells (value mask)) before text masks behind → AllByRecursion (λ mask. mask < 2 ^ k) masks
+items_below k names all before text [] behind items = tt
+items_below k names all before text (mask ∷ masks) behind items =
+    (subst (λ m. m < 2 ^ k) (sym items.4.0) (named_all (λ m. m < 2 ^ k) names text items.0 items.1 all items.3), items_below k names all (before ++ mask ∷ []) items.2 masks behind items.5)
+
+-- the bits that a run of names joins are below a limit that each name's are
+pub bits_below : (k : ℕ) (names : List (Name ℕ)) → AllByRecursion (λ name. name.stands_for < 2 ^ k) names → (text : List ℕ) (bits : ℕ) (behind : List ℕ) → find (bits_of names) text ≡ Ok (bits, behind) → bits < 2 ^ k
+unfolding bits_of
+bits_below k names all text bits behind e =
+    let parts = part_ok (find (many names (λ before mask. value mask)) text) _ bits behind e in
+    let read = find_spells (many names (λ before mask. value mask)) text parts.0 parts.1 parts.2 in
+    let same = found_is (fold bit_or 0 parts.0) bits parts.1 behind parts.3 in
+    subst (λ b. b < 2 ^ k) same.0 (fold_below k 0 parts.0 (pow_pos k) (items_below k names all [] text parts.0 parts.1 read.0))

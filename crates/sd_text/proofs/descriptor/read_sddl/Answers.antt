@@ -1,0 +1,14 @@
+use Rattle.std.proofs.Common.{sym}
+use Rattle.sd_acl.specs.Descriptor.{descriptor_of}
+use Rattle.sd_text.specs.Sddl.{sddl, sections}
+use Rattle.sd_text.proofs.Engine.{whole_value, fault_within, fault_at}
+use Rattle.sd_text.proofs.descriptor.read_sddl.Goals as goal
+
+pub place-requires : goal.place-requires
+place-requires c = let e = rw c.in-Err-Fault.field-0-is at c.in-Err-Fault.ensures in fault_within sddl c.args.text.now c.in-Err-Fault.fault c.descriptor.new.self.rest.now (rw (sym c.new-cursor.ensures) e)
+
+pub returns-in-Ok-clause-value : goal.returns-in-Ok-clause-value
+returns-in-Ok-clause-value c = whole_value sections c.args.text.now (descriptor_of c.in-Ok.descriptor) c.descriptor.new.self.rest.now (rw (sym c.new-cursor.ensures) c.in-Ok.ensures)
+
+pub returns-in-Err-Fault-clause-fault : goal.returns-in-Err-Fault-clause-fault
+returns-in-Err-Fault-clause-fault c = let e = rw c.in-Err-Fault.field-0-is at c.in-Err-Fault.ensures in fault_at sddl c.args.text.now c.in-Err-Fault.fault c.descriptor.new.self.rest.now c.place.result (rw (sym c.new-cursor.ensures) e) c.place.ensures

@@ -1,0 +1,11 @@
+use Rattle.std.proofs.Common.{◌≡◌, drop}
+use Rattle.sd_text.specs.Canon.{printed_rights, name_in}
+use Rattle.sd_text.specs.Names.{rows}
+use Rattle.sd_text.proofs.print.right_name.Given as goal
+
+-- none of the names so far is for just these bits
+abbrev pub invariant-loop-name : goal.invariant-loop-name
+invariant-loop-name l = record {
+  table : rows l.name-items ≡ printed_rights;
+  none : name_in printed_rights l.bits ≡ name_in (rows (drop l.name-index l.name-items)) l.bits;
+}

@@ -1,0 +1,8 @@
+use Rattle.std.proofs.Common.{◌≡◌, ◌++◌, take, string_bytes}
+use Rattle.std.specs.List.{flat_map}
+use Rattle.sd_text.specs.Canon.{entry_canon}
+use Rattle.sd_text.proofs.print.write_dacl.Given as goal
+
+-- the entries so far have been printed
+abbrev pub invariant-loop-entry : goal.invariant-loop-entry
+invariant-loop-entry l = string_bytes l.out ≡ string_bytes l.initial.out ++ flat_map entry_canon (take l.entry-index l.entry-items)

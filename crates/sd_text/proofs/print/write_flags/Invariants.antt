@@ -1,0 +1,13 @@
+use Rattle.std.proofs.Common.{◌≡◌, ◌++◌, take, string_bytes}
+use Rattle.std.specs.List.{flat_map}
+use Rattle.sd_text.specs.Canon.{flag_canon}
+use Rattle.sd_text.specs.Entry.{flag_names}
+use Rattle.sd_text.specs.Names.{rows}
+use Rattle.sd_text.proofs.print.write_flags.Given as goal
+
+-- the flags so far have been printed
+abbrev pub invariant-loop-name : goal.invariant-loop-name
+invariant-loop-name l = record {
+  table : rows l.name-items ≡ flag_names;
+  printed : string_bytes l.out ≡ string_bytes l.fn.out ++ flat_map (flag_canon l.bits) (rows (take l.name-index l.name-items));
+}

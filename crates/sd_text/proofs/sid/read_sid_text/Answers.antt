@@ -1,0 +1,13 @@
+use Rattle.std.proofs.Common.{sym}
+use Rattle.sd_text.specs.Sid.{sid_text, sid}
+use Rattle.sd_text.proofs.Engine.{whole_value, fault_within, fault_at}
+use Rattle.sd_text.proofs.sid.read_sid_text.Goals as goal
+
+pub place-requires : goal.place-requires
+place-requires c = fault_within sid_text c.args.text.now c.in-Err.fault c.sid_text.new.self.rest.now (rw (sym c.new-cursor.ensures) c.in-Err.ensures)
+
+pub returns-in-Ok-clause-value : goal.returns-in-Ok-clause-value
+returns-in-Ok-clause-value c = whole_value sid c.args.text.now c.in-Ok.sid c.sid_text.new.self.rest.now (rw (sym c.new-cursor.ensures) c.in-Ok.ensures)
+
+pub returns-in-Err-clause-fault : goal.returns-in-Err-clause-fault
+returns-in-Err-clause-fault c = fault_at sid_text c.args.text.now c.in-Err.fault c.sid_text.new.self.rest.now c.place.result (rw (sym c.new-cursor.ensures) c.in-Err.ensures) c.place.ensures

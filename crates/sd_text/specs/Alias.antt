@@ -1,0 +1,52 @@
+-- The aliases of SIDs ([MS-DTYP] 2.5.1.1, sid-token).
+use Rattle.std.specs.Prelude.{ℕ, Bool, true, false, ◌==◌, ◌&&◌, List, [], ◌∷◌, Option, Some, None, codes, if◌then◌else◌}
+use Rattle.sd_sid.specs.Sid.{SidValue}
+use Rattle.sd_text.specs.Grammar.{Name}
+
+-- a name for the SID of this authority and these sub-authorities
+abbrev pub alias : List ℕ → ℕ → List ℕ → Name SidValue
+alias letters authority subs = record { letters = letters; stands_for = record { authority = authority; subs = subs } }
+
+-- a name for a SID of the built-in domain
+abbrev pub builtin : List ℕ → ℕ → Name SidValue
+builtin letters number = alias letters 5 (32 ∷ number ∷ [])
+
+-- the aliases that stand for a SID by themselves
+unfoldable pub aliases : List (Name SidValue)
+aliases =
+    alias (codes "WD") 1 (0 ∷ []) ∷ alias (codes "CO") 3 (0 ∷ []) ∷ alias (codes "CG") 3 (1 ∷ []) ∷ alias (codes "OW") 3 (4 ∷ [])
+    ∷ alias (codes "NU") 5 (2 ∷ []) ∷ alias (codes "IU") 5 (4 ∷ []) ∷ alias (codes "SU") 5 (6 ∷ []) ∷ alias (codes "AN") 5 (7 ∷ [])
+    ∷ alias (codes "ED") 5 (9 ∷ []) ∷ alias (codes "PS") 5 (10 ∷ []) ∷ alias (codes "AU") 5 (11 ∷ []) ∷ alias (codes "RC") 5 (12 ∷ [])
+    ∷ alias (codes "SY") 5 (18 ∷ []) ∷ alias (codes "LS") 5 (19 ∷ []) ∷ alias (codes "NS") 5 (20 ∷ []) ∷ alias (codes "AC") 15 (2 ∷ 1 ∷ [])
+    ∷ builtin (codes "BA") 544 ∷ builtin (codes "BU") 545 ∷ builtin (codes "BG") 546 ∷ builtin (codes "PU") 547
+    ∷ builtin (codes "AO") 548 ∷ builtin (codes "SO") 549 ∷ builtin (codes "PO") 550 ∷ builtin (codes "BO") 551
+    ∷ builtin (codes "RE") 552 ∷ builtin (codes "RU") 554 ∷ builtin (codes "RD") 555 ∷ builtin (codes "NO") 556
+    ∷ builtin (codes "MU") 558 ∷ builtin (codes "LU") 559 ∷ builtin (codes "IS") 568 ∷ builtin (codes "CY") 569
+    ∷ builtin (codes "ER") 573 ∷ builtin (codes "CD") 574 ∷ []
+
+-- an alias that stands for no SID without a domain's
+abbrev pub of_a_domain : List ℕ → Name (Unit {0})
+of_a_domain letters = record { letters = letters; stands_for = tt }
+
+-- those that a domain's SID is wanted for
+abbrev pub domain_aliases : List (Name (Unit {0}))
+domain_aliases =
+    of_a_domain (codes "DA") ∷ of_a_domain (codes "DU") ∷ of_a_domain (codes "DG") ∷ of_a_domain (codes "DC") ∷ of_a_domain (codes "DD") ∷ of_a_domain (codes "CA")
+    ∷ of_a_domain (codes "RS") ∷ of_a_domain (codes "EA") ∷ of_a_domain (codes "SA") ∷ of_a_domain (codes "PA") ∷ of_a_domain (codes "LA") ∷ of_a_domain (codes "LG") ∷ []
+
+-- the two lists are the same
+abbrev pub same_numbers : List ℕ → List ℕ → Bool
+same_numbers [] [] = true
+same_numbers [] (b ∷ bs) = false
+same_numbers (a ∷ xs) [] = false
+same_numbers (a ∷ xs) (b ∷ bs) = a == b && same_numbers xs bs
+
+-- the SIDs are the same
+abbrev pub same_sid : SidValue → SidValue → Bool
+same_sid a b = a.authority == b.authority && same_numbers a.subs b.subs
+
+-- the letters of the table's name for the SID
+unfoldable pub alias_in : List (Name SidValue) → SidValue → Option (List ℕ)
+alias_in [] sid = None
+alias_in (name ∷ names) sid =
+    if same_sid name.stands_for sid then Some name.letters else alias_in names sid

@@ -1,0 +1,46 @@
+-- What holds of every text.
+use Rattle.std.specs.Prelude.{◌≡◌, ℕ, ◌^◌, ◌<◌, List, bit_and}
+use Rattle.std.specs.List.{AllByRecursion}
+use Rattle.sd_sid.specs.Sid.{SidValue, IsSid}
+use Rattle.sd_acl.specs.Descriptor.{DescriptorValue, IsDescriptor}
+use Rattle.sd_acl.specs.declared.ace.Ace.{Ace}
+use Rattle.sd_acl.specs.declared.descriptor.Dacl.{Dacl}
+use Rattle.sd_acl.specs.declared.descriptor.Dacl.TheVariants.{Absent, Null, List as Entries}
+use Rattle.sd_text.specs.Canon.{sid_canon, rights_canon, canon}
+use Rattle.sd_text.specs.Rights.{mask_text}
+use Rattle.sd_text.specs.Sddl.{sddl}
+use Rattle.sd_text.specs.Sid.{sid_text}
+use Rattle.sd_text.specs.declared.fault.TextFault.{TextFault}
+use Rattle.sd_text.specs.Grammar.{Grammar, Spells, HasFault}
+
+-- no text has two values
+abbrev pub HasOneValue : {A : Type 0} → Grammar A → Type 0
+HasOneValue {A = A} grammar = (text : List ℕ) (a b : A) → Spells grammar text a → Spells grammar text b → a ≡ b
+
+-- no text has a value and a fault
+abbrev pub HasValueOrFault : {A : Type 0} → Grammar A → Type 0
+HasValueOrFault {A = A} grammar = (text : List ℕ) (a : A) (fault : TextFault) (place : ℕ) → Spells grammar text a → HasFault grammar text fault place → ⊥
+
+-- no text has two faults, nor one at two places
+abbrev pub HasOneFault : {A : Type 0} → Grammar A → Type 0
+HasOneFault grammar = (text : List ℕ) (f g : TextFault) (p q : ℕ) → HasFault grammar text f p → HasFault grammar text g q → (f ≡ g) × (p ≡ q)
+
+-- the entry has no flag outside the seven that have names
+abbrev pub HasNamedFlags : Ace → Type 0
+HasNamedFlags e = bit_and e.flags.0 0xDF ≡ e.flags.0
+
+-- nor has any entry of the DACL
+abbrev pub HaveNamedFlags : Dacl → Type 0
+HaveNamedFlags Absent = Unit {0}
+HaveNamedFlags Null = Unit {0}
+HaveNamedFlags (Entries es) = AllByRecursion HasNamedFlags es
+
+-- what is printed spells what was printed
+abbrev pub DescriptorsComeBack : Type 0
+DescriptorsComeBack = (d : DescriptorValue) → IsDescriptor d → HaveNamedFlags d.dacl → Spells sddl (canon d) d
+
+abbrev pub SidsComeBack : Type 0
+SidsComeBack = (sid : SidValue) → IsSid sid → Spells sid_text (sid_canon sid) sid
+
+abbrev pub MasksComeBack : Type 0
+MasksComeBack = (mask : ℕ) → mask < 2 ^ 32 → Spells mask_text (rights_canon mask) mask

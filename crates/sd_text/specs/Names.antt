@@ -1,0 +1,24 @@
+-- The tables of the code as those of the grammars.
+use Rattle.std.specs.Prelude.{List, [], ◌∷◌, map}
+use Rattle.sd_sid.specs.Sid.{SidValue}
+use Rattle.sd_text.specs.declared.alias.WellKnown.{WellKnown}
+use Rattle.sd_text.specs.declared.alias.WellKnown.TheVariants.{One, Builtin, AllPackages}
+use Rattle.sd_text.specs.Grammar.{Name}
+use Rattle.sd_text.specs.declared.name.Name.{Name as Row}
+
+-- a row of a table
+abbrev pub row : {T : Type 0} → Row T → Name T
+row r = record { letters = r.letters.now; stands_for = r.stands_for }
+
+abbrev pub rows : {T : Type 0} → List (Row T) → List (Name T)
+rows rs = map row rs
+
+-- a table of what f makes of what the names stand for
+abbrev pub renamed : {A B : Type 0} → (A → B) → List (Name A) → List (Name B)
+renamed f names = map (λ name. record { letters = name.letters; stands_for = f name.stands_for }) names
+
+-- the SID that an alias stands for
+abbrev pub well_known : WellKnown → SidValue
+well_known (One authority sub) = record { authority = authority; subs = sub ∷ [] }
+well_known (Builtin account) = record { authority = 5; subs = 32 ∷ account ∷ [] }
+well_known AllPackages = record { authority = 15; subs = 2 ∷ 1 ∷ [] }

@@ -1,0 +1,315 @@
+//! The aliases of SIDs: [MS-DTYP] 2.5.1.1, sid-token.
+
+ghost use Rattle.std.specs.Prelude.{◌≡◌, ◌&&◌, ◌<◌, ◌≤◌, Err, length, drop, option_map, if◌then◌else◌};
+ghost use Rattle.sd_text.specs.Sid.{no_alias, begins_letter};
+ghost use Rattle.sd_text.specs.Alias.{aliases, alias_in, same_sid};
+ghost use Rattle.sd_text.specs.Names.{rows, renamed, well_known};
+ghost use Rattle.sd_text.specs.Grammar.{one_of};
+ghost use Rattle.sd_text.specs.declared.fault.TextFault.TheVariants.{UnknownAlias, Syntax};
+ghost use Rattle.sd_text.specs.Reading.{Gives, find};
+
+use crate::cursor::Cursor;
+use crate::fault::TextFault;
+use crate::name::Name;
+use sd_sid::Sid;
+
+/// A well-known SID ([MS-DTYP] 2.4.2.4).
+#[derive(Clone, Copy)]
+pub(crate) enum WellKnown {
+    /// An authority and one sub-authority.
+    One(u8, u32),
+    /// S-1-5-32 and one more sub-authority: an account of the built-in domain.
+    Builtin(u32),
+    /// S-1-15-2-1, all packages of applications.
+    AllPackages,
+}
+
+/// The alias of the SID, if it has one ([MS-DTYP] 2.5.1.1, sid-token). Takes no memory.
+pub fn alias_of(sid: &Sid) -> Option<[u8; 2]>
+    ensures { result ≡ alias_in aliases sid.now }
+{
+    match alias_text(sid)?.as_bytes() {
+        [first, second] => Some([*first, *second]),
+        _ => None,
+    }
+}
+
+/// The letters of the SID's alias.
+#[tactic(auto, using(crate::proofs::Tables::alias_at), unfolding(crate::specs::Alias::alias_in))]
+pub(crate) fn alias_text(sid: &Sid) -> Option<&'static str>
+    ensures { option_map (λ letters. letters.now) result ≡ alias_in aliases sid.now }
+{
+    for name in known_aliases() {
+        if name.stands_for.is(sid) {
+            return Some(name.letters);
+        }
+    }
+    None
+}
+
+impl WellKnown {
+    /// Whether this is the SID.
+    fn is(self, sid: &Sid) -> bool
+        ensures { result ≡ same_sid (well_known self) sid.now }
+    {
+        let (authority, subs) = (sid.authority(), sid.subs());
+        match self {
+            WellKnown::One(number, sub) => authority == u64::from(number)
+                && subs == [sub].as_slice(),
+            WellKnown::Builtin(account) => authority == 5 && subs == [32, account].as_slice(),
+            WellKnown::AllPackages => authority == 15 && subs == [2, 1].as_slice(),
+        }
+    }
+
+    fn sid(self) -> Sid
+        ensures { result ≡ well_known self }
+    {
+        match self {
+            WellKnown::One(authority, sub) => made(authority, &[sub]),
+            WellKnown::Builtin(account) => made(5, &[32, account]),
+            WellKnown::AllPackages => made(15, &[2, 1]),
+        }
+    }
+}
+
+#[tactic(auto, using(crate::proofs::Sids::sid_made, crate::proofs::Sids::the_sid))]
+fn made(authority: u8, subs: &[u32]) -> Sid
+    requires some { 0 < length subs.now }
+    requires few { length subs.now ≤ 15 }
+    ensures { result ≡ record { authority = authority; subs = subs.now } }
+{
+    Sid::new(u64::from(authority), subs).unwrap()
+}
+
+/// The aliases, and the SIDs that they stand for.
+static ALIASES: [Name<WellKnown>; 34] = [
+    Name {
+        letters: "WD",
+        stands_for: WellKnown::One(1, 0),
+    },
+    Name {
+        letters: "CO",
+        stands_for: WellKnown::One(3, 0),
+    },
+    Name {
+        letters: "CG",
+        stands_for: WellKnown::One(3, 1),
+    },
+    Name {
+        letters: "OW",
+        stands_for: WellKnown::One(3, 4),
+    },
+    Name {
+        letters: "NU",
+        stands_for: WellKnown::One(5, 2),
+    },
+    Name {
+        letters: "IU",
+        stands_for: WellKnown::One(5, 4),
+    },
+    Name {
+        letters: "SU",
+        stands_for: WellKnown::One(5, 6),
+    },
+    Name {
+        letters: "AN",
+        stands_for: WellKnown::One(5, 7),
+    },
+    Name {
+        letters: "ED",
+        stands_for: WellKnown::One(5, 9),
+    },
+    Name {
+        letters: "PS",
+        stands_for: WellKnown::One(5, 10),
+    },
+    Name {
+        letters: "AU",
+        stands_for: WellKnown::One(5, 11),
+    },
+    Name {
+        letters: "RC",
+        stands_for: WellKnown::One(5, 12),
+    },
+    Name {
+        letters: "SY",
+        stands_for: WellKnown::One(5, 18),
+    },
+    Name {
+        letters: "LS",
+        stands_for: WellKnown::One(5, 19),
+    },
+    Name {
+        letters: "NS",
+        stands_for: WellKnown::One(5, 20),
+    },
+    Name {
+        letters: "AC",
+        stands_for: WellKnown::AllPackages,
+    },
+    Name {
+        letters: "BA",
+        stands_for: WellKnown::Builtin(544),
+    },
+    Name {
+        letters: "BU",
+        stands_for: WellKnown::Builtin(545),
+    },
+    Name {
+        letters: "BG",
+        stands_for: WellKnown::Builtin(546),
+    },
+    Name {
+        letters: "PU",
+        stands_for: WellKnown::Builtin(547),
+    },
+    Name {
+        letters: "AO",
+        stands_for: WellKnown::Builtin(548),
+    },
+    Name {
+        letters: "SO",
+        stands_for: WellKnown::Builtin(549),
+    },
+    Name {
+        letters: "PO",
+        stands_for: WellKnown::Builtin(550),
+    },
+    Name {
+        letters: "BO",
+        stands_for: WellKnown::Builtin(551),
+    },
+    Name {
+        letters: "RE",
+        stands_for: WellKnown::Builtin(552),
+    },
+    Name {
+        letters: "RU",
+        stands_for: WellKnown::Builtin(554),
+    },
+    Name {
+        letters: "RD",
+        stands_for: WellKnown::Builtin(555),
+    },
+    Name {
+        letters: "NO",
+        stands_for: WellKnown::Builtin(556),
+    },
+    Name {
+        letters: "MU",
+        stands_for: WellKnown::Builtin(558),
+    },
+    Name {
+        letters: "LU",
+        stands_for: WellKnown::Builtin(559),
+    },
+    Name {
+        letters: "IS",
+        stands_for: WellKnown::Builtin(568),
+    },
+    Name {
+        letters: "CY",
+        stands_for: WellKnown::Builtin(569),
+    },
+    Name {
+        letters: "ER",
+        stands_for: WellKnown::Builtin(573),
+    },
+    Name {
+        letters: "CD",
+        stands_for: WellKnown::Builtin(574),
+    },
+];
+
+#[tactic(auto, unfolding(crate::specs::Alias::aliases))]
+fn known_aliases() -> &'static [Name<WellKnown>]
+    ensures { renamed well_known (rows result.now) ≡ aliases }
+{
+    &ALIASES
+}
+
+/// The aliases that only a domain could resolve.
+static DOMAIN_ALIASES: [Name<()>; 12] = [
+    Name {
+        letters: "DA",
+        stands_for: (),
+    },
+    Name {
+        letters: "DU",
+        stands_for: (),
+    },
+    Name {
+        letters: "DG",
+        stands_for: (),
+    },
+    Name {
+        letters: "DC",
+        stands_for: (),
+    },
+    Name {
+        letters: "DD",
+        stands_for: (),
+    },
+    Name {
+        letters: "CA",
+        stands_for: (),
+    },
+    Name {
+        letters: "RS",
+        stands_for: (),
+    },
+    Name {
+        letters: "EA",
+        stands_for: (),
+    },
+    Name {
+        letters: "SA",
+        stands_for: (),
+    },
+    Name {
+        letters: "PA",
+        stands_for: (),
+    },
+    Name {
+        letters: "LA",
+        stands_for: (),
+    },
+    Name {
+        letters: "LG",
+        stands_for: (),
+    },
+];
+
+impl Cursor<'_> {
+    /// An alias of the table, or the fault of what stands here.
+    pub(crate) fn alias(&mut self) -> Result<Sid, TextFault>
+        ensures { Gives (λ sid. sid) result self.new.rest.now (find (one_of aliases no_alias) self.old.rest.now) }
+    {
+        match self.name(known_aliases()) {
+            Some(known) => Ok(known.sid()),
+            None => Err(self.no_alias()),
+        }
+    }
+
+    /// What is wrong where no alias stands.
+    #[tactic(auto, unfolding(crate::specs::Sid::no_alias))]
+    fn no_alias(&self) -> TextFault
+        ensures { find no_alias self.now.rest.now ≡ Err (result, self.now.rest.now) }
+    {
+        let mut ahead = Cursor { rest: self.rest };
+        match ahead.name(&DOMAIN_ALIASES) {
+            Some(()) => TextFault::DomainAlias,
+            None => self.unknown_alias(),
+        }
+    }
+
+    fn unknown_alias(&self) -> TextFault
+        ensures { result ≡ (if begins_letter self.now.rest.now && begins_letter (drop 1 self.now.rest.now) then UnknownAlias else Syntax) }
+    {
+        if self.letter_at(0) && self.letter_at(1) {
+            TextFault::UnknownAlias
+        } else {
+            TextFault::Syntax
+        }
+    }
+}

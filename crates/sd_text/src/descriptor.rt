@@ -1,0 +1,195 @@
+//! Security descriptors as text: [MS-DTYP] 2.5.1.1.
+
+ghost use Rattle.std.specs.Prelude.{◌≡◌, Ok, IfOk, IfErr};
+ghost use Rattle.sd_acl.specs.Dacl.{IsAbsent};
+ghost use Rattle.sd_acl.specs.Descriptor.{descriptor_of};
+ghost use Rattle.sd_text.specs.Grammar.{Spells};
+ghost use Rattle.sd_text.specs.Fault.{StandsIn};
+ghost use Rattle.sd_text.specs.Sddl.{sid_section, words, no_words, with_word, dacl_section, no_sacl, sections, sddl};
+ghost use Rattle.sd_text.specs.Reading.{Gives, GivesUnlessMemory, find};
+
+use crate::cursor::Cursor;
+use crate::fault::{Stop, TextError, TextFault};
+use crate::name::Name;
+use sd_acl::{Dacl, Descriptor};
+use sd_sid::Sid;
+use std::alloc::Global;
+
+/// A word of a DACL's section.
+#[derive(Clone, Copy)]
+pub(crate) enum DaclWord {
+    Protected,
+    AutoReq,
+    AutoInherited,
+    NoAccessControl,
+}
+
+/// Which words stand in a DACL's section.
+#[derive(Clone, Copy)]
+pub(crate) struct DaclWords {
+    pub(crate) protected: bool,
+    pub(crate) auto_req: bool,
+    pub(crate) auto_inherited: bool,
+    pub(crate) no_access_control: bool,
+}
+
+/// What the section of a DACL says, or that there is none.
+#[derive(Drop)]
+pub(crate) struct DaclPart {
+    pub(crate) dacl: Dacl,
+    pub(crate) words: DaclWords,
+}
+
+static WORDS: [Name<DaclWord>; 4] = [
+    Name {
+        letters: "P",
+        stands_for: DaclWord::Protected,
+    },
+    Name {
+        letters: "AR",
+        stands_for: DaclWord::AutoReq,
+    },
+    Name {
+        letters: "AI",
+        stands_for: DaclWord::AutoInherited,
+    },
+    Name {
+        letters: "NO_ACCESS_CONTROL",
+        stands_for: DaclWord::NoAccessControl,
+    },
+];
+
+/// The descriptor that the text spells ([MS-DTYP] 2.5.1): the whole text, letters of either case.
+/// A fault is the first from the left; want of memory may come in its place.
+pub fn read_sddl(alloc: Global, text: &str) -> Result<Descriptor, TextError>
+    ensures value { IfOk result (λ d. Spells sddl text.now (descriptor_of d)) }
+    ensures fault { IfErr result (λ e. StandsIn sddl text.now e) }
+{
+    let mut cursor = Cursor::new(text);
+    match cursor.descriptor(alloc) {
+        Ok(descriptor) => Ok(descriptor),
+        Err(Stop::Fault(fault)) => Err(TextError::Fault {
+            fault,
+            place: cursor.place(text),
+        }),
+        Err(Stop::Memory) => Err(TextError::Memory),
+    }
+}
+
+impl DaclWords {
+    fn none() -> DaclWords
+        ensures { result ≡ no_words }
+    {
+        DaclWords {
+            protected: false,
+            auto_req: false,
+            auto_inherited: false,
+            no_access_control: false,
+        }
+    }
+
+    fn with(self, word: DaclWord) -> DaclWords
+        ensures { result ≡ with_word self word }
+    {
+        let mut words = self;
+        match word {
+            DaclWord::Protected => words.protected = true,
+            DaclWord::AutoReq => words.auto_req = true,
+            DaclWord::AutoInherited => words.auto_inherited = true,
+            DaclWord::NoAccessControl => words.no_access_control = true,
+        }
+        words
+    }
+}
+
+impl Cursor<'_> {
+    fn descriptor(&mut self, alloc: Global) -> Result<Descriptor, Stop>
+        ensures { GivesUnlessMemory descriptor_of result self.new.rest.now (find sddl self.old.rest.now) }
+    {
+        let descriptor = self.sections(alloc)?;
+        self.end()?;
+        Ok(descriptor)
+    }
+
+    /// The sections of a descriptor, each of which may be left out.
+    #[tactic(auto, unfolding(crate::specs::Sddl::sections))]
+    fn sections(&mut self, alloc: Global) -> Result<Descriptor, Stop>
+        ensures { GivesUnlessMemory descriptor_of result self.new.rest.now (find sections self.old.rest.now) }
+    {
+        let owner = self.sid_section(b"O:")?;
+        let group = self.sid_section(b"G:")?;
+        let DaclPart { dacl, words } = self.dacl_section(alloc)?;
+        self.no_sacl()?;
+        Ok(Descriptor {
+            owner,
+            group,
+            dacl,
+            protected: words.protected,
+            auto_req: words.auto_req,
+            auto_inherited: words.auto_inherited,
+        })
+    }
+
+    /// A section of one SID, where its head stands.
+    #[tactic(auto, unfolding(crate::specs::Sddl::sid_section))]
+    fn sid_section(&mut self, head: &[u8]) -> Result<Option<Sid>, TextFault>
+        ensures { Gives (λ sid. sid) result self.new.rest.now (find (sid_section head.now) self.old.rest.now) }
+    {
+        if self.eat(head) {
+            Ok(Some(self.sid()?))
+        } else {
+            Ok(None)
+        }
+    }
+
+    /// The section of the DACL, where its head stands.
+    #[tactic(auto, unfolding(crate::specs::Sddl::dacl_section, crate::specs::Sddl::dacl_behind))]
+    fn dacl_section(&mut self, alloc: Global) -> Result<DaclPart, Stop>
+        ensures section { GivesUnlessMemory (λ part. part) result self.new.rest.now (find dacl_section self.old.rest.now) }
+        ensures absent { IfOk result (λ part. IsAbsent part.dacl → part.words ≡ no_words) }
+    {
+        if !self.eat(b"D:") {
+            return Ok(DaclPart {
+                dacl: Dacl::Absent,
+                words: DaclWords::none(),
+            });
+        }
+        let words = self.words();
+        if words.no_access_control {
+            return Ok(DaclPart {
+                dacl: Dacl::Null,
+                words,
+            });
+        }
+        let entries = self.entries(alloc)?;
+        Ok(DaclPart {
+            dacl: Dacl::List(entries),
+            words,
+        })
+    }
+
+    /// A run of words, perhaps none.
+    fn words(&mut self) -> DaclWords
+        ensures { find words self.old.rest.now ≡ Ok (result, self.new.rest.now) }
+    {
+        let mut words = DaclWords::none();
+        'words: loop {
+            match self.name(&WORDS) {
+                Some(word) => words = words.with(word),
+                None => return words,
+            }
+        }
+    }
+
+    /// No section of a SACL stands here.
+    #[tactic(auto, unfolding(crate::specs::Sddl::no_sacl))]
+    fn no_sacl(&self) -> Result<(), TextFault>
+        ensures { Gives (λ _. tt) result self.now.rest.now (find no_sacl self.now.rest.now) }
+    {
+        if self.begins(b"S:") {
+            Err(TextFault::HasSacl)
+        } else {
+            Ok(())
+        }
+    }
+}

@@ -1,0 +1,173 @@
+//! The rights field of an entry: [MS-DTYP] 2.5.1.1, ace-rights.
+
+ghost use Rattle.std.specs.Prelude.{IfOk, IfErr, IsErrOf};
+ghost use Rattle.sd_text.specs.Grammar.{Spells};
+ghost use Rattle.sd_text.specs.Fault.{StandsIn};
+ghost use Rattle.sd_text.specs.Rights.{mask_number, rights, mask_text};
+ghost use Rattle.sd_text.specs.Reading.{Gives, find};
+
+use crate::cursor::Cursor;
+use crate::fault::{TextError, TextFault};
+use crate::name::Name;
+use sd_sid::Mask;
+
+/// A mask is below this: it has 32 bits ([MS-DTYP] 2.4.3).
+const MASK_LIMIT: u64 = 0x1_0000_0000;
+
+/// The names of rights.
+static RIGHTS: [Name<u32>; 25] = [
+    Name {
+        letters: "GA",
+        stands_for: 0x1000_0000,
+    },
+    Name {
+        letters: "GR",
+        stands_for: 0x8000_0000,
+    },
+    Name {
+        letters: "GW",
+        stands_for: 0x4000_0000,
+    },
+    Name {
+        letters: "GX",
+        stands_for: 0x2000_0000,
+    },
+    Name {
+        letters: "SD",
+        stands_for: 0x0001_0000,
+    },
+    Name {
+        letters: "RC",
+        stands_for: 0x0002_0000,
+    },
+    Name {
+        letters: "WD",
+        stands_for: 0x0004_0000,
+    },
+    Name {
+        letters: "WO",
+        stands_for: 0x0008_0000,
+    },
+    Name {
+        letters: "CC",
+        stands_for: 0x1,
+    },
+    Name {
+        letters: "DC",
+        stands_for: 0x2,
+    },
+    Name {
+        letters: "LC",
+        stands_for: 0x4,
+    },
+    Name {
+        letters: "SW",
+        stands_for: 0x8,
+    },
+    Name {
+        letters: "RP",
+        stands_for: 0x10,
+    },
+    Name {
+        letters: "WP",
+        stands_for: 0x20,
+    },
+    Name {
+        letters: "DT",
+        stands_for: 0x40,
+    },
+    Name {
+        letters: "LO",
+        stands_for: 0x80,
+    },
+    Name {
+        letters: "CR",
+        stands_for: 0x100,
+    },
+    Name {
+        letters: "FA",
+        stands_for: 0x001F_01FF,
+    },
+    Name {
+        letters: "FR",
+        stands_for: 0x0012_0089,
+    },
+    Name {
+        letters: "FW",
+        stands_for: 0x0012_0116,
+    },
+    Name {
+        letters: "FX",
+        stands_for: 0x0012_00A0,
+    },
+    Name {
+        letters: "KA",
+        stands_for: 0x000F_003F,
+    },
+    Name {
+        letters: "KR",
+        stands_for: 0x0002_0019,
+    },
+    Name {
+        letters: "KW",
+        stands_for: 0x0002_0006,
+    },
+    Name {
+        letters: "KX",
+        stands_for: 0x0002_0019,
+    },
+];
+
+/// The mask that the text spells, as a rights field of an entry ([MS-DTYP] 2.5.1.1, ace-rights).
+/// Takes no memory: an error is the text's first fault from the left.
+pub fn read_mask(text: &str) -> Result<Mask, TextError>
+    ensures value { IfOk result (λ mask. Spells mask_text text.now mask) }
+    ensures fault { IfErr result (λ e. StandsIn mask_text text.now e) }
+    ensures no_memory { ¬ IsErrOf result TextError.Memory }
+{
+    let mut cursor = Cursor::new(text);
+    match cursor.mask_text() {
+        Ok(mask) => Ok(mask),
+        Err(fault) => Err(TextError::Fault {
+            fault,
+            place: cursor.place(text),
+        }),
+    }
+}
+
+impl Cursor<'_> {
+    fn mask_text(&mut self) -> Result<Mask, TextFault>
+        ensures { Gives (λ mask. mask) result self.new.rest.now (find mask_text self.old.rest.now) }
+    {
+        let mask = self.rights()?;
+        self.end()?;
+        Ok(mask)
+    }
+
+    /// A number, or a run of names.
+    #[tactic(auto, unfolding(crate::specs::Rights::rights))]
+    pub(crate) fn rights(&mut self) -> Result<Mask, TextFault>
+        ensures { Gives (λ mask. mask) result self.new.rest.now (find rights self.old.rest.now) }
+    {
+        if self.begins_digit(10) {
+            self.mask_number()
+        } else {
+            Ok(Mask(self.bits_of(&RIGHTS)))
+        }
+    }
+
+    /// A number: `0x` heads hexadecimal digits, `0` octal ones.
+    #[tactic(auto, unfolding(crate::specs::Rights::mask_number))]
+    fn mask_number(&mut self) -> Result<Mask, TextFault>
+        ensures { Gives (λ mask. mask) result self.new.rest.now (find mask_number self.old.rest.now) }
+    {
+        let bits = if self.begins(b"0X") {
+            self.number(2, 16, MASK_LIMIT)?
+        } else if self.begins(b"0") {
+            self.number(0, 8, MASK_LIMIT)?
+        } else {
+            self.number(0, 10, MASK_LIMIT)?
+        };
+        Ok(Mask(bits as u32))
+    }
+}
