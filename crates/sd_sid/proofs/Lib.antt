@@ -1,2 +1,4 @@
 pub mod Masks
 pub mod Mapped
+pub mod SidWords
+pub mod SidLaws
