@@ -25,7 +25,7 @@ pub length_of_list : (es : List Ace) → acl_size_of es ≡ length (list_bytes e
 unfolding list_bytes
 length_of_list es = omega (arith, length_of_entries es)
 
-length_of_header : (d : DescriptorValue) → length (header_of d) ≡ 20
+pub length_of_header : (d : DescriptorValue) → length (header_of d) ≡ 20
 unfolding header_of header_bytes
 length_of_header d = refl
 

@@ -14,28 +14,37 @@ use std::alloc::AllocError;
 /// The only revision of a descriptor ([MS-DTYP] 2.4.6, Revision).
 const REVISION: u8 = 1;
 
-// Where the control bits and the offsets stand in the header ([MS-DTYP] 2.4.6).
+/// Where the control bits stand in the header ([MS-DTYP] 2.4.6, Control).
 const CONTROL_PLACE: usize = 2;
 
+/// Where OffsetOwner stands in the header.
 pub const OWNER_PLACE: usize = 4;
 
+/// Where OffsetGroup stands in the header.
 pub const GROUP_PLACE: usize = 8;
 
+/// Where OffsetSacl stands in the header.
 const SACL_PLACE: usize = 12;
 
+/// Where OffsetDacl stands in the header.
 pub const DACL_PLACE: usize = 16;
 
-// The control bits that are read ([MS-DTYP] 2.4.6, Control); all but SP are written.
+/// Control bit DP: there is a DACL ([MS-DTYP] 2.4.6, Control, as the bits below).
 pub const DACL_PRESENT: u16 = 0x0004;
 
+/// Control bit SP: there is a SACL. It is read and never written.
 const SACL_PRESENT: u16 = 0x0010;
 
+/// Control bit DC.
 pub const DACL_AUTO_INHERIT_REQUIRED: u16 = 0x0100;
 
+/// Control bit DI.
 pub const DACL_AUTO_INHERITED: u16 = 0x0400;
 
+/// Control bit PD.
 pub const DACL_PROTECTED: u16 = 0x1000;
 
+/// Control bit SR.
 const SELF_RELATIVE: u16 = 0x8000;
 
 /// OffsetSacl of what is written.

@@ -13,9 +13,14 @@ mod descriptor;
 mod entry;
 mod fault;
 mod header;
+mod laws;
 mod list;
 mod number;
 mod trustee;
 
 pub use descriptor::{read_descriptor, wire_len, write_descriptor};
 pub use fault::{WireError, WireFault};
+pub use laws::{
+    descriptors_come_back, none_is_held_beside_a_fault, one_is_held, readings_are_held,
+    what_is_held_is_read,
+};
