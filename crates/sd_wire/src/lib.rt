@@ -16,6 +16,8 @@ mod header;
 mod laws;
 mod list;
 mod number;
+#[cfg(test)]
+mod tests;
 mod trustee;
 
 pub use descriptor::{read_descriptor, wire_len, write_descriptor};
