@@ -1,3 +1,5 @@
 pub mod Masks
 pub mod Mapped
 pub mod Compared
+pub mod SidWords
+pub mod SidLaws

@@ -1,6 +1,7 @@
 //! Security identifiers, access masks and generic mappings: [MS-DTYP] 2.4.2 and 2.4.3.
 //!
-//! Every other crate stands on this one. It takes no memory and asks nothing of the system.
+//! Every other crate stands on this one. Nothing but the bytes of a SID takes memory, and nothing asks anything of
+//! the system.
 //!
 //! ```text
 //! let everyone = Sid::new(1, &[0])?;
@@ -9,10 +10,12 @@
 //! ```
 #![tactic(auto)]
 
+mod bytes;
 mod mapping;
 mod mask;
 mod sid;
 
+pub use bytes::{push_sid, read_sid, sid_bytes, sids_come_back, sids_stand};
 pub use mapping::{BadMapping, GenericMapping};
 pub use mask::Mask;
 pub use sid::{Sid, SidError, sids_compare_by_value};

@@ -1,0 +1,115 @@
+// SIDs as bytes.
+
+ghost use Rattle.std.specs.Prelude.{◌≡◌, ◌+◌, ◌*◌, ◌<◌, ◌≤◌, ◌^◌, ◌++◌, length, take, drop, slice_index, IfOk, OnOk};
+ghost use Rattle.std.specs.Int.{w32, w64, to_be_bytes, to_le_bytes};
+ghost use Rattle.std.specs.List.{flat_map};
+ghost use Rattle.sd_sid.specs.Sid.{SidValue, IsSid};
+ghost use Rattle.sd_sid.specs.SidBytes.{u32_at, u32s_at, authority_of, sid_reading, bytes_of_sid, SidsComeBack, SidsStand};
+
+use crate::sid::{Sid, SidError};
+use std::alloc::{AllocError, Global};
+
+/// The only revision of a SID ([MS-DTYP] 2.4.2.2, Revision).
+const REVISION: u8 = 1;
+
+/// What stands before the sub-authorities: the revision, their number, and six bytes of authority.
+const HEADER_BYTES: usize = 8;
+
+/// The most sub-authorities that a SID has ([MS-DTYP] 2.4.2.2, SubAuthorityCount).
+const MAX_SUBS: usize = 15;
+
+/// The SID at the front of the bytes, and its length, 8 and 4 for each sub-authority ([MS-DTYP] 2.4.2.2).
+/// `Short` where there are fewer than 8 bytes; then `Revision` where the first isn't 1, `Count` where the second
+/// isn't 1 to 15, and `Short` where the sub-authorities pass the end. Takes no memory.
+#[tactic(auto, unfolding(crate::specs::SidBytes::sid_reading))]
+pub fn read_sid(bytes: &[u8]) -> Result<(Sid, u64), SidError>
+    ensures read { result ≡ sid_reading bytes.now }
+    ensures size { IfOk result (λ x. (x.1 ≡ 8 + 4 * length x.0.subs) × (x.1 ≤ length bytes.now)) }
+{
+    if bytes.len() < HEADER_BYTES {
+        return Err(SidError::Short);
+    }
+    if bytes[0] != REVISION {
+        return Err(SidError::Revision);
+    }
+    let count = bytes[1] as usize;
+    if count == 0 || count > MAX_SUBS {
+        return Err(SidError::Count);
+    }
+    let size = HEADER_BYTES + 4 * count;
+    if bytes.len() < size {
+        return Err(SidError::Short);
+    }
+    let subs = subs_of(bytes, count);
+    let sid = Sid::new(authority_in(bytes), &subs[..count])?;
+    Ok((sid, size as u64))
+}
+
+/// The six bytes of authority, the most significant first.
+fn authority_in(bytes: &[u8]) -> u64
+    requires { 8 ≤ length bytes.now }
+    ensures authority { result ≡ authority_of bytes.now }
+    ensures small { result < 2 ^ 48 }
+{
+    u64::from_be_bytes([
+        0, 0, bytes[2], bytes[3], bytes[4], bytes[5], bytes[6], bytes[7],
+    ])
+}
+
+/// The sub-authorities, four bytes each, the least significant first; zeros behind them.
+fn subs_of(bytes: &[u8], count: usize) -> [u32; MAX_SUBS]
+    requires few { count ≤ 15 }
+    requires room { 8 + 4 * count ≤ length bytes.now }
+    ensures { take count result ≡ u32s_at bytes.now 8 count }
+{
+    let mut subs = [0; MAX_SUBS];
+    for k in 0..count {
+        let at = HEADER_BYTES + 4 * k;
+        subs[k] = u32::from_le_bytes([bytes[at], bytes[at + 1], bytes[at + 2], bytes[at + 3]]);
+    }
+    subs
+}
+
+/// The bytes of a SID ([MS-DTYP] 2.4.2.2).
+pub fn sid_bytes(alloc: Global, sid: &Sid) -> Result<Vec<u8>, AllocError>
+    ensures { IfOk result (λ bytes. bytes.items ≡ bytes_of_sid sid.now) }
+{
+    let mut bytes = Vec::with_capacity(alloc, HEADER_BYTES + 4 * sid.subs().len())?;
+    push_sid(&mut bytes, sid)?;
+    Ok(bytes)
+}
+
+/// Writes the bytes of a SID behind those that are there ([MS-DTYP] 2.4.2.2).
+#[tactic(auto, unfolding(crate::specs::SidBytes::bytes_of_sid))]
+pub fn push_sid(bytes: &mut Vec<u8>, sid: &Sid) -> Result<(), AllocError>
+    ensures { OnOk result (bytes.new.items ≡ bytes.old.items ++ bytes_of_sid sid.now) }
+{
+    let subs = sid.subs();
+    bytes.push(REVISION)?;
+    bytes.push(subs.len() as u8)?;
+    bytes.extend_from_slice(&sid.authority().to_be_bytes()[2..])?;
+    push_subs(bytes, subs)?;
+    Ok(())
+}
+
+/// Writes sub-authorities, four bytes each, the least significant first.
+fn push_subs(bytes: &mut Vec<u8>, subs: &[u32]) -> Result<(), AllocError>
+    ensures { OnOk result (bytes.new.items ≡ bytes.old.items ++ flat_map (to_le_bytes w32) subs.now) }
+{
+    for sub in subs {
+        bytes.extend_from_slice(&sub.to_le_bytes())?;
+    }
+    Ok(())
+}
+
+/// A law: what `sid_bytes` writes, whatever follows it, `read_sid` reads again, with its length.
+#[tactic(auto, using(crate::proofs::SidLaws::sids_come_back))]
+pub fn sids_come_back()
+    ensures { SidsComeBack }
+{}
+
+/// A law: the SID that `read_sid` reads stands at the front of the bytes, as `sid_bytes` writes it.
+#[tactic(auto, using(crate::proofs::SidLaws::sids_stand))]
+pub fn sids_stand()
+    ensures { SidsStand }
+{}

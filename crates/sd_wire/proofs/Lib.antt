@@ -1,0 +1,6 @@
+pub mod Lengths
+pub mod Loop
+pub mod Places
+pub mod HeldIsRead
+pub mod WireIsHeld
+pub mod ReadIsHeld

@@ -1,0 +1,12 @@
+-- The entries so far and those that are left are all of them, and lie between the place and the end.
+use Rattle.std.proofs.Common.{◌≡◌, ◌+◌, ◌-◌, ◌≤◌, sum_by}
+use Rattle.sd_acl.specs.Ace.{ace_size}
+use Rattle.sd_wire.specs.Reading.{entries_read}
+use Rattle.sd_wire.proofs.Loop.{behind}
+use Rattle.sd_wire.proofs.list.read_entries.Given as goal
+
+abbrev pub invariant-loop : goal.invariant-loop
+invariant-loop l =
+    (behind l.entries.items (entries_read l.bytes l.at l.end (l.count - l.counter)) ≡ entries_read l.bytes l.place l.end l.count)
+    × (l.place + sum_by ace_size l.entries.items ≤ l.at)
+    × (l.at ≤ l.end)

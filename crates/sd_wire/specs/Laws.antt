@@ -1,0 +1,36 @@
+-- The laws of the self-relative form.
+use Rattle.std.specs.Prelude.{◌≡◌, ℕ, ◌<◌, List, slice_index, bit_and, Ok, Err}
+use Rattle.std.specs.List.{AllByRecursion}
+use Rattle.sd_acl.specs.Descriptor.{DescriptorValue, IsDescriptor}
+use Rattle.sd_acl.specs.declared.descriptor.Dacl.{Dacl}
+use Rattle.sd_acl.specs.declared.descriptor.Dacl.TheVariants.{Absent, Null, List as Entries}
+use Rattle.sd_wire.specs.declared.fault.WireFault.{WireFault}
+use Rattle.sd_wire.specs.Reading.{descriptor_read}
+use Rattle.sd_wire.specs.Standing.{Holds}
+use Rattle.sd_wire.specs.Writing.{wire_of}
+
+-- no entry has the flag bit 0x20
+abbrev pub HasKnownFlags : Dacl → Type 0
+HasKnownFlags Absent = Unit {0}
+HasKnownFlags Null = Unit {0}
+HasKnownFlags (Entries es) = AllByRecursion (λ e. bit_and e.flags.0 0xDF ≡ e.flags.0) es
+
+-- what is written is read again
+abbrev pub DescriptorsComeBack : Type 0
+DescriptorsComeBack = (d : DescriptorValue) → IsDescriptor d → HasKnownFlags d.dacl → descriptor_read (wire_of d) ≡ Ok d
+
+-- what is read stands in the bytes
+abbrev pub ReadingsAreHeld : Type 0
+ReadingsAreHeld = (bytes : List ℕ) (d : DescriptorValue) → ((i : ℕ) → slice_index bytes i < 256) → descriptor_read bytes ≡ Ok d → Holds bytes d
+
+-- what stands in the bytes is read
+abbrev pub WhatIsHeldIsRead : Type 0
+WhatIsHeldIsRead = (bytes : List ℕ) (d : DescriptorValue) → IsDescriptor d → Holds bytes d → descriptor_read bytes ≡ Ok d
+
+-- bytes hold one descriptor at most
+abbrev pub OneIsHeld : Type 0
+OneIsHeld = (bytes : List ℕ) (d e : DescriptorValue) → IsDescriptor d → IsDescriptor e → Holds bytes d → Holds bytes e → d ≡ e
+
+-- bytes that hold a descriptor have no fault
+abbrev pub NoneIsHeldBesideAFault : Type 0
+NoneIsHeldBesideAFault = (bytes : List ℕ) (d : DescriptorValue) (fault : WireFault) → IsDescriptor d → Holds bytes d → ¬ (descriptor_read bytes ≡ Err fault)

@@ -1,0 +1,5 @@
+pub mod Fault
+pub mod Reading
+pub mod Writing
+pub mod Standing
+pub mod Laws

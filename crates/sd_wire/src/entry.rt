@@ -1,0 +1,87 @@
+// Entries of a list: header, mask and SID.
+
+ghost use Rattle.std.specs.Prelude.{◌≡◌, ◌+◌, ◌≤◌, ◌<◌, ◌++◌, length, IfOk, OnOk};
+ghost use Rattle.sd_acl.specs.Ace.{ace_size};
+ghost use Rattle.sd_wire.specs.Reading.{entry_read, kind_read};
+ghost use Rattle.sd_wire.specs.Writing.{entry_bytes, kind_byte};
+
+use crate::fault::WireFault;
+use crate::number::{read_u16, read_u32};
+use crate::trustee::read_sid_at;
+use bitflags::Flags;
+use sd_acl::{Ace, AceFlags, AceKind};
+use sd_sid::{Mask, push_sid};
+use std::alloc::AllocError;
+
+/// AceType of an allow ([MS-DTYP] 2.4.4.1, ACCESS_ALLOWED_ACE_TYPE).
+const ALLOW: u8 = 0x00;
+
+/// AceType of a deny ([MS-DTYP] 2.4.4.1, ACCESS_DENIED_ACE_TYPE).
+const DENY: u8 = 0x01;
+
+/// The flag bits that have a meaning ([MS-DTYP] 2.4.4.1, AceFlags); 0x20 has none, and is neither read nor written.
+const KNOWN_FLAGS: u8 = 0xDF;
+
+/// The bytes of an entry's header: type, flags, AceSize ([MS-DTYP] 2.4.4.1).
+const HEADER_BYTES: usize = 4;
+
+/// The bytes before an entry's SID: the header and the mask ([MS-DTYP] 2.4.4.2).
+const SID_PLACE: usize = 8;
+
+/// The least bytes of an entry: its SID has 8 before the sub-authorities.
+pub const MIN_ENTRY_BYTES: usize = 16;
+
+/// The entry at a place, and its AceSize, in a list that ends at `end`.
+#[tactic(auto, unfolding(crate::specs::Reading::entry_read))]
+pub fn read_entry(bytes: &[u8], place: usize, end: usize) -> Result<(Ace, usize), WireFault>
+    requires place { place ≤ end }
+    requires end { end ≤ length bytes.now }
+    ensures read { result ≡ entry_read bytes.now place end }
+    ensures size { IfOk result (λ x. (ace_size x.0 ≤ x.1) × (place + x.1 ≤ end)) }
+{
+    if end - place < HEADER_BYTES {
+        return Err(WireFault::EntrySize);
+    }
+    let size = read_u16(bytes, place + 2) as usize;
+    if size < HEADER_BYTES || !size.is_multiple_of(4) || end - place < size {
+        return Err(WireFault::EntrySize);
+    }
+    let kind = read_kind(bytes[place])?;
+    if size < MIN_ENTRY_BYTES {
+        return Err(WireFault::EntrySize);
+    }
+    let entry = Ace {
+        kind,
+        flags: AceFlags::from_bits_retain(bytes[place + 1] & KNOWN_FLAGS),
+        mask: Mask(read_u32(bytes, place + HEADER_BYTES)),
+        sid: read_sid_at(bytes, place + SID_PLACE, place + size)?,
+    };
+    Ok((entry, size))
+}
+
+/// Whether a type stands for an allow or a deny.
+fn read_kind(byte: u8) -> Result<AceKind, WireFault>
+    ensures { result ≡ kind_read byte }
+{
+    match byte {
+        ALLOW => Ok(AceKind::Allow),
+        DENY => Ok(AceKind::Deny),
+        _ => Err(WireFault::EntryKind),
+    }
+}
+
+/// Writes an entry, without the flag bit 0x20.
+#[tactic(auto, unfolding(crate::specs::Writing::entry_bytes))]
+pub fn push_entry(bytes: &mut Vec<u8>, entry: &Ace) -> Result<(), AllocError>
+    ensures { OnOk result (bytes.new.items ≡ bytes.old.items ++ entry_bytes entry.now) }
+{
+    bytes.push(match entry.kind {
+        AceKind::Allow => ALLOW,
+        AceKind::Deny => DENY,
+    })?;
+    bytes.push(entry.flags.bits() & KNOWN_FLAGS)?;
+    bytes.extend_from_slice(&(entry.size() as u16).to_le_bytes())?;
+    bytes.extend_from_slice(&entry.mask.bits().to_le_bytes())?;
+    push_sid(bytes, &entry.sid)?;
+    Ok(())
+}

@@ -1,0 +1,156 @@
+// A descriptor's header: its control bits and its offsets.
+
+ghost use Rattle.std.specs.Prelude.{◌≡◌, ◌+◌, ◌≤◌, ◌<◌, ◌^◌, ◌++◌, cond, length, IfOk, OnOk};
+ghost use Rattle.sd_acl.specs.Descriptor.{descriptor_of};
+ghost use Rattle.sd_wire.specs.Reading.{control_read, is_set, u16_at};
+ghost use Rattle.sd_wire.specs.Writing.{control_of, header_bytes, header_of, is_list, offset_bytes, offset_of};
+
+use crate::fault::WireFault;
+use crate::number::{read_u16, read_u32};
+use crate::trustee::{HEADER_BYTES, trustee_len};
+use sd_acl::{Dacl, Descriptor};
+use std::alloc::AllocError;
+
+/// The only revision of a descriptor ([MS-DTYP] 2.4.6, Revision).
+const REVISION: u8 = 1;
+
+/// Where the control bits stand in the header ([MS-DTYP] 2.4.6, Control).
+const CONTROL_PLACE: usize = 2;
+
+/// Where OffsetOwner stands in the header.
+pub const OWNER_PLACE: usize = 4;
+
+/// Where OffsetGroup stands in the header.
+pub const GROUP_PLACE: usize = 8;
+
+/// Where OffsetSacl stands in the header.
+const SACL_PLACE: usize = 12;
+
+/// Where OffsetDacl stands in the header.
+pub const DACL_PLACE: usize = 16;
+
+/// Control bit DP: there is a DACL ([MS-DTYP] 2.4.6, Control, as the bits below).
+pub const DACL_PRESENT: u16 = 0x0004;
+
+/// Control bit SP: there is a SACL. It is read and never written.
+const SACL_PRESENT: u16 = 0x0010;
+
+/// Control bit DC.
+pub const DACL_AUTO_INHERIT_REQUIRED: u16 = 0x0100;
+
+/// Control bit DI.
+pub const DACL_AUTO_INHERITED: u16 = 0x0400;
+
+/// Control bit PD.
+pub const DACL_PROTECTED: u16 = 0x1000;
+
+/// Control bit SR.
+const SELF_RELATIVE: u16 = 0x8000;
+
+/// OffsetSacl of what is written.
+const NO_SACL: u32 = 0;
+
+/// Whether some of these bits are set.
+pub fn has_bits(control: u16, bits: u16) -> bool
+    ensures { result ≡ is_set bits control }
+{
+    control & bits != 0
+}
+
+/// The control bits, where the header passes its tests.
+#[tactic(auto, unfolding(crate::specs::Reading::control_read))]
+pub fn read_control(bytes: &[u8]) -> Result<u16, WireFault>
+    ensures read { result ≡ control_read bytes.now }
+    ensures size { OnOk result (20 ≤ length bytes.now) }
+{
+    if bytes.len() < HEADER_BYTES {
+        return Err(WireFault::Short);
+    }
+    if bytes[0] != REVISION {
+        return Err(WireFault::Revision);
+    }
+    let control = read_u16(bytes, CONTROL_PLACE);
+    if !has_bits(control, SELF_RELATIVE) {
+        return Err(WireFault::NotSelfRelative);
+    }
+    if has_bits(control, SACL_PRESENT) && read_u32(bytes, SACL_PLACE) != 0 {
+        return Err(WireFault::HasSacl);
+    }
+    Ok(control)
+}
+
+/// The control bits that a descriptor is written with.
+fn control_bits(descriptor: &Descriptor) -> u16
+    ensures { result ≡ control_of (descriptor_of descriptor.now) }
+{
+    SELF_RELATIVE
+        | bits_when(!matches!(descriptor.dacl, Dacl::Absent), DACL_PRESENT)
+        | bits_when(descriptor.auto_req, DACL_AUTO_INHERIT_REQUIRED)
+        | bits_when(descriptor.auto_inherited, DACL_AUTO_INHERITED)
+        | bits_when(descriptor.protected, DACL_PROTECTED)
+}
+
+/// The bits where the test holds, and else none.
+fn bits_when(test: bool, bits: u16) -> u16
+    ensures { result ≡ cond test bits 0 }
+{
+    if test { bits } else { 0 }
+}
+
+/// Whether the DACL is a list.
+fn has_list(dacl: &Dacl) -> bool
+    ensures { result ≡ is_list dacl.now }
+{
+    matches!(dacl, Dacl::List(_))
+}
+
+/// The offset of a part: its place where it is there, and else 0.
+fn part_offset(is_there: bool, place: usize) -> u32
+    requires { place < 2 ^ 32 }
+    ensures { result ≡ offset_of is_there place }
+{
+    if is_there { place as u32 } else { 0 }
+}
+
+/// Writes a descriptor's header. Each part stands right behind the last one that is there.
+#[tactic(auto, unfolding(crate::specs::Writing::header_of))]
+pub fn push_header(bytes: &mut Vec<u8>, descriptor: &Descriptor) -> Result<(), AllocError>
+    ensures { OnOk result (bytes.new.items ≡ bytes.old.items ++ header_of (descriptor_of descriptor.now)) }
+{
+    let group_place = HEADER_BYTES + trustee_len(&descriptor.owner);
+    let dacl_place = group_place + trustee_len(&descriptor.group);
+    let owner = part_offset(descriptor.owner.is_some(), HEADER_BYTES);
+    let group = part_offset(descriptor.group.is_some(), group_place);
+    let dacl = part_offset(has_list(&descriptor.dacl), dacl_place);
+    push_fields(bytes, control_bits(descriptor), owner, group, dacl)?;
+    Ok(())
+}
+
+/// Writes the fields of a header, in their order.
+#[tactic(auto, unfolding(crate::specs::Writing::header_bytes))]
+fn push_fields(
+    bytes: &mut Vec<u8>,
+    control: u16,
+    owner: u32,
+    group: u32,
+    dacl: u32,
+) -> Result<(), AllocError>
+    ensures { OnOk result (bytes.new.items ≡ bytes.old.items ++ header_bytes control owner group dacl) }
+{
+    bytes.push(REVISION)?;
+    bytes.push(0)?;
+    bytes.extend_from_slice(&control.to_le_bytes())?;
+    push_offsets(bytes, owner, group, dacl)?;
+    Ok(())
+}
+
+/// Writes the offsets of the owner, the group, the SACL, which there is none of, and the DACL.
+fn push_offsets(bytes: &mut Vec<u8>, owner: u32, group: u32, dacl: u32) -> Result<(), AllocError>
+    ensures { OnOk result (bytes.new.items ≡ bytes.old.items ++ offset_bytes owner group dacl) }
+{
+    bytes.extend_from_slice(&owner.to_le_bytes())?;
+    bytes.extend_from_slice(&group.to_le_bytes())?;
+    bytes.extend_from_slice(&NO_SACL.to_le_bytes())?;
+    bytes.extend_from_slice(&dacl.to_le_bytes())?;
+    Ok(())
+}

@@ -1,0 +1,32 @@
+// The laws of the self-relative form: each function has an empty body, and its contract is the law.
+
+ghost use Rattle.sd_wire.specs.Laws.{DescriptorsComeBack, ReadingsAreHeld, WhatIsHeldIsRead, OneIsHeld, NoneIsHeldBesideAFault};
+
+/// A law: what `write_descriptor` writes, `read_descriptor` reads again, where no entry has the flag bit 0x20.
+#[tactic(auto, using(crate::proofs::WireIsHeld::descriptors_come_back))]
+pub fn descriptors_come_back()
+    ensures { DescriptorsComeBack }
+{}
+
+/// A law: where `read_descriptor` reads a descriptor, at each place stands the part that was read.
+pub fn readings_are_held()
+    ensures { ReadingsAreHeld }
+{}
+
+/// A law: `read_descriptor` reads each descriptor whose parts stand in the bytes.
+#[tactic(auto, using(crate::proofs::HeldIsRead::held_is_read))]
+pub fn what_is_held_is_read()
+    ensures { WhatIsHeldIsRead }
+{}
+
+/// A law: bytes hold one descriptor at most.
+#[tactic(auto, using(crate::proofs::HeldIsRead::one_is_held))]
+pub fn one_is_held()
+    ensures { OneIsHeld }
+{}
+
+/// A law: bytes that hold a descriptor have no fault.
+#[tactic(auto, using(crate::proofs::HeldIsRead::none_beside_a_fault))]
+pub fn none_is_held_beside_a_fault()
+    ensures { NoneIsHeldBesideAFault }
+{}

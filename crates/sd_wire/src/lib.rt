@@ -1,0 +1,28 @@
+//! The self-relative form of security descriptors, as Windows keeps and sends them: [MS-DTYP] 2.4.6.
+//!
+//! Reads bytes of any origin, and writes one form. A reading is Ok only with what the bytes hold, and else answers
+//! the first test that they don't pass; it takes memory for the entries that are there, whatever the counts say.
+//!
+//! ```text
+//! let descriptor = read_descriptor(alloc, bytes)?;
+//! let written = write_descriptor(alloc, &descriptor)?; // wire_len(&descriptor) bytes
+//! ```
+#![tactic(auto)]
+
+mod descriptor;
+mod entry;
+mod fault;
+mod header;
+mod laws;
+mod list;
+mod number;
+#[cfg(test)]
+mod tests;
+mod trustee;
+
+pub use descriptor::{read_descriptor, wire_len, write_descriptor};
+pub use fault::{WireError, WireFault};
+pub use laws::{
+    descriptors_come_back, none_is_held_beside_a_fault, one_is_held, readings_are_held,
+    what_is_held_is_read,
+};

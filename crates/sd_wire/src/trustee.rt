@@ -1,0 +1,74 @@
+// SIDs in a descriptor: those of its owner, its group and its entries.
+
+ghost use Rattle.std.specs.Prelude.{◌≡◌, ◌+◌, ◌*◌, ◌^◌, ◌<◌, ◌≤◌, ◌++◌, length, IfOk, OnOk};
+ghost use Rattle.sd_wire.specs.Reading.{sid_read, trustee_read, is_outside};
+ghost use Rattle.sd_wire.specs.Writing.{trustee_part};
+
+use crate::fault::WireFault;
+use sd_sid::{Sid, push_sid, read_sid};
+use std::alloc::AllocError;
+
+/// The bytes of a descriptor's header ([MS-DTYP] 2.4.6), into which no offset may lead.
+pub const HEADER_BYTES: usize = 20;
+
+/// The least bytes that a part has: a SID's before its sub-authorities, a list's before its entries.
+const MIN_PART_BYTES: usize = 8;
+
+/// Whether an offset leads into the header, or to less than 8 bytes.
+pub fn is_offset_outside(bytes: &[u8], offset: usize) -> bool
+    requires { offset < 2 ^ 32 }
+    ensures { result ≡ is_outside bytes.now offset }
+{
+    offset < HEADER_BYTES || bytes.len() < offset + MIN_PART_BYTES
+}
+
+/// The SID at a place, which doesn't pass an end.
+pub fn read_sid_at(bytes: &[u8], place: usize, end: usize) -> Result<Sid, WireFault>
+    requires place { place ≤ end }
+    requires end { end ≤ length bytes.now }
+    ensures read { result ≡ sid_read bytes.now place end }
+    ensures size { IfOk result (λ sid. place + (8 + 4 * length sid.subs) ≤ end) }
+{
+    match read_sid(&bytes[place..end]) {
+        Ok((sid, _)) => Ok(sid),
+        Err(_) => Err(WireFault::BadSid),
+    }
+}
+
+/// The owner or the group at its offset, none where that is 0.
+#[tactic(auto, unfolding(crate::specs::Reading::trustee_read))]
+pub fn read_trustee(bytes: &[u8], offset: usize) -> Result<Option<Sid>, WireFault>
+    requires { offset < 2 ^ 32 }
+    ensures { result ≡ trustee_read bytes.now offset }
+{
+    if offset == 0 {
+        return Ok(None);
+    }
+    if is_offset_outside(bytes, offset) {
+        return Err(WireFault::BadOffset);
+    }
+    let sid = read_sid_at(bytes, offset, bytes.len())?;
+    Ok(Some(sid))
+}
+
+/// The bytes that the owner or the group takes.
+#[tactic(auto, using(crate::proofs::Lengths::length_of_trustee))]
+pub fn trustee_len(trustee: &Option<Sid>) -> usize
+    ensures exact { result ≡ length (trustee_part trustee.now) }
+    ensures most { result ≤ 68 }
+{
+    match trustee {
+        Some(sid) => MIN_PART_BYTES + 4 * sid.subs().len(),
+        None => 0,
+    }
+}
+
+/// Writes the owner or the group, where there is one.
+pub fn push_trustee(bytes: &mut Vec<u8>, trustee: &Option<Sid>) -> Result<(), AllocError>
+    ensures { OnOk result (bytes.new.items ≡ bytes.old.items ++ trustee_part trustee.now) }
+{
+    if let Some(sid) = trustee {
+        push_sid(bytes, sid)?;
+    }
+    Ok(())
+}
