@@ -1,6 +1,7 @@
 -- What the program prints as an answer, and the status with which it then ends.
 use Rattle.std.specs.Prelude.{◌≡◌, ◌⊎◌, ℕ, List, [], ◌∷◌, ◌++◌, false, codes, string_bytes}
 use Rattle.std.specs.Fmt.{digits}
+use Rattle.sd_tool.specs.FirstForm.{AreFirstForm, AnswersFirstForm}
 use Rattle.sd_tool.specs.declared.arguments.Request.{Request}
 use Rattle.sd_tool.specs.declared.arguments.Request.TheVariants.{Help, Verdict}
 use Rattle.sd_tool.specs.declared.failure.Status.{Status}
@@ -28,13 +29,13 @@ verdict_status (Denied missing) = Refused
 abbrev pub fault_line : List ℕ → List ℕ
 fault_line what = line (codes "fault " ++ what)
 
--- the line of a verdict with its status, or else the fault's
-abbrev pub AnswersVerdict : List ℕ → Status → Type 0
-AnswersVerdict text status =
-    ((verdict : FirstVerdict) × (text ≡ verdict_line verdict) × (status ≡ verdict_status verdict))
-    ⊎ ((text ≡ fault_line (codes "first")) × (status ≡ Refused))
+-- the verdict of the check on texts of the first form, and else the fault
+abbrev pub AnswersVerdict : List ℕ → List ℕ → List ℕ → List ℕ → Status → Type 0
+AnswersVerdict sddl user mask text status =
+    ((verdict : FirstVerdict) × AnswersFirstForm sddl user mask verdict × (text ≡ verdict_line verdict) × (status ≡ verdict_status verdict))
+    ⊎ ((AreFirstForm sddl user mask → ⊥) × (text ≡ fault_line (codes "first")) × (status ≡ Refused))
 
 -- what is printed for a request, and the status behind it
 abbrev pub Answers : Request → List ℕ → Status → Type 0
 Answers (Help help) text status = (text ≡ string_bytes help) × (status ≡ Done)
-Answers (Verdict sddl user mask) text status = AnswersVerdict text status
+Answers (Verdict sddl user mask) text status = AnswersVerdict sddl.now user.now mask.now text status

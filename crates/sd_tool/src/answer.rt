@@ -32,7 +32,8 @@ pub(crate) fn answer_to(alloc: Global, request: Request<'_>) -> Result<Answer, F
 }
 
 fn verdict(alloc: Global, sddl: &str, user: &str, mask: &str) -> Result<Answer, Failure>
-    ensures ok { IfOk result (λ answer. AnswersVerdict (string_bytes answer.text) answer.status) }
+    ensures ok { IfOk result (λ answer. AnswersVerdict sddl.now user.now mask.now
+        (string_bytes answer.text) answer.status) }
     ensures low { IfOk result (λ answer. code_of answer.status ≤ 1) }
     ensures err { IfErr result (λ failure. failure ≡ Failure.Memory) }
 {
