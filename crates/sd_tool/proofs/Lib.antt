@@ -1,1 +1,1 @@
-pub mod FirstForms
+pub mod Words

@@ -2,5 +2,4 @@ pub mod Answer
 pub mod Arguments
 pub mod Failure
 pub mod Output
-pub mod FirstForm
-pub mod FirstError
+pub mod Word

@@ -1,12 +1,14 @@
 //! The answer to a request: one line, and a status.
 ghost use Rattle.std.specs.Prelude.{◌≡◌, ◌≤◌, IfErr, IfOk, string_bytes};
-ghost use Rattle.sd_tool.specs.Answer.{Answers, AnswersVerdict, fault_line, verdict_line, verdict_status};
+ghost use Rattle.sd_tool.specs.Answer.{Answers, IsFault, fault_line, sddl_fault_line};
 ghost use Rattle.sd_tool.specs.Failure.{code_of};
 
 use crate::arguments::Request;
+use crate::convert::{from_binary, print, to_binary};
 use crate::failure::{Failure, Status};
-use crate::first_form::{FirstError, FirstVerdict, first_verdict};
-use std::alloc::{AllocError, Global};
+use crate::verdict::verdict;
+use sd_text::TextFault;
+use std::alloc::Global;
 
 /// What is printed, and the status with which the program then ends.
 #[derive(Debug, Drop)]
@@ -17,8 +19,7 @@ pub(crate) struct Answer {
 
 /// The answer to a request.
 pub(crate) fn answer_to(alloc: Global, request: Request<'_>) -> Result<Answer, Failure>
-    ensures ok { IfOk result (λ answer.
-        Answers request.entry (string_bytes answer.text) answer.status) }
+    ensures ok { IfOk result (λ answer. Answers request.entry (string_bytes answer.text) answer.status) }
     ensures low { IfOk result (λ answer. code_of answer.status ≤ 1) }
     ensures err { IfErr result (λ failure. failure ≡ Failure.Memory) }
 {
@@ -27,52 +28,40 @@ pub(crate) fn answer_to(alloc: Global, request: Request<'_>) -> Result<Answer, F
             text,
             status: Status::Done,
         }),
-        Request::Verdict { sddl, user, mask } => verdict(alloc, sddl, user, mask),
+        Request::Verdict {
+            sddl,
+            user,
+            mask,
+            words,
+        } => verdict(alloc, sddl, user, mask, words.as_slice()),
+        Request::Print { sddl } => print(alloc, sddl),
+        Request::ToBinary { sddl } => to_binary(alloc, sddl),
+        Request::FromBinary { hex } => from_binary(alloc, hex),
     }
 }
 
-fn verdict(alloc: Global, sddl: &str, user: &str, mask: &str) -> Result<Answer, Failure>
-    ensures ok { IfOk result (λ answer. AnswersVerdict sddl.now user.now mask.now
-        (string_bytes answer.text) answer.status) }
+/// The answer to an argument that isn't read: what it should have been.
+pub(crate) fn fault(alloc: Global, what: &str) -> Result<Answer, Failure>
+    ensures ok { IfOk result (λ answer. IsFault (fault_line what.now) (string_bytes answer.text) answer.status) }
     ensures low { IfOk result (λ answer. code_of answer.status ≤ 1) }
     ensures err { IfErr result (λ failure. failure ≡ Failure.Memory) }
 {
-    match first_verdict(alloc, sddl, user, mask) {
-        Ok(verdict) => Ok(Answer {
-            text: line_of_verdict(alloc, verdict)?,
-            status: status_of_verdict(verdict),
-        }),
-        Err(FirstError::Form) => fault(alloc, "first"),
-        Err(FirstError::Memory) => Err(Failure::Memory),
-    }
-}
-
-fn status_of_verdict(verdict: FirstVerdict) -> Status
-    ensures exact { result ≡ verdict_status verdict }
-    ensures low { code_of result ≤ 1 }
-{
-    match verdict {
-        FirstVerdict::Granted(_) => Status::Done,
-        FirstVerdict::Denied { .. } => Status::Refused,
-    }
-}
-
-fn line_of_verdict(alloc: Global, verdict: FirstVerdict) -> Result<String, AllocError>
-    ensures { IfOk result (λ text. string_bytes text ≡ verdict_line verdict) }
-{
-    match verdict {
-        FirstVerdict::Granted(mask) => format!(in alloc; "granted 0x{:x}\n", mask.bits()),
-        FirstVerdict::Denied { missing } => format!(in alloc; "denied 0x{:x}\n", missing.bits()),
-    }
-}
-
-fn fault(alloc: Global, what: &str) -> Result<Answer, Failure>
-    ensures line { IfOk result (λ answer. string_bytes answer.text ≡ fault_line what.now) }
-    ensures status { IfOk result (λ answer. answer.status ≡ Status.Refused) }
-    ensures memory { IfErr result (λ failure. failure ≡ Failure.Memory) }
-{
     Ok(Answer {
         text: format!(in alloc; "fault {what}\n")?,
+        status: Status::Refused,
+    })
+}
+
+/// The answer to a descriptor's text with a fault.
+pub(crate) fn sddl_fault(alloc: Global, fault: TextFault, place: u64) -> Result<Answer, Failure>
+    ensures ok { IfOk result (λ answer. IsFault (sddl_fault_line fault place) (string_bytes answer.text) answer.status) }
+    ensures low { IfOk result (λ answer. code_of answer.status ≤ 1) }
+    ensures err { IfErr result (λ failure. failure ≡ Failure.Memory) }
+{
+    let number = fault.number();
+    let name = fault.name();
+    Ok(Answer {
+        text: format!(in alloc; "fault sddl {number} {name} at {place}\n")?,
         status: Status::Refused,
     })
 }

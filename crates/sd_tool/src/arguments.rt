@@ -8,9 +8,21 @@ use clap::error::ErrorKind;
 use clap::{Arg, ArgMatches, Command, Error};
 use std::alloc::{AllocError, Global};
 
-const EXAMPLE: &str = "\
+const VERDICT_EXAMPLE: &str = "\
 Example:
   sdstore verdict 'D:(D;;0x2;;;S-1-5-21-1-2-3-1001)(A;;0x1f01ff;;;S-1-5-21-1-2-3-1001)' S-1-5-21-1-2-3-1001 0x1";
+
+const PRINT_EXAMPLE: &str = "\
+Example:
+  sdstore print 'o:s-1-5-18d:(a;;0x1f01ff;;;s-1-1-0)'";
+
+const TO_BINARY_EXAMPLE: &str = "\
+Example:
+  sdstore tobin O:BA";
+
+const FROM_BINARY_EXAMPLE: &str = "\
+Example:
+  sdstore frombin 010000801400000000000000000000000000000001020000000000052000000020020000";
 
 /// What a command line asks for.
 #[derive(Debug, Drop)]
@@ -19,11 +31,24 @@ pub(crate) enum Request<'a> {
     Help {
         text: String,
     },
-    /// Whether a descriptor grants a mask to a user.
+    /// Whether a descriptor grants a mask to a user, whose groups and privileges the words tell.
     Verdict {
         sddl: &'a str,
         user: &'a str,
         mask: &'a str,
+        words: Vec<&'a str>,
+    },
+    /// The canonical text of a descriptor.
+    Print {
+        sddl: &'a str,
+    },
+    /// The self-relative form of a descriptor.
+    ToBinary {
+        sddl: &'a str,
+    },
+    /// The text of a descriptor in self-relative form.
+    FromBinary {
+        hex: &'a str,
     },
 }
 
@@ -34,7 +59,7 @@ pub(crate) fn read_words<'a>(alloc: Global, words: &'a [&'a str]) -> Result<Requ
 {
     let mut command = sdstore(alloc)?;
     match command.try_get_matches_from_mut(words) {
-        Ok(matches) => match request_in(&matches) {
+        Ok(matches) => match request_in(alloc, &matches)? {
             Some(request) => Ok(request),
             None => {
                 let text = "'sdstore' requires a subcommand but one was not provided";
@@ -66,20 +91,61 @@ fn refused(error: Error) -> Failure
     }
 }
 
-fn request_in<'a>(matches: &ArgMatches<'a>) -> Option<Request<'a>>
+fn request_in<'a>(
+    alloc: Global,
+    matches: &ArgMatches<'a>,
+) -> Result<Option<Request<'a>>, AllocError>
+    ensures { IfOk result (λ request. IfSome request (IsAsked false)) }
+{
+    match matches.subcommand() {
+        Some(("verdict", found)) => verdict_in(alloc, found),
+        Some(("print", found)) => Ok(print_in(found)),
+        Some(("tobin", found)) => Ok(to_binary_in(found)),
+        Some(("frombin", found)) => Ok(from_binary_in(found)),
+        _ => Ok(None),
+    }
+}
+
+fn verdict_in<'a>(alloc: Global, found: &ArgMatches<'a>) -> Result<Option<Request<'a>>, AllocError>
+    ensures { IfOk result (λ request. IfSome request (IsAsked false)) }
+{
+    match found.get_strs(WORDS) {
+        Some([sddl, user, mask, words @ ..]) => {
+            let words = Vec::from_slice(alloc, words)?;
+            Ok(Some(Request::Verdict {
+                sddl,
+                user,
+                mask,
+                words,
+            }))
+        }
+        _ => Ok(None),
+    }
+}
+
+fn print_in<'a>(found: &ArgMatches<'a>) -> Option<Request<'a>>
     ensures { IfSome result (IsAsked false) }
 {
-    match matches.subcommand()? {
-        ("verdict", found) => verdict_in(found),
+    match found.get_strs(WORDS)? {
+        &[sddl] => Some(Request::Print { sddl }),
         _ => None,
     }
 }
 
-fn verdict_in<'a>(found: &ArgMatches<'a>) -> Option<Request<'a>>
+fn to_binary_in<'a>(found: &ArgMatches<'a>) -> Option<Request<'a>>
     ensures { IfSome result (IsAsked false) }
 {
     match found.get_strs(WORDS)? {
-        &[sddl, user, mask] => Some(Request::Verdict { sddl, user, mask }),
+        &[sddl] => Some(Request::ToBinary { sddl }),
+        _ => None,
+    }
+}
+
+fn from_binary_in<'a>(found: &ArgMatches<'a>) -> Option<Request<'a>>
+    ensures { IfSome result (IsAsked false) }
+{
+    match found.get_strs(WORDS)? {
+        &[hex] => Some(Request::FromBinary { hex }),
         _ => None,
     }
 }
@@ -88,17 +154,47 @@ fn sdstore<'a>(alloc: Global) -> Result<Command<'a>, AllocError> {
     Command::new(alloc, "sdstore")
         .about("Windows security descriptors and access checks by [MS-DTYP]")
         .override_usage("sdstore <COMMAND>")
-        .after_help(EXAMPLE)
-        .subcommand(verdict(alloc)?)
+        .after_help(VERDICT_EXAMPLE)
+        .subcommand(verdict(alloc)?)?
+        .subcommand(print(alloc)?)?
+        .subcommand(to_binary(alloc)?)?
+        .subcommand(from_binary(alloc)?)
 }
 
 fn verdict<'a>(alloc: Global) -> Result<Command<'a>, AllocError> {
+    let help =
+        "The descriptor in SDDL, the user's SID, the mask that is asked for, and words for the token: \
+        a group's SID, SID=deny for a group that counts for denies alone, SID=off for one that doesn't count, \
+        +security and +take for the privileges";
     Command::new(alloc, "verdict")
         .about("Prints whether a descriptor grants a mask to a user")
-        .after_help(EXAMPLE)
-        .arg(texts(alloc, &["SDDL", "USER", "MASK"]).help(
-            "The descriptor in SDDL, the user's SID, and the mask that is asked for",
-        ))
+        .after_help(VERDICT_EXAMPLE)
+        .arg(
+            texts(alloc, &["SDDL", "USER", "MASK", "WORD"])
+                .num_args(3..)
+                .help(help),
+        )
+}
+
+fn print<'a>(alloc: Global) -> Result<Command<'a>, AllocError> {
+    Command::new(alloc, "print")
+        .about("Prints a descriptor in canonical SDDL")
+        .after_help(PRINT_EXAMPLE)
+        .arg(texts(alloc, &["SDDL"]).help("The descriptor in SDDL"))
+}
+
+fn to_binary<'a>(alloc: Global) -> Result<Command<'a>, AllocError> {
+    Command::new(alloc, "tobin")
+        .about("Prints a descriptor in self-relative form, in hexadecimal")
+        .after_help(TO_BINARY_EXAMPLE)
+        .arg(texts(alloc, &["SDDL"]).help("The descriptor in SDDL"))
+}
+
+fn from_binary<'a>(alloc: Global) -> Result<Command<'a>, AllocError> {
+    Command::new(alloc, "frombin")
+        .about("Prints a descriptor in self-relative form as canonical SDDL")
+        .after_help(FROM_BINARY_EXAMPLE)
+        .arg(texts(alloc, &["HEX"]).help("The bytes of the descriptor, in hexadecimal"))
 }
 
 // The texts that a subcommand takes. They are one argument to clap, so that behind the first of them

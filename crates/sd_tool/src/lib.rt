@@ -14,9 +14,10 @@
 mod answer;
 mod arguments;
 mod command_line;
+mod convert;
 mod failure;
-mod first_form;
 mod output;
+mod verdict;
+mod word;
 
 pub use command_line::drive;
-pub use first_form::{FirstError, FirstVerdict, first_verdict};

@@ -1,0 +1,119 @@
+//! The answer to `verdict`: whether a descriptor grants a mask to a user.
+ghost use Rattle.std.specs.Prelude.{◌≡◌, ◌≤◌, IfErr, IfOk, string_bytes};
+ghost use Rattle.sd_acl.specs.Descriptor.{descriptor_of};
+ghost use Rattle.sd_check.specs.Check.{verdict as verdict_of};
+ghost use Rattle.sd_check.specs.Dacl.{dacl_entries};
+ghost use Rattle.sd_sid.specs.Mapping.{file_mapping};
+ghost use Rattle.sd_tool.specs.Answer.{AnswersVerdict, AnswersUser, AnswersMask, AnswersWords, verdict_line, verdict_status};
+ghost use Rattle.sd_tool.specs.Failure.{code_of};
+ghost use Rattle.sd_tool.specs.Word.{token_of};
+
+use crate::answer::{Answer, fault, sddl_fault};
+use crate::failure::{Failure, Status};
+use crate::word::{WordsError, read_words, token_of};
+use sd_acl::Descriptor;
+use sd_check::{Verdict, check};
+use sd_sid::{GenericMapping, Mask, Sid};
+use sd_text::{TextError, read_mask, read_sddl, read_sid_text};
+use std::alloc::{AllocError, Global};
+
+/// The verdict on these texts, or the fault of the first from the left that isn't read.
+pub(crate) fn verdict(
+    alloc: Global,
+    sddl: &str,
+    user: &str,
+    mask: &str,
+    words: &[&str],
+) -> Result<Answer, Failure>
+    ensures ok { IfOk result (λ answer. AnswersVerdict sddl.now user.now mask.now words.now (string_bytes answer.text) answer.status) }
+    ensures low { IfOk result (λ answer. code_of answer.status ≤ 1) }
+    ensures err { IfErr result (λ failure. failure ≡ Failure.Memory) }
+{
+    match read_sddl(alloc, sddl) {
+        Ok(descriptor) => verdict_for_user(alloc, &descriptor, user, mask, words),
+        Err(TextError::Fault { fault, place }) => sddl_fault(alloc, fault, place),
+        Err(TextError::Memory) => Err(Failure::Memory),
+    }
+}
+
+fn verdict_for_user(
+    alloc: Global,
+    descriptor: &Descriptor,
+    user: &str,
+    mask: &str,
+    words: &[&str],
+) -> Result<Answer, Failure>
+    ensures ok { IfOk result (λ answer. AnswersUser (descriptor_of descriptor.now) user.now mask.now words.now (string_bytes answer.text) answer.status) }
+    ensures low { IfOk result (λ answer. code_of answer.status ≤ 1) }
+    ensures err { IfErr result (λ failure. failure ≡ Failure.Memory) }
+{
+    match read_sid_text(user) {
+        Ok(user) => verdict_on_mask(alloc, descriptor, user, mask, words),
+        Err(_) => fault(alloc, "sid"),
+    }
+}
+
+fn verdict_on_mask(
+    alloc: Global,
+    descriptor: &Descriptor,
+    user: Sid,
+    mask: &str,
+    words: &[&str],
+) -> Result<Answer, Failure>
+    ensures ok { IfOk result (λ answer. AnswersMask (descriptor_of descriptor.now) user mask.now words.now (string_bytes answer.text) answer.status) }
+    ensures low { IfOk result (λ answer. code_of answer.status ≤ 1) }
+    ensures err { IfErr result (λ failure. failure ≡ Failure.Memory) }
+{
+    match read_mask(mask) {
+        Ok(asked) => verdict_with_words(alloc, descriptor, user, asked, words),
+        Err(_) => fault(alloc, "mask"),
+    }
+}
+
+fn verdict_with_words(
+    alloc: Global,
+    descriptor: &Descriptor,
+    user: Sid,
+    asked: Mask,
+    words: &[&str],
+) -> Result<Answer, Failure>
+    ensures ok { IfOk result (λ answer. AnswersWords (descriptor_of descriptor.now) user asked words.now (string_bytes answer.text) answer.status) }
+    ensures low { IfOk result (λ answer. code_of answer.status ≤ 1) }
+    ensures err { IfErr result (λ failure. failure ≡ Failure.Memory) }
+{
+    match read_words(alloc, words) {
+        Ok(words) => {
+            let token = token_of(alloc, user, &words)?;
+            let verdict = check(descriptor, &GenericMapping::file(), &token, asked);
+            Ok(Answer {
+                text: line_of(alloc, verdict)?,
+                status: status_of(verdict),
+            })
+        }
+        Err(WordsError::NoWord) => fault(alloc, "token"),
+        Err(WordsError::Memory) => Err(Failure::Memory),
+    }
+}
+
+fn status_of(verdict: Verdict) -> Status
+    ensures exact { result ≡ verdict_status verdict }
+    ensures low { code_of result ≤ 1 }
+{
+    match verdict {
+        Verdict::Granted(_) => Status::Done,
+        Verdict::Denied { .. } => Status::Refused,
+        Verdict::Reserved(_) => Status::Refused,
+        Verdict::EmptyRequest => Status::Refused,
+    }
+}
+
+fn line_of(alloc: Global, verdict: Verdict) -> Result<String, AllocError>
+    ensures { IfOk result (λ text. string_bytes text ≡ verdict_line verdict) }
+{
+    match verdict {
+        Verdict::Granted(mask) => format!(in alloc; "granted 0x{:x}\n", mask.bits()),
+        Verdict::Denied { missing } => format!(in alloc; "denied 0x{:x}\n", missing.bits()),
+        Verdict::Reserved(mask) => format!(in alloc; "reserved 0x{:x}\n", mask.bits()),
+        Verdict::EmptyRequest => String::from_str(alloc, "empty\n"),
+    }
+}
