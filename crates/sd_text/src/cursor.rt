@@ -8,6 +8,7 @@ ghost use Rattle.sd_text.specs.Reading.{Gives, find, digits_len, IsCapped};
 
 use crate::fault::TextFault;
 
+/// What is left of a text.
 #[derive(Drop)]
 pub(crate) struct Cursor<'a> {
     pub(crate) rest: &'a [u8],
@@ -39,6 +40,7 @@ impl<'a> Cursor<'a> {
         begins(self.rest, letters)
     }
 
+    /// Whether a digit stands here.
     pub(crate) fn begins_digit(&self, radix: u32) -> bool
         requires low { 2 ≤ radix }
         requires high { radix ≤ 16 }

@@ -10,7 +10,6 @@ ghost use Rattle.sd_text.specs.Reading.{Gives, GivesUnlessMemory, find};
 
 use crate::cursor::Cursor;
 use crate::fault::{Stop, TextError, TextFault};
-use crate::name::Name;
 use sd_acl::{Dacl, Descriptor};
 use sd_sid::Sid;
 use std::alloc::Global;
@@ -40,23 +39,11 @@ pub(crate) struct DaclPart {
     pub(crate) words: DaclWords,
 }
 
-static WORDS: [Name<DaclWord>; 4] = [
-    Name {
-        letters: "P",
-        stands_for: DaclWord::Protected,
-    },
-    Name {
-        letters: "AR",
-        stands_for: DaclWord::AutoReq,
-    },
-    Name {
-        letters: "AI",
-        stands_for: DaclWord::AutoInherited,
-    },
-    Name {
-        letters: "NO_ACCESS_CONTROL",
-        stands_for: DaclWord::NoAccessControl,
-    },
+static WORDS: [(&str, DaclWord); 4] = [
+    ("P", DaclWord::Protected),
+    ("AR", DaclWord::AutoReq),
+    ("AI", DaclWord::AutoInherited),
+    ("NO_ACCESS_CONTROL", DaclWord::NoAccessControl),
 ];
 
 /// The descriptor that the text spells ([MS-DTYP] 2.5.1): the whole text, letters of either case.

@@ -17,7 +17,7 @@ const MAX_SUBS: usize = 15;
 const SUB_LIMIT: u64 = 0x1_0000_0000;
 
 /// An identifier authority is below this: it has six bytes ([MS-DTYP] 2.4.2.2, IdentifierAuthority).
-const AUTHORITY_LIMIT: u64 = 0x1_0000_0000_0000;
+pub(crate) const AUTHORITY_LIMIT: u64 = 0x1_0000_0000_0000;
 
 /// The SID that the text spells, in full or by its alias ([MS-DTYP] 2.4.2.1). Takes no memory: an error is
 /// the text's first fault from the left.
