@@ -1,5 +1,5 @@
--- The numbers of the faults, and where a reader's fault stands.
-use Rattle.std.specs.Prelude.{ℕ, List}
+-- The numbers and the names of the faults, and where a reader's fault stands.
+use Rattle.std.specs.Prelude.{ℕ, List, codes}
 use Rattle.sd_text.specs.declared.fault.TextFault.{TextFault}
 use Rattle.sd_text.specs.declared.fault.TextError.{TextError}
 use Rattle.sd_text.specs.declared.fault.TextError.TheVariants.{Fault, Memory}
@@ -16,6 +16,17 @@ number_of UnknownAlias = 5
 number_of DomainAlias = 6
 number_of Range = 7
 number_of AclTooLarge = 8
+
+-- the name by which programs print it
+abbrev pub name_of : TextFault → List ℕ
+name_of Syntax = codes "Syntax"
+name_of HasSacl = codes "HasSacl"
+name_of EntryKind = codes "EntryKind"
+name_of ObjectGuid = codes "ObjectGuid"
+name_of UnknownAlias = codes "UnknownAlias"
+name_of DomainAlias = codes "DomainAlias"
+name_of Range = codes "Range"
+name_of AclTooLarge = codes "AclTooLarge"
 
 -- the error is a fault of the text, at its place, or want of memory
 abbrev pub StandsIn : {A : Type 0} → Grammar A → List ℕ → TextError → Type 0

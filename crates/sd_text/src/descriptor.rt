@@ -2,7 +2,7 @@
 
 ghost use Rattle.std.specs.Prelude.{◌≡◌, Ok, IfOk, IfErr};
 ghost use Rattle.sd_acl.specs.Dacl.{IsAbsent};
-ghost use Rattle.sd_acl.specs.Descriptor.{descriptor_of};
+ghost use Rattle.sd_acl.specs.Descriptor.{DescriptorValue, descriptor_of};
 ghost use Rattle.sd_text.specs.Grammar.{Spells};
 ghost use Rattle.sd_text.specs.Fault.{StandsIn};
 ghost use Rattle.sd_text.specs.Sddl.{sid_section, words, no_words, with_word, dacl_section, no_sacl, sections, sddl};
@@ -51,6 +51,7 @@ static WORDS: [(&str, DaclWord); 4] = [
 pub fn read_sddl(alloc: Global, text: &str) -> Result<Descriptor, TextError>
     ensures value { IfOk result (λ d. Spells sddl text.now (descriptor_of d)) }
     ensures fault { IfErr result (λ e. StandsIn sddl text.now e) }
+    ensures spelled { (d : DescriptorValue) → Spells sddl text.now d → IfErr result (λ e. e ≡ TextError.Memory) }
 {
     let mut cursor = Cursor::new(text);
     match cursor.descriptor(alloc) {

@@ -3,7 +3,7 @@
 ghost use Rattle.std.specs.Prelude.{◌≡◌};
 ghost use Rattle.sd_text.specs.declared.fault.TextError.TheVariants.{Memory};
 ghost use Rattle.sd_text.specs.declared.fault.Stop.TheVariants as stops;
-ghost use Rattle.sd_text.specs.Fault.{number_of};
+ghost use Rattle.sd_text.specs.Fault.{number_of, name_of};
 
 use std::alloc::{AllocError, AllocFailed};
 use thiserror::Error;
@@ -43,6 +43,22 @@ impl TextFault {
             TextFault::DomainAlias => 6,
             TextFault::Range => 7,
             TextFault::AclTooLarge => 8,
+        }
+    }
+
+    /// The fault's name, by which programs print it.
+    pub fn name(self) -> &'static str
+        ensures { result.now ≡ name_of self }
+    {
+        match self {
+            TextFault::Syntax => "Syntax",
+            TextFault::HasSacl => "HasSacl",
+            TextFault::EntryKind => "EntryKind",
+            TextFault::ObjectGuid => "ObjectGuid",
+            TextFault::UnknownAlias => "UnknownAlias",
+            TextFault::DomainAlias => "DomainAlias",
+            TextFault::Range => "Range",
+            TextFault::AclTooLarge => "AclTooLarge",
         }
     }
 }

@@ -1,6 +1,6 @@
 //! The rights field of an entry: [MS-DTYP] 2.5.1.1, ace-rights.
 
-ghost use Rattle.std.specs.Prelude.{IfOk, IfErr, IsErrOf};
+ghost use Rattle.std.specs.Prelude.{◌≡◌, ℕ, Ok, IfOk, IfErr, IsErrOf};
 ghost use Rattle.sd_text.specs.Grammar.{Spells};
 ghost use Rattle.sd_text.specs.Fault.{StandsIn};
 ghost use Rattle.sd_text.specs.Rights.{mask_number, rights, mask_text};
@@ -47,6 +47,7 @@ static RIGHTS: [(&str, u32); 25] = [
 pub fn read_mask(text: &str) -> Result<Mask, TextError>
     ensures value { IfOk result (λ mask. Spells mask_text text.now mask) }
     ensures fault { IfErr result (λ e. StandsIn mask_text text.now e) }
+    ensures spelled { (mask : ℕ) → Spells mask_text text.now mask → result ≡ Ok mask }
     ensures no_memory { ¬ IsErrOf result TextError.Memory }
 {
     let mut cursor = Cursor::new(text);

@@ -1,6 +1,7 @@
 //! SIDs as text: [MS-DTYP] 2.4.2.1.
 
-ghost use Rattle.std.specs.Prelude.{◌≡◌, ◌<◌, ◌^◌, OnOk, IfOk, IfErr, IsErrOf};
+ghost use Rattle.std.specs.Prelude.{◌≡◌, ◌<◌, ◌^◌, Ok, OnOk, IfOk, IfErr, IsErrOf};
+ghost use Rattle.sd_sid.specs.Sid.{SidValue};
 ghost use Rattle.sd_text.specs.Grammar.{Spells};
 ghost use Rattle.sd_text.specs.Fault.{StandsIn};
 ghost use Rattle.sd_text.specs.Sid.{sid_text, sid, authority, sub, subs_of};
@@ -24,6 +25,7 @@ pub(crate) const AUTHORITY_LIMIT: u64 = 0x1_0000_0000_0000;
 pub fn read_sid_text(text: &str) -> Result<Sid, TextError>
     ensures value { IfOk result (λ sid. Spells sid_text text.now sid) }
     ensures fault { IfErr result (λ e. StandsIn sid_text text.now e) }
+    ensures spelled { (sid : SidValue) → Spells sid_text text.now sid → result ≡ Ok sid }
     ensures no_memory { ¬ IsErrOf result TextError.Memory }
 {
     let mut cursor = Cursor::new(text);
