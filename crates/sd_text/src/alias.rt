@@ -38,9 +38,9 @@ pub fn alias_of(sid: &Sid) -> Option<[u8; 2]>
 pub(crate) fn alias_text(sid: &Sid) -> Option<&'static str>
     ensures { option_map (λ letters. letters.now) result ≡ alias_in aliases sid.now }
 {
-    for name in known_aliases() {
-        if name.1.is(sid) {
-            return Some(name.0);
+    for (letters, known) in known_aliases() {
+        if known.is(sid) {
+            return Some(letters);
         }
     }
     None

@@ -14,9 +14,9 @@ impl Cursor<'_> {
         ensures none { IfNone result ((named (rows names.now) self.old.rest.now ≡ None) × (self.new.rest.now ≡ self.old.rest.now)) }
         ensures some { IfSome result (λ x. named (rows names.now) self.old.rest.now ≡ Some (x, self.new.rest.now)) }
     {
-        for name in names {
-            if self.eat(name.0.as_bytes()) {
-                return Some(name.1);
+        for (letters, meaning) in names {
+            if self.eat(letters.as_bytes()) {
+                return Some(*meaning);
             }
         }
         None

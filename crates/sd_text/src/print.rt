@@ -165,8 +165,8 @@ fn write_flags(out: &mut String, flags: AceFlags) -> Result<(), AllocError>
     ensures { OnOk result (string_bytes out.new ≡ string_bytes out.old ++ flags_canon flags.0) }
 {
     let bits = u32::from(flags.bits());
-    for name in flag_names() {
-        write_where(out, bits & name.1 != 0, name.0)?;
+    for (letters, flag) in flag_names() {
+        write_where(out, bits & flag != 0, letters)?;
     }
     Ok(())
 }
@@ -188,9 +188,9 @@ fn write_rights(out: &mut String, mask: Mask) -> Result<(), AllocError>
 fn right_name(bits: u32) -> Option<&'static str>
     ensures { option_map (λ letters. letters.now) result ≡ name_in printed_rights bits }
 {
-    for name in printed_rights() {
-        if name.1 == bits {
-            return Some(name.0);
+    for (letters, mask) in printed_rights() {
+        if *mask == bits {
+            return Some(letters);
         }
     }
     None
