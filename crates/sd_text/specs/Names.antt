@@ -10,9 +10,11 @@ use Rattle.std.specs.Borrow.{Bor}
 abbrev pub Row : Type 0 → Type 0
 Row T = Bor (List ℕ) × T
 
+-- a row as a name of a grammar
 abbrev pub row : {T : Type 0} → Row T → Name T
 row r = record { letters = r.0.now; stands_for = r.1 }
 
+-- the rows of a table
 abbrev pub rows : {T : Type 0} → List (Row T) → List (Name T)
 rows rs = map row rs
 

@@ -117,6 +117,7 @@ impl<'a> Cursor<'a> {
     }
 }
 
+/// Whether the text begins with these letters, one at least, of either case.
 #[tactic(auto, using(crate::proofs::Letters::begins_nothing, crate::proofs::Letters::begins_short))]
 fn begins(text: &[u8], letters: &[u8]) -> bool
     ensures value { result ≡ begins text.now letters.now }
@@ -133,6 +134,7 @@ fn begins(text: &[u8], letters: &[u8]) -> bool
     true
 }
 
+/// Whether the text begins with a digit.
 fn begins_digit(text: &[u8], radix: u32) -> bool
     requires low { 2 ≤ radix }
     requires high { radix ≤ 16 }
