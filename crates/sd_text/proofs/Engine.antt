@@ -1,5 +1,5 @@
 -- What find answers is what the relations say, for each grammar; so a text has one value or one fault.
-use Rattle.std.proofs.Common.{◌≡◌, ℕ, zero, suc, ◌+◌, ◌<◌, ◌≤◌, ◌⊎◌, inl, inr, true, false, List, [], ◌∷◌, ◌++◌, length, drop, take, Some, None, Ok, Err, refl, arith, ap, sym, ◌∙◌, append_assoc}
+use Rattle.std.proofs.Common.{◌≡◌, ℕ, zero, suc, ◌+◌, ◌-◌, ◌<◌, ◌≤◌, ◌⊎◌, inl, inr, true, false, List, [], ◌∷◌, ◌++◌, length, drop, take, Some, None, Ok, Err, refl, arith, ap, sym, ◌∙◌, append_assoc}
 use Rattle.std.specs.Prelude.{nat_lt, not, ◌==◌}
 use Rattle.std.specs.Str.Parse.{digits_value}
 use Rattle.std.proofs.lemmas.Bool.{ltb-true, ltb-false, lt-ltb, le-ltb, eqb-true}
@@ -306,3 +306,11 @@ whole_value {A = A} part text a rest e =
 -- a fault that is found stands at the place where the reader stopped
 pub fault_at : {A : Type 0} (g : Grammar A) (text : List ℕ) (f : TextFault) (there : List ℕ) (place : ℕ) → find g text ≡ Err (f, there) → place + length there ≡ length text → HasFault g text f place
 fault_at g text f there place e at = (there, find_faults g text f there e, at)
+
+-- each text has a value or a fault
+pub value_or_fault : {A : Type 0} (part : Grammar A) (text : List ℕ) → ((a : A) × Spells (whole part) text a) ⊎ ((f : TextFault) × (place : ℕ) × HasFault (whole part) text f place)
+value_or_fault {A = A} part text = by_reading (find (whole part) text) refl
+  where
+    by_reading : (r : Found A) → find (whole part) text ≡ r → ((a : A) × Spells (whole part) text a) ⊎ ((f : TextFault) × (place : ℕ) × HasFault (whole part) text f place)
+    by_reading (Ok x) e = inl (x.0, whole_value part text x.0 x.1 e)
+    by_reading (Err d) e = let le = fault_within (whole part) text d.0 d.1 e in inr (d.0, length text - length d.1, fault_at (whole part) text d.0 d.1 (length text - length d.1) e (omega arith))

@@ -11,27 +11,26 @@ use Rattle.sd_sid.specs.Sid.{SidValue}
 use Rattle.sd_text.specs.declared.alias.WellKnown.{WellKnown}
 use Rattle.sd_text.specs.Alias.{alias_in, same_sid}
 use Rattle.sd_text.specs.Canon.{name_in}
-use Rattle.sd_text.specs.Names.{rows, renamed, well_known}
-use Rattle.sd_text.specs.declared.name.Name.{Name as Row}
+use Rattle.sd_text.specs.Names.{Row, rows, renamed, well_known}
 use Rattle.sd_text.proofs.Parts.{chosen, name_is, found_name, found_is, part_ok}
 use Rattle.sd_text.proofs.Engine.{find_spells}
 use Rattle.sd_text.proofs.Loops.{Reaches, reaches_start, reaches_more, reaches_end}
 
 -- a row, and those behind it
-pub named_at : {T : Type 0} (rs : List (Row T)) (i : ℕ) (r : Row T) (text : List ℕ) → i < length rs → r ≡ get_or rs i r → named (rows (drop i rs)) text ≡ cond (begins text r.letters.now) (Some (r.stands_for, drop (length r.letters.now) text)) (named (rows (drop (i + 1) rs)) text)
+pub named_at : {T : Type 0} (rs : List (Row T)) (i : ℕ) (r : Row T) (text : List ℕ) → i < length rs → r ≡ get_or rs i r → named (rows (drop i rs)) text ≡ cond (begins text r.0.now) (Some (r.1, drop (length r.0.now) text)) (named (rows (drop (i + 1) rs)) text)
 named_at [] i r text lt is = absurd (omega arith)
 named_at (q ∷ rs) zero r text lt is = rw is refl
 named_at (q ∷ rs) (suc i) r text lt is = rw add-one (let h = named_at rs i r text (omega arith) is in rw add-one at h)
 
 -- the same of a table of masks, looked up by the mask
-pub name_at : (rs : List (Row ℕ)) (i : ℕ) (r : Row ℕ) (mask : ℕ) → i < length rs → r ≡ get_or rs i r → name_in (rows (drop i rs)) mask ≡ cond (r.stands_for == mask) (Some r.letters.now) (name_in (rows (drop (i + 1) rs)) mask)
+pub name_at : (rs : List (Row ℕ)) (i : ℕ) (r : Row ℕ) (mask : ℕ) → i < length rs → r ≡ get_or rs i r → name_in (rows (drop i rs)) mask ≡ cond (r.1 == mask) (Some r.0.now) (name_in (rows (drop (i + 1) rs)) mask)
 unfolding name_in
 name_at [] i r mask lt is = absurd (omega arith)
 name_at (q ∷ rs) zero r mask lt is = rw is refl
 name_at (q ∷ rs) (suc i) r mask lt is = rw add-one (let h = name_at rs i r mask (omega arith) is in rw add-one at h)
 
 -- and of the table of aliases, looked up by the SID
-pub alias_at : (rs : List (Row WellKnown)) (i : ℕ) (r : Row WellKnown) (sid : SidValue) → i < length rs → r ≡ get_or rs i r → alias_in (renamed well_known (rows (drop i rs))) sid ≡ cond (same_sid (well_known r.stands_for) sid) (Some r.letters.now) (alias_in (renamed well_known (rows (drop (i + 1) rs))) sid)
+pub alias_at : (rs : List (Row WellKnown)) (i : ℕ) (r : Row WellKnown) (sid : SidValue) → i < length rs → r ≡ get_or rs i r → alias_in (renamed well_known (rows (drop i rs))) sid ≡ cond (same_sid (well_known r.1) sid) (Some r.0.now) (alias_in (renamed well_known (rows (drop (i + 1) rs))) sid)
 unfolding alias_in
 alias_at [] i r sid lt is = absurd (omega arith)
 alias_at (q ∷ rs) zero r sid lt is = rw is refl

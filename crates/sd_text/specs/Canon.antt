@@ -26,6 +26,7 @@ authority_canon n = if nat_lt n (2 ^ 32) then decimal n else codes "0x" ++ repli
 abbrev pub sub_canon : ℕ → List ℕ
 sub_canon n = codes "-" ++ decimal n
 
+-- a SID in full
 unfoldable pub full_canon : SidValue → List ℕ
 full_canon sid = codes "S-1-" ++ authority_canon sid.authority ++ flat_map sub_canon sid.subs
 
@@ -54,13 +55,16 @@ rights_canon mask = unwrap_or (name_in printed_rights mask) (codes "0x" ++ hex m
 abbrev pub flag_canon : ℕ → Name ℕ → List ℕ
 flag_canon flags name = if bit_and flags name.stands_for == 0 then [] else name.letters
 
+-- the names of the flags that are set, in the order of the table
 unfoldable pub flags_canon : ℕ → List ℕ
 flags_canon flags = flat_map (flag_canon flags) flag_names
 
+-- the type of an entry
 abbrev pub kind_canon : AceKind → List ℕ
 kind_canon Allow = codes "A"
 kind_canon Deny = codes "D"
 
+-- an entry
 unfoldable pub entry_canon : Ace → List ℕ
 entry_canon e = codes "(" ++ kind_canon e.kind ++ codes ";" ++ flags_canon e.flags.0 ++ codes ";" ++ rights_canon e.mask ++ codes ";;;" ++ sid_canon e.sid ++ codes ")"
 
@@ -68,9 +72,11 @@ entry_canon e = codes "(" ++ kind_canon e.kind ++ codes ";" ++ flags_canon e.fla
 abbrev pub where_set : Bool → List ℕ → List ℕ
 where_set test letters = if test then letters else []
 
+-- the words of the DACL's section
 unfoldable pub words_canon : DescriptorValue → List ℕ
 words_canon d = where_set d.protected (codes "P") ++ where_set d.auto_req (codes "AR") ++ where_set d.auto_inherited (codes "AI")
 
+-- the DACL's section, where there is a DACL
 abbrev pub dacl_canon : List ℕ → Dacl → List ℕ
 dacl_canon words Absent = []
 dacl_canon words Null = codes "D:" ++ words ++ codes "NO_ACCESS_CONTROL"

@@ -23,6 +23,7 @@ kind = choose (is_type (codes "A")) (word (codes "A") >>= λ u. value Allow)
     (choose (is_type (codes "D")) (word (codes "D") >>= λ u. value Deny)
     (choose begins_letter (refused EntryKind) (refused Syntax)))
 
+-- the names of flags
 abbrev pub flag_names : List (Name ℕ)
 flag_names =
     bits (codes "OI") 0x01 ∷ bits (codes "CI") 0x02 ∷ bits (codes "NP") 0x04 ∷ bits (codes "IO") 0x08

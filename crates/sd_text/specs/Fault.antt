@@ -1,4 +1,4 @@
--- The numbers of the faults, and where a reader's fault stands.
+-- The numbers and the names of the faults, and where a reader's fault stands.
 use Rattle.std.specs.Prelude.{ℕ, List, codes}
 use Rattle.sd_text.specs.declared.fault.TextFault.{TextFault}
 use Rattle.sd_text.specs.declared.fault.TextError.{TextError}
@@ -17,7 +17,7 @@ number_of DomainAlias = 6
 number_of Range = 7
 number_of AclTooLarge = 8
 
--- and its name
+-- the name by which programs print it
 abbrev pub name_of : TextFault → List ℕ
 name_of Syntax = codes "Syntax"
 name_of HasSacl = codes "HasSacl"

@@ -1,5 +1,5 @@
 -- What holds of every text.
-use Rattle.std.specs.Prelude.{◌≡◌, ℕ, ◌^◌, ◌<◌, List, bit_and}
+use Rattle.std.specs.Prelude.{◌≡◌, ℕ, ◌^◌, ◌<◌, ◌⊎◌, List, bit_and}
 use Rattle.std.specs.List.{AllByRecursion}
 use Rattle.sd_sid.specs.Sid.{SidValue, IsSid}
 use Rattle.sd_acl.specs.Descriptor.{DescriptorValue, IsDescriptor}
@@ -17,9 +17,13 @@ use Rattle.sd_text.specs.Grammar.{Grammar, Spells, HasFault}
 abbrev pub HasOneValue : {A : Type 0} → Grammar A → Type 0
 HasOneValue {A = A} grammar = (text : List ℕ) (a b : A) → Spells grammar text a → Spells grammar text b → a ≡ b
 
--- no text has a value and a fault
+-- each text has a value or a fault
 abbrev pub HasValueOrFault : {A : Type 0} → Grammar A → Type 0
-HasValueOrFault {A = A} grammar = (text : List ℕ) (a : A) (fault : TextFault) (place : ℕ) → Spells grammar text a → HasFault grammar text fault place → ⊥
+HasValueOrFault {A = A} grammar = (text : List ℕ) → ((a : A) × Spells grammar text a) ⊎ ((fault : TextFault) × (place : ℕ) × HasFault grammar text fault place)
+
+-- no text has both
+abbrev pub NeverHasBoth : {A : Type 0} → Grammar A → Type 0
+NeverHasBoth {A = A} grammar = (text : List ℕ) (a : A) (fault : TextFault) (place : ℕ) → Spells grammar text a → HasFault grammar text fault place → ⊥
 
 -- no text has two faults, nor one at two places
 abbrev pub HasOneFault : {A : Type 0} → Grammar A → Type 0
@@ -35,12 +39,14 @@ HaveNamedFlags Absent = Unit {0}
 HaveNamedFlags Null = Unit {0}
 HaveNamedFlags (Entries es) = AllByRecursion HasNamedFlags es
 
--- what is printed spells what was printed
+-- the printed text of a descriptor spells it
 abbrev pub DescriptorsComeBack : Type 0
 DescriptorsComeBack = (d : DescriptorValue) → IsDescriptor d → HaveNamedFlags d.dacl → Spells sddl (canon d) d
 
+-- that of a SID spells the SID
 abbrev pub SidsComeBack : Type 0
 SidsComeBack = (sid : SidValue) → IsSid sid → Spells sid_text (sid_canon sid) sid
 
+-- and that of a mask the mask
 abbrev pub MasksComeBack : Type 0
 MasksComeBack = (mask : ℕ) → mask < 2 ^ 32 → Spells mask_text (rights_canon mask) mask

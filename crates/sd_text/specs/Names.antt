@@ -1,15 +1,20 @@
 -- The tables of the code as those of the grammars.
-use Rattle.std.specs.Prelude.{List, [], ◌∷◌, map}
+use Rattle.std.specs.Prelude.{ℕ, List, [], ◌∷◌, map}
 use Rattle.sd_sid.specs.Sid.{SidValue}
 use Rattle.sd_text.specs.declared.alias.WellKnown.{WellKnown}
 use Rattle.sd_text.specs.declared.alias.WellKnown.TheVariants.{One, Builtin, AllPackages}
 use Rattle.sd_text.specs.Grammar.{Name}
-use Rattle.sd_text.specs.declared.name.Name.{Name as Row}
+use Rattle.std.specs.Borrow.{Bor}
 
--- a row of a table
+-- a row of a table: a name, and what it stands for
+abbrev pub Row : Type 0 → Type 0
+Row T = Bor (List ℕ) × T
+
+-- a row as a name of a grammar
 abbrev pub row : {T : Type 0} → Row T → Name T
-row r = record { letters = r.letters.now; stands_for = r.stands_for }
+row r = record { letters = r.0.now; stands_for = r.1 }
 
+-- the rows of a table
 abbrev pub rows : {T : Type 0} → List (Row T) → List (Name T)
 rows rs = map row rs
 

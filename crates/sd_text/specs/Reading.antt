@@ -56,13 +56,13 @@ abbrev pub Gives : {X A : Type 0} → (X → A) → Result X TextFault → List 
 Gives view (Ok x) rest found = found ≡ Ok (view x, rest)
 Gives view (Err fault) rest found = found ≡ Err (fault, rest)
 
--- the number is n, or from the limit on where n is
-pub record IsCapped (limit number n : ℕ) : Type 0 where
-  pub below : number < limit → number ≡ n
-  pub above : limit ≤ number → limit ≤ n
-
 -- the same of a reader that takes memory, and may stop for want of it
 abbrev pub GivesUnlessMemory : {X A : Type 0} → (X → A) → Result X Stop → List ℕ → Found A → Type 0
 GivesUnlessMemory view (Ok x) rest found = found ≡ Ok (view x, rest)
 GivesUnlessMemory view (Err (Fault fault)) rest found = found ≡ Err (fault, rest)
 GivesUnlessMemory view (Err Memory) rest found = Unit {0}
+
+-- the number is n, or from the limit on where n is
+pub record IsCapped (limit number n : ℕ) : Type 0 where
+  pub below : number < limit → number ≡ n
+  pub above : limit ≤ number → limit ≤ n

@@ -6,6 +6,7 @@ use Rattle.sd_text.specs.Grammar.{Grammar, Name, choose, number, run, begins, be
 abbrev pub bits : List ℕ → ℕ → Name ℕ
 bits letters mask = record { letters = letters; stands_for = mask }
 
+-- the names of rights
 abbrev pub right_names : List (Name ℕ)
 right_names =
     bits (codes "GA") 0x10000000 ∷ bits (codes "GR") 0x80000000 ∷ bits (codes "GW") 0x40000000 ∷ bits (codes "GX") 0x20000000

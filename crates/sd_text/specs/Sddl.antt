@@ -20,6 +20,7 @@ sid_section head = choose (λ text. begins text head) (word head >>= λ u. sid >
 abbrev pub dacl_word : List ℕ → DaclWord → Name DaclWord
 dacl_word letters meaning = record { letters = letters; stands_for = meaning }
 
+-- the words of a DACL's section
 abbrev pub dacl_words : List (Name DaclWord)
 dacl_words = dacl_word (codes "P") Protected ∷ dacl_word (codes "AR") AutoReq ∷ dacl_word (codes "AI") AutoInherited ∷ dacl_word (codes "NO_ACCESS_CONTROL") NoAccessControl ∷ []
 

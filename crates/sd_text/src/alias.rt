@@ -10,7 +10,6 @@ ghost use Rattle.sd_text.specs.Reading.{Gives, find};
 
 use crate::cursor::Cursor;
 use crate::fault::TextFault;
-use crate::name::Name;
 use sd_sid::Sid;
 
 /// A well-known SID ([MS-DTYP] 2.4.2.4).
@@ -39,9 +38,9 @@ pub fn alias_of(sid: &Sid) -> Option<[u8; 2]>
 pub(crate) fn alias_text(sid: &Sid) -> Option<&'static str>
     ensures { option_map (λ letters. letters.now) result ≡ alias_in aliases sid.now }
 {
-    for name in known_aliases() {
-        if name.stands_for.is(sid) {
-            return Some(name.letters);
+    for (letters, known) in known_aliases() {
+        if known.is(sid) {
+            return Some(letters);
         }
     }
     None
@@ -72,6 +71,7 @@ impl WellKnown {
     }
 }
 
+/// The SID of these parts.
 #[tactic(auto, using(crate::proofs::Sids::sid_made, crate::proofs::Sids::the_sid))]
 fn made(authority: u8, subs: &[u32]) -> Sid
     requires some { 0 < length subs.now }
@@ -82,202 +82,64 @@ fn made(authority: u8, subs: &[u32]) -> Sid
 }
 
 /// The aliases, and the SIDs that they stand for.
-static ALIASES: [Name<WellKnown>; 34] = [
-    Name {
-        letters: "WD",
-        stands_for: WellKnown::One(1, 0),
-    },
-    Name {
-        letters: "CO",
-        stands_for: WellKnown::One(3, 0),
-    },
-    Name {
-        letters: "CG",
-        stands_for: WellKnown::One(3, 1),
-    },
-    Name {
-        letters: "OW",
-        stands_for: WellKnown::One(3, 4),
-    },
-    Name {
-        letters: "NU",
-        stands_for: WellKnown::One(5, 2),
-    },
-    Name {
-        letters: "IU",
-        stands_for: WellKnown::One(5, 4),
-    },
-    Name {
-        letters: "SU",
-        stands_for: WellKnown::One(5, 6),
-    },
-    Name {
-        letters: "AN",
-        stands_for: WellKnown::One(5, 7),
-    },
-    Name {
-        letters: "ED",
-        stands_for: WellKnown::One(5, 9),
-    },
-    Name {
-        letters: "PS",
-        stands_for: WellKnown::One(5, 10),
-    },
-    Name {
-        letters: "AU",
-        stands_for: WellKnown::One(5, 11),
-    },
-    Name {
-        letters: "RC",
-        stands_for: WellKnown::One(5, 12),
-    },
-    Name {
-        letters: "SY",
-        stands_for: WellKnown::One(5, 18),
-    },
-    Name {
-        letters: "LS",
-        stands_for: WellKnown::One(5, 19),
-    },
-    Name {
-        letters: "NS",
-        stands_for: WellKnown::One(5, 20),
-    },
-    Name {
-        letters: "AC",
-        stands_for: WellKnown::AllPackages,
-    },
-    Name {
-        letters: "BA",
-        stands_for: WellKnown::Builtin(544),
-    },
-    Name {
-        letters: "BU",
-        stands_for: WellKnown::Builtin(545),
-    },
-    Name {
-        letters: "BG",
-        stands_for: WellKnown::Builtin(546),
-    },
-    Name {
-        letters: "PU",
-        stands_for: WellKnown::Builtin(547),
-    },
-    Name {
-        letters: "AO",
-        stands_for: WellKnown::Builtin(548),
-    },
-    Name {
-        letters: "SO",
-        stands_for: WellKnown::Builtin(549),
-    },
-    Name {
-        letters: "PO",
-        stands_for: WellKnown::Builtin(550),
-    },
-    Name {
-        letters: "BO",
-        stands_for: WellKnown::Builtin(551),
-    },
-    Name {
-        letters: "RE",
-        stands_for: WellKnown::Builtin(552),
-    },
-    Name {
-        letters: "RU",
-        stands_for: WellKnown::Builtin(554),
-    },
-    Name {
-        letters: "RD",
-        stands_for: WellKnown::Builtin(555),
-    },
-    Name {
-        letters: "NO",
-        stands_for: WellKnown::Builtin(556),
-    },
-    Name {
-        letters: "MU",
-        stands_for: WellKnown::Builtin(558),
-    },
-    Name {
-        letters: "LU",
-        stands_for: WellKnown::Builtin(559),
-    },
-    Name {
-        letters: "IS",
-        stands_for: WellKnown::Builtin(568),
-    },
-    Name {
-        letters: "CY",
-        stands_for: WellKnown::Builtin(569),
-    },
-    Name {
-        letters: "ER",
-        stands_for: WellKnown::Builtin(573),
-    },
-    Name {
-        letters: "CD",
-        stands_for: WellKnown::Builtin(574),
-    },
+static ALIASES: [(&str, WellKnown); 34] = [
+    ("WD", WellKnown::One(1, 0)),
+    ("CO", WellKnown::One(3, 0)),
+    ("CG", WellKnown::One(3, 1)),
+    ("OW", WellKnown::One(3, 4)),
+    ("NU", WellKnown::One(5, 2)),
+    ("IU", WellKnown::One(5, 4)),
+    ("SU", WellKnown::One(5, 6)),
+    ("AN", WellKnown::One(5, 7)),
+    ("ED", WellKnown::One(5, 9)),
+    ("PS", WellKnown::One(5, 10)),
+    ("AU", WellKnown::One(5, 11)),
+    ("RC", WellKnown::One(5, 12)),
+    ("SY", WellKnown::One(5, 18)),
+    ("LS", WellKnown::One(5, 19)),
+    ("NS", WellKnown::One(5, 20)),
+    ("AC", WellKnown::AllPackages),
+    ("BA", WellKnown::Builtin(544)),
+    ("BU", WellKnown::Builtin(545)),
+    ("BG", WellKnown::Builtin(546)),
+    ("PU", WellKnown::Builtin(547)),
+    ("AO", WellKnown::Builtin(548)),
+    ("SO", WellKnown::Builtin(549)),
+    ("PO", WellKnown::Builtin(550)),
+    ("BO", WellKnown::Builtin(551)),
+    ("RE", WellKnown::Builtin(552)),
+    ("RU", WellKnown::Builtin(554)),
+    ("RD", WellKnown::Builtin(555)),
+    ("NO", WellKnown::Builtin(556)),
+    ("MU", WellKnown::Builtin(558)),
+    ("LU", WellKnown::Builtin(559)),
+    ("IS", WellKnown::Builtin(568)),
+    ("CY", WellKnown::Builtin(569)),
+    ("ER", WellKnown::Builtin(573)),
+    ("CD", WellKnown::Builtin(574)),
 ];
 
 #[tactic(auto, unfolding(crate::specs::Alias::aliases))]
-fn known_aliases() -> &'static [Name<WellKnown>]
+fn known_aliases() -> &'static [(&'static str, WellKnown)]
     ensures { renamed well_known (rows result.now) ≡ aliases }
 {
     &ALIASES
 }
 
 /// The aliases that only a domain could resolve.
-static DOMAIN_ALIASES: [Name<()>; 12] = [
-    Name {
-        letters: "DA",
-        stands_for: (),
-    },
-    Name {
-        letters: "DU",
-        stands_for: (),
-    },
-    Name {
-        letters: "DG",
-        stands_for: (),
-    },
-    Name {
-        letters: "DC",
-        stands_for: (),
-    },
-    Name {
-        letters: "DD",
-        stands_for: (),
-    },
-    Name {
-        letters: "CA",
-        stands_for: (),
-    },
-    Name {
-        letters: "RS",
-        stands_for: (),
-    },
-    Name {
-        letters: "EA",
-        stands_for: (),
-    },
-    Name {
-        letters: "SA",
-        stands_for: (),
-    },
-    Name {
-        letters: "PA",
-        stands_for: (),
-    },
-    Name {
-        letters: "LA",
-        stands_for: (),
-    },
-    Name {
-        letters: "LG",
-        stands_for: (),
-    },
+static DOMAIN_ALIASES: [(&str, ()); 12] = [
+    ("DA", ()),
+    ("DU", ()),
+    ("DG", ()),
+    ("DC", ()),
+    ("DD", ()),
+    ("CA", ()),
+    ("RS", ()),
+    ("EA", ()),
+    ("SA", ()),
+    ("PA", ()),
+    ("LA", ()),
+    ("LG", ()),
 ];
 
 impl Cursor<'_> {

@@ -8,6 +8,7 @@ ghost use Rattle.sd_text.specs.Reading.{Gives, find, digits_len, IsCapped};
 
 use crate::fault::TextFault;
 
+/// What is left of a text.
 #[derive(Drop)]
 pub(crate) struct Cursor<'a> {
     pub(crate) rest: &'a [u8],
@@ -39,6 +40,7 @@ impl<'a> Cursor<'a> {
         begins(self.rest, letters)
     }
 
+    /// Whether a digit stands here.
     pub(crate) fn begins_digit(&self, radix: u32) -> bool
         requires low { 2 ≤ radix }
         requires high { radix ≤ 16 }
@@ -115,6 +117,7 @@ impl<'a> Cursor<'a> {
     }
 }
 
+/// Whether the text begins with these letters, one at least, of either case.
 #[tactic(auto, using(crate::proofs::Letters::begins_nothing, crate::proofs::Letters::begins_short))]
 fn begins(text: &[u8], letters: &[u8]) -> bool
     ensures value { result ≡ begins text.now letters.now }
@@ -131,6 +134,7 @@ fn begins(text: &[u8], letters: &[u8]) -> bool
     true
 }
 
+/// Whether the text begins with a digit.
 fn begins_digit(text: &[u8], radix: u32) -> bool
     requires low { 2 ≤ radix }
     requires high { radix ≤ 16 }

@@ -2,7 +2,7 @@
 
 ghost use Rattle.std.specs.Prelude.{◌≡◌, Ok, IfOk, IfErr};
 ghost use Rattle.sd_acl.specs.Dacl.{IsAbsent};
-ghost use Rattle.sd_acl.specs.Descriptor.{descriptor_of};
+ghost use Rattle.sd_acl.specs.Descriptor.{DescriptorValue, descriptor_of};
 ghost use Rattle.sd_text.specs.Grammar.{Spells};
 ghost use Rattle.sd_text.specs.Fault.{StandsIn};
 ghost use Rattle.sd_text.specs.Sddl.{sid_section, words, no_words, with_word, dacl_section, no_sacl, sections, sddl};
@@ -10,7 +10,6 @@ ghost use Rattle.sd_text.specs.Reading.{Gives, GivesUnlessMemory, find};
 
 use crate::cursor::Cursor;
 use crate::fault::{Stop, TextError, TextFault};
-use crate::name::Name;
 use sd_acl::{Dacl, Descriptor};
 use sd_sid::Sid;
 use std::alloc::Global;
@@ -40,23 +39,11 @@ pub(crate) struct DaclPart {
     pub(crate) words: DaclWords,
 }
 
-static WORDS: [Name<DaclWord>; 4] = [
-    Name {
-        letters: "P",
-        stands_for: DaclWord::Protected,
-    },
-    Name {
-        letters: "AR",
-        stands_for: DaclWord::AutoReq,
-    },
-    Name {
-        letters: "AI",
-        stands_for: DaclWord::AutoInherited,
-    },
-    Name {
-        letters: "NO_ACCESS_CONTROL",
-        stands_for: DaclWord::NoAccessControl,
-    },
+static WORDS: [(&str, DaclWord); 4] = [
+    ("P", DaclWord::Protected),
+    ("AR", DaclWord::AutoReq),
+    ("AI", DaclWord::AutoInherited),
+    ("NO_ACCESS_CONTROL", DaclWord::NoAccessControl),
 ];
 
 /// The descriptor that the text spells ([MS-DTYP] 2.5.1): the whole text, letters of either case.
@@ -64,6 +51,7 @@ static WORDS: [Name<DaclWord>; 4] = [
 pub fn read_sddl(alloc: Global, text: &str) -> Result<Descriptor, TextError>
     ensures value { IfOk result (λ d. Spells sddl text.now (descriptor_of d)) }
     ensures fault { IfErr result (λ e. StandsIn sddl text.now e) }
+    ensures spelled { (d : DescriptorValue) → Spells sddl text.now d → IfErr result (λ e. e ≡ TextError.Memory) }
 {
     let mut cursor = Cursor::new(text);
     match cursor.descriptor(alloc) {

@@ -9,7 +9,6 @@ ghost use Rattle.sd_text.specs.Reading.{Gives, GivesUnlessMemory, find};
 
 use crate::cursor::Cursor;
 use crate::fault::{Stop, TextFault};
-use crate::name::Name;
 use bitflags::Flags;
 use sd_acl::{Ace, AceFlags, AceKind, AceList};
 use std::alloc::Global;
@@ -21,38 +20,17 @@ pub(crate) const EMPTY_ACL_BYTES: u64 = 8;
 const MAX_ACL_BYTES: u64 = 0xFFFF;
 
 /// The names of flags ([MS-DTYP] 2.4.4.1, AceFlags).
-static FLAGS: [Name<u32>; 7] = [
-    Name {
-        letters: "OI",
-        stands_for: 0x01,
-    },
-    Name {
-        letters: "CI",
-        stands_for: 0x02,
-    },
-    Name {
-        letters: "NP",
-        stands_for: 0x04,
-    },
-    Name {
-        letters: "IO",
-        stands_for: 0x08,
-    },
-    Name {
-        letters: "ID",
-        stands_for: 0x10,
-    },
-    Name {
-        letters: "SA",
-        stands_for: 0x40,
-    },
-    Name {
-        letters: "FA",
-        stands_for: 0x80,
-    },
+static FLAGS: [(&str, u32); 7] = [
+    ("OI", 0x01),
+    ("CI", 0x02),
+    ("NP", 0x04),
+    ("IO", 0x08),
+    ("ID", 0x10),
+    ("SA", 0x40),
+    ("FA", 0x80),
 ];
 
-pub(crate) fn flag_names() -> &'static [Name<u32>]
+pub(crate) fn flag_names() -> &'static [(&'static str, u32)]
     ensures { rows result.now ≡ flag_names }
 {
     &FLAGS

@@ -46,7 +46,7 @@ impl TextFault {
         }
     }
 
-    /// The fault's name.
+    /// The fault's name, by which programs print it.
     pub fn name(self) -> &'static str
         ensures { result.now ≡ name_of self }
     {

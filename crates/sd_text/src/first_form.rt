@@ -11,13 +11,13 @@ ghost use Rattle.sd_text.specs.Reading.{Gives, GivesUnlessMemory, find};
 use crate::cursor::Cursor;
 use crate::entry::EMPTY_ACL_BYTES;
 use crate::fault::{Stop, TextError, TextFault};
+use crate::sid::AUTHORITY_LIMIT;
 use bitflags::Flags;
 use sd_acl::{Ace, AceFlags, AceKind, AceList};
 use sd_sid::{Mask, Sid};
 use std::alloc::Global;
 
-const AUTHORITY_LIMIT: u64 = 0x1_0000_0000_0000;
-
+/// A mask of the plain form is below this: it has the standard rights and the object's own.
 const MASK_LIMIT: u64 = 0x20_0000;
 
 impl Cursor<'_> {
@@ -62,7 +62,7 @@ impl Cursor<'_> {
         }
         self.word(b"S-1-")?;
         let authority = self.number(0, 10, AUTHORITY_LIMIT)?;
-        Ok(self.subs_of(authority)?)
+        self.subs_of(authority)
     }
 
     #[tactic(auto, unfolding(crate::specs::FirstForm::first_entry))]
@@ -77,7 +77,7 @@ impl Cursor<'_> {
         self.word(b";;;")?;
         let sid = self.first_sid()?;
         let flags = AceFlags::empty();
-        Ok(self.entry_end(
+        self.entry_end(
             size,
             Ace {
                 kind,
@@ -85,7 +85,7 @@ impl Cursor<'_> {
                 mask,
                 sid,
             },
-        )?)
+        )
     }
 
     fn first_entries(&mut self, alloc: Global) -> Result<AceList, Stop>

@@ -1,6 +1,6 @@
 //! What holds of every text. Each law is the contract of a function that does nothing.
 
-ghost use Rattle.sd_text.specs.Laws.{HasOneValue, HasValueOrFault, HasOneFault, DescriptorsComeBack, SidsComeBack, MasksComeBack};
+ghost use Rattle.sd_text.specs.Laws.{HasOneValue, HasValueOrFault, NeverHasBoth, HasOneFault, DescriptorsComeBack, SidsComeBack, MasksComeBack};
 ghost use Rattle.sd_text.specs.Rights.{mask_text};
 ghost use Rattle.sd_text.specs.Sddl.{sddl};
 ghost use Rattle.sd_text.specs.Sid.{sid_text};
@@ -12,11 +12,18 @@ pub fn texts_have_one_value()
     ensures masks { HasOneValue mask_text }
 {}
 
-/// A text that spells something has no fault.
+/// Each text spells something or has a fault.
 pub fn texts_have_a_value_or_a_fault()
     ensures descriptors { HasValueOrFault sddl }
     ensures sids { HasValueOrFault sid_text }
     ensures masks { HasValueOrFault mask_text }
+{}
+
+/// A text that spells something has no fault.
+pub fn texts_never_have_both()
+    ensures descriptors { NeverHasBoth sddl }
+    ensures sids { NeverHasBoth sid_text }
+    ensures masks { NeverHasBoth mask_text }
 {}
 
 /// A text has one fault at most, at one place.

@@ -1,4 +1,14 @@
-//! Security descriptors as text, in the security descriptor definition language of [MS-DTYP] 2.5.1.
+//! Security descriptors as text, in the security descriptor definition language (SDDL) of [MS-DTYP] 2.5.1.
+//!
+//! Texts of descriptors, of SIDs and of access masks are read and printed. A text is read in one pass, and
+//! refused at its first fault, whose byte is told. What is read is what the grammar in specs/ says, no more
+//! and no less; each value has one printed text, which is read as the value again.
+//!
+//! ```text
+//! let descriptor = read_sddl(alloc, "o:s-1-5-18d:(a;;0x1f01ff;;;wd)")?;
+//! print_sddl(alloc, &descriptor)?; // O:SYD:(A;;FA;;;WD)
+//! read_sid_text("DA");             // a fault: DomainAlias at 0
+//! ```
 #![tactic(auto)]
 
 mod alias;

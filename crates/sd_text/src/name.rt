@@ -1,4 +1,4 @@
-//! Tables of names, and the names that stand in a text.
+//! The names of a table that stand in a text. A row of a table is a name and what it stands for.
 
 ghost use Rattle.std.specs.Prelude.{◌≡◌, IfNone, IfSome, Some, None, Ok, fold};
 ghost use Rattle.sd_text.specs.Grammar.{named};
@@ -8,29 +8,22 @@ ghost use Rattle.sd_text.specs.Reading.{find};
 
 use crate::cursor::Cursor;
 
-/// A name, and what it stands for.
-#[derive(Clone, Copy)]
-pub(crate) struct Name<T> {
-    pub(crate) letters: &'static str,
-    pub(crate) stands_for: T,
-}
-
 impl Cursor<'_> {
     /// What the first name of the table that stands here stands for; it is left behind then.
-    pub(crate) fn name<T: Copy>(&mut self, names: &[Name<T>]) -> Option<T>
+    pub(crate) fn name<T: Copy>(&mut self, names: &[(&str, T)]) -> Option<T>
         ensures none { IfNone result ((named (rows names.now) self.old.rest.now ≡ None) × (self.new.rest.now ≡ self.old.rest.now)) }
         ensures some { IfSome result (λ x. named (rows names.now) self.old.rest.now ≡ Some (x, self.new.rest.now)) }
     {
-        for name in names {
-            if self.eat(name.letters.as_bytes()) {
-                return Some(name.stands_for);
+        for (letters, meaning) in names {
+            if self.eat(letters.as_bytes()) {
+                return Some(*meaning);
             }
         }
         None
     }
 
     /// A run of names, perhaps none, whose bits are joined.
-    pub(crate) fn bits_of(&mut self, names: &[Name<u32>]) -> u32
+    pub(crate) fn bits_of(&mut self, names: &[(&str, u32)]) -> u32
         ensures { find (bits_of (rows names.now)) self.old.rest.now ≡ Ok (result, self.new.rest.now) }
     {
         let mut bits = 0;

@@ -7,75 +7,32 @@ ghost use Rattle.sd_text.specs.Canon.{authority_canon, full_canon, sid_canon, pr
 
 use crate::alias::alias_text;
 use crate::entry::flag_names;
-use crate::name::Name;
 use bitflags::Flags;
 use sd_acl::{Ace, AceFlags, AceKind, Dacl, Descriptor};
 use sd_sid::{Mask, Sid};
 use std::alloc::{AllocError, Global};
 
 /// The names by which whole masks are printed ([MS-DTYP] 2.5.1.1, ace-rights).
-static PRINTED_RIGHTS: [Name<u32>; 15] = [
-    Name {
-        letters: "FA",
-        stands_for: 0x001F_01FF,
-    },
-    Name {
-        letters: "FR",
-        stands_for: 0x0012_0089,
-    },
-    Name {
-        letters: "FW",
-        stands_for: 0x0012_0116,
-    },
-    Name {
-        letters: "FX",
-        stands_for: 0x0012_00A0,
-    },
-    Name {
-        letters: "KA",
-        stands_for: 0x000F_003F,
-    },
-    Name {
-        letters: "KR",
-        stands_for: 0x0002_0019,
-    },
-    Name {
-        letters: "KW",
-        stands_for: 0x0002_0006,
-    },
-    Name {
-        letters: "GA",
-        stands_for: 0x1000_0000,
-    },
-    Name {
-        letters: "GR",
-        stands_for: 0x8000_0000,
-    },
-    Name {
-        letters: "GW",
-        stands_for: 0x4000_0000,
-    },
-    Name {
-        letters: "GX",
-        stands_for: 0x2000_0000,
-    },
-    Name {
-        letters: "SD",
-        stands_for: 0x0001_0000,
-    },
-    Name {
-        letters: "RC",
-        stands_for: 0x0002_0000,
-    },
-    Name {
-        letters: "WD",
-        stands_for: 0x0004_0000,
-    },
-    Name {
-        letters: "WO",
-        stands_for: 0x0008_0000,
-    },
+static PRINTED_RIGHTS: [(&str, u32); 15] = [
+    ("FA", 0x001F_01FF),
+    ("FR", 0x0012_0089),
+    ("FW", 0x0012_0116),
+    ("FX", 0x0012_00A0),
+    ("KA", 0x000F_003F),
+    ("KR", 0x0002_0019),
+    ("KW", 0x0002_0006),
+    ("GA", 0x1000_0000),
+    ("GR", 0x8000_0000),
+    ("GW", 0x4000_0000),
+    ("GX", 0x2000_0000),
+    ("SD", 0x0001_0000),
+    ("RC", 0x0002_0000),
+    ("WD", 0x0004_0000),
+    ("WO", 0x0008_0000),
 ];
+
+/// An authority below this is printed in decimal ([MS-DTYP] 2.4.2.1).
+const DECIMAL_LIMIT: u64 = 0x1_0000_0000;
 
 /// The canonical text of a descriptor ([MS-DTYP] 2.5.1). Fails only for want of memory. What it prints,
 /// `read_sddl` reads as the same descriptor, where no entry has a flag outside the seven named ones.
@@ -139,7 +96,7 @@ fn write_authority(out: &mut String, authority: u64) -> Result<(), AllocError>
     requires { authority < 2 ^ 48 }
     ensures { OnOk result (string_bytes out.new ≡ string_bytes out.old ++ authority_canon authority) }
 {
-    if authority < 0x1_0000_0000 {
+    if authority < DECIMAL_LIMIT {
         write!(out, "{authority}")
     } else {
         write!(out, "0x{authority:012x}")
@@ -208,8 +165,8 @@ fn write_flags(out: &mut String, flags: AceFlags) -> Result<(), AllocError>
     ensures { OnOk result (string_bytes out.new ≡ string_bytes out.old ++ flags_canon flags.0) }
 {
     let bits = u32::from(flags.bits());
-    for name in flag_names() {
-        write_where(out, bits & name.stands_for != 0, name.letters)?;
+    for (letters, flag) in flag_names() {
+        write_where(out, bits & flag != 0, letters)?;
     }
     Ok(())
 }
@@ -231,16 +188,16 @@ fn write_rights(out: &mut String, mask: Mask) -> Result<(), AllocError>
 fn right_name(bits: u32) -> Option<&'static str>
     ensures { option_map (λ letters. letters.now) result ≡ name_in printed_rights bits }
 {
-    for name in printed_rights() {
-        if name.stands_for == bits {
-            return Some(name.letters);
+    for (letters, mask) in printed_rights() {
+        if *mask == bits {
+            return Some(letters);
         }
     }
     None
 }
 
 #[tactic(auto, unfolding(crate::specs::Canon::printed_rights))]
-fn printed_rights() -> &'static [Name<u32>]
+fn printed_rights() -> &'static [(&'static str, u32)]
     ensures { rows result.now ≡ printed_rights }
 {
     &PRINTED_RIGHTS

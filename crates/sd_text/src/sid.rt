@@ -1,6 +1,7 @@
 //! SIDs as text: [MS-DTYP] 2.4.2.1.
 
-ghost use Rattle.std.specs.Prelude.{◌≡◌, ◌<◌, ◌^◌, OnOk, IfOk, IfErr, IsErrOf};
+ghost use Rattle.std.specs.Prelude.{◌≡◌, ◌<◌, ◌^◌, Ok, OnOk, IfOk, IfErr, IsErrOf};
+ghost use Rattle.sd_sid.specs.Sid.{SidValue};
 ghost use Rattle.sd_text.specs.Grammar.{Spells};
 ghost use Rattle.sd_text.specs.Fault.{StandsIn};
 ghost use Rattle.sd_text.specs.Sid.{sid_text, sid, authority, sub, subs_of};
@@ -17,13 +18,14 @@ const MAX_SUBS: usize = 15;
 const SUB_LIMIT: u64 = 0x1_0000_0000;
 
 /// An identifier authority is below this: it has six bytes ([MS-DTYP] 2.4.2.2, IdentifierAuthority).
-const AUTHORITY_LIMIT: u64 = 0x1_0000_0000_0000;
+pub(crate) const AUTHORITY_LIMIT: u64 = 0x1_0000_0000_0000;
 
 /// The SID that the text spells, in full or by its alias ([MS-DTYP] 2.4.2.1). Takes no memory: an error is
 /// the text's first fault from the left.
 pub fn read_sid_text(text: &str) -> Result<Sid, TextError>
     ensures value { IfOk result (λ sid. Spells sid_text text.now sid) }
     ensures fault { IfErr result (λ e. StandsIn sid_text text.now e) }
+    ensures spelled { (sid : SidValue) → Spells sid_text text.now sid → result ≡ Ok sid }
     ensures no_memory { ¬ IsErrOf result TextError.Memory }
 {
     let mut cursor = Cursor::new(text);

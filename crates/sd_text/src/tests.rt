@@ -14,8 +14,8 @@ fn printed(alloc: Global, text: &str) -> Result<String, AllocError> {
 fn shown(alloc: Global, e: TextError) -> Result<String, AllocError> {
     match e {
         TextError::Fault { fault, place } => {
-            let number = fault.number();
-            format!(in alloc; "{number} {fault:?} at {place}")
+            let (number, name) = (fault.number(), fault.name());
+            format!(in alloc; "{number} {name} at {place}")
         }
         TextError::Memory => String::from_str(alloc, "memory"),
     }

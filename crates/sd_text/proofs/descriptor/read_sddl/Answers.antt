@@ -1,7 +1,7 @@
 use Rattle.std.proofs.Common.{sym}
 use Rattle.sd_acl.specs.Descriptor.{descriptor_of}
 use Rattle.sd_text.specs.Sddl.{sddl, sections}
-use Rattle.sd_text.proofs.Engine.{whole_value, fault_within, fault_at}
+use Rattle.sd_text.proofs.Engine.{no_fault, whole_value, fault_within, fault_at}
 use Rattle.sd_text.proofs.descriptor.read_sddl.Goals as goal
 
 pub place-requires : goal.place-requires
@@ -12,3 +12,6 @@ returns-in-Ok-clause-value c = whole_value sections c.args.text.now (descriptor_
 
 pub returns-in-Err-Fault-clause-fault : goal.returns-in-Err-Fault-clause-fault
 returns-in-Err-Fault-clause-fault c = let e = rw c.in-Err-Fault.field-0-is at c.in-Err-Fault.ensures in fault_at sddl c.args.text.now c.in-Err-Fault.fault c.descriptor.new.self.rest.now c.place.result (rw (sym c.new-cursor.ensures) e) c.place.ensures
+
+pub returns-in-Err-Fault-clause-spelled : goal.returns-in-Err-Fault-clause-spelled
+returns-in-Err-Fault-clause-spelled c d spells = let e = rw c.in-Err-Fault.field-0-is at c.in-Err-Fault.ensures in absurd (no_fault sddl c.args.text.now d c.in-Err-Fault.fault c.place.result spells (fault_at sddl c.args.text.now c.in-Err-Fault.fault c.descriptor.new.self.rest.now c.place.result (rw (sym c.new-cursor.ensures) e) c.place.ensures))

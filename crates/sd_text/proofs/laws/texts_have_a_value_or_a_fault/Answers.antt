@@ -1,8 +1,8 @@
-use Rattle.sd_text.specs.Rights.{mask_text}
-use Rattle.sd_text.specs.Sddl.{sddl}
-use Rattle.sd_text.specs.Sid.{sid_text}
-use Rattle.sd_text.proofs.Engine.{no_fault}
+use Rattle.sd_text.specs.Rights.{rights}
+use Rattle.sd_text.specs.Sddl.{sections}
+use Rattle.sd_text.specs.Sid.{sid}
+use Rattle.sd_text.proofs.Engine.{value_or_fault}
 use Rattle.sd_text.proofs.laws.texts_have_a_value_or_a_fault.Goals as goal
 
 pub returns : goal.returns
-returns c = record { descriptors = no_fault sddl; sids = no_fault sid_text; masks = no_fault mask_text }
+returns c = record { descriptors = value_or_fault sections; sids = value_or_fault sid; masks = value_or_fault rights }

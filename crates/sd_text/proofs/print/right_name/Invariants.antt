@@ -4,8 +4,8 @@ use Rattle.sd_text.specs.Names.{rows}
 use Rattle.sd_text.proofs.print.right_name.Given as goal
 
 -- none of the names so far is for just these bits
-abbrev pub invariant-loop-name : goal.invariant-loop-name
-invariant-loop-name l = record {
-  table : rows l.name-items ≡ printed_rights;
-  none : name_in printed_rights l.bits ≡ name_in (rows (drop l.name-index l.name-items)) l.bits;
+abbrev pub invariant-loop-letters : goal.invariant-loop-letters
+invariant-loop-letters l = record {
+  table : rows l.letters-items ≡ printed_rights;
+  none : name_in printed_rights l.bits ≡ name_in (rows (drop l.letters-index l.letters-items)) l.bits;
 }

@@ -6,8 +6,8 @@ use Rattle.sd_text.specs.Names.{rows}
 use Rattle.sd_text.proofs.print.write_flags.Given as goal
 
 -- the flags so far have been printed
-abbrev pub invariant-loop-name : goal.invariant-loop-name
-invariant-loop-name l = record {
-  table : rows l.name-items ≡ flag_names;
-  printed : string_bytes l.out ≡ string_bytes l.fn.out ++ flat_map (flag_canon l.bits) (rows (take l.name-index l.name-items));
+abbrev pub invariant-loop-letters : goal.invariant-loop-letters
+invariant-loop-letters l = record {
+  table : rows l.letters-items ≡ flag_names;
+  printed : string_bytes l.out ≡ string_bytes l.fn.out ++ flat_map (flag_canon l.bits) (rows (take l.letters-index l.letters-items));
 }

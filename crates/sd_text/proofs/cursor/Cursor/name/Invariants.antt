@@ -4,8 +4,8 @@ use Rattle.sd_text.specs.Names.{rows}
 use Rattle.sd_text.proofs.cursor.Cursor.name.Given as goal
 
 -- none of the rows so far stands there
-abbrev pub invariant-loop-name : goal.invariant-loop-name
-invariant-loop-name g l = record {
+abbrev pub invariant-loop-letters : goal.invariant-loop-letters
+invariant-loop-letters g l = record {
   still : l.self.rest.now ≡ l.fn.self.rest.now;
-  none : named (rows l.names) l.fn.self.rest.now ≡ named (rows (drop l.name-index l.names)) l.fn.self.rest.now;
+  none : named (rows l.names) l.fn.self.rest.now ≡ named (rows (drop l.letters-index l.names)) l.fn.self.rest.now;
 }
