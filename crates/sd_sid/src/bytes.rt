@@ -41,7 +41,7 @@ pub fn read_sid(bytes: &[u8]) -> Result<(Sid, u64), SidError>
         return Err(SidError::Short);
     }
     let subs = subs_of(bytes, count);
-    let sid = Sid::new(authority_in(bytes), &subs[..count])?;
+    let sid = Sid::new(authority_in(bytes), &subs[..count]).unwrap();
     Ok((sid, size as u64))
 }
 
