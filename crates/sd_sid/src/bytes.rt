@@ -1,10 +1,9 @@
 // SIDs as bytes.
 
-ghost use Rattle.std.specs.Prelude.{◌≡◌, ◌+◌, ◌*◌, ◌<◌, ◌≤◌, ◌^◌, ◌++◌, length, take, drop, slice_index, vec_len, vec_capacity, IfOk, OnOk, OnErr};
-ghost use Rattle.std.specs.Int.{w32, w64, to_be_bytes, to_le_bytes};
+ghost use Rattle.std.specs.Prelude.{◌≡◌, ◌+◌, ◌*◌, ◌<◌, ◌≤◌, ◌^◌, ◌++◌, length, take, vec_len, vec_capacity, IfOk, OnOk, OnErr};
+ghost use Rattle.std.specs.Int.{w32, to_le_bytes};
 ghost use Rattle.std.specs.List.{flat_map};
-ghost use Rattle.sd_sid.specs.Sid.{SidValue, IsSid};
-ghost use Rattle.sd_sid.specs.SidBytes.{u32_at, u32s_at, authority_of, sid_reading, bytes_of_sid, SidsComeBack, SidsStand};
+ghost use Rattle.sd_sid.specs.SidBytes.{u32s_at, authority_of, sid_reading, bytes_of_sid, SidsComeBack, SidsStand};
 
 use crate::sid::{Sid, SidError};
 use std::alloc::{AllocError, Global};

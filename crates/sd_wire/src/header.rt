@@ -1,8 +1,8 @@
 // A descriptor's header: its control bits and its offsets.
 
-ghost use Rattle.std.specs.Prelude.{◌≡◌, ◌+◌, ◌≤◌, ◌<◌, ◌^◌, ◌++◌, cond, length, IfOk, OnOk};
+ghost use Rattle.std.specs.Prelude.{◌≡◌, ◌≤◌, ◌<◌, ◌^◌, ◌++◌, cond, length, OnOk};
 ghost use Rattle.sd_acl.specs.Descriptor.{descriptor_of};
-ghost use Rattle.sd_wire.specs.Reading.{control_read, is_outside, is_set, u16_at};
+ghost use Rattle.sd_wire.specs.Reading.{control_read, is_outside, is_set};
 ghost use Rattle.sd_wire.specs.Writing.{control_of, header_bytes, header_of, is_list, offset_bytes, offset_of};
 
 use crate::fault::WireFault;
