@@ -1,10 +1,9 @@
 // SIDs as bytes.
 
-ghost use Rattle.std.specs.Prelude.{◌≡◌, ◌+◌, ◌*◌, ◌<◌, ◌≤◌, ◌^◌, ◌++◌, length, take, drop, slice_index, IfOk, OnOk};
-ghost use Rattle.std.specs.Int.{w32, w64, to_be_bytes, to_le_bytes};
+ghost use Rattle.std.specs.Prelude.{◌≡◌, ◌+◌, ◌*◌, ◌<◌, ◌≤◌, ◌^◌, ◌++◌, length, take, vec_len, vec_capacity, IfOk, OnOk, OnErr};
+ghost use Rattle.std.specs.Int.{w32, to_le_bytes};
 ghost use Rattle.std.specs.List.{flat_map};
-ghost use Rattle.sd_sid.specs.Sid.{SidValue, IsSid};
-ghost use Rattle.sd_sid.specs.SidBytes.{u32_at, u32s_at, authority_of, sid_reading, bytes_of_sid, SidsComeBack, SidsStand};
+ghost use Rattle.sd_sid.specs.SidBytes.{u32s_at, authority_of, sid_reading, bytes_of_sid, SidsComeBack, SidsStand};
 
 use crate::sid::{Sid, SidError};
 use std::alloc::{AllocError, Global};
@@ -41,7 +40,7 @@ pub fn read_sid(bytes: &[u8]) -> Result<(Sid, u64), SidError>
         return Err(SidError::Short);
     }
     let subs = subs_of(bytes, count);
-    let sid = Sid::new(authority_in(bytes), &subs[..count])?;
+    let sid = Sid::new(authority_in(bytes), &subs[..count]).unwrap();
     Ok((sid, size as u64))
 }
 
@@ -79,27 +78,32 @@ pub fn sid_bytes(alloc: Global, sid: &Sid) -> Result<Vec<u8>, AllocError>
     Ok(bytes)
 }
 
-/// Writes the bytes of a SID behind those that are there ([MS-DTYP] 2.4.2.2).
+/// Writes the bytes of a SID behind those that are there ([MS-DTYP] 2.4.2.2), which stay as they were where there is no
+/// memory for the SID's.
 #[tactic(auto, unfolding(crate::specs::SidBytes::bytes_of_sid))]
 pub fn push_sid(bytes: &mut Vec<u8>, sid: &Sid) -> Result<(), AllocError>
-    ensures { OnOk result (bytes.new.items ≡ bytes.old.items ++ bytes_of_sid sid.now) }
+    ensures ok { OnOk result (bytes.new.items ≡ bytes.old.items ++ bytes_of_sid sid.now) }
+    ensures err { OnErr result (bytes.new.items ≡ bytes.old.items) }
 {
     let subs = sid.subs();
-    bytes.push(REVISION)?;
-    bytes.push(subs.len() as u8)?;
-    bytes.extend_from_slice(&sid.authority().to_be_bytes()[2..])?;
-    push_subs(bytes, subs)?;
+    bytes.reserve(HEADER_BYTES + 4 * subs.len())?;
+    bytes.push(REVISION).unwrap();
+    bytes.push(subs.len() as u8).unwrap();
+    bytes
+        .extend_from_slice(&sid.authority().to_be_bytes()[2..])
+        .unwrap();
+    push_subs(bytes, subs);
     Ok(())
 }
 
-/// Writes sub-authorities, four bytes each, the least significant first.
-fn push_subs(bytes: &mut Vec<u8>, subs: &[u32]) -> Result<(), AllocError>
-    ensures { OnOk result (bytes.new.items ≡ bytes.old.items ++ flat_map (to_le_bytes w32) subs.now) }
+/// Writes sub-authorities, four bytes each, the least significant first, for which there is room.
+fn push_subs(bytes: &mut Vec<u8>, subs: &[u32])
+    requires { vec_len bytes.old + 4 * length subs.now ≤ vec_capacity bytes.old }
+    ensures { bytes.new.items ≡ bytes.old.items ++ flat_map (to_le_bytes w32) subs.now }
 {
     for sub in subs {
-        bytes.extend_from_slice(&sub.to_le_bytes())?;
+        bytes.extend_from_slice(&sub.to_le_bytes()).unwrap();
     }
-    Ok(())
 }
 
 /// A law: what `sid_bytes` writes, whatever follows it, `read_sid` reads again, with its length.
@@ -113,3 +117,47 @@ pub fn sids_come_back()
 pub fn sids_stand()
     ensures { SidsStand }
 {}
+
+#[cfg(test)]
+mod tests {
+    use super::*;
+    use std::test::Fail;
+
+    #[test]
+    fn the_longest_sid_and_back(rt: HostRuntime) -> Result<(), Fail> {
+        let mut bytes = [0xff; 68];
+        bytes[0] = 1;
+        bytes[1] = 15;
+        let longest = Sid::new(0xFFFF_FFFF_FFFF, &[0xFFFF_FFFF; 15])?;
+        assert_eq!(rt; read_sid(&bytes), Ok((longest, 68)));
+        assert_eq!(rt;
+            sid_bytes(rt.alloc(), &longest)?.as_slice(),
+            bytes.as_slice()
+        );
+        Ok(())
+    }
+
+    #[test]
+    fn bytes_that_are_no_sid(rt: HostRuntime) {
+        for (revision, count, len, want) in [
+            (9, 0, 7, SidError::Short),
+            (9, 16, 72, SidError::Revision),
+            (0, 1, 12, SidError::Revision),
+            (1, 0, 72, SidError::Count),
+            (1, 16, 72, SidError::Count),
+            (1, 16, 8, SidError::Count),
+            (1, 1, 8, SidError::Short),
+            (1, 15, 67, SidError::Short),
+        ] {
+            let mut bytes = [0xff; 72];
+            bytes[0] = revision;
+            bytes[1] = count;
+            assert!(rt; len <= 72);
+            assert_eq!(rt;
+                read_sid(&bytes[..len]),
+                Err(want),
+                "{revision}, {count} in {len} bytes"
+            );
+        }
+    }
+}

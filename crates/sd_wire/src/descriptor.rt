@@ -1,6 +1,6 @@
 // Whole descriptors: header, owner, group and DACL.
 
-ghost use Rattle.std.specs.Prelude.{◌≡◌, ◌+◌, ◌≤◌, ◌<◌, ◌^◌, ◌++◌, false, length, IfOk, OnOk};
+ghost use Rattle.std.specs.Prelude.{◌≡◌, ◌≤◌, ◌<◌, ◌^◌, ◌++◌, false, length, IfOk, OnOk};
 ghost use Rattle.sd_acl.specs.Dacl.{is_absent};
 ghost use Rattle.sd_acl.specs.Descriptor.{descriptor_of};
 ghost use Rattle.sd_wire.specs.Reading.{Gives, dacl_read, descriptor_read};
@@ -9,11 +9,11 @@ ghost use Rattle.sd_wire.specs.Writing.{dacl_part, wire_of};
 use crate::fault::{WireError, WireFault};
 use crate::header::{
     DACL_AUTO_INHERIT_REQUIRED, DACL_AUTO_INHERITED, DACL_PLACE, DACL_PRESENT, DACL_PROTECTED,
-    GROUP_PLACE, OWNER_PLACE, has_bits, push_header, read_control,
+    GROUP_PLACE, HEADER_BYTES, OWNER_PLACE, has_bits, leads_outside, push_header, read_control,
 };
 use crate::list::{push_list, read_list};
 use crate::number::read_u32;
-use crate::trustee::{HEADER_BYTES, is_offset_outside, push_trustee, read_trustee, trustee_len};
+use crate::trustee::{push_trustee, read_trustee, trustee_len};
 use sd_acl::{Dacl, Descriptor, acl_size};
 use std::alloc::{AllocError, Global};
 
@@ -57,7 +57,7 @@ fn read_dacl(alloc: Global, bytes: &[u8], offset: usize) -> Result<Dacl, WireErr
     if offset == 0 {
         return Ok(Dacl::Null);
     }
-    if is_offset_outside(bytes, offset) {
+    if leads_outside(bytes, offset) {
         return Err(WireError::Fault(WireFault::BadOffset));
     }
     let list = read_list(alloc, bytes, offset)?;

@@ -1,9 +1,9 @@
 // Entries of a list: header, mask and SID.
 
-ghost use Rattle.std.specs.Prelude.{◌≡◌, ◌+◌, ◌≤◌, ◌<◌, ◌++◌, length, IfOk, OnOk};
+ghost use Rattle.std.specs.Prelude.{◌≡◌, ◌+◌, ◌≤◌, ◌++◌, length, IfOk, OnOk};
 ghost use Rattle.sd_acl.specs.Ace.{ace_size};
 ghost use Rattle.sd_wire.specs.Reading.{entry_read, kind_read};
-ghost use Rattle.sd_wire.specs.Writing.{entry_bytes, kind_byte};
+ghost use Rattle.sd_wire.specs.Writing.{entry_bytes};
 
 use crate::fault::WireFault;
 use crate::number::{read_u16, read_u32};

@@ -1,15 +1,21 @@
 // A descriptor's header: its control bits and its offsets.
 
-ghost use Rattle.std.specs.Prelude.{◌≡◌, ◌+◌, ◌≤◌, ◌<◌, ◌^◌, ◌++◌, cond, length, IfOk, OnOk};
+ghost use Rattle.std.specs.Prelude.{◌≡◌, ◌≤◌, ◌<◌, ◌^◌, ◌++◌, cond, length, OnOk};
 ghost use Rattle.sd_acl.specs.Descriptor.{descriptor_of};
-ghost use Rattle.sd_wire.specs.Reading.{control_read, is_set, u16_at};
+ghost use Rattle.sd_wire.specs.Reading.{control_read, is_outside, is_set};
 ghost use Rattle.sd_wire.specs.Writing.{control_of, header_bytes, header_of, is_list, offset_bytes, offset_of};
 
 use crate::fault::WireFault;
 use crate::number::{read_u16, read_u32};
-use crate::trustee::{HEADER_BYTES, trustee_len};
+use crate::trustee::trustee_len;
 use sd_acl::{Dacl, Descriptor};
 use std::alloc::AllocError;
+
+/// The bytes of a header ([MS-DTYP] 2.4.6), into which no offset may lead.
+pub const HEADER_BYTES: usize = 20;
+
+/// The least bytes that a part has: a SID's before its sub-authorities, a list's before its entries.
+const MIN_PART_BYTES: usize = 8;
 
 /// The only revision of a descriptor ([MS-DTYP] 2.4.6, Revision).
 const REVISION: u8 = 1;
@@ -77,6 +83,14 @@ pub fn read_control(bytes: &[u8]) -> Result<u16, WireFault>
         return Err(WireFault::HasSacl);
     }
     Ok(control)
+}
+
+/// Whether an offset leads into the header, or to less than 8 bytes. It is below 2^32, so the sum doesn't wrap.
+pub fn leads_outside(bytes: &[u8], offset: usize) -> bool
+    requires { offset < 2 ^ 32 }
+    ensures { result ≡ is_outside bytes.now offset }
+{
+    offset < HEADER_BYTES || bytes.len() < offset + MIN_PART_BYTES
 }
 
 /// The control bits that a descriptor is written with.

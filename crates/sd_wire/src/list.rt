@@ -2,7 +2,7 @@
 
 ghost use Rattle.std.specs.Prelude.{◌≡◌, ◌+◌, ◌≤◌, ◌++◌, length, sum_by, IfOk, OnOk};
 ghost use Rattle.std.specs.List.{flat_map};
-ghost use Rattle.sd_acl.specs.Ace.{ace_size, acl_size_of};
+ghost use Rattle.sd_acl.specs.Ace.{ace_size};
 ghost use Rattle.sd_wire.specs.Reading.{Gives, entries_read, list_read};
 ghost use Rattle.sd_wire.specs.Writing.{entry_bytes, list_bytes};
 

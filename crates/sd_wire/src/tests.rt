@@ -3,6 +3,7 @@ use bitflags::Flags;
 use sd_acl::{Ace, AceFlags, AceKind, AceList, Dacl, Descriptor};
 use sd_sid::{Mask, Sid};
 use std::alloc::Global;
+use std::process::Abort;
 use std::test::Fail;
 
 /// `O:BAG:SYD:(A;;FA;;;WD)`: the header, the owner, the group, and the list with its one entry.
@@ -59,12 +60,12 @@ fn is_held(
     }
 }
 
-/// The worked descriptor with some of its bytes changed, where they lie within it.
-fn changed(place: usize, with: &[u8]) -> [u8; 76] {
+/// The worked descriptor with some of its bytes changed.
+fn changed(rt: &impl Abort, place: usize, with: &[u8]) -> [u8; 76] {
     let mut bytes = WORKED;
-    if place <= 76 && with.len() <= 76 - place {
-        bytes[place..place + with.len()].copy_from_slice(with);
-    }
+    assert!(rt; place <= 76);
+    assert!(rt; with.len() <= 76 - place);
+    bytes[place..place + with.len()].copy_from_slice(with);
     bytes
 }
 
@@ -130,11 +131,11 @@ fn each_change_has_its_fault(rt: HostRuntime) {
         (58, &[24], WireFault::EntrySize),
         (58, &[16], WireFault::BadSid),
         (56, &[5, 0, 12], WireFault::EntryKind),
-        // Room for an entry's header alone, whatever the count says.
-        (50, &[12, 0, 0xff, 0xff], WireFault::EntrySize),
+        // No room for an entry, whatever the count says.
+        (50, &[8, 0, 0xff, 0xff], WireFault::EntrySize),
     ] {
         assert_eq!(rt;
-            fault_of(rt.alloc(), &changed(place, with)),
+            fault_of(rt.alloc(), &changed(&rt, place, with)),
             Some(want),
             "{with:?} at {place}"
         );
@@ -155,7 +156,7 @@ fn parts_lie_where_the_offsets_say(rt: HostRuntime) -> Result<(), Fail> {
     assert!(rt;
         is_held(
             rt.alloc(),
-            &changed(8, &[20]),
+            &changed(&rt, 8, &[20]),
             administrators,
             administrators,
             &one
@@ -164,19 +165,26 @@ fn parts_lie_where_the_offsets_say(rt: HostRuntime) -> Result<(), Fail> {
     assert!(rt;
         is_held(
             rt.alloc(),
-            &changed(4, &[64]),
+            &changed(&rt, 4, &[64]),
             Some(everyone.sid),
             system,
             &one
         )
     );
-    assert!(rt; is_held(rt.alloc(), &changed(52, &[0]), administrators, system, &[]));
-    // Revision 4, the flag bit 0x20, and SP without a SACL tell nothing.
-    assert!(rt; is_held(rt.alloc(), &changed(48, &[4]), administrators, system, &one));
     assert!(rt;
         is_held(
             rt.alloc(),
-            &changed(57, &[0x20]),
+            &changed(&rt, 52, &[0]),
+            administrators,
+            system,
+            &[]
+        )
+    );
+    // Revision 4, the flag bit 0x20, and SP without a SACL tell nothing.
+    assert!(rt;
+        is_held(
+            rt.alloc(),
+            &changed(&rt, 48, &[4]),
             administrators,
             system,
             &one
@@ -185,7 +193,16 @@ fn parts_lie_where_the_offsets_say(rt: HostRuntime) -> Result<(), Fail> {
     assert!(rt;
         is_held(
             rt.alloc(),
-            &changed(2, &[0x14]),
+            &changed(&rt, 57, &[0x20]),
+            administrators,
+            system,
+            &one
+        )
+    );
+    assert!(rt;
+        is_held(
+            rt.alloc(),
+            &changed(&rt, 2, &[0x14]),
             administrators,
             system,
             &one
@@ -284,7 +301,7 @@ fn a_list_ends_at_its_size(rt: HostRuntime) -> Result<(), Fail> {
 fn every_byte_of_any_value_has_an_answer(rt: HostRuntime) {
     for place in 0..76 {
         for value in 0..=255 {
-            let answer = read_descriptor(rt.alloc(), &changed(place, &[value]));
+            let answer = read_descriptor(rt.alloc(), &changed(&rt, place, &[value]));
             assert!(rt;
                 !matches!(answer, Err(WireError::Memory)),
                 "{value} at {place}"

@@ -1,26 +1,16 @@
 // SIDs in a descriptor: those of its owner, its group and its entries.
 
 ghost use Rattle.std.specs.Prelude.{◌≡◌, ◌+◌, ◌*◌, ◌^◌, ◌<◌, ◌≤◌, ◌++◌, length, IfOk, OnOk};
-ghost use Rattle.sd_wire.specs.Reading.{sid_read, trustee_read, is_outside};
+ghost use Rattle.sd_wire.specs.Reading.{sid_read, trustee_read};
 ghost use Rattle.sd_wire.specs.Writing.{trustee_part};
 
 use crate::fault::WireFault;
+use crate::header::leads_outside;
 use sd_sid::{Sid, push_sid, read_sid};
 use std::alloc::AllocError;
 
-/// The bytes of a descriptor's header ([MS-DTYP] 2.4.6), into which no offset may lead.
-pub const HEADER_BYTES: usize = 20;
-
-/// The least bytes that a part has: a SID's before its sub-authorities, a list's before its entries.
-const MIN_PART_BYTES: usize = 8;
-
-/// Whether an offset leads into the header, or to less than 8 bytes.
-pub fn is_offset_outside(bytes: &[u8], offset: usize) -> bool
-    requires { offset < 2 ^ 32 }
-    ensures { result ≡ is_outside bytes.now offset }
-{
-    offset < HEADER_BYTES || bytes.len() < offset + MIN_PART_BYTES
-}
+/// The bytes of a SID before its sub-authorities ([MS-DTYP] 2.4.2.2).
+const SID_HEADER_BYTES: usize = 8;
 
 /// The SID at a place, which doesn't pass an end.
 pub fn read_sid_at(bytes: &[u8], place: usize, end: usize) -> Result<Sid, WireFault>
@@ -44,7 +34,7 @@ pub fn read_trustee(bytes: &[u8], offset: usize) -> Result<Option<Sid>, WireFaul
     if offset == 0 {
         return Ok(None);
     }
-    if is_offset_outside(bytes, offset) {
+    if leads_outside(bytes, offset) {
         return Err(WireFault::BadOffset);
     }
     let sid = read_sid_at(bytes, offset, bytes.len())?;
@@ -58,7 +48,7 @@ pub fn trustee_len(trustee: &Option<Sid>) -> usize
     ensures most { result ≤ 68 }
 {
     match trustee {
-        Some(sid) => MIN_PART_BYTES + 4 * sid.subs().len(),
+        Some(sid) => SID_HEADER_BYTES + 4 * sid.subs().len(),
         None => 0,
     }
 }

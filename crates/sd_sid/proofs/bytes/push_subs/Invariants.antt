@@ -1,8 +1,10 @@
--- The bytes so far are those that were there, and the sub-authorities so far.
-use Rattle.std.proofs.Common.{◌≡◌, ◌++◌, take}
+-- The bytes so far are those that were there, and the sub-authorities so far; there is room for the others.
+use Rattle.std.proofs.Common.{◌≡◌, ◌+◌, ◌-◌, ◌*◌, ◌≤◌, ◌++◌, take, length, vec_len, vec_capacity}
 use Rattle.std.specs.Int.{w32, to_le_bytes}
 use Rattle.std.specs.List.{flat_map}
 use Rattle.sd_sid.proofs.bytes.push_subs.Given as goal
 
 abbrev pub invariant-loop-sub : goal.invariant-loop-sub
-invariant-loop-sub l = l.bytes.items ≡ l.fn.bytes.items ++ flat_map (to_le_bytes w32) (take l.sub-index l.subs)
+invariant-loop-sub l =
+    (l.bytes.items ≡ l.fn.bytes.items ++ flat_map (to_le_bytes w32) (take l.sub-index l.subs))
+    × (vec_len l.bytes + 4 * (length l.subs - l.sub-index) ≤ vec_capacity l.bytes)
