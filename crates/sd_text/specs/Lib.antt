@@ -9,4 +9,3 @@ pub mod Entry
 pub mod Sddl
 pub mod Canon
 pub mod Laws
-pub mod FirstForm
