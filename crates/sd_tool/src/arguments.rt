@@ -1,11 +1,11 @@
 //! What the words of a command line ask for. Each subcommand has a function that describes it to
 //! clap, and one that takes its words out.
-ghost use Rattle.std.specs.Prelude.{◌≡◌, ◌≢◌, IfErr, IfOk, IfSome, false};
-ghost use Rattle.sd_tool.specs.Arguments.{asks_for_help as asks_for_help_of, IsAsked};
+ghost use Rattle.std.specs.Prelude.{◌≡◌, ◌≢◌, IfErr, IfOk, IfSome, codes};
+ghost use Rattle.sd_tool.specs.Arguments.{asks_for_help as asks_for_help_of, Asks, Calls};
 
 use crate::failure::Failure;
 use clap::error::ErrorKind;
-use clap::{Arg, ArgMatches, Command, Error};
+use clap::{Arg, Command, Error};
 use std::alloc::{AllocError, Global};
 
 const VERDICT_EXAMPLE: &str = "\
@@ -54,12 +54,12 @@ pub(crate) enum Request<'a> {
 
 /// Reads the words, of which the first is the program's name.
 pub(crate) fn read_words<'a>(alloc: Global, words: &'a [&'a str]) -> Result<Request<'a>, Failure>
-    ensures ok { IfOk result (IsAsked (asks_for_help_of (λ word. word.now) words.entry.now)) }
+    ensures ok { IfOk result (Asks words.entry.now) }
     ensures err { IfErr result (λ failure. failure ≢ Failure.Write) }
 {
     let mut command = sdstore(alloc)?;
     match command.try_get_matches_from_mut(words) {
-        Ok(matches) => match request_in(alloc, &matches)? {
+        Ok(_matches) => match request_in(alloc, words)? {
             Some(request) => Ok(request),
             None => {
                 let text = "'sdstore' requires a subcommand but one was not provided";
@@ -91,26 +91,43 @@ fn refused(error: Error) -> Failure
     }
 }
 
-fn request_in<'a>(
-    alloc: Global,
-    matches: &ArgMatches<'a>,
-) -> Result<Option<Request<'a>>, AllocError>
-    ensures { IfOk result (λ request. IfSome request (IsAsked false)) }
+/// What the words behind the program's name ask for. Behind the command each word is taken as it stands.
+fn request_in<'a>(alloc: Global, words: &'a [&'a str]) -> Result<Option<Request<'a>>, AllocError>
+    ensures { IfOk result (λ request. IfSome request (Asks words.entry.now)) }
 {
-    match matches.subcommand() {
-        Some(("verdict", found)) => verdict_in(alloc, found),
-        Some(("print", found)) => Ok(print_in(found)),
-        Some(("tobin", found)) => Ok(to_binary_in(found)),
-        Some(("frombin", found)) => Ok(from_binary_in(found)),
+    match words {
+        [_, command, texts @ ..] => request_for(alloc, command, texts),
         _ => Ok(None),
     }
 }
 
-fn verdict_in<'a>(alloc: Global, found: &ArgMatches<'a>) -> Result<Option<Request<'a>>, AllocError>
-    ensures { IfOk result (λ request. IfSome request (IsAsked false)) }
+fn request_for<'a>(
+    alloc: Global,
+    command: &str,
+    texts: &'a [&'a str],
+) -> Result<Option<Request<'a>>, AllocError>
+    ensures { IfOk result (λ request. IfSome request (Calls command.now texts.entry.now)) }
 {
-    match found.get_strs(WORDS) {
-        Some([sddl, user, mask, words @ ..]) => {
+    if command == "verdict" {
+        return verdict_in(alloc, texts);
+    }
+    if command == "print" {
+        return Ok(print_in(texts));
+    }
+    if command == "tobin" {
+        return Ok(to_binary_in(texts));
+    }
+    if command == "frombin" {
+        return Ok(from_binary_in(texts));
+    }
+    Ok(None)
+}
+
+fn verdict_in<'a>(alloc: Global, texts: &'a [&'a str]) -> Result<Option<Request<'a>>, AllocError>
+    ensures { IfOk result (λ request. IfSome request (Calls (codes "verdict") texts.entry.now)) }
+{
+    match texts {
+        [sddl, user, mask, words @ ..] => {
             let words = Vec::from_slice(alloc, words)?;
             Ok(Some(Request::Verdict {
                 sddl,
@@ -123,29 +140,29 @@ fn verdict_in<'a>(alloc: Global, found: &ArgMatches<'a>) -> Result<Option<Reques
     }
 }
 
-fn print_in<'a>(found: &ArgMatches<'a>) -> Option<Request<'a>>
-    ensures { IfSome result (IsAsked false) }
+fn print_in<'a>(texts: &'a [&'a str]) -> Option<Request<'a>>
+    ensures { IfSome result (Calls (codes "print") texts.entry.now) }
 {
-    match found.get_strs(WORDS)? {
-        &[sddl] => Some(Request::Print { sddl }),
+    match texts {
+        [sddl] => Some(Request::Print { sddl }),
         _ => None,
     }
 }
 
-fn to_binary_in<'a>(found: &ArgMatches<'a>) -> Option<Request<'a>>
-    ensures { IfSome result (IsAsked false) }
+fn to_binary_in<'a>(texts: &'a [&'a str]) -> Option<Request<'a>>
+    ensures { IfSome result (Calls (codes "tobin") texts.entry.now) }
 {
-    match found.get_strs(WORDS)? {
-        &[sddl] => Some(Request::ToBinary { sddl }),
+    match texts {
+        [sddl] => Some(Request::ToBinary { sddl }),
         _ => None,
     }
 }
 
-fn from_binary_in<'a>(found: &ArgMatches<'a>) -> Option<Request<'a>>
-    ensures { IfSome result (IsAsked false) }
+fn from_binary_in<'a>(texts: &'a [&'a str]) -> Option<Request<'a>>
+    ensures { IfSome result (Calls (codes "frombin") texts.entry.now) }
 {
-    match found.get_strs(WORDS)? {
-        &[hex] => Some(Request::FromBinary { hex }),
+    match texts {
+        [hex] => Some(Request::FromBinary { hex }),
         _ => None,
     }
 }

@@ -1,7 +1,6 @@
 //! The command line: words and streams in, a status out.
 ghost use Rattle.std.specs.Prelude.{◌≡◌, ◌≤◌, ◌⊎◌, IfErr, IfOk};
 ghost use Rattle.std.specs.Io.KnownBytes.{Keeps};
-ghost use Rattle.sd_tool.specs.Arguments.{asks_for_help};
 ghost use Rattle.sd_tool.specs.Failure.{code_of};
 ghost use Rattle.sd_tool.specs.Output.{AppendsAnswer, AppendsPartOfAnswer, LeavesAtFailure};
 
@@ -27,11 +26,11 @@ pub fn drive<R: Read, W: Write, E: Write>(
     errors: &mut E,
 ) -> u8
     ensures statuses { result ≤ 3 }
-    ensures answered { result ≤ 1 → AppendsAnswer (asks_for_help (λ word. word.now) words.now)
+    ensures answered { result ≤ 1 → AppendsAnswer words.now
         (W.contents writer.old) (W.contents writer.new) result }
     ensures unread { result ≡ 2 → Keeps (W.contents writer.old) (W.contents writer.new) }
     ensures failed { result ≡ 3 → Keeps (W.contents writer.old) (W.contents writer.new)
-        ⊎ AppendsPartOfAnswer (asks_for_help (λ word. word.now) words.now)
+        ⊎ AppendsPartOfAnswer words.now
         (W.contents writer.old) (W.contents writer.new) }
 {
     match carry_out(alloc, words, writer) {
@@ -45,10 +44,10 @@ pub fn drive<R: Read, W: Write, E: Write>(
 }
 
 fn carry_out<W: Write>(alloc: Global, words: &[&str], writer: &mut W) -> Result<Status, Failure>
-    ensures ok { IfOk result (λ status. AppendsAnswer (asks_for_help (λ word. word.now) words.now)
+    ensures ok { IfOk result (λ status. AppendsAnswer words.now
         (W.contents writer.old) (W.contents writer.new) (code_of status)) }
     ensures low { IfOk result (λ status. code_of status ≤ 1) }
-    ensures err { IfErr result (LeavesAtFailure (asks_for_help (λ word. word.now) words.now)
+    ensures err { IfErr result (LeavesAtFailure words.now
         (W.contents writer.old) (W.contents writer.new)) }
 {
     let request = read_words(alloc, words)?;
