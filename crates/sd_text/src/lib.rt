@@ -27,7 +27,10 @@ pub use alias::alias_of;
 pub use descriptor::read_sddl;
 pub use fault::{TextError, TextFault};
 pub use first_form::{read_first_dacl, read_first_mask, read_first_sid};
-pub use laws::{texts_have_a_value_or_a_fault, texts_have_one_fault, texts_have_one_value};
+pub use laws::{
+    printed_texts_come_back, texts_have_a_value_or_a_fault, texts_have_one_fault,
+    texts_have_one_value, texts_never_have_both,
+};
 pub use print::{print_sddl, print_sid};
 pub use rights::read_mask;
 pub use sid::read_sid_text;
