@@ -8,7 +8,10 @@ use Rattle.sd_sid.specs.SidBytes.{u32_at, sid_reading, bytes_of_sid}
 use Rattle.sd_sid.specs.declared.sid.SidError.{SidError}
 use Rattle.sd_sid.proofs.SidLaws.{length_of_sid, sids_stand}
 use Rattle.sd_sid.proofs.SidWords.{cells, cells_fit}
-use Rattle.sd_acl.specs.Descriptor.{DescriptorValue}
+use Rattle.std.specs.Prelude.{IfOk}
+use Rattle.sd_acl.specs.Descriptor.{DescriptorValue, descriptor_of}
+use Rattle.sd_acl.specs.declared.descriptor.Descriptor.{Descriptor}
+use Rattle.sd_wire.specs.declared.fault.WireError.{WireError}
 use Rattle.sd_acl.specs.declared.ace.Ace.{Ace}
 use Rattle.sd_acl.specs.declared.ace.AceKind.{AceKind}
 use Rattle.sd_acl.specs.declared.ace.AceKind.TheVariants.{Allow, Deny}
@@ -16,7 +19,7 @@ use Rattle.sd_acl.specs.declared.descriptor.Dacl.{Dacl}
 use Rattle.sd_acl.specs.declared.descriptor.Dacl.TheVariants.{Absent, Null, List as Entries}
 use Rattle.sd_wire.specs.declared.fault.WireFault.{WireFault}
 use Rattle.sd_wire.specs.declared.fault.WireFault.TheVariants.{EntrySize, EntryKind}
-use Rattle.sd_wire.specs.Reading.{◌>>=◌, u16_at, is_set, bad_sid, sid_read, kind_read, entry_read, entries_read, list_read, is_outside, trustee_read, dacl_read, control_read, descriptor_read}
+use Rattle.sd_wire.specs.Reading.{◌>>=◌, Gives, u16_at, is_set, bad_sid, sid_read, kind_read, entry_read, entries_read, list_read, is_outside, trustee_read, dacl_read, control_read, descriptor_read}
 use Rattle.sd_wire.specs.Writing.{kind_byte, entry_parts}
 use Rattle.sd_wire.specs.Standing.{Stands, TrusteeStands, EntryStands, EntriesStand, ListStands, DaclStands, Holds}
 use Rattle.sd_wire.specs.Laws.{ReadingsAreHeld}
@@ -258,3 +261,7 @@ readings_are_held bytes d fits e =
             dacl = rw (bits 0x0004 ∙ clear.0) (record { dacl = refl; protected = refl; auto_req = refl; auto_inherited = refl });
           })
     ]
+
+pub is_held : (bytes : List ℕ) (r : Result Descriptor WireError) → IsBytes bytes → Gives descriptor_of r (descriptor_read bytes) → IfOk r (λ d. Holds bytes (descriptor_of d))
+is_held bytes (Ok d) fits given = readings_are_held bytes (descriptor_of d) fits given
+is_held bytes (Err e) fits given = tt
