@@ -95,6 +95,9 @@ parts_are_held bytes o kind sid fits room kind_is sid_held =
     let masked : Stands bytes o ((two ++ size) ++ mask) = stands_join bytes o (two ++ size) mask sized (u32_stands bytes (o + 4) (omega arith) fits) in
     stands_join bytes o ((two ++ size) ++ mask) (bytes_of_sid sid) masked sid_held
 
+found_stands : (bytes : List ℕ) (o end : ℕ) (x y : Ace × ℕ) → x ≡ y → EntryStands bytes o end x.1 x.0 → EntryStands bytes o end y.1 y.0
+found_stands bytes o end x y e h = subst (λ (z : Ace × ℕ). EntryStands bytes o end z.1 z.0) e h
+
 entry_is_held : (bytes : List ℕ) (o end : ℕ) (x : Ace × ℕ) → IsBytes bytes → end ≤ length bytes → entry_read bytes o end ≡ Ok x → EntryStands bytes o end x.1 x.0
 unfolding entry_read
 entry_is_held bytes o end x fits inside e =
@@ -115,7 +118,7 @@ entry_is_held bytes o end x fits inside e =
     let sid = bound (sid_read bytes (o + 8) (o + size)) (λ sid. good (made kind.0 sid)) x room.1 in
     let held = sid_is_held bytes (o + 8) (o + size) sid.0 fits sid.1 in
     let ends : o + size ≤ end = ltb-false _ _ within.0 in
-    subst (λ (y : Ace × ℕ). EntryStands bytes o end y.1 y.0) (good_is (made kind.0 sid.0) x sid.2) (record {
+    found_stands bytes o end (made kind.0 sid.0) x (good_is (made kind.0 sid.0) x sid.2) (record {
       flags = get_or bytes (o + 1) 0;
       known = refl;
       parts = parts_are_held bytes o kind.0 sid.0 fits (omega (arith, held.1)) (kind_is_held (get_or bytes o 0) kind.0 kind.1) held.0;
@@ -210,6 +213,9 @@ header_is_held bytes control e =
     apart : {b : Bool} → b ≡ true → b ≡ false → ⊥
     apart set clear = cc
 
+found_holds : (bytes : List ℕ) (d e : DescriptorValue) → d ≡ e → Holds bytes d → Holds bytes e
+found_holds bytes d e same h = subst (Holds bytes) same h
+
 pub readings_are_held : ReadingsAreHeld
 unfolding descriptor_read
 readings_are_held bytes d fits e =
@@ -236,7 +242,7 @@ readings_are_held bytes d fits e =
     elim (chosen (is_set 0x0004 control.0) (present control.0 owner.0 group.0) (good (without owner.0 group.0)) (good d) group.2) [
       | inl set ↦
           let dacl = bound (dacl_read bytes (u32_at bytes 16)) (λ dacl. good (with_dacl control.0 owner.0 group.0 dacl)) d set.1 in
-          subst (Holds bytes) (good_is (with_dacl control.0 owner.0 group.0 dacl.0) d dacl.2) (record {
+          found_holds bytes (with_dacl control.0 owner.0 group.0 dacl.0) d (good_is (with_dacl control.0 owner.0 group.0 dacl.0) d dacl.2) (record {
             header = header.long;
             revision = header.revision;
             self_relative = header.self_relative;
@@ -251,7 +257,7 @@ readings_are_held bytes d fits e =
             });
           })
       | inr clear ↦
-          subst (Holds bytes) (good_is (without owner.0 group.0) d clear.1) (record {
+          found_holds bytes (without owner.0 group.0) d (good_is (without owner.0 group.0) d clear.1) (record {
             header = header.long;
             revision = header.revision;
             self_relative = header.self_relative;
