@@ -8,7 +8,10 @@ use Rattle.sd_sid.specs.SidBytes.{u32_at, sid_reading, bytes_of_sid}
 use Rattle.sd_sid.specs.declared.sid.SidError.{SidError}
 use Rattle.sd_sid.proofs.SidLaws.{length_of_sid, sids_stand}
 use Rattle.sd_sid.proofs.SidWords.{cells, cells_fit}
-use Rattle.sd_acl.specs.Descriptor.{DescriptorValue}
+use Rattle.std.specs.Prelude.{IfOk}
+use Rattle.sd_acl.specs.Descriptor.{DescriptorValue, descriptor_of}
+use Rattle.sd_acl.specs.declared.descriptor.Descriptor.{Descriptor}
+use Rattle.sd_wire.specs.declared.fault.WireError.{WireError}
 use Rattle.sd_acl.specs.declared.ace.Ace.{Ace}
 use Rattle.sd_acl.specs.declared.ace.AceKind.{AceKind}
 use Rattle.sd_acl.specs.declared.ace.AceKind.TheVariants.{Allow, Deny}
@@ -16,7 +19,7 @@ use Rattle.sd_acl.specs.declared.descriptor.Dacl.{Dacl}
 use Rattle.sd_acl.specs.declared.descriptor.Dacl.TheVariants.{Absent, Null, List as Entries}
 use Rattle.sd_wire.specs.declared.fault.WireFault.{WireFault}
 use Rattle.sd_wire.specs.declared.fault.WireFault.TheVariants.{EntrySize, EntryKind}
-use Rattle.sd_wire.specs.Reading.{◌>>=◌, u16_at, is_set, bad_sid, sid_read, kind_read, entry_read, entries_read, list_read, is_outside, trustee_read, dacl_read, control_read, descriptor_read}
+use Rattle.sd_wire.specs.Reading.{◌>>=◌, Gives, u16_at, is_set, bad_sid, sid_read, kind_read, entry_read, entries_read, list_read, is_outside, trustee_read, dacl_read, control_read, descriptor_read}
 use Rattle.sd_wire.specs.Writing.{kind_byte, entry_parts}
 use Rattle.sd_wire.specs.Standing.{Stands, TrusteeStands, EntryStands, EntriesStand, ListStands, DaclStands, Holds}
 use Rattle.sd_wire.specs.Laws.{ReadingsAreHeld}
@@ -92,6 +95,9 @@ parts_are_held bytes o kind sid fits room kind_is sid_held =
     let masked : Stands bytes o ((two ++ size) ++ mask) = stands_join bytes o (two ++ size) mask sized (u32_stands bytes (o + 4) (omega arith) fits) in
     stands_join bytes o ((two ++ size) ++ mask) (bytes_of_sid sid) masked sid_held
 
+found_stands : (bytes : List ℕ) (o end : ℕ) (x y : Ace × ℕ) → x ≡ y → EntryStands bytes o end x.1 x.0 → EntryStands bytes o end y.1 y.0
+found_stands bytes o end x y e h = subst (λ (z : Ace × ℕ). EntryStands bytes o end z.1 z.0) e h
+
 entry_is_held : (bytes : List ℕ) (o end : ℕ) (x : Ace × ℕ) → IsBytes bytes → end ≤ length bytes → entry_read bytes o end ≡ Ok x → EntryStands bytes o end x.1 x.0
 unfolding entry_read
 entry_is_held bytes o end x fits inside e =
@@ -112,7 +118,7 @@ entry_is_held bytes o end x fits inside e =
     let sid = bound (sid_read bytes (o + 8) (o + size)) (λ sid. good (made kind.0 sid)) x room.1 in
     let held = sid_is_held bytes (o + 8) (o + size) sid.0 fits sid.1 in
     let ends : o + size ≤ end = ltb-false _ _ within.0 in
-    subst (λ (y : Ace × ℕ). EntryStands bytes o end y.1 y.0) (good_is (made kind.0 sid.0) x sid.2) (record {
+    found_stands bytes o end (made kind.0 sid.0) x (good_is (made kind.0 sid.0) x sid.2) (record {
       flags = get_or bytes (o + 1) 0;
       known = refl;
       parts = parts_are_held bytes o kind.0 sid.0 fits (omega (arith, held.1)) (kind_is_held (get_or bytes o 0) kind.0 kind.1) held.0;
@@ -207,6 +213,9 @@ header_is_held bytes control e =
     apart : {b : Bool} → b ≡ true → b ≡ false → ⊥
     apart set clear = cc
 
+found_holds : (bytes : List ℕ) (d e : DescriptorValue) → d ≡ e → Holds bytes d → Holds bytes e
+found_holds bytes d e same h = subst (Holds bytes) same h
+
 pub readings_are_held : ReadingsAreHeld
 unfolding descriptor_read
 readings_are_held bytes d fits e =
@@ -233,7 +242,7 @@ readings_are_held bytes d fits e =
     elim (chosen (is_set 0x0004 control.0) (present control.0 owner.0 group.0) (good (without owner.0 group.0)) (good d) group.2) [
       | inl set ↦
           let dacl = bound (dacl_read bytes (u32_at bytes 16)) (λ dacl. good (with_dacl control.0 owner.0 group.0 dacl)) d set.1 in
-          subst (Holds bytes) (good_is (with_dacl control.0 owner.0 group.0 dacl.0) d dacl.2) (record {
+          found_holds bytes (with_dacl control.0 owner.0 group.0 dacl.0) d (good_is (with_dacl control.0 owner.0 group.0 dacl.0) d dacl.2) (record {
             header = header.long;
             revision = header.revision;
             self_relative = header.self_relative;
@@ -248,7 +257,7 @@ readings_are_held bytes d fits e =
             });
           })
       | inr clear ↦
-          subst (Holds bytes) (good_is (without owner.0 group.0) d clear.1) (record {
+          found_holds bytes (without owner.0 group.0) d (good_is (without owner.0 group.0) d clear.1) (record {
             header = header.long;
             revision = header.revision;
             self_relative = header.self_relative;
@@ -258,3 +267,7 @@ readings_are_held bytes d fits e =
             dacl = rw (bits 0x0004 ∙ clear.0) (record { dacl = refl; protected = refl; auto_req = refl; auto_inherited = refl });
           })
     ]
+
+pub is_held : (bytes : List ℕ) (r : Result Descriptor WireError) → IsBytes bytes → Gives descriptor_of r (descriptor_read bytes) → IfOk r (λ d. Holds bytes (descriptor_of d))
+is_held bytes (Ok d) fits given = readings_are_held bytes (descriptor_of d) fits given
+is_held bytes (Err e) fits given = tt

@@ -4,6 +4,7 @@ ghost use Rattle.std.specs.Prelude.{◌≡◌, ◌≤◌, ◌<◌, ◌^◌, ◌+
 ghost use Rattle.sd_acl.specs.Dacl.{is_absent};
 ghost use Rattle.sd_acl.specs.Descriptor.{descriptor_of};
 ghost use Rattle.sd_wire.specs.Reading.{Gives, dacl_read, descriptor_read};
+ghost use Rattle.sd_wire.specs.Standing.{Holds};
 ghost use Rattle.sd_wire.specs.Writing.{dacl_part, wire_of};
 
 use crate::fault::{WireError, WireFault};
@@ -19,8 +20,16 @@ use std::alloc::{AllocError, Global};
 
 /// The descriptor that the bytes hold, or the first test that they don't pass ([MS-DTYP] 2.4.6): header, owner, group,
 /// DACL, and of its entries the first. `Memory` may come in place of a fault of an entry.
-#[tactic(auto, unfolding(crate::specs::Reading::descriptor_read))]
 pub fn read_descriptor(alloc: Global, bytes: &[u8]) -> Result<Descriptor, WireError>
+    ensures exact { Gives descriptor_of result (descriptor_read bytes.now) }
+    ensures held { IfOk result (λ descriptor. Holds bytes.now (descriptor_of descriptor)) }
+{
+    read_parts(alloc, bytes)
+}
+
+/// The same, part by part.
+#[tactic(auto, unfolding(crate::specs::Reading::descriptor_read))]
+fn read_parts(alloc: Global, bytes: &[u8]) -> Result<Descriptor, WireError>
     ensures { Gives descriptor_of result (descriptor_read bytes.now) }
 {
     let control = read_control(bytes)?;
