@@ -1,5 +1,5 @@
 -- Security descriptors as plain values ([MS-DTYP] 2.4.6).
-use Rattle.std.specs.Prelude.{ℕ, ◌^◌, ◌<◌, ◌≤◌, Bool, not, ◌&&◌, IsTrue, Option, IfSome, List}
+use Rattle.std.specs.Prelude.{◌^◌, ◌<◌, ◌≤◌, Bool, not, ◌&&◌, IsTrue, Option, IfSome, List}
 use Rattle.std.specs.List.{AllByRecursion}
 use Rattle.sd_sid.specs.Sid.{SidValue, IsSid}
 use Rattle.sd_acl.specs.Ace.{acl_size_of}

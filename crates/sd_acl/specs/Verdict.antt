@@ -2,7 +2,7 @@
 --
 -- `applies kind sid` tells whether an entry of the kind for the SID applies. A DACL is seen as the list of its
 -- entries, and as None where it is absent or null.
-use Rattle.std.specs.Prelude.{ℕ, Bool, true, false, not, ◌&&◌, ◌||◌, ◌==◌, nat_lt, if◌then◌else◌, List, Option, Some, None, find}
+use Rattle.std.specs.Prelude.{ℕ, Bool, false, not, ◌&&◌, ◌||◌, ◌==◌, nat_lt, if◌then◌else◌, List, Option, Some, None, find}
 use Rattle.std.specs.List.{list_any}
 use Rattle.sd_sid.specs.Mask.{holds, mask_of}
 use Rattle.sd_sid.specs.Mapping.{MappingValue, mapped}

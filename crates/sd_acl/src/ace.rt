@@ -7,10 +7,12 @@ use crate::flags::AceFlags;
 use bitflags::Flags;
 use sd_sid::{Mask, Sid};
 
-/// Whether an entry allows or denies ([MS-DTYP] 2.4.4.1, AceType 0x00 and 0x01).
+/// Whether an entry allows or denies ([MS-DTYP] 2.4.4.1, AceType).
 #[derive(Clone, Copy, Debug, PartialEq, Eq, Hash)]
 pub enum AceKind {
+    /// ACCESS_ALLOWED_ACE_TYPE, 0x00.
     Allow,
+    /// ACCESS_DENIED_ACE_TYPE, 0x01.
     Deny,
 }
 

@@ -6,12 +6,14 @@ ghost use Rattle.sd_acl.specs.Dacl.{IsAbsent};
 use crate::list::AceList;
 use sd_sid::Sid;
 
-/// The discretionary list of a descriptor ([MS-DTYP] 2.4.6, control bit DP and OffsetDacl): absent and null
-/// lists grant everything, an empty one nothing.
+/// The discretionary list of a descriptor ([MS-DTYP] 2.4.6, control bit DP and OffsetDacl).
 #[derive(Debug, Drop)]
 pub enum Dacl {
+    /// There is none: each of the object's own rights and the standard ones is granted.
     Absent,
+    /// There is one that is null, with the same meaning.
     Null,
+    /// The entries grant; an empty list grants nothing.
     List(AceList),
 }
 

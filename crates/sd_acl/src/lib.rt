@@ -21,3 +21,6 @@ pub use descriptor::{Dacl, Descriptor};
 pub use flags::AceFlags;
 pub use list::{AceList, AclTooLarge, acl_size};
 pub use verdict::Verdict;
+
+#[cfg(test)]
+mod tests;

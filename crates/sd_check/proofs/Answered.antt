@@ -1,9 +1,9 @@
 -- That masks computed from masks are those of the tests on places.
-use Rattle.std.proofs.Common.{◌≡◌, ℕ, ◌<◌, Bool, true, false, ◌&&◌, ◌||◌, not, ◌==◌, nat_lt, cond, refl, sym, ◌∙◌, ap, List, Option, Some, None}
+use Rattle.std.proofs.Common.{◌≡◌, ℕ, ◌<◌, Bool, ◌&&◌, ◌||◌, not, nat_lt, refl, ◌∙◌, ap, List, Option, Some, None}
 use Rattle.std.proofs.lemmas.Bool.{agree_below_at}
 use Rattle.std.proofs.Math.Bool.{and_comm}
 use Rattle.sd_sid.specs.Mask.{holds, mask_of}
-use Rattle.sd_sid.specs.Mapping.{MappingValue, mapped}
+use Rattle.sd_sid.specs.Mapping.{MappingValue}
 use Rattle.sd_sid.proofs.Masks.{holds_place, mask_of-alike}
 use Rattle.sd_acl.specs.Verdict.{missing_of, most_of}
 use Rattle.sd_acl.specs.declared.ace.Ace.{Ace}

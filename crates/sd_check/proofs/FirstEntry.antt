@@ -1,5 +1,5 @@
 -- The first entry that settles a bit, seen from a place of the list on.
-use Rattle.std.proofs.Common.{◌≡◌, ℕ, ◌+◌, ◌<◌, Bool, true, false, not, ◌&&◌, List, [], ◌∷◌, length, get_or, drop, Option, Some, None, cond, refl, sym, ◌∙◌, ap, add-one, find}
+use Rattle.std.proofs.Common.{◌≡◌, ℕ, ◌+◌, ◌<◌, Bool, true, false, not, ◌&&◌, List, length, get_or, drop, Some, refl, sym, ◌∙◌, ap, add-one, find}
 use Rattle.std.proofs.Math.Seq.{drop-cons}
 use Rattle.sd_sid.specs.Mask.{holds}
 use Rattle.sd_sid.specs.Mapping.{MappingValue, mapped}

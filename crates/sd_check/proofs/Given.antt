@@ -1,5 +1,5 @@
 -- What is granted without an entry, as a union of three masks.
-use Rattle.std.proofs.Common.{◌≡◌, ℕ, ◌<◌, Bool, true, false, ◌&&◌, ◌||◌, ◌==◌, nat_lt, cond, refl, sym, ◌∙◌, ap}
+use Rattle.std.proofs.Common.{◌≡◌, ℕ, ◌<◌, Bool, ◌&&◌, ◌||◌, ◌==◌, nat_lt, cond, refl, ◌∙◌, ap}
 use Rattle.std.proofs.lemmas.Bool.{agree_below_at}
 use Rattle.sd_sid.specs.Mask.{holds, mask_of}
 use Rattle.sd_sid.proofs.Masks.{holds_place, holds_when, mask_of-alike}

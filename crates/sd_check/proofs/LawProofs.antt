@@ -1,10 +1,10 @@
 -- The proofs of the laws.
-use Rattle.std.proofs.Common.{◌≡◌, ◌↔◌, ℕ, ◌^◌, ◌<◌, ◌≤◌, Bool, true, false, ◌&&◌, ◌||◌, not, ◌==◌, nat_lt, cond, List, [], ◌∷◌, ◌++◌, Option, Some, None, inl, inr, refl, sym, ◌∙◌, ap, arith, find}
+use Rattle.std.proofs.Common.{◌≡◌, ℕ, ◌^◌, ◌<◌, Bool, true, false, ◌&&◌, ◌||◌, not, ◌==◌, nat_lt, cond, List, [], ◌∷◌, ◌++◌, Option, Some, None, inl, inr, refl, sym, ◌∙◌, ap, arith, find}
 use Rattle.std.specs.List.{AllByRecursion, list_any}
-use Rattle.std.proofs.lemmas.Bool.{and_parts, ltb-true, cases_Bool, cases_lt, cases_eq, or_cases, or_left, or_right, false≢true, lt-ltb, le-ltb, ne_eqb, eq-eqb, true_from_ne_false, and_from}
+use Rattle.std.proofs.lemmas.Bool.{and_parts, ltb-true, cases_Bool, cases_eq, or_cases, or_left, or_right, false≢true, lt-ltb, le-ltb, ne_eqb, true_from_ne_false, and_from}
 use Rattle.std.proofs.Math.Bool.{and-false}
 use Rattle.std.proofs.lemmas.Nat.Bits.{bit_at-pow_same, bit_at-pow_other, bit_at-zero}
-use Rattle.std.proofs.Math.Pow.{pow_pos, pow-lt}
+use Rattle.std.proofs.Math.Pow.{pow_pos}
 use Rattle.std.proofs.lemmas.Nat.{pow_below}
 use Rattle.sd_sid.specs.Mask.{holds, mask_of}
 use Rattle.sd_sid.specs.Mapping.{MappingValue, mapped}
@@ -20,7 +20,7 @@ use Rattle.sd_acl.specs.declared.verdict.Verdict.{Verdict}
 use Rattle.sd_acl.specs.declared.verdict.Verdict.TheVariants.{Granted, Denied, Reserved, EmptyRequest}
 use Rattle.sd_check.specs.Token.{TokenValue, applies, counts, a_group_stands_for, stands_for_subject}
 use Rattle.sd_check.specs.declared.token.GroupState.TheVariants.{Enabled}
-use Rattle.sd_check.specs.Check.{is_granted, is_given, verdict}
+use Rattle.sd_check.specs.Check.{is_granted, is_given}
 use Rattle.sd_check.specs.Laws.{FirstEntryDecides, SilentEntryChangesNothing, IsSilent, GrantsWhatWasAsked, MaximumIsEachByItself, NothingBeyondMaximum, EnabledGroupTakesNothing, NamesNot, with_group, EntriesGrantRightsAlone}
 use Rattle.sd_check.proofs.LowMasks.{judged_plainly, no_places}
 

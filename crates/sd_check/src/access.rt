@@ -18,8 +18,11 @@ use sd_sid::{GenericMapping, Mask, Sid};
 /// A DACL that is lent to a check ([MS-DTYP] 2.4.6).
 #[derive(Clone, Copy)]
 pub enum DaclRef<'a> {
+    /// There is none.
     Absent,
+    /// There is one that is null.
     Null,
+    /// These entries, in this order.
     List(&'a [Ace]),
 }
 

@@ -26,3 +26,6 @@ pub use laws::{
 pub use request::{check, check_parts};
 pub use sd_acl::Verdict;
 pub use token::{GroupState, Privileges, Token};
+
+#[cfg(test)]
+mod tests;

@@ -7,7 +7,7 @@ use sd_acl::AceKind;
 use sd_sid::Sid;
 use std::marker::Model;
 
-/// How a group of a token counts ([MS-DTYP] 2.5.2, SE_GROUP_ENABLED and SE_GROUP_USE_FOR_DENY_ONLY).
+/// How a group of a token counts: Windows says it by SE_GROUP_ENABLED and SE_GROUP_USE_FOR_DENY_ONLY.
 #[derive(Clone, Copy, Debug, PartialEq, Eq)]
 pub enum GroupState {
     /// For allow and deny entries.

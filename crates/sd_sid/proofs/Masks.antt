@@ -1,7 +1,7 @@
 -- Masks as sets of places: what `mask_of` holds, and when two masks are one.
 use Rattle.std.proofs.Common.{◌≡◌, ℕ, zero, suc, ◌+◌, ◌-◌, ◌*◌, ◌%◌, ◌^◌, ◌<◌, ◌≤◌, Bool, true, false, ◌&&◌, ◌||◌, not, ◌==◌, nat_lt, cond, refl, sym, ◌∙◌, ap, arith, inl, inr, ◌⊎◌, bit_and, bit_or, add-one, lit<, min, max}
-use Rattle.std.specs.Int.{bit_at, bit_not, w32}
-use Rattle.std.proofs.lemmas.Nat.Bits.{bit_at_cat_low, bit_at_cat_high, bit_at-zero, bit_at_lowest, bit_at-lt, bit_at_above, same_from_bits_below, bit_at_and, bit_at_or, bit_at_not, and_pow, bit_at_set_same, bit_at_set_other}
+use Rattle.std.specs.Int.{bit_at, w32}
+use Rattle.std.proofs.lemmas.Nat.Bits.{bit_at_cat_low, bit_at_cat_high, bit_at-zero, bit_at-lt, bit_at_above, same_from_bits_below, bit_at_and, bit_at_or, bit_at_not, and_pow, bit_at_set_same, bit_at_set_other}
 use Rattle.std.proofs.lemmas.Nat.{or_lt}
 use Rattle.std.specs.Int.Bits.{and_lt}
 use Rattle.std.proofs.lemmas.Bool.{cases_order, cases_eq, lt-ltb, le-ltb, ne_eqb, eq-eqb, or_right}
@@ -9,9 +9,7 @@ use Rattle.std.proofs.Math.Pow.{pow_pos, pow_mono}
 use Rattle.std.proofs.Math.Nat.{zero-mul, one-mul, zero-add, mod-lt}
 use Rattle.std.proofs.Math.Bool.{or-false}
 use Rattle.std.proofs.Math.Nat.{pow-suc}
-use Rattle.std.proofs.lemmas.Grind.{common_steps}
 use Rattle.std.proofs.lemmas.Bool.Decides.{nat_tests}
-use Rattle.std.proofs.Math.Bool.{true-and}
 use Rattle.sd_sid.specs.Mask.{holds, mask_of}
 
 mask_step : (b : Bool) (power rest : ℕ) → rest < power → cond b 1 0 * power + rest < power * 2

@@ -1,5 +1,5 @@
 -- That a SID's value gives back the fields that it is kept in.
-use Rattle.std.specs.Prelude.{◌≡◌, ℕ, ◌-◌, ◌++◌, length, take, drop, replicate, List}
+use Rattle.std.specs.Prelude.{◌≡◌, ℕ, ◌-◌, ◌++◌, length, take, replicate, List}
 use Rattle.std.proofs.Common.{ap, sym, ◌∙◌, arith}
 use Rattle.std.proofs.lemmas.List.{length-take-le, take-append-drop}
 use Rattle.sd_sid.specs.Sid.{SidValue, IsPadded}

@@ -5,7 +5,7 @@ ghost use Rattle.std.specs.Int.{w32, to_le_bytes};
 ghost use Rattle.std.specs.List.{flat_map};
 ghost use Rattle.sd_sid.specs.SidBytes.{u32s_at, authority_of, sid_reading, bytes_of_sid, SidsComeBack, SidsStand};
 
-use crate::sid::{Sid, SidError};
+use crate::sid::{MAX_SUBS, Sid, SidError};
 use std::alloc::{AllocError, Global};
 
 /// The only revision of a SID ([MS-DTYP] 2.4.2.2, Revision).
@@ -13,9 +13,6 @@ const REVISION: u8 = 1;
 
 /// What stands before the sub-authorities: the revision, their number, and six bytes of authority.
 const HEADER_BYTES: usize = 8;
-
-/// The most sub-authorities that a SID has ([MS-DTYP] 2.4.2.2, SubAuthorityCount).
-const MAX_SUBS: usize = 15;
 
 /// The SID at the front of the bytes, and its length, 8 and 4 for each sub-authority ([MS-DTYP] 2.4.2.2).
 /// `Short` where there are fewer than 8 bytes; then `Revision` where the first isn't 1, `Count` where the second

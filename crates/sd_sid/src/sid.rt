@@ -7,7 +7,7 @@ use std::marker::Model;
 use thiserror::Error;
 
 /// The most sub-authorities that a SID has ([MS-DTYP] 2.4.2.2, SubAuthorityCount).
-const MAX_SUBS: usize = 15;
+pub(crate) const MAX_SUBS: usize = 15;
 
 /// An identifier authority is below this: it has six bytes ([MS-DTYP] 2.4.2.2, IdentifierAuthority).
 const AUTHORITY_LIMIT: u64 = 0x1_0000_0000_0000;
@@ -42,12 +42,16 @@ impl Model for Sid {
 /// Why no SID was made or read.
 #[derive(Clone, Copy, Debug, PartialEq, Eq, Error)]
 pub enum SidError {
+    /// The first byte isn't 1.
     #[error("the SID's revision isn't 1")]
     Revision,
+    /// There are no sub-authorities, or more than 15.
     #[error("a SID has 1 to 15 sub-authorities")]
     Count,
+    /// The bytes end before the SID does.
     #[error("the bytes end before the SID does")]
     Short,
+    /// The authority is 2^48 or more.
     #[error("a SID's authority is below 2^48")]
     Authority,
 }
@@ -103,8 +107,8 @@ impl Sid {
         &self.subs[..self.count]
     }
 
-    #[tactic(auto, using(crate::proofs::Compared::equal_by_value))]
     /// Whether both are one SID: what `==` answers, for callers whose contracts speak of values.
+    #[tactic(auto, using(crate::proofs::Compared::equal_by_value))]
     pub fn is(&self, other: &Sid) -> bool
         ensures { result ≡ same_sid self.now other.now }
     {

@@ -1,23 +1,25 @@
 -- The printed text of a SID is read as the SID.
 use Rattle.std.proofs.Common.{◌≡◌, ℕ, zero, suc, ◌+◌, ◌-◌, ◌^◌, ◌<◌, ◌≤◌, Bool, true, false, List, [], ◌∷◌, ◌++◌, length, drop, replicate, Option, Some, None, Ok, refl, arith, lit<, ap, sym, subst, ◌∙◌, append_assoc, inl, inr}
-use Rattle.std.specs.Prelude.{codes, nat_lt, unwrap_or, ◌==◌, ◌&&◌}
+use Rattle.std.specs.Prelude.{codes, nat_lt, unwrap_or, ◌&&◌}
 use Rattle.std.specs.List.{flat_map, All, AllByRecursion}
 use Rattle.std.specs.Char.{digit_value, eq_ignore_ascii_case}
 use Rattle.std.specs.Str.Parse.{IsNumeral, AllDigits, digits_value}
 use Rattle.std.specs.Fmt.{decimal}
 use Rattle.std.proofs.lemmas.Grind.{common_steps}
 use Rattle.std.proofs.lemmas.Bool.Decides.{nat_tests}
-use Rattle.std.proofs.lemmas.Bool.{lt-ltb, eqb-true}
+use Rattle.std.proofs.lemmas.Bool.{lt-ltb}
 use Rattle.std.proofs.lemmas.Fmt.{decimal_is_IsNumeral, digits_is_IsNumeral}
 use Rattle.std.proofs.lemmas.List.{append-nil}
 use Rattle.std.proofs.lemmas.List.Elements.{All-head, All-tail}
 use Rattle.sd_sid.specs.Sid.{SidValue, IsSid}
 use Rattle.sd_text.specs.Grammar.{Name, number, begins, begins_digit, named}
 use Rattle.sd_text.specs.Reading.{find}
-use Rattle.sd_text.specs.Alias.{aliases, alias_in, same_sid, same_numbers}
+use Rattle.sd_sid.specs.Sid.{same_sid}
+use Rattle.sd_sid.proofs.Compared.{same_sid-true}
+use Rattle.sd_text.specs.Alias.{aliases, alias_in}
 use Rattle.sd_text.specs.Sid.{sub, subs_of, authority, sid}
 use Rattle.sd_text.specs.Canon.{hex, authority_canon, sub_canon, full_canon, sid_canon}
-use Rattle.sd_text.proofs.Parts.{went, chosen, both_hold}
+use Rattle.sd_text.proofs.Parts.{went, chosen}
 use Rattle.sd_text.proofs.Engine.{spells_find}
 use Rattle.sd_text.proofs.Sids.{SubsReach, subs_start, subs_more, subs_end}
 
@@ -122,19 +124,6 @@ AliasReads name = (rest : List ℕ) → (begins (name.letters ++ rest) (codes "S
 alias_rows : AllByRecursion AliasReads aliases
 unfolding aliases AliasReads
 alias_rows = (λ rest. (refl, refl), (λ rest. (refl, refl), (λ rest. (refl, refl), (λ rest. (refl, refl), (λ rest. (refl, refl), (λ rest. (refl, refl), (λ rest. (refl, refl), (λ rest. (refl, refl), (λ rest. (refl, refl), (λ rest. (refl, refl), (λ rest. (refl, refl), (λ rest. (refl, refl), (λ rest. (refl, refl), (λ rest. (refl, refl), (λ rest. (refl, refl), (λ rest. (refl, refl), (λ rest. (refl, refl), (λ rest. (refl, refl), (λ rest. (refl, refl), (λ rest. (refl, refl), (λ rest. (refl, refl), (λ rest. (refl, refl), (λ rest. (refl, refl), (λ rest. (refl, refl), (λ rest. (refl, refl), (λ rest. (refl, refl), (λ rest. (refl, refl), (λ rest. (refl, refl), (λ rest. (refl, refl), (λ rest. (refl, refl), (λ rest. (refl, refl), (λ rest. (refl, refl), (λ rest. (refl, refl), (λ rest. (refl, refl), tt))))))))))))))))))))))))))))))))))
-
-same_numbers-true : (xs ys : List ℕ) → same_numbers xs ys ≡ true → xs ≡ ys
-same_numbers-true [] [] e = refl
-same_numbers-true [] (y ∷ ys) e = absurd cc
-same_numbers-true (x ∷ xs) [] e = absurd cc
-same_numbers-true (x ∷ xs) (y ∷ ys) e = let both = both_hold (x == y) (same_numbers xs ys) e in let head = eqb-true x y both.0 in let tail = same_numbers-true xs ys both.1 in cc
-
-same_sid-true : (a b : SidValue) → same_sid a b ≡ true → a ≡ b
-same_sid-true a b e =
-    let both = both_hold (a.authority == b.authority) (same_numbers a.subs b.subs) e in
-    let same_authority = eqb-true a.authority b.authority both.0 in
-    let same_subs = same_numbers-true a.subs b.subs both.1 in
-    ap (λ (n : ℕ). record { authority = n; subs = a.subs }) same_authority ∙ ap (λ (ns : List ℕ). record { authority = b.authority; subs = ns }) same_subs
 
 alias_row : (names : List (Name SidValue)) (s : SidValue) (letters : List ℕ) → AllByRecursion AliasReads names → alias_in names s ≡ Some letters → (name : Name SidValue) × AliasReads name × (name.letters ≡ letters) × (name.stands_for ≡ s)
 unfolding alias_in

@@ -5,7 +5,8 @@ use Rattle.std.proofs.lemmas.Grind.{common_steps}
 use Rattle.std.specs.List.{AllByRecursion}
 use Rattle.sd_sid.specs.Sid.{SidValue}
 use Rattle.sd_text.specs.Grammar.{Name}
-use Rattle.sd_text.specs.Alias.{aliases, alias_in, same_sid}
+use Rattle.sd_sid.specs.Sid.{same_sid}
+use Rattle.sd_text.specs.Alias.{aliases, alias_in}
 use Rattle.sd_text.proofs.Parts.{chosen}
 
 -- what `{:012x}` writes of digits

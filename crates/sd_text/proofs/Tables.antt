@@ -9,7 +9,8 @@ use Rattle.sd_text.specs.Reading.{find}
 use Rattle.sd_text.specs.Rights.{bits_of}
 use Rattle.sd_sid.specs.Sid.{SidValue}
 use Rattle.sd_text.specs.declared.alias.WellKnown.{WellKnown}
-use Rattle.sd_text.specs.Alias.{alias_in, same_sid}
+use Rattle.sd_sid.specs.Sid.{same_sid}
+use Rattle.sd_text.specs.Alias.{alias_in}
 use Rattle.sd_text.specs.Canon.{name_in}
 use Rattle.sd_text.specs.Names.{Row, rows, renamed, well_known}
 use Rattle.sd_text.proofs.Parts.{chosen, name_is, found_name, found_is, part_ok}

@@ -1,6 +1,6 @@
 -- The aliases of SIDs ([MS-DTYP] 2.5.1.1, sid-token).
-use Rattle.std.specs.Prelude.{ℕ, Bool, true, false, ◌==◌, ◌&&◌, List, [], ◌∷◌, Option, Some, None, codes, if◌then◌else◌}
-use Rattle.sd_sid.specs.Sid.{SidValue}
+use Rattle.std.specs.Prelude.{ℕ, List, [], ◌∷◌, Option, Some, None, codes, if◌then◌else◌}
+use Rattle.sd_sid.specs.Sid.{SidValue, same_sid}
 use Rattle.sd_text.specs.Grammar.{Name}
 
 -- a name for the SID of this authority and these sub-authorities
@@ -33,17 +33,6 @@ abbrev pub domain_aliases : List (Name (Unit {0}))
 domain_aliases =
     of_a_domain (codes "DA") ∷ of_a_domain (codes "DU") ∷ of_a_domain (codes "DG") ∷ of_a_domain (codes "DC") ∷ of_a_domain (codes "DD") ∷ of_a_domain (codes "CA")
     ∷ of_a_domain (codes "RS") ∷ of_a_domain (codes "EA") ∷ of_a_domain (codes "SA") ∷ of_a_domain (codes "PA") ∷ of_a_domain (codes "LA") ∷ of_a_domain (codes "LG") ∷ []
-
--- the two lists are the same
-abbrev pub same_numbers : List ℕ → List ℕ → Bool
-same_numbers [] [] = true
-same_numbers [] (b ∷ bs) = false
-same_numbers (a ∷ xs) [] = false
-same_numbers (a ∷ xs) (b ∷ bs) = a == b && same_numbers xs bs
-
--- the SIDs are the same
-abbrev pub same_sid : SidValue → SidValue → Bool
-same_sid a b = a.authority == b.authority && same_numbers a.subs b.subs
 
 -- the letters of the table's name for the SID
 unfoldable pub alias_in : List (Name SidValue) → SidValue → Option (List ℕ)

@@ -2,7 +2,8 @@
 
 ghost use Rattle.std.specs.Prelude.{◌≡◌, ◌&&◌, ◌<◌, ◌≤◌, Err, length, drop, option_map, if◌then◌else◌};
 ghost use Rattle.sd_text.specs.Sid.{no_alias, begins_letter};
-ghost use Rattle.sd_text.specs.Alias.{aliases, alias_in, same_sid};
+ghost use Rattle.sd_sid.specs.Sid.{same_sid};
+ghost use Rattle.sd_text.specs.Alias.{aliases, alias_in};
 ghost use Rattle.sd_text.specs.Names.{rows, renamed, well_known};
 ghost use Rattle.sd_text.specs.Grammar.{one_of};
 ghost use Rattle.sd_text.specs.declared.fault.TextFault.TheVariants.{UnknownAlias, Syntax};

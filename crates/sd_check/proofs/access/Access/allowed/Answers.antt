@@ -1,4 +1,4 @@
-use Rattle.std.proofs.Common.{◌≡◌, ℕ, Bool, ◌∙◌, sym, ap, refl, arith}
+use Rattle.std.proofs.Common.{◌≡◌, ℕ, Bool, ◌∙◌, sym, ap, arith}
 use Rattle.sd_sid.specs.Mask.{mask_of}
 use Rattle.sd_sid.proofs.Masks.{mask_of-more, mask_of-same, mask_of-none, fewer_places}
 use Rattle.sd_acl.specs.Verdict.{first, is_allowed_by}

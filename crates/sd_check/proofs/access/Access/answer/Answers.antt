@@ -1,5 +1,5 @@
 -- The masks that the answer is made of are those of the verdict's definition.
-use Rattle.std.proofs.Common.{◌≡◌, ℕ, Bool, ◌∙◌, sym, ap}
+use Rattle.std.proofs.Common.{◌≡◌, ◌∙◌, sym, ap}
 use Rattle.std.proofs.lemmas.Bool.{cond-true, cond-false}
 use Rattle.sd_sid.specs.Mask.{mask_of}
 use Rattle.sd_sid.specs.Mapping.{mapped}

@@ -1,9 +1,4 @@
 -- Without a list, all of the object's rights are granted.
-use Rattle.std.proofs.Common.{◌≡◌, ◌∙◌, ap}
-use Rattle.sd_sid.specs.Mask.{mask_of}
-use Rattle.sd_acl.specs.Verdict.{acl_grants}
-use Rattle.sd_check.specs.Dacl.{entries_of}
-use Rattle.sd_check.specs.Token.{applies}
 use Rattle.sd_check.proofs.Given.{object_rights}
 use Rattle.sd_check.proofs.access.Access.granted_by_dacl.Goals as goal
 

@@ -1,6 +1,6 @@
 -- The entry at hand is the first one that settles the bit, or is passed over.
-use Rattle.std.proofs.Common.{◌∙◌, sym, ap, refl, arith, drop, drop_of_length-le}
-use Rattle.sd_acl.specs.Verdict.{decides, first, is_allowed_by}
+use Rattle.std.proofs.Common.{◌∙◌, sym, ap}
+use Rattle.sd_acl.specs.Verdict.{decides, is_allowed_by}
 use Rattle.sd_check.specs.Token.{applies}
 use Rattle.sd_check.proofs.FirstEntry.{found_here, found_later, settles}
 use Rattle.sd_check.proofs.access.Access.is_allowed.Goals as goal

@@ -1,6 +1,6 @@
 -- No entry so far settles the bit.
-use Rattle.std.proofs.Common.{◌≡◌, drop, find}
-use Rattle.sd_acl.specs.Verdict.{first, decides}
+use Rattle.std.proofs.Common.{◌≡◌, drop}
+use Rattle.sd_acl.specs.Verdict.{first}
 use Rattle.sd_check.specs.Token.{applies}
 use Rattle.sd_check.proofs.access.Access.is_allowed.Given as goal
 

@@ -1,5 +1,3 @@
-use Rattle.std.proofs.Common.{◌∙◌, ap}
-use Rattle.sd_sid.specs.Mask.{holds, mask_of}
 use Rattle.sd_check.proofs.Answered.{most_without_a_list}
 use Rattle.sd_check.proofs.access.Access.most.Goals as goal
 

@@ -1,0 +1,67 @@
+// One verdict of each kind. The worked examples of docs/CHECK.md are run from their texts, by the command line's tests.
+
+use crate::{DaclRef, GroupState, Privileges, Token, Verdict, check, check_parts};
+use bitflags::Flags;
+use sd_acl::{Ace, AceFlags, AceKind, AceList, Dacl, Descriptor};
+use sd_sid::{GenericMapping, Mask, Sid};
+use std::test::Fail;
+
+fn entry(kind: AceKind, mask: u32, sid: Sid) -> Ace {
+    let (flags, mask) = (AceFlags::empty(), Mask(mask));
+    Ace {
+        kind,
+        flags,
+        mask,
+        sid,
+    }
+}
+
+#[test]
+fn answers_by_the_list(rt: HostRuntime) -> Result<(), Fail> {
+    let user = Sid::new(5, &[21, 1, 2, 3, 1001])?;
+    let users = Sid::new(5, &[32, 545])?;
+    let groups = vec![in rt.alloc(); (users, GroupState::Enabled)]?;
+    let token = Token::new(user, groups, Privileges::default());
+    let entries = [
+        entry(AceKind::Deny, 0x2, user),
+        entry(AceKind::Allow, 0x8000_0000, users),
+    ];
+    let file = GenericMapping::file();
+    let rows = [
+        (0x8000_0000, Verdict::Granted(Mask(0x0012_0089))),
+        (0x3, Verdict::Denied { missing: Mask(0x2) }),
+        (0x0020_0001, Verdict::Reserved(Mask(0x0020_0000))),
+        (0x0200_0000, Verdict::Granted(Mask(0x0012_0089))),
+        (0, Verdict::EmptyRequest),
+    ];
+    for (asked, verdict) in rows {
+        let list = DaclRef::List(&entries);
+        assert_eq!(rt;
+            check_parts(None, list, &file, &token, Mask(asked)),
+            verdict,
+            "{asked:x}"
+        );
+    }
+    let null = check_parts(None, DaclRef::Null, &file, &token, Mask(0x2));
+    assert_eq!(rt; null, Verdict::Granted(Mask(0x2)));
+    Ok(())
+}
+
+#[test]
+fn answers_by_the_descriptor(rt: HostRuntime) -> Result<(), Fail> {
+    let user = Sid::new(5, &[21, 1, 2, 3, 1001])?;
+    let token = Token::new(user, Vec::new(rt.alloc()), Privileges::default());
+    let empty = AceList::new(Vec::new(rt.alloc())).ok().ok_or("a list")?;
+    let descriptor = Descriptor {
+        owner: Some(user),
+        group: None,
+        dacl: Dacl::List(empty),
+        protected: true,
+        auto_req: false,
+        auto_inherited: false,
+    };
+    let file = GenericMapping::file();
+    let verdict = check(&descriptor, &file, &token, Mask(0x0006_0001));
+    assert_eq!(rt; verdict, Verdict::Denied { missing: Mask(0x1) });
+    Ok(())
+}

@@ -1,0 +1,61 @@
+// Values of SIDs, masks and mappings, from the standard's tables.
+
+use crate::{BadMapping, GenericMapping, Mask, Sid, SidError};
+use std::test::Fail;
+
+#[test]
+fn makes_sids(rt: HostRuntime) -> Result<(), Fail> {
+    let administrators = Sid::new(5, &[32, 544])?;
+    assert_eq!(rt; administrators.authority(), 5);
+    assert_eq!(rt; administrators.subs(), [32, 544].as_slice());
+    assert!(rt; Sid::new(0xFFFF_FFFF_FFFF, &[u32::MAX; 15]).is_ok());
+    assert_eq!(rt; Sid::new(5, &[]), Err(SidError::Count));
+    assert_eq!(rt; Sid::new(5, &[0; 16]), Err(SidError::Count));
+    assert_eq!(rt; Sid::new(0x1_0000_0000_0000, &[]), Err(SidError::Count));
+    assert_eq!(rt;
+        Sid::new(0x1_0000_0000_0000, &[0]),
+        Err(SidError::Authority)
+    );
+    assert_eq!(rt; SidError::Authority.number(), 4);
+    Ok(())
+}
+
+#[test]
+fn compares_sids_by_value(rt: HostRuntime) -> Result<(), Fail> {
+    let short = Sid::new(5, &[1])?;
+    let long = Sid::new(5, &[1, 0])?;
+    let larger = Sid::new(5, &[2])?;
+    let owner_rights = Sid::new(3, &[4])?;
+    assert!(rt; short < long && long < larger && owner_rights < short);
+    assert!(rt; short != long && !short.is(&long) && short.is(&Sid::new(5, &[1])?));
+    assert!(rt; owner_rights.is_owner_rights() && !short.is_owner_rights());
+    Ok(())
+}
+
+#[test]
+fn joins_and_maps_masks(rt: HostRuntime) -> Result<(), Fail> {
+    let (one, two) = (Mask(0x0011), Mask(0x0110));
+    assert_eq!(rt; one.union(two), Mask(0x0111));
+    assert_eq!(rt; one.minus(two), Mask(0x0001));
+    assert_eq!(rt; one.common(two), Mask(0x0010));
+    assert_eq!(rt; Mask(0).with(31).bits(), 0x8000_0000);
+    assert!(rt; Mask(0).is_empty() && !one.is_empty() && one.holds(4) && !one.holds(5));
+    assert_eq!(rt; one.when(false), Mask(0));
+    let file = GenericMapping::file();
+    assert_eq!(rt; file.all(), Mask(0x001F_01FF));
+    let rows = [
+        (0x8000_0000, 0x0012_0089),
+        (0x4000_0000, 0x0012_0116),
+        (0x2000_0000, 0x0012_00A0),
+        (0x1000_0000, 0x001F_01FF),
+        (0xE000_0000, 0x0012_01BF),
+        (0x0100_0002, 0x0100_0002),
+    ];
+    for (generic, mapped) in rows {
+        assert_eq!(rt; file.map(Mask(generic)), Mask(mapped), "{generic:x}");
+    }
+    let beyond = Mask(0x0020_0000);
+    assert_eq!(rt; GenericMapping::new(one, two, one, beyond), Err(BadMapping));
+    assert!(rt; GenericMapping::new(one, two, one, Mask(0x001F_FFFF)).is_ok());
+    Ok(())
+}
