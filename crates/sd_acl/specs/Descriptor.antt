@@ -1,5 +1,5 @@
 -- Security descriptors as plain values ([MS-DTYP] 2.4.6).
-use Rattle.std.specs.Prelude.{◌^◌, ◌<◌, ◌≤◌, Bool, not, ◌&&◌, IsTrue, Option, IfSome, List}
+use Rattle.std.specs.Prelude.{◌≡◌, ◌^◌, ◌<◌, ◌≤◌, bit_and, Bool, not, ◌&&◌, IsTrue, Option, IfSome, List}
 use Rattle.std.specs.List.{AllByRecursion}
 use Rattle.sd_sid.specs.Sid.{SidValue, IsSid}
 use Rattle.sd_acl.specs.Ace.{acl_size_of}
@@ -43,6 +43,16 @@ abbrev pub IsDacl : Dacl → Type 0
 IsDacl Absent = Unit {0}
 IsDacl Null = Unit {0}
 IsDacl (Entries es) = AreEntries es
+
+-- the entry has no flag outside the seven that have names ([MS-DTYP] 2.4.4.1, AceFlags)
+abbrev pub HasNamedFlags : Ace → Type 0
+HasNamedFlags e = bit_and e.flags.0 0xDF ≡ e.flags.0
+
+-- nor has any entry of the DACL
+abbrev pub HaveNamedFlags : Dacl → Type 0
+HaveNamedFlags Absent = Unit {0}
+HaveNamedFlags Null = Unit {0}
+HaveNamedFlags (Entries es) = AllByRecursion HasNamedFlags es
 
 -- what every descriptor is
 pub record IsDescriptor (d : DescriptorValue) : Type 0 where

@@ -8,7 +8,7 @@ use std::marker::Model;
 use thiserror::Error;
 
 /// The most bytes that a list takes: AclSize is 16 bits wide ([MS-DTYP] 2.4.5).
-const MAX_ACL_BYTES: u64 = 0xFFFF;
+pub const MAX_ACL_BYTES: u64 = 0xFFFF;
 
 /// A list of entries that takes at most 65,535 bytes ([MS-DTYP] 2.4.5). Contracts see it as the list.
 #[derive(Debug, Drop)]

@@ -18,7 +18,7 @@ mod sid;
 pub use bytes::{push_sid, read_sid, sid_bytes, sids_come_back, sids_stand};
 pub use mapping::{BadMapping, GenericMapping};
 pub use mask::Mask;
-pub use sid::{Sid, SidError, sids_compare_by_value};
+pub use sid::{AUTHORITY_LIMIT, MAX_SUBS, Sid, SidError, sids_compare_by_value};
 
 #[cfg(test)]
 mod tests;

@@ -25,7 +25,8 @@ impl Mask {
     pub fn bits(self) -> u32
         ensures { result ≡ self }
     {
-        self.0
+        let Mask(bits) = self;
+        bits
     }
 
     /// What either mask holds.

@@ -7,10 +7,10 @@ use std::marker::Model;
 use thiserror::Error;
 
 /// The most sub-authorities that a SID has ([MS-DTYP] 2.4.2.2, SubAuthorityCount).
-pub(crate) const MAX_SUBS: usize = 15;
+pub const MAX_SUBS: usize = 15;
 
 /// An identifier authority is below this: it has six bytes ([MS-DTYP] 2.4.2.2, IdentifierAuthority).
-const AUTHORITY_LIMIT: u64 = 0x1_0000_0000_0000;
+pub const AUTHORITY_LIMIT: u64 = 0x1_0000_0000_0000;
 
 /// A security identifier ([MS-DTYP] 2.4.2): an authority below 2^48, and 1 to 15 sub-authorities of 32 bits.
 /// Contracts see it as that pair. It is a plain value: two are compared whole, without a look at the number
@@ -121,7 +121,14 @@ impl Sid {
     pub fn is_owner_rights(&self) -> bool
         ensures { result ≡ same_sid self.now owner_rights }
     {
-        self.authority == 3 && self.count == 1 && self.subs[0] == 4
+        matches!(
+            self,
+            Sid {
+                authority: 3,
+                count: 1,
+                subs: [4, ..]
+            }
+        )
     }
 
     /// Tells contracts what every SID is.

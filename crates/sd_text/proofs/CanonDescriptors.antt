@@ -5,7 +5,7 @@ use Rattle.std.specs.List.{flat_map}
 use Rattle.std.proofs.lemmas.List.{append-nil}
 use Rattle.sd_sid.specs.Sid.{SidValue, IsSid}
 use Rattle.sd_acl.specs.Dacl.{IsAbsent}
-use Rattle.sd_acl.specs.Descriptor.{DescriptorValue, IsDacl, IsDescriptor}
+use Rattle.sd_acl.specs.Descriptor.{DescriptorValue, IsDacl, IsDescriptor, HaveNamedFlags}
 use Rattle.sd_acl.specs.declared.ace.Ace.{Ace}
 use Rattle.sd_acl.specs.declared.descriptor.Dacl.{Dacl}
 use Rattle.sd_acl.specs.declared.descriptor.Dacl.TheVariants.{Absent, Null, List as Entries}
@@ -19,7 +19,7 @@ use Rattle.sd_text.specs.Rights.{mask_text, rights}
 use Rattle.sd_text.specs.Sid.{sid_text, sid}
 use Rattle.sd_text.specs.Sddl.{sid_section, dacl_words, no_words, with_word, words, dacl_behind, dacl_section, no_sacl, sections, sddl}
 use Rattle.sd_text.specs.Canon.{where_set, words_canon, entry_canon, section_canon, dacl_canon, sid_canon, rights_canon, canon}
-use Rattle.sd_text.specs.Laws.{HaveNamedFlags, DescriptorsComeBack, SidsComeBack, MasksComeBack}
+use Rattle.sd_text.specs.Laws.{DescriptorsComeBack, SidsComeBack, MasksComeBack}
 use Rattle.sd_text.proofs.Engine.{find_spells}
 use Rattle.sd_text.proofs.Tables.{IsTogether, run_start, run_more, run_end}
 use Rattle.sd_text.proofs.CanonSids.{Stops, sid_read}

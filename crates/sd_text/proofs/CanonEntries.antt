@@ -6,14 +6,13 @@ use Rattle.std.proofs.lemmas.Bool.{le-ltb}
 use Rattle.std.proofs.lemmas.List.{append-nil}
 use Rattle.std.proofs.lemmas.List.Sums.{sum_by-append, sum_by-cons}
 use Rattle.sd_acl.specs.Ace.{ace_size, acl_size_of}
-use Rattle.sd_acl.specs.Descriptor.{IsAce}
+use Rattle.sd_acl.specs.Descriptor.{IsAce, HasNamedFlags}
 use Rattle.sd_acl.specs.declared.ace.Ace.{Ace}
 use Rattle.sd_acl.specs.declared.ace.AceKind.{AceKind}
 use Rattle.sd_acl.specs.declared.ace.AceKind.TheVariants.{Allow, Deny}
 use Rattle.sd_text.specs.Reading.{find}
 use Rattle.sd_text.specs.Entry.{kind, guid, entry, entry_end, entries}
 use Rattle.sd_text.specs.Canon.{kind_canon, flags_canon, rights_canon, sid_canon, entry_canon}
-use Rattle.sd_text.specs.Laws.{HasNamedFlags}
 use Rattle.sd_text.proofs.Entries.{EntriesReach, entries_start, entries_more, entries_end}
 use Rattle.sd_text.proofs.CanonSids.{Stops, sid_read}
 use Rattle.sd_text.proofs.CanonRights.{flags_read, rights_read}

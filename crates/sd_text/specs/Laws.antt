@@ -1,11 +1,7 @@
 -- What holds of every text.
-use Rattle.std.specs.Prelude.{◌≡◌, ℕ, ◌^◌, ◌<◌, ◌⊎◌, List, bit_and}
-use Rattle.std.specs.List.{AllByRecursion}
+use Rattle.std.specs.Prelude.{◌≡◌, ℕ, ◌^◌, ◌<◌, ◌⊎◌, List}
 use Rattle.sd_sid.specs.Sid.{SidValue, IsSid}
-use Rattle.sd_acl.specs.Descriptor.{DescriptorValue, IsDescriptor}
-use Rattle.sd_acl.specs.declared.ace.Ace.{Ace}
-use Rattle.sd_acl.specs.declared.descriptor.Dacl.{Dacl}
-use Rattle.sd_acl.specs.declared.descriptor.Dacl.TheVariants.{Absent, Null, List as Entries}
+use Rattle.sd_acl.specs.Descriptor.{DescriptorValue, IsDescriptor, HaveNamedFlags}
 use Rattle.sd_text.specs.Canon.{sid_canon, rights_canon, canon}
 use Rattle.sd_text.specs.Rights.{mask_text}
 use Rattle.sd_text.specs.Sddl.{sddl}
@@ -28,16 +24,6 @@ NeverHasBoth {A = A} grammar = (text : List ℕ) (a : A) (fault : TextFault) (pl
 -- no text has two faults, nor one at two places
 abbrev pub HasOneFault : {A : Type 0} → Grammar A → Type 0
 HasOneFault grammar = (text : List ℕ) (f g : TextFault) (p q : ℕ) → HasFault grammar text f p → HasFault grammar text g q → (f ≡ g) × (p ≡ q)
-
--- the entry has no flag outside the seven that have names
-abbrev pub HasNamedFlags : Ace → Type 0
-HasNamedFlags e = bit_and e.flags.0 0xDF ≡ e.flags.0
-
--- nor has any entry of the DACL
-abbrev pub HaveNamedFlags : Dacl → Type 0
-HaveNamedFlags Absent = Unit {0}
-HaveNamedFlags Null = Unit {0}
-HaveNamedFlags (Entries es) = AllByRecursion HasNamedFlags es
 
 -- the printed text of a descriptor spells it
 abbrev pub DescriptorsComeBack : Type 0

@@ -10,14 +10,11 @@ ghost use Rattle.sd_text.specs.Reading.{Gives, GivesUnlessMemory, find};
 use crate::cursor::Cursor;
 use crate::fault::{Stop, TextFault};
 use bitflags::Flags;
-use sd_acl::{Ace, AceFlags, AceKind, AceList};
+use sd_acl::{Ace, AceFlags, AceKind, AceList, MAX_ACL_BYTES};
 use std::alloc::Global;
 
 /// The bytes of a list without entries, its header ([MS-DTYP] 2.4.5).
 pub(crate) const EMPTY_ACL_BYTES: u64 = 8;
-
-/// The most bytes that a list takes: AclSize is 16 bits wide ([MS-DTYP] 2.4.5).
-const MAX_ACL_BYTES: u64 = 0xFFFF;
 
 /// The names of flags ([MS-DTYP] 2.4.4.1, AceFlags).
 static FLAGS: [(&str, u32); 7] = [

@@ -9,16 +9,10 @@ ghost use Rattle.sd_text.specs.Reading.{Gives, find};
 
 use crate::cursor::Cursor;
 use crate::fault::{TextError, TextFault};
-use sd_sid::Sid;
-
-/// The most sub-authorities that a SID has ([MS-DTYP] 2.4.2.2, SubAuthorityCount).
-const MAX_SUBS: usize = 15;
+use sd_sid::{AUTHORITY_LIMIT, MAX_SUBS, Sid};
 
 /// A sub-authority is below this: it has 32 bits ([MS-DTYP] 2.4.2.2, SubAuthority).
 const SUB_LIMIT: u64 = 0x1_0000_0000;
-
-/// An identifier authority is below this: it has six bytes ([MS-DTYP] 2.4.2.2, IdentifierAuthority).
-pub(crate) const AUTHORITY_LIMIT: u64 = 0x1_0000_0000_0000;
 
 /// The SID that the text spells, in full or by its alias ([MS-DTYP] 2.4.2.1). Takes no memory: an error is
 /// the text's first fault from the left.

@@ -12,14 +12,14 @@ use Rattle.sd_sid.specs.SidBytes.{u32_at, bytes_of_sid}
 use Rattle.sd_sid.proofs.SidLaws.{length_of_sid}
 use Rattle.sd_acl.specs.Ace.{ace_size, acl_size_of}
 use Rattle.sd_acl.specs.Dacl.{is_absent}
-use Rattle.sd_acl.specs.Descriptor.{DescriptorValue, IsDescriptor, IsDacl, IsAce, AreEntries}
+use Rattle.sd_acl.specs.Descriptor.{DescriptorValue, IsDescriptor, IsDacl, IsAce, AreEntries, HaveNamedFlags}
 use Rattle.sd_acl.specs.declared.ace.Ace.{Ace}
 use Rattle.sd_acl.specs.declared.descriptor.Dacl.{Dacl}
 use Rattle.sd_acl.specs.declared.descriptor.Dacl.TheVariants.{Absent, Null, List as Entries}
 use Rattle.sd_wire.specs.Reading.{u16_at, is_set}
 use Rattle.sd_wire.specs.Writing.{entry_parts, entry_bytes, list_bytes, trustee_part, dacl_part, is_list, offset_of, control_of, header_bytes, header_of, wire_of}
 use Rattle.sd_wire.specs.Standing.{TrusteeStands, EntryStands, EntriesStand, ListStands, DaclStands, IsPresent, IsWithout, Holds}
-use Rattle.sd_wire.specs.Laws.{HasKnownFlags, DescriptorsComeBack}
+use Rattle.sd_wire.specs.Laws.{DescriptorsComeBack}
 use Rattle.sd_wire.proofs.Lengths.{length_of_entry, length_of_list, length_of_header, few_entries}
 use Rattle.sd_wire.proofs.Places.{u16_behind, stands_behind_front}
 use Rattle.sd_wire.proofs.HeldIsRead.{held_is_read}
@@ -138,7 +138,7 @@ trustee_is_held : (front rest : List ℕ) (t : Option SidValue) → 20 ≤ lengt
 trustee_is_held front rest None h = refl
 trustee_is_held front rest (Some s) h = (h, stands_behind_front front (bytes_of_sid s) rest)
 
-dacl_is_held : (front rest : List ℕ) (dacl : Dacl) → is_absent dacl ≡ false → IsDacl dacl → HasKnownFlags dacl → 20 ≤ length front → DaclStands (front ++ (dacl_part dacl ++ rest)) (offset_of (is_list dacl) (length front)) dacl
+dacl_is_held : (front rest : List ℕ) (dacl : Dacl) → is_absent dacl ≡ false → IsDacl dacl → HaveNamedFlags dacl → 20 ≤ length front → DaclStands (front ++ (dacl_part dacl ++ rest)) (offset_of (is_list dacl) (length front)) dacl
 dacl_is_held front rest Absent there sound known h = absurd cc
 dacl_is_held front rest Null there sound known h = refl
 dacl_is_held front rest (Entries es) there sound known h = (h, list_is_held front rest es sound known)
@@ -173,7 +173,7 @@ offset_small true o h = h
 offset_small false o h = omega arith
 
 -- a header of 20 bytes whose fields are those of the descriptor, and the parts behind it
-parts_are_held : (header : List ℕ) (d : DescriptorValue) → length header ≡ 20 → IsDescriptor d → HasKnownFlags d.dacl
+parts_are_held : (header : List ℕ) (d : DescriptorValue) → length header ≡ 20 → IsDescriptor d → HaveNamedFlags d.dacl
     → Fields (header ++ (trustee_part d.owner ++ (trustee_part d.group ++ dacl_part d.dacl))) (control_of d) (offset_of (is_some d.owner) 20) (offset_of (is_some d.group) (20 + length (trustee_part d.owner)))
     (offset_of (is_list d.dacl) (20 + length (trustee_part d.owner) + length (trustee_part d.group)))
     → Holds (header ++ (trustee_part d.owner ++ (trustee_part d.group ++ dacl_part d.dacl))) d
@@ -216,7 +216,7 @@ parts_are_held header d size sound known fields =
           record { dacl = absent_is d.dacl absent; protected = flags.0; auto_req = flags.1; auto_inherited = flags.2 });
     }
 
-wire_is_held : (d : DescriptorValue) → IsDescriptor d → HasKnownFlags d.dacl → Holds (wire_of d) d
+wire_is_held : (d : DescriptorValue) → IsDescriptor d → HaveNamedFlags d.dacl → Holds (wire_of d) d
 unfolding wire_of header_of
 wire_is_held d sound known =
     let short_owner = trustee_len d.owner sound.owner in

@@ -1,23 +1,14 @@
 -- The laws of the self-relative form.
-use Rattle.std.specs.Prelude.{◌≡◌, ℕ, ◌<◌, List, slice_index, bit_and, Ok, Err}
-use Rattle.std.specs.List.{AllByRecursion}
-use Rattle.sd_acl.specs.Descriptor.{DescriptorValue, IsDescriptor}
-use Rattle.sd_acl.specs.declared.descriptor.Dacl.{Dacl}
-use Rattle.sd_acl.specs.declared.descriptor.Dacl.TheVariants.{Absent, Null, List as Entries}
+use Rattle.std.specs.Prelude.{◌≡◌, ℕ, ◌<◌, List, slice_index, Ok, Err}
+use Rattle.sd_acl.specs.Descriptor.{DescriptorValue, IsDescriptor, HaveNamedFlags}
 use Rattle.sd_wire.specs.declared.fault.WireFault.{WireFault}
 use Rattle.sd_wire.specs.Reading.{descriptor_read}
 use Rattle.sd_wire.specs.Standing.{Holds}
 use Rattle.sd_wire.specs.Writing.{wire_of}
 
--- no entry has the flag bit 0x20
-abbrev pub HasKnownFlags : Dacl → Type 0
-HasKnownFlags Absent = Unit {0}
-HasKnownFlags Null = Unit {0}
-HasKnownFlags (Entries es) = AllByRecursion (λ e. bit_and e.flags.0 0xDF ≡ e.flags.0) es
-
 -- what is written is read again
 abbrev pub DescriptorsComeBack : Type 0
-DescriptorsComeBack = (d : DescriptorValue) → IsDescriptor d → HasKnownFlags d.dacl → descriptor_read (wire_of d) ≡ Ok d
+DescriptorsComeBack = (d : DescriptorValue) → IsDescriptor d → HaveNamedFlags d.dacl → descriptor_read (wire_of d) ≡ Ok d
 
 -- what is read stands in the bytes
 abbrev pub ReadingsAreHeld : Type 0
