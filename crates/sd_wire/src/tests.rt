@@ -147,79 +147,57 @@ fn each_change_has_its_fault(rt: HostRuntime) {
 }
 
 #[test]
-fn parts_lie_where_the_offsets_say(rt: HostRuntime) -> Result<(), Fail> {
+fn parts_may_share_their_bytes(rt: HostRuntime) -> Result<(), Fail> {
+    let administrators = Some(Sid::new(5, &[32, 544])?);
+    let everyone = everyone_all()?;
+    let shared = changed(&rt, 8, &[20]);
+    assert!(rt; is_held(rt.alloc(), &shared, administrators, administrators, &[everyone]));
+    let inside_the_entry = changed(&rt, 4, &[64]);
+    let system = Some(Sid::new(5, &[18])?);
+    assert!(rt; is_held(rt.alloc(), &inside_the_entry, Some(everyone.sid), system, &[everyone]));
+    Ok(())
+}
+
+#[test]
+fn the_count_tells_how_many_entries_are_read(rt: HostRuntime) -> Result<(), Fail> {
     let administrators = Some(Sid::new(5, &[32, 544])?);
     let system = Some(Sid::new(5, &[18])?);
-    let everyone = everyone_all()?;
-    let one = [everyone];
-    // The group shares the owner's bytes; the owner lies inside the entry; no entry is counted.
-    assert!(rt;
-        is_held(
-            rt.alloc(),
-            &changed(&rt, 8, &[20]),
-            administrators,
-            administrators,
-            &one
-        )
-    );
-    assert!(rt;
-        is_held(
-            rt.alloc(),
-            &changed(&rt, 4, &[64]),
-            Some(everyone.sid),
-            system,
-            &one
-        )
-    );
-    assert!(rt;
-        is_held(
-            rt.alloc(),
-            &changed(&rt, 52, &[0]),
-            administrators,
-            system,
-            &[]
-        )
-    );
-    // Revision 4, the flag bit 0x20, and SP without a SACL tell nothing.
-    assert!(rt;
-        is_held(
-            rt.alloc(),
-            &changed(&rt, 48, &[4]),
-            administrators,
-            system,
-            &one
-        )
-    );
-    assert!(rt;
-        is_held(
-            rt.alloc(),
-            &changed(&rt, 57, &[0x20]),
-            administrators,
-            system,
-            &one
-        )
-    );
-    assert!(rt;
-        is_held(
-            rt.alloc(),
-            &changed(&rt, 2, &[0x14]),
-            administrators,
-            system,
-            &one
-        )
-    );
-    // A list behind which, and an entry behind whose SID, other bytes stand.
+    let uncounted = changed(&rt, 52, &[0]);
+    assert!(rt; is_held(rt.alloc(), &uncounted, administrators, system, &[]));
+    Ok(())
+}
+
+#[test]
+fn what_tells_nothing_is_passed_over(rt: HostRuntime) -> Result<(), Fail> {
+    let administrators = Some(Sid::new(5, &[32, 544])?);
+    let system = Some(Sid::new(5, &[18])?);
+    let revision_4 = changed(&rt, 48, &[4]);
+    let flag_bit_0x20 = changed(&rt, 57, &[0x20]);
+    let sacl_present_without_offset = changed(&rt, 2, &[0x14]);
+    for bytes in [revision_4, flag_bit_0x20, sacl_present_without_offset] {
+        assert!(rt; is_held(rt.alloc(), &bytes, administrators, system, &[everyone_all()?]));
+    }
+    Ok(())
+}
+
+#[test]
+fn bytes_behind_entries_and_sids_are_passed_over(rt: HostRuntime) -> Result<(), Fail> {
     let slack = [
         0x01, 0x00, 0x04, 0x80, 0, 0, 0, 0, 0, 0, 0, 0, 0, 0, 0, 0, 0x14, 0, 0, 0, 0x04, 0x00,
         0x24, 0x00, 0x01, 0x00, 0x00, 0x00, 0x00, 0x20, 0x18, 0x00, 0xff, 0x01, 0x1f, 0x00, 0x01,
         0x01, 0, 0, 0, 0, 0, 0x01, 0, 0, 0, 0, 0xde, 0xad, 0xbe, 0xef, 0, 0, 0, 0,
     ];
-    assert!(rt; is_held(rt.alloc(), &slack, None, None, &one));
-    // A part at an odd offset is read there, and not from the next multiple of 4 on.
+    assert!(rt; is_held(rt.alloc(), &slack, None, None, &[everyone_all()?]));
+    Ok(())
+}
+
+#[test]
+fn a_part_at_an_odd_offset_is_read_there(rt: HostRuntime) -> Result<(), Fail> {
     let odd = [
         0x01, 0x00, 0x00, 0x80, 0x15, 0, 0, 0, 0, 0, 0, 0, 0, 0, 0, 0, 0, 0, 0, 0, 0xff, 0x01,
         0x01, 0, 0, 0, 0, 0, 0x05, 0x12, 0, 0, 0,
     ];
+    let system = Some(Sid::new(5, &[18])?);
     assert_eq!(rt; read_descriptor(rt.alloc(), &odd)?.owner, system);
     Ok(())
 }
