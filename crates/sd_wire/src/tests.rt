@@ -151,10 +151,26 @@ fn parts_may_share_their_bytes(rt: HostRuntime) -> Result<(), Fail> {
     let administrators = Some(Sid::new(5, &[32, 544])?);
     let everyone = everyone_all()?;
     let shared = changed(&rt, 8, &[20]);
-    assert!(rt; is_held(rt.alloc(), &shared, administrators, administrators, &[everyone]));
+    assert!(rt;
+        is_held(
+            rt.alloc(),
+            &shared,
+            administrators,
+            administrators,
+            &[everyone]
+        )
+    );
     let inside_the_entry = changed(&rt, 4, &[64]);
     let system = Some(Sid::new(5, &[18])?);
-    assert!(rt; is_held(rt.alloc(), &inside_the_entry, Some(everyone.sid), system, &[everyone]));
+    assert!(rt;
+        is_held(
+            rt.alloc(),
+            &inside_the_entry,
+            Some(everyone.sid),
+            system,
+            &[everyone]
+        )
+    );
     Ok(())
 }
 
@@ -175,7 +191,15 @@ fn what_tells_nothing_is_passed_over(rt: HostRuntime) -> Result<(), Fail> {
     let flag_bit_0x20 = changed(&rt, 57, &[0x20]);
     let sacl_present_without_offset = changed(&rt, 2, &[0x14]);
     for bytes in [revision_4, flag_bit_0x20, sacl_present_without_offset] {
-        assert!(rt; is_held(rt.alloc(), &bytes, administrators, system, &[everyone_all()?]));
+        assert!(rt;
+            is_held(
+                rt.alloc(),
+                &bytes,
+                administrators,
+                system,
+                &[everyone_all()?]
+            )
+        );
     }
     Ok(())
 }

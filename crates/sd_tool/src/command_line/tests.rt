@@ -99,14 +99,21 @@ fn expect_verdicts(rt: &(impl Abort + AllocGlobal), rows: &[(&str, &str, &str, u
 }
 
 /// Verdicts for the user with one or two words more: a descriptor, what is asked for, the words, and the line.
-fn expect_verdicts_with(
-    rt: &(impl Abort + AllocGlobal),
-    rows: &[(&str, &str, &[&str], &str, u8)],
-) {
+fn expect_verdicts_with(rt: &(impl Abort + AllocGlobal), rows: &[(&str, &str, &[&str], &str, u8)]) {
     for (sddl, mask, words, line, status) in rows {
         match words {
-            [one] => expect(rt, &["sdstore", "verdict", sddl, USER, mask, one], line, *status),
-            [one, two] => expect(rt, &["sdstore", "verdict", sddl, USER, mask, one, two], line, *status),
+            [one] => expect(
+                rt,
+                &["sdstore", "verdict", sddl, USER, mask, one],
+                line,
+                *status,
+            ),
+            [one, two] => expect(
+                rt,
+                &["sdstore", "verdict", sddl, USER, mask, one, two],
+                line,
+                *status,
+            ),
             _ => assert!(rt; false, "{words:?}"),
         }
     }
@@ -139,10 +146,30 @@ fn prints_the_verdict_of_lists(rt: HostRuntime) {
         ("O:BAG:SYD:", "0x1", "denied 0x1\n", 1),
         ("O:BAG:SYD:NO_ACCESS_CONTROL", "0x1", "granted 0x1\n", 0),
         ("O:BAG:SY", "0x1", "granted 0x1\n", 0),
-        ("O:BAG:SYD:(A;;FR;;;BU)(D;;FA;;;BU)", "0x120089", "granted 0x120089\n", 0),
-        ("O:BAG:SYD:(A;;FR;;;BU)(D;;FA;;;BU)", "0x12008B", "denied 0x2\n", 1),
-        ("O:BAG:SYD:(D;OICIIO;FA;;;BU)(A;;FR;;;BU)", "0x80000000", "granted 0x120089\n", 0),
-        ("O:BAG:SYD:(A;;GA;;;BU)", "0x10000000", "granted 0x1f01ff\n", 0),
+        (
+            "O:BAG:SYD:(A;;FR;;;BU)(D;;FA;;;BU)",
+            "0x120089",
+            "granted 0x120089\n",
+            0,
+        ),
+        (
+            "O:BAG:SYD:(A;;FR;;;BU)(D;;FA;;;BU)",
+            "0x12008B",
+            "denied 0x2\n",
+            1,
+        ),
+        (
+            "O:BAG:SYD:(D;OICIIO;FA;;;BU)(A;;FR;;;BU)",
+            "0x80000000",
+            "granted 0x120089\n",
+            0,
+        ),
+        (
+            "O:BAG:SYD:(A;;GA;;;BU)",
+            "0x10000000",
+            "granted 0x1f01ff\n",
+            0,
+        ),
     ];
     expect_verdicts(&rt, &rows);
 }
@@ -150,9 +177,24 @@ fn prints_the_verdict_of_lists(rt: HostRuntime) {
 #[test]
 fn prints_the_most_that_is_allowed(rt: HostRuntime) {
     let rows = [
-        ("O:BAG:SYD:(D;;FW;;;BU)(A;;FA;;;BU)", "0x02000000", "granted 0xd00e9\n", 0),
-        ("O:BAG:SYD:(D;;FW;;;BU)(A;;FA;;;BU)", "0x02000002", "denied 0x2\n", 1),
-        ("O:BAG:SYD:NO_ACCESS_CONTROL", "0x02000000", "granted 0x1f01ff\n", 0),
+        (
+            "O:BAG:SYD:(D;;FW;;;BU)(A;;FA;;;BU)",
+            "0x02000000",
+            "granted 0xd00e9\n",
+            0,
+        ),
+        (
+            "O:BAG:SYD:(D;;FW;;;BU)(A;;FA;;;BU)",
+            "0x02000002",
+            "denied 0x2\n",
+            1,
+        ),
+        (
+            "O:BAG:SYD:NO_ACCESS_CONTROL",
+            "0x02000000",
+            "granted 0x1f01ff\n",
+            0,
+        ),
         ("O:BAG:SYD:", "0x02000000", "denied 0x2000000\n", 1),
     ];
     expect_verdicts(&rt, &rows);
@@ -161,9 +203,19 @@ fn prints_the_most_that_is_allowed(rt: HostRuntime) {
 #[test]
 fn prints_what_no_list_grants(rt: HostRuntime) {
     let rows = [
-        ("O:BAG:SYD:NO_ACCESS_CONTROL", "0x01000000", "denied 0x1000000\n", 1),
+        (
+            "O:BAG:SYD:NO_ACCESS_CONTROL",
+            "0x01000000",
+            "denied 0x1000000\n",
+            1,
+        ),
         ("O:BAG:SYD:NO_ACCESS_CONTROL", "0", "empty\n", 1),
-        ("O:BAG:SYD:NO_ACCESS_CONTROL", "0x00200001", "reserved 0x200000\n", 1),
+        (
+            "O:BAG:SYD:NO_ACCESS_CONTROL",
+            "0x00200001",
+            "reserved 0x200000\n",
+            1,
+        ),
     ];
     expect_verdicts(&rt, &rows);
 }
@@ -202,8 +254,20 @@ fn prints_the_verdict_for_the_owner(rt: HostRuntime) {
 #[test]
 fn prints_the_verdict_for_deny_only_groups(rt: HostRuntime) {
     let rows: [(&str, &str, &[&str], &str, u8); 3] = [
-        ("O:BAG:SYD:(A;;FR;;;BU)", "0x1", &["BU=deny"], "denied 0x1\n", 1),
-        ("O:BAG:SYD:(D;;0x1;;;BU)(A;;FR;;;WD)", "0x1", &["BU=deny", "WD"], "denied 0x1\n", 1),
+        (
+            "O:BAG:SYD:(A;;FR;;;BU)",
+            "0x1",
+            &["BU=deny"],
+            "denied 0x1\n",
+            1,
+        ),
+        (
+            "O:BAG:SYD:(D;;0x1;;;BU)(A;;FR;;;WD)",
+            "0x1",
+            &["BU=deny", "WD"],
+            "denied 0x1\n",
+            1,
+        ),
         ("O:BUG:SYD:", "0x20000", &["BU=deny"], "denied 0x20000\n", 1),
     ];
     expect_verdicts_with(&rt, &rows);
@@ -212,8 +276,20 @@ fn prints_the_verdict_for_deny_only_groups(rt: HostRuntime) {
 #[test]
 fn counts_each_place_of_a_group_given_twice(rt: HostRuntime) {
     let rows: [(&str, &str, &[&str], &str, u8); 2] = [
-        ("O:BAG:SYD:(A;;FR;;;BU)", "0x1", &["BU", "BU=deny"], "granted 0x1\n", 0),
-        ("O:BAG:SYD:(D;;0x1;;;BU)(A;;FR;;;BU)", "0x1", &["BU", "BU=deny"], "denied 0x1\n", 1),
+        (
+            "O:BAG:SYD:(A;;FR;;;BU)",
+            "0x1",
+            &["BU", "BU=deny"],
+            "granted 0x1\n",
+            0,
+        ),
+        (
+            "O:BAG:SYD:(D;;0x1;;;BU)(A;;FR;;;BU)",
+            "0x1",
+            &["BU", "BU=deny"],
+            "denied 0x1\n",
+            1,
+        ),
     ];
     expect_verdicts_with(&rt, &rows);
 }
@@ -221,27 +297,67 @@ fn counts_each_place_of_a_group_given_twice(rt: HostRuntime) {
 #[test]
 fn prints_the_verdict_for_disabled_groups(rt: HostRuntime) {
     let rows: [(&str, &str, &[&str], &str, u8); 2] = [
-        ("O:BAG:SYD:(D;;0x1;;;BU)(A;;FR;;;WD)", "0x1", &["BU=off", "WD"], "granted 0x1\n", 0),
-        ("O:BAG:SYD:(A;;FR;;;BU)", "0x1", &["bu=off"], "denied 0x1\n", 1),
+        (
+            "O:BAG:SYD:(D;;0x1;;;BU)(A;;FR;;;WD)",
+            "0x1",
+            &["BU=off", "WD"],
+            "granted 0x1\n",
+            0,
+        ),
+        (
+            "O:BAG:SYD:(A;;FR;;;BU)",
+            "0x1",
+            &["bu=off"],
+            "denied 0x1\n",
+            1,
+        ),
     ];
     expect_verdicts_with(&rt, &rows);
 }
 
 #[test]
 fn takes_a_group_in_full_and_in_lower_case(rt: HostRuntime) {
-    let rows: [(&str, &str, &[&str], &str, u8); 1] = [
-        ("O:BAG:SYD:(A;;FR;;;BU)", "0x1", &["s-1-5-32-545"], "granted 0x1\n", 0),
-    ];
+    let rows: [(&str, &str, &[&str], &str, u8); 1] = [(
+        "O:BAG:SYD:(A;;FR;;;BU)",
+        "0x1",
+        &["s-1-5-32-545"],
+        "granted 0x1\n",
+        0,
+    )];
     expect_verdicts_with(&rt, &rows);
 }
 
 #[test]
 fn prints_the_verdict_for_privileges(rt: HostRuntime) {
     let rows: [(&str, &str, &[&str], &str, u8); 4] = [
-        ("O:BAG:SYD:NO_ACCESS_CONTROL", "0x01000000", &["BU", "+security"], "granted 0x1000000\n", 0),
-        ("O:BAG:SYD:", "0x02000000", &["BU", "+take"], "granted 0x80000\n", 0),
-        ("O:BAG:SYD:(A;;FR;;;BU)", "0x03000000", &["BU", "+security"], "granted 0x1120089\n", 0),
-        ("O:BAG:SYD:(D;;WO;;;BU)", "0x80000", &["BU", "+take"], "granted 0x80000\n", 0),
+        (
+            "O:BAG:SYD:NO_ACCESS_CONTROL",
+            "0x01000000",
+            &["BU", "+security"],
+            "granted 0x1000000\n",
+            0,
+        ),
+        (
+            "O:BAG:SYD:",
+            "0x02000000",
+            &["BU", "+take"],
+            "granted 0x80000\n",
+            0,
+        ),
+        (
+            "O:BAG:SYD:(A;;FR;;;BU)",
+            "0x03000000",
+            &["BU", "+security"],
+            "granted 0x1120089\n",
+            0,
+        ),
+        (
+            "O:BAG:SYD:(D;;WO;;;BU)",
+            "0x80000",
+            &["BU", "+take"],
+            "granted 0x80000\n",
+            0,
+        ),
     ];
     expect_verdicts_with(&rt, &rows);
 }
