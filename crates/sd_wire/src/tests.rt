@@ -238,6 +238,11 @@ fn descriptors_without_entries(rt: HostRuntime) -> Result<(), Fail> {
         1, 0, 4, 0x80, 0, 0, 0, 0, 0, 0, 0, 0, 0, 0, 0, 0, 0, 0, 0, 0,
     ];
     assert!(rt; matches!(read_descriptor(rt.alloc(), &null)?.dacl, Dacl::Null));
+    Ok(())
+}
+
+#[test]
+fn an_empty_list_is_written_with_its_control_bits(rt: HostRuntime) -> Result<(), Fail> {
     // D:P
     let empty = Descriptor {
         owner: None,
@@ -258,6 +263,11 @@ fn descriptors_without_entries(rt: HostRuntime) -> Result<(), Fail> {
         write_descriptor(rt.alloc(), &empty)?.as_slice(),
         protected.as_slice()
     );
+    Ok(())
+}
+
+#[test]
+fn an_owner_is_written_alone(rt: HostRuntime) -> Result<(), Fail> {
     // O:BA
     let owned = Descriptor {
         owner: Some(Sid::new(5, &[32, 544])?),
