@@ -1,4 +1,5 @@
 pub mod Ace
+pub mod Canonical
 pub mod Dacl
 pub mod Descriptor
 pub mod Verdict

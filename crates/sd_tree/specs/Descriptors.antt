@@ -1,0 +1,24 @@
+-- The descriptor of a node ([MS-DTYP] 2.4.6).
+use Rattle.std.specs.Prelude.{Bool, true, false, Option, Some, None, List}
+use Rattle.sd_acl.specs.declared.ace.Ace.{Ace}
+use Rattle.sd_acl.specs.Descriptor.{DescriptorValue}
+use Rattle.sd_acl.specs.declared.descriptor.Dacl.TheVariants.{Null, List as Entries}
+use Rattle.sd_tree.specs.declared.node.NodeDacl.{NodeDacl}
+use Rattle.sd_tree.specs.declared.node.NodeDacl.TheVariants as own
+use Rattle.sd_tree.specs.declared.node.Row.{Row}
+
+-- control bit PD
+abbrev pub is_protected : NodeDacl → Bool
+is_protected own.Null = false
+is_protected (own.List protected entries) = protected
+
+-- the descriptor of a node with this DACL: of a list the automatic inheritance is told, of a null one no flag is set
+abbrev pub descriptor_of_row : Row → Option (List Ace) → DescriptorValue
+descriptor_of_row row None = record {
+  owner = Some row.owner; group = Some row.group; dacl = Null;
+  protected = false; auto_req = false; auto_inherited = false;
+}
+descriptor_of_row row (Some entries) = record {
+  owner = Some row.owner; group = Some row.group; dacl = Entries entries;
+  protected = is_protected row.dacl; auto_req = false; auto_inherited = true;
+}

@@ -1,0 +1,9 @@
+pub mod Names
+pub mod PathText
+pub mod Inheritance
+pub mod Descriptors
+pub mod Plain
+pub mod Edits
+pub mod Refusals
+pub mod Journal
+pub mod Answers

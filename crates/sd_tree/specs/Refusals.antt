@@ -1,0 +1,130 @@
+-- Why an edit is refused: tests in order, of which the first that fits answers.
+use Rattle.std.specs.Prelude.{◌≡◌, ℕ, Bool, true, false, not, ◌&&◌, nat_lt, nat_le, cond, List, [], ◌∷◌, ◌++◌, length, Option, Some, None, is_some}
+use Rattle.std.specs.List.{list_any}
+use Rattle.std.specs.Option.{option_or}
+use Rattle.std.specs.Ordering.{is_eq}
+use Rattle.std.specs.FinMap as map
+use Rattle.sd_sid.specs.Mapping.{MappingValue}
+use Rattle.sd_acl.specs.Ace.{acl_size_of}
+use Rattle.sd_acl.specs.Canonical.{is_inherited, deny_behind_allow}
+use Rattle.sd_acl.specs.declared.ace.Ace.{Ace}
+use Rattle.sd_tree.specs.Names.{Names, names_cmp, up, is_root}
+use Rattle.sd_tree.specs.Plain.{PlainTree, row_at, dacl_at}
+use Rattle.sd_tree.specs.Edits.{edited}
+use Rattle.sd_tree.specs.declared.node.Row.{Row}
+use Rattle.sd_tree.specs.declared.node.NodeKind.{NodeKind}
+use Rattle.sd_tree.specs.declared.node.NodeKind.TheVariants.{Container, Object}
+use Rattle.sd_tree.specs.declared.node.NodeDacl.{NodeDacl}
+use Rattle.sd_tree.specs.declared.node.NodeDacl.TheVariants as own
+use Rattle.sd_tree.specs.declared.edit.Edit.{Edit}
+use Rattle.sd_tree.specs.declared.edit.Edit.TheVariants.{AddContainer, AddObject, SetOwner, SetGroup, SetDacl, Remove, ProtectKeeping}
+use Rattle.sd_tree.specs.declared.refusal.EditRefusal.{EditRefusal}
+use Rattle.sd_tree.specs.declared.refusal.EditRefusal.TheVariants.{NoParent, ParentIsObject, Exists, NoNode, NotEmpty, IsRoot, InheritedEntry, NotCanonical, AclTooLarge, TooDeep, NodesFull, JournalFull}
+
+-- the refusal of the first test that fits
+abbrev pub first_fit : List (Bool × EditRefusal) → Option EditRefusal
+first_fit [] = None
+first_fit (test ∷ tests) = cond test.0 (Some test.1) (first_fit tests)
+
+-- ---- of a list that is given to a node
+
+abbrev pub own_entries : NodeDacl → List Ace
+own_entries own.Null = []
+own_entries (own.List protected entries) = entries
+
+abbrev pub list_tests : NodeDacl → List (Bool × EditRefusal)
+list_tests dacl =
+    (list_any is_inherited (own_entries dacl), InheritedEntry)
+    ∷ (deny_behind_allow (own_entries dacl), NotCanonical)
+    ∷ []
+
+-- ---- of the tree before the edit
+
+abbrev pub is_object_kind : NodeKind → Bool
+is_object_kind Container = false
+is_object_kind Object = true
+
+abbrev pub is_object : Option Row → Bool
+is_object None = false
+is_object (Some row) = is_object_kind row.kind
+
+-- some other node stands right below the path
+abbrev pub has_child : PlainTree → Names → Bool
+has_child t path = list_any (λ child. not (is_root child) && is_eq (names_cmp (up child) path)) (map.keys t)
+
+abbrev pub addition_tests : PlainTree → Names → NodeDacl → List (Bool × EditRefusal)
+addition_tests t path dacl =
+    (not (is_root path) && not (is_some (row_at t (up path))), NoParent)
+    ∷ (not (is_root path) && is_object (row_at t (up path)), ParentIsObject)
+    ∷ (is_some (row_at t path), Exists)
+    ∷ list_tests dacl
+
+abbrev pub node_tests : PlainTree → Names → List (Bool × EditRefusal)
+node_tests t path = (not (is_some (row_at t path)), NoNode) ∷ []
+
+-- the tests that take no memory
+abbrev pub early_tests : PlainTree → Edit → List (Bool × EditRefusal)
+early_tests t (AddContainer path owner group dacl) = addition_tests t path dacl
+early_tests t (AddObject path owner group dacl) = addition_tests t path dacl
+early_tests t (SetOwner path owner) = node_tests t path
+early_tests t (SetGroup path group) = node_tests t path
+early_tests t (SetDacl path dacl) = node_tests t path ++ list_tests dacl
+early_tests t (Remove path) = node_tests t path ++ (has_child t path, NotEmpty) ∷ (is_root path, IsRoot) ∷ []
+early_tests t (ProtectKeeping path) = node_tests t path
+
+-- ---- of the tree after it, and of the limits
+
+abbrev pub dacl_size : Option (List Ace) → ℕ
+dacl_size None = 0
+dacl_size (Some entries) = acl_size_of entries
+
+-- some node's DACL takes more than 65,535 bytes ([MS-DTYP] 2.4.5, AclSize)
+abbrev pub has_large_dacl : MappingValue → PlainTree → Bool
+has_large_dacl g t = list_any (λ path. nat_lt 65535 (dacl_size (dacl_at g t path))) (map.keys t)
+
+-- one more node: its path has at most 64 names, and there are at most 65,536 nodes
+abbrev pub room_tests : PlainTree → Edit → List (Bool × EditRefusal)
+room_tests t (AddContainer path owner group dacl) = (nat_lt 64 (length path), TooDeep) ∷ (nat_le 65536 (map.len t), NodesFull) ∷ []
+room_tests t (AddObject path owner group dacl) = (nat_lt 64 (length path), TooDeep) ∷ (nat_le 65536 (map.len t), NodesFull) ∷ []
+room_tests t (SetOwner path owner) = []
+room_tests t (SetGroup path group) = []
+room_tests t (SetDacl path dacl) = []
+room_tests t (Remove path) = []
+room_tests t (ProtectKeeping path) = []
+
+-- the tests that may take memory; a journal has at most 1,048,576 edits
+abbrev pub late_tests : MappingValue → PlainTree → ℕ → Edit → List (Bool × EditRefusal)
+late_tests g t count edit =
+    (has_large_dacl g (edited g t edit), AclTooLarge) ∷ (room_tests t edit ++ (nat_le 1048576 count, JournalFull) ∷ [])
+
+abbrev pub early_refusal : PlainTree → Edit → Option EditRefusal
+early_refusal t edit = first_fit (early_tests t edit)
+
+abbrev pub late_refusal : MappingValue → PlainTree → ℕ → Edit → Option EditRefusal
+late_refusal g t count edit = first_fit (late_tests g t count edit)
+
+-- why the edit of this tree is refused, after so many edits, if it is
+abbrev pub refusal_in : MappingValue → PlainTree → ℕ → Edit → Option EditRefusal
+refusal_in g t count edit = option_or (early_refusal t edit) (late_refusal g t count edit)
+
+-- ---- what a caller is told
+
+-- each refusal's number
+abbrev pub number_of : EditRefusal → ℕ
+number_of NoParent = 1
+number_of ParentIsObject = 2
+number_of Exists = 3
+number_of NoNode = 4
+number_of NotEmpty = 5
+number_of IsRoot = 6
+number_of InheritedEntry = 7
+number_of NotCanonical = 8
+number_of AclTooLarge = 9
+number_of TooDeep = 10
+number_of NodesFull = 11
+number_of JournalFull = 12
+
+-- the refusals that are found without memory: 1 to 8
+abbrev pub is_early : Option EditRefusal → Bool
+is_early None = false
+is_early (Some refusal) = nat_lt (number_of refusal) 9

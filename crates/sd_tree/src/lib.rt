@@ -1,0 +1,30 @@
+//! A tree of securable nodes, where each node's DACL is what inheritance gives: [MS-DTYP] 2.5.3.4.
+//!
+//! A tree is the replay of its journal: the edits that it accepted, in their order. It stores each node's whole
+//! DACL, so that a check is one search and one walk. The rules are told in docs/TREE.md.
+//!
+//! ```text
+//! let mut tree = Tree::opening(alloc, &GenericMapping::file(), &root)?;
+//! tree.apply(&Edit::AddObject { path: Path::read(alloc, "/a")?, owner, group, dacl })?;
+//! match tree.check(&path, &token, Mask(0x1)) {
+//!     CheckReply::Verdict(verdict) => ..,
+//!     CheckReply::NoNode => ..,
+//! }
+//! ```
+#![tactic(auto)]
+
+mod edit;
+mod entries;
+mod node;
+mod opening;
+mod path;
+mod refusal;
+mod tree;
+
+pub use edit::Edit;
+pub use entries::Entries;
+pub use node::{NodeDacl, NodeKind};
+pub use opening::{Opening, RootSpec};
+pub use path::{Path, PathError};
+pub use refusal::{EditRefusal, TreeError};
+pub use tree::CheckReply;

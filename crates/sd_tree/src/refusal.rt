@@ -1,0 +1,92 @@
+//! Why an edit is refused.
+
+ghost use Rattle.std.specs.Prelude.{◌≡◌};
+ghost use Rattle.sd_tree.specs.Refusals.{number_of};
+
+use std::alloc::AllocError;
+use thiserror::Error;
+
+/// Why an edit is refused. The first that fits, in this order, is answered.
+#[derive(Clone, Copy, Debug, PartialEq, Eq, Error)]
+pub enum EditRefusal {
+    /// The path isn't the root, and nothing stands where its parent would.
+    #[error("the parent isn't in the tree")]
+    NoParent,
+    /// The parent is an object.
+    #[error("the parent is an object")]
+    ParentIsObject,
+    /// A node stands at the path already.
+    #[error("a node stands at the path")]
+    Exists,
+    /// No node stands at the path.
+    #[error("no node stands at the path")]
+    NoNode,
+    /// The node has children.
+    #[error("the node has children")]
+    NotEmpty,
+    /// The root stays.
+    #[error("the path is the root")]
+    IsRoot,
+    /// An entry of the given list has the flag ID ([MS-DTYP] 2.4.4.1, INHERITED_ACE).
+    #[error("an entry of the list is marked as inherited")]
+    InheritedEntry,
+    /// A deny stands behind an allow in the given list.
+    #[error("a deny stands behind an allow")]
+    NotCanonical,
+    /// Some node would have a DACL of more than 65,535 bytes ([MS-DTYP] 2.4.5, AclSize).
+    #[error("a node's DACL would take more than 65535 bytes")]
+    AclTooLarge,
+    /// The path has more than 64 names.
+    #[error("the path has more than 64 names")]
+    TooDeep,
+    /// The tree has 65,536 nodes, the root counted.
+    #[error("the tree has 65536 nodes")]
+    NodesFull,
+    /// The journal has 1,048,576 edits.
+    #[error("the journal has 1048576 edits")]
+    JournalFull,
+}
+
+impl EditRefusal {
+    /// The refusal's number: its place in the order.
+    pub fn number(self) -> u8
+        ensures { result ≡ number_of self }
+    {
+        match self {
+            EditRefusal::NoParent => 1,
+            EditRefusal::ParentIsObject => 2,
+            EditRefusal::Exists => 3,
+            EditRefusal::NoNode => 4,
+            EditRefusal::NotEmpty => 5,
+            EditRefusal::IsRoot => 6,
+            EditRefusal::InheritedEntry => 7,
+            EditRefusal::NotCanonical => 8,
+            EditRefusal::AclTooLarge => 9,
+            EditRefusal::TooDeep => 10,
+            EditRefusal::NodesFull => 11,
+            EditRefusal::JournalFull => 12,
+        }
+    }
+}
+
+/// Why a tree wasn't opened or changed.
+#[derive(Clone, Copy, Debug, PartialEq, Eq, Error)]
+pub enum TreeError {
+    /// The edit is refused.
+    #[error("{0}")]
+    Refused(EditRefusal),
+    /// Memory was refused.
+    #[error("memory was refused")]
+    Memory,
+}
+
+impl From<AllocError> for TreeError {
+    ghost use Rattle.std.specs.Prelude.{◌≡◌};
+    ghost use Rattle.sd_tree.specs.declared.refusal.TreeError.TheVariants.{Memory};
+
+    ghost from_gives = { λ _ error. error ≡ Memory };
+
+    fn from(_: AllocError) -> TreeError {
+        TreeError::Memory
+    }
+}
