@@ -1,12 +1,12 @@
 -- What find answers is what the relations say, for each grammar; so a text has one value or one fault.
 use Rattle.std.proofs.Common.{◌≡◌, ℕ, zero, suc, ◌+◌, ◌-◌, ◌<◌, ◌≤◌, ◌⊎◌, inl, inr, true, false, List, [], ◌∷◌, ◌++◌, length, drop, take, Some, None, Ok, Err, refl, arith, ap, sym, ◌∙◌, append_assoc}
-use Rattle.std.specs.Prelude.{nat_lt, not, ◌==◌}
+use Rattle.std.specs.Prelude.{nat_lt, not, ◌==◌, IsOk}
 use Rattle.std.specs.Str.Parse.{digits_value}
 use Rattle.std.proofs.lemmas.Bool.{ltb-true, ltb-false, lt-ltb, le-ltb, eqb-true}
 use Rattle.std.proofs.lemmas.List.{append-nil, length-drop}
 use Rattle.sd_text.specs.declared.fault.TextFault.{TextFault}
 use Rattle.sd_text.specs.declared.fault.TextFault.TheVariants.{Syntax, Range}
-use Rattle.sd_text.specs.Grammar.{Grammar, Name, value, refused, choose, and_then, word, number, one_of, many, begins, begins_digit, named, Items, spells, faults, Spells, HasFault, end, whole, ◌>>=◌}
+use Rattle.sd_text.specs.Grammar.{Grammar, Name, value, refused, choose, and_then, word, number, one_of, many, begins, begins_digit, named, Items, spells, faults, Spells, BeginsWith, HasFault, end, whole, ◌>>=◌}
 use Rattle.sd_text.specs.Reading.{Found, digits_len, find_number, find_items, find}
 use Rattle.sd_text.proofs.Parts.{chosen, not_holds, not_fails, part_ok, part_err, name_gave, found, found_is, stopped, stopped_is, named_takes, named_none}
 use Rattle.sd_text.proofs.Runs.{run_of, run_digits, run_behind, run_begins}
@@ -302,6 +302,14 @@ whole_value {A = A} part text a rest e =
     ends : (mid : List ℕ) (u : Unit {0}) (after : List ℕ) → find end mid ≡ Ok (u, after) → after ≡ []
     ends [] u after e = sym (found_is tt u [] after e).1
     ends (c ∷ mid) u after e = elim (chosen (length (c ∷ mid) == 0) _ _ _ e) [ inl h ↦ absurd (let no = eqb-true (length (c ∷ mid)) 0 h.0 in omega arith) | inr h ↦ absurd (let no : stopped {A = Unit {0}} Syntax (c ∷ mid) ≡ Ok (u, after) = h.1 in cc) ]
+
+-- where something is found, the text begins with it
+pub begins_with : {A : Type 0} (g : Grammar A) (text : List ℕ) → IsOk (find g text) → BeginsWith g text
+begins_with {A = A} g text ok = by_reading (find g text) refl ok
+  where
+    by_reading : (r : Found A) → find g text ≡ r → IsOk r → BeginsWith g text
+    by_reading (Ok x) e is = (x.0, x.1, find_spells g text x.0 x.1 e)
+    by_reading (Err d) e is = absurd cc
 
 -- a fault that is found stands at the place where the reader stopped
 pub fault_at : {A : Type 0} (g : Grammar A) (text : List ℕ) (f : TextFault) (there : List ℕ) (place : ℕ) → find g text ≡ Err (f, there) → place + length there ≡ length text → HasFault g text f place

@@ -1,6 +1,6 @@
 -- Reading the entries of a list.
-use Rattle.std.proofs.Common.{◌≡◌, ℕ, ◌+◌, ◌<◌, true, false, List, [], ◌∷◌, ◌++◌, length, drop, Ok, Err, Result, refl, arith, sym, ◌∙◌, ◌≤◌}
-use Rattle.std.specs.Prelude.{codes, IfOk}
+use Rattle.std.proofs.Common.{◌≡◌, ℕ, ◌+◌, ◌<◌, true, false, List, [], ◌∷◌, ◌++◌, length, drop, Ok, Err, Result, refl, arith, sym, ◌∙◌, ◌≤◌, ◌⊎◌, inl, inr}
+use Rattle.std.specs.Prelude.{codes, IfOk, IsOk}
 use Rattle.std.proofs.lemmas.List.Sums.{sum_by_push}
 use Rattle.sd_acl.specs.Ace.{ace_size, acl_size_of}
 use Rattle.sd_acl.specs.declared.ace.Ace.{Ace}
@@ -8,7 +8,7 @@ use Rattle.sd_acl.specs.declared.list.AclTooLarge.{AclTooLarge}
 use Rattle.sd_text.specs.declared.fault.TextFault.{TextFault}
 use Rattle.sd_text.specs.Grammar.{Grammar, begins}
 use Rattle.sd_text.specs.Reading.{find}
-use Rattle.sd_text.specs.Entry.{opening, entries_of}
+use Rattle.sd_text.specs.Entry.{opening, entries_of, first_of}
 use Rattle.sd_text.proofs.Parts.{begins_takes}
 use Rattle.sd_text.proofs.Engine.{shorter}
 use Rattle.sd_text.proofs.Loops.{Reaches, reaches_start, reaches_more, reaches_end, reaches_fault}
@@ -29,6 +29,17 @@ module _ (entry : ℕ → Grammar Ace) (start : List ℕ) where
 
   pub entries_fault : (es : List Ace) (rest : List ℕ) (d : TextFault × List ℕ) → EntriesReach entry start es rest → begins rest (codes "(") ≡ true → find (entry (acl_size_of es)) (drop 1 rest) ≡ Err d → find (entries_of entry) start ≡ Err d
   entries_fault es rest d reached stands fails = reaches_fault opening (λ before u. entry (acl_size_of before)) start es rest tt (drop 1 rest) d reached (rw stands refl) fails
+
+-- the first entry stands at the start, unless none has been read
+abbrev pub IsBegun : (ℕ → Grammar Ace) → List ℕ → List Ace → List ℕ → Type 0
+IsBegun entry start es rest = ((es ≡ []) × (rest ≡ start)) ⊎ IsOk (find (first_of entry) start)
+
+pub first_stands : (entry : ℕ → Grammar Ace) (start : List ℕ) (es : List Ace) (rest : List ℕ) (e : Ace) (after : List ℕ) → IsBegun entry start es rest → begins rest (codes "(") ≡ true → find (entry (acl_size_of es)) (drop 1 rest) ≡ Ok (e, after) → IsOk (find (first_of entry) start)
+first_stands entry start es rest e after (inr stood) stands one = stood
+first_stands entry start es rest e after (inl none) stands one =
+    let opens : begins start (codes "(") ≡ true = rw none.1 at stands in
+    let first : find (entry (acl_size_of [])) (drop 1 start) ≡ Ok (e, after) = rw (none.0, none.1) at one in
+    rw (opens, first) refl
 
 -- what an entry takes off the text
 pub entry_takes : (entry : ℕ → Grammar Ace) (size : ℕ) (rest : List ℕ) (e : Ace) (after : List ℕ) → begins rest (codes "(") ≡ true → find (entry size) (drop 1 rest) ≡ Ok (e, after) → length after < length rest

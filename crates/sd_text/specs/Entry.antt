@@ -56,6 +56,14 @@ entry size = do
 abbrev pub entries_of : (ℕ → Grammar Ace) → Grammar (List Ace)
 entries_of entry = many opening (λ before u. entry (acl_size_of before))
 
+-- the first of them, with its `(`
+abbrev pub first_of : (ℕ → Grammar Ace) → Grammar Ace
+first_of entry = word (codes "(") >>= λ u. entry (acl_size_of [])
+
 -- the entries of a DACL
 unfoldable pub entries : Grammar (List Ace)
 entries = entries_of entry
+
+-- the first entry of a DACL
+unfoldable pub first_entry : Grammar Ace
+first_entry = first_of entry

@@ -102,6 +102,10 @@ faults (many {A = A} {B = B} names item) text fault there =
 abbrev pub Spells : {A : Type 0} → Grammar A → List ℕ → A → Type 0
 Spells grammar text a = spells grammar text a []
 
+-- the text begins with a spelling of some value
+abbrev pub BeginsWith : {A : Type 0} → Grammar A → List ℕ → Type 0
+BeginsWith {A = A} grammar text = (a : A) × (behind : List ℕ) × spells grammar text a behind
+
 -- the fault stands at this place of the text, counted in bytes from 0
 abbrev pub HasFault : {A : Type 0} → Grammar A → List ℕ → TextFault → ℕ → Type 0
 HasFault grammar text fault place = (there : List ℕ) × faults grammar text fault there × (place + length there ≡ length text)

@@ -1,5 +1,5 @@
 -- Reading a text by a grammar: what private readers answer. The public calls speak of Spells and HasFault alone.
-use Rattle.std.specs.Prelude.{◌<◌, ◌≤◌, ◌≡◌, ℕ, zero, suc, nat_lt, not, List, [], ◌∷◌, ◌++◌, length, drop, take, Option, Some, None, Result, Ok, Err, if◌then◌else◌}
+use Rattle.std.specs.Prelude.{◌<◌, ◌≤◌, ◌≡◌, ℕ, zero, suc, nat_lt, not, List, [], ◌∷◌, ◌++◌, length, drop, take, Option, Some, None, Result, Ok, Err, IsOk, if◌then◌else◌}
 use Rattle.std.specs.Char.{digit_value}
 use Rattle.std.specs.Str.Parse.{digits_value}
 use Rattle.sd_text.specs.declared.fault.TextFault.{TextFault}
@@ -56,11 +56,11 @@ abbrev pub Gives : {X A : Type 0} → (X → A) → Result X TextFault → List 
 Gives view (Ok x) rest found = found ≡ Ok (view x, rest)
 Gives view (Err fault) rest found = found ≡ Err (fault, rest)
 
--- the same of a reader that takes memory, and may stop for want of it
-abbrev pub GivesUnlessMemory : {X A : Type 0} → (X → A) → Result X Stop → List ℕ → Found A → Type 0
-GivesUnlessMemory view (Ok x) rest found = found ≡ Ok (view x, rest)
-GivesUnlessMemory view (Err (Fault fault)) rest found = found ≡ Err (fault, rest)
-GivesUnlessMemory view (Err Memory) rest found = Unit {0}
+-- the same of a reader that takes memory, and may stop for want of it where what is to be begun was found
+abbrev pub GivesUnlessMemory : {X A B : Type 0} → (X → A) → Result X Stop → List ℕ → Found A → Found B → Type 0
+GivesUnlessMemory view (Ok x) rest found begun = found ≡ Ok (view x, rest)
+GivesUnlessMemory view (Err (Fault fault)) rest found begun = found ≡ Err (fault, rest)
+GivesUnlessMemory view (Err Memory) rest found begun = IsOk begun
 
 -- the number is n, or from the limit on where n is
 pub record IsCapped (limit number n : ℕ) : Type 0 where

@@ -2,15 +2,16 @@
 use Rattle.std.specs.Prelude.{ℕ, true, false, List, [], ◌∷◌, Option, Some, None, codes}
 use Rattle.sd_sid.specs.Sid.{SidValue}
 use Rattle.sd_acl.specs.Descriptor.{DescriptorValue}
+use Rattle.sd_acl.specs.declared.ace.Ace.{Ace}
 use Rattle.sd_acl.specs.declared.descriptor.Dacl.TheVariants.{Absent, Null, List as Entries}
 use Rattle.sd_text.specs.declared.descriptor.DaclWord.{DaclWord}
 use Rattle.sd_text.specs.declared.descriptor.DaclWord.TheVariants.{Protected, AutoReq, AutoInherited, NoAccessControl}
 use Rattle.sd_text.specs.declared.descriptor.DaclWords.{DaclWords}
 use Rattle.sd_text.specs.declared.descriptor.DaclPart.{DaclPart}
-use Rattle.sd_text.specs.declared.fault.TextFault.TheVariants.{HasSacl}
+use Rattle.sd_text.specs.declared.fault.TextFault.TheVariants.{Syntax, HasSacl}
 use Rattle.sd_text.specs.Grammar.{Grammar, Name, value, refused, choose, word, run, begins, whole, ◌>>=◌}
 use Rattle.sd_text.specs.Sid.{sid}
-use Rattle.sd_text.specs.Entry.{entries}
+use Rattle.sd_text.specs.Entry.{entries, first_entry}
 
 -- a section of one SID, where its head stands
 unfoldable pub sid_section : List ℕ → Grammar (Option SidValue)
@@ -64,3 +65,11 @@ sections = do
 -- the text of a descriptor
 abbrev pub sddl : Grammar DescriptorValue
 sddl = whole sections
+
+-- the section of a DACL as far as the end of its first entry
+unfoldable pub begun_dacl : Grammar Ace
+begun_dacl = word (codes "D:") >>= λ u. words >>= λ found. choose (λ text. found.no_access_control) (refused Syntax) first_entry
+
+-- the sections as far as there
+unfoldable pub begun_sddl : Grammar Ace
+begun_sddl = sid_section (codes "O:") >>= λ owner. sid_section (codes "G:") >>= λ group. begun_dacl

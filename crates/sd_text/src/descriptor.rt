@@ -1,11 +1,11 @@
 //! Security descriptors as text: [MS-DTYP] 2.5.1.1.
 
-ghost use Rattle.std.specs.Prelude.{◌≡◌, Ok, IfOk, IfErr};
+ghost use Rattle.std.specs.Prelude.{◌≡◌, Ok, IfOk, IfErr, IsErrOf};
 ghost use Rattle.sd_acl.specs.Dacl.{IsAbsent};
 ghost use Rattle.sd_acl.specs.Descriptor.{DescriptorValue, descriptor_of};
-ghost use Rattle.sd_text.specs.Grammar.{Spells};
+ghost use Rattle.sd_text.specs.Grammar.{Spells, BeginsWith};
 ghost use Rattle.sd_text.specs.Fault.{StandsIn};
-ghost use Rattle.sd_text.specs.Sddl.{sid_section, words, no_words, with_word, dacl_section, no_sacl, sections, sddl};
+ghost use Rattle.sd_text.specs.Sddl.{sid_section, words, no_words, with_word, dacl_section, no_sacl, sections, sddl, begun_dacl, begun_sddl};
 ghost use Rattle.sd_text.specs.Reading.{Gives, GivesUnlessMemory, find};
 
 use crate::cursor::Cursor;
@@ -47,11 +47,12 @@ static WORDS: [(&str, DaclWord); 4] = [
 ];
 
 /// The descriptor that the text spells ([MS-DTYP] 2.5.1): the whole text, letters of either case.
-/// A fault is the first from the left; want of memory may come in its place.
+/// A fault is the first from the left; behind a first entry, want of memory may come in its place.
 pub fn read_sddl(alloc: Global, text: &str) -> Result<Descriptor, TextError>
     ensures value { IfOk result (λ d. Spells sddl text.now (descriptor_of d)) }
     ensures fault { IfErr result (λ e. StandsIn sddl text.now e) }
     ensures spelled { (d : DescriptorValue) → Spells sddl text.now d → IfErr result (λ e. e ≡ TextError.Memory) }
+    ensures memory { IsErrOf result TextError.Memory → BeginsWith begun_sddl text.now }
 {
     let mut cursor = Cursor::new(text);
     match cursor.descriptor(alloc) {
@@ -92,7 +93,7 @@ impl DaclWords {
 
 impl Cursor<'_> {
     fn descriptor(&mut self, alloc: Global) -> Result<Descriptor, Stop>
-        ensures { GivesUnlessMemory descriptor_of result self.new.rest.now (find sddl self.old.rest.now) }
+        ensures { GivesUnlessMemory descriptor_of result self.new.rest.now (find sddl self.old.rest.now) (find begun_sddl self.old.rest.now) }
     {
         let descriptor = self.sections(alloc)?;
         self.end()?;
@@ -100,9 +101,9 @@ impl Cursor<'_> {
     }
 
     /// The sections of a descriptor, each of which may be left out.
-    #[tactic(auto, unfolding(crate::specs::Sddl::sections))]
+    #[tactic(auto, unfolding(crate::specs::Sddl::sections, crate::specs::Sddl::begun_sddl))]
     fn sections(&mut self, alloc: Global) -> Result<Descriptor, Stop>
-        ensures { GivesUnlessMemory descriptor_of result self.new.rest.now (find sections self.old.rest.now) }
+        ensures { GivesUnlessMemory descriptor_of result self.new.rest.now (find sections self.old.rest.now) (find begun_sddl self.old.rest.now) }
     {
         let owner = self.sid_section(b"O:")?;
         let group = self.sid_section(b"G:")?;
@@ -131,9 +132,9 @@ impl Cursor<'_> {
     }
 
     /// The section of the DACL, where its head stands.
-    #[tactic(auto, unfolding(crate::specs::Sddl::dacl_section, crate::specs::Sddl::dacl_behind))]
+    #[tactic(auto, unfolding(crate::specs::Sddl::dacl_section, crate::specs::Sddl::dacl_behind, crate::specs::Sddl::begun_dacl))]
     fn dacl_section(&mut self, alloc: Global) -> Result<DaclPart, Stop>
-        ensures section { GivesUnlessMemory (λ part. part) result self.new.rest.now (find dacl_section self.old.rest.now) }
+        ensures section { GivesUnlessMemory (λ part. part) result self.new.rest.now (find dacl_section self.old.rest.now) (find begun_dacl self.old.rest.now) }
         ensures absent { IfOk result (λ part. IsAbsent part.dacl → part.words ≡ no_words) }
     {
         if !self.eat(b"D:") {

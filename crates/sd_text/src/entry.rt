@@ -2,7 +2,7 @@
 
 ghost use Rattle.std.specs.Prelude.{◌≡◌, ◌≤◌, ◌+◌, Ok, IfOk};
 ghost use Rattle.sd_acl.specs.Ace.{ace_size};
-ghost use Rattle.sd_text.specs.Entry.{entries, entry, kind, is_type, flag_names, guid, entry_end};
+ghost use Rattle.sd_text.specs.Entry.{entries, first_entry, entry, kind, is_type, flag_names, guid, entry_end};
 ghost use Rattle.sd_text.specs.Rights.{bits_of};
 ghost use Rattle.sd_text.specs.Names.{rows};
 ghost use Rattle.sd_text.specs.Reading.{Gives, GivesUnlessMemory, find};
@@ -36,7 +36,7 @@ pub(crate) fn flag_names() -> &'static [(&'static str, u32)]
 impl Cursor<'_> {
     /// Any number of entries.
     pub(crate) fn entries(&mut self, alloc: Global) -> Result<AceList, Stop>
-        ensures { GivesUnlessMemory (λ entries. entries) result self.new.rest.now (find entries self.old.rest.now) }
+        ensures { GivesUnlessMemory (λ entries. entries) result self.new.rest.now (find entries self.old.rest.now) (find first_entry self.old.rest.now) }
     {
         let mut entries = Vec::new(alloc);
         let mut size = EMPTY_ACL_BYTES;

@@ -1,7 +1,7 @@
 use Rattle.std.proofs.Common.{sym}
 use Rattle.sd_acl.specs.Descriptor.{descriptor_of}
-use Rattle.sd_text.specs.Sddl.{sddl, sections}
-use Rattle.sd_text.proofs.Engine.{no_fault, whole_value, fault_within, fault_at}
+use Rattle.sd_text.specs.Sddl.{sddl, sections, begun_sddl}
+use Rattle.sd_text.proofs.Engine.{no_fault, whole_value, fault_within, fault_at, begins_with}
 use Rattle.sd_text.proofs.descriptor.read_sddl.Goals as goal
 
 pub place-requires : goal.place-requires
@@ -15,3 +15,6 @@ returns-in-Err-Fault-clause-fault c = let e = rw c.in-Err-Fault.field-0-is at c.
 
 pub returns-in-Err-Fault-clause-spelled : goal.returns-in-Err-Fault-clause-spelled
 returns-in-Err-Fault-clause-spelled c d spells = let e = rw c.in-Err-Fault.field-0-is at c.in-Err-Fault.ensures in absurd (no_fault sddl c.args.text.now d c.in-Err-Fault.fault c.place.result spells (fault_at sddl c.args.text.now c.in-Err-Fault.fault c.descriptor.new.self.rest.now c.place.result (rw (sym c.new-cursor.ensures) e) c.place.ensures))
+
+pub returns-in-Err-Memory-clause-memory : goal.returns-in-Err-Memory-clause-memory
+returns-in-Err-Memory-clause-memory c _ = let e = rw c.in-Err-Memory.field-0-is at c.in-Err-Memory.ensures in begins_with begun_sddl c.args.text.now (rw (sym c.new-cursor.ensures) e)

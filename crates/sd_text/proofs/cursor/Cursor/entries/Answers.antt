@@ -1,8 +1,8 @@
-use Rattle.std.proofs.Common.{arith, ap, sym}
+use Rattle.std.proofs.Common.{arith, ap, sym, inr}
 use Rattle.std.proofs.lemmas.Result.{err_from_is_err_and}
 use Rattle.sd_acl.specs.Ace.{acl_size_of}
-use Rattle.sd_text.specs.Entry.{entry, entries}
-use Rattle.sd_text.proofs.Entries.{entries_more, entries_end, entries_fault, entry_takes, acl_size-push, list_made}
+use Rattle.sd_text.specs.Entry.{entry, entries, first_entry}
+use Rattle.sd_text.proofs.Entries.{entries_more, entries_end, entries_fault, first_stands, entry_takes, acl_size-push, list_made}
 use Rattle.sd_text.proofs.cursor.Cursor.entries.Goals as goal
 
 pub returns-in_err-entry : goal.returns-in_err-entry
@@ -23,7 +23,16 @@ entries-preserved c =
     (rw (sym c.entries.invariant.sized, sym c.entries-test.ensures.rest) c.in_ok-entry.ensures.entry) in
     let whole = ap acl_size_of c.in_ok-push.ensures.items in
     let size = c.size-size.ensures.size in
-    record { reached = rw c.in_ok-push.ensures.items more; sized = omega arith; fits = omega arith }
+    let first = first_stands entry c.args.self.now.rest.now c.entries.entries.items c.entries.self.rest.now c.in_ok-entry.entry c.entry.new.self.rest.now c.entries.invariant.begun (sym c.entries-test.ensures.stood)
+    (rw (sym c.entries.invariant.sized, sym c.entries-test.ensures.rest) c.in_ok-entry.ensures.entry) in
+    record { reached = rw c.in_ok-push.ensures.items more; sized = omega arith; fits = omega arith; begun = inr first }
+
+pub returns-in_err-push : goal.returns-in_err-push
+unfolding first_entry
+returns-in_err-push c =
+    let p = err_from_is_err_and c.from_residual-in_err-push.result c.from_residual-in_err-push.ensures.1 in
+    rw (p.1, p.2) (first_stands entry c.args.self.now.rest.now c.entries.entries.items c.entries.self.rest.now c.in_ok-entry.entry c.entry.new.self.rest.now c.entries.invariant.begun (sym c.entries-test.ensures.stood)
+    (rw (sym c.entries.invariant.sized, sym c.entries-test.ensures.rest) c.in_ok-entry.ensures.entry))
 
 pub returns : goal.returns
 unfolding entries
