@@ -1,5 +1,5 @@
 -- Entries: whether they count in a check, and the sizes of entries and of lists ([MS-DTYP] 2.4.4.1, AceSize, and 2.4.5, AclSize).
-use Rattle.std.specs.Prelude.{ℕ, Bool, true, false, ◌+◌, ◌*◌, List, length, sum_by}
+use Rattle.std.specs.Prelude.{ℕ, Bool, true, false, ◌+◌, ◌*◌, List, [], ◌∷◌, length, sum_by, fold, bit_or, codes}
 use Rattle.sd_sid.specs.Mask.{holds}
 use Rattle.sd_acl.specs.declared.ace.AceKind.{AceKind}
 use Rattle.sd_acl.specs.declared.ace.AceKind.TheVariants.{Allow, Deny}
@@ -12,6 +12,16 @@ is_allow Deny = false
 -- an inherit-only entry has no part in a check (2.4.4.1, INHERIT_ONLY_ACE)
 abbrev pub is_inherit_only : Ace → Bool
 is_inherit_only e = holds e.flags.0 3
+
+-- the flags that have names: their letters, and their bits (2.4.4.1, AceFlags)
+abbrev pub named_flags : List (List ℕ × ℕ)
+named_flags =
+    (codes "OI", 0x01) ∷ (codes "CI", 0x02) ∷ (codes "NP", 0x04) ∷ (codes "IO", 0x08)
+    ∷ (codes "ID", 0x10) ∷ (codes "SA", 0x40) ∷ (codes "FA", 0x80) ∷ []
+
+-- the bits of them all
+abbrev pub all_named : ℕ
+all_named = fold (λ bits (flag : List ℕ × ℕ). bit_or bits flag.1) 0 named_flags
 
 -- the entry's header and mask, and its SID
 abbrev pub ace_size : Ace → ℕ

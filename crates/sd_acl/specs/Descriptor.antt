@@ -2,7 +2,7 @@
 use Rattle.std.specs.Prelude.{◌≡◌, ◌^◌, ◌<◌, ◌≤◌, bit_and, Bool, not, ◌&&◌, IsTrue, Option, IfSome, List}
 use Rattle.std.specs.List.{AllByRecursion}
 use Rattle.sd_sid.specs.Sid.{SidValue, IsSid}
-use Rattle.sd_acl.specs.Ace.{acl_size_of}
+use Rattle.sd_acl.specs.Ace.{acl_size_of, all_named}
 use Rattle.sd_acl.specs.Dacl.{IsAbsent}
 use Rattle.sd_acl.specs.declared.ace.Ace.{Ace}
 use Rattle.sd_acl.specs.declared.descriptor.Dacl.{Dacl}
@@ -44,9 +44,9 @@ IsDacl Absent = Unit {0}
 IsDacl Null = Unit {0}
 IsDacl (Entries es) = AreEntries es
 
--- the entry has no flag outside the seven that have names ([MS-DTYP] 2.4.4.1, AceFlags)
+-- the entry has no flag beside those that have names
 abbrev pub HasNamedFlags : Ace → Type 0
-HasNamedFlags e = bit_and e.flags.0 0xDF ≡ e.flags.0
+HasNamedFlags e = bit_and e.flags.0 all_named ≡ e.flags.0
 
 -- nor has any entry of the DACL
 abbrev pub HaveNamedFlags : Dacl → Type 0

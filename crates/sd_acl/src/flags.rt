@@ -1,6 +1,7 @@
-// The flags of an entry.
+//! The flags of an entry.
 
-ghost use Rattle.std.specs.Prelude.{⊤, [], ◌∷◌, codes};
+ghost use Rattle.std.specs.Prelude.{⊤};
+ghost use Rattle.sd_acl.specs.Ace.{named_flags};
 
 use bitflags::{Flag, Flags, bitflag_items};
 
@@ -28,13 +29,34 @@ bitflag_items! {
     }
 }
 
+impl AceFlags {
+    /// The letters and the bits of each flag, in the order of the bits.
+    pub const NAMED: [(&'static str, u32); 7] = [
+        ("OI", AceFlags::OI.0 as u32),
+        ("CI", AceFlags::CI.0 as u32),
+        ("NP", AceFlags::NP.0 as u32),
+        ("IO", AceFlags::IO.0 as u32),
+        ("ID", AceFlags::ID.0 as u32),
+        ("SA", AceFlags::SA.0 as u32),
+        ("FA", AceFlags::FA.0 as u32),
+    ];
+
+    /// The bits of all seven.
+    pub const NAMED_BITS: u8 = AceFlags::OI.0
+        | AceFlags::CI.0
+        | AceFlags::NP.0
+        | AceFlags::IO.0
+        | AceFlags::ID.0
+        | AceFlags::SA.0
+        | AceFlags::FA.0;
+}
+
 impl Flags for AceFlags {
     type Bits = u8;
 
     ghost exact = { ⊤ };
 
-    ghost table = { (codes "OI", 0x01) ∷ (codes "CI", 0x02) ∷ (codes "NP", 0x04) ∷ (codes "IO", 0x08)
-        ∷ (codes "ID", 0x10) ∷ (codes "SA", 0x40) ∷ (codes "FA", 0x80) ∷ [] };
+    ghost table = { named_flags };
 
     ghost set_of = { λ f. f.0 };
 

@@ -19,7 +19,7 @@ mod verdict;
 pub use ace::{Ace, AceKind};
 pub use descriptor::{Dacl, Descriptor};
 pub use flags::AceFlags;
-pub use list::{AceList, AclTooLarge, MAX_ACL_BYTES, acl_size};
+pub use list::{ACL_HEADER_BYTES, AceList, AclTooLarge, MAX_ACL_BYTES, acl_size};
 pub use verdict::Verdict;
 
 #[cfg(test)]

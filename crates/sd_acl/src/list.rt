@@ -10,6 +10,9 @@ use thiserror::Error;
 /// The most bytes that a list takes: AclSize is 16 bits wide ([MS-DTYP] 2.4.5).
 pub const MAX_ACL_BYTES: u64 = 0xFFFF;
 
+/// The bytes before a list's entries, its header ([MS-DTYP] 2.4.5).
+pub const ACL_HEADER_BYTES: u64 = 8;
+
 /// A list of entries that takes at most 65,535 bytes ([MS-DTYP] 2.4.5). Contracts see it as the list.
 #[derive(Debug, Drop)]
 pub struct AceList {
@@ -57,11 +60,11 @@ impl AceList {
     }
 }
 
-/// The bytes that a list of these entries takes ([MS-DTYP] 2.4.5, AclSize): 8, and the size of each entry.
+/// The bytes that a list of these entries takes ([MS-DTYP] 2.4.5, AclSize): its header's, and the size of each entry.
 pub fn acl_size(entries: &[Ace]) -> u64
     ensures { result ≡ acl_size_of entries.now }
 {
-    let mut size = 8;
+    let mut size = ACL_HEADER_BYTES;
     for entry in entries {
         size += entry.size();
     }

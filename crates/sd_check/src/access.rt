@@ -13,7 +13,7 @@ ghost use Rattle.sd_check.specs.Walk.{mask_that_applies};
 
 use crate::token::Token;
 use sd_acl::{Ace, AceKind, Verdict};
-use sd_sid::{GenericMapping, Mask, Sid};
+use sd_sid::{GenericMapping, Mask, OBJECT_RIGHTS, Sid};
 
 /// A DACL that is lent to a check ([MS-DTYP] 2.4.6).
 #[derive(Clone, Copy)]
@@ -26,8 +26,8 @@ pub enum DaclRef<'a> {
     List(&'a [Ace]),
 }
 
-/// The object's own rights and the standard ones: all that an entry can grant.
-const OBJECT_RIGHTS: Mask = Mask(0x001F_FFFF);
+/// The places of the object's own rights and the standard ones are those below.
+const OBJECT_PLACES: u32 = 21;
 
 /// READ_CONTROL and WRITE_DAC, which are the owner's.
 const OWNERS_RIGHTS: Mask = Mask(0x0006_0000);
@@ -38,8 +38,11 @@ const WRITE_OWNER: Mask = Mask(0x0008_0000);
 /// What SeSecurityPrivilege grants.
 const ACCESS_SYSTEM_SECURITY: Mask = Mask(0x0100_0000);
 
-/// MAXIMUM_ALLOWED, place 25: asks for all that is granted.
-const MAXIMUM_ALLOWED: Mask = Mask(0x0200_0000);
+/// MAXIMUM_ALLOWED: asks for all that is granted.
+const MAXIMUM_ALLOWED: Mask = Mask(1 << MAXIMUM_PLACE);
+
+/// The place of MAXIMUM_ALLOWED.
+const MAXIMUM_PLACE: u32 = 25;
 
 /// Who asks, of what.
 #[derive(Clone, Copy)]
@@ -110,7 +113,7 @@ impl Access<'_> {
         ensures { result ≡ mask_of (acl_grants self.now.mapping.now (applies self.now.token.now self.now.owner.now) (Some entries.now)) 32 }
     {
         let mut allowed = Mask(0);
-        for place in 0..21 {
+        for place in 0..OBJECT_PLACES {
             if self.is_allowed(entries, place) {
                 allowed = allowed.with(place);
             }
@@ -176,7 +179,7 @@ impl Access<'_> {
         let granted = self.granted_by_dacl().union(given);
         let wanted = self.mapping.map(asked.minus(MAXIMUM_ALLOWED));
         let missing = wanted.minus(granted);
-        if asked.holds(25) {
+        if asked.holds(MAXIMUM_PLACE) {
             maximum_verdict(missing, wanted.union(self.most(granted, given)))
         } else {
             plain_verdict(wanted, missing)

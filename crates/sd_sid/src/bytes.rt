@@ -12,7 +12,7 @@ use std::alloc::{AllocError, Global};
 const REVISION: u8 = 1;
 
 /// What stands before the sub-authorities: the revision, their number, and six bytes of authority.
-const HEADER_BYTES: usize = 8;
+pub const SID_HEADER_BYTES: usize = 8;
 
 /// The SID at the front of the bytes, and its length, 8 and 4 for each sub-authority ([MS-DTYP] 2.4.2.2).
 /// `Short` where there are fewer than 8 bytes; then `Revision` where the first isn't 1, `Count` where the second
@@ -22,7 +22,7 @@ pub fn read_sid(bytes: &[u8]) -> Result<(Sid, u64), SidError>
     ensures read { result ≡ sid_reading bytes.now }
     ensures size { IfOk result (λ x. (x.1 ≡ 8 + 4 * length x.0.subs) × (x.1 ≤ length bytes.now)) }
 {
-    if bytes.len() < HEADER_BYTES {
+    if bytes.len() < SID_HEADER_BYTES {
         return Err(SidError::Short);
     }
     if bytes[0] != REVISION {
@@ -32,7 +32,7 @@ pub fn read_sid(bytes: &[u8]) -> Result<(Sid, u64), SidError>
     if count == 0 || count > MAX_SUBS {
         return Err(SidError::Count);
     }
-    let size = HEADER_BYTES + 4 * count;
+    let size = SID_HEADER_BYTES + 4 * count;
     if bytes.len() < size {
         return Err(SidError::Short);
     }
@@ -60,7 +60,7 @@ fn subs_of(bytes: &[u8], count: usize) -> [u32; MAX_SUBS]
 {
     let mut subs = [0; MAX_SUBS];
     for k in 0..count {
-        let at = HEADER_BYTES + 4 * k;
+        let at = SID_HEADER_BYTES + 4 * k;
         subs[k] = u32::from_le_bytes([bytes[at], bytes[at + 1], bytes[at + 2], bytes[at + 3]]);
     }
     subs
@@ -70,7 +70,7 @@ fn subs_of(bytes: &[u8], count: usize) -> [u32; MAX_SUBS]
 pub fn sid_bytes(alloc: Global, sid: &Sid) -> Result<Vec<u8>, AllocError>
     ensures { IfOk result (λ bytes. bytes.items ≡ bytes_of_sid sid.now) }
 {
-    let mut bytes = Vec::with_capacity(alloc, HEADER_BYTES + 4 * sid.subs().len())?;
+    let mut bytes = Vec::with_capacity(alloc, SID_HEADER_BYTES + 4 * sid.subs().len())?;
     push_sid(&mut bytes, sid)?;
     Ok(bytes)
 }
@@ -83,7 +83,7 @@ pub fn push_sid(bytes: &mut Vec<u8>, sid: &Sid) -> Result<(), AllocError>
     ensures err { OnErr result (bytes.new.items ≡ bytes.old.items) }
 {
     let subs = sid.subs();
-    bytes.reserve(HEADER_BYTES + 4 * subs.len())?;
+    bytes.reserve(SID_HEADER_BYTES + 4 * subs.len())?;
     bytes.push(REVISION).unwrap();
     bytes.push(subs.len() as u8).unwrap();
     bytes

@@ -34,8 +34,8 @@ impl Model for GenericMapping {
 #[error("a mask of a generic mapping has a bit beyond 0x001fffff")]
 pub struct BadMapping;
 
-/// The rights that a mapping may give: the object's own, and the standard ones.
-const OBJECT_RIGHTS: u32 = 0x001F_FFFF;
+/// The object's own rights and the standard ones, all that a mapping gives and an entry grants ([MS-DTYP] 2.4.3).
+pub const OBJECT_RIGHTS: Mask = Mask(0x001F_FFFF);
 
 impl GenericMapping {
     /// The mapping of these four masks; refused unless each is within 0x001FFFFF.
@@ -52,7 +52,7 @@ impl GenericMapping {
             .max(write.bits())
             .max(execute.bits())
             .max(all.bits());
-        if widest > OBJECT_RIGHTS {
+        if widest > OBJECT_RIGHTS.bits() {
             return Err(BadMapping);
         }
         Ok(GenericMapping {
