@@ -1,0 +1,2 @@
+pub mod Dacls
+pub mod Paths
