@@ -15,10 +15,18 @@ is_protected (own.List protected entries) = protected
 -- the descriptor of a node with this DACL: of a list the automatic inheritance is told, of a null one no flag is set
 abbrev pub descriptor_of_row : Row → Option (List Ace) → DescriptorValue
 descriptor_of_row row None = record {
-  owner = Some row.owner; group = Some row.group; dacl = Null;
-  protected = false; auto_req = false; auto_inherited = false;
+  owner = Some row.owner;
+  group = Some row.group;
+  dacl = Null;
+  protected = false;
+  auto_req = false;
+  auto_inherited = false;
 }
 descriptor_of_row row (Some entries) = record {
-  owner = Some row.owner; group = Some row.group; dacl = Entries entries;
-  protected = is_protected row.dacl; auto_req = false; auto_inherited = true;
+  owner = Some row.owner;
+  group = Some row.group;
+  dacl = Entries entries;
+  protected = is_protected row.dacl;
+  auto_req = false;
+  auto_inherited = true;
 }

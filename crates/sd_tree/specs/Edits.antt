@@ -2,14 +2,12 @@
 use Rattle.std.specs.Prelude.{true, List, Option, Some, None}
 use Rattle.std.specs.FinMap as map
 use Rattle.sd_sid.specs.Mapping.{MappingValue}
-use Rattle.sd_sid.specs.Sid.{SidValue}
 use Rattle.sd_acl.specs.Canonical.{canonical_order, explicit_entries}
 use Rattle.sd_acl.specs.declared.ace.Ace.{Ace}
 use Rattle.sd_tree.specs.Names.{Names}
 use Rattle.sd_tree.specs.Plain.{PlainTree, row_at, dacl_at}
 use Rattle.sd_tree.specs.declared.node.Row.{Row}
 use Rattle.sd_tree.specs.declared.node.NodeKind.TheVariants.{Container, Object}
-use Rattle.sd_tree.specs.declared.node.NodeDacl.{NodeDacl}
 use Rattle.sd_tree.specs.declared.node.NodeDacl.TheVariants.{List as Entries}
 use Rattle.sd_tree.specs.declared.edit.Edit.{Edit}
 use Rattle.sd_tree.specs.declared.edit.Edit.TheVariants.{AddContainer, AddObject, SetOwner, SetGroup, SetDacl, Remove, ProtectKeeping}

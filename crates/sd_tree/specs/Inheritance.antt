@@ -1,5 +1,5 @@
 -- What an entry hands on, and the DACL of a node ([MS-DTYP] 2.5.3.4).
-use Rattle.std.specs.Prelude.{ℕ, Bool, ◌&&◌, ◌||◌, bit_and, bit_or, if◌then◌else◌, List, [], ◌∷◌, ◌++◌, Option, Some, None}
+use Rattle.std.specs.Prelude.{Bool, ◌||◌, bit_and, bit_or, if◌then◌else◌, List, [], ◌∷◌, ◌++◌, Option, Some, None}
 use Rattle.std.specs.List.{flat_map}
 use Rattle.sd_sid.specs.Mask.{holds}
 use Rattle.sd_sid.specs.Mapping.{MappingValue, mapped}
@@ -69,9 +69,9 @@ to_object g owner group e = if object_inherit e then effective_copy g owner grou
 abbrev pub to_container : MappingValue → SidValue → SidValue → Ace → List Ace
 to_container g owner group e =
     if container_inherit e then
-      (if no_propagate e then effective_copy g owner group e ∷ []
-      else if is_split e then effective_copy g owner group e ∷ waiting_copy e ∷ []
-      else whole_copy e ∷ [])
+    (if no_propagate e then effective_copy g owner group e ∷ []
+    else if is_split e then effective_copy g owner group e ∷ waiting_copy e ∷ []
+    else whole_copy e ∷ [])
     else if object_inherit e then (if no_propagate e then [] else waiting_copy e ∷ [])
     else []
 

@@ -5,5 +5,6 @@ pub mod Descriptors
 pub mod Plain
 pub mod Edits
 pub mod Refusals
+pub mod Sizes
 pub mod Journal
 pub mod Answers

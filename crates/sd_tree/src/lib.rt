@@ -15,6 +15,7 @@
 
 mod edit;
 mod entries;
+mod inherit;
 mod node;
 mod opening;
 mod path;
