@@ -38,11 +38,6 @@ pub root_is_empty : (path : Names) → is_root path ≡ true → path ≡ []
 root_is_empty [] h = refl
 root_is_empty (n ∷ path) h = absurd (false≢true h)
 
--- what holds of the root, and of each path where it holds of what holds it, holds of all
-pub down_the_path : (P : Names → Type 0) → P [] → ((path : Names) (name : List ℕ) → P path → P (path ++ name ∷ [])) → (path : Names) → P path
-down_the_path P root step [] = root
-down_the_path P root step (n ∷ path) = down_the_path (λ p. P (n ∷ p)) (step [] n root) (λ p name h. step (n ∷ p) name h) path
-
 -- ---- what a path begins with
 
 same_name : (a b : List ℕ) → bytes_eq a b ≡ true → a ≡ b

@@ -8,3 +8,4 @@ pub mod Refusals
 pub mod Sizes
 pub mod Journal
 pub mod Answers
+pub mod Laws
