@@ -1,0 +1,27 @@
+-- What an edit that isn't refused has passed.
+use Rattle.std.proofs.Common.{◌≡◌, ℕ, Bool, true, false, cond, List, [], ◌∷◌, Option, Some, None, refl}
+use Rattle.std.specs.List.{AllByRecursion}
+use Rattle.std.specs.Option.{option_or}
+use Rattle.sd_sid.specs.Mapping.{MappingValue}
+use Rattle.sd_tree.specs.Plain.{PlainTree}
+use Rattle.sd_tree.specs.Refusals.{first_fit, early_refusal, late_refusal, refusal_in}
+use Rattle.sd_tree.specs.declared.edit.Edit.{Edit}
+use Rattle.sd_tree.specs.declared.refusal.EditRefusal.{EditRefusal}
+
+passed : (b : Bool) (x : EditRefusal) (rest : Option EditRefusal) → cond b (Some x) rest ≡ None → (b ≡ false) × (rest ≡ None)
+passed true x rest e = absurd cc
+passed false x rest e = (refl, e)
+
+-- where there is no refusal, no test fits
+pub none_fits : (tests : List (Bool × EditRefusal)) → first_fit tests ≡ None → AllByRecursion (λ test. test.0 ≡ false) tests
+none_fits [] e = tt
+none_fits (test ∷ tests) e = let parts = passed test.0 test.1 (first_fit tests) e in (parts.0, none_fits tests parts.1)
+
+neither : (a b : Option EditRefusal) → option_or a b ≡ None → (a ≡ None) × (b ≡ None)
+neither None b e = (refl, e)
+neither (Some x) b e = absurd cc
+
+-- an edit that isn't refused is refused neither early nor late
+pub not_refused : (g : MappingValue) (t : PlainTree) (count : ℕ) (e : Edit) → refusal_in g t count e ≡ None
+    → (early_refusal t e ≡ None) × (late_refusal g t count e ≡ None)
+not_refused g t count e h = neither (early_refusal t e) (late_refusal g t count e) h
