@@ -1,5 +1,6 @@
 -- Paths: a path is the list of its names from the root down, and a name the list of its bytes.
-use Rattle.std.specs.Prelude.{ℕ, Bool, true, false, ◌&&◌, ◌==◌, if◌then◌else◌, List, [], ◌∷◌}
+use Rattle.std.specs.Prelude.{◌≡◌, ℕ, ◌≤◌, Bool, true, false, not, ◌&&◌, ◌||◌, ◌==◌, nat_lt, nat_le, if◌then◌else◌, List, [], ◌∷◌, ◌++◌, length}
+use Rattle.std.specs.List.{list_all, onto_first}
 use Rattle.std.specs.Ordering.{nat_cmp}
 use Rattle.std.specs.Cmp.Lexicographic.{slice_cmp}
 use Rattle.std.specs.declared.cmp.Ordering.{Ordering}
@@ -28,11 +29,31 @@ is_within [] path = true
 is_within (name ∷ top) [] = false
 is_within (name ∷ top) (first ∷ path) = bytes_eq name first && is_within top path
 
--- the names of a byte string in which each name is ended by a zero byte
+-- no name has `/` or a zero byte
+abbrev pub is_name_byte : ℕ → Bool
+is_name_byte b = not (b == 0x2F || b == 0)
+
+-- a name has 1 to 255 bytes
+abbrev pub is_name : List ℕ → Bool
+is_name name = nat_lt 0 (length name) && nat_le (length name) 255 && list_all is_name_byte name
+
+-- a path has at most 128 names
+pub record IsPath (path : Names) : Type 0 where
+  pub at_most : length path ≤ 128
+  pub named : list_all is_name path ≡ true
+
+-- ---- how a path is kept: as one byte string, in which each name is ended by a zero byte
+
+abbrev pub ended : Names → List ℕ
+ended [] = []
+ended (name ∷ names) = name ++ 0 ∷ ended names
+
 abbrev pub names_of : List ℕ → Names
 names_of [] = []
-names_of (b ∷ bs) = if b == 0 then [] ∷ names_of bs else led_by b (names_of bs)
-  where
-    led_by : ℕ → Names → Names
-    led_by b [] = (b ∷ []) ∷ []
-    led_by b (name ∷ names) = (b ∷ name) ∷ names
+names_of (b ∷ bs) = if b == 0 then [] ∷ names_of bs else onto_first b (names_of bs)
+
+-- the bytes keep a path of so many names
+pub record Keeps (bytes : List ℕ) (count : ℕ) : Type 0 where
+  pub whole : ended (names_of bytes) ≡ bytes
+  pub counted : length (names_of bytes) ≡ count
+  pub path : IsPath (names_of bytes)

@@ -2,6 +2,9 @@
 
 ghost use Rattle.std.specs.Prelude.{◌≡◌, IfOk};
 
+mod lent;
+
+pub(crate) use lent::PathRef;
 use std::alloc::{AllocError, Global};
 use std::marker::Model;
 use thiserror::Error;
@@ -26,24 +29,42 @@ pub enum PathError {
 /// A path: at most 128 names, from the root down. Contracts see it as the list of its names.
 #[derive(Debug, Drop)]
 pub struct Path {
+    /// Each name is ended by a zero byte, so that paths compare as their bytes do.
     bytes: Vec<u8>,
+    /// The number of names.
+    count: u8,
 }
 
 impl Model for Path {
     ghost use Rattle.std.specs.Prelude.{ℕ, List};
-    ghost use Rattle.sd_tree.specs.Names.{names_of};
+    ghost use Rattle.sd_tree.specs.Names.{names_of, Keeps};
 
     ghost Value = { List (List ℕ) };
 
     ghost view = { λ p. names_of p.bytes.items };
+
+    ghost invariant = { λ p. Keeps p.bytes.items p.count };
 }
 
 impl Path {
+    /// The same path, lent.
+    pub(crate) fn as_path_ref(&self) -> PathRef<'_>
+        ensures { result ≡ self.now }
+    {
+        PathRef {
+            bytes: &self.bytes,
+            count: self.count,
+        }
+    }
+
     /// An equal path.
     pub fn copy(&self, alloc: Global) -> Result<Path, AllocError>
         ensures { IfOk result (λ path. path ≡ self.now) }
     {
         let bytes = Vec::from_slice(alloc, self.bytes.as_slice())?;
-        Ok(Path { bytes })
+        Ok(Path {
+            bytes,
+            count: self.count,
+        })
     }
 }
