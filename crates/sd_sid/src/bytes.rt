@@ -1,6 +1,6 @@
 // SIDs as bytes.
 
-ghost use Rattle.std.specs.Prelude.{◌≡◌, ◌+◌, ◌*◌, ◌<◌, ◌≤◌, ◌^◌, ◌++◌, length, take, vec_len, vec_capacity, IfOk, OnOk, OnErr};
+ghost use Rattle.std.specs.Prelude.{◌≡◌, ◌+◌, ◌*◌, ◌<◌, ◌≤◌, ◌^◌, ◌++◌, length, take, vec_len, vec_capacity, IsOk, IfOk, OnOk, OnErr};
 ghost use Rattle.std.specs.Int.{w32, to_le_bytes};
 ghost use Rattle.std.specs.List.{flat_map};
 ghost use Rattle.sd_sid.specs.SidBytes.{u32s_at, authority_of, sid_reading, bytes_of_sid, SidsComeBack, SidsStand};
@@ -76,11 +76,13 @@ pub fn sid_bytes(alloc: Global, sid: &Sid) -> Result<Vec<u8>, AllocError>
 }
 
 /// Writes the bytes of a SID behind those that are there ([MS-DTYP] 2.4.2.2), which stay as they were where there is no
-/// memory for the SID's.
+/// memory for the SID's. None is taken where there is room for them.
 #[tactic(auto, unfolding(crate::specs::SidBytes::bytes_of_sid))]
 pub fn push_sid(bytes: &mut Vec<u8>, sid: &Sid) -> Result<(), AllocError>
     ensures ok { OnOk result (bytes.new.items ≡ bytes.old.items ++ bytes_of_sid sid.now) }
     ensures err { OnErr result (bytes.new.items ≡ bytes.old.items) }
+    ensures succeeds { vec_len bytes.old + (8 + 4 * length sid.now.subs) ≤ vec_capacity bytes.old → IsOk result }
+    ensures capacity { vec_capacity bytes.old ≤ vec_capacity bytes.new }
 {
     let subs = sid.subs();
     bytes.reserve(SID_HEADER_BYTES + 4 * subs.len())?;
@@ -96,7 +98,8 @@ pub fn push_sid(bytes: &mut Vec<u8>, sid: &Sid) -> Result<(), AllocError>
 /// Writes sub-authorities, four bytes each, the least significant first, for which there is room.
 fn push_subs(bytes: &mut Vec<u8>, subs: &[u32])
     requires { vec_len bytes.old + 4 * length subs.now ≤ vec_capacity bytes.old }
-    ensures { bytes.new.items ≡ bytes.old.items ++ flat_map (to_le_bytes w32) subs.now }
+    ensures items { bytes.new.items ≡ bytes.old.items ++ flat_map (to_le_bytes w32) subs.now }
+    ensures capacity { vec_capacity bytes.old ≤ vec_capacity bytes.new }
 {
     for sub in subs {
         bytes.extend_from_slice(&sub.to_le_bytes()).unwrap();

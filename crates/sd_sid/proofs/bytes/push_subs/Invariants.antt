@@ -8,3 +8,4 @@ abbrev pub invariant-loop-sub : goal.invariant-loop-sub
 invariant-loop-sub l =
     (l.bytes.items ≡ l.fn.bytes.items ++ flat_map (to_le_bytes w32) (take l.sub-index l.subs))
     × (vec_len l.bytes + 4 * (length l.subs - l.sub-index) ≤ vec_capacity l.bytes)
+    × (vec_capacity l.fn.bytes ≤ vec_capacity l.bytes)
