@@ -8,6 +8,7 @@ use Rattle.std.proofs.lemmas.Nat.{from_le_bytes-to_le_bytes_2, from_le_bytes-to_
 use Rattle.sd_sid.specs.Sid.{SidValue, IsSid}
 use Rattle.sd_sid.specs.SidBytes.{u32_at, sid_reading, bytes_of_sid}
 use Rattle.sd_sid.proofs.SidLaws.{length_of_sid, sids_come_back}
+use Rattle.sd_acl.specs.Ace.{all_named}
 use Rattle.sd_acl.specs.Descriptor.{DescriptorValue, IsDacl, IsAce, AreEntries}
 use Rattle.sd_acl.specs.declared.ace.Ace.{Ace}
 use Rattle.sd_acl.specs.declared.ace.AceKind.{AceKind}
@@ -44,7 +45,7 @@ kind_is_read Deny = refl
 
 -- an entry whose fields were each read
 entry_reads_as : (bytes : List ℕ) (o end size flags : ℕ) (e : Ace) → get_or bytes o 0 ≡ kind_byte e.kind → get_or bytes (o + 1) 0 ≡ flags → u16_at bytes (o + 2) ≡ size → u32_at bytes (o + 4) ≡ e.mask
-    → sid_read bytes (o + 8) (o + size) ≡ Ok e.sid → bit_and flags 0xDF ≡ e.flags.0 → size % 4 ≡ 0 → 16 ≤ size → o + size ≤ end → entry_read bytes o end ≡ Ok (e, size)
+    → sid_read bytes (o + 8) (o + size) ≡ Ok e.sid → bit_and flags all_named ≡ e.flags.0 → size % 4 ≡ 0 → 16 ≤ size → o + size ≤ end → entry_read bytes o end ≡ Ok (e, size)
 unfolding entry_read
 entry_reads_as bytes o end size flags e kind flagged sized mask sid known aligned room within =
     let header : nat_lt end (o + 4) ≡ false = le-ltb _ _ (omega arith) in
@@ -79,9 +80,9 @@ entries_are_read bytes o end (e ∷ es) sound h =
 list_is_read : (bytes : List ℕ) (o : ℕ) (es : List Ace) → AreEntries es → ListStands bytes o es → list_read bytes o ≡ Ok es
 unfolding list_read
 list_is_read bytes o es sound h =
-    let revision : (get_or bytes o 0 == 2 || get_or bytes o 0 == 4) ≡ true = elim h.revision [ inl two ↦ rw two refl | inr four ↦ rw four refl ] in
-    let least : nat_lt (u16_at bytes (o + 2)) 8 ≡ false = le-ltb _ _ h.header in
-    let inside : nat_lt (length bytes) (o + u16_at bytes (o + 2)) ≡ false = le-ltb _ _ h.within in
+    let revision : (get_or bytes o 0 == 2 || get_or bytes o 0 == 4) ≡ true = elim h.begins.revision [ inl two ↦ rw two refl | inr four ↦ rw four refl ] in
+    let least : nat_lt (u16_at bytes (o + 2)) 8 ≡ false = le-ltb _ _ h.begins.header in
+    let inside : nat_lt (length bytes) (o + u16_at bytes (o + 2)) ≡ false = le-ltb _ _ h.begins.within in
     rw (revision, least, inside, h.count) (entries_are_read bytes (o + 8) (o + u16_at bytes (o + 2)) es sound.each h.entries)
 
 -- ---- owner, group and DACL
@@ -107,7 +108,7 @@ unfolding dacl_read
 dacl_is_read bytes o Absent sound h = absurd h
 dacl_is_read bytes o Null sound h = rw h refl
 dacl_is_read bytes o (Entries es) sound h =
-    rw (not_zero o h.0, inside bytes o h.0 (omega (arith, h.1.header, h.1.within)), list_is_read bytes o es sound h.1) refl
+    rw (not_zero o h.0, inside bytes o h.0 (omega (arith, h.1.begins.header, h.1.begins.within)), list_is_read bytes o es sound h.1) refl
 
 -- ---- descriptors
 

@@ -1,8 +1,8 @@
 -- How many bytes each written part takes.
-use Rattle.std.proofs.Common.{◌≡◌, ◌+◌, ◌*◌, ◌^◌, ◌<◌, ◌≤◌, List, [], ◌∷◌, ◌++◌, length, sum_by, Some, refl, sym, ◌∙◌, arith}
+use Rattle.std.proofs.Common.{◌≡◌, ℕ, min, ◌+◌, ◌*◌, ◌/◌, ◌^◌, ◌<◌, ◌≤◌, List, [], ◌∷◌, ◌++◌, length, get_or, take, sum_by, Some, refl, sym, ◌∙◌, arith}
 use Rattle.std.specs.List.{flat_map}
 use Rattle.std.proofs.lemmas.List.{length-append}
-use Rattle.std.proofs.lemmas.List.Sums.{sum_by-cons}
+use Rattle.std.proofs.lemmas.List.Sums.{sum_by-cons, sum_by_more_le}
 use Rattle.sd_sid.specs.Sid.{SidValue}
 use Rattle.sd_sid.proofs.SidLaws.{length_of_sid}
 use Rattle.sd_acl.specs.Ace.{ace_size, acl_size_of}
@@ -21,6 +21,10 @@ pub length_of_entries : (es : List Ace) → length (flat_map entry_bytes es) ≡
 length_of_entries [] = refl
 length_of_entries (e ∷ es) = length-append (entry_bytes e) (flat_map entry_bytes es) ∙ omega (arith, length_of_entry e, length_of_entries es, sum_by-cons ace_size e es)
 
+-- the entries before one, and that one, are within them all
+pub room_for_next : (es : List Ace) (i : ℕ) (e : Ace) → i < length es → length (flat_map entry_bytes (take i es)) + ace_size (get_or es i e) ≤ sum_by ace_size es
+room_for_next es i e lt = omega (arith, length_of_entries (take i es), sum_by_more_le ace_size es i e lt)
+
 pub length_of_list : (es : List Ace) → acl_size_of es ≡ length (list_bytes es)
 unfolding list_bytes
 length_of_list es = omega (arith, length_of_entries es)
@@ -36,9 +40,13 @@ length_of_wire d =
     omega (arith, length_of_header d, length-append (header_of d) (trustee_part d.owner ++ behind), length-append (trustee_part d.owner) behind, length-append (trustee_part d.group) (dacl_part d.dacl))
 
 -- a list within 65,535 bytes has fewer entries than that
-entries_take : (es : List Ace) → 16 * length es ≤ sum_by ace_size es
+pub entries_take : (es : List Ace) → 16 * length es ≤ sum_by ace_size es
 entries_take [] = omega arith
 entries_take (e ∷ es) = omega (arith, entries_take es, sum_by-cons ace_size e es)
+
+-- where there is room for 16 bytes more, the room of so many entries is for one more
+pub room_for_another : (k count room : ℕ) → k < count → 16 * k + 16 ≤ room → k < min count (room / 16)
+room_for_another k count room some more = omega arith
 
 pub few_entries : (es : List Ace) → acl_size_of es ≤ 65535 → length es < 2 ^ 16
 few_entries es fit = omega (arith, entries_take es)

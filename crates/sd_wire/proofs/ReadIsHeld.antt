@@ -9,6 +9,7 @@ use Rattle.sd_sid.specs.declared.sid.SidError.{SidError}
 use Rattle.sd_sid.proofs.SidLaws.{length_of_sid, sids_stand}
 use Rattle.sd_sid.proofs.SidWords.{cells, cells_fit}
 use Rattle.std.specs.Prelude.{IfOk}
+use Rattle.sd_acl.specs.Ace.{all_named}
 use Rattle.sd_acl.specs.Descriptor.{DescriptorValue, descriptor_of}
 use Rattle.sd_acl.specs.declared.descriptor.Descriptor.{Descriptor}
 use Rattle.sd_wire.specs.declared.fault.WireError.{WireError}
@@ -102,7 +103,7 @@ entry_is_held : (bytes : List ℕ) (o end : ℕ) (x : Ace × ℕ) → IsBytes by
 unfolding entry_read
 entry_is_held bytes o end x fits inside e =
     let size = u16_at bytes (o + 2) in
-    let made : AceKind → SidValue → Ace × ℕ = λ kind sid. (record { kind = kind; flags = record { 0 = bit_and (get_or bytes (o + 1) 0) 0xDF }; mask = u32_at bytes (o + 4); sid = sid }, size) in
+    let made : AceKind → SidValue → Ace × ℕ = λ kind sid. (record { kind = kind; flags = record { 0 = bit_and (get_or bytes (o + 1) 0) all_named }; mask = u32_at bytes (o + 4); sid = sid }, size) in
     let with_sid : AceKind → Result (Ace × ℕ) WireFault = λ kind. sid_read bytes (o + 8) (o + size) >>= λ sid. Ok (made kind sid) in
     let with_kind : AceKind → Result (Ace × ℕ) WireFault = λ kind. cond (nat_lt size 16) (Err EntrySize) (with_sid kind) in
     let whole : Result (Ace × ℕ) WireFault = kind_read (get_or bytes o 0) >>= with_kind in
@@ -147,9 +148,11 @@ list_is_held bytes o es fits e =
     let ends : o + u16_at bytes (o + 2) ≤ length bytes = ltb-false _ _ within.0 in
     let entries = entries_are_held bytes (o + 8) (o + u16_at bytes (o + 2)) (u16_at bytes (o + 4)) es fits ends within.1 in
     record {
-      revision = elim (or_cases (get_or bytes o 0 == 2) (get_or bytes o 0 == 4) (not-false _ revision.0)) [ inl two ↦ inl (eqb-true _ _ two) | inr four ↦ inr (eqb-true _ _ four) ];
-      header = ltb-false _ _ header.0;
-      within = ends;
+      begins = record {
+        revision = elim (or_cases (get_or bytes o 0 == 2) (get_or bytes o 0 == 4) (not-false _ revision.0)) [ inl two ↦ inl (eqb-true _ _ two) | inr four ↦ inr (eqb-true _ _ four) ];
+        header = ltb-false _ _ header.0;
+        within = ends;
+      };
       count = entries.0;
       entries = entries.1;
     }

@@ -10,9 +10,9 @@ use Rattle.std.proofs.lemmas.Nat.{from_le_bytes-to_le_bytes_2, from_le_bytes-to_
 use Rattle.sd_sid.specs.Sid.{SidValue, IsSid}
 use Rattle.sd_sid.specs.SidBytes.{u32_at, bytes_of_sid}
 use Rattle.sd_sid.proofs.SidLaws.{length_of_sid}
-use Rattle.sd_acl.specs.Ace.{ace_size, acl_size_of}
+use Rattle.sd_acl.specs.Ace.{all_named, ace_size, acl_size_of}
 use Rattle.sd_acl.specs.Dacl.{is_absent}
-use Rattle.sd_acl.specs.Descriptor.{DescriptorValue, IsDescriptor, IsDacl, IsAce, AreEntries, HaveNamedFlags}
+use Rattle.sd_acl.specs.Descriptor.{DescriptorValue, IsDescriptor, IsDacl, IsAce, AreEntries, HasNamedFlags, HaveNamedFlags}
 use Rattle.sd_acl.specs.declared.ace.Ace.{Ace}
 use Rattle.sd_acl.specs.declared.descriptor.Dacl.{Dacl}
 use Rattle.sd_acl.specs.declared.descriptor.Dacl.TheVariants.{Absent, Null, List as Entries}
@@ -83,20 +83,20 @@ bits_are false false false false = record { self_relative = refl; no_sacl = refl
 
 -- ---- entries and lists
 
-entry_is_held : (front rest : List ℕ) (end : ℕ) (e : Ace) → IsAce e → bit_and e.flags.0 0xDF ≡ e.flags.0 → length front + ace_size e ≤ end
+entry_is_held : (front rest : List ℕ) (end : ℕ) (e : Ace) → IsAce e → HasNamedFlags e → length front + ace_size e ≤ end
     → EntryStands (front ++ (entry_bytes e ++ rest)) (length front) end (ace_size e) e
 unfolding entry_bytes
 entry_is_held front rest end e sound known within = record {
-  flags = bit_and e.flags.0 0xDF;
-  known = ap (λ f. bit_and f 0xDF) known ∙ known;
-  parts = stands_behind_front front (entry_parts e.kind (bit_and e.flags.0 0xDF) (ace_size e) e.mask e.sid) rest;
+  flags = bit_and e.flags.0 all_named;
+  known = ap (λ f. bit_and f all_named) known ∙ known;
+  parts = stands_behind_front front (entry_parts e.kind (bit_and e.flags.0 all_named) (ace_size e) e.mask e.sid) rest;
   aligned = omega arith;
   room = omega arith;
   within = within;
   short = omega (arith, sound.sid.few);
 }
 
-entries_are_held : (front rest : List ℕ) (end : ℕ) (es : List Ace) → AllByRecursion IsAce es → AllByRecursion (λ e. bit_and e.flags.0 0xDF ≡ e.flags.0) es → length front + sum_by ace_size es ≤ end
+entries_are_held : (front rest : List ℕ) (end : ℕ) (es : List Ace) → AllByRecursion IsAce es → AllByRecursion HasNamedFlags es → length front + sum_by ace_size es ≤ end
     → EntriesStand (front ++ (flat_map entry_bytes es ++ rest)) (length front) end es
 entries_are_held front rest end [] sound known within = tt
 entries_are_held front rest end (e ∷ es) sound known within =
@@ -112,7 +112,7 @@ entries_are_held front rest end (e ∷ es) sound known within =
       subst (λ o. EntriesStand (front ++ ((entry_bytes e ++ flat_map entry_bytes es) ++ rest)) o end es) next (subst (λ l. EntriesStand l (length (front ++ entry_bytes e)) end es) (sym further) later),
     )
 
-list_is_held : (front rest : List ℕ) (es : List Ace) → AreEntries es → AllByRecursion (λ e. bit_and e.flags.0 0xDF ≡ e.flags.0) es → ListStands (front ++ (list_bytes es ++ rest)) (length front) es
+list_is_held : (front rest : List ℕ) (es : List Ace) → AreEntries es → AllByRecursion HasNamedFlags es → ListStands (front ++ (list_bytes es ++ rest)) (length front) es
 unfolding list_bytes
 list_is_held front rest es sound known =
     let bytes = front ++ (list_bytes es ++ rest) in
@@ -125,9 +125,11 @@ list_is_held front rest es sound known =
     let moved : EntriesStand bytes (length front + 8) (length front + acl_size_of es) es =
     subst (λ o. EntriesStand bytes o (length front + acl_size_of es) es) place (subst (λ l. EntriesStand l (length (front ++ header)) (length front + acl_size_of es) es) split entries) in
     record {
-      revision = inl (ap (λ k. get_or bytes k 0) (sym (add-zero (length front))) ∙ get_or-append-add front (list_bytes es ++ rest) 0 0);
-      header = omega (arith, sized);
-      within = omega (arith, sized, length-append front (list_bytes es ++ rest), length-append (list_bytes es) rest, length_of_list es);
+      begins = record {
+        revision = inl (ap (λ k. get_or bytes k 0) (sym (add-zero (length front))) ∙ get_or-append-add front (list_bytes es ++ rest) 0 0);
+        header = omega (arith, sized);
+        within = omega (arith, sized, length-append front (list_bytes es ++ rest), length-append (list_bytes es) rest, length_of_list es);
+      };
       count = u16_behind front (list_bytes es ++ rest) 4 ∙ from_le_bytes-to_le_bytes_2 (length es) (few_entries es sound.fit);
       entries = subst (λ n. EntriesStand bytes (length front + 8) (length front + n) es) (sym sized) moved;
     }

@@ -2,4 +2,5 @@ pub mod Fault
 pub mod Reading
 pub mod Writing
 pub mod Standing
+pub mod Memory
 pub mod Laws

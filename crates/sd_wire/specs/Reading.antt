@@ -5,6 +5,7 @@ use Rattle.std.specs.Int.{w16, from_le_bytes}
 use Rattle.sd_sid.specs.Sid.{SidValue}
 use Rattle.sd_sid.specs.SidBytes.{u32_at, sid_reading}
 use Rattle.sd_sid.specs.declared.sid.SidError.{SidError}
+use Rattle.sd_acl.specs.Ace.{all_named}
 use Rattle.sd_acl.specs.Descriptor.{DescriptorValue}
 use Rattle.sd_acl.specs.declared.ace.Ace.{Ace}
 use Rattle.sd_acl.specs.declared.ace.AceKind.{AceKind}
@@ -60,7 +61,7 @@ kind_read byte =
     else if byte == 1 then Ok Deny
     else Err EntryKind
 
--- the entry at a place and its AceSize, in a list that ends at end; the flag bit 0x20 isn't kept
+-- the entry at a place and its AceSize, in a list that ends at end; flags without a name aren't kept
 unfoldable pub entry_read : List ℕ → ℕ → ℕ → Result (Ace × ℕ) WireFault
 entry_read bytes o end =
     if nat_lt end (o + 4) then Err EntrySize
@@ -72,7 +73,7 @@ entry_read bytes o end =
     else (sid_read bytes (o + 8) (o + u16_at bytes (o + 2)) >>= λ sid. Ok (
       record {
         kind = kind;
-        flags = record { 0 = bit_and (slice_index bytes (o + 1)) 0xDF };
+        flags = record { 0 = bit_and (slice_index bytes (o + 1)) all_named };
         mask = u32_at bytes (o + 4);
         sid = sid;
       },

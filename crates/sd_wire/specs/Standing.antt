@@ -3,7 +3,7 @@
 use Rattle.std.specs.Prelude.{◌≡◌, ℕ, ◌+◌, ◌%◌, ◌^◌, ◌<◌, ◌≤◌, ◌⊎◌, true, false, MatchBool, List, [], ◌∷◌, length, take, drop, slice_index, bit_and, Option, Some, None}
 use Rattle.sd_sid.specs.Sid.{SidValue}
 use Rattle.sd_sid.specs.SidBytes.{u32_at, bytes_of_sid}
-use Rattle.sd_acl.specs.Ace.{ace_size}
+use Rattle.sd_acl.specs.Ace.{all_named, ace_size}
 use Rattle.sd_acl.specs.Descriptor.{DescriptorValue}
 use Rattle.sd_acl.specs.declared.ace.Ace.{Ace}
 use Rattle.sd_acl.specs.declared.descriptor.Dacl.{Dacl}
@@ -20,11 +20,11 @@ abbrev pub TrusteeStands : List ℕ → ℕ → Option SidValue → Type 0
 TrusteeStands bytes o None = o ≡ 0
 TrusteeStands bytes o (Some s) = (20 ≤ o) × Stands bytes o (bytes_of_sid s)
 
--- the entry stands at the place with this AceSize, in a list that ends at end. The flag bit 0x20 tells nothing, and
--- nor do the bytes behind the SID
+-- the entry stands at the place with this AceSize, in a list that ends at end. Flags without a name tell nothing,
+-- and nor do the bytes behind the SID
 pub record EntryStands (bytes : List ℕ) (o end size : ℕ) (e : Ace) : Type 0 where
   pub flags : ℕ
-  pub known : bit_and flags 0xDF ≡ e.flags.0
+  pub known : bit_and flags all_named ≡ e.flags.0
   pub parts : Stands bytes o (entry_parts e.kind flags size e.mask e.sid)
   pub aligned : size % 4 ≡ 0
   pub room : ace_size e ≤ size
@@ -36,11 +36,15 @@ abbrev pub EntriesStand : List ℕ → ℕ → ℕ → List Ace → Type 0
 EntriesStand bytes o end [] = Unit {0}
 EntriesStand bytes o end (e ∷ es) = (size : ℕ) × EntryStands bytes o end size e × EntriesStand bytes (o + size) end es
 
--- the list stands at the place: its revision, AclSize and AceCount, and its entries within AclSize
-pub record ListStands (bytes : List ℕ) (o : ℕ) (es : List Ace) : Type 0 where
+-- a list begins at the place: it has a revision that is read, and its AclSize is within the bytes
+pub record ListBegins (bytes : List ℕ) (o : ℕ) : Type 0 where
   pub revision : (slice_index bytes o ≡ 2) ⊎ (slice_index bytes o ≡ 4)
   pub header : 8 ≤ u16_at bytes (o + 2)
   pub within : o + u16_at bytes (o + 2) ≤ length bytes
+
+-- the list stands at the place: it begins there, and its entries are as many as AceCount says, within AclSize
+pub record ListStands (bytes : List ℕ) (o : ℕ) (es : List Ace) : Type 0 where
+  pub begins : ListBegins bytes o
   pub count : u16_at bytes (o + 4) ≡ length es
   pub entries : EntriesStand bytes (o + 8) (o + u16_at bytes (o + 2)) es
 

@@ -5,7 +5,7 @@ use Rattle.std.specs.Int.{w16, w32, to_le_bytes}
 use Rattle.std.specs.List.{flat_map}
 use Rattle.sd_sid.specs.Sid.{SidValue}
 use Rattle.sd_sid.specs.SidBytes.{bytes_of_sid}
-use Rattle.sd_acl.specs.Ace.{ace_size, acl_size_of}
+use Rattle.sd_acl.specs.Ace.{all_named, ace_size, acl_size_of}
 use Rattle.sd_acl.specs.Dacl.{is_absent}
 use Rattle.sd_acl.specs.Descriptor.{DescriptorValue}
 use Rattle.sd_acl.specs.declared.ace.Ace.{Ace}
@@ -23,9 +23,9 @@ kind_byte Deny = 1
 abbrev pub entry_parts : AceKind → ℕ → ℕ → ℕ → SidValue → List ℕ
 entry_parts kind flags size mask sid = kind_byte kind ∷ flags ∷ (to_le_bytes w16 size ++ (to_le_bytes w32 mask ++ bytes_of_sid sid))
 
--- an entry, without the flag bit 0x20, and with no bytes behind its SID
+-- an entry, with the flags that have names, and with no bytes behind its SID
 unfoldable pub entry_bytes : Ace → List ℕ
-entry_bytes e = entry_parts e.kind (bit_and e.flags.0 0xDF) (ace_size e) e.mask e.sid
+entry_bytes e = entry_parts e.kind (bit_and e.flags.0 all_named) (ace_size e) e.mask e.sid
 
 -- a list: revision 2, a zero, AclSize, AceCount, two zeros, the entries
 unfoldable pub list_bytes : List Ace → List ℕ

@@ -1,8 +1,9 @@
-// Whole descriptors: header, owner, group and DACL.
+//! Whole descriptors: header, owner, group and DACL.
 
-ghost use Rattle.std.specs.Prelude.{◌≡◌, ◌≤◌, ◌<◌, ◌^◌, ◌++◌, false, length, IfOk, OnOk};
+ghost use Rattle.std.specs.Prelude.{◌≡◌, ◌+◌, ◌≤◌, ◌<◌, ◌^◌, ◌++◌, false, length, vec_len, vec_capacity, IfOk, IsErrOf};
 ghost use Rattle.sd_acl.specs.Dacl.{is_absent};
 ghost use Rattle.sd_acl.specs.Descriptor.{descriptor_of};
+ghost use Rattle.sd_wire.specs.Memory.{HasEntries, TakesMemory};
 ghost use Rattle.sd_wire.specs.Reading.{Gives, dacl_read, descriptor_read};
 ghost use Rattle.sd_wire.specs.Standing.{Holds};
 ghost use Rattle.sd_wire.specs.Writing.{dacl_part, wire_of};
@@ -23,6 +24,7 @@ use std::alloc::{AllocError, Global};
 pub fn read_descriptor(alloc: Global, bytes: &[u8]) -> Result<Descriptor, WireError>
     ensures exact { Gives descriptor_of result (descriptor_read bytes.now) }
     ensures held { IfOk result (λ descriptor. Holds bytes.now (descriptor_of descriptor)) }
+    ensures memory { IsErrOf result WireError.Memory → TakesMemory bytes.now }
 {
     read_parts(alloc, bytes)
 }
@@ -30,7 +32,8 @@ pub fn read_descriptor(alloc: Global, bytes: &[u8]) -> Result<Descriptor, WireEr
 /// The same, part by part.
 #[tactic(auto, unfolding(crate::specs::Reading::descriptor_read))]
 fn read_parts(alloc: Global, bytes: &[u8]) -> Result<Descriptor, WireError>
-    ensures { Gives descriptor_of result (descriptor_read bytes.now) }
+    ensures read { Gives descriptor_of result (descriptor_read bytes.now) }
+    ensures memory { IsErrOf result WireError.Memory → TakesMemory bytes.now }
 {
     let control = read_control(bytes)?;
     let owner = read_trustee(bytes, read_u32(bytes, OWNER_PLACE) as usize)?;
@@ -61,6 +64,7 @@ fn read_parts(alloc: Global, bytes: &[u8]) -> Result<Descriptor, WireError>
 fn read_dacl(alloc: Global, bytes: &[u8], offset: usize) -> Result<Dacl, WireError>
     requires { offset < 2 ^ 32 }
     ensures read { Gives (λ dacl. dacl) result (dacl_read bytes.now offset) }
+    ensures memory { IsErrOf result WireError.Memory → (20 ≤ offset) × HasEntries bytes.now offset }
     ensures present { IfOk result (λ dacl. is_absent dacl ≡ false) }
 {
     if offset == 0 {
@@ -75,15 +79,15 @@ fn read_dacl(alloc: Global, bytes: &[u8], offset: usize) -> Result<Dacl, WireErr
 
 /// The one written form of a descriptor ([MS-DTYP] 2.4.6): the header, the owner, the group and the DACL, each right
 /// behind the last one that is there; list revision 2, and no flag bit 0x20.
-#[tactic(auto, unfolding(crate::specs::Writing::wire_of))]
+#[tactic(auto, unfolding(crate::specs::Writing::wire_of), using(crate::proofs::Lengths::length_of_wire, crate::proofs::Lengths::length_of_header))]
 pub fn write_descriptor(alloc: Global, descriptor: &Descriptor) -> Result<Vec<u8>, AllocError>
     ensures { IfOk result (λ bytes. bytes.items ≡ wire_of (descriptor_of descriptor.now)) }
 {
     let mut bytes = Vec::with_capacity(alloc, wire_len(descriptor) as usize)?;
-    push_header(&mut bytes, descriptor)?;
-    push_trustee(&mut bytes, &descriptor.owner)?;
-    push_trustee(&mut bytes, &descriptor.group)?;
-    push_dacl(&mut bytes, &descriptor.dacl)?;
+    push_header(&mut bytes, descriptor);
+    push_trustee(&mut bytes, &descriptor.owner);
+    push_trustee(&mut bytes, &descriptor.group);
+    push_dacl(&mut bytes, &descriptor.dacl);
     Ok(bytes)
 }
 
@@ -108,12 +112,14 @@ fn dacl_len(dacl: &Dacl) -> u64
     }
 }
 
-/// Writes the DACL, where there is a list.
-fn push_dacl(bytes: &mut Vec<u8>, dacl: &Dacl) -> Result<(), AllocError>
-    ensures { OnOk result (bytes.new.items ≡ bytes.old.items ++ dacl_part dacl.now) }
+/// Writes the DACL, where there is a list and for which there is room.
+#[tactic(auto, using(crate::proofs::Lengths::length_of_list))]
+fn push_dacl(bytes: &mut Vec<u8>, dacl: &Dacl)
+    requires { vec_len bytes.old + length (dacl_part dacl.now) ≤ vec_capacity bytes.old }
+    ensures items { bytes.new.items ≡ bytes.old.items ++ dacl_part dacl.now }
+    ensures capacity { vec_capacity bytes.old ≤ vec_capacity bytes.new }
 {
     if let Dacl::List(list) = dacl {
-        push_list(bytes, list)?;
+        push_list(bytes, list);
     }
-    Ok(())
 }

@@ -1,6 +1,6 @@
-// Entries of a list: header, mask and SID.
+//! Entries of a list: header, mask and SID.
 
-ghost use Rattle.std.specs.Prelude.{◌≡◌, ◌+◌, ◌≤◌, ◌++◌, length, IfOk, OnOk};
+ghost use Rattle.std.specs.Prelude.{◌≡◌, ◌+◌, ◌≤◌, ◌++◌, length, vec_len, vec_capacity, IfOk};
 ghost use Rattle.sd_acl.specs.Ace.{ace_size};
 ghost use Rattle.sd_wire.specs.Reading.{entry_read, kind_read};
 ghost use Rattle.sd_wire.specs.Writing.{entry_bytes};
@@ -10,8 +10,7 @@ use crate::number::{read_u16, read_u32};
 use crate::trustee::read_sid_at;
 use bitflags::Flags;
 use sd_acl::{Ace, AceFlags, AceKind};
-use sd_sid::{Mask, push_sid};
-use std::alloc::AllocError;
+use sd_sid::{Mask, SID_HEADER_BYTES, push_sid};
 
 /// AceType of an allow ([MS-DTYP] 2.4.4.1, ACCESS_ALLOWED_ACE_TYPE).
 const ALLOW: u8 = 0x00;
@@ -19,21 +18,18 @@ const ALLOW: u8 = 0x00;
 /// AceType of a deny ([MS-DTYP] 2.4.4.1, ACCESS_DENIED_ACE_TYPE).
 const DENY: u8 = 0x01;
 
-/// The flag bits that have a meaning ([MS-DTYP] 2.4.4.1, AceFlags); 0x20 has none, and is neither read nor written.
-const KNOWN_FLAGS: u8 = 0xDF;
-
 /// The bytes of an entry's header: type, flags, AceSize ([MS-DTYP] 2.4.4.1).
 const HEADER_BYTES: usize = 4;
 
 /// The bytes before an entry's SID: the header and the mask ([MS-DTYP] 2.4.4.2).
 const SID_PLACE: usize = 8;
 
-/// The least bytes of an entry: its SID has 8 before the sub-authorities.
-pub const MIN_ENTRY_BYTES: usize = 16;
+/// The least bytes of an entry.
+pub(crate) const MIN_ENTRY_BYTES: usize = SID_PLACE + SID_HEADER_BYTES;
 
 /// The entry at a place, and its AceSize, in a list that ends at `end`.
 #[tactic(auto, unfolding(crate::specs::Reading::entry_read))]
-pub fn read_entry(bytes: &[u8], place: usize, end: usize) -> Result<(Ace, usize), WireFault>
+pub(crate) fn read_entry(bytes: &[u8], place: usize, end: usize) -> Result<(Ace, usize), WireFault>
     requires place { place ≤ end }
     requires end { end ≤ length bytes.now }
     ensures read { result ≡ entry_read bytes.now place end }
@@ -52,7 +48,7 @@ pub fn read_entry(bytes: &[u8], place: usize, end: usize) -> Result<(Ace, usize)
     }
     let entry = Ace {
         kind,
-        flags: AceFlags::from_bits_retain(bytes[place + 1] & KNOWN_FLAGS),
+        flags: AceFlags::from_bits_retain(bytes[place + 1] & AceFlags::NAMED_BITS),
         mask: Mask(read_u32(bytes, place + HEADER_BYTES)),
         sid: read_sid_at(bytes, place + SID_PLACE, place + size)?,
     };
@@ -70,18 +66,23 @@ fn read_kind(byte: u8) -> Result<AceKind, WireFault>
     }
 }
 
-/// Writes an entry, without the flag bit 0x20.
+/// Writes an entry, for which there is room, with the flags that have names.
 #[tactic(auto, unfolding(crate::specs::Writing::entry_bytes))]
-pub fn push_entry(bytes: &mut Vec<u8>, entry: &Ace) -> Result<(), AllocError>
-    ensures { OnOk result (bytes.new.items ≡ bytes.old.items ++ entry_bytes entry.now) }
+pub(crate) fn push_entry(bytes: &mut Vec<u8>, entry: &Ace)
+    requires { vec_len bytes.old + ace_size entry.now ≤ vec_capacity bytes.old }
+    ensures items { bytes.new.items ≡ bytes.old.items ++ entry_bytes entry.now }
+    ensures capacity { vec_capacity bytes.old ≤ vec_capacity bytes.new }
 {
-    bytes.push(match entry.kind {
+    let kind = match entry.kind {
         AceKind::Allow => ALLOW,
         AceKind::Deny => DENY,
-    })?;
-    bytes.push(entry.flags.bits() & KNOWN_FLAGS)?;
-    bytes.extend_from_slice(&(entry.size() as u16).to_le_bytes())?;
-    bytes.extend_from_slice(&entry.mask.bits().to_le_bytes())?;
-    push_sid(bytes, &entry.sid)?;
-    Ok(())
+    };
+    let flags = entry.flags.bits() & AceFlags::NAMED_BITS;
+    let size = entry.size() as u16;
+    let mask = entry.mask.bits();
+    bytes.push(kind).unwrap();
+    bytes.push(flags).unwrap();
+    bytes.extend_from_slice(&size.to_le_bytes()).unwrap();
+    bytes.extend_from_slice(&mask.to_le_bytes()).unwrap();
+    push_sid(bytes, &entry.sid).unwrap();
 }

@@ -1,38 +1,40 @@
-// What is wrong with bytes that hold no descriptor.
+//! What is wrong with bytes that hold no descriptor.
 
-ghost use Rattle.std.specs.Prelude.{◌≡◌};
+ghost use Rattle.std.specs.Prelude.{◌≡◌, Some};
 ghost use Rattle.sd_wire.specs.Fault.{wire_fault_number, wire_fault_name};
+ghost use Rattle.sd_wire.specs.declared.fault.WireError.TheVariants.{Fault, Memory};
 
 use std::alloc::{AllocError, AllocFailed};
+use std::fmt;
 use thiserror::Error;
 
 /// The first test that bytes don't pass, in the order in which a descriptor is read ([MS-DTYP] 2.4.6).
-#[derive(Clone, Copy, Debug, PartialEq, Eq, Error)]
+#[derive(Clone, Copy, Debug, PartialEq, Eq)]
 pub enum WireFault {
-    #[error("a descriptor's header has 20 bytes")]
+    /// The bytes are fewer than a header's 20.
     Short,
-    #[error("the descriptor's revision isn't 1")]
+    /// The descriptor's revision isn't 1.
     Revision,
-    #[error("the descriptor isn't self-relative")]
+    /// The descriptor isn't self-relative.
     NotSelfRelative,
-    #[error("the descriptor has a SACL")]
+    /// The descriptor has a SACL.
     HasSacl,
-    #[error("an offset leads into the header or to less than 8 bytes")]
+    /// An offset leads into the header or to less than 8 bytes.
     BadOffset,
-    #[error("no SID stands where one is wanted")]
+    /// No SID stands where one is wanted.
     BadSid,
-    #[error("the list's revision is neither 2 nor 4")]
+    /// The list's revision is neither 2 nor 4.
     AclRevision,
-    #[error("the list's size is less than its header's, or passes the end")]
+    /// The list's size is less than its header's, or passes the end.
     AclSize,
-    #[error("an entry's size doesn't fit the entry or the list")]
+    /// An entry's size doesn't fit the entry or the list.
     EntrySize,
-    #[error("an entry is neither an allow nor a deny")]
+    /// An entry is neither an allow nor a deny.
     EntryKind,
 }
 
 impl WireFault {
-    /// The fault's number.
+    /// The fault's number, from 1 on, by which programs name it.
     pub fn number(self) -> u8
         ensures { result ≡ wire_fault_number self }
     {
@@ -50,7 +52,7 @@ impl WireFault {
         }
     }
 
-    /// The fault's name.
+    /// The fault's name, by which programs print it.
     pub fn name(self) -> &'static str
         ensures { result.now ≡ wire_fault_name self }
     {
@@ -69,7 +71,15 @@ impl WireFault {
     }
 }
 
-/// Why no descriptor was read.
+impl fmt::Display for WireFault {
+    ghost output = { λ fault. Some (wire_fault_name fault) };
+
+    fn fmt<W: fmt::Write>(&self, f: &mut fmt::Formatter<W>) -> fmt::Result {
+        write!(f, "{}", self.name())
+    }
+}
+
+/// Why no descriptor was read: the bytes' first fault, or want of memory.
 #[derive(Clone, Copy, Debug, PartialEq, Eq, Error)]
 pub enum WireError {
     #[error("{0}")]
@@ -79,8 +89,6 @@ pub enum WireError {
 }
 
 impl From<WireFault> for WireError {
-    ghost use Rattle.sd_wire.specs.declared.fault.WireError.TheVariants.{Fault};
-
     ghost from_gives = { λ fault e. e ≡ Fault fault };
 
     fn from(fault: WireFault) -> WireError {
@@ -89,8 +97,6 @@ impl From<WireFault> for WireError {
 }
 
 impl From<AllocError> for WireError {
-    ghost use Rattle.sd_wire.specs.declared.fault.WireError.TheVariants.{Memory};
-
     ghost from_gives = { λ _ e. e ≡ Memory };
 
     fn from(_: AllocError) -> WireError {
@@ -99,8 +105,6 @@ impl From<AllocError> for WireError {
 }
 
 impl<T: Drop> From<AllocFailed<T>> for WireError {
-    ghost use Rattle.sd_wire.specs.declared.fault.WireError.TheVariants.{Memory};
-
     ghost from_gives = { λ _ e. e ≡ Memory };
 
     fn from(_: AllocFailed<T>) -> WireError {

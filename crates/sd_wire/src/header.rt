@@ -1,6 +1,6 @@
-// A descriptor's header: its control bits and its offsets.
+//! A descriptor's header: its control bits and its offsets.
 
-ghost use Rattle.std.specs.Prelude.{◌≡◌, ◌≤◌, ◌<◌, ◌^◌, ◌++◌, cond, length, OnOk};
+ghost use Rattle.std.specs.Prelude.{◌≡◌, ◌+◌, ◌≤◌, ◌<◌, ◌^◌, ◌++◌, cond, length, OnOk, vec_len, vec_capacity};
 ghost use Rattle.sd_acl.specs.Descriptor.{descriptor_of};
 ghost use Rattle.sd_wire.specs.Reading.{control_read, is_outside, is_set};
 ghost use Rattle.sd_wire.specs.Writing.{control_of, header_bytes, header_of, is_list, offset_bytes, offset_of};
@@ -9,13 +9,13 @@ use crate::fault::WireFault;
 use crate::number::{read_u16, read_u32};
 use crate::trustee::trustee_len;
 use sd_acl::{Dacl, Descriptor};
-use std::alloc::AllocError;
+use sd_sid::SID_HEADER_BYTES;
 
 /// The bytes of a header ([MS-DTYP] 2.4.6), into which no offset may lead.
-pub const HEADER_BYTES: usize = 20;
+pub(crate) const HEADER_BYTES: usize = 20;
 
-/// The least bytes that a part has: a SID's before its sub-authorities, a list's before its entries.
-const MIN_PART_BYTES: usize = 8;
+/// The least bytes that a part has: a SID's header, which is as long as a list's.
+const MIN_PART_BYTES: usize = SID_HEADER_BYTES;
 
 /// The only revision of a descriptor ([MS-DTYP] 2.4.6, Revision).
 const REVISION: u8 = 1;
@@ -24,31 +24,31 @@ const REVISION: u8 = 1;
 const CONTROL_PLACE: usize = 2;
 
 /// Where OffsetOwner stands in the header.
-pub const OWNER_PLACE: usize = 4;
+pub(crate) const OWNER_PLACE: usize = 4;
 
 /// Where OffsetGroup stands in the header.
-pub const GROUP_PLACE: usize = 8;
+pub(crate) const GROUP_PLACE: usize = 8;
 
 /// Where OffsetSacl stands in the header.
 const SACL_PLACE: usize = 12;
 
 /// Where OffsetDacl stands in the header.
-pub const DACL_PLACE: usize = 16;
+pub(crate) const DACL_PLACE: usize = 16;
 
 /// Control bit DP: there is a DACL ([MS-DTYP] 2.4.6, Control, as the bits below).
-pub const DACL_PRESENT: u16 = 0x0004;
+pub(crate) const DACL_PRESENT: u16 = 0x0004;
 
 /// Control bit SP: there is a SACL. It is read and never written.
 const SACL_PRESENT: u16 = 0x0010;
 
 /// Control bit DC.
-pub const DACL_AUTO_INHERIT_REQUIRED: u16 = 0x0100;
+pub(crate) const DACL_AUTO_INHERIT_REQUIRED: u16 = 0x0100;
 
 /// Control bit DI.
-pub const DACL_AUTO_INHERITED: u16 = 0x0400;
+pub(crate) const DACL_AUTO_INHERITED: u16 = 0x0400;
 
 /// Control bit PD.
-pub const DACL_PROTECTED: u16 = 0x1000;
+pub(crate) const DACL_PROTECTED: u16 = 0x1000;
 
 /// Control bit SR.
 const SELF_RELATIVE: u16 = 0x8000;
@@ -57,7 +57,7 @@ const SELF_RELATIVE: u16 = 0x8000;
 const NO_SACL: u32 = 0;
 
 /// Whether some of these bits are set.
-pub fn has_bits(control: u16, bits: u16) -> bool
+pub(crate) fn has_bits(control: u16, bits: u16) -> bool
     ensures { result ≡ is_set bits control }
 {
     control & bits != 0
@@ -65,7 +65,7 @@ pub fn has_bits(control: u16, bits: u16) -> bool
 
 /// The control bits, where the header passes its tests.
 #[tactic(auto, unfolding(crate::specs::Reading::control_read))]
-pub fn read_control(bytes: &[u8]) -> Result<u16, WireFault>
+pub(crate) fn read_control(bytes: &[u8]) -> Result<u16, WireFault>
     ensures read { result ≡ control_read bytes.now }
     ensures size { OnOk result (20 ≤ length bytes.now) }
 {
@@ -86,7 +86,7 @@ pub fn read_control(bytes: &[u8]) -> Result<u16, WireFault>
 }
 
 /// Whether an offset leads into the header, or to less than 8 bytes. It is below 2^32, so the sum doesn't wrap.
-pub fn leads_outside(bytes: &[u8], offset: usize) -> bool
+pub(crate) fn leads_outside(bytes: &[u8], offset: usize) -> bool
     requires { offset < 2 ^ 32 }
     ensures { result ≡ is_outside bytes.now offset }
 {
@@ -126,45 +126,42 @@ fn part_offset(is_there: bool, place: usize) -> u32
     if is_there { place as u32 } else { 0 }
 }
 
-/// Writes a descriptor's header. Each part stands right behind the last one that is there.
+/// Writes a descriptor's header, for which there is room. Each part stands right behind the last one that is there.
 #[tactic(auto, unfolding(crate::specs::Writing::header_of))]
-pub fn push_header(bytes: &mut Vec<u8>, descriptor: &Descriptor) -> Result<(), AllocError>
-    ensures { OnOk result (bytes.new.items ≡ bytes.old.items ++ header_of (descriptor_of descriptor.now)) }
+pub(crate) fn push_header(bytes: &mut Vec<u8>, descriptor: &Descriptor)
+    requires { vec_len bytes.old + 20 ≤ vec_capacity bytes.old }
+    ensures items { bytes.new.items ≡ bytes.old.items ++ header_of (descriptor_of descriptor.now) }
+    ensures capacity { vec_capacity bytes.old ≤ vec_capacity bytes.new }
 {
     let group_place = HEADER_BYTES + trustee_len(&descriptor.owner);
     let dacl_place = group_place + trustee_len(&descriptor.group);
     let owner = part_offset(descriptor.owner.is_some(), HEADER_BYTES);
     let group = part_offset(descriptor.group.is_some(), group_place);
     let dacl = part_offset(has_list(&descriptor.dacl), dacl_place);
-    push_fields(bytes, control_bits(descriptor), owner, group, dacl)?;
-    Ok(())
+    push_fields(bytes, control_bits(descriptor), owner, group, dacl);
 }
 
 /// Writes the fields of a header, in their order.
 #[tactic(auto, unfolding(crate::specs::Writing::header_bytes))]
-fn push_fields(
-    bytes: &mut Vec<u8>,
-    control: u16,
-    owner: u32,
-    group: u32,
-    dacl: u32,
-) -> Result<(), AllocError>
-    ensures { OnOk result (bytes.new.items ≡ bytes.old.items ++ header_bytes control owner group dacl) }
+fn push_fields(bytes: &mut Vec<u8>, control: u16, owner: u32, group: u32, dacl: u32)
+    requires { vec_len bytes.old + 20 ≤ vec_capacity bytes.old }
+    ensures items { bytes.new.items ≡ bytes.old.items ++ header_bytes control owner group dacl }
+    ensures capacity { vec_capacity bytes.old ≤ vec_capacity bytes.new }
 {
-    bytes.push(REVISION)?;
-    bytes.push(0)?;
-    bytes.extend_from_slice(&control.to_le_bytes())?;
-    push_offsets(bytes, owner, group, dacl)?;
-    Ok(())
+    bytes.push(REVISION).unwrap();
+    bytes.push(0).unwrap();
+    bytes.extend_from_slice(&control.to_le_bytes()).unwrap();
+    push_offsets(bytes, owner, group, dacl);
 }
 
 /// Writes the offsets of the owner, the group, the SACL, which there is none of, and the DACL.
-fn push_offsets(bytes: &mut Vec<u8>, owner: u32, group: u32, dacl: u32) -> Result<(), AllocError>
-    ensures { OnOk result (bytes.new.items ≡ bytes.old.items ++ offset_bytes owner group dacl) }
+fn push_offsets(bytes: &mut Vec<u8>, owner: u32, group: u32, dacl: u32)
+    requires { vec_len bytes.old + 16 ≤ vec_capacity bytes.old }
+    ensures items { bytes.new.items ≡ bytes.old.items ++ offset_bytes owner group dacl }
+    ensures capacity { vec_capacity bytes.old ≤ vec_capacity bytes.new }
 {
-    bytes.extend_from_slice(&owner.to_le_bytes())?;
-    bytes.extend_from_slice(&group.to_le_bytes())?;
-    bytes.extend_from_slice(&NO_SACL.to_le_bytes())?;
-    bytes.extend_from_slice(&dacl.to_le_bytes())?;
-    Ok(())
+    bytes.extend_from_slice(&owner.to_le_bytes()).unwrap();
+    bytes.extend_from_slice(&group.to_le_bytes()).unwrap();
+    bytes.extend_from_slice(&NO_SACL.to_le_bytes()).unwrap();
+    bytes.extend_from_slice(&dacl.to_le_bytes()).unwrap();
 }

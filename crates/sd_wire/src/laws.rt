@@ -1,4 +1,4 @@
-// The laws of the self-relative form: each function has an empty body, and its contract is the law.
+//! The laws of the self-relative form: each function has an empty body, and its contract is the law.
 
 ghost use Rattle.sd_wire.specs.Laws.{DescriptorsComeBack, ReadingsAreHeld, WhatIsHeldIsRead, OneIsHeld, NoneIsHeldBesideAFault};
 

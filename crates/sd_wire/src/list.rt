@@ -1,19 +1,20 @@
-// Lists of entries.
+//! Lists of entries.
 
-ghost use Rattle.std.specs.Prelude.{◌≡◌, ◌+◌, ◌≤◌, ◌++◌, length, sum_by, IfOk, OnOk};
+ghost use Rattle.std.specs.Prelude.{◌≡◌, ◌+◌, ◌-◌, ◌/◌, ◌<◌, ◌≤◌, ◌++◌, min, length, sum_by, vec_len, vec_capacity, IfOk, IsErrOf};
 ghost use Rattle.std.specs.List.{flat_map};
-ghost use Rattle.sd_acl.specs.Ace.{ace_size};
+ghost use Rattle.sd_acl.specs.Ace.{ace_size, acl_size_of};
 ghost use Rattle.sd_wire.specs.Reading.{Gives, entries_read, list_read};
+ghost use Rattle.sd_wire.specs.Memory.{HasEntries};
 ghost use Rattle.sd_wire.specs.Writing.{entry_bytes, list_bytes};
 
 use crate::entry::{MIN_ENTRY_BYTES, push_entry, read_entry};
 use crate::fault::{WireError, WireFault};
 use crate::number::read_u16;
-use sd_acl::{Ace, AceList, acl_size};
-use std::alloc::{AllocError, Global};
+use sd_acl::{ACL_HEADER_BYTES, Ace, AceList, acl_size};
+use std::alloc::Global;
 
-/// The bytes of a list's header ([MS-DTYP] 2.4.5).
-const HEADER_BYTES: usize = 8;
+/// The bytes of a list's header, as a length.
+const HEADER_BYTES: usize = ACL_HEADER_BYTES as usize;
 
 /// The revision that is written ([MS-DTYP] 2.4.5, ACL_REVISION); lists with object entries have the other.
 const REVISION: u8 = 2;
@@ -23,9 +24,10 @@ const REVISION_DS: u8 = 4;
 
 /// The list at a place.
 #[tactic(auto, unfolding(crate::specs::Reading::list_read))]
-pub fn read_list(alloc: Global, bytes: &[u8], place: usize) -> Result<AceList, WireError>
+pub(crate) fn read_list(alloc: Global, bytes: &[u8], place: usize) -> Result<AceList, WireError>
     requires { place + 8 ≤ length bytes.now }
-    ensures { Gives (λ list. list) result (list_read bytes.now place) }
+    ensures read { Gives (λ list. list) result (list_read bytes.now place) }
+    ensures memory { IsErrOf result WireError.Memory → HasEntries bytes.now place }
 {
     if !matches!(bytes[place], REVISION | REVISION_DS) {
         return Err(WireError::Fault(WireFault::AclRevision));
@@ -40,7 +42,7 @@ pub fn read_list(alloc: Global, bytes: &[u8], place: usize) -> Result<AceList, W
     Ok(AceList::new(entries).unwrap())
 }
 
-/// So many entries from a place to an end. Memory is taken for no more of them than there is room for.
+/// So many entries from a place to an end. Memory is taken once, and for no more of them than there is room for.
 fn read_entries(
     alloc: Global,
     bytes: &[u8],
@@ -52,39 +54,47 @@ fn read_entries(
     requires end { end ≤ length bytes.now }
     ensures read { Gives (λ entries. entries.items) result (entries_read bytes.now place end count) }
     ensures size { IfOk result (λ entries. place + sum_by ace_size entries.items ≤ end) }
+    ensures capacity { IfOk result (λ entries. vec_capacity entries ≡ min count ((end - place) / 16)) }
+    ensures memory { IsErrOf result WireError.Memory → (0 < count) × (place + 16 ≤ end) }
 {
     let room = (end - place) / MIN_ENTRY_BYTES;
     let mut entries = Vec::with_capacity(alloc, count.min(room))?;
     let mut at = place;
     for _ in 0..count {
         let (entry, size) = read_entry(bytes, at, end)?;
-        entries.push(entry)?;
+        // An entry that was read takes MIN_ENTRY_BYTES at least, so it's one of those that memory was taken for.
+        entries.push_reserved(entry);
         at += size;
     }
     Ok(entries)
 }
 
-/// Writes a list: revision 2, and the entries one behind the other.
+/// Writes a list, for which there is room: revision 2, and the entries one behind the other.
 #[tactic(auto, unfolding(crate::specs::Writing::list_bytes))]
-pub fn push_list(bytes: &mut Vec<u8>, list: &AceList) -> Result<(), AllocError>
-    ensures { OnOk result (bytes.new.items ≡ bytes.old.items ++ list_bytes list.now) }
+pub(crate) fn push_list(bytes: &mut Vec<u8>, list: &AceList)
+    requires { vec_len bytes.old + acl_size_of list.now ≤ vec_capacity bytes.old }
+    ensures items { bytes.new.items ≡ bytes.old.items ++ list_bytes list.now }
+    ensures capacity { vec_capacity bytes.old ≤ vec_capacity bytes.new }
 {
     let entries = list.entries();
-    bytes.push(REVISION)?;
-    bytes.push(0)?;
-    bytes.extend_from_slice(&(acl_size(entries) as u16).to_le_bytes())?;
-    bytes.extend_from_slice(&(entries.len() as u16).to_le_bytes())?;
-    bytes.extend_from_slice(&[0, 0])?;
-    push_entries(bytes, entries)?;
-    Ok(())
+    let size = acl_size(entries) as u16;
+    let count = entries.len() as u16;
+    bytes.push(REVISION).unwrap();
+    bytes.push(0).unwrap();
+    bytes.extend_from_slice(&size.to_le_bytes()).unwrap();
+    bytes.extend_from_slice(&count.to_le_bytes()).unwrap();
+    bytes.extend_from_slice(&[0, 0]).unwrap();
+    push_entries(bytes, entries);
 }
 
 /// Writes entries, one behind the other.
-fn push_entries(bytes: &mut Vec<u8>, entries: &[Ace]) -> Result<(), AllocError>
-    ensures { OnOk result (bytes.new.items ≡ bytes.old.items ++ flat_map entry_bytes entries.now) }
+#[tactic(auto, using(crate::proofs::Lengths::length_of_entry))]
+fn push_entries(bytes: &mut Vec<u8>, entries: &[Ace])
+    requires { vec_len bytes.old + sum_by ace_size entries.now ≤ vec_capacity bytes.old }
+    ensures items { bytes.new.items ≡ bytes.old.items ++ flat_map entry_bytes entries.now }
+    ensures capacity { vec_capacity bytes.old ≤ vec_capacity bytes.new }
 {
     for entry in entries {
-        push_entry(bytes, entry)?;
+        push_entry(bytes, entry);
     }
-    Ok(())
 }

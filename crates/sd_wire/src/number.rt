@@ -1,11 +1,11 @@
-// Numbers at a place in the bytes, the least significant byte first.
+//! Numbers at a place in the bytes, the least significant byte first.
 
 ghost use Rattle.std.specs.Prelude.{◌≡◌, ◌+◌, ◌≤◌, length};
 ghost use Rattle.sd_sid.specs.SidBytes.{u32_at};
 ghost use Rattle.sd_wire.specs.Reading.{u16_at};
 
 /// The number in two bytes.
-pub fn read_u16(bytes: &[u8], place: usize) -> u16
+pub(crate) fn read_u16(bytes: &[u8], place: usize) -> u16
     requires { place + 2 ≤ length bytes.now }
     ensures { result ≡ u16_at bytes.now place }
 {
@@ -13,7 +13,7 @@ pub fn read_u16(bytes: &[u8], place: usize) -> u16
 }
 
 /// The number in four bytes.
-pub fn read_u32(bytes: &[u8], place: usize) -> u32
+pub(crate) fn read_u32(bytes: &[u8], place: usize) -> u32
     requires { place + 4 ≤ length bytes.now }
     ensures { result ≡ u32_at bytes.now place }
 {

@@ -1,19 +1,15 @@
-// SIDs in a descriptor: those of its owner, its group and its entries.
+//! SIDs in a descriptor: those of its owner, its group and its entries.
 
-ghost use Rattle.std.specs.Prelude.{◌≡◌, ◌+◌, ◌*◌, ◌^◌, ◌<◌, ◌≤◌, ◌++◌, length, IfOk, OnOk};
+ghost use Rattle.std.specs.Prelude.{◌≡◌, ◌+◌, ◌*◌, ◌^◌, ◌<◌, ◌≤◌, ◌++◌, length, vec_len, vec_capacity, IfOk};
 ghost use Rattle.sd_wire.specs.Reading.{sid_read, trustee_read};
 ghost use Rattle.sd_wire.specs.Writing.{trustee_part};
 
 use crate::fault::WireFault;
 use crate::header::leads_outside;
-use sd_sid::{Sid, push_sid, read_sid};
-use std::alloc::AllocError;
-
-/// The bytes of a SID before its sub-authorities ([MS-DTYP] 2.4.2.2).
-const SID_HEADER_BYTES: usize = 8;
+use sd_sid::{SID_HEADER_BYTES, Sid, push_sid, read_sid};
 
 /// The SID at a place, which doesn't pass an end.
-pub fn read_sid_at(bytes: &[u8], place: usize, end: usize) -> Result<Sid, WireFault>
+pub(crate) fn read_sid_at(bytes: &[u8], place: usize, end: usize) -> Result<Sid, WireFault>
     requires place { place ≤ end }
     requires end { end ≤ length bytes.now }
     ensures read { result ≡ sid_read bytes.now place end }
@@ -27,7 +23,7 @@ pub fn read_sid_at(bytes: &[u8], place: usize, end: usize) -> Result<Sid, WireFa
 
 /// The owner or the group at its offset, none where that is 0.
 #[tactic(auto, unfolding(crate::specs::Reading::trustee_read))]
-pub fn read_trustee(bytes: &[u8], offset: usize) -> Result<Option<Sid>, WireFault>
+pub(crate) fn read_trustee(bytes: &[u8], offset: usize) -> Result<Option<Sid>, WireFault>
     requires { offset < 2 ^ 32 }
     ensures { result ≡ trustee_read bytes.now offset }
 {
@@ -43,7 +39,7 @@ pub fn read_trustee(bytes: &[u8], offset: usize) -> Result<Option<Sid>, WireFaul
 
 /// The bytes that the owner or the group takes.
 #[tactic(auto, using(crate::proofs::Lengths::length_of_trustee))]
-pub fn trustee_len(trustee: &Option<Sid>) -> usize
+pub(crate) fn trustee_len(trustee: &Option<Sid>) -> usize
     ensures exact { result ≡ length (trustee_part trustee.now) }
     ensures most { result ≤ 68 }
 {
@@ -53,12 +49,14 @@ pub fn trustee_len(trustee: &Option<Sid>) -> usize
     }
 }
 
-/// Writes the owner or the group, where there is one.
-pub fn push_trustee(bytes: &mut Vec<u8>, trustee: &Option<Sid>) -> Result<(), AllocError>
-    ensures { OnOk result (bytes.new.items ≡ bytes.old.items ++ trustee_part trustee.now) }
+/// Writes the owner or the group, where there is one and for which there is room.
+#[tactic(auto, using(crate::proofs::Lengths::length_of_trustee))]
+pub(crate) fn push_trustee(bytes: &mut Vec<u8>, trustee: &Option<Sid>)
+    requires { vec_len bytes.old + length (trustee_part trustee.now) ≤ vec_capacity bytes.old }
+    ensures items { bytes.new.items ≡ bytes.old.items ++ trustee_part trustee.now }
+    ensures capacity { vec_capacity bytes.old ≤ vec_capacity bytes.new }
 {
     if let Some(sid) = trustee {
-        push_sid(bytes, sid)?;
+        push_sid(bytes, sid).unwrap();
     }
-    Ok(())
 }

@@ -3,5 +3,5 @@ use Rattle.std.proofs.Common.{arith}
 use Rattle.sd_wire.proofs.Lengths.{few_entries}
 use Rattle.sd_wire.proofs.list.push_list.Goals as goal
 
-pub overflow_cast-entries : goal.overflow_cast-entries
-overflow_cast-entries c = omega (arith, few_entries c.entries-entries.result.now (rw c.entries-entries.ensures.entries c.entries-entries.ensures.known))
+pub overflow_cast-count : goal.overflow_cast-count
+overflow_cast-count c = omega (arith, few_entries c.entries-entries.result.now (rw c.entries-entries.ensures.entries c.entries-entries.ensures.known))

@@ -1,5 +1,6 @@
--- The entries so far and those that are left are all of them, and lie between the place and the end.
-use Rattle.std.proofs.Common.{◌≡◌, ◌+◌, ◌-◌, ◌≤◌, sum_by}
+-- The entries so far and those that are left are all of them; they lie between the place and the end, in the room that
+-- was made for them.
+use Rattle.std.proofs.Common.{◌≡◌, ◌+◌, ◌-◌, ◌/◌, ◌≤◌, min, sum_by, vec_len, vec_capacity}
 use Rattle.sd_acl.specs.Ace.{ace_size}
 use Rattle.sd_wire.specs.Reading.{entries_read}
 use Rattle.sd_wire.proofs.Loop.{behind}
@@ -10,3 +11,5 @@ invariant-loop l =
     (behind l.entries.items (entries_read l.bytes l.at l.end (l.count - l.counter)) ≡ entries_read l.bytes l.place l.end l.count)
     × (l.place + sum_by ace_size l.entries.items ≤ l.at)
     × (l.at ≤ l.end)
+    × (vec_len l.entries ≡ l.counter)
+    × (vec_capacity l.entries ≡ min l.count ((l.end - l.place) / 16))
