@@ -9,6 +9,10 @@ use Rattle.sd_check.specs.declared.token.GroupState.{GroupState}
 use Rattle.sd_check.specs.declared.token.GroupState.TheVariants.{Enabled, DenyOnly, Disabled}
 use Rattle.sd_check.specs.declared.token.Privileges.{Privileges}
 
+-- neither of the privileges that a check looks at
+abbrev pub no_privileges : Privileges
+no_privileges = record { security = false; take_ownership = false }
+
 -- a user, its groups, each place with its state, and its privileges
 pub record TokenValue : Type 0 where
   pub user : SidValue

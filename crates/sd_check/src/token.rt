@@ -1,4 +1,4 @@
-// Who asks.
+//! Who asks.
 
 ghost use Rattle.std.specs.Prelude.{◌≡◌};
 ghost use Rattle.sd_check.specs.Token.{stands_for, a_group_stands_for, counts};
@@ -19,12 +19,26 @@ pub enum GroupState {
 }
 
 /// The privileges that a check looks at.
-#[derive(Clone, Copy, Debug, PartialEq, Eq, Default)]
+#[derive(Clone, Copy, Debug, PartialEq, Eq)]
 pub struct Privileges {
     /// SeSecurityPrivilege: grants ACCESS_SYSTEM_SECURITY.
     pub security: bool,
     /// SeTakeOwnershipPrivilege: grants WRITE_OWNER.
     pub take_ownership: bool,
+}
+
+impl Default for Privileges {
+    ghost use Rattle.sd_check.specs.Token.{no_privileges};
+
+    ghost is_default = { λ privileges. privileges ≡ no_privileges };
+
+    /// Neither.
+    fn default() -> Privileges {
+        Privileges {
+            security: false,
+            take_ownership: false,
+        }
+    }
 }
 
 /// Who asks ([MS-DTYP] 2.5.2): a user, its groups as they were given, and its privileges.
