@@ -1,7 +1,7 @@
 -- The proofs of the laws.
 use Rattle.std.proofs.Common.{◌≡◌, ℕ, ◌^◌, ◌<◌, Bool, true, false, ◌&&◌, ◌||◌, not, ◌==◌, nat_lt, cond, List, [], ◌∷◌, ◌++◌, Option, Some, None, inl, inr, refl, sym, ◌∙◌, ap, arith, find}
 use Rattle.std.specs.List.{AllByRecursion, list_any}
-use Rattle.std.proofs.lemmas.Bool.{and_parts, ltb-true, cases_Bool, cases_eq, or_cases, or_left, or_right, false≢true, lt-ltb, le-ltb, ne_eqb, true_from_ne_false, and_from}
+use Rattle.std.proofs.lemmas.Bool.{and_parts, ltb-true, cases_Bool, cases_eq, or_cases, or_left, or_right, false≢true, lt-ltb, le-ltb, ne_eqb, eqb-true, true_from_ne_false, and_from}
 use Rattle.std.proofs.Math.Bool.{and-false}
 use Rattle.std.proofs.lemmas.Nat.Bits.{bit_at-pow_same, bit_at-pow_other, bit_at-zero}
 use Rattle.std.proofs.Math.Pow.{pow_pos}
@@ -21,7 +21,7 @@ use Rattle.sd_acl.specs.declared.verdict.Verdict.TheVariants.{Granted, Denied, R
 use Rattle.sd_check.specs.Token.{TokenValue, applies, counts, a_group_stands_for, stands_for_subject}
 use Rattle.sd_check.specs.declared.token.GroupState.TheVariants.{Enabled}
 use Rattle.sd_check.specs.Check.{is_granted, is_given}
-use Rattle.sd_check.specs.Laws.{FirstEntryDecides, SilentEntryChangesNothing, IsSilent, GrantsWhatWasAsked, MaximumIsEachByItself, NothingBeyondMaximum, EnabledGroupTakesNothing, NamesNot, with_group, EntriesGrantRightsAlone}
+use Rattle.sd_check.specs.Laws.{FirstEntryDecides, SilentEntryChangesNothing, IsSilent, GrantsWhatWasAsked, MaximumIsEachByItself, DeniedMaximumIsNone, NothingBeyondMaximum, EnabledGroupTakesNothing, NamesNot, with_group, EntriesGrantRightsAlone}
 use Rattle.sd_check.proofs.LowMasks.{judged_plainly, no_places}
 
 -- ---- the first entry that settles a bit
@@ -109,14 +109,26 @@ granted_all false x all m e = cc
 at_maximum : (g : MappingValue) (p : ℕ → Bool) (most m : ℕ) → judged g p most (2 ^ 25) ≡ Granted m → m ≡ joined_with 0 most
 at_maximum g p most m e = granted_all _ _ _ m (rw (reserved_at_maximum, mapped_at_maximum g, nothing_missing p) at e)
 
--- which places MAXIMUM_ALLOWED grants, from which bits are granted
-maximum_holds : (g : MappingValue) (p : ℕ → Bool) (m b : ℕ) → judged_list g p (2 ^ 25) ≡ Granted m → holds m b ≡ (nat_lt b 32 && (nat_lt b 32 && (nat_lt b 21 && p b)))
-unfolding judged_list
-maximum_holds g p m b e =
-    ap (λ n. holds n b) (at_maximum g p _ m e)
-    ∙ holds-mask_of (λ k. holds 0 k || holds (mask_of (λ i. nat_lt i 21 && p i) 32) k) 32 b
+denied_all : (b : Bool) (x all m : ℕ) → cond b (Denied x) (Granted all) ≡ Denied m → b ≡ true
+denied_all true x all m e = refl
+denied_all false x all m e = absurd cc
+
+denied_at_maximum : (g : MappingValue) (p : ℕ → Bool) (most m : ℕ) → judged g p most (2 ^ 25) ≡ Denied m → joined_with 0 most ≡ 0
+denied_at_maximum g p most m e = eqb-true _ _ (denied_all _ _ _ m (rw (reserved_at_maximum, mapped_at_maximum g, nothing_missing p) at e))
+
+-- which places MAXIMUM_ALLOWED takes in, from which bits are granted
+most_holds : (p : ℕ → Bool) (b : ℕ) → holds (joined_with 0 (mask_of (λ k. nat_lt k 21 && p k) 32)) b ≡ (nat_lt b 32 && (nat_lt b 32 && (nat_lt b 21 && p b)))
+most_holds p b =
+    holds-mask_of (λ k. holds 0 k || holds (mask_of (λ i. nat_lt i 21 && p i) 32) k) 32 b
     ∙ ap (λ x. nat_lt b 32 && (x || holds (mask_of (λ i. nat_lt i 21 && p i) 32) b)) (ap (λ n. n == 1) (bit_at-zero b))
     ∙ ap (λ x. nat_lt b 32 && x) (holds-mask_of (λ i. nat_lt i 21 && p i) 32 b)
+
+-- and which it takes in below place 21
+low_most_holds : (p : ℕ → Bool) (b : ℕ) → b < 21 → holds (joined_with 0 (mask_of (λ k. nat_lt k 21 && p k) 32)) b ≡ p b
+low_most_holds p b low =
+    most_holds p b
+    ∙ ap (λ x. x && (x && (nat_lt b 21 && p b))) (lt-ltb b 32 (omega arith))
+    ∙ ap (λ x. x && p b) (lt-ltb b 21 low)
 
 -- a single bit is missing where it isn't granted
 none_missing : (p : ℕ → Bool) (b : ℕ) → p b ≡ true → missing_of p (2 ^ b) ≡ 0
@@ -145,19 +157,26 @@ unfolding judged_list
 maximum_is_each_by_itself owner es g t m b granted low =
     let p = is_granted owner (Some es) g t in
     let held : holds m b ≡ p b =
-    maximum_holds g p m b granted
-    ∙ ap (λ x. x && (x && (nat_lt b 21 && p b))) (lt-ltb b 32 (omega arith))
-    ∙ ap (λ x. x && p b) (lt-ltb b 21 low) in
+    ap (λ n. holds n b) (at_maximum g p _ m granted) ∙ low_most_holds p b low in
     let one = alone g p (mask_of (λ k. nat_lt k 21 && p k) 32) b low in (
       λ is. one ∙ ap (λ n. cond (n == 0) (Granted (2 ^ b)) (Denied n)) (none_missing p b (sym held ∙ is)),
       λ is. held ∙ true_from_ne_false (p b) (λ refused. denied_not _ _ _ _ (one_missing p b (omega arith) refused) (sym one ∙ is)),
     )
 
+pub denied_maximum_is_none : DeniedMaximumIsNone
+unfolding judged_list
+denied_maximum_is_none owner es g t missing m b denied low is =
+    let p = is_granted owner (Some es) g t in
+    let most = mask_of (λ k. nat_lt k 21 && p k) 32 in
+    let nothing : joined_with 0 most ≡ 0 = denied_at_maximum g p most missing denied in
+    let refused : p b ≡ false = sym (low_most_holds p b low) ∙ ap (λ n. holds n b) nothing ∙ ap (λ n. n == 1) (bit_at-zero b) in
+    denied_not _ _ _ _ (one_missing p b (omega arith) refused) (sym (alone g p most b low) ∙ is)
+
 pub nothing_beyond_maximum : NothingBeyondMaximum
 unfolding judged_list
 nothing_beyond_maximum owner es g t m b granted high =
     let p = is_granted owner (Some es) g t in
-    maximum_holds g p m b granted
+    ap (λ n. holds n b) (at_maximum g p _ m granted) ∙ most_holds p b
     ∙ ap (λ x. nat_lt b 32 && (nat_lt b 32 && (x && p b))) (le-ltb b 21 high)
     ∙ ap (λ x. nat_lt b 32 && x) (and-false (nat_lt b 32)) ∙ and-false (nat_lt b 32)
 

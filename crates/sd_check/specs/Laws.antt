@@ -9,7 +9,7 @@ use Rattle.sd_acl.specs.Verdict.{decides, acl_grants, subject, without_maximum}
 use Rattle.sd_acl.specs.declared.ace.Ace.{Ace}
 use Rattle.sd_acl.specs.declared.ace.AceKind.{AceKind}
 use Rattle.sd_acl.specs.declared.ace.AceKind.TheVariants.{Deny}
-use Rattle.sd_acl.specs.declared.verdict.Verdict.TheVariants.{Granted}
+use Rattle.sd_acl.specs.declared.verdict.Verdict.TheVariants.{Granted, Denied}
 use Rattle.sd_check.specs.declared.token.GroupState.TheVariants.{Enabled}
 use Rattle.sd_check.specs.Token.{TokenValue, applies}
 use Rattle.sd_check.specs.Check.{is_granted, verdict}
@@ -44,6 +44,13 @@ MaximumIsEachByItself =
     (owner : Option SidValue) (es : List Ace) (g : MappingValue) (t : TokenValue) (m b : ℕ)
     → verdict owner (Some es) g t (2 ^ 25) ≡ Granted m → b < 21
     → (holds m b ≡ true) ↔ (verdict owner (Some es) g t (2 ^ b) ≡ Granted (2 ^ b))
+
+-- and where MAXIMUM_ALLOWED is denied, no such bit is granted by itself
+abbrev pub DeniedMaximumIsNone : Type 0
+DeniedMaximumIsNone =
+    (owner : Option SidValue) (es : List Ace) (g : MappingValue) (t : TokenValue) (missing m b : ℕ)
+    → verdict owner (Some es) g t (2 ^ 25) ≡ Denied missing → b < 21
+    → verdict owner (Some es) g t (2 ^ b) ≡ Granted m → ⊥
 
 abbrev pub NothingBeyondMaximum : Type 0
 NothingBeyondMaximum =

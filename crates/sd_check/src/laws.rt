@@ -1,6 +1,6 @@
-// What follows from the rules of the check. Each law is the contract of a function that does nothing.
+//! What follows from the rules of the check. Each law is the contract of a function that does nothing.
 
-ghost use Rattle.sd_check.specs.Laws.{FirstEntryDecides, SilentEntryChangesNothing, GrantsWhatWasAsked, MaximumIsEachByItself, NothingBeyondMaximum, EnabledGroupTakesNothing, EntriesGrantRightsAlone};
+ghost use Rattle.sd_check.specs.Laws.{FirstEntryDecides, SilentEntryChangesNothing, GrantsWhatWasAsked, MaximumIsEachByItself, DeniedMaximumIsNone, NothingBeyondMaximum, EnabledGroupTakesNothing, EntriesGrantRightsAlone};
 
 /// A deny in front of an allow of the same bit wins, and behind it loses: the first entry that settles a bit
 /// decides it, whatever stands behind ([MS-DTYP] 2.5.3.2).
@@ -20,9 +20,10 @@ pub fn grants_what_was_asked()
 {}
 
 /// For a list, MAXIMUM_ALLOWED grants just the rights of the object and the standard ones that are granted when
-/// each is asked for by itself.
+/// each is asked for by itself; it is denied only where none of these is.
 pub fn maximum_is_each_by_itself()
     ensures each { MaximumIsEachByItself }
+    ensures none { DeniedMaximumIsNone }
     ensures nothing_else { NothingBeyondMaximum }
 {}
 
