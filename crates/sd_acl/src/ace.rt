@@ -1,4 +1,4 @@
-// Access control entries.
+//! Access control entries.
 
 ghost use Rattle.std.specs.Prelude.{◌≡◌, ◌≤◌};
 ghost use Rattle.sd_acl.specs.Ace.{ace_size, is_allow, is_inherit_only};

@@ -1,4 +1,4 @@
-// Security descriptors.
+//! Security descriptors.
 
 ghost use Rattle.std.specs.Prelude.{not, ◌&&◌, IsTrue};
 ghost use Rattle.sd_acl.specs.Dacl.{IsAbsent};

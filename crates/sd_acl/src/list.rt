@@ -1,4 +1,4 @@
-// Lists of entries, and the bytes that they take.
+//! Lists of entries, and the bytes that they take.
 
 ghost use Rattle.std.specs.Prelude.{◌≡◌, ◌≤◌, ◌<◌, IfOk, IfErr};
 ghost use Rattle.sd_acl.specs.Ace.{acl_size_of};

@@ -1,4 +1,4 @@
-// Sizes and bounds of lists, from the layouts of the standard.
+//! Sizes and bounds of lists, from the layouts of the standard.
 
 use crate::{Ace, AceFlags, AceKind, AceList, acl_size};
 use bitflags::Flags;
@@ -26,6 +26,29 @@ fn tells_sizes_and_flags(rt: HostRuntime) -> Result<(), Fail> {
     assert!(rt; inherited.is_inherit_only() && !entry.is_inherit_only());
     assert_eq!(rt; inherited.flags.bits(), 0x09);
     assert!(rt; AceKind::Allow.is_allow() && !AceKind::Deny.is_allow());
+    Ok(())
+}
+
+#[test]
+fn flags_have_the_bits_of_the_standard(rt: HostRuntime) -> Result<(), Fail> {
+    let rows = [
+        (AceFlags::OI, "OI", 0x01),
+        (AceFlags::CI, "CI", 0x02),
+        (AceFlags::NP, "NP", 0x04),
+        (AceFlags::IO, "IO", 0x08),
+        (AceFlags::ID, "ID", 0x10),
+        (AceFlags::SA, "SA", 0x40),
+        (AceFlags::FA, "FA", 0x80),
+    ];
+    let mut all = 0;
+    for (row, (flag, letters, bits)) in AceFlags::NAMED.iter().zip(rows) {
+        assert_eq!(rt; flag.bits(), bits, "{letters}");
+        assert_eq!(rt; *row, (letters, u32::from(bits)));
+        assert_eq!(rt; AceFlags::from_name(letters), Some(flag));
+        all |= bits;
+    }
+    assert_eq!(rt; AceFlags::NAMED_BITS, all);
+    assert_eq!(rt; all, 0xDF);
     Ok(())
 }
 

@@ -1,4 +1,4 @@
-// What an access check answers.
+//! What an access check answers.
 
 use sd_sid::Mask;
 

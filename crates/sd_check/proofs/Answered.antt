@@ -8,10 +8,10 @@ use Rattle.sd_sid.proofs.Masks.{holds_place, mask_of-alike}
 use Rattle.sd_acl.specs.Verdict.{missing_of, most_of}
 use Rattle.sd_acl.specs.declared.ace.Ace.{Ace}
 
-holds_object : (b : ℕ) → b < 32 → holds 2097151 b ≡ nat_lt b 21
-holds_object b h = agree_below_at (holds 2097151) (λ k. nat_lt k 21) 32 b refl h
+holds_object : (b : ℕ) → b < 32 → holds 0x001FFFFF b ≡ nat_lt b 21
+holds_object b h = agree_below_at (holds 0x001FFFFF) (λ k. nat_lt k 21) 32 b refl h
 
-pub within_is : (m r : ℕ) → r ≡ mask_of (λ b. holds m b && holds 2097151 b) 32 → r ≡ mask_of (λ b. nat_lt b 21 && holds m b) 32
+pub within_is : (m r : ℕ) → r ≡ mask_of (λ b. holds m b && holds 0x001FFFFF b) 32 → r ≡ mask_of (λ b. nat_lt b 21 && holds m b) 32
 within_is m r is = is ∙ mask_of-alike _ _ 32 (λ b h. ap (λ t. holds m b && t) (holds_object b h) ∙ and_comm (holds m b) (nat_lt b 21))
 
 -- a mask that stands for a test, at a place

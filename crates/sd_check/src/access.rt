@@ -1,4 +1,4 @@
-// Which bits a DACL, the owner's rights and the privileges grant.
+//! Which bits a DACL, the owner's rights and the privileges grant.
 
 ghost use Rattle.std.specs.Prelude.{◌≡◌, ◌<◌, ◌&&◌, not, nat_lt, Some};
 ghost use Rattle.sd_acl.specs.declared.ace.AceKind.TheVariants.{Allow};

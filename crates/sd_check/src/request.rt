@@ -1,4 +1,4 @@
-// The answer to a request.
+//! The answer to a request.
 
 ghost use Rattle.std.specs.Prelude.{◌≡◌};
 ghost use Rattle.sd_check.specs.Check.{verdict};

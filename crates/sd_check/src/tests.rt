@@ -1,4 +1,4 @@
-// One verdict of each kind. The worked examples of docs/CHECK.md are run from their texts, by the command line's tests.
+//! One verdict of each kind. The worked examples of docs/CHECK.md are run from their texts, by the command line's tests.
 
 use crate::{DaclRef, GroupState, Privileges, Token, Verdict, check, check_parts};
 use bitflags::Flags;

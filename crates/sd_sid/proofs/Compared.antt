@@ -1,23 +1,16 @@
 -- That SIDs compare as their values do, though they are kept with zeros behind the sub-authorities.
-use Rattle.std.proofs.Common.{◌≡◌, ℕ, zero, suc, ◌+◌, ◌-◌, Bool, true, false, ◌&&◌, ◌==◌, nat_eq, List, [], ◌∷◌, ◌++◌, length, refl, sym, ◌∙◌, ap, arith, replicate, nat_cmp, nat_lt, cond, length-append}
+use Rattle.std.proofs.Common.{◌≡◌, ℕ, zero, suc, ◌+◌, ◌-◌, true, ◌&&◌, ◌==◌, nat_eq, List, [], ◌∷◌, ◌++◌, length, refl, sym, ◌∙◌, ap, arith, replicate, nat_cmp, nat_lt, cond, length-append}
 use Rattle.std.specs.Str.{bytes_eq}
 use Rattle.std.specs.Ordering.{ordering_then}
 use Rattle.std.specs.Cmp.Lexicographic.{slice_cmp}
 use Rattle.std.specs.declared.cmp.Ordering.{Ordering}
 use Rattle.std.specs.declared.cmp.Ordering.TheVariants.{Less, Equal, Greater}
+use Rattle.std.proofs.Math.Bool.{and-false, and_assoc}
 use Rattle.std.proofs.Math.Dec.{eqb-suc-suc, eqb-zero-suc, eqb-suc-zero, leb-suc-suc}
 use Rattle.std.proofs.lemmas.List.{length-replicate}
 use Rattle.std.proofs.lemmas.Bool.{lt-ltb, le-ltb, and_parts, eqb-true}
 use lib.Pointwise.{bytes_decides}
 use Rattle.sd_sid.specs.Sid.{SidValue, IsSid, same_sid, sid_cmp}
-
-and_false : (b : Bool) → (b && false) ≡ false
-and_false true = refl
-and_false false = refl
-
-and_assoc : (a b c : Bool) → ((a && b) && c) ≡ (a && (b && c))
-and_assoc true b c = refl
-and_assoc false b c = refl
 
 zeros_equal : (m : ℕ) → bytes_eq (replicate m 0) (replicate m 0) ≡ true
 zeros_equal zero = refl
@@ -27,8 +20,8 @@ zeros_equal (suc m) = zeros_equal m
 padded_equal : (xs ys : List ℕ) (m n : ℕ) → length xs + m ≡ length ys + n
     → (bytes_eq (xs ++ replicate m 0) (ys ++ replicate n 0) && nat_eq (length xs) (length ys)) ≡ bytes_eq xs ys
 padded_equal [] [] m n e = let same : m ≡ n = omega arith in rw same (ap (λ b. b && true) (zeros_equal n))
-padded_equal [] (y ∷ ys) m n e = ap (λ b. bytes_eq (replicate m 0) (y ∷ (ys ++ replicate n 0)) && b) (eqb-zero-suc (length ys)) ∙ and_false _
-padded_equal (x ∷ xs) [] m n e = ap (λ b. bytes_eq (x ∷ (xs ++ replicate m 0)) (replicate n 0) && b) (eqb-suc-zero (length xs)) ∙ and_false _
+padded_equal [] (y ∷ ys) m n e = ap (λ b. bytes_eq (replicate m 0) (y ∷ (ys ++ replicate n 0)) && b) (eqb-zero-suc (length ys)) ∙ and-false _
+padded_equal (x ∷ xs) [] m n e = ap (λ b. bytes_eq (x ∷ (xs ++ replicate m 0)) (replicate n 0) && b) (eqb-suc-zero (length xs)) ∙ and-false _
 padded_equal (x ∷ xs) (y ∷ ys) m n e =
     and_assoc (nat_eq x y) (bytes_eq (xs ++ replicate m 0) (ys ++ replicate n 0)) (nat_eq (suc (length xs)) (suc (length ys)))
     ∙ ap (λ b. nat_eq x y && b)

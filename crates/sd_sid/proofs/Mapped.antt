@@ -7,7 +7,7 @@ use Rattle.sd_sid.specs.Mapping.{MappingValue, mapped, is_mapped}
 use Rattle.sd_sid.proofs.Masks.{holds_place, holds_when, mask_of-alike}
 
 -- 0x0FFFFFFF holds the places that aren't generic
-holds_specific : (k : ℕ) → holds 268435455 k ≡ nat_lt k 28
+holds_specific : (k : ℕ) → holds 0x0FFFFFFF k ≡ nat_lt k 28
 holds_specific k = elim (cases_lt k 28) [
   | inl low ↦ ap (λ n. n == 1) (bit_at_ones 28 k low) ∙ sym (lt-ltb k 28 low)
   | inr high ↦ ap (λ n. n == 1) (bit_at_ones_above 28 k high) ∙ sym (le-ltb k 28 high)
@@ -20,7 +20,7 @@ joined before test m k h = holds_place (λ b. holds before b || holds (cond test
 
 -- the steps of `map`, each by what it ensures
 pub mapped_by_steps : (g : MappingValue) (m kept r w x all : ℕ)
-    → kept ≡ mask_of (λ b. holds m b && holds 268435455 b) 32
+    → kept ≡ mask_of (λ b. holds m b && holds 0x0FFFFFFF b) 32
     → r ≡ mask_of (λ b. holds kept b || holds (cond (holds m 31) g.read 0) b) 32
     → w ≡ mask_of (λ b. holds r b || holds (cond (holds m 30) g.write 0) b) 32
     → x ≡ mask_of (λ b. holds w b || holds (cond (holds m 29) g.execute 0) b) 32
@@ -32,5 +32,5 @@ mapped_by_steps g m kept r w x all is_kept is_r is_w is_x is_all =
     ∙ ap (λ t. t || (holds m 28 && holds g.all k)) (ap (λ n. holds n k) is_x ∙ joined w (holds m 29) g.execute k h
     ∙ ap (λ t. t || (holds m 29 && holds g.execute k)) (ap (λ n. holds n k) is_w ∙ joined r (holds m 30) g.write k h
     ∙ ap (λ t. t || (holds m 30 && holds g.write k)) (ap (λ n. holds n k) is_r ∙ joined kept (holds m 31) g.read k h
-    ∙ ap (λ t. t || (holds m 31 && holds g.read k)) (ap (λ n. holds n k) is_kept ∙ holds_place (λ b. holds m b && holds 268435455 b) k h
+    ∙ ap (λ t. t || (holds m 31 && holds g.read k)) (ap (λ n. holds n k) is_kept ∙ holds_place (λ b. holds m b && holds 0x0FFFFFFF b) k h
     ∙ ap (λ t. holds m k && t) (holds_specific k))))))

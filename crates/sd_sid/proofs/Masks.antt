@@ -102,9 +102,9 @@ holds-or a b k = rw bit_at_or (or_tests _ _ (bit_at-lt a k) (bit_at-lt b k))
 pub holds-and : (a b k : ℕ) → holds (bit_and a b) k ≡ (holds a k && holds b k)
 holds-and a b k = rw bit_at_and (and_tests _ _ (bit_at-lt a k) (bit_at-lt b k))
 
-holds-minus : (a b k : ℕ) → b < 2 ^ 32 → k < 32 → holds (bit_and a (4294967295 - b)) k ≡ (holds a k && not (holds b k))
+holds-minus : (a b k : ℕ) → b < 2 ^ 32 → k < 32 → holds (bit_and a (0xFFFFFFFF - b)) k ≡ (holds a k && not (holds b k))
 holds-minus a b k hb hk =
-    ap (λ n. n == 1) (bit_at_and a (4294967295 - b) k ∙ ap (min (bit_at a k)) (bit_at_not w32 b k hb hk))
+    ap (λ n. n == 1) (bit_at_and a (0xFFFFFFFF - b) k ∙ ap (min (bit_at a k)) (bit_at_not w32 b k hb hk))
     ∙ minus_tests _ _ (bit_at-lt a k) (bit_at-lt b k)
 
 pub or_is : (a b : ℕ) → a < 2 ^ 32 → b < 2 ^ 32 → bit_or a b ≡ mask_of (λ k. holds a k || holds b k) 32
@@ -113,8 +113,8 @@ or_is a b ha hb = is_mask_of (λ k. holds a k || holds b k) (bit_or a b) (or_lt 
 pub and_is : (a b : ℕ) → a < 2 ^ 32 → b < 2 ^ 32 → bit_and a b ≡ mask_of (λ k. holds a k && holds b k) 32
 and_is a b ha hb = is_mask_of (λ k. holds a k && holds b k) (bit_and a b) (and_lt 32 a b ha hb) (λ k h. holds-and a b k)
 
-pub minus_is : (a b : ℕ) → a < 2 ^ 32 → b < 2 ^ 32 → bit_and a (4294967295 - b) ≡ mask_of (λ k. holds a k && not (holds b k)) 32
-minus_is a b ha hb = is_mask_of (λ k. holds a k && not (holds b k)) (bit_and a (4294967295 - b)) (and_lt 32 a (4294967295 - b) ha (omega arith))
+pub minus_is : (a b : ℕ) → a < 2 ^ 32 → b < 2 ^ 32 → bit_and a (0xFFFFFFFF - b) ≡ mask_of (λ k. holds a k && not (holds b k)) 32
+minus_is a b ha hb = is_mask_of (λ k. holds a k && not (holds b k)) (bit_and a (0xFFFFFFFF - b)) (and_lt 32 a (0xFFFFFFFF - b) ha (omega arith))
     (λ k h. holds-minus a b k hb h)
 
 -- what a mask of places holds, at a place of a mask

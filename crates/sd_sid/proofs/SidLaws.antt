@@ -1,5 +1,5 @@
 -- The two laws on SIDs as bytes.
-use Rattle.std.proofs.Common.{◌≡◌, ℕ, zero, suc, ◌+◌, ◌*◌, ◌^◌, ◌<◌, ◌≤◌, Bool, true, false, ◌==◌, nat_lt, cond, List, [], ◌∷◌, ◌++◌, length, get_or, take, drop, Result, Ok, Err, refl, sym, ap, ◌∙◌, arith, append_assoc}
+use Rattle.std.proofs.Common.{◌≡◌, ℕ, zero, suc, ◌+◌, ◌*◌, ◌^◌, ◌<◌, ◌≤◌, false, ◌==◌, nat_lt, List, [], ◌∷◌, ◌++◌, length, get_or, take, drop, Result, Ok, refl, sym, ap, ◌∙◌, arith, append_assoc}
 use Rattle.std.specs.Int.{w32, w64, from_be_bytes, to_be_bytes, to_le_bytes}
 use Rattle.std.specs.List.{flat_map}
 use Rattle.std.proofs.Math.Seq.{take-add}
@@ -10,12 +10,8 @@ use Rattle.std.proofs.lemmas.Nat.{be_bytes_8, from_be_bytes-to_be_bytes_8}
 use Rattle.sd_sid.specs.Sid.{SidValue, IsSid}
 use Rattle.sd_sid.specs.SidBytes.{u32_at, u32s_at, authority_of, sid_reading, bytes_of_sid, SidsComeBack, SidsStand}
 use Rattle.sd_sid.specs.declared.sid.SidError.{SidError}
+use Rattle.sd_sid.proofs.Outcomes.{passed}
 use Rattle.sd_sid.proofs.SidWords.{cells, words_stand, length_words, words_again}
-
--- a test that found no fault
-passed : {A : Type 0} (b : Bool) (fault : SidError) (r : Result A SidError) (x : A) → cond b (Err fault) r ≡ Ok x → (b ≡ false) × (r ≡ Ok x)
-passed true fault r x e = absurd cc
-passed false fault r x e = (refl, e)
 
 -- what is found is one thing
 abbrev found : {A : Type 0} → A → Result A SidError

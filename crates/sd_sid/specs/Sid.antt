@@ -1,5 +1,5 @@
 -- SIDs ([MS-DTYP] 2.4.2).
-use Rattle.std.specs.Prelude.{◌≡◌, ℕ, Bool, ◌&&◌, ◌-◌, ◌^◌, ◌<◌, ◌≤◌, ◌==◌, ◌||◌, List, [], ◌∷◌, length, drop, replicate, Result, Ok, Err, if◌then◌else◌, nat_lt, All}
+use Rattle.std.specs.Prelude.{◌≡◌, ℕ, Bool, ◌&&◌, ◌-◌, ◌^◌, ◌<◌, ◌≤◌, ◌==◌, ◌||◌, List, [], ◌∷◌, length, drop, replicate, Result, Ok, Err, if◌then◌else◌, nat_lt, All, codes}
 use Rattle.std.specs.Str.{bytes_eq}
 use Rattle.std.specs.Ordering.{nat_cmp, ordering_then}
 use Rattle.std.specs.Cmp.Lexicographic.{slice_cmp}
@@ -41,6 +41,13 @@ sid_error_number Revision = 1
 sid_error_number Count = 2
 sid_error_number Short = 3
 sid_error_number Authority = 4
+
+-- and its name
+abbrev pub sid_error_name : SidError → List ℕ
+sid_error_name Revision = codes "Revision"
+sid_error_name Count = codes "Count"
+sid_error_name Short = codes "Short"
+sid_error_name Authority = codes "Authority"
 
 -- whether two SIDs have the same authority and the same sub-authorities
 abbrev pub same_sid : SidValue → SidValue → Bool

@@ -1,4 +1,4 @@
-// SIDs as bytes.
+//! SIDs as bytes.
 
 ghost use Rattle.std.specs.Prelude.{◌≡◌, ◌+◌, ◌*◌, ◌<◌, ◌≤◌, ◌^◌, ◌++◌, length, take, vec_len, vec_capacity, IsOk, IfOk, OnOk, OnErr};
 ghost use Rattle.std.specs.Int.{w32, to_le_bytes};

@@ -1,4 +1,4 @@
-// Generic mappings.
+//! Generic mappings.
 
 ghost use Rattle.std.specs.Prelude.{◌≡◌, ◌<◌, ◌^◌};
 ghost use Rattle.sd_sid.specs.Mapping.{mapped, mapping_of, file_mapping, IsMapping};

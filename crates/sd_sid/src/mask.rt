@@ -1,4 +1,4 @@
-// Access masks: sets of the places 0 to 31.
+//! Access masks: sets of the places 0 to 31.
 
 ghost use Rattle.std.specs.Prelude.{◌≡◌, ◌==◌, ◌<◌, ◌&&◌, ◌||◌, not, cond};
 ghost use Rattle.sd_sid.specs.Mask.{holds, mask_of};

@@ -1,10 +1,11 @@
-// Security identifiers.
+//! Security identifiers.
 
 ghost use Rattle.std.specs.Prelude.{◌≡◌, ◌==◌, IsTrue, ◌↔◌};
-ghost use Rattle.sd_sid.specs.Sid.{SidValue, sid_of, sid_error_number, same_sid, owner_rights, sid_cmp, IsSid};
+ghost use Rattle.sd_sid.specs.Sid.{SidValue, sid_of, sid_error_number, sid_error_name, same_sid, owner_rights, sid_cmp, IsSid};
 
+use std::error::Error;
+use std::fmt;
 use std::marker::Model;
-use thiserror::Error;
 
 /// The most sub-authorities that a SID has ([MS-DTYP] 2.4.2.2, SubAuthorityCount).
 pub const MAX_SUBS: usize = 15;
@@ -40,19 +41,15 @@ impl Model for Sid {
 }
 
 /// Why no SID was made or read.
-#[derive(Clone, Copy, Debug, PartialEq, Eq, Error)]
+#[derive(Clone, Copy, Debug, PartialEq, Eq)]
 pub enum SidError {
     /// The first byte isn't 1.
-    #[error("the SID's revision isn't 1")]
     Revision,
     /// There are no sub-authorities, or more than 15.
-    #[error("a SID has 1 to 15 sub-authorities")]
     Count,
     /// The bytes end before the SID does.
-    #[error("the bytes end before the SID does")]
     Short,
     /// The authority is 2^48 or more.
-    #[error("a SID's authority is below 2^48")]
     Authority,
 }
 
@@ -68,7 +65,34 @@ impl SidError {
             SidError::Authority => 4,
         }
     }
+
+    /// The error's name.
+    pub fn name(self) -> &'static str
+        ensures { result.now ≡ sid_error_name self }
+    {
+        match self {
+            SidError::Revision => "Revision",
+            SidError::Count => "Count",
+            SidError::Short => "Short",
+            SidError::Authority => "Authority",
+        }
+    }
 }
+
+impl fmt::Display for SidError {
+    ghost use Rattle.std.specs.Prelude.{Some};
+    ghost use Rattle.std.specs.Fmt.{padded};
+
+    ghost output = { λ e. Some (sid_error_name e) };
+
+    ghost styled_output = { λ e spec. Some (padded spec (sid_error_name e)) };
+
+    fn fmt<W: fmt::Write>(&self, f: &mut fmt::Formatter<W>) -> fmt::Result {
+        f.pad(self.name())
+    }
+}
+
+impl Error for SidError {}
 
 impl Sid {
     /// The SID of an authority and its sub-authorities: `Count` unless there are 1 to 15 of them, else

@@ -1,4 +1,4 @@
-// Values of SIDs, masks and mappings, from the standard's tables.
+//! Values of SIDs, masks and mappings, from the standard's tables.
 
 use crate::{BadMapping, GenericMapping, Mask, Sid, SidError};
 use std::test::Fail;
@@ -16,7 +16,22 @@ fn makes_sids(rt: HostRuntime) -> Result<(), Fail> {
         Sid::new(0x1_0000_0000_0000, &[0]),
         Err(SidError::Authority)
     );
-    assert_eq!(rt; SidError::Authority.number(), 4);
+    Ok(())
+}
+
+#[test]
+fn names_errors(rt: HostRuntime) -> Result<(), Fail> {
+    let rows = [
+        (SidError::Revision, "1 Revision"),
+        (SidError::Count, "2 Count"),
+        (SidError::Short, "3 Short"),
+        (SidError::Authority, "4 Authority"),
+    ];
+    for (error, said) in rows {
+        let shown = format!(in rt.alloc(); "{} {error}", error.number())?;
+        assert_eq!(rt; shown.as_str(), said);
+        assert!(rt; said.ends_with(error.name()));
+    }
     Ok(())
 }
 
