@@ -1,5 +1,5 @@
 -- The DACL at a path, step by step down the path, and on which nodes it rests.
-use Rattle.std.proofs.Common.{◌≡◌, true, false, ℕ, List, [], ◌∷◌, ◌++◌, Option, None, refl, sym, ◌∙◌, ap, append_assoc, append-nil}
+use Rattle.std.proofs.Common.{◌≡◌, cond, true, false, ℕ, List, [], ◌∷◌, ◌++◌, Option, None, refl, sym, ◌∙◌, ap, append_assoc, append-nil}
 use Rattle.sd_sid.specs.Mapping.{MappingValue}
 use Rattle.sd_acl.specs.declared.ace.Ace.{Ace}
 use Rattle.sd_tree.specs.Names.{Names, up, is_root, is_within}
@@ -35,9 +35,17 @@ dacl_at_up g t path h =
     ap (dacl_at g t) (sym is) ∙ dacl_at-push g t (up path) (last_name path)
     ∙ ap (λ p. dacl_here g (row_at t p) (dacl_at g t (up path))) is
 
+-- the DACL right above a path, and None above the root
+abbrev pub dacl_over : MappingValue → PlainTree → Names → Option (List Ace)
+dacl_over g t path = cond (is_root path) None (dacl_at g t (up path))
+
+pub dacl_at_here : (g : MappingValue) (t : PlainTree) (path : Names) → dacl_at g t path ≡ dacl_here g (row_at t path) (dacl_over g t path)
+dacl_at_here g t [] = dacl_at_root g t
+dacl_at_here g t (n ∷ path) = dacl_at_up g t (n ∷ path) refl
+
 -- ---- the nodes that decide
 
-below_alike : (g : MappingValue) (t u : PlainTree) (at : Names) (above : Option (List Ace)) (names : Names)
+pub below_alike : (g : MappingValue) (t u : PlainTree) (at : Names) (above : Option (List Ace)) (names : Names)
     → ((top : Names) → is_within top names ≡ true → row_at t (at ++ top) ≡ row_at u (at ++ top))
     → dacl_below g t at above names ≡ dacl_below g u at above names
 below_alike g t u at above [] same = refl

@@ -1,8 +1,12 @@
 pub mod Closed
+pub mod Copies
 pub mod Dacls
 pub mod Journals
 pub mod Lists
+pub mod Ordered
+pub mod OwnEntries
 pub mod PathBytes
 pub mod Paths
+pub mod Reach
 pub mod Refused
 pub mod Rows

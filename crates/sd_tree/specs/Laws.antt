@@ -1,7 +1,27 @@
 -- What follows from the rules of the tree, as laws over all trees, edits, tokens and requests.
-use Rattle.sd_tree.specs.Names.{Names}
+use Rattle.std.specs.Prelude.{◌≡◌, Bool, true, false, ◌||◌, List, [], Option, Some, None}
+use Rattle.std.specs.List.{list_any, flat_map}
+use Rattle.sd_sid.specs.Mapping.{MappingValue}
+use Rattle.sd_sid.specs.Sid.{SidValue}
+use Rattle.sd_acl.specs.Ace.{is_inherit_only}
+use Rattle.sd_acl.specs.Canonical.{is_inherited, is_explicit, is_canonical}
+use Rattle.sd_acl.specs.declared.ace.Ace.{Ace}
+use Rattle.sd_tree.specs.Names.{Names, is_within}
+use Rattle.sd_tree.specs.Inheritance.{object_inherit, container_inherit, no_propagate, pass_on, handed_on}
+use Rattle.sd_tree.specs.Descriptors.{is_protected}
+use Rattle.sd_tree.specs.Plain.{PlainTree, row_at, dacl_at}
+use Rattle.sd_tree.specs.Edits.{edited}
+use Rattle.sd_tree.specs.Answers.{descriptor_at}
+use Rattle.sd_tree.specs.Journal.{replay, root_refusal, IsLawful}
+use Rattle.sd_tree.specs.Refusals.{own_entries}
+use Rattle.sd_tree.specs.declared.node.Row.{Row}
+use Rattle.sd_tree.specs.declared.node.NodeKind.{NodeKind}
+use Rattle.sd_tree.specs.declared.node.NodeKind.TheVariants.{Object}
+use Rattle.sd_tree.specs.declared.opening.Opening.{Opening}
 use Rattle.sd_tree.specs.declared.edit.Edit.{Edit}
 use Rattle.sd_tree.specs.declared.edit.Edit.TheVariants.{AddContainer, AddObject, SetOwner, SetGroup, SetDacl, Remove, ProtectKeeping}
+
+-- ---- how far an edit reaches
 
 -- the path of the node that an edit adds, changes or removes
 abbrev pub edited_path : Edit → Names
@@ -12,3 +32,58 @@ edited_path (SetGroup path group) = path
 edited_path (SetDacl path dacl) = path
 edited_path (Remove path) = path
 edited_path (ProtectKeeping path) = path
+
+abbrev pub EditStaysBelow : Type 0
+EditStaysBelow =
+    (g : MappingValue) (t : PlainTree) (edit : Edit) (path : Names)
+    → is_within (edited_path edit) path ≡ false → descriptor_at g (edited g t edit) path ≡ descriptor_at g t path
+
+-- two trees with the same nodes at and below a protected one have the same DACLs there
+abbrev pub ProtectedStandsAlone : Type 0
+ProtectedStandsAlone =
+    (g : MappingValue) (t u : PlainTree) (top path : Names) (row : Row)
+    → row_at t top ≡ Some row → is_protected row.dacl ≡ true
+    → ((q : Names) → is_within top q ≡ true → row_at t q ≡ row_at u q)
+    → is_within top path ≡ true → dacl_at g t path ≡ dacl_at g u path
+
+-- ---- how far an entry reaches
+
+abbrev pub StaysAtItsNode : Type 0
+StaysAtItsNode =
+    (g : MappingValue) (kind : NodeKind) (owner group : SidValue) (e : Ace)
+    → object_inherit e ≡ false → container_inherit e ≡ false → pass_on g kind owner group e ≡ []
+
+-- what a child has of an entry with NP hands nothing on to a child of the child's own
+abbrev pub GoesOneLevelDown : Type 0
+GoesOneLevelDown =
+    (g : MappingValue) (kind next_kind : NodeKind) (owner group next_owner next_group : SidValue) (e : Ace)
+    → no_propagate e ≡ true → flat_map (pass_on g next_kind next_owner next_group) (pass_on g kind owner group e) ≡ []
+
+-- the entry has a flag that speaks of children: OI, CI, NP or IO
+abbrev pub speaks_of_children : Ace → Bool
+speaks_of_children e = object_inherit e || (container_inherit e || (no_propagate e || is_inherit_only e))
+
+abbrev pub NothingWaitsInAnObject : Type 0
+NothingWaitsInAnObject =
+    (g : MappingValue) (row : Row) (above : Option (List Ace))
+    → row.kind ≡ Object → list_any speaks_of_children (handed_on g row above) ≡ false
+
+-- ---- what is inherited is told by the flag ID
+
+abbrev pub InheritedIsTold : Type 0
+InheritedIsTold = (g : MappingValue) (row : Row) (above : Option (List Ace)) → list_any is_explicit (handed_on g row above) ≡ false
+
+-- after a lawful journal no node's own entries have it
+abbrev pub OwnIsExplicit : Type 0
+OwnIsExplicit =
+    (opening : Opening) (journal : List Edit) (path : Names) (row : Row)
+    → root_refusal opening ≡ None → IsLawful opening journal
+    → row_at (replay opening journal) path ≡ Some row → list_any is_inherited (own_entries row.dacl) ≡ false
+
+-- ---- the order of entries
+
+abbrev pub EveryListIsCanonical : Type 0
+EveryListIsCanonical =
+    (opening : Opening) (journal : List Edit) (path : Names) (entries : List Ace)
+    → root_refusal opening ≡ None → IsLawful opening journal
+    → dacl_at opening.mapping (replay opening journal) path ≡ Some entries → is_canonical entries ≡ true

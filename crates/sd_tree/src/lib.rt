@@ -16,6 +16,7 @@
 mod edit;
 mod entries;
 mod inherit;
+mod laws;
 mod node;
 mod opening;
 mod path;
@@ -24,6 +25,10 @@ mod tree;
 
 pub use edit::Edit;
 pub use entries::Entries;
+pub use laws::{
+    edit_stays_below, entry_goes_one_level_down, every_list_is_canonical, inherited_entry_is_told,
+    nothing_waits_in_an_object, protected_stands_alone, unmarked_entry_stays,
+};
 pub use node::{NodeDacl, NodeKind};
 pub use opening::{Opening, RootSpec};
 pub use path::{Path, PathError};

@@ -1,0 +1,43 @@
+//! What follows from the rules of the tree. Each law is the contract of a function that does nothing.
+
+ghost use Rattle.sd_tree.specs.Laws.{EditStaysBelow, ProtectedStandsAlone, StaysAtItsNode, GoesOneLevelDown, NothingWaitsInAnObject, InheritedIsTold, OwnIsExplicit, EveryListIsCanonical};
+
+/// An edit changes the descriptor of no node but the edited one and those below it.
+pub fn edit_stays_below()
+    ensures { EditStaysBelow }
+{}
+
+/// The DACL of a protected node (control bit PD), and each DACL below it, is the same whatever stands above the
+/// node ([MS-DTYP] 2.4.6).
+pub fn protected_stands_alone()
+    ensures { ProtectedStandsAlone }
+{}
+
+/// An entry with neither OI nor CI never leaves its node ([MS-DTYP] 2.4.4.1).
+pub fn unmarked_entry_stays()
+    ensures { StaysAtItsNode }
+{}
+
+/// An entry with NP goes one level down and no further: what a child has of it hands nothing on
+/// ([MS-DTYP] 2.4.4.1, NO_PROPAGATE_INHERIT_ACE).
+pub fn entry_goes_one_level_down()
+    ensures { GoesOneLevelDown }
+{}
+
+/// No inherited entry of an object waits to be inherited further: none has OI, CI, NP or IO.
+pub fn nothing_waits_in_an_object()
+    ensures { NothingWaitsInAnObject }
+{}
+
+/// Each entry that a node inherits has the flag ID, and after a lawful journal no entry of a node's own has it
+/// ([MS-DTYP] 2.4.4.1, INHERITED_ACE).
+pub fn inherited_entry_is_told()
+    ensures inherited { InheritedIsTold }
+    ensures own { OwnIsExplicit }
+{}
+
+/// After a lawful journal each node's DACL is in canonical order: the explicit entries stand before the inherited
+/// ones, and among the explicit the denies before the allows.
+pub fn every_list_is_canonical()
+    ensures { EveryListIsCanonical }
+{}
