@@ -11,12 +11,14 @@
 #![tactic(auto)]
 
 mod ace;
+mod canonical;
 mod descriptor;
 mod flags;
 mod list;
 mod verdict;
 
 pub use ace::{Ace, AceKind};
+pub use canonical::{canonicalize, denies_stand_first, explicit_of, is_canonical};
 pub use descriptor::{Dacl, Descriptor};
 pub use flags::AceFlags;
 pub use list::{ACL_HEADER_BYTES, AceList, AclTooLarge, MAX_ACL_BYTES, acl_size};
