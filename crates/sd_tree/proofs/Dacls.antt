@@ -45,16 +45,17 @@ dacl_at_here g t (n ∷ path) = dacl_at_up g t (n ∷ path) refl
 
 -- ---- the nodes that decide
 
+-- down the names two trees with the same nodes below a path go from one DACL to one
 pub below_alike : (g : MappingValue) (t u : PlainTree) (at : Names) (above : Option (List Ace)) (names : Names)
-    → ((top : Names) → is_within top names ≡ true → row_at t (at ++ top) ≡ row_at u (at ++ top))
+    → ((name : List ℕ) (top : Names) → is_within (name ∷ top) names ≡ true → row_at t (at ++ name ∷ top) ≡ row_at u (at ++ name ∷ top))
     → dacl_below g t at above names ≡ dacl_below g u at above names
 below_alike g t u at above [] same = refl
 below_alike g t u at above (n ∷ names) same =
-    ap (λ row. dacl_below g t (at ++ n ∷ []) (dacl_here g row above) names) (same (n ∷ []) (within-append (n ∷ []) names))
+    ap (λ row. dacl_below g t (at ++ n ∷ []) (dacl_here g row above) names) (same n [] (within-append (n ∷ []) names))
     ∙ below_alike g t u (at ++ n ∷ []) (dacl_here g (row_at u (at ++ n ∷ [])) above) names
-    (λ top within.
-    let place = append_assoc at (n ∷ []) top in
-    ap (row_at t) place ∙ same (n ∷ top) (within-step n top names ∙ within) ∙ sym (ap (row_at u) place))
+    (λ name top within.
+    let place = append_assoc at (n ∷ []) (name ∷ top) in
+    ap (row_at t) place ∙ same n (name ∷ top) (within-step n (name ∷ top) names ∙ within) ∙ sym (ap (row_at u) place))
 
 -- trees with the same nodes on the way to a path have the same DACL there
 pub dacl_at_alike : (g : MappingValue) (t u : PlainTree) (path : Names)
@@ -63,7 +64,7 @@ pub dacl_at_alike : (g : MappingValue) (t u : PlainTree) (path : Names)
 unfolding dacl_at
 dacl_at_alike g t u path same =
     ap (λ row. dacl_below g t [] (dacl_here g row None) path) (same [] refl)
-    ∙ below_alike g t u [] (dacl_here g (row_at u []) None) path same
+    ∙ below_alike g t u [] (dacl_here g (row_at u []) None) path (λ name top within. same (name ∷ top) within)
 
 -- so a change at one node changes the DACLs at and below it alone
 pub dacl_at_outside : (g : MappingValue) (t u : PlainTree) (at path : Names)

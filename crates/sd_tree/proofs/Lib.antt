@@ -1,12 +1,16 @@
 pub mod Closed
 pub mod Copies
 pub mod Dacls
+pub mod ExplicitForm
 pub mod Journals
+pub mod Keeping
 pub mod Lists
+pub mod OrderGrants
 pub mod Ordered
 pub mod OwnEntries
 pub mod PathBytes
 pub mod Paths
 pub mod Reach
 pub mod Refused
+pub mod Reordered
 pub mod Rows

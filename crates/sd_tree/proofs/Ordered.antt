@@ -36,23 +36,24 @@ parted (e ∷ own) inherited h k =
     or_from (is_inherited e && list_any is_explicit (own ++ inherited)) (explicit_behind_inherited (own ++ inherited))
     (ap (λ b. b && list_any is_explicit (own ++ inherited)) parts.0) (parted own inherited parts.1 k)
 
-all_explicit : (es : List Ace) → list_any is_inherited es ≡ false → filter is_explicit es ≡ es
-all_explicit [] h = refl
-all_explicit (e ∷ es) h =
-    let parts = or_parts (is_inherited e) (list_any is_inherited es) h in
-    ap (λ b. cond (not b) (e ∷ filter is_explicit es) (filter is_explicit es)) parts.0 ∙ ap (λ rest. e ∷ rest) (all_explicit es parts.1)
+-- a filter keeps all that doesn't fail its test, and nothing that does
+pub filter_whole : (p q : Ace → Bool) → ((e : Ace) → q e ≡ false → p e ≡ true) → (es : List Ace) → list_any q es ≡ false → filter p es ≡ es
+filter_whole p q passes [] h = refl
+filter_whole p q passes (e ∷ es) h =
+    let parts = or_parts (q e) (list_any q es) h in
+    ap (λ b. cond b (e ∷ filter p es) (filter p es)) (passes e parts.0) ∙ ap (λ rest. e ∷ rest) (filter_whole p q passes es parts.1)
 
-none_explicit : (es : List Ace) → list_any is_explicit es ≡ false → filter is_explicit es ≡ []
-none_explicit [] h = refl
-none_explicit (e ∷ es) h =
-    let parts = or_parts (is_explicit e) (list_any is_explicit es) h in
-    ap (λ b. cond b (e ∷ filter is_explicit es) (filter is_explicit es)) parts.0 ∙ none_explicit es parts.1
+pub filter_none : (p : Ace → Bool) (es : List Ace) → list_any p es ≡ false → filter p es ≡ []
+filter_none p [] h = refl
+filter_none p (e ∷ es) h =
+    let parts = or_parts (p e) (list_any p es) h in
+    ap (λ b. cond b (e ∷ filter p es) (filter p es)) parts.0 ∙ filter_none p es parts.1
 
 -- the explicit ones of such a list are those in front
 pub explicit_front : (own inherited : List Ace) → list_any is_inherited own ≡ false → list_any is_explicit inherited ≡ false
     → filter is_explicit (own ++ inherited) ≡ own
 explicit_front own inherited h k =
-    filter-append is_explicit own inherited ∙ ap₂ (λ xs ys. xs ++ ys) (all_explicit own h) (none_explicit inherited k) ∙ append-nil own
+    filter-append is_explicit own inherited ∙ ap₂ (λ xs ys. xs ++ ys) (filter_whole is_explicit is_inherited (λ e no. ap not no) own h) (filter_none is_explicit inherited k) ∙ append-nil own
 
 pub canonical_parts : (own inherited : List Ace) → list_any is_inherited own ≡ false → deny_behind_allow own ≡ false → list_any is_explicit inherited ≡ false
     → is_canonical (own ++ inherited) ≡ true

@@ -1,5 +1,5 @@
 -- How far an edit reaches, and that nothing comes to a protected node from above.
-use Rattle.std.proofs.Common.{◌≡◌, ◌≢◌, true, false, List, ◌++◌, Option, option_map, refl, sym, ◌∙◌, ap, ap₂}
+use Rattle.std.proofs.Common.{◌≡◌, ◌≢◌, true, false, List, ◌∷◌, ◌++◌, Option, option_map, refl, sym, ◌∙◌, ap, ap₂}
 use Rattle.std.proofs.lemmas.Bool.{false≢true}
 use Rattle.sd_sid.specs.Mapping.{MappingValue}
 use Rattle.sd_acl.specs.declared.ace.Ace.{Ace}
@@ -16,7 +16,7 @@ use Rattle.sd_tree.proofs.Paths.{within_itself, within-append, within_rest}
 use Rattle.sd_tree.proofs.Rows.{row_at-edited_other}
 use Rattle.sd_tree.proofs.Dacls.{dacl_at_here, dacl_over, dacl_at-append, below_alike, dacl_at_outside}
 
-outside_is_other : (at path : Names) → is_within at path ≡ false → path ≢ at
+pub outside_is_other : (at path : Names) → is_within at path ≡ false → path ≢ at
 outside_is_other at path outside same = false≢true (sym outside ∙ ap (is_within at) same ∙ within_itself at)
 
 pub edit_stays_below : EditStaysBelow
@@ -40,5 +40,5 @@ protected_stands_alone g t u top path row there protected same below =
     ∙ sym (dacl_at_here g u top ∙ ap (λ r. dacl_here g r (dacl_over g u top)) (sym (same top (within_itself top)) ∙ there)) in
     ap (dacl_at g t) rest.1 ∙ dacl_at-append g t top rest.0
     ∙ ap (λ above. dacl_below g t top above rest.0) at_top
-    ∙ below_alike g t u top (dacl_at g u top) rest.0 (λ q within. same (top ++ q) (within-append top q))
+    ∙ below_alike g t u top (dacl_at g u top) rest.0 (λ name q within. same (top ++ name ∷ q) (within-append top (name ∷ q)))
     ∙ sym (ap (dacl_at g u) rest.1 ∙ dacl_at-append g u top rest.0)

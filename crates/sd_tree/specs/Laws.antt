@@ -1,11 +1,15 @@
 -- What follows from the rules of the tree, as laws over all trees, edits, tokens and requests.
-use Rattle.std.specs.Prelude.{◌≡◌, Bool, true, false, ◌||◌, List, [], Option, Some, None}
+use Rattle.std.specs.Prelude.{◌≡◌, ℕ, Bool, true, false, ◌||◌, List, [], Option, Some, None}
 use Rattle.std.specs.List.{list_any, flat_map}
 use Rattle.sd_sid.specs.Mapping.{MappingValue}
 use Rattle.sd_sid.specs.Sid.{SidValue}
 use Rattle.sd_acl.specs.Ace.{is_inherit_only}
-use Rattle.sd_acl.specs.Canonical.{is_inherited, is_explicit, is_canonical}
+use Rattle.sd_acl.specs.Canonical.{is_inherited, is_explicit, is_canonical, canonical_order}
+use Rattle.sd_acl.specs.Verdict.{acl_grants, limits_owner}
 use Rattle.sd_acl.specs.declared.ace.Ace.{Ace}
+use Rattle.sd_acl.specs.declared.ace.AceKind.{AceKind}
+use Rattle.sd_check.specs.Token.{TokenValue}
+use Rattle.sd_check.specs.Check.{is_granted}
 use Rattle.sd_tree.specs.Names.{Names, is_within}
 use Rattle.sd_tree.specs.Inheritance.{object_inherit, container_inherit, no_propagate, pass_on, handed_on}
 use Rattle.sd_tree.specs.Descriptors.{is_protected}
@@ -87,3 +91,26 @@ EveryListIsCanonical =
     (opening : Opening) (journal : List Edit) (path : Names) (entries : List Ace)
     → root_refusal opening ≡ None → IsLawful opening journal
     → dacl_at opening.mapping (replay opening journal) path ≡ Some entries → is_canonical entries ≡ true
+
+-- what allows in canonical order allows in the list's own, whoever the entries apply to
+abbrev pub OrderGrantsNothing : Type 0
+OrderGrantsNothing =
+    (g : MappingValue) (who : AceKind → SidValue → Bool) (es : List Ace) (b : ℕ)
+    → acl_grants g who (Some (canonical_order es)) b ≡ true → acl_grants g who (Some es) b ≡ true
+
+abbrev pub OrderKeepsOwnersLimit : Type 0
+OrderKeepsOwnersLimit = (es : List Ace) → limits_owner (Some (canonical_order es)) ≡ limits_owner (Some es)
+
+-- whether the bit is granted at the node: by its DACL, or without an entry
+abbrev pub granted_by_row : MappingValue → Option (List Ace) → TokenValue → ℕ → Option Row → Bool
+granted_by_row g dacl token b None = false
+granted_by_row g dacl token b (Some row) = is_granted (Some row.owner) dacl g token b
+
+abbrev pub is_granted_at : MappingValue → PlainTree → Names → TokenValue → ℕ → Bool
+is_granted_at g t path token b = granted_by_row g (dacl_at g t path) token b (row_at t path)
+
+-- what is granted after a node was protected was granted before, at the node and at each other
+abbrev pub KeepingLetsNobodyIn : Type 0
+KeepingLetsNobodyIn =
+    (g : MappingValue) (t : PlainTree) (protected path : Names) (token : TokenValue) (b : ℕ)
+    → is_granted_at g (edited g t (ProtectKeeping protected)) path token b ≡ true → is_granted_at g t path token b ≡ true

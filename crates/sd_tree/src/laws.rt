@@ -1,6 +1,6 @@
 //! What follows from the rules of the tree. Each law is the contract of a function that does nothing.
 
-ghost use Rattle.sd_tree.specs.Laws.{EditStaysBelow, ProtectedStandsAlone, StaysAtItsNode, GoesOneLevelDown, NothingWaitsInAnObject, InheritedIsTold, OwnIsExplicit, EveryListIsCanonical};
+ghost use Rattle.sd_tree.specs.Laws.{EditStaysBelow, ProtectedStandsAlone, StaysAtItsNode, GoesOneLevelDown, NothingWaitsInAnObject, InheritedIsTold, OwnIsExplicit, EveryListIsCanonical, OrderGrantsNothing, OrderKeepsOwnersLimit, KeepingLetsNobodyIn};
 
 /// An edit changes the descriptor of no node but the edited one and those below it.
 pub fn edit_stays_below()
@@ -40,4 +40,17 @@ pub fn inherited_entry_is_told()
 /// ones, and among the explicit the denies before the allows.
 pub fn every_list_is_canonical()
     ensures { EveryListIsCanonical }
+{}
+
+/// Putting a list in canonical order grants no bit that the list didn't grant before, to no token and under no
+/// mapping, and whether the list limits the owner stays ([MS-DTYP] 2.5.3.2).
+pub fn order_grants_nothing()
+    ensures grants { OrderGrantsNothing }
+    ensures limits { OrderKeepsOwnersLimit }
+{}
+
+/// Protecting a node with what it had inherited can lock out and never lets in: a bit that is granted afterwards,
+/// at the node, below it or anywhere else, was granted before, to each token.
+pub fn keeping_lets_nobody_in()
+    ensures { KeepingLetsNobodyIn }
 {}
