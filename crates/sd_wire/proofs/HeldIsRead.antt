@@ -1,5 +1,5 @@
 -- What stands in the bytes is read.
-use Rattle.std.proofs.Common.{◌≡◌, ℕ, ◌+◌, ◌-◌, ◌*◌, ◌%◌, ◌<◌, ◌≤◌, Bool, true, false, not, ◌&&◌, ◌||◌, ◌==◌, nat_lt, List, [], ◌∷◌, ◌++◌, length, get_or, take, drop, Option, Some, None, Result, Ok, Err, refl, sym, ap, ◌∙◌, arith, add_assoc, add-zero, inl, inr, bit_and}
+use Rattle.std.proofs.Common.{◌≡◌, ℕ, ◌+◌, ◌-◌, ◌*◌, ◌%◌, ◌<◌, ◌≤◌, Bool, true, false, not, ◌&&◌, ◌||◌, ◌==◌, nat_lt, List, [], ◌∷◌, ◌++◌, length, get_or, take, drop, Option, Some, None, Ok, Err, refl, sym, ap, ◌∙◌, arith, add_assoc, add-zero, inl, inr, bit_and}
 use Rattle.std.specs.Prelude.{IfSome}
 use Rattle.std.specs.Int.{w16, w32, to_le_bytes}
 use Rattle.std.specs.List.{AllByRecursion}
@@ -20,11 +20,8 @@ use Rattle.sd_wire.specs.Reading.{u16_at, is_set, bad_sid, sid_read, kind_read, 
 use Rattle.sd_wire.specs.Writing.{kind_byte, entry_parts}
 use Rattle.sd_wire.specs.Standing.{Stands, TrusteeStands, EntryStands, EntriesStand, ListStands, DaclStands, IsPresent, IsWithout, Holds}
 use Rattle.sd_wire.specs.Laws.{WhatIsHeldIsRead, OneIsHeld, NoneIsHeldBesideAFault}
+use Rattle.sd_wire.proofs.Found.{good, good_is}
 use Rattle.sd_wire.proofs.Places.{stands_at, stands_within, stands_second, stands_range}
-
--- a reading that found a descriptor
-abbrev good : DescriptorValue → Result DescriptorValue WireFault
-good d = Ok d
 
 apart : (d : DescriptorValue) (fault : WireFault) → good d ≡ Err fault → ⊥
 apart d fault e = cc
@@ -143,11 +140,8 @@ held_is_read bytes d sound h =
           rw (control, owner, group, clear) (reads_as d Absent false false false p.dacl p.protected p.auto_req p.auto_inherited)
     ]
 
-found_is : (d e : DescriptorValue) → good d ≡ good e → d ≡ e
-found_is d e same = cc
-
 pub one_is_held : OneIsHeld
-one_is_held bytes d e sound_d sound_e holds_d holds_e = found_is d e (sym (held_is_read bytes d sound_d holds_d) ∙ held_is_read bytes e sound_e holds_e)
+one_is_held bytes d e sound_d sound_e holds_d holds_e = good_is d e (sym (held_is_read bytes d sound_d holds_d) ∙ held_is_read bytes e sound_e holds_e)
 
 pub none_beside_a_fault : NoneIsHeldBesideAFault
 none_beside_a_fault bytes d fault sound h failed = apart d fault (sym (held_is_read bytes d sound h) ∙ failed)

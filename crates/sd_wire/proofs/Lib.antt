@@ -1,6 +1,7 @@
 pub mod Lengths
 pub mod Loop
 pub mod Places
+pub mod Found
 pub mod HeldIsRead
 pub mod WireIsHeld
 pub mod ReadIsHeld

@@ -1,5 +1,5 @@
 -- What is read stands in the bytes.
-use Rattle.std.proofs.Common.{◌≡◌, ℕ, zero, suc, ◌+◌, ◌-◌, ◌*◌, ◌%◌, ◌<◌, ◌≤◌, Bool, true, false, not, ◌&&◌, ◌==◌, nat_lt, cond, List, [], ◌∷◌, ◌++◌, length, get_or, take, drop, Option, Some, None, Result, Ok, Err, refl, sym, ap, subst, ◌∙◌, arith, add-zero, inl, inr, ◌⊎◌, bit_and}
+use Rattle.std.proofs.Common.{◌≡◌, ℕ, zero, suc, ◌+◌, ◌-◌, ◌*◌, ◌%◌, ◌<◌, ◌≤◌, Bool, true, false, not, ◌&&◌, ◌==◌, nat_lt, cond, List, [], ◌∷◌, ◌++◌, length, get_or, take, drop, Option, Some, None, Result, Ok, Err, refl, sym, ap, subst, ◌∙◌, arith, add-zero, inl, inr, bit_and}
 use Rattle.std.specs.Int.{w16, w32, to_le_bytes}
 use Rattle.std.proofs.lemmas.Bool.{ltb-false, eqb-true, not-false, or_parts, or_cases, and_cases}
 use Rattle.std.proofs.lemmas.List.{length-take, take-take, take_all}
@@ -24,33 +24,11 @@ use Rattle.sd_wire.specs.Reading.{◌>>=◌, Gives, u16_at, is_set, bad_sid, sid
 use Rattle.sd_wire.specs.Writing.{kind_byte, entry_parts}
 use Rattle.sd_wire.specs.Standing.{Stands, TrusteeStands, EntryStands, EntriesStand, ListStands, DaclStands, Holds}
 use Rattle.sd_wire.specs.Laws.{ReadingsAreHeld}
+use Rattle.sd_wire.proofs.Found.{good, good_is, passed, chosen, bound}
 use Rattle.sd_wire.proofs.Places.{stands_join, u16_stands, u32_stands}
 
 abbrev IsBytes : List ℕ → Type 0
 IsBytes bytes = (i : ℕ) → get_or bytes i 0 < 256
-
--- ---- readings that found something
-
-abbrev good : {A : Type 0} → A → Result A WireFault
-good x = Ok x
-
-good_is : {A : Type 0} (x y : A) → good x ≡ good y → x ≡ y
-good_is x y e = cc
-
--- a test that found no fault
-passed : {A : Type 0} (b : Bool) (fault : WireFault) (r : Result A WireFault) (x : A) → cond b (Err fault) r ≡ Ok x → (b ≡ false) × (r ≡ Ok x)
-passed true fault r x e = absurd cc
-passed false fault r x e = (refl, e)
-
--- a choice, by its test
-chosen : {A : Type 0} (b : Bool) (r s t : Result A WireFault) → cond b r s ≡ t → ((b ≡ true) × (r ≡ t)) ⊎ ((b ≡ false) × (s ≡ t))
-chosen true r s t e = inl (refl, e)
-chosen false r s t e = inr (refl, e)
-
--- a step that found something
-bound : {A B : Type 0} (r : Result A WireFault) (f : A → Result B WireFault) (y : B) → (r >>= f) ≡ Ok y → (x : A) × (r ≡ Ok x) × (f x ≡ Ok y)
-bound (Ok x) f y e = (x, refl, e)
-bound (Err fault) f y e = absurd cc
 
 -- ---- SIDs
 

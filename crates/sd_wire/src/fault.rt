@@ -1,6 +1,7 @@
 //! What is wrong with bytes that hold no descriptor.
 
 ghost use Rattle.std.specs.Prelude.{◌≡◌, Some};
+ghost use Rattle.std.specs.Fmt.{padded};
 ghost use Rattle.sd_wire.specs.Fault.{wire_fault_number, wire_fault_name};
 ghost use Rattle.sd_wire.specs.declared.fault.WireError.TheVariants.{Fault, Memory};
 
@@ -74,8 +75,10 @@ impl WireFault {
 impl fmt::Display for WireFault {
     ghost output = { λ fault. Some (wire_fault_name fault) };
 
+    ghost styled_output = { λ fault spec. Some (padded spec (wire_fault_name fault)) };
+
     fn fmt<W: fmt::Write>(&self, f: &mut fmt::Formatter<W>) -> fmt::Result {
-        write!(f, "{}", self.name())
+        f.pad(self.name())
     }
 }
 
