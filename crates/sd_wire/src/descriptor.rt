@@ -20,7 +20,8 @@ use sd_acl::{Dacl, Descriptor, acl_size};
 use std::alloc::{AllocError, Global};
 
 /// The descriptor that the bytes hold, or the first test that they don't pass ([MS-DTYP] 2.4.6): header, owner, group,
-/// DACL, and of its entries the first. `Memory` may come in place of a fault of an entry.
+/// DACL, and of its entries the first. Memory is taken once, for the entries, where all that stands before them was read;
+/// so `Memory` may come in place of a fault of an entry, and of no other.
 pub fn read_descriptor(alloc: Global, bytes: &[u8]) -> Result<Descriptor, WireError>
     ensures exact { Gives descriptor_of result (descriptor_read bytes.now) }
     ensures held { IfOk result (λ descriptor. Holds bytes.now (descriptor_of descriptor)) }
@@ -78,7 +79,7 @@ fn read_dacl(alloc: Global, bytes: &[u8], offset: usize) -> Result<Dacl, WireErr
 }
 
 /// The one written form of a descriptor ([MS-DTYP] 2.4.6): the header, the owner, the group and the DACL, each right
-/// behind the last one that is there; list revision 2, and no flag bit 0x20.
+/// behind the last one that is there; list revision 2, and no flag bit 0x20. Memory is taken once, for `wire_len` bytes.
 #[tactic(auto, unfolding(crate::specs::Writing::wire_of), using(crate::proofs::Lengths::length_of_wire, crate::proofs::Lengths::length_of_header))]
 pub fn write_descriptor(alloc: Global, descriptor: &Descriptor) -> Result<Vec<u8>, AllocError>
     ensures { IfOk result (λ bytes. bytes.items ≡ wire_of (descriptor_of descriptor.now)) }
