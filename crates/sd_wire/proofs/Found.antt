@@ -10,11 +10,6 @@ good x = Ok x
 pub good_is : {A : Type 0} (x y : A) → good x ≡ good y → x ≡ y
 good_is x y e = cc
 
--- a test that found no fault
-pub passed : {A : Type 0} (b : Bool) (fault : WireFault) (r : Result A WireFault) (x : A) → cond b (Err fault) r ≡ Ok x → (b ≡ false) × (r ≡ Ok x)
-passed true fault r x e = absurd cc
-passed false fault r x e = (refl, e)
-
 -- a choice, by its test
 pub chosen : {A : Type 0} (b : Bool) (r s t : Result A WireFault) → cond b r s ≡ t → ((b ≡ true) × (r ≡ t)) ⊎ ((b ≡ false) × (s ≡ t))
 chosen true r s t e = inl (refl, e)

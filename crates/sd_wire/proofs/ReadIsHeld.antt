@@ -6,6 +6,7 @@ use Rattle.std.proofs.lemmas.List.{length-take, take-take, take_all}
 use Rattle.sd_sid.specs.Sid.{SidValue}
 use Rattle.sd_sid.specs.SidBytes.{u32_at, sid_reading, bytes_of_sid}
 use Rattle.sd_sid.specs.declared.sid.SidError.{SidError}
+use Rattle.sd_sid.proofs.Outcomes.{passed}
 use Rattle.sd_sid.proofs.SidLaws.{length_of_sid, sids_stand}
 use Rattle.sd_sid.proofs.SidWords.{cells, cells_fit}
 use Rattle.std.specs.Prelude.{IfOk}
@@ -24,7 +25,7 @@ use Rattle.sd_wire.specs.Reading.{◌>>=◌, Gives, u16_at, is_set, bad_sid, sid
 use Rattle.sd_wire.specs.Writing.{kind_byte, entry_parts}
 use Rattle.sd_wire.specs.Standing.{Stands, TrusteeStands, EntryStands, EntriesStand, ListStands, DaclStands, Holds}
 use Rattle.sd_wire.specs.Laws.{ReadingsAreHeld}
-use Rattle.sd_wire.proofs.Found.{good, good_is, passed, chosen, bound}
+use Rattle.sd_wire.proofs.Found.{good, good_is, chosen, bound}
 use Rattle.sd_wire.proofs.Places.{stands_join, u16_stands, u32_stands}
 
 abbrev IsBytes : List ℕ → Type 0

@@ -153,6 +153,19 @@ fn a_list_ends_at_its_size(rt: HostRuntime) -> Result<(), Fail> {
 }
 
 #[test]
+fn a_count_without_room_is_a_fault(rt: HostRuntime) {
+    // AclSize 8 and AceCount 65,535.
+    let mut bytes = WORKED;
+    bytes[50..54].copy_from_slice(&[8, 0, 0xff, 0xff]);
+    assert!(rt;
+        matches!(
+            read_descriptor(rt.alloc(), &bytes),
+            Err(WireError::Fault(WireFault::EntrySize))
+        )
+    );
+}
+
+#[test]
 fn faults_are_shown_by_their_names(rt: HostRuntime) -> Result<(), Fail> {
     assert_eq!(rt; WireFault::BadSid.number(), 6);
     assert_eq!(rt; WireFault::BadSid.name(), "BadSid");
