@@ -18,11 +18,11 @@ use Rattle.sd_tool.specs.Word.{IsWord, AreWords, IsNoWordIn}
 use Rattle.sd_tool.specs.declared.word.Word.{Word}
 use Rattle.sd_tool.specs.declared.word.Word.TheVariants.{Group, Security, TakeOwnership}
 
--- a text with a fault spells nothing
-pub not_spelled : {A : Type 0} (grammar : Grammar A) (text : List ℕ) (e : TextError) (a : A)
-    → StandsIn grammar text e → (e ≡ Memory → ⊥) → Spells grammar text a → ⊥
-not_spelled grammar text (Fault fault place) a stands memory spelled = no_fault grammar text a fault place spelled stands
-not_spelled grammar text Memory a stands memory spelled = memory refl
+-- a text whose fault is told spells nothing
+pub not_spelled : {A : Type 0} (grammar : Grammar A) (text : List ℕ) (e : TextError)
+    → StandsIn grammar text e → (e ≡ Memory → ⊥) → (a : A) → Spells grammar text a → ⊥
+not_spelled grammar text (Fault fault place) stands told a spelled = no_fault grammar text a fault place spelled stands
+not_spelled grammar text Memory stands told a spelled = told refl
 
 -- texts that the test tells apart are two
 pub apart : (xs ys : List ℕ) → bytes_eq xs ys ≡ false → xs ≡ ys → ⊥
@@ -51,7 +51,7 @@ no_word (Some word) text security take enabled deny off = tt
 no_word None text security take enabled deny off = λ word h. is_none text security take enabled deny off word h
 
 -- one word more
-pub AreWords-push : (texts : List (Bor (List ℕ))) (words : List Word) (text : Bor (List ℕ)) (word : Word)
+AreWords-push : (texts : List (Bor (List ℕ))) (words : List Word) (text : Bor (List ℕ)) (word : Word)
     → AreWords texts words → IsWord text.now word → AreWords (texts ++ text ∷ []) (words ++ word ∷ [])
 AreWords-push [] [] text word are is = (is, tt)
 AreWords-push [] (w ∷ words) text word are is = absurd are

@@ -1,6 +1,6 @@
--- What the program prints as an answer, and the status with which it then ends. The arguments are read from left to
+-- What the program prints as an answer, and whether it did what was asked for. The arguments are read from left to
 -- right, and the first that isn't read is told as a fault.
-use Rattle.std.specs.Prelude.{◌≡◌, ◌⊎◌, ℕ, List, [], ◌∷◌, ◌++◌, Result, Ok, Err, false, codes, string_bytes}
+use Rattle.std.specs.Prelude.{◌≡◌, ◌⊎◌, ℕ, List, [], ◌∷◌, ◌++◌, Result, Ok, Err, false, codes}
 use Rattle.std.specs.Borrow.{Bor}
 use Rattle.std.specs.Fmt.{digits, decimal}
 use Rattle.hex.specs.Hex.{encode_lower, decode_of}
@@ -23,12 +23,12 @@ use Rattle.sd_wire.specs.Fault.{wire_fault_number, wire_fault_name}
 use Rattle.sd_wire.specs.declared.fault.WireFault.{WireFault}
 use Rattle.sd_check.specs.Check.{verdict}
 use Rattle.sd_check.specs.Dacl.{dacl_entries}
+use Rattle.sd_tool.specs.CommandLine.{InvocationValue, Verdict as AsksVerdict, Print, ToBinary, FromBinary, Help, Version}
 use Rattle.sd_tool.specs.Word.{AreWords, IsNoWordIn, token_of}
 use Rattle.sd_tool.specs.declared.word.Word.{Word}
-use Rattle.sd_tool.specs.declared.arguments.Request.{Request}
-use Rattle.sd_tool.specs.declared.arguments.Request.TheVariants as requests
-use Rattle.sd_tool.specs.declared.failure.Status.{Status}
-use Rattle.sd_tool.specs.declared.failure.Status.TheVariants.{Done, Refused}
+use Rattle.sd_tool.specs.declared.answer.Outcome.{Outcome}
+use Rattle.sd_tool.specs.declared.answer.Outcome.TheVariants.{Done, Refused}
+use Rattle.sd_tool.specs.declared.version.TheConstants.{VERSION, KIT}
 
 -- ---- lines
 
@@ -46,11 +46,11 @@ verdict_line (Denied missing) = line (codes "denied " ++ mask_digits missing)
 verdict_line (Reserved mask) = line (codes "reserved " ++ mask_digits mask)
 verdict_line EmptyRequest = line (codes "empty")
 
-abbrev pub verdict_status : Verdict → Status
-verdict_status (Granted mask) = Done
-verdict_status (Denied missing) = Refused
-verdict_status (Reserved mask) = Refused
-verdict_status EmptyRequest = Refused
+abbrev pub verdict_outcome : Verdict → Outcome
+verdict_outcome (Granted mask) = Done
+verdict_outcome (Denied missing) = Refused
+verdict_outcome (Reserved mask) = Refused
+verdict_outcome EmptyRequest = Refused
 
 -- the line for an argument that isn't read
 abbrev pub fault_line : List ℕ → List ℕ
@@ -64,77 +64,82 @@ sddl_fault_line fault place = line (codes "fault sddl " ++ decimal (text.number_
 abbrev pub wire_fault_line : WireFault → List ℕ
 wire_fault_line fault = line (codes "fault wire " ++ decimal (wire_fault_number fault) ++ codes " " ++ wire_fault_name fault)
 
+-- the name and the version, and the line of the toolchain that proved the program
+abbrev pub version_lines : List ℕ
+version_lines = line (codes "sdstore " ++ VERSION.now) ++ line KIT.now
+
 -- ---- answers
 
 -- this line is printed, and what was asked for was done
-abbrev pub IsDone : List ℕ → List ℕ → Status → Type 0
-IsDone expected printed status = (printed ≡ expected) × (status ≡ Done)
+abbrev pub IsDone : List ℕ → List ℕ → Outcome → Type 0
+IsDone expected printed outcome = (printed ≡ expected) × (outcome ≡ Done)
 
 -- this line of a fault is printed
-abbrev pub IsFault : List ℕ → List ℕ → Status → Type 0
-IsFault expected printed status = (printed ≡ expected) × (status ≡ Refused)
+abbrev pub IsFault : List ℕ → List ℕ → Outcome → Type 0
+IsFault expected printed outcome = (printed ≡ expected) × (outcome ≡ Refused)
 
 -- the verdict is printed
-abbrev pub IsVerdict : Verdict → List ℕ → Status → Type 0
-IsVerdict answer printed status = (printed ≡ verdict_line answer) × (status ≡ verdict_status answer)
+abbrev pub IsVerdict : Verdict → List ℕ → Outcome → Type 0
+IsVerdict answer printed outcome = (printed ≡ verdict_line answer) × (outcome ≡ verdict_outcome answer)
 
 -- the first fault of a descriptor's text is printed
-abbrev pub AnswersSddlFault : List ℕ → List ℕ → Status → Type 0
-AnswersSddlFault written printed status = (fault : TextFault) × (place : ℕ) × HasFault sddl written fault place × IsFault (sddl_fault_line fault place) printed status
+abbrev pub AnswersSddlFault : List ℕ → List ℕ → Outcome → Type 0
+AnswersSddlFault written printed outcome = (fault : TextFault) × (place : ℕ) × HasFault sddl written fault place × IsFault (sddl_fault_line fault place) printed outcome
 
 -- the words make a token, for which this is the verdict; or one of them is no word
-abbrev pub AnswersWords : DescriptorValue → SidValue → ℕ → List (Bor (List ℕ)) → List ℕ → Status → Type 0
-AnswersWords d user asked words printed status =
-    ((read : List Word) × AreWords words read × IsVerdict (verdict d.owner (dacl_entries d.dacl) file_mapping (token_of user read) asked) printed status)
-    ⊎ (IsNoWordIn words × IsFault (fault_line (codes "token")) printed status)
+abbrev pub AnswersWords : DescriptorValue → SidValue → ℕ → List (Bor (List ℕ)) → List ℕ → Outcome → Type 0
+AnswersWords d user asked words printed outcome =
+    ((read : List Word) × AreWords words read × IsVerdict (verdict d.owner (dacl_entries d.dacl) file_mapping (token_of user read) asked) printed outcome)
+    ⊎ (IsNoWordIn words × IsFault (fault_line (codes "token")) printed outcome)
 
-abbrev pub AnswersMask : DescriptorValue → SidValue → List ℕ → List (Bor (List ℕ)) → List ℕ → Status → Type 0
-AnswersMask d user mask words printed status =
-    ((asked : ℕ) × Spells mask_text mask asked × AnswersWords d user asked words printed status)
-    ⊎ (((asked : ℕ) → Spells mask_text mask asked → ⊥) × IsFault (fault_line (codes "mask")) printed status)
+abbrev pub AnswersMask : DescriptorValue → SidValue → List ℕ → List (Bor (List ℕ)) → List ℕ → Outcome → Type 0
+AnswersMask d user mask words printed outcome =
+    ((asked : ℕ) × Spells mask_text mask asked × AnswersWords d user asked words printed outcome)
+    ⊎ (((asked : ℕ) → Spells mask_text mask asked → ⊥) × IsFault (fault_line (codes "mask")) printed outcome)
 
-abbrev pub AnswersUser : DescriptorValue → List ℕ → List ℕ → List (Bor (List ℕ)) → List ℕ → Status → Type 0
-AnswersUser d user mask words printed status =
-    ((sid : SidValue) × Spells sid_text user sid × AnswersMask d sid mask words printed status)
-    ⊎ (((sid : SidValue) → Spells sid_text user sid → ⊥) × IsFault (fault_line (codes "sid")) printed status)
+abbrev pub AnswersUser : DescriptorValue → List ℕ → List ℕ → List (Bor (List ℕ)) → List ℕ → Outcome → Type 0
+AnswersUser d user mask words printed outcome =
+    ((sid : SidValue) × Spells sid_text user sid × AnswersMask d sid mask words printed outcome)
+    ⊎ (((sid : SidValue) → Spells sid_text user sid → ⊥) × IsFault (fault_line (codes "sid")) printed outcome)
 
-abbrev pub AnswersVerdict : List ℕ → List ℕ → List ℕ → List (Bor (List ℕ)) → List ℕ → Status → Type 0
-AnswersVerdict written user mask words printed status =
-    ((d : DescriptorValue) × Spells sddl written d × AnswersUser d user mask words printed status)
-    ⊎ AnswersSddlFault written printed status
+abbrev pub AnswersVerdict : List ℕ → List ℕ → List ℕ → List (Bor (List ℕ)) → List ℕ → Outcome → Type 0
+AnswersVerdict written user mask words printed outcome =
+    ((d : DescriptorValue) × Spells sddl written d × AnswersUser d user mask words printed outcome)
+    ⊎ AnswersSddlFault written printed outcome
 
 -- the canonical text
-abbrev pub AnswersPrint : List ℕ → List ℕ → Status → Type 0
-AnswersPrint written printed status =
-    ((d : DescriptorValue) × Spells sddl written d × IsDone (line (canon d)) printed status)
-    ⊎ AnswersSddlFault written printed status
+abbrev pub AnswersPrint : List ℕ → List ℕ → Outcome → Type 0
+AnswersPrint written printed outcome =
+    ((d : DescriptorValue) × Spells sddl written d × IsDone (line (canon d)) printed outcome)
+    ⊎ AnswersSddlFault written printed outcome
 
 -- the self-relative form in hexadecimal
-abbrev pub AnswersToBinary : List ℕ → List ℕ → Status → Type 0
-AnswersToBinary written printed status =
-    ((d : DescriptorValue) × Spells sddl written d × IsDone (line (encode_lower (wire_of d))) printed status)
-    ⊎ AnswersSddlFault written printed status
+abbrev pub AnswersToBinary : List ℕ → List ℕ → Outcome → Type 0
+AnswersToBinary written printed outcome =
+    ((d : DescriptorValue) × Spells sddl written d × IsDone (line (encode_lower (wire_of d))) printed outcome)
+    ⊎ AnswersSddlFault written printed outcome
 
 -- the canonical text of what bytes hold, or their fault
-abbrev pub AnswersRead : Result DescriptorValue WireFault → List ℕ → Status → Type 0
-AnswersRead (Ok d) printed status = IsDone (line (canon d)) printed status
-AnswersRead (Err fault) printed status = IsFault (wire_fault_line fault) printed status
+abbrev pub AnswersRead : Result DescriptorValue WireFault → List ℕ → Outcome → Type 0
+AnswersRead (Ok d) printed outcome = IsDone (line (canon d)) printed outcome
+AnswersRead (Err fault) printed outcome = IsFault (wire_fault_line fault) printed outcome
 
-abbrev pub AnswersBytes : List ℕ → List ℕ → Status → Type 0
-AnswersBytes bytes printed status = AnswersRead (descriptor_read bytes) printed status
+abbrev pub AnswersBytes : List ℕ → List ℕ → Outcome → Type 0
+AnswersBytes bytes printed outcome = AnswersRead (descriptor_read bytes) printed outcome
 
 -- the same of bytes in hexadecimal, or that they aren't
-abbrev pub AnswersDecoded : Result (List ℕ) FromHexError → List ℕ → Status → Type 0
-AnswersDecoded (Ok bytes) printed status = AnswersBytes bytes printed status
-AnswersDecoded (Err e) printed status = IsFault (fault_line (codes "hex")) printed status
+abbrev pub AnswersDecoded : Result (List ℕ) FromHexError → List ℕ → Outcome → Type 0
+AnswersDecoded (Ok bytes) printed outcome = AnswersBytes bytes printed outcome
+AnswersDecoded (Err e) printed outcome = IsFault (fault_line (codes "hex")) printed outcome
 
-abbrev pub AnswersFromBinary : List ℕ → List ℕ → Status → Type 0
-AnswersFromBinary written printed status = AnswersDecoded (decode_of written) printed status
+abbrev pub AnswersFromBinary : List ℕ → List ℕ → Outcome → Type 0
+AnswersFromBinary written printed outcome = AnswersDecoded (decode_of written) printed outcome
 
--- what is printed for a request, and the status behind it
-abbrev pub Answers : Request → List ℕ → Status → Type 0
-Answers (requests.Help help) printed status = IsDone (string_bytes help) printed status
-Answers (requests.Verdict sddl user mask words) printed status = AnswersVerdict sddl.now user.now mask.now words.items printed status
-Answers (requests.Print sddl) printed status = AnswersPrint sddl.now printed status
-Answers (requests.ToBinary sddl) printed status = AnswersToBinary sddl.now printed status
-Answers (requests.FromBinary hex) printed status = AnswersFromBinary hex.now printed status
+-- what is printed for an invocation, and what came of it; the help's text is `clap`'s
+abbrev pub Answers : InvocationValue → List ℕ → Outcome → Type 0
+Answers (AsksVerdict sddl user mask words) printed outcome = AnswersVerdict sddl user mask words printed outcome
+Answers (Print sddl) printed outcome = AnswersPrint sddl printed outcome
+Answers (ToBinary sddl) printed outcome = AnswersToBinary sddl printed outcome
+Answers (FromBinary hex) printed outcome = AnswersFromBinary hex printed outcome
+Answers (Help command) printed outcome = outcome ≡ Done
+Answers Version printed outcome = IsDone version_lines printed outcome

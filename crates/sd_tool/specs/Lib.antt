@@ -1,5 +1,6 @@
 pub mod Answer
-pub mod Arguments
-pub mod Failure
+pub mod CommandLine
+pub mod Laws
 pub mod Output
+pub mod Status
 pub mod Word

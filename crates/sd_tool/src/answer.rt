@@ -1,67 +1,92 @@
-//! The answer to a request: one line, and a status.
-ghost use Rattle.std.specs.Prelude.{◌≡◌, ◌≤◌, IfErr, IfOk, string_bytes};
+//! The answer to an invocation: what is printed, and whether that is what was asked for.
+ghost use Rattle.std.specs.Prelude.{◌≡◌, IfErr, IfOk, string_bytes};
 ghost use Rattle.sd_tool.specs.Answer.{Answers, IsFault, fault_line, sddl_fault_line};
-ghost use Rattle.sd_tool.specs.Failure.{code_of};
+ghost use Rattle.sd_tool.specs.CommandLine.{invocation_of};
+ghost use Rattle.sd_tool.specs.Status.{outcome_status};
 
-use crate::arguments::Request;
-use crate::convert::{from_binary, print, to_binary};
-use crate::failure::{Failure, Status};
-use crate::verdict::verdict;
+use crate::command_line::Invocation;
+use crate::convert::{answer_from_binary, answer_print, answer_to_binary};
+use crate::failure::Failure;
+use crate::usage::help;
+use crate::verdict::answer_verdict;
+use crate::version::version_text;
 use sd_text::TextFault;
 use std::alloc::Global;
 
-/// What is printed, and the status with which the program then ends.
-#[derive(Debug, Drop)]
-pub(crate) struct Answer {
-    pub text: String,
-    pub status: Status,
+/// What came of an invocation.
+#[derive(Clone, Copy, Debug, PartialEq, Eq)]
+pub(crate) enum Outcome {
+    /// The text was printed, or the right granted.
+    Done,
+    /// What was printed is an argument's fault, or a verdict other than granted.
+    Refused,
 }
 
-/// The answer to a request.
-pub(crate) fn answer_to(alloc: Global, request: Request<'_>) -> Result<Answer, Failure>
-    ensures ok { IfOk result (λ answer. Answers request.entry (string_bytes answer.text) answer.status) }
-    ensures low { IfOk result (λ answer. code_of answer.status ≤ 1) }
+impl Outcome {
+    /// The status with which the program ends.
+    pub(crate) fn status(self) -> u8
+        ensures { result ≡ outcome_status self }
+    {
+        match self {
+            Outcome::Done => 0,
+            Outcome::Refused => 1,
+        }
+    }
+}
+
+/// What is printed, and what came of it.
+#[derive(Debug, Drop)]
+pub(crate) struct Answer {
+    pub(crate) text: String,
+    pub(crate) outcome: Outcome,
+}
+
+/// The answer to an invocation.
+pub(crate) fn answer_to(alloc: Global, invocation: Invocation<'_>) -> Result<Answer, Failure>
+    ensures ok { IfOk result (λ answer. Answers (invocation_of invocation.entry) (string_bytes answer.text) answer.outcome) }
     ensures err { IfErr result (λ failure. failure ≡ Failure.Memory) }
 {
-    match request {
-        Request::Help { text } => Ok(Answer {
-            text,
-            status: Status::Done,
-        }),
-        Request::Verdict {
+    match invocation {
+        Invocation::Verdict {
             sddl,
             user,
             mask,
             words,
-        } => verdict(alloc, sddl, user, mask, words.as_slice()),
-        Request::Print { sddl } => print(alloc, sddl),
-        Request::ToBinary { sddl } => to_binary(alloc, sddl),
-        Request::FromBinary { hex } => from_binary(alloc, hex),
+        } => answer_verdict(alloc, sddl, user, mask, words),
+        Invocation::Print { sddl } => answer_print(alloc, sddl),
+        Invocation::ToBinary { sddl } => answer_to_binary(alloc, sddl),
+        Invocation::FromBinary { hex } => answer_from_binary(alloc, hex),
+        Invocation::Help { command } => Ok(Answer {
+            text: help(alloc, command)?,
+            outcome: Outcome::Done,
+        }),
+        Invocation::Version => Ok(Answer {
+            text: version_text(alloc)?,
+            outcome: Outcome::Done,
+        }),
     }
 }
 
 /// The answer to an argument that isn't read: what it should have been.
 pub(crate) fn fault(alloc: Global, what: &str) -> Result<Answer, Failure>
-    ensures ok { IfOk result (λ answer. IsFault (fault_line what.now) (string_bytes answer.text) answer.status) }
-    ensures low { IfOk result (λ answer. code_of answer.status ≤ 1) }
+    ensures ok { IfOk result (λ answer. IsFault (fault_line what.now) (string_bytes answer.text) answer.outcome) }
     ensures err { IfErr result (λ failure. failure ≡ Failure.Memory) }
 {
     Ok(Answer {
         text: format!(in alloc; "fault {what}\n")?,
-        status: Status::Refused,
+        outcome: Outcome::Refused,
     })
 }
 
 /// The answer to a descriptor's text with a fault.
 pub(crate) fn sddl_fault(alloc: Global, fault: TextFault, place: u64) -> Result<Answer, Failure>
-    ensures ok { IfOk result (λ answer. IsFault (sddl_fault_line fault place) (string_bytes answer.text) answer.status) }
-    ensures low { IfOk result (λ answer. code_of answer.status ≤ 1) }
+    ensures ok { IfOk result (λ answer. IsFault (sddl_fault_line fault place) (string_bytes answer.text) answer.outcome) }
     ensures err { IfErr result (λ failure. failure ≡ Failure.Memory) }
 {
     let number = fault.number();
     let name = fault.name();
     Ok(Answer {
         text: format!(in alloc; "fault sddl {number} {name} at {place}\n")?,
-        status: Status::Refused,
+        outcome: Outcome::Refused,
     })
 }

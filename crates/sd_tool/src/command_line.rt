@@ -1,60 +1,139 @@
-//! The command line: words and streams in, a status out.
-ghost use Rattle.std.specs.Prelude.{◌≡◌, ◌≤◌, ◌⊎◌, IfErr, IfOk};
-ghost use Rattle.std.specs.Io.KnownBytes.{Keeps};
-ghost use Rattle.sd_tool.specs.Failure.{code_of};
-ghost use Rattle.sd_tool.specs.Output.{AppendsAnswer, AppendsPartOfAnswer, LeavesAtFailure};
+//! The reading of a command line: what its words ask for.
+ghost use Rattle.std.specs.Prelude.{◌≡◌, option_map};
+ghost use Rattle.sd_tool.specs.CommandLine.{arguments_in as arguments_of, command_named, command_on as command_of, invocation_of, is_help_flag as is_help_flag_of, reading, with_command, without_command};
 
-use crate::answer::{Answer, answer_to};
-use crate::arguments::read_words;
-use crate::failure::{Failure, Status};
-use crate::output::write_whole;
-use std::alloc::Global;
-use std::io::{Read, Write};
+/// A command of the program.
+#[derive(Clone, Copy, Debug, PartialEq, Eq)]
+pub(crate) enum CommandName {
+    /// `verdict`.
+    Verdict,
+    /// `print`.
+    Print,
+    /// `tobin`.
+    ToBinary,
+    /// `frombin`.
+    FromBinary,
+}
 
-/// Does what the program does with these words, of which the first is its name, and with these
-/// streams, and answers the status with which it ends.
-///
-/// - 0: the text was printed, or the right granted. Help is such a text.
-/// - 1: an argument's fault was printed, or a verdict other than granted.
-/// - 2: the command line wasn't read, and `errors` has clap's text.
-/// - 3: memory was wanting or `writer` failed, and `errors` has `sdstore: memory` or `sdstore: write`.
-pub fn drive<R: Read, W: Write, E: Write>(
-    alloc: Global,
-    words: &[&str],
-    _reader: &mut R,
-    writer: &mut W,
-    errors: &mut E,
-) -> u8
-    ensures statuses { result ≤ 3 }
-    ensures answered { result ≤ 1 → AppendsAnswer words.now
-        (W.contents writer.old) (W.contents writer.new) result }
-    ensures unread { result ≡ 2 → Keeps (W.contents writer.old) (W.contents writer.new) }
-    ensures failed { result ≡ 3 → Keeps (W.contents writer.old) (W.contents writer.new)
-        ⊎ AppendsPartOfAnswer words.now
-        (W.contents writer.old) (W.contents writer.new) }
-{
-    match carry_out(alloc, words, writer) {
-        Ok(status) => status.code(),
-        Err(failure) => {
-            // The status stands, also where the errors can't be written.
-            let _ = write!(errors, "{failure}");
-            failure.status().code()
+/// What a command line asks for.
+#[derive(Clone, Copy, Debug)]
+pub(crate) enum Invocation<'a> {
+    /// Whether a descriptor grants a mask to a user, whose groups and privileges the words tell.
+    Verdict {
+        sddl: &'a str,
+        user: &'a str,
+        mask: &'a str,
+        words: &'a [&'a str],
+    },
+    /// The canonical text of a descriptor.
+    Print {
+        sddl: &'a str,
+    },
+    /// The self-relative form of a descriptor.
+    ToBinary {
+        sddl: &'a str,
+    },
+    /// The text of a descriptor in self-relative form.
+    FromBinary {
+        hex: &'a str,
+    },
+    /// The help on a command, or on the program.
+    Help {
+        command: Option<CommandName>,
+    },
+    /// The version of the program.
+    Version,
+}
+
+impl CommandName {
+    fn named(word: &str) -> Option<CommandName>
+        ensures { result ≡ command_named word.now }
+    {
+        if word == "verdict" {
+            return Some(CommandName::Verdict);
         }
+        if word == "print" {
+            return Some(CommandName::Print);
+        }
+        if word == "tobin" {
+            return Some(CommandName::ToBinary);
+        }
+        if word == "frombin" {
+            return Some(CommandName::FromBinary);
+        }
+        None
     }
 }
 
-fn carry_out<W: Write>(alloc: Global, words: &[&str], writer: &mut W) -> Result<Status, Failure>
-    ensures ok { IfOk result (λ status. AppendsAnswer words.now
-        (W.contents writer.old) (W.contents writer.new) (code_of status)) }
-    ensures low { IfOk result (λ status. code_of status ≤ 1) }
-    ensures err { IfErr result (LeavesAtFailure words.now
-        (W.contents writer.old) (W.contents writer.new)) }
+/// What the words ask for, of which the first is the program's name. `None`: they aren't a command line.
+pub(crate) fn read_command_line<'a>(words: &'a [&'a str]) -> Option<Invocation<'a>>
+    ensures { option_map invocation_of result ≡ reading words.entry.now }
 {
-    let request = read_words(alloc, words)?;
-    let Answer { text, status } = answer_to(alloc, request)?;
-    write_whole(writer, text.as_bytes())?;
-    Ok(status)
+    match words {
+        [_, word, words @ ..] => match CommandName::named(word) {
+            Some(command) => read_with_command(command, words),
+            None => read_without_command(word, words),
+        },
+        _ => None,
+    }
 }
 
-#[cfg(test)]
-mod tests;
+fn read_with_command<'a>(command: CommandName, words: &'a [&'a str]) -> Option<Invocation<'a>>
+    ensures { option_map invocation_of result ≡ with_command command words.entry.now }
+{
+    match words {
+        [word] if is_help_flag(word) => Some(Invocation::Help {
+            command: Some(command),
+        }),
+        _ => command_on(command, arguments_in(words)),
+    }
+}
+
+fn read_without_command<'a>(word: &str, words: &[&str]) -> Option<Invocation<'a>>
+    ensures { option_map invocation_of result ≡ without_command word.now words.now }
+{
+    match words {
+        [] if is_help_flag(word) || word == "help" => Some(Invocation::Help { command: None }),
+        [] if word == "-V" || word == "--version" => Some(Invocation::Version),
+        [next] if word == "help" => match CommandName::named(next) {
+            Some(command) => Some(Invocation::Help {
+                command: Some(command),
+            }),
+            None => None,
+        },
+        _ => None,
+    }
+}
+
+fn is_help_flag(word: &str) -> bool
+    ensures { result ≡ is_help_flag_of word.now }
+{
+    word == "-h" || word == "--help"
+}
+
+/// The words behind a command, without a first `--`: a way to say that what follows is no flag.
+fn arguments_in<'a>(words: &'a [&'a str]) -> &'a [&'a str]
+    ensures { result.now ≡ arguments_of words.entry.now }
+{
+    match words {
+        [word, rest @ ..] if *word == "--" => rest,
+        _ => words,
+    }
+}
+
+fn command_on<'a>(command: CommandName, arguments: &'a [&'a str]) -> Option<Invocation<'a>>
+    ensures { option_map invocation_of result ≡ command_of command arguments.entry.now }
+{
+    match (command, arguments) {
+        (CommandName::Verdict, [sddl, user, mask, words @ ..]) => Some(Invocation::Verdict {
+            sddl,
+            user,
+            mask,
+            words,
+        }),
+        (CommandName::Print, [sddl]) => Some(Invocation::Print { sddl }),
+        (CommandName::ToBinary, [sddl]) => Some(Invocation::ToBinary { sddl }),
+        (CommandName::FromBinary, [hex]) => Some(Invocation::FromBinary { hex }),
+        _ => None,
+    }
+}

@@ -12,12 +12,16 @@
 #![tactic(auto)]
 
 mod answer;
-mod arguments;
 mod command_line;
 mod convert;
 mod failure;
+mod laws;
 mod output;
+mod program;
+mod usage;
 mod verdict;
+mod version;
 mod word;
 
-pub use command_line::drive;
+pub use laws::{dashes_keep_texts, help_stands_alone};
+pub use program::drive;

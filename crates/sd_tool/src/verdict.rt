@@ -1,15 +1,14 @@
 //! The answer to `verdict`: whether a descriptor grants a mask to a user.
-ghost use Rattle.std.specs.Prelude.{◌≡◌, ◌≤◌, IfErr, IfOk, string_bytes};
+ghost use Rattle.std.specs.Prelude.{◌≡◌, IfErr, IfOk, string_bytes};
 ghost use Rattle.sd_acl.specs.Descriptor.{descriptor_of};
 ghost use Rattle.sd_check.specs.Check.{verdict as verdict_of};
 ghost use Rattle.sd_check.specs.Dacl.{dacl_entries};
 ghost use Rattle.sd_sid.specs.Mapping.{file_mapping};
-ghost use Rattle.sd_tool.specs.Answer.{AnswersVerdict, AnswersUser, AnswersMask, AnswersWords, verdict_line, verdict_status};
-ghost use Rattle.sd_tool.specs.Failure.{code_of};
+ghost use Rattle.sd_tool.specs.Answer.{AnswersVerdict, AnswersUser, AnswersMask, AnswersWords, verdict_line, verdict_outcome};
 ghost use Rattle.sd_tool.specs.Word.{token_of};
 
-use crate::answer::{Answer, fault, sddl_fault};
-use crate::failure::{Failure, Status};
+use crate::answer::{Answer, Outcome, fault, sddl_fault};
+use crate::failure::Failure;
 use crate::word::{WordsError, read_words, token_of};
 use sd_acl::Descriptor;
 use sd_check::{Verdict, check};
@@ -18,15 +17,14 @@ use sd_text::{TextError, read_mask, read_sddl, read_sid_text};
 use std::alloc::{AllocError, Global};
 
 /// The verdict on these texts, or the fault of the first from the left that isn't read.
-pub(crate) fn verdict(
+pub(crate) fn answer_verdict(
     alloc: Global,
     sddl: &str,
     user: &str,
     mask: &str,
     words: &[&str],
 ) -> Result<Answer, Failure>
-    ensures ok { IfOk result (λ answer. AnswersVerdict sddl.now user.now mask.now words.now (string_bytes answer.text) answer.status) }
-    ensures low { IfOk result (λ answer. code_of answer.status ≤ 1) }
+    ensures ok { IfOk result (λ answer. AnswersVerdict sddl.now user.now mask.now words.now (string_bytes answer.text) answer.outcome) }
     ensures err { IfErr result (λ failure. failure ≡ Failure.Memory) }
 {
     match read_sddl(alloc, sddl) {
@@ -43,8 +41,7 @@ fn verdict_for_user(
     mask: &str,
     words: &[&str],
 ) -> Result<Answer, Failure>
-    ensures ok { IfOk result (λ answer. AnswersUser (descriptor_of descriptor.now) user.now mask.now words.now (string_bytes answer.text) answer.status) }
-    ensures low { IfOk result (λ answer. code_of answer.status ≤ 1) }
+    ensures ok { IfOk result (λ answer. AnswersUser (descriptor_of descriptor.now) user.now mask.now words.now (string_bytes answer.text) answer.outcome) }
     ensures err { IfErr result (λ failure. failure ≡ Failure.Memory) }
 {
     match read_sid_text(user) {
@@ -60,8 +57,7 @@ fn verdict_on_mask(
     mask: &str,
     words: &[&str],
 ) -> Result<Answer, Failure>
-    ensures ok { IfOk result (λ answer. AnswersMask (descriptor_of descriptor.now) user mask.now words.now (string_bytes answer.text) answer.status) }
-    ensures low { IfOk result (λ answer. code_of answer.status ≤ 1) }
+    ensures ok { IfOk result (λ answer. AnswersMask (descriptor_of descriptor.now) user mask.now words.now (string_bytes answer.text) answer.outcome) }
     ensures err { IfErr result (λ failure. failure ≡ Failure.Memory) }
 {
     match read_mask(mask) {
@@ -77,8 +73,7 @@ fn verdict_with_words(
     asked: Mask,
     words: &[&str],
 ) -> Result<Answer, Failure>
-    ensures ok { IfOk result (λ answer. AnswersWords (descriptor_of descriptor.now) user asked words.now (string_bytes answer.text) answer.status) }
-    ensures low { IfOk result (λ answer. code_of answer.status ≤ 1) }
+    ensures ok { IfOk result (λ answer. AnswersWords (descriptor_of descriptor.now) user asked words.now (string_bytes answer.text) answer.outcome) }
     ensures err { IfErr result (λ failure. failure ≡ Failure.Memory) }
 {
     match read_words(alloc, words) {
@@ -87,7 +82,7 @@ fn verdict_with_words(
             let verdict = check(descriptor, &GenericMapping::file(), &token, asked);
             Ok(Answer {
                 text: line_of(alloc, verdict)?,
-                status: status_of(verdict),
+                outcome: outcome_of(verdict),
             })
         }
         Err(WordsError::NoWord) => fault(alloc, "token"),
@@ -95,15 +90,14 @@ fn verdict_with_words(
     }
 }
 
-fn status_of(verdict: Verdict) -> Status
-    ensures exact { result ≡ verdict_status verdict }
-    ensures low { code_of result ≤ 1 }
+fn outcome_of(verdict: Verdict) -> Outcome
+    ensures { result ≡ verdict_outcome verdict }
 {
     match verdict {
-        Verdict::Granted(_) => Status::Done,
-        Verdict::Denied { .. } => Status::Refused,
-        Verdict::Reserved(_) => Status::Refused,
-        Verdict::EmptyRequest => Status::Refused,
+        Verdict::Granted(_) => Outcome::Done,
+        Verdict::Denied { .. } => Outcome::Refused,
+        Verdict::Reserved(_) => Outcome::Refused,
+        Verdict::EmptyRequest => Outcome::Refused,
     }
 }
 

@@ -8,6 +8,6 @@ use Rattle.sd_tool.proofs.verdict.verdict_for_user.Goals as goal
 pub returns-in-Err-clause-ok : goal.returns-in-Err-clause-ok
 returns-in-Err-clause-ok c =
     IfOk-weaker c.fault.result _ _ (λ answer is. inr (
-      λ sid spelled. not_spelled sid_text c.args.user.now c.in-Err.field-0 sid c.in-Err.ensures.fault (λ memory. c.in-Err.ensures.no_memory (ap Err memory)) spelled,
+      not_spelled sid_text c.args.user.now c.in-Err.field-0 c.in-Err.ensures.fault (λ memory. c.in-Err.ensures.no_memory (ap Err memory)),
       is,
     )) c.fault.ensures.ok

@@ -12,5 +12,5 @@ returns-in-Err-clause-none c = λ front sid parts spelled.
     let whole : c.args.text.now ≡ c.in-Some.front.now ++ c.args.ending.now =
     cases.1.1 ∙ ap (λ f. f ++ c.args.ending.now) (sym cases.2) in
     let same : front ≡ c.in-Some.front.now = append_cancel_right front c.in-Some.front.now c.args.ending.now (sym parts ∙ whole) in
-    not_spelled sid_text c.in-Some.front.now c.in-Err.field-0 sid c.in-Err.ensures.fault (λ is. c.in-Err.ensures.no_memory (ap Err is))
+    not_spelled sid_text c.in-Some.front.now c.in-Err.field-0 c.in-Err.ensures.fault (λ memory. c.in-Err.ensures.no_memory (ap Err memory)) sid
     (subst (λ f. Spells sid_text f sid) same spelled)

@@ -86,280 +86,55 @@ fn expect(rt: &(impl Abort + AllocGlobal), words: &[&str], line: &str, status: u
     assert!(rt; ended.errors.is_empty(), "{words:?}");
 }
 
-/// Verdicts for the user in the group BU: a descriptor, what is asked for, and the line.
-fn expect_verdicts(rt: &(impl Abort + AllocGlobal), rows: &[(&str, &str, &str, u8)]) {
+#[test]
+fn prints_verdicts(rt: HostRuntime) {
+    let rows = [
+        (DENY_BEFORE_ALLOW, "0x1", "granted 0x1\n", 0),
+        (DENY_BEFORE_ALLOW, "0x3", "denied 0x2\n", 1),
+        ("D:(A;;0x3;;;S-1-3-4)", "0x3", "denied 0x3\n", 1),
+        ("D:", "0", "empty\n", 1),
+        ("D:", "0x00200001", "reserved 0x200000\n", 1),
+    ];
     for (sddl, mask, line, status) in rows {
+        expect(&rt, &["sdstore", "verdict", sddl, USER, mask], line, status);
         expect(
-            rt,
-            &["sdstore", "verdict", sddl, USER, mask, "BU"],
+            &rt,
+            &["sdstore", "verdict", "--", sddl, USER, mask],
             line,
-            *status,
+            status,
         );
     }
 }
 
-/// Verdicts for the user with one or two words more: a descriptor, what is asked for, the words, and the line.
-fn expect_verdicts_with(rt: &(impl Abort + AllocGlobal), rows: &[(&str, &str, &[&str], &str, u8)]) {
-    for (sddl, mask, words, line, status) in rows {
-        match words {
-            [one] => expect(
-                rt,
-                &["sdstore", "verdict", sddl, USER, mask, one],
-                line,
-                *status,
-            ),
-            [one, two] => expect(
-                rt,
-                &["sdstore", "verdict", sddl, USER, mask, one, two],
-                line,
-                *status,
-            ),
-            _ => assert!(rt; false, "{words:?}"),
-        }
-    }
-}
-
 #[test]
-fn prints_the_verdict_for_a_user_alone(rt: HostRuntime) {
+fn prints_verdicts_for_tokens(rt: HostRuntime) {
     let rows = [
-        (DENY_BEFORE_ALLOW, "0x1", "granted 0x1\n", 0),
-        (DENY_BEFORE_ALLOW, "0x3", "denied 0x2\n", 1),
-        ("D:", "0x1", "denied 0x1\n", 1),
-        ("D:(A;;0x3;;;S-1-3-4)", "0x3", "denied 0x3\n", 1),
-        ("D:(A;;FA;;;S-1-1-0)", "0x1", "denied 0x1\n", 1),
-        ("D:", "0x0", "empty\n", 1),
+        ("D:(A;;FR;;;BU)", "0x1", "s-1-5-32-545", "granted 0x1\n", 0),
+        ("D:(A;;FR;;;BU)", "0x1", "bu=off", "denied 0x1\n", 1),
         (
-            "O:BAG:SYD:(A;;GA;;;S-1-5-21-1-2-3-1001)",
-            "0x10000000",
-            "granted 0x1f01ff\n",
-            0,
-        ),
-    ];
-    for (sddl, mask, line, status) in rows {
-        expect(&rt, &["sdstore", "verdict", sddl, USER, mask], line, status);
-    }
-}
-
-#[test]
-fn prints_the_verdict_of_lists(rt: HostRuntime) {
-    let rows = [
-        ("O:BAG:SYD:", "0x1", "denied 0x1\n", 1),
-        ("O:BAG:SYD:NO_ACCESS_CONTROL", "0x1", "granted 0x1\n", 0),
-        ("O:BAG:SY", "0x1", "granted 0x1\n", 0),
-        (
-            "O:BAG:SYD:(A;;FR;;;BU)(D;;FA;;;BU)",
-            "0x120089",
-            "granted 0x120089\n",
-            0,
-        ),
-        (
-            "O:BAG:SYD:(A;;FR;;;BU)(D;;FA;;;BU)",
-            "0x12008B",
-            "denied 0x2\n",
+            "D:(A;;FR;;;BU)",
+            "0x1",
+            "S-1-5-32-545=deny",
+            "denied 0x1\n",
             1,
         ),
         (
-            "O:BAG:SYD:(D;OICIIO;FA;;;BU)(A;;FR;;;BU)",
-            "0x80000000",
-            "granted 0x120089\n",
-            0,
-        ),
-        (
-            "O:BAG:SYD:(A;;GA;;;BU)",
-            "0x10000000",
-            "granted 0x1f01ff\n",
-            0,
-        ),
-    ];
-    expect_verdicts(&rt, &rows);
-}
-
-#[test]
-fn prints_the_most_that_is_allowed(rt: HostRuntime) {
-    let rows = [
-        (
-            "O:BAG:SYD:(D;;FW;;;BU)(A;;FA;;;BU)",
-            "0x02000000",
-            "granted 0xd00e9\n",
-            0,
-        ),
-        (
-            "O:BAG:SYD:(D;;FW;;;BU)(A;;FA;;;BU)",
-            "0x02000002",
-            "denied 0x2\n",
-            1,
-        ),
-        (
-            "O:BAG:SYD:NO_ACCESS_CONTROL",
-            "0x02000000",
-            "granted 0x1f01ff\n",
-            0,
-        ),
-        ("O:BAG:SYD:", "0x02000000", "denied 0x2000000\n", 1),
-    ];
-    expect_verdicts(&rt, &rows);
-}
-
-#[test]
-fn prints_what_no_list_grants(rt: HostRuntime) {
-    let rows = [
-        (
-            "O:BAG:SYD:NO_ACCESS_CONTROL",
+            "D:NO_ACCESS_CONTROL",
             "0x01000000",
-            "denied 0x1000000\n",
-            1,
-        ),
-        ("O:BAG:SYD:NO_ACCESS_CONTROL", "0", "empty\n", 1),
-        (
-            "O:BAG:SYD:NO_ACCESS_CONTROL",
-            "0x00200001",
-            "reserved 0x200000\n",
-            1,
-        ),
-    ];
-    expect_verdicts(&rt, &rows);
-}
-
-#[test]
-fn prints_the_verdict_for_the_owner(rt: HostRuntime) {
-    let rows = [
-        (
-            "O:S-1-5-21-1-2-3-1001G:SYD:",
-            "0x60000",
-            "granted 0x60000\n",
-            0,
-        ),
-        (
-            "O:S-1-5-21-1-2-3-1001G:SYD:(A;;RC;;;OW)",
-            "0x60000",
-            "denied 0x40000\n",
-            1,
-        ),
-        (
-            "O:S-1-5-21-1-2-3-1001G:SYD:(A;IO;RC;;;OW)",
-            "0x60000",
-            "granted 0x60000\n",
-            0,
-        ),
-        (
-            "O:S-1-5-21-1-2-3-1001D:(D;;WD;;;OW)(A;;FA;;;S-1-5-21-1-2-3-1001)",
-            "0x40000",
-            "denied 0x40000\n",
-            1,
-        ),
-    ];
-    expect_verdicts(&rt, &rows);
-}
-
-#[test]
-fn prints_the_verdict_for_deny_only_groups(rt: HostRuntime) {
-    let rows: [(&str, &str, &[&str], &str, u8); 3] = [
-        (
-            "O:BAG:SYD:(A;;FR;;;BU)",
-            "0x1",
-            &["BU=deny"],
-            "denied 0x1\n",
-            1,
-        ),
-        (
-            "O:BAG:SYD:(D;;0x1;;;BU)(A;;FR;;;WD)",
-            "0x1",
-            &["BU=deny", "WD"],
-            "denied 0x1\n",
-            1,
-        ),
-        ("O:BUG:SYD:", "0x20000", &["BU=deny"], "denied 0x20000\n", 1),
-    ];
-    expect_verdicts_with(&rt, &rows);
-}
-
-#[test]
-fn counts_each_place_of_a_group_given_twice(rt: HostRuntime) {
-    let rows: [(&str, &str, &[&str], &str, u8); 2] = [
-        (
-            "O:BAG:SYD:(A;;FR;;;BU)",
-            "0x1",
-            &["BU", "BU=deny"],
-            "granted 0x1\n",
-            0,
-        ),
-        (
-            "O:BAG:SYD:(D;;0x1;;;BU)(A;;FR;;;BU)",
-            "0x1",
-            &["BU", "BU=deny"],
-            "denied 0x1\n",
-            1,
-        ),
-    ];
-    expect_verdicts_with(&rt, &rows);
-}
-
-#[test]
-fn prints_the_verdict_for_disabled_groups(rt: HostRuntime) {
-    let rows: [(&str, &str, &[&str], &str, u8); 2] = [
-        (
-            "O:BAG:SYD:(D;;0x1;;;BU)(A;;FR;;;WD)",
-            "0x1",
-            &["BU=off", "WD"],
-            "granted 0x1\n",
-            0,
-        ),
-        (
-            "O:BAG:SYD:(A;;FR;;;BU)",
-            "0x1",
-            &["bu=off"],
-            "denied 0x1\n",
-            1,
-        ),
-    ];
-    expect_verdicts_with(&rt, &rows);
-}
-
-#[test]
-fn takes_a_group_in_full_and_in_lower_case(rt: HostRuntime) {
-    let rows: [(&str, &str, &[&str], &str, u8); 1] = [(
-        "O:BAG:SYD:(A;;FR;;;BU)",
-        "0x1",
-        &["s-1-5-32-545"],
-        "granted 0x1\n",
-        0,
-    )];
-    expect_verdicts_with(&rt, &rows);
-}
-
-#[test]
-fn prints_the_verdict_for_privileges(rt: HostRuntime) {
-    let rows: [(&str, &str, &[&str], &str, u8); 4] = [
-        (
-            "O:BAG:SYD:NO_ACCESS_CONTROL",
-            "0x01000000",
-            &["BU", "+security"],
+            "+security",
             "granted 0x1000000\n",
             0,
         ),
-        (
-            "O:BAG:SYD:",
-            "0x02000000",
-            &["BU", "+take"],
-            "granted 0x80000\n",
-            0,
-        ),
-        (
-            "O:BAG:SYD:(A;;FR;;;BU)",
-            "0x03000000",
-            &["BU", "+security"],
-            "granted 0x1120089\n",
-            0,
-        ),
-        (
-            "O:BAG:SYD:(D;;WO;;;BU)",
-            "0x80000",
-            &["BU", "+take"],
-            "granted 0x80000\n",
-            0,
-        ),
+        ("D:", "0x80000", "+take", "granted 0x80000\n", 0),
     ];
-    expect_verdicts_with(&rt, &rows);
+    for (sddl, mask, word, line, status) in rows {
+        expect(
+            &rt,
+            &["sdstore", "verdict", sddl, USER, mask, word],
+            line,
+            status,
+        );
+    }
 }
 
 #[test]
@@ -408,22 +183,56 @@ fn tells_of_the_first_argument_that_is_not_read(rt: HostRuntime) {
 fn prints_canonical_texts(rt: HostRuntime) {
     let rows = [
         (
-            "o:s-1-0x000000000005-018d:pai(a;idoi;0x0;;;wd)",
-            "O:SYD:PAI(A;OIID;0x0;;;WD)\n",
+            "O:BAG:SYD:(A;;0x1f01ff;;;S-1-1-0)",
+            "O:BAG:SYD:(A;;FA;;;WD)\n",
             0,
         ),
         ("", "\n", 0),
-        ("D:NO_ACCESS_CONTROLP", "D:PNO_ACCESS_CONTROL\n", 0),
-        ("D:(A;;KX;;;WD)", "D:(A;;KR;;;WD)\n", 0),
-        ("D:(A;;017;;;WD)", "D:(A;;0xf;;;WD)\n", 0),
-        ("D:(A;;2032127;;;WD)", "D:(A;;FA;;;WD)\n", 0),
-        ("D:(A;;RCSD;;;S-1-5-32-544)", "D:(A;;0x30000;;;BA)\n", 0),
-        ("D:(A;;CC;;;WD)", "D:(A;;0x1;;;WD)\n", 0),
         ("O:S-1-4294967296-1", "O:S-1-0x000100000000-1\n", 0),
         ("D:(A;;08;;;WD)", "fault sddl 1 Syntax at 7\n", 1),
     ];
     for (sddl, line, status) in rows {
         expect(&rt, &["sdstore", "print", sddl], line, status);
+    }
+}
+
+#[test]
+fn takes_words_that_look_like_others(rt: HostRuntime) {
+    let rows: [(&[&str], &str); 10] = [
+        (
+            &["sdstore", "verdict", "-h", USER, "0x1"],
+            "fault sddl 1 Syntax at 0\n",
+        ),
+        (
+            &["sdstore", "verdict", "--help", USER, "0x1"],
+            "fault sddl 1 Syntax at 0\n",
+        ),
+        (
+            &["sdstore", "verdict", "--", "--", USER, "0x1"],
+            "fault sddl 1 Syntax at 0\n",
+        ),
+        (
+            &["sdstore", "verdict", "--", "-h", USER, "0x1"],
+            "fault sddl 1 Syntax at 0\n",
+        ),
+        (&["sdstore", "verdict", "D:", "--", "0x1"], "fault sid\n"),
+        (
+            &["sdstore", "verdict", "D:", USER, "--help"],
+            "fault mask\n",
+        ),
+        (
+            &["sdstore", "verdict", "D:", USER, "0x1", "help"],
+            "fault token\n",
+        ),
+        (
+            &["sdstore", "print", "--", "--help"],
+            "fault sddl 1 Syntax at 0\n",
+        ),
+        (&["sdstore", "print", "help"], "fault sddl 1 Syntax at 0\n"),
+        (&["sdstore", "frombin", "--", "-h"], "fault hex\n"),
+    ];
+    for (words, line) in rows {
+        expect(&rt, words, line, 1);
     }
 }
 
@@ -487,47 +296,125 @@ fn prints_descriptors_of_a_header_alone(rt: HostRuntime) {
 }
 
 #[test]
-fn refuses_other_words(rt: HostRuntime) {
-    let rows: [&[&str]; 12] = [
-        &[],
-        &["sdstore"],
-        &["sdstore", "frob"],
-        &["sdstore", "--frob"],
-        &["sdstore", "-hh"],
-        &["sdstore", "--"],
-        &["sdstore", "script"],
-        &["sdstore", "verdict"],
-        &["sdstore", "verdict", "D:"],
-        &["sdstore", "verdict", "D:", USER],
-        &["sdstore", "print"],
-        &["sdstore", "print", "D:", "D:"],
+fn refuses_other_words(rt: HostRuntime) -> Result<(), Fail> {
+    let rows: [(&[&str], &str); 13] = [
+        (&[], "requires a subcommand"),
+        (&["sdstore"], "requires a subcommand"),
+        (&["sdstore", ""], "unrecognized subcommand ''"),
+        (&["sdstore", "frob"], "unrecognized subcommand 'frob'"),
+        (&["sdstore", "--frob"], "unexpected argument '--frob'"),
+        (
+            &["sdstore", "--", "print", "D:"],
+            "unexpected argument 'print'",
+        ),
+        (
+            &["sdstore", "help", "frob"],
+            "unrecognized subcommand 'frob'",
+        ),
+        (
+            &["sdstore", "verdict", "D:", USER],
+            "not provided:\n  <MASK>\n",
+        ),
+        (
+            &["sdstore", "verdict", "--", USER, "0x1"],
+            "not provided:\n  <MASK>\n",
+        ),
+        (
+            &["sdstore", "print", "D:", "O:"],
+            "unexpected argument 'O:'",
+        ),
+        (
+            &["sdstore", "print", "D:", "--"],
+            "only a first '--' behind the command",
+        ),
+        (
+            &["sdstore", "--version", "D:"],
+            "help and the version are asked for by",
+        ),
+        (
+            &["sdstore", "verdict", "--help", USER],
+            "help and the version are asked for by",
+        ),
     ];
-    for words in rows {
+    for (words, reason) in rows {
         let ended = run(rt.alloc(), words);
         assert_eq!(rt; ended.status, 2, "{words:?}");
         assert!(rt; ended.output.is_empty(), "{words:?}");
-        assert!(rt; !ended.errors.is_empty(), "{words:?}");
+        let text = str::from_utf8(ended.errors.as_slice()).ok().ok_or("text")?;
+        assert!(rt; text.contains(reason), "{words:?}: {text}");
     }
+    Ok(())
+}
+
+/// What is printed for words that ask for help or the version.
+fn shown(rt: &(impl Abort + AllocGlobal), words: &[&str]) -> Vec<u8> {
+    let ended = run(rt.alloc(), words);
+    assert_eq!(rt; ended.status, 0, "{words:?}");
+    assert!(rt; ended.errors.is_empty(), "{words:?}");
+    ended.output
 }
 
 #[test]
-fn prints_help_with_an_example(rt: HostRuntime) -> Result<(), Fail> {
-    let example = format!(in rt.alloc(); "sdstore verdict '{DENY_BEFORE_ALLOW}' {USER} 0x1\n")?;
-    let rows: [&[&str]; 5] = [
-        &["sdstore", "--help"],
-        &["sdstore", "-h"],
-        &["sdstore", "help"],
-        &["sdstore", "help", "verdict"],
-        &["sdstore", "verdict", "--help"],
-    ];
-    for words in rows {
-        let ended = run(rt.alloc(), words);
-        assert_eq!(rt; ended.status, 0, "{words:?}");
-        let text = str::from_utf8(ended.output.as_slice()).ok().ok_or("text")?;
-        assert!(rt; text.contains(example.as_str()), "{words:?}");
-        assert!(rt; ended.errors.is_empty(), "{words:?}");
+fn prints_help_on_each_command(rt: HostRuntime) -> Result<(), Fail> {
+    let program = shown(&rt, &["sdstore", "help"]);
+    assert!(rt; shown(&rt, &["sdstore", "-h"]).as_slice() == program.as_slice());
+    assert!(rt; shown(&rt, &["sdstore", "--help"]).as_slice() == program.as_slice());
+    expect_example(&rt, program.as_slice())?;
+    for command in ["verdict", "print", "tobin", "frombin"] {
+        let help = shown(&rt, &["sdstore", "help", command]);
+        assert!(rt; shown(&rt, &["sdstore", command, "-h"]).as_slice() == help.as_slice());
+        assert!(rt; shown(&rt, &["sdstore", command, "--help"]).as_slice() == help.as_slice());
+        let usage = format!(in rt.alloc(); "Usage: sdstore {command} [--] <")?;
+        let text = str::from_utf8(help.as_slice()).ok().ok_or("text")?;
+        assert!(rt; text.contains(usage.as_str()), "{text}");
+        expect_example(&rt, help.as_slice())?;
     }
     Ok(())
+}
+
+/// Runs the words of the example that a help text ends with, of which no word has a space.
+fn expect_example(rt: &(impl Abort + AllocGlobal), help: &[u8]) -> Result<(), Fail> {
+    let text = str::from_utf8(help).ok().ok_or("text")?;
+    let (_, example) = text.split_once("\n\nExample:\n  ").ok_or("an example")?;
+    let mut words = Vec::new(rt.alloc());
+    for word in example.trim_end().split(' ') {
+        words.push(word.trim_matches('\''))?;
+    }
+    let ended = run(rt.alloc(), words.as_slice());
+    assert_eq!(rt; ended.status, 0, "{example}");
+    Ok(())
+}
+
+#[test]
+fn prints_help_on_each_argument(rt: HostRuntime) -> Result<(), Fail> {
+    let help = shown(&rt, &["sdstore", "help", "verdict"]);
+    let text = str::from_utf8(help.as_slice()).ok().ok_or("text")?;
+    let lines = [
+        "  <SDDL>\n",
+        "  <USER>\n",
+        "  <MASK>\n",
+        "  [WORD]...\n",
+        " SID=deny ",
+        " SID=off ",
+        " +security ",
+        " +take ",
+        " hexadecimal (0x1f01ff), octal (01777) or decimal (2032127)\n",
+        "sdstore verdict -- \"$sddl\" ",
+        " GR 0x120089  GW 0x120116  GX 0x1200a0  GA 0x1f01ff\n",
+        "\n  0  granted\n",
+    ];
+    for line in lines {
+        assert!(rt; text.contains(line), "{line}");
+    }
+    Ok(())
+}
+
+#[test]
+fn prints_the_version(rt: HostRuntime) {
+    for flag in ["-V", "--version"] {
+        let lines = "sdstore 0.1.0\nrattle-kit-13b logic dac8208d650f15bf\n";
+        expect(&rt, &["sdstore", flag], lines, 0);
+    }
 }
 
 // The line has eleven bytes, so the twelfth call is the flush.

@@ -1,0 +1,84 @@
+-- The one reading of a command line: which words run a command, and which ask for help or for the version. Any other
+-- words aren't read.
+use Rattle.std.specs.Prelude.{◌≡◌, ℕ, List, [], ◌∷◌, Bool, ◌||◌, if◌then◌else◌, Option, Some, None, option_map, codes, bytes_eq}
+use Rattle.std.specs.Borrow.{Bor}
+use Rattle.sd_tool.specs.declared.command_line.CommandName.{CommandName}
+use Rattle.sd_tool.specs.declared.command_line.CommandName.TheVariants as names
+use Rattle.sd_tool.specs.declared.command_line.Invocation.{Invocation}
+use Rattle.sd_tool.specs.declared.command_line.Invocation.TheVariants as invocations
+
+-- what a command line asks for: a command with its arguments, help on a command or on the program, or the version
+pub data InvocationValue : Type 0 where
+  Verdict : List ℕ → List ℕ → List ℕ → List (Bor (List ℕ)) → InvocationValue
+  Print : List ℕ → InvocationValue
+  ToBinary : List ℕ → InvocationValue
+  FromBinary : List ℕ → InvocationValue
+  Help : Option CommandName → InvocationValue
+  Version : InvocationValue
+
+abbrev pub invocation_of : Invocation → InvocationValue
+invocation_of (invocations.Verdict sddl user mask words) = Verdict sddl.now user.now mask.now words.now
+invocation_of (invocations.Print sddl) = Print sddl.now
+invocation_of (invocations.ToBinary sddl) = ToBinary sddl.now
+invocation_of (invocations.FromBinary hex) = FromBinary hex.now
+invocation_of (invocations.Help command) = Help command
+invocation_of invocations.Version = Version
+
+-- the command that the word names
+abbrev pub command_named : List ℕ → Option CommandName
+command_named word =
+    if bytes_eq word (codes "verdict") then Some names.Verdict
+    else (if bytes_eq word (codes "print") then Some names.Print
+    else (if bytes_eq word (codes "tobin") then Some names.ToBinary
+    else (if bytes_eq word (codes "frombin") then Some names.FromBinary
+    else None)))
+
+abbrev pub is_help_flag : List ℕ → Bool
+is_help_flag word = bytes_eq word (codes "-h") || bytes_eq word (codes "--help")
+
+abbrev is_help : List ℕ → Bool
+is_help word = bytes_eq word (codes "help")
+
+abbrev is_version_flag : List ℕ → Bool
+is_version_flag word = bytes_eq word (codes "-V") || bytes_eq word (codes "--version")
+
+-- the arguments that the words behind a command are: each as it stands, but for a first `--`
+abbrev pub arguments_in : List (Bor (List ℕ)) → List (Bor (List ℕ))
+arguments_in [] = []
+arguments_in (word ∷ words) = if bytes_eq word.now (codes "--") then words else word ∷ words
+
+-- the command with these arguments, where they are as many as it takes
+abbrev pub command_on : CommandName → List (Bor (List ℕ)) → Option InvocationValue
+command_on names.Verdict (sddl ∷ user ∷ mask ∷ words) = Some (Verdict sddl.now user.now mask.now words)
+command_on names.Print (sddl ∷ []) = Some (Print sddl.now)
+command_on names.ToBinary (sddl ∷ []) = Some (ToBinary sddl.now)
+command_on names.FromBinary (hex ∷ []) = Some (FromBinary hex.now)
+command_on command arguments = None
+
+-- a command and the words behind it, which ask for help where they are one of the two flags alone
+abbrev pub with_command : CommandName → List (Bor (List ℕ)) → Option InvocationValue
+with_command command [] = command_on command []
+with_command command (word ∷ []) = if is_help_flag word.now then Some (Help (Some command)) else command_on command (arguments_in (word ∷ []))
+with_command command (word ∷ next ∷ words) = command_on command (arguments_in (word ∷ next ∷ words))
+
+-- a word that is no command, and the words behind it
+abbrev pub without_command : List ℕ → List (Bor (List ℕ)) → Option InvocationValue
+without_command word [] =
+    if is_help_flag word || is_help word then Some (Help None)
+    else (if is_version_flag word then Some Version
+    else None)
+without_command word (next ∷ []) = if is_help word then option_map (λ command. Help (Some command)) (command_named next.now) else None
+without_command word (next ∷ other ∷ words) = None
+
+abbrev behind_name : List ℕ → List (Bor (List ℕ)) → Option InvocationValue
+behind_name word words = elim (command_named word) [ Some command ↦ with_command command words | None ↦ without_command word words ]
+
+-- what the words ask for, of which the first is the program's name
+abbrev pub reading : List (Bor (List ℕ)) → Option InvocationValue
+reading [] = None
+reading (name ∷ []) = None
+reading (name ∷ word ∷ words) = behind_name word.now words
+
+-- the words aren't a command line
+abbrev pub IsUnread : List (Bor (List ℕ)) → Type 0
+IsUnread words = reading words ≡ None

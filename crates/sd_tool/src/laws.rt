@@ -1,0 +1,12 @@
+//! What follows from the reading of a command line. Each law is the contract of a function that does nothing.
+ghost use Rattle.sd_tool.specs.Laws.{DashesKeepTexts, HelpStandsAlone};
+
+/// Help and the version answer two words behind the program's name at most, so no verdict's words ask for them.
+pub fn help_stands_alone()
+    ensures { HelpStandsAlone }
+{}
+
+/// Behind `verdict --` each word is the argument of its place, whatever its text.
+pub fn dashes_keep_texts()
+    ensures { DashesKeepTexts }
+{}

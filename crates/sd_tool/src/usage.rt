@@ -1,0 +1,176 @@
+//! The commands as `clap` describes them: the help texts, and what is told of words that aren't a
+//! command line. Which words are one isn't `clap`'s to say: `command_line` reads them.
+use crate::command_line::CommandName;
+use crate::version::VERSION;
+use clap::error::ErrorKind;
+use clap::{Arg, Command, Error};
+use std::alloc::{AllocError, Global};
+
+const NOTES: &str = "\
+Statuses:
+  0  the text was printed, or the right granted
+  1  an argument's fault was printed, or a verdict other than granted
+  2  the words aren't a command line
+  3  memory was wanting, or the output didn't take the answer
+
+Example:
+  sdstore verdict 'D:(A;;FR;;;WD)' S-1-5-21-1-2-3-1001 0x1 WD";
+
+const VERDICT_NOTES: &str = "\
+A first '--' behind 'verdict' is dropped, and every word behind it is an argument: write
+'sdstore verdict -- \"$sddl\" ..' where a text comes from outside.
+
+Generic rights are mapped as those of files:
+  GR 0x120089  GW 0x120116  GX 0x1200a0  GA 0x1f01ff
+
+Statuses:
+  0  granted
+  1  another verdict, or an argument's fault
+  2  the words aren't a command line
+  3  memory was wanting, or the output didn't take the answer
+
+Example:
+  sdstore verdict 'D:(D;;0x2;;;S-1-5-21-1-2-3-1001)(A;;0x1f01ff;;;S-1-5-21-1-2-3-1001)' S-1-5-21-1-2-3-1001 0x1";
+
+const PRINT_NOTES: &str = "\
+A first '--' behind 'print' is dropped.
+
+Example:
+  sdstore print 'o:s-1-5-18d:(a;;0x1f01ff;;;s-1-1-0)'";
+
+const TO_BINARY_NOTES: &str = "\
+A first '--' behind 'tobin' is dropped.
+
+Example:
+  sdstore tobin O:BA";
+
+const FROM_BINARY_NOTES: &str = "\
+A first '--' behind 'frombin' is dropped.
+
+Example:
+  sdstore frombin 010000801400000000000000000000000000000001020000000000052000000020020000";
+
+const USER: &str = "The user's SID: in full, as S-1-5-21-1-2-3-1001, or an alias, as BU";
+
+const MASK: &str = "\
+The rights that are asked for, spelled as the rights of an entry: names without a space, as
+FR or RCWD, or a number below 2^32, hexadecimal (0x1f01ff), octal (01777) or decimal (2032127)";
+
+const WORD: &str = "\
+What the token has beside the user:
+SID        an enabled group
+SID=deny   a group that counts for deny entries only
+SID=off    a group that counts for nothing
++security  SeSecurityPrivilege
++take      SeTakeOwnershipPrivilege";
+
+// What is told of words that `clap` would answer with help or the version.
+const STANDS_ALONE: &str = "\
+help and the version are asked for by '--help', 'help' or '--version' as the only word, \
+by '--help' as the only word behind a command, or by 'help' and a command";
+
+// What is told of words that `clap` would take, since it drops a later `--` too.
+const LATER_DASHES: &str =
+    "only a first '--' behind the command is dropped, and any further one is an argument";
+
+/// The help on a command, or on the program.
+pub(crate) fn help(alloc: Global, command: Option<CommandName>) -> Result<String, AllocError> {
+    let mut described = match command {
+        None => sdstore(alloc)?,
+        Some(CommandName::Verdict) => verdict_command(alloc)?,
+        Some(CommandName::Print) => print_command(alloc)?,
+        Some(CommandName::ToBinary) => to_binary_command(alloc)?,
+        Some(CommandName::FromBinary) => from_binary_command(alloc)?,
+    };
+    described.render_help()
+}
+
+/// Why the words aren't a command line: by `clap`, where it doesn't take them either.
+pub(crate) fn refusal<'a>(alloc: Global, words: &'a [&'a str]) -> Result<String, AllocError> {
+    let mut sdstore = sdstore(alloc)?;
+    match error_on(&mut sdstore, words) {
+        Some(error) if error.use_stderr() => text_of(alloc, error),
+        Some(_shown) => text_of(
+            alloc,
+            sdstore.error(ErrorKind::UnknownArgument, STANDS_ALONE)?,
+        ),
+        None => text_of(
+            alloc,
+            sdstore.error(ErrorKind::UnknownArgument, LATER_DASHES)?,
+        ),
+    }
+}
+
+// What `clap` has against the words, or shows for them.
+fn error_on<'a>(sdstore: &mut Command<'a>, words: &'a [&'a str]) -> Option<Error> {
+    match sdstore.try_get_matches_from_mut(words) {
+        Ok(_matches) => None,
+        Err(error) => Some(error),
+    }
+}
+
+fn text_of(alloc: Global, error: Error) -> Result<String, AllocError> {
+    if error.kind() == ErrorKind::OutOfMemory {
+        return Err(AllocError);
+    }
+    format!(in alloc; "{error}")
+}
+
+fn sdstore<'a>(alloc: Global) -> Result<Command<'a>, AllocError> {
+    Command::new(alloc, "sdstore")
+        .about("Windows security descriptors and access checks by [MS-DTYP]")
+        .version(VERSION)
+        .override_usage("sdstore <COMMAND>")
+        .subcommand_required(true)
+        .after_help(NOTES)
+        .subcommand(verdict_command(alloc)?)?
+        .subcommand(print_command(alloc)?)?
+        .subcommand(to_binary_command(alloc)?)?
+        .subcommand(from_binary_command(alloc)?)
+}
+
+fn verdict_command<'a>(alloc: Global) -> Result<Command<'a>, AllocError> {
+    Command::new(alloc, "verdict")
+        .about("Prints whether a descriptor grants a mask to a user")
+        .override_usage("sdstore verdict [--] <SDDL> <USER> <MASK> [WORD]...")
+        .next_line_help(true)
+        .after_help(VERDICT_NOTES)
+        .arg(text(alloc, "SDDL").help("The descriptor in SDDL"))?
+        .arg(text(alloc, "USER").help(USER))?
+        .arg(text(alloc, "MASK").help(MASK))?
+        .arg(text(alloc, "WORD").required(false).num_args(0..).help(WORD))
+}
+
+fn print_command<'a>(alloc: Global) -> Result<Command<'a>, AllocError> {
+    Command::new(alloc, "print")
+        .about("Prints a descriptor in canonical SDDL")
+        .override_usage("sdstore print [--] <SDDL>")
+        .after_help(PRINT_NOTES)
+        .arg(text(alloc, "SDDL").help("The descriptor in SDDL"))
+}
+
+fn to_binary_command<'a>(alloc: Global) -> Result<Command<'a>, AllocError> {
+    Command::new(alloc, "tobin")
+        .about("Prints a descriptor in self-relative form, in hexadecimal")
+        .override_usage("sdstore tobin [--] <SDDL>")
+        .after_help(TO_BINARY_NOTES)
+        .arg(text(alloc, "SDDL").help("The descriptor in SDDL"))
+}
+
+fn from_binary_command<'a>(alloc: Global) -> Result<Command<'a>, AllocError> {
+    Command::new(alloc, "frombin")
+        .about("Prints a descriptor in self-relative form as canonical SDDL")
+        .override_usage("sdstore frombin [--] <HEX>")
+        .after_help(FROM_BINARY_NOTES)
+        .arg(text(alloc, "HEX").help("The bytes of the descriptor, in hexadecimal"))
+}
+
+// An argument that takes each word as it stands.
+fn text<'a>(alloc: Global, name: &'a str) -> Arg<'a> {
+    Arg::new(alloc, name)
+        .required(true)
+        .allow_hyphen_values(true)
+}
+
+#[cfg(test)]
+mod tests;

@@ -1,0 +1,222 @@
+//! `clap` beside the reading of a command line: where both say the same, and where they don't.
+use super::*;
+use crate::command_line::{Invocation, read_command_line};
+use std::process::Abort;
+
+/// What a reading says that the words ask for.
+#[derive(Clone, Copy, Debug, PartialEq, Eq)]
+enum Kind {
+    Command,
+    Help,
+    Version,
+    Nothing,
+}
+
+fn kind_read(words: &[&str]) -> Kind {
+    match read_command_line(words) {
+        None => Kind::Nothing,
+        Some(Invocation::Help { .. }) => Kind::Help,
+        Some(Invocation::Version) => Kind::Version,
+        Some(_) => Kind::Command,
+    }
+}
+
+fn kind_by_clap<'a>(sdstore: &mut Command<'a>, words: &'a [&'a str]) -> Kind {
+    match error_on(sdstore, words) {
+        None => Kind::Command,
+        Some(error) => match error.kind() {
+            ErrorKind::DisplayHelp => Kind::Help,
+            ErrorKind::DisplayVersion => Kind::Version,
+            _ => Kind::Nothing,
+        },
+    }
+}
+
+/// Reads the words behind the program's name both ways.
+fn expect(
+    rt: &(impl Abort + AllocGlobal),
+    rows: &[&[&str]],
+    read: Kind,
+    by_clap: Kind,
+) -> Result<(), AllocError> {
+    for row in rows {
+        let mut words = Vec::new(rt.alloc());
+        words.push("sdstore")?;
+        words.extend_from_slice(row)?;
+        let mut described = sdstore(rt.alloc())?;
+        assert_eq!(rt; kind_read(words.as_slice()), read, "{row:?}");
+        assert_eq!(rt;
+            kind_by_clap(&mut described, words.as_slice()),
+            by_clap,
+            "{row:?} by clap"
+        );
+    }
+    Ok(())
+}
+
+#[test]
+fn both_read_commands(rt: HostRuntime) -> Result<(), AllocError> {
+    let rows: [&[&str]; 31] = [
+        &["verdict", "D:", "SY", "0x1"],
+        &["verdict", "D:", "SY", "0x1", "4"],
+        &["verdict", "D:", "SY", "0x1", "4", "5"],
+        &["verdict", "D:", "SY", "0x1", "4", "5", "6"],
+        &["verdict", "D:", "SY", "0x1", "4", "5", "6", "7"],
+        &["verdict", "D:", "SY", "0x1", "4", "5", "6", "7", "8"],
+        &["verdict", "D:", "SY", "0x1", "4", "5", "6", "7", "8", "9"],
+        &[
+            "verdict", "D:", "SY", "0x1", "4", "5", "6", "7", "8", "9", "10",
+        ],
+        &["verdict", "", "", ""],
+        &["verdict", "", "", "", ""],
+        &["verdict", "help", "help", "help", "help"],
+        &["verdict", "-x", "--y", "-z", "-"],
+        &["verdict", "-V", "--version", "-V"],
+        &["verdict", "D:", "SY", "0x1", "+take", "--help"],
+        &["verdict", "--", "D:", "SY", "0x1"],
+        &["verdict", "--", "-h", "SY", "0x1"],
+        &["verdict", "--", "--help", "SY", "0x1"],
+        &["verdict", "--", "--", "SY", "0x1"],
+        &["verdict", "--", "--", "--", "--", "--"],
+        &["print", "D:"],
+        &["print", ""],
+        &["print", "-"],
+        &["print", "help"],
+        &["print", "-V"],
+        &["print", "--version"],
+        &["print", "-hx"],
+        &["print", "--", "D:"],
+        &["print", "--", "-h"],
+        &["print", "--", "--"],
+        &["tobin", "--", "--help"],
+        &["frombin", "-01"],
+    ];
+    expect(&rt, &rows, Kind::Command, Kind::Command)
+}
+
+#[test]
+fn both_read_help_and_version(rt: HostRuntime) -> Result<(), AllocError> {
+    let rows: [&[&str]; 15] = [
+        &["-h"],
+        &["--help"],
+        &["help"],
+        &["help", "verdict"],
+        &["help", "print"],
+        &["help", "tobin"],
+        &["help", "frombin"],
+        &["verdict", "-h"],
+        &["verdict", "--help"],
+        &["print", "-h"],
+        &["print", "--help"],
+        &["tobin", "-h"],
+        &["tobin", "--help"],
+        &["frombin", "-h"],
+        &["frombin", "--help"],
+    ];
+    expect(&rt, &rows, Kind::Help, Kind::Help)?;
+    let rows: [&[&str]; 2] = [&["-V"], &["--version"]];
+    expect(&rt, &rows, Kind::Version, Kind::Version)
+}
+
+#[test]
+fn both_refuse_other_words(rt: HostRuntime) -> Result<(), AllocError> {
+    let rows: [&[&str]; 44] = [
+        &[],
+        &[""],
+        &["-"],
+        &["--"],
+        &["frob"],
+        &["Verdict"],
+        &["verdict "],
+        &["script"],
+        &["audit", "2"],
+        &["-x"],
+        &["--frob"],
+        &["--help="],
+        &["--help=x"],
+        &["--version=x"],
+        &["--", "help"],
+        &["--", "--help"],
+        &["--", "print", "D:"],
+        &["", "print", "D:"],
+        &["help", ""],
+        &["help", "frob"],
+        &["help", "-h"],
+        &["help", "--help"],
+        &["help", "--"],
+        &["help", "--", "print"],
+        &["help", "print", "D:"],
+        &["help", "print", "-h"],
+        &["help", "print", "print"],
+        &["verdict"],
+        &["verdict", "D:"],
+        &["verdict", "D:", "SY"],
+        &["verdict", "", ""],
+        &["verdict", "-V"],
+        &["verdict", "--"],
+        &["verdict", "--", "-h"],
+        &["verdict", "--", "D:", "SY"],
+        &["verdict", "--", "--", "SY"],
+        &["print"],
+        &["print", "--"],
+        &["print", "D:", "D:"],
+        &["print", "", ""],
+        &["print", "--", "D:", "D:"],
+        &["print", "--", "--", "D:"],
+        &["print", "--", "D:", "--"],
+        &["frombin", "00", "--version"],
+    ];
+    expect(&rt, &rows, Kind::Nothing, Kind::Nothing)
+}
+
+// A help flag among several words is an argument, and `clap` shows help.
+#[test]
+fn takes_help_flags_as_arguments(rt: HostRuntime) -> Result<(), AllocError> {
+    let rows: [&[&str]; 8] = [
+        &["verdict", "-h", "SY", "0x1"],
+        &["verdict", "--help", "SY", "0x1"],
+        &["verdict", "D:", "-h", "0x1"],
+        &["verdict", "D:", "SY", "--help"],
+        &["verdict", "D:", "SY", "0x1", "-h"],
+        &["verdict", "D:", "SY", "0x1", "--help"],
+        &["print", "-hh"],
+        &["frombin", "-hh"],
+    ];
+    expect(&rt, &rows, Kind::Command, Kind::Help)
+}
+
+// `--` is dropped only where it is the first word behind a command, and by `clap` wherever it comes first.
+#[test]
+fn takes_later_dashes_as_arguments(rt: HostRuntime) -> Result<(), AllocError> {
+    let rows: [&[&str]; 2] = [
+        &["verdict", "D:", "--", "SY"],
+        &["verdict", "D:", "SY", "--"],
+    ];
+    expect(&rt, &rows, Kind::Command, Kind::Nothing)?;
+    let rows: [&[&str]; 2] = [&["print", "D:", "--"], &["frombin", "00", "--"]];
+    expect(&rt, &rows, Kind::Nothing, Kind::Command)
+}
+
+#[test]
+fn gives_no_help_beside_other_words(rt: HostRuntime) -> Result<(), AllocError> {
+    let rows: [&[&str]; 15] = [
+        &["-h", "-h"],
+        &["-hh"],
+        &["-hV"],
+        &["--help", "print"],
+        &["-h", "print", "D:"],
+        &["help", "help"],
+        &["verdict", "-h", "SY"],
+        &["verdict", "--help", "SY"],
+        &["verdict", "D:", "-h"],
+        &["verdict", "D:", "--help"],
+        &["verdict", "-hh"],
+        &["print", "-h", "-h"],
+        &["print", "-h", "D:"],
+        &["print", "D:", "--help"],
+        &["tobin", "--help", ""],
+    ];
+    expect(&rt, &rows, Kind::Nothing, Kind::Help)?;
+    let rows: [&[&str]; 4] = [&["-V", "-V"], &["-VV"], &["-Vh"], &["--version", "x"]];
+    expect(&rt, &rows, Kind::Nothing, Kind::Version)
+}
