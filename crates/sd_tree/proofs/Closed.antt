@@ -33,7 +33,7 @@ pub record IsClosed (t : PlainTree) : Type 0 where
 kind_of_row : Row → NodeKind
 kind_of_row row = row.kind
 
-known_kind : (t : PlainTree) (path : Names) (row : Row) → row_at t path ≡ Some row → kind_at t path ≡ Some row.kind
+pub known_kind : (t : PlainTree) (path : Names) (row : Row) → row_at t path ≡ Some row → kind_at t path ≡ Some row.kind
 known_kind t path row e = ap (option_map (λ (r : Row). r.kind)) e
 
 known_row : (o : Option Row) (k : NodeKind) → option_map (λ (r : Row). r.kind) o ≡ Some k → (row : Row) × (o ≡ Some row)
@@ -180,7 +180,7 @@ closed_removed t path below none closed = record { root = still [] root_stays cl
 
 -- ---- each edit
 
-kept_when_keeping : (dacl : Option (List Ace)) (row : Row) → (keeping dacl row).kind ≡ row.kind
+pub kept_when_keeping : (dacl : Option (List Ace)) (row : Row) → (keeping dacl row).kind ≡ row.kind
 kept_when_keeping None row = refl
 kept_when_keeping (Some entries) row = refl
 

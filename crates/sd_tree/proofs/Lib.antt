@@ -4,6 +4,7 @@ pub mod Dacls
 pub mod ExplicitForm
 pub mod Journals
 pub mod Keeping
+pub mod KeptGrants
 pub mod Lists
 pub mod OrderGrants
 pub mod Ordered

@@ -1,9 +1,9 @@
 -- The entries that a node has of its own, in the tree of a lawful journal: explicit, and in order.
-use Rattle.std.proofs.Common.{◌≡◌, true, false, List, [], ◌∷◌, ◌++◌, Option, Some, None, option_map, refl, sym, ◌∙◌, ap, inl, inr}
+use Rattle.std.proofs.Common.{◌≡◌, true, false, List, [], ◌∷◌, ◌++◌, Option, Some, None, option_map, filter, refl, sym, ◌∙◌, ap, inl, inr}
 use Rattle.std.specs.List.{list_any}
 use Rattle.std.specs.FinMap as map
 use Rattle.sd_sid.specs.Mapping.{MappingValue}
-use Rattle.sd_acl.specs.Canonical.{is_inherited, deny_behind_allow, is_canonical, explicit_entries}
+use Rattle.sd_acl.specs.Canonical.{is_inherited, is_explicit, deny_behind_allow, is_canonical, explicit_entries}
 use Rattle.sd_acl.specs.declared.ace.Ace.{Ace}
 use Rattle.sd_tree.specs.Names.{Names}
 use Rattle.sd_tree.specs.Inheritance.{handed_on, dacl_under}
@@ -11,7 +11,7 @@ use Rattle.sd_tree.specs.Plain.{PlainTree, row_at, dacl_here, dacl_at}
 use Rattle.sd_tree.specs.Edits.{keeping, changed, edited}
 use Rattle.sd_tree.specs.Journal.{opened, root_row, replay, root_refusal, IsLawful}
 use Rattle.sd_tree.specs.Refusals.{early_refusal, early_tests, own_entries, list_tests, has_large_dacl}
-use Rattle.sd_tree.specs.Laws.{OwnIsExplicit, EveryListIsCanonical}
+use Rattle.sd_tree.specs.Laws.{OwnIsExplicit, ExplicitIsOwn, EveryListIsCanonical}
 use Rattle.sd_tree.specs.declared.node.Row.{Row}
 use Rattle.sd_tree.specs.declared.node.NodeDacl.{NodeDacl}
 use Rattle.sd_tree.specs.declared.node.NodeDacl.TheVariants.{Null, List as Entries}
@@ -23,7 +23,7 @@ use Rattle.sd_tree.proofs.Rows.{same_or_other, row_at-empty, row_at-insert_same,
 use Rattle.sd_tree.proofs.Refused.{none_fits, not_refused}
 use Rattle.sd_tree.proofs.Journals.{holds_of_lawful}
 use Rattle.sd_tree.proofs.Dacls.{dacl_over, dacl_at_here}
-use Rattle.sd_tree.proofs.Ordered.{canonical_parts, ordered_canonical, kept_explicit}
+use Rattle.sd_tree.proofs.Ordered.{canonical_parts, explicit_front, ordered_canonical, kept_explicit}
 use Rattle.sd_tree.proofs.Copies.{inherited_is_told}
 
 pub record IsSound (dacl : NodeDacl) : Type 0 where
@@ -112,6 +112,20 @@ canonical_here : (g : MappingValue) (o : Option Row) (above : Option (List Ace))
     → dacl_here g o above ≡ Some entries → is_canonical entries ≡ true
 canonical_here g None above entries sound e = absurd cc
 canonical_here g (Some row) above entries sound e = canonical_under g row row.dacl above entries (sound row refl) e
+
+explicit_under : (g : MappingValue) (row : Row) (dacl : NodeDacl) (above : Option (List Ace)) (entries : List Ace) → IsSound dacl
+    → dacl_under g row dacl above ≡ Some entries → filter is_explicit entries ≡ own_entries dacl
+explicit_under g row Null above entries sound e = absurd cc
+explicit_under g row (Entries true own) above entries sound e =
+    ap (filter is_explicit) (sym (inside _ _ e)) ∙ explicit_front own [] sound.explicit refl
+explicit_under g row (Entries false own) above entries sound e =
+    ap (filter is_explicit) (sym (inside _ _ e)) ∙ explicit_front own (handed_on g row above) sound.explicit (inherited_is_told g row above)
+
+pub explicit_is_own : ExplicitIsOwn
+explicit_is_own o journal path row entries fits lawful there e =
+    let t = replay o journal in
+    explicit_under o.mapping row row.dacl (dacl_over o.mapping t path) entries (sound_replay o journal fits lawful path row there)
+    (sym (dacl_at_here o.mapping t path ∙ ap (λ r. dacl_here o.mapping r (dacl_over o.mapping t path)) there) ∙ e)
 
 pub every_list_is_canonical : EveryListIsCanonical
 every_list_is_canonical o journal path entries fits lawful e =

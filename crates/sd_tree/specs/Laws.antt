@@ -1,6 +1,7 @@
 -- What follows from the rules of the tree, as laws over all trees, edits, tokens and requests.
-use Rattle.std.specs.Prelude.{◌≡◌, ℕ, Bool, true, false, ◌||◌, List, [], Option, Some, None}
+use Rattle.std.specs.Prelude.{◌≡◌, ℕ, Bool, true, false, ◌||◌, List, [], Option, Some, None, filter}
 use Rattle.std.specs.List.{list_any, flat_map}
+use Rattle.sd_sid.specs.Mask.{holds}
 use Rattle.sd_sid.specs.Mapping.{MappingValue}
 use Rattle.sd_sid.specs.Sid.{SidValue}
 use Rattle.sd_acl.specs.Ace.{is_inherit_only}
@@ -8,6 +9,7 @@ use Rattle.sd_acl.specs.Canonical.{is_inherited, is_explicit, is_canonical, cano
 use Rattle.sd_acl.specs.Verdict.{acl_grants, limits_owner}
 use Rattle.sd_acl.specs.declared.ace.Ace.{Ace}
 use Rattle.sd_acl.specs.declared.ace.AceKind.{AceKind}
+use Rattle.sd_acl.specs.declared.verdict.Verdict.TheVariants.{Granted}
 use Rattle.sd_check.specs.Token.{TokenValue}
 use Rattle.sd_check.specs.Check.{is_granted}
 use Rattle.sd_tree.specs.Names.{Names, is_within}
@@ -15,13 +17,14 @@ use Rattle.sd_tree.specs.Inheritance.{object_inherit, container_inherit, no_prop
 use Rattle.sd_tree.specs.Descriptors.{is_protected}
 use Rattle.sd_tree.specs.Plain.{PlainTree, row_at, dacl_at}
 use Rattle.sd_tree.specs.Edits.{edited}
-use Rattle.sd_tree.specs.Answers.{descriptor_at}
+use Rattle.sd_tree.specs.Answers.{descriptor_at, reply_in}
 use Rattle.sd_tree.specs.Journal.{replay, root_refusal, IsLawful}
 use Rattle.sd_tree.specs.Refusals.{own_entries}
 use Rattle.sd_tree.specs.declared.node.Row.{Row}
 use Rattle.sd_tree.specs.declared.node.NodeKind.{NodeKind}
 use Rattle.sd_tree.specs.declared.node.NodeKind.TheVariants.{Object}
 use Rattle.sd_tree.specs.declared.opening.Opening.{Opening}
+use Rattle.sd_tree.specs.declared.tree.CheckReply.TheVariants.{Verdict}
 use Rattle.sd_tree.specs.declared.edit.Edit.{Edit}
 use Rattle.sd_tree.specs.declared.edit.Edit.TheVariants.{AddContainer, AddObject, SetOwner, SetGroup, SetDacl, Remove, ProtectKeeping}
 
@@ -84,6 +87,14 @@ OwnIsExplicit =
     → root_refusal opening ≡ None → IsLawful opening journal
     → row_at (replay opening journal) path ≡ Some row → list_any is_inherited (own_entries row.dacl) ≡ false
 
+-- what a node's DACL has without it is what the node has of its own
+abbrev pub ExplicitIsOwn : Type 0
+ExplicitIsOwn =
+    (opening : Opening) (journal : List Edit) (path : Names) (row : Row) (entries : List Ace)
+    → root_refusal opening ≡ None → IsLawful opening journal
+    → row_at (replay opening journal) path ≡ Some row → dacl_at opening.mapping (replay opening journal) path ≡ Some entries
+    → filter is_explicit entries ≡ own_entries row.dacl
+
 -- ---- the order of entries
 
 abbrev pub EveryListIsCanonical : Type 0
@@ -114,3 +125,11 @@ abbrev pub KeepingLetsNobodyIn : Type 0
 KeepingLetsNobodyIn =
     (g : MappingValue) (t : PlainTree) (protected path : Names) (token : TokenValue) (b : ℕ)
     → is_granted_at g (edited g t (ProtectKeeping protected)) path token b ≡ true → is_granted_at g t path token b ≡ true
+
+-- and a request without MAXIMUM_ALLOWED, place 25, that a check grants afterwards, it granted before
+abbrev pub KeptGrantWasGiven : Type 0
+KeptGrantWasGiven =
+    (g : MappingValue) (t : PlainTree) (protected path : Names) (token : TokenValue) (asked m : ℕ)
+    → holds asked 25 ≡ false
+    → reply_in g (edited g t (ProtectKeeping protected)) path token asked ≡ Verdict (Granted m)
+    → reply_in g t path token asked ≡ Verdict (Granted m)

@@ -1,6 +1,6 @@
 //! What follows from the rules of the tree. Each law is the contract of a function that does nothing.
 
-ghost use Rattle.sd_tree.specs.Laws.{EditStaysBelow, ProtectedStandsAlone, StaysAtItsNode, GoesOneLevelDown, NothingWaitsInAnObject, InheritedIsTold, OwnIsExplicit, EveryListIsCanonical, OrderGrantsNothing, OrderKeepsOwnersLimit, KeepingLetsNobodyIn};
+ghost use Rattle.sd_tree.specs.Laws.{EditStaysBelow, ProtectedStandsAlone, StaysAtItsNode, GoesOneLevelDown, NothingWaitsInAnObject, InheritedIsTold, OwnIsExplicit, ExplicitIsOwn, EveryListIsCanonical, OrderGrantsNothing, OrderKeepsOwnersLimit, KeepingLetsNobodyIn, KeptGrantWasGiven};
 
 /// An edit changes the descriptor of no node but the edited one and those below it.
 pub fn edit_stays_below()
@@ -29,11 +29,12 @@ pub fn nothing_waits_in_an_object()
     ensures { NothingWaitsInAnObject }
 {}
 
-/// Each entry that a node inherits has the flag ID, and after a lawful journal no entry of a node's own has it
-/// ([MS-DTYP] 2.4.4.1, INHERITED_ACE).
+/// Each entry that a node inherits has the flag ID, and after a lawful journal no entry of a node's own has it: what
+/// its DACL has without the flag is what the node has of its own ([MS-DTYP] 2.4.4.1, INHERITED_ACE).
 pub fn inherited_entry_is_told()
     ensures inherited { InheritedIsTold }
     ensures own { OwnIsExplicit }
+    ensures explicit { ExplicitIsOwn }
 {}
 
 /// After a lawful journal each node's DACL is in canonical order: the explicit entries stand before the inherited
@@ -50,7 +51,9 @@ pub fn order_grants_nothing()
 {}
 
 /// Protecting a node with what it had inherited can lock out and never lets in: a bit that is granted afterwards,
-/// at the node, below it or anywhere else, was granted before, to each token.
+/// at the node, below it or anywhere else, was granted before, to each token, and so was a request that a check
+/// grants as it was asked for.
 pub fn keeping_lets_nobody_in()
-    ensures { KeepingLetsNobodyIn }
+    ensures bits { KeepingLetsNobodyIn }
+    ensures requests { KeptGrantWasGiven }
 {}
