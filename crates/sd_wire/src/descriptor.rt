@@ -80,7 +80,7 @@ fn read_dacl(alloc: Global, bytes: &[u8], offset: usize) -> Result<Dacl, WireErr
 
 /// The one written form of a descriptor ([MS-DTYP] 2.4.6): the header, the owner, the group and the DACL, each right
 /// behind the last one that is there; list revision 2, and no flag bit 0x20. Memory is taken once, for `wire_len` bytes.
-#[tactic(auto, unfolding(crate::specs::Writing::wire_of), using(crate::proofs::Lengths::length_of_wire, crate::proofs::Lengths::length_of_header))]
+#[tactic(auto, unfolding(crate::specs::Writing::wire_of), using(crate::proofs::Lengths::length_of_wire))]
 pub fn write_descriptor(alloc: Global, descriptor: &Descriptor) -> Result<Vec<u8>, AllocError>
     ensures { IfOk result (λ bytes. bytes.items ≡ wire_of (descriptor_of descriptor.now)) }
 {

@@ -88,7 +88,6 @@ pub(crate) fn push_list(bytes: &mut Vec<u8>, list: &AceList)
 }
 
 /// Writes entries, one behind the other.
-#[tactic(auto, using(crate::proofs::Lengths::length_of_entry))]
 fn push_entries(bytes: &mut Vec<u8>, entries: &[Ace])
     requires { vec_len bytes.old + sum_by ace_size entries.now ≤ vec_capacity bytes.old }
     ensures items { bytes.new.items ≡ bytes.old.items ++ flat_map entry_bytes entries.now }
