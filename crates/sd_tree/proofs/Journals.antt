@@ -41,9 +41,6 @@ get_last xs x =
 take_whole : {X : Type 0} (xs : List X) (x : X) → take (length xs) (xs ++ x ∷ []) ≡ xs
 take_whole xs x = take-append_seam xs (x ∷ [])
 
-inside : {X : Type 0} (x y : X) → Some x ≡ Some y → x ≡ y
-inside x y e = cc
-
 -- ---- lawful journals
 
 pub lawful_none : (o : Opening) → IsLawful o []
@@ -56,9 +53,10 @@ lawful_push o journal e lawful fits k edit h =
     elim (cases_order k (length journal)) [
       | inl last ↦
           let is : Some edit ≡ Some e = sym h ∙ ap (slice_get (journal ++ e ∷ [])) last ∙ get_last journal e in
+          let same : edit ≡ e = cc in
           ap (λ n. refusal o (take n (journal ++ e ∷ [])) edit) last
           ∙ ap (λ es. refusal o es edit) (take_whole journal e)
-          ∙ ap (refusal o journal) (inside edit e is) ∙ fits
+          ∙ ap (refusal o journal) same ∙ fits
       | inr other ↦ elim other [
         | inl before ↦
             ap (λ es. refusal o es edit) (take-append-le k journal (e ∷ []) (omega arith))

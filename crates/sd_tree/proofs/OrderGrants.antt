@@ -3,7 +3,8 @@ use Rattle.std.proofs.Common.{◌≡◌, Bool, true, false, not, ◌&&◌, ◌||
 use Rattle.std.specs.List.{list_any}
 use Rattle.std.specs.Option.{option_or}
 use Rattle.std.proofs.lemmas.Bool.{cases_Bool, and_parts, and_from, false≢true}
-use Rattle.std.proofs.lemmas.List.Folds.{list_any-append}
+use Rattle.std.proofs.Math.Bool.{or_assoc}
+use Rattle.std.proofs.lemmas.List.Folds.{list_any-append, find-append}
 use Rattle.sd_sid.specs.Sid.{same_sid, owner_rights}
 use Rattle.sd_acl.specs.Ace.{is_inherit_only}
 use Rattle.sd_acl.specs.Canonical.{allows, denies, canonical_order}
@@ -19,14 +20,6 @@ module _ (p : Ace → Bool) where
 
   passed_over : (e : Ace) (es : List Ace) → p e ≡ false → find p (e ∷ es) ≡ find p es
   passed_over e es h = rw h refl
-
-  -- of two lists, one behind the other
-  find-append : (es fs : List Ace) → find p (es ++ fs) ≡ option_or (find p es) (find p fs)
-  find-append [] fs = refl
-  find-append (e ∷ es) fs = elim (cases_Bool (p e)) [
-    | inl here ↦ found e (es ++ fs) here ∙ sym (ap (λ o. option_or o (find p fs)) (found e es here))
-    | inr later ↦ passed_over e (es ++ fs) later ∙ find-append es fs ∙ sym (ap (λ o. option_or o (find p fs)) (passed_over e es later))
-  ]
 
   -- among denies none is found that allows
   no_deny_allows : (es : List Ace) → is_allowed_by (find p (filter denies es)) ≡ false
@@ -61,7 +54,7 @@ module _ (p : Ace → Bool) where
   -- what allows in the canonical order allows in the list's own
   pub allowed_before : (es : List Ace) → is_allowed_by (find p (canonical_order es)) ≡ true → is_allowed_by (find p es) ≡ true
   allowed_before es h =
-      let split = find-append (filter denies es) (filter allows es) in
+      let split = find-append p (filter denies es) (filter allows es) in
       let h2 : is_allowed_by (option_or (find p (filter denies es)) (find p (filter allows es))) ≡ true = ap is_allowed_by (sym split) ∙ h in
       let none = none_or_deny (find p (filter denies es)) (find p (filter allows es)) (no_deny_allows es) h2 in
       ap is_allowed_by (sym (found_among_allows es none))
@@ -74,8 +67,8 @@ module _ (p : Ace → Bool) where
   -- and so behind a list that stays as it is
   pub allowed_behind : (front es : List Ace) → is_allowed_by (find p (front ++ canonical_order es)) ≡ true → is_allowed_by (find p (front ++ es)) ≡ true
   allowed_behind front es h =
-      ap is_allowed_by (find-append front es)
-      ∙ or_later (find p front) (find p (canonical_order es)) (find p es) (allowed_before es) (ap is_allowed_by (sym (find-append front (canonical_order es))) ∙ h)
+      ap is_allowed_by (find-append p front es)
+      ∙ or_later (find p front) (find p (canonical_order es)) (find p es) (allowed_before es) (ap is_allowed_by (sym (find-append p front (canonical_order es))) ∙ h)
 
 -- ---- tests of the whole list
 
@@ -83,10 +76,6 @@ swapped : (a b c : Bool) → (a || (b || c)) ≡ (b || (a || c))
 swapped true true c = refl
 swapped true false c = refl
 swapped false b c = refl
-
-or_assoc : (a b c : Bool) → ((a || b) || c) ≡ (a || (b || c))
-or_assoc true b c = refl
-or_assoc false b c = refl
 
 pub any_canonical : (p : Ace → Bool) (es : List Ace) → list_any p (canonical_order es) ≡ list_any p es
 any_canonical p es = list_any-append p (filter denies es) (filter allows es) ∙ both es
