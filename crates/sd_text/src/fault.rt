@@ -64,9 +64,9 @@ impl TextFault {
 }
 
 /// Why a text was not read: its first fault and the byte at which it stands, counted from 0, or want of memory.
-#[derive(Debug, Drop, Error)]
+#[derive(Clone, Copy, Debug, PartialEq, Eq, Error)]
 pub enum TextError {
-    #[error("{fault:?} at {place}")]
+    #[error("{} at {place}", .fault.name())]
     Fault { fault: TextFault, place: u64 },
     #[error("out of memory")]
     Memory,
@@ -89,7 +89,7 @@ impl<T: Drop> From<AllocFailed<T>> for TextError {
 }
 
 /// Why a reader stopped: at a fault, where its cursor stands, or for want of memory.
-#[derive(Debug, Drop)]
+#[derive(Clone, Copy, Debug)]
 pub(crate) enum Stop {
     Fault(TextFault),
     Memory,
