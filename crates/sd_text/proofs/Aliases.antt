@@ -2,7 +2,7 @@
 use Rattle.std.proofs.Common.{◌≡◌, ℕ, List, Some, subst, None, Ok, refl}
 use Rattle.sd_text.specs.declared.alias.WellKnown.{WellKnown}
 use Rattle.sd_text.specs.Grammar.{Grammar, Name, named, one_of}
-use Rattle.sd_text.specs.Reading.{find}
+use Rattle.sd_text.specs.Finding.{find}
 use Rattle.sd_text.specs.Alias.{aliases}
 use Rattle.sd_text.specs.Names.{renamed, well_known}
 use Rattle.sd_text.specs.Sid.{no_alias}

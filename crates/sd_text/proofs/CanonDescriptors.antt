@@ -14,7 +14,7 @@ use Rattle.sd_text.specs.declared.descriptor.DaclWord.TheVariants.{Protected, Au
 use Rattle.sd_text.specs.declared.descriptor.DaclWords.{DaclWords}
 use Rattle.sd_text.specs.declared.descriptor.DaclPart.{DaclPart}
 use Rattle.sd_text.specs.Grammar.{begins, named}
-use Rattle.sd_text.specs.Reading.{find}
+use Rattle.sd_text.specs.Finding.{find}
 use Rattle.sd_text.specs.Rights.{mask_text, rights}
 use Rattle.sd_text.specs.Sid.{sid_text, sid}
 use Rattle.sd_text.specs.Sddl.{sid_section, dacl_words, no_words, with_word, words, dacl_behind, dacl_section, no_sacl, sections, sddl}

@@ -10,7 +10,7 @@ use Rattle.sd_acl.specs.Descriptor.{IsAce, HasNamedFlags}
 use Rattle.sd_acl.specs.declared.ace.Ace.{Ace}
 use Rattle.sd_acl.specs.declared.ace.AceKind.{AceKind}
 use Rattle.sd_acl.specs.declared.ace.AceKind.TheVariants.{Allow, Deny}
-use Rattle.sd_text.specs.Reading.{find}
+use Rattle.sd_text.specs.Finding.{find}
 use Rattle.sd_text.specs.Entry.{kind, guid, entry, entry_end, entries}
 use Rattle.sd_text.specs.Canon.{kind_canon, flags_canon, rights_canon, sid_canon, entry_canon}
 use Rattle.sd_text.proofs.Entries.{EntriesReach, entries_start, entries_more, entries_end}

@@ -2,15 +2,16 @@
 use Rattle.std.proofs.Common.{◌≡◌, ℕ, zero, suc, ◌^◌, ◌<◌, Bool, true, false, cond, List, [], ◌∷◌, ◌++◌, Option, Some, None, Ok, refl, arith, sym, append_assoc, inl, inr}
 use Rattle.std.specs.Prelude.{codes, unwrap_or, ◌==◌, ◌&&◌, bit_and, bit_or, fold}
 use Rattle.std.specs.List.{flat_map, AllByRecursion}
-use Rattle.std.proofs.lemmas.Bool.{eqb-true, eq-eqb, cases_lt}
+use Rattle.std.proofs.lemmas.Bool.{eqb-true, eq-eqb, cases_lt, and_parts}
 use Rattle.std.proofs.lemmas.Fmt.{digits_is_IsNumeral}
+use Rattle.sd_acl.specs.Ace.{all_named}
 use Rattle.sd_text.specs.Grammar.{Name, begins_digit, named}
-use Rattle.sd_text.specs.Reading.{find}
+use Rattle.sd_text.specs.Finding.{find}
 use Rattle.sd_text.specs.Rights.{right_names, bits_of, mask_number, rights}
 use Rattle.sd_text.specs.Entry.{flag_names}
 use Rattle.sd_text.specs.Canon.{hex, printed_rights, name_in, rights_canon, flag_canon, flags_canon}
-use Rattle.sd_text.proofs.Parts.{went, chosen, both_hold}
-use Rattle.sd_text.proofs.Tables.{IsTogether, run_start, run_more, run_end}
+use Rattle.sd_text.proofs.Parts.{went}
+use Rattle.sd_text.proofs.Tables.{IsTogether, run_start, run_more, run_end, right_row}
 use Rattle.sd_text.proofs.CanonSids.{number_read}
 
 -- ---- masks
@@ -22,18 +23,6 @@ right_rows : AllByRecursion RightReads printed_rights
 unfolding printed_rights RightReads
 right_rows = (λ rest. (refl, refl), (λ rest. (refl, refl), (λ rest. (refl, refl), (λ rest. (refl, refl), (λ rest. (refl, refl), (λ rest. (refl, refl), (λ rest. (refl, refl), (λ rest. (refl, refl), (λ rest. (refl, refl), (λ rest. (refl, refl), (λ rest. (refl, refl), (λ rest. (refl, refl), (λ rest. (refl, refl), (λ rest. (refl, refl), (λ rest. (refl, refl), tt)))))))))))))))
 
-right_row : (names : List (Name ℕ)) (mask : ℕ) (letters : List ℕ) → AllByRecursion RightReads names → name_in names mask ≡ Some letters → (name : Name ℕ) × RightReads name × (name.letters ≡ letters) × (name.stands_for ≡ mask)
-unfolding name_in
-right_row [] mask letters all e = absurd cc
-right_row (name ∷ names) mask letters all e =
-    elim (chosen (name.stands_for == mask) _ _ _ e) [
-      | inl h ↦ (name, all.0, is_same name.letters letters h.1, eqb-true name.stands_for mask h.0)
-      | inr h ↦ right_row names mask letters all.1 h.1
-    ]
-  where
-    is_same : (a b : List ℕ) → ◌≡◌ {A = Option (List ℕ)} (Some a) (Some b) → a ≡ b
-    is_same a b same = cc
-
 one_name : (mask : ℕ) (text rest : List ℕ) → named right_names text ≡ Some (mask, rest) → named right_names rest ≡ None → find (bits_of right_names) text ≡ Ok (mask, rest)
 unfolding bits_of
 one_name mask text rest one none = run_end right_names bit_or 0 text mask rest (run_more right_names bit_or 0 text 0 text mask rest (run_start right_names bit_or 0 text) one) none
@@ -41,7 +30,7 @@ one_name mask text rest one none = run_end right_names bit_or 0 text mask rest (
 name_read : (mask : ℕ) (letters rest : List ℕ) → named right_names rest ≡ None → name_in printed_rights mask ≡ Some letters → find rights (letters ++ rest) ≡ Ok (mask, rest)
 unfolding rights RightReads
 name_read mask letters rest none e =
-    let row = right_row printed_rights mask letters right_rows e in
+    let row = right_row RightReads printed_rights mask letters right_rows e in
     let reads = row.1 rest in
     rw (sym row.2, reads.0, one_name row.0.stands_for (row.0.letters ++ rest) rest reads.1 none, row.3) refl
 
@@ -84,7 +73,7 @@ flags_reach flags (name ∷ names) start sum rest all so_far =
 
 -- the bits of the names that are set are the flags, where there are no others: each of the 256 is tried
 comes_back : ℕ → Bool
-comes_back flags = cond (bit_and flags 0xDF == flags) (fold (with_flag flags) 0 flag_names == flags) true
+comes_back flags = cond (bit_and flags all_named == flags) (fold (with_flag flags) 0 flag_names == flags) true
 
 all_below : (ℕ → Bool) → ℕ → Bool
 all_below p zero = true
@@ -94,20 +83,20 @@ each_below : (p : ℕ → Bool) (n k : ℕ) → all_below p n ≡ true → k < n
 unfolding all_below
 each_below p zero k all lt = absurd (omega arith)
 each_below p (suc n) k all lt =
-    let both = both_hold (p n) (all_below p n) all in
+    let both = and_parts (p n) (all_below p n) all in
     elim (cases_lt k n) [ inl below ↦ each_below p n k both.1 below | inr above ↦ let same : n ≡ k = omega arith in rw (sym same) both.0 ]
 
 tried : all_below comes_back 256 ≡ true
 unfolding all_below comes_back with_flag
 tried = refl
 
-flags_come_back : (flags : ℕ) → flags < 256 → bit_and flags 0xDF ≡ flags → fold (with_flag flags) 0 flag_names ≡ flags
+flags_come_back : (flags : ℕ) → flags < 256 → bit_and flags all_named ≡ flags → fold (with_flag flags) 0 flag_names ≡ flags
 unfolding comes_back
 flags_come_back flags lt named_only =
     let test = each_below comes_back 256 flags tried lt in
-    eqb-true (fold (with_flag flags) 0 flag_names) flags (rw (eq-eqb (bit_and flags 0xDF) flags named_only) at test)
+    eqb-true (fold (with_flag flags) 0 flag_names) flags (rw (eq-eqb (bit_and flags all_named) flags named_only) at test)
 
-pub flags_read : (flags : ℕ) (rest : List ℕ) → flags < 256 → bit_and flags 0xDF ≡ flags → named flag_names rest ≡ None → find (bits_of flag_names) (flags_canon flags ++ rest) ≡ Ok (flags, rest)
+pub flags_read : (flags : ℕ) (rest : List ℕ) → flags < 256 → bit_and flags all_named ≡ flags → named flag_names rest ≡ None → find (bits_of flag_names) (flags_canon flags ++ rest) ≡ Ok (flags, rest)
 unfolding bits_of flags_canon
 flags_read flags rest lt named_only none =
     let start = flat_map (flag_canon flags) flag_names ++ rest in

@@ -1,6 +1,6 @@
 -- The printed text of a SID is read as the SID.
-use Rattle.std.proofs.Common.{◌≡◌, ℕ, zero, suc, ◌+◌, ◌-◌, ◌^◌, ◌<◌, ◌≤◌, Bool, true, false, List, [], ◌∷◌, ◌++◌, length, drop, replicate, Option, Some, None, Ok, refl, arith, lit<, ap, sym, subst, ◌∙◌, append_assoc, inl, inr}
-use Rattle.std.specs.Prelude.{codes, nat_lt, unwrap_or, ◌&&◌}
+use Rattle.std.proofs.Common.{◌≡◌, ℕ, zero, suc, ◌+◌, ◌-◌, ◌^◌, ◌<◌, ◌≤◌, false, List, [], ◌∷◌, ◌++◌, length, drop, replicate, Option, Some, None, Ok, rules, refl, arith, lit<, ap, sym, subst, ◌∙◌, append_assoc, inl, inr}
+use Rattle.std.specs.Prelude.{codes, nat_lt, unwrap_or}
 use Rattle.std.specs.List.{flat_map, All, AllByRecursion}
 use Rattle.std.specs.Char.{digit_value, eq_ignore_ascii_case}
 use Rattle.std.specs.Str.Parse.{IsNumeral, AllDigits, digits_value}
@@ -8,19 +8,19 @@ use Rattle.std.specs.Fmt.{decimal}
 use Rattle.std.proofs.lemmas.Grind.{common_steps}
 use Rattle.std.proofs.lemmas.Bool.Decides.{nat_tests}
 use Rattle.std.proofs.lemmas.Bool.{lt-ltb}
+use Rattle.std.proofs.Math.Bool.{and-false}
 use Rattle.std.proofs.lemmas.Fmt.{decimal_is_IsNumeral, digits_is_IsNumeral}
 use Rattle.std.proofs.lemmas.List.{append-nil}
 use Rattle.std.proofs.lemmas.List.Elements.{All-head, All-tail}
 use Rattle.sd_sid.specs.Sid.{SidValue, IsSid}
 use Rattle.sd_text.specs.Grammar.{Name, number, begins, begins_digit, named}
-use Rattle.sd_text.specs.Reading.{find}
-use Rattle.sd_sid.specs.Sid.{same_sid}
-use Rattle.sd_sid.proofs.Compared.{same_sid-true}
+use Rattle.sd_text.specs.Finding.{find}
 use Rattle.sd_text.specs.Alias.{aliases, alias_in}
 use Rattle.sd_text.specs.Sid.{sub, subs_of, authority, sid}
 use Rattle.sd_text.specs.Canon.{hex, authority_canon, sub_canon, full_canon, sid_canon}
-use Rattle.sd_text.proofs.Parts.{went, chosen}
+use Rattle.sd_text.proofs.Parts.{went}
 use Rattle.sd_text.proofs.Engine.{spells_find}
+use Rattle.sd_text.proofs.Tables.{alias_row}
 use Rattle.sd_text.proofs.Sids.{SubsReach, subs_start, subs_more, subs_end}
 
 -- what may stand behind a SID
@@ -72,16 +72,8 @@ not_x d lt = grind (arith, nat_tests)
 
 no_head : (ds tail : List ℕ) → IsNumeral 10 ds → begins (ds ++ 45 ∷ tail) (codes "0X") ≡ false
 no_head [] tail n = absurd (let some = n.0 in omega arith)
-no_head (d ∷ []) tail n = and_no (eq_ignore_ascii_case d 48)
-  where
-    and_no : (b : Bool) → (b && false) ≡ false
-    and_no true = refl
-    and_no false = refl
-no_head (d ∷ e ∷ ds) tail n = rw (not_x e n.1.1.0) (and_no (eq_ignore_ascii_case d 48))
-  where
-    and_no : (b : Bool) → (b && false) ≡ false
-    and_no true = refl
-    and_no false = refl
+no_head (d ∷ []) tail n = and-false (eq_ignore_ascii_case d 48)
+no_head (d ∷ e ∷ ds) tail n = rw (not_x e n.1.1.0) (and-false (eq_ignore_ascii_case d 48))
 
 -- leading zeros change nothing
 zeros_digits : (k : ℕ) (ds : List ℕ) → AllDigits 16 ds → AllDigits 16 (replicate k 48 ++ ds)
@@ -123,27 +115,12 @@ AliasReads name = (rest : List ℕ) → (begins (name.letters ++ rest) (codes "S
 
 alias_rows : AllByRecursion AliasReads aliases
 unfolding aliases AliasReads
-alias_rows = (λ rest. (refl, refl), (λ rest. (refl, refl), (λ rest. (refl, refl), (λ rest. (refl, refl), (λ rest. (refl, refl), (λ rest. (refl, refl), (λ rest. (refl, refl), (λ rest. (refl, refl), (λ rest. (refl, refl), (λ rest. (refl, refl), (λ rest. (refl, refl), (λ rest. (refl, refl), (λ rest. (refl, refl), (λ rest. (refl, refl), (λ rest. (refl, refl), (λ rest. (refl, refl), (λ rest. (refl, refl), (λ rest. (refl, refl), (λ rest. (refl, refl), (λ rest. (refl, refl), (λ rest. (refl, refl), (λ rest. (refl, refl), (λ rest. (refl, refl), (λ rest. (refl, refl), (λ rest. (refl, refl), (λ rest. (refl, refl), (λ rest. (refl, refl), (λ rest. (refl, refl), (λ rest. (refl, refl), (λ rest. (refl, refl), (λ rest. (refl, refl), (λ rest. (refl, refl), (λ rest. (refl, refl), (λ rest. (refl, refl), tt))))))))))))))))))))))))))))))))))
-
-alias_row : (names : List (Name SidValue)) (s : SidValue) (letters : List ℕ) → AllByRecursion AliasReads names → alias_in names s ≡ Some letters → (name : Name SidValue) × AliasReads name × (name.letters ≡ letters) × (name.stands_for ≡ s)
-unfolding alias_in
-alias_row [] s letters all e = absurd cc
-alias_row (name ∷ names) s letters all e =
-    elim (chosen (same_sid name.stands_for s) _ _ _ e) [
-      | inl h ↦ (name, all.0, is_same name.letters letters h.1, same_sid-true name.stands_for s h.0)
-      | inr h ↦ alias_row names s letters all.1 h.1
-    ]
-  where
-    some_letters : List ℕ → Option (List ℕ)
-    some_letters xs = Some xs
-
-    is_same : (a b : List ℕ) → ◌≡◌ {A = Option (List ℕ)} (Some a) (Some b) → a ≡ b
-    is_same a b same = cc
+alias_rows = search rules
 
 alias_read : (s : SidValue) (letters rest : List ℕ) → alias_in aliases s ≡ Some letters → find sid (letters ++ rest) ≡ Ok (s, rest)
 unfolding sid AliasReads
 alias_read s letters rest e =
-    let row = alias_row aliases s letters alias_rows e in
+    let row = alias_row AliasReads aliases s letters alias_rows e in
     let reads = row.1 rest in
     rw (sym row.2, reads.0, reads.1, row.3) refl
 

@@ -2,13 +2,13 @@
 use Rattle.std.proofs.Common.{◌≡◌, ℕ, zero, suc, ◌+◌, ◌-◌, ◌<◌, ◌≤◌, ◌⊎◌, inl, inr, true, false, List, [], ◌∷◌, ◌++◌, length, drop, take, Some, None, Ok, Err, refl, arith, ap, sym, ◌∙◌, append_assoc}
 use Rattle.std.specs.Prelude.{nat_lt, not, ◌==◌, IsOk}
 use Rattle.std.specs.Str.Parse.{digits_value}
-use Rattle.std.proofs.lemmas.Bool.{ltb-true, ltb-false, lt-ltb, le-ltb, eqb-true}
+use Rattle.std.proofs.lemmas.Bool.{not-true, not-false, ltb-true, ltb-false, lt-ltb, le-ltb, eqb-true}
 use Rattle.std.proofs.lemmas.List.{append-nil, length-drop}
 use Rattle.sd_text.specs.declared.fault.TextFault.{TextFault}
 use Rattle.sd_text.specs.declared.fault.TextFault.TheVariants.{Syntax, Range}
 use Rattle.sd_text.specs.Grammar.{Grammar, Name, value, refused, choose, and_then, word, number, one_of, many, begins, begins_digit, named, Items, spells, faults, Spells, BeginsWith, HasFault, end, whole, ◌>>=◌}
-use Rattle.sd_text.specs.Reading.{Found, digits_len, find_number, find_items, find}
-use Rattle.sd_text.proofs.Parts.{chosen, not_holds, not_fails, part_ok, part_err, name_gave, found, found_is, stopped, stopped_is, named_takes, named_none}
+use Rattle.sd_text.specs.Finding.{Found, digits_len, find_number, find_items, find}
+use Rattle.sd_text.proofs.Parts.{chosen, part_ok, part_err, name_gave, found, found_is, stopped, stopped_is, named_takes, named_none}
 use Rattle.sd_text.proofs.Runs.{run_of, run_digits, run_behind, run_begins}
 
 -- ---- items
@@ -104,7 +104,7 @@ number_ok radix limit len run text n behind e =
       | inl h ↦ absurd (let no : stopped Syntax run ≡ Ok (n, behind) = h.1 in cc)
       | inr h ↦
           elim (chosen (nat_lt (digits_value radix (take len run)) limit) _ _ _ h.1) [
-            | inl k ↦ let p = found_is (digits_value radix (take len run)) n (drop len run) behind k.1 in (not_fails _ h.0, ltb-true _ _ k.0, p.0, p.1)
+            | inl k ↦ let p = found_is (digits_value radix (take len run)) n (drop len run) behind k.1 in (not-false _ h.0, ltb-true _ _ k.0, p.0, p.1)
             | inr k ↦ absurd (let no : stopped Range text ≡ Ok (n, behind) = k.1 in cc)
           ]
     ]
@@ -112,11 +112,11 @@ number_ok radix limit len run text n behind e =
 number_err : (radix limit len : ℕ) (run text : List ℕ) (f : TextFault) (there : List ℕ) → find_number radix limit len run text ≡ Err (f, there) → ((f ≡ Syntax) × (there ≡ run) × (begins_digit radix run ≡ false)) ⊎ ((f ≡ Range) × (there ≡ text) × (begins_digit radix run ≡ true) × (limit ≤ digits_value radix (take len run)))
 number_err radix limit len run text f there e =
     elim (chosen (not (begins_digit radix run)) _ _ _ e) [
-      | inl h ↦ let p = stopped_is {A = ℕ} Syntax f run there h.1 in inl (sym p.0, sym p.1, not_holds _ h.0)
+      | inl h ↦ let p = stopped_is {A = ℕ} Syntax f run there h.1 in inl (sym p.0, sym p.1, not-true _ h.0)
       | inr h ↦
           elim (chosen (nat_lt (digits_value radix (take len run)) limit) _ _ _ h.1) [
             | inl k ↦ absurd (let no : found (digits_value radix (take len run)) (drop len run) ≡ Err (f, there) = k.1 in cc)
-            | inr k ↦ let p = stopped_is {A = ℕ} Range f text there k.1 in inr (sym p.0, sym p.1, not_fails _ h.0, ltb-false _ _ k.0)
+            | inr k ↦ let p = stopped_is {A = ℕ} Range f text there k.1 in inr (sym p.0, sym p.1, not-false _ h.0, ltb-false _ _ k.0)
           ]
     ]
 

@@ -7,7 +7,7 @@ use Rattle.sd_acl.specs.declared.ace.Ace.{Ace}
 use Rattle.sd_acl.specs.declared.list.AclTooLarge.{AclTooLarge}
 use Rattle.sd_text.specs.declared.fault.TextFault.{TextFault}
 use Rattle.sd_text.specs.Grammar.{Grammar, begins}
-use Rattle.sd_text.specs.Reading.{find}
+use Rattle.sd_text.specs.Finding.{find}
 use Rattle.sd_text.specs.Entry.{opening, entries_of, first_of}
 use Rattle.sd_text.proofs.Parts.{begins_takes}
 use Rattle.sd_text.proofs.Engine.{shorter}

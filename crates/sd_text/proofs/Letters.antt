@@ -1,7 +1,8 @@
 -- Letters that a text begins with.
-use Rattle.std.proofs.Common.{◌≡◌, ℕ, zero, suc, ◌+◌, ◌<◌, ◌≤◌, Bool, true, false, List, [], ◌∷◌, length, refl, arith, ap, add-one, get_or, drop}
+use Rattle.std.proofs.Common.{◌≡◌, ℕ, zero, suc, ◌+◌, ◌<◌, ◌≤◌, Bool, true, false, List, [], ◌∷◌, length, refl, arith, ap, sym, add-one, get_or, drop}
 use Rattle.std.specs.Prelude.{◌&&◌, ◌==◌}
 use Rattle.std.proofs.lemmas.Bool.{ne_eqb}
+use Rattle.std.proofs.Math.Bool.{and-false, and-true}
 use Rattle.std.proofs.lemmas.List.{drop_all}
 use Rattle.std.specs.Char.{eq_ignore_ascii_case}
 use Rattle.sd_text.specs.Grammar.{begins}
@@ -11,15 +12,11 @@ begins_nothing [] letters e = refl
 begins_nothing (c ∷ text) [] e = refl
 begins_nothing (c ∷ text) (l ∷ letters) e = absurd (omega arith)
 
-and_false : (b : Bool) → (b && false) ≡ false
-and_false true = refl
-and_false false = refl
-
 pub begins_short : (text letters : List ℕ) → length text < length letters → begins text letters ≡ false
 begins_short [] letters lt = refl
 begins_short (c ∷ text) [] lt = refl
 begins_short (c ∷ text) (l ∷ []) lt = absurd (omega arith)
-begins_short (c ∷ text) (l ∷ m ∷ letters) lt = rw (begins_short text (m ∷ letters) (omega arith)) (and_false (eq_ignore_ascii_case c l))
+begins_short (c ∷ text) (l ∷ m ∷ letters) lt = rw (begins_short text (m ∷ letters) (omega arith)) (and-false (eq_ignore_ascii_case c l))
 
 -- the text begins with these letters, or there are none
 abbrev pub matches : List ℕ → List ℕ → Bool
@@ -27,14 +24,10 @@ matches text [] = true
 matches [] (l ∷ letters) = false
 matches (c ∷ text) (l ∷ letters) = eq_ignore_ascii_case c l && matches text letters
 
-and_true : (b : Bool) → b ≡ (b && true)
-and_true true = refl
-and_true false = refl
-
 pub begins_matches : (text letters : List ℕ) → (length letters == 0) ≡ false → begins text letters ≡ matches text letters
 begins_matches text [] some = absurd cc
 begins_matches [] (l ∷ letters) some = refl
-begins_matches (c ∷ text) (l ∷ []) some = and_true (eq_ignore_ascii_case c l)
+begins_matches (c ∷ text) (l ∷ []) some = sym (and-true (eq_ignore_ascii_case c l))
 begins_matches (c ∷ text) (l ∷ m ∷ letters) some = ap (λ b. eq_ignore_ascii_case c l && b) (begins_matches text (m ∷ letters) (ne_eqb (suc (length letters)) 0 (omega arith)))
 
 -- one letter, and those behind it

@@ -1,13 +1,16 @@
 pub mod Letters
 pub mod Parts
 pub mod Runs
+pub mod Numbers
 pub mod Engine
 pub mod Loops
 pub mod Sids
 pub mod Entries
 pub mod Tables
 pub mod Aliases
+pub mod Rooms
 pub mod Printing
+pub mod Lengths
 pub mod CanonSids
 pub mod CanonRights
 pub mod CanonEntries

@@ -2,7 +2,7 @@
 use Rattle.std.proofs.Common.{◌≡◌, ℕ, zero, suc, ◌≤◌, List, [], ◌∷◌, ◌++◌, length, Some, None, Ok, Err, refl, arith}
 use Rattle.sd_text.specs.declared.fault.TextFault.{TextFault}
 use Rattle.sd_text.specs.Grammar.{Grammar, Name, many, named}
-use Rattle.sd_text.specs.Reading.{Found, find_items, find}
+use Rattle.sd_text.specs.Finding.{Found, find_items, find}
 use Rattle.sd_text.proofs.Parts.{named_takes}
 use Rattle.sd_text.proofs.Engine.{shorter}
 

@@ -1,10 +1,10 @@
 -- What is found behind a part, behind a name, and how far the text has come.
 use Rattle.std.proofs.Common.{◌≡◌, ℕ, ◌<◌, ◌⊎◌, inl, inr, Bool, true, false, cond, List, [], ◌∷◌, length, drop, Option, Some, None, Ok, Err, refl, arith, ap, sym}
-use Rattle.std.specs.Prelude.{◌&&◌, not}
 use Rattle.std.specs.Char.{eq_ignore_ascii_case}
+use Rattle.std.proofs.lemmas.Bool.{and_parts}
 use Rattle.sd_text.specs.declared.fault.TextFault.{TextFault}
 use Rattle.sd_text.specs.Grammar.{Name, begins, named}
-use Rattle.sd_text.specs.Reading.{Found, behind_part, name_or}
+use Rattle.sd_text.specs.Finding.{Found, behind_part, name_or}
 
 -- a test, with how it went
 pub went : (b : Bool) → (b ≡ true) ⊎ (b ≡ false)
@@ -15,20 +15,6 @@ went false = inr refl
 pub chosen : {A : Type 0} (b : Bool) (x y z : A) → cond b x y ≡ z → ((b ≡ true) × (x ≡ z)) ⊎ ((b ≡ false) × (y ≡ z))
 chosen true x y z e = inl (refl, e)
 chosen false x y z e = inr (refl, e)
-
--- what the other way round holds
-pub not_holds : (b : Bool) → not b ≡ true → b ≡ false
-not_holds true e = absurd cc
-not_holds false e = refl
-
-pub not_fails : (b : Bool) → not b ≡ false → b ≡ true
-not_fails true e = refl
-not_fails false e = absurd cc
-
--- both parts of a conjunction
-pub both_hold : (a b : Bool) → (a && b) ≡ true → (a ≡ true) × (b ≡ true)
-both_hold true b e = (refl, e)
-both_hold false b e = absurd cc
 
 pub part_ok : {A B : Type 0} (r : Found A) (next : A → List ℕ → Found B) (b : B) (behind : List ℕ) → behind_part r next ≡ Ok (b, behind) → (a : A) × (mid : List ℕ) × (r ≡ Ok (a, mid)) × (next a mid ≡ Ok (b, behind))
 part_ok (Ok x) next b behind e = (x.0, x.1, refl, e)
@@ -65,7 +51,7 @@ pub begins_takes : (text letters : List ℕ) → begins text letters ≡ true �
 begins_takes [] letters e = absurd cc
 begins_takes (c ∷ text) [] e = absurd cc
 begins_takes (c ∷ text) (l ∷ []) e = omega arith
-begins_takes (c ∷ text) (l ∷ m ∷ letters) e = let rest = begins_takes text (m ∷ letters) ((both_hold (eq_ignore_ascii_case c l) (begins text (m ∷ letters)) e).1) in omega (arith, rest)
+begins_takes (c ∷ text) (l ∷ m ∷ letters) e = let rest = begins_takes text (m ∷ letters) ((and_parts (eq_ignore_ascii_case c l) (begins text (m ∷ letters)) e).1) in omega (arith, rest)
 
 -- so does a name
 pub named_takes : {A : Type 0} (names : List (Name A)) (text : List ℕ) (b : A) (mid : List ℕ) → named names text ≡ Some (b, mid) → length mid < length text

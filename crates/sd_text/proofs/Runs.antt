@@ -6,9 +6,10 @@ use Rattle.std.specs.Str.Parse.{AllDigits, IsNumeral}
 use Rattle.std.proofs.lemmas.Bool.{ltb-false, lt-ltb, le-ltb}
 use Rattle.std.proofs.lemmas.List.{take-append-drop}
 use Rattle.std.proofs.Math.Nat.{mul-le-mul_left}
+use Rattle.std.proofs.Math.Seq.{take-append_seam, drop-append_seam}
 use borrow.Author.Tests.{ltb-true}
 use Rattle.sd_text.specs.Grammar.{begins_digit, Run}
-use Rattle.sd_text.specs.Reading.{digits_len, IsCapped}
+use Rattle.sd_text.specs.Finding.{digits_len, IsCapped}
 use Rattle.sd_text.proofs.Parts.{went}
 
 all_digits : (radix : ℕ) (text : List ℕ) → AllDigits radix (take (digits_len radix text) text)
@@ -44,21 +45,12 @@ len_of radix (d ∷ ds) behind all e =
       | inr h ↦ absurd (let le = ltb-false (digit_value d) radix h in let lt = all.0 in omega arith)
     ]
 
-take_front : (ds behind : List ℕ) → take (length ds) (ds ++ behind) ≡ ds
-take_front [] [] = refl
-take_front [] (c ∷ behind) = refl
-take_front (d ∷ ds) behind = ap (λ xs. d ∷ xs) (take_front ds behind)
-
-drop_front : (ds behind : List ℕ) → drop (length ds) (ds ++ behind) ≡ behind
-drop_front [] behind = refl
-drop_front (d ∷ ds) behind = drop_front ds behind
-
 -- and there is one run alone
 pub run_digits : (radix : ℕ) (text ds behind : List ℕ) → Run radix text ds behind → take (digits_len radix text) text ≡ ds
-run_digits radix text ds behind run = rw (run.parts, len_of radix ds behind run.numeral.1 run.whole) (take_front ds behind)
+run_digits radix text ds behind run = rw (run.parts, len_of radix ds behind run.numeral.1 run.whole) (take-append_seam ds behind)
 
 pub run_behind : (radix : ℕ) (text ds behind : List ℕ) → Run radix text ds behind → drop (digits_len radix text) text ≡ behind
-run_behind radix text ds behind run = rw (run.parts, len_of radix ds behind run.numeral.1 run.whole) (drop_front ds behind)
+run_behind radix text ds behind run = rw (run.parts, len_of radix ds behind run.numeral.1 run.whole) (drop-append_seam ds behind)
 
 begins_run : (radix : ℕ) (ds behind : List ℕ) → IsNumeral radix ds → begins_digit radix (ds ++ behind) ≡ true
 begins_run radix [] behind n = absurd (let h = n.0 in omega arith)

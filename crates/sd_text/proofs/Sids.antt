@@ -6,7 +6,7 @@ use Rattle.sd_sid.specs.Sid.{SidValue, sid_of}
 use Rattle.sd_sid.specs.declared.sid.SidError.{SidError}
 use Rattle.sd_text.specs.declared.fault.TextFault.{TextFault}
 use Rattle.sd_text.specs.Grammar.{begins}
-use Rattle.sd_text.specs.Reading.{find}
+use Rattle.sd_text.specs.Finding.{find}
 use Rattle.sd_text.specs.Sid.{dash, sub, subs_of}
 use Rattle.sd_text.proofs.Parts.{begins_takes}
 use Rattle.sd_text.proofs.Engine.{shorter}

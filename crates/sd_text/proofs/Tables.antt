@@ -2,14 +2,15 @@
 use Rattle.std.proofs.Common.{◌≡◌, ℕ, zero, suc, ◌+◌, ◌<◌, ◌^◌, cond, List, [], ◌∷◌, ◌++◌, length, drop, get_or, Some, None, Ok, refl, arith, add-one, ap, sym, subst, ◌∙◌, inl, inr}
 use Rattle.std.specs.Prelude.{fold, bit_or, ◌==◌}
 use Rattle.std.specs.List.{AllByRecursion}
+use Rattle.std.proofs.lemmas.Bool.{eqb-true}
 use Rattle.std.proofs.lemmas.Grind.{fold-append}
 use Rattle.std.proofs.lemmas.Nat.{or_lt, pow_pos}
 use Rattle.sd_text.specs.Grammar.{Name, value, many, named, begins, spells, run, Items}
-use Rattle.sd_text.specs.Reading.{find}
+use Rattle.sd_text.specs.Finding.{find}
 use Rattle.sd_text.specs.Rights.{bits_of}
-use Rattle.sd_sid.specs.Sid.{SidValue}
+use Rattle.sd_sid.specs.Sid.{SidValue, same_sid}
+use Rattle.sd_sid.proofs.Compared.{same_sid-true}
 use Rattle.sd_text.specs.declared.alias.WellKnown.{WellKnown}
-use Rattle.sd_sid.specs.Sid.{same_sid}
 use Rattle.sd_text.specs.Alias.{alias_in}
 use Rattle.sd_text.specs.Canon.{name_in}
 use Rattle.sd_text.specs.Names.{Row, rows, renamed, well_known}
@@ -84,6 +85,26 @@ named_all P (name ∷ names) text a behind all e =
     elim (chosen (begins text name.letters) _ _ _ e) [
       | inl h ↦ subst P (name_is name.stands_for a (drop (length name.letters) text) behind h.1).0 all.0
       | inr h ↦ named_all P names text a behind all.1 h.1
+    ]
+
+-- the row whose alias stands for the SID, with what all rows have
+pub alias_row : (P : Name SidValue → Type 0) (names : List (Name SidValue)) (s : SidValue) (letters : List ℕ) → AllByRecursion P names → alias_in names s ≡ Some letters → (name : Name SidValue) × P name × (name.letters ≡ letters) × (name.stands_for ≡ s)
+unfolding alias_in
+alias_row P [] s letters all e = absurd cc
+alias_row P (name ∷ names) s letters all e =
+    elim (chosen (same_sid name.stands_for s) _ _ _ e) [
+      | inl h ↦ let same : name.letters ≡ letters = cc in (name, all.0, same, same_sid-true name.stands_for s h.0)
+      | inr h ↦ alias_row P names s letters all.1 h.1
+    ]
+
+-- and the row whose name is for just these bits
+pub right_row : (P : Name ℕ → Type 0) (names : List (Name ℕ)) (mask : ℕ) (letters : List ℕ) → AllByRecursion P names → name_in names mask ≡ Some letters → (name : Name ℕ) × P name × (name.letters ≡ letters) × (name.stands_for ≡ mask)
+unfolding name_in
+right_row P [] mask letters all e = absurd cc
+right_row P (name ∷ names) mask letters all e =
+    elim (chosen (name.stands_for == mask) _ _ _ e) [
+      | inl h ↦ let same : name.letters ≡ letters = cc in (name, all.0, same, eqb-true name.stands_for mask h.0)
+      | inr h ↦ right_row P names mask letters all.1 h.1
     ]
 
 -- ---- how large joined bits grow

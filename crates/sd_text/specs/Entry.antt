@@ -1,6 +1,6 @@
 -- Entries ([MS-DTYP] 2.5.1.1, ace).
-use Rattle.std.specs.Prelude.{ℕ, ◌+◌, Bool, nat_lt, ◌==◌, ◌&&◌, not, List, [], ◌∷◌, length, drop, codes}
-use Rattle.sd_acl.specs.Ace.{ace_size, acl_size_of}
+use Rattle.std.specs.Prelude.{ℕ, ◌+◌, Bool, nat_lt, ◌==◌, ◌&&◌, not, List, [], ◌∷◌, length, drop, map, codes}
+use Rattle.sd_acl.specs.Ace.{ace_size, acl_size_of, named_flags}
 use Rattle.sd_acl.specs.declared.ace.Ace.{Ace}
 use Rattle.sd_acl.specs.declared.ace.AceKind.{AceKind}
 use Rattle.sd_acl.specs.declared.ace.AceKind.TheVariants.{Allow, Deny}
@@ -25,9 +25,7 @@ kind = choose (is_type (codes "A")) (word (codes "A") >>= λ u. value Allow)
 
 -- the names of flags
 abbrev pub flag_names : List (Name ℕ)
-flag_names =
-    bits (codes "OI") 0x01 ∷ bits (codes "CI") 0x02 ∷ bits (codes "NP") 0x04 ∷ bits (codes "IO") 0x08
-    ∷ bits (codes "ID") 0x10 ∷ bits (codes "SA") 0x40 ∷ bits (codes "FA") 0x80 ∷ []
+flag_names = map (λ (flag : List ℕ × ℕ). bits flag.0 flag.1) named_flags
 
 -- an empty field of a GUID, with its `;`
 unfoldable pub guid : Grammar (Unit {0})

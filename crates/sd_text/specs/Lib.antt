@@ -1,6 +1,6 @@
 pub mod Grammar
 pub mod Fault
-pub mod Reading
+pub mod Finding
 pub mod Names
 pub mod Alias
 pub mod Sid
@@ -8,4 +8,5 @@ pub mod Rights
 pub mod Entry
 pub mod Sddl
 pub mod Canon
+pub mod Room
 pub mod Laws

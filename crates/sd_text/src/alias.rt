@@ -7,7 +7,7 @@ ghost use Rattle.sd_text.specs.Alias.{aliases, alias_in};
 ghost use Rattle.sd_text.specs.Names.{rows, renamed, well_known};
 ghost use Rattle.sd_text.specs.Grammar.{one_of};
 ghost use Rattle.sd_text.specs.declared.fault.TextFault.TheVariants.{UnknownAlias, Syntax};
-ghost use Rattle.sd_text.specs.Reading.{Gives, find};
+ghost use Rattle.sd_text.specs.Finding.{Gives, find};
 
 use crate::cursor::Cursor;
 use crate::fault::TextFault;

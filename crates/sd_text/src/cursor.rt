@@ -4,7 +4,7 @@ ghost use Rattle.std.specs.Prelude.{◌≡◌, ◌+◌, ◌≤◌, ◌^◌, ◌<
 ghost use Rattle.std.specs.Str.Parse.{digits_value};
 ghost use Rattle.sd_text.specs.Grammar.{begins, begins_digit, word, number, end};
 ghost use Rattle.sd_text.specs.Sid.{begins_letter};
-ghost use Rattle.sd_text.specs.Reading.{Gives, find, digits_len, IsCapped};
+ghost use Rattle.sd_text.specs.Finding.{Gives, find, digits_len, IsCapped};
 
 use crate::fault::TextFault;
 

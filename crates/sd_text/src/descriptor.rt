@@ -6,7 +6,7 @@ ghost use Rattle.sd_acl.specs.Descriptor.{DescriptorValue, descriptor_of};
 ghost use Rattle.sd_text.specs.Grammar.{Spells, BeginsWith};
 ghost use Rattle.sd_text.specs.Fault.{StandsIn};
 ghost use Rattle.sd_text.specs.Sddl.{sid_section, words, no_words, with_word, dacl_section, no_sacl, sections, sddl, begun_dacl, begun_sddl};
-ghost use Rattle.sd_text.specs.Reading.{Gives, GivesUnlessMemory, find};
+ghost use Rattle.sd_text.specs.Finding.{Gives, GivesUnlessMemory, find};
 
 use crate::cursor::Cursor;
 use crate::fault::{Stop, TextError, TextFault};

@@ -5,32 +5,19 @@ ghost use Rattle.sd_acl.specs.Ace.{ace_size};
 ghost use Rattle.sd_text.specs.Entry.{entries, first_entry, entry, kind, is_type, flag_names, guid, entry_end};
 ghost use Rattle.sd_text.specs.Rights.{bits_of};
 ghost use Rattle.sd_text.specs.Names.{rows};
-ghost use Rattle.sd_text.specs.Reading.{Gives, GivesUnlessMemory, find};
+ghost use Rattle.sd_text.specs.Finding.{Gives, GivesUnlessMemory, find};
 
 use crate::cursor::Cursor;
 use crate::fault::{Stop, TextFault};
 use bitflags::Flags;
-use sd_acl::{Ace, AceFlags, AceKind, AceList, MAX_ACL_BYTES};
+use sd_acl::{ACL_HEADER_BYTES, Ace, AceFlags, AceKind, AceList, MAX_ACL_BYTES};
 use std::alloc::Global;
 
-/// The bytes of a list without entries, its header ([MS-DTYP] 2.4.5).
-pub(crate) const EMPTY_ACL_BYTES: u64 = 8;
-
 /// The names of flags ([MS-DTYP] 2.4.4.1, AceFlags).
-static FLAGS: [(&str, u32); 7] = [
-    ("OI", 0x01),
-    ("CI", 0x02),
-    ("NP", 0x04),
-    ("IO", 0x08),
-    ("ID", 0x10),
-    ("SA", 0x40),
-    ("FA", 0x80),
-];
-
 pub(crate) fn flag_names() -> &'static [(&'static str, u32)]
     ensures { rows result.now ≡ flag_names }
 {
-    &FLAGS
+    &AceFlags::NAMED
 }
 
 impl Cursor<'_> {
@@ -39,7 +26,7 @@ impl Cursor<'_> {
         ensures { GivesUnlessMemory (λ entries. entries) result self.new.rest.now (find entries self.old.rest.now) (find first_entry self.old.rest.now) }
     {
         let mut entries = Vec::new(alloc);
-        let mut size = EMPTY_ACL_BYTES;
+        let mut size = ACL_HEADER_BYTES;
         'entries: while self.eat(b"(") {
             let entry = self.entry(size)?;
             size += entry.size();
@@ -123,7 +110,7 @@ impl Cursor<'_> {
 
     /// The end of an entry, with which the list may not grow too large.
     #[tactic(auto, unfolding(crate::specs::Entry::entry_end))]
-    pub(crate) fn entry_end(&mut self, size: u64, entry: Ace) -> Result<Ace, TextFault>
+    fn entry_end(&mut self, size: u64, entry: Ace) -> Result<Ace, TextFault>
         requires { size ≤ 65535 }
         ensures entry { Gives (λ entry. entry) result self.new.rest.now (find (entry_end size entry) self.old.rest.now) }
         ensures fits { IfOk result (λ entry. size + ace_size entry ≤ 65535) }

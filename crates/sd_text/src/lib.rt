@@ -18,6 +18,7 @@ mod entry;
 mod fault;
 mod laws;
 mod name;
+mod number;
 mod print;
 mod rights;
 mod sid;

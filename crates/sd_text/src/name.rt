@@ -4,7 +4,7 @@ ghost use Rattle.std.specs.Prelude.{◌≡◌, IfNone, IfSome, Some, None, Ok, f
 ghost use Rattle.sd_text.specs.Grammar.{named};
 ghost use Rattle.sd_text.specs.Rights.{bits_of};
 ghost use Rattle.sd_text.specs.Names.{rows};
-ghost use Rattle.sd_text.specs.Reading.{find};
+ghost use Rattle.sd_text.specs.Finding.{find};
 
 use crate::cursor::Cursor;
 

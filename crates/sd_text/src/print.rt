@@ -1,12 +1,16 @@
 //! The one printed text of each value: [MS-DTYP] 2.5.1.
 
-ghost use Rattle.std.specs.Prelude.{◌≡◌, ◌++◌, ◌<◌, ◌^◌, OnOk, IfOk, option_map, string_bytes};
+ghost use Rattle.std.specs.Prelude.{◌≡◌, ◌<◌, ◌≤◌, ◌+◌, ◌*◌, length, replicate, OnErr, IfOk, option_map, string_bytes};
+ghost use Rattle.std.specs.List.{flat_map};
+ghost use Rattle.sd_acl.specs.Ace.{ace_size, acl_size_of};
 ghost use Rattle.sd_acl.specs.Descriptor.{descriptor_of};
 ghost use Rattle.sd_text.specs.Names.{rows};
-ghost use Rattle.sd_text.specs.Canon.{authority_canon, full_canon, sid_canon, printed_rights, name_in, rights_canon, flags_canon, entry_canon, where_set, words_canon, section_canon, dacl_canon, canon};
+ghost use Rattle.sd_text.specs.Room.{HasRoom, IsPrinted};
+ghost use Rattle.sd_text.specs.Canon.{authority_canon, sub_canon, full_canon, sid_canon, printed_rights, name_in, rights_canon, flags_canon, entry_canon, where_set, words_canon, section_canon, dacl_canon, canon};
 
 use crate::alias::alias_text;
 use crate::entry::flag_names;
+use crate::number::{MAX_DIGITS, digits};
 use bitflags::Flags;
 use sd_acl::{Ace, AceFlags, AceKind, Dacl, Descriptor};
 use sd_sid::{Mask, Sid};
@@ -36,14 +40,13 @@ const DECIMAL_LIMIT: u64 = 0x1_0000_0000;
 
 /// The canonical text of a descriptor ([MS-DTYP] 2.5.1). Fails only for want of memory. What it prints,
 /// `read_sddl` reads as the same descriptor, where no entry has a flag outside the seven named ones.
-#[tactic(auto, unfolding(crate::specs::Canon::canon))]
 pub fn print_sddl(alloc: Global, descriptor: &Descriptor) -> Result<String, AllocError>
-    ensures { IfOk result (λ text. string_bytes text ≡ canon (descriptor_of descriptor.now)) }
+    ensures text { IfOk result (λ text. string_bytes text ≡ canon (descriptor_of descriptor.now)) }
+    ensures memory { OnErr result (0 < length (canon (descriptor_of descriptor.now))) }
 {
-    let mut text = String::new(alloc);
-    write_section(&mut text, "O:", &descriptor.owner)?;
-    write_section(&mut text, "G:", &descriptor.group)?;
-    write_dacl(&mut text, descriptor)?;
+    let mut text = String::with_capacity(alloc, sddl_room(descriptor))?;
+    write_sddl(&mut text, descriptor);
+    text.shrink_to_fit();
     Ok(text)
 }
 
@@ -51,136 +54,248 @@ pub fn print_sddl(alloc: Global, descriptor: &Descriptor) -> Result<String, Allo
 pub fn print_sid(alloc: Global, sid: &Sid) -> Result<String, AllocError>
     ensures { IfOk result (λ text. string_bytes text ≡ sid_canon sid.now) }
 {
-    let mut text = String::new(alloc);
-    write_sid(&mut text, sid)?;
+    let mut text = String::with_capacity(alloc, sid_room(sid))?;
+    write_sid(&mut text, sid);
+    text.shrink_to_fit();
     Ok(text)
 }
 
+/// Room for the text of a descriptor, of which there is none where nothing is to be printed.
+#[tactic(auto, unfolding(crate::specs::Canon::canon))]
+fn sddl_room(d: &Descriptor) -> usize
+    ensures room { length (canon (descriptor_of d.now)) ≤ result }
+    ensures some { 0 < result → 0 < length (canon (descriptor_of d.now)) }
+{
+    section_room("O:", &d.owner) + section_room("G:", &d.group) + dacl_room(d)
+}
+
+fn section_room(head: &str, sid: &Option<Sid>) -> usize
+    requires { length head.now ≡ 2 }
+    ensures room { length (section_canon head.now sid.now) ≤ result }
+    ensures some { 0 < result → 0 < length (section_canon head.now sid.now) }
+    ensures most { result ≤ 185 }
+{
+    match sid {
+        Some(sid) => head.len() + sid_room(sid),
+        None => 0,
+    }
+}
+
+/// Room for a SID: `S-1-`, 14 letters of an authority, and a dash and ten digits for each sub-authority.
+#[tactic(auto, using(crate::proofs::Lengths::sid_length))]
+fn sid_room(sid: &Sid) -> usize
+    ensures room { length (sid_canon sid.now) ≤ result }
+    ensures size { result ≡ 18 + 11 * length sid.now.subs }
+    ensures most { result ≤ 183 }
+{
+    18 + 11 * sid.subs().len()
+}
+
+/// Room for the section of a DACL: its head, the words, and the entries or the word of a null list.
+fn dacl_room(d: &Descriptor) -> usize
+    ensures room { length (dacl_canon (words_canon (descriptor_of d.now)) d.now.dacl) ≤ result }
+    ensures some { 0 < result → 0 < length (dacl_canon (words_canon (descriptor_of d.now)) d.now.dacl) }
+    ensures most { result ≤ 4 * 65535 + 24 }
+{
+    match &d.dacl {
+        Dacl::Absent => 0,
+        Dacl::Null => 24,
+        Dacl::List(list) => 7 + entries_room(list.entries()),
+    }
+}
+
+fn entries_room(entries: &[Ace]) -> usize
+    requires { acl_size_of entries.now ≤ 65535 }
+    ensures room { length (flat_map entry_canon entries.now) ≤ result }
+    ensures most { result ≤ 4 * acl_size_of entries.now }
+{
+    let mut room = 0;
+    for entry in entries {
+        room += entry_room(entry);
+    }
+    room
+}
+
+/// Room for an entry: 32 letters beside its SID. That is at most four for each byte of its binary form.
+#[tactic(auto, using(crate::proofs::Lengths::entry_length))]
+fn entry_room(entry: &Ace) -> usize
+    ensures room { length (entry_canon entry.now) ≤ result }
+    ensures most { result ≤ 4 * ace_size entry.now }
+{
+    let _mask = entry.mask.bits();
+    32 + sid_room(&entry.sid)
+}
+
+/// Adds the letters, for which there is room.
+fn push(out: &mut String, letters: &str)
+    requires { HasRoom out.old letters.now }
+    ensures { IsPrinted out.old out.new letters.now }
+{
+    out.push_str(letters).unwrap();
+}
+
+#[tactic(auto, unfolding(crate::specs::Canon::canon))]
+fn write_sddl(out: &mut String, d: &Descriptor)
+    requires { HasRoom out.old (canon (descriptor_of d.now)) }
+    ensures { IsPrinted out.old out.new (canon (descriptor_of d.now)) }
+{
+    write_section(out, "O:", &d.owner);
+    write_section(out, "G:", &d.group);
+    write_dacl(out, d);
+}
+
 /// A section of one SID, where there is one.
-fn write_section(out: &mut String, head: &str, sid: &Option<Sid>) -> Result<(), AllocError>
-    ensures { OnOk result (string_bytes out.new ≡ string_bytes out.old ++ section_canon head.now sid.now) }
+fn write_section(out: &mut String, head: &str, sid: &Option<Sid>)
+    requires { HasRoom out.old (section_canon head.now sid.now) }
+    ensures { IsPrinted out.old out.new (section_canon head.now sid.now) }
 {
     if let Some(sid) = sid {
-        out.push_str(head)?;
-        write_sid(out, sid)?;
+        push(out, head);
+        write_sid(out, sid);
     }
-    Ok(())
 }
 
 #[tactic(auto, unfolding(crate::specs::Canon::sid_canon))]
-fn write_sid(out: &mut String, sid: &Sid) -> Result<(), AllocError>
-    ensures { OnOk result (string_bytes out.new ≡ string_bytes out.old ++ sid_canon sid.now) }
+fn write_sid(out: &mut String, sid: &Sid)
+    requires { HasRoom out.old (sid_canon sid.now) }
+    ensures { IsPrinted out.old out.new (sid_canon sid.now) }
 {
     match alias_text(sid) {
-        Some(letters) => out.push_str(letters)?,
-        None => write_full_sid(out, sid)?,
+        Some(letters) => push(out, letters),
+        None => write_full_sid(out, sid),
     }
-    Ok(())
 }
 
 #[tactic(auto, unfolding(crate::specs::Canon::full_canon))]
-fn write_full_sid(out: &mut String, sid: &Sid) -> Result<(), AllocError>
-    ensures { OnOk result (string_bytes out.new ≡ string_bytes out.old ++ full_canon sid.now) }
+fn write_full_sid(out: &mut String, sid: &Sid)
+    requires { HasRoom out.old (full_canon sid.now) }
+    ensures { IsPrinted out.old out.new (full_canon sid.now) }
 {
-    out.push_str("S-1-")?;
-    write_authority(out, sid.authority())?;
+    push(out, "S-1-");
+    write_authority(out, sid.authority());
     for sub in sid.subs() {
-        write!(out, "-{sub}")?;
+        write_sub(out, *sub);
     }
-    Ok(())
 }
 
 /// In decimal where the authority has 32 bits, else in 12 hexadecimal digits.
-#[tactic(auto, using(crate::proofs::Printing::padded_twelve), unfolding(crate::specs::Canon::authority_canon))]
-fn write_authority(out: &mut String, authority: u64) -> Result<(), AllocError>
-    requires { authority < 2 ^ 48 }
-    ensures { OnOk result (string_bytes out.new ≡ string_bytes out.old ++ authority_canon authority) }
+#[tactic(auto, unfolding(crate::specs::Canon::authority_canon))]
+fn write_authority(out: &mut String, authority: u64)
+    requires { HasRoom out.old (authority_canon authority) }
+    ensures { IsPrinted out.old out.new (authority_canon authority) }
 {
+    let mut bytes = [0; MAX_DIGITS];
     if authority < DECIMAL_LIMIT {
-        write!(out, "{authority}")
-    } else {
-        write!(out, "0x{authority:012x}")
+        return push(out, digits(authority, 10, &mut bytes));
     }
+    let letters = digits(authority, 16, &mut bytes);
+    push(out, "0x");
+    write_zeros(out, 12usize.saturating_sub(letters.len()));
+    push(out, letters);
+}
+
+fn write_zeros(out: &mut String, count: usize)
+    requires { HasRoom out.old (replicate count 48) }
+    ensures { IsPrinted out.old out.new (replicate count 48) }
+{
+    for written in 0..count {
+        push(out, "0");
+    }
+}
+
+/// A sub-authority behind its dash.
+fn write_sub(out: &mut String, sub: u32)
+    requires { HasRoom out.old (sub_canon sub) }
+    ensures { IsPrinted out.old out.new (sub_canon sub) }
+{
+    let mut bytes = [0; MAX_DIGITS];
+    push(out, "-");
+    push(out, digits(u64::from(sub), 10, &mut bytes));
 }
 
 #[tactic(auto, unfolding(crate::specs::Canon::words_canon))]
-fn write_words(out: &mut String, d: &Descriptor) -> Result<(), AllocError>
-    ensures { OnOk result (string_bytes out.new ≡ string_bytes out.old ++ words_canon (descriptor_of d.now)) }
+fn write_words(out: &mut String, d: &Descriptor)
+    requires { HasRoom out.old (words_canon (descriptor_of d.now)) }
+    ensures { IsPrinted out.old out.new (words_canon (descriptor_of d.now)) }
 {
-    write_where(out, d.protected, "P")?;
-    write_where(out, d.auto_req, "AR")?;
-    write_where(out, d.auto_inherited, "AI")
+    write_where(out, d.protected, "P");
+    write_where(out, d.auto_req, "AR");
+    write_where(out, d.auto_inherited, "AI");
 }
 
 /// The letters, where the test holds.
-fn write_where(out: &mut String, test: bool, letters: &str) -> Result<(), AllocError>
-    ensures { OnOk result (string_bytes out.new ≡ string_bytes out.old ++ where_set test letters.now) }
+fn write_where(out: &mut String, test: bool, letters: &str)
+    requires { HasRoom out.old (where_set test letters.now) }
+    ensures { IsPrinted out.old out.new (where_set test letters.now) }
 {
     if test {
-        out.push_str(letters)?;
+        push(out, letters);
     }
-    Ok(())
 }
 
-fn write_dacl(out: &mut String, d: &Descriptor) -> Result<(), AllocError>
-    ensures { OnOk result (string_bytes out.new ≡ string_bytes out.old ++ dacl_canon (words_canon (descriptor_of d.now)) d.now.dacl) }
+fn write_dacl(out: &mut String, d: &Descriptor)
+    requires { HasRoom out.old (dacl_canon (words_canon (descriptor_of d.now)) d.now.dacl) }
+    ensures { IsPrinted out.old out.new (dacl_canon (words_canon (descriptor_of d.now)) d.now.dacl) }
 {
     match &d.dacl {
         Dacl::Absent => {}
         Dacl::Null => {
-            out.push_str("D:")?;
-            write_words(out, d)?;
-            out.push_str("NO_ACCESS_CONTROL")?;
+            push(out, "D:");
+            write_words(out, d);
+            push(out, "NO_ACCESS_CONTROL");
         }
         Dacl::List(list) => {
-            out.push_str("D:")?;
-            write_words(out, d)?;
+            push(out, "D:");
+            write_words(out, d);
             for entry in list.entries() {
-                write_entry(out, entry)?;
+                write_entry(out, entry);
             }
         }
     }
-    Ok(())
 }
 
 #[tactic(auto, unfolding(crate::specs::Canon::entry_canon))]
-fn write_entry(out: &mut String, entry: &Ace) -> Result<(), AllocError>
-    ensures { OnOk result (string_bytes out.new ≡ string_bytes out.old ++ entry_canon entry.now) }
+fn write_entry(out: &mut String, entry: &Ace)
+    requires { HasRoom out.old (entry_canon entry.now) }
+    ensures { IsPrinted out.old out.new (entry_canon entry.now) }
 {
     match entry.kind {
-        AceKind::Allow => out.push_str("(A;")?,
-        AceKind::Deny => out.push_str("(D;")?,
+        AceKind::Allow => push(out, "(A;"),
+        AceKind::Deny => push(out, "(D;"),
     }
-    write_flags(out, entry.flags)?;
-    out.push_str(";")?;
-    write_rights(out, entry.mask)?;
-    out.push_str(";;;")?;
-    write_sid(out, &entry.sid)?;
-    out.push_str(")")?;
-    Ok(())
+    write_flags(out, entry.flags);
+    push(out, ";");
+    write_rights(out, entry.mask);
+    push(out, ";;;");
+    write_sid(out, &entry.sid);
+    push(out, ")");
 }
 
 #[tactic(auto, unfolding(crate::specs::Canon::flags_canon))]
-fn write_flags(out: &mut String, flags: AceFlags) -> Result<(), AllocError>
-    ensures { OnOk result (string_bytes out.new ≡ string_bytes out.old ++ flags_canon flags.0) }
+fn write_flags(out: &mut String, flags: AceFlags)
+    requires { HasRoom out.old (flags_canon flags.0) }
+    ensures { IsPrinted out.old out.new (flags_canon flags.0) }
 {
     let bits = u32::from(flags.bits());
     for (letters, flag) in flag_names() {
-        write_where(out, bits & flag != 0, letters)?;
+        write_where(out, bits & flag != 0, letters);
     }
-    Ok(())
 }
 
 #[tactic(auto, unfolding(crate::specs::Canon::rights_canon))]
-fn write_rights(out: &mut String, mask: Mask) -> Result<(), AllocError>
-    ensures { OnOk result (string_bytes out.new ≡ string_bytes out.old ++ rights_canon mask) }
+fn write_rights(out: &mut String, mask: Mask)
+    requires { HasRoom out.old (rights_canon mask) }
+    ensures { IsPrinted out.old out.new (rights_canon mask) }
 {
     let bits = mask.bits();
     match right_name(bits) {
-        Some(letters) => out.push_str(letters)?,
-        None => write!(out, "0x{bits:x}")?,
+        Some(letters) => push(out, letters),
+        None => {
+            let mut bytes = [0; MAX_DIGITS];
+            push(out, "0x");
+            push(out, digits(u64::from(bits), 16, &mut bytes));
+        }
     }
-    Ok(())
 }
 
 /// The name for just these bits.

@@ -5,7 +5,7 @@ ghost use Rattle.sd_sid.specs.Sid.{SidValue};
 ghost use Rattle.sd_text.specs.Grammar.{Spells};
 ghost use Rattle.sd_text.specs.Fault.{StandsIn};
 ghost use Rattle.sd_text.specs.Sid.{sid_text, sid, authority, sub, subs_of};
-ghost use Rattle.sd_text.specs.Reading.{Gives, find};
+ghost use Rattle.sd_text.specs.Finding.{Gives, find};
 
 use crate::cursor::Cursor;
 use crate::fault::{TextError, TextFault};
@@ -69,7 +69,7 @@ impl Cursor<'_> {
 
     /// The sub-authorities, each behind a dash, and the SID of them.
     #[tactic(auto, unfolding(crate::specs::Sid::subs_of))]
-    pub(crate) fn subs_of(&mut self, authority: u64) -> Result<Sid, TextFault>
+    fn subs_of(&mut self, authority: u64) -> Result<Sid, TextFault>
         requires { authority < 2 ^ 48 }
         ensures { Gives (λ sid. sid) result self.new.rest.now (find (subs_of authority) self.old.rest.now) }
     {

@@ -1,5 +1,5 @@
 use Rattle.std.proofs.Common.{◌≡◌, ℕ, List, Err, subst, ◌∙◌}
-use Rattle.sd_text.specs.Reading.{find}
+use Rattle.sd_text.specs.Finding.{find}
 use Rattle.sd_text.specs.Sid.{no_alias}
 use Rattle.sd_text.specs.Names.{rows}
 use Rattle.sd_text.proofs.Aliases.{alias_found, no_alias_found}

@@ -1,5 +1,5 @@
 use Rattle.std.proofs.Common.{◌≡◌, Ok, lit<, arith, subst}
-use Rattle.sd_text.specs.Reading.{find}
+use Rattle.sd_text.specs.Finding.{find}
 use Rattle.sd_text.specs.Rights.{bits_of}
 use Rattle.sd_text.specs.Entry.{flag_names}
 use Rattle.sd_text.proofs.Tables.{bits_below}

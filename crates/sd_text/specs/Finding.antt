@@ -1,4 +1,4 @@
--- Reading a text by a grammar: what private readers answer. The public calls speak of Spells and HasFault alone.
+-- What is found in a text by a grammar: the answers of private readers. The public calls speak of Spells and HasFault alone.
 use Rattle.std.specs.Prelude.{◌<◌, ◌≤◌, ◌≡◌, ℕ, zero, suc, nat_lt, not, List, [], ◌∷◌, ◌++◌, length, drop, take, Option, Some, None, Result, Ok, Err, IsOk, if◌then◌else◌}
 use Rattle.std.specs.Char.{digit_value}
 use Rattle.std.specs.Str.Parse.{digits_value}

@@ -1,0 +1,13 @@
+-- Printing into room that was taken for the whole text.
+use Rattle.std.specs.Prelude.{◌≡◌, ℕ, ◌+◌, ◌≤◌, List, ◌++◌, length, String, string_bytes, string_len, string_capacity}
+
+module _ {Z : Type 0} where
+  -- there is room for the letters
+  abbrev pub HasRoom : String Z → List ℕ → Type 0
+  HasRoom out letters = string_len out + length letters ≤ string_capacity out
+
+  -- the letters stand behind what stood there, and no room was lost
+  pub record IsPrinted (old new : String Z) (letters : List ℕ) : Type 0 where
+    pub text : string_bytes new ≡ string_bytes old ++ letters
+    pub len : string_len new ≡ string_len old + length letters
+    pub room : string_capacity old ≤ string_capacity new
