@@ -15,3 +15,4 @@ pub mod Reach
 pub mod Refused
 pub mod Reordered
 pub mod Rows
+pub mod TwoTests

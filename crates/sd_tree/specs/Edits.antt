@@ -8,14 +8,19 @@ use Rattle.sd_tree.specs.Names.{Names}
 use Rattle.sd_tree.specs.Plain.{PlainTree, row_at, dacl_at}
 use Rattle.sd_tree.specs.declared.node.Row.{Row}
 use Rattle.sd_tree.specs.declared.node.NodeKind.TheVariants.{Container, Object}
+use Rattle.sd_tree.specs.declared.node.NodeDacl.{NodeDacl}
 use Rattle.sd_tree.specs.declared.node.NodeDacl.TheVariants.{List as Entries}
 use Rattle.sd_tree.specs.declared.edit.Edit.{Edit}
 use Rattle.sd_tree.specs.declared.edit.Edit.TheVariants.{AddContainer, AddObject, SetOwner, SetGroup, SetDacl, Remove, ProtectKeeping}
 
--- the node, protected, with the entries that it had inherited as its own, in canonical order; a null DACL stays
+-- the DACL of a protected node with all of these entries as its own, in canonical order
+abbrev pub kept_dacl : List Ace → NodeDacl
+kept_dacl entries = Entries true (canonical_order (explicit_entries entries))
+
+-- the node, protected, keeps what it had inherited; a null DACL stays
 abbrev pub keeping : Option (List Ace) → Row → Row
 keeping None row = row
-keeping (Some entries) row = record row { dacl = Entries true (canonical_order (explicit_entries entries)) }
+keeping (Some entries) row = record row { dacl = kept_dacl entries }
 
 -- the node at the path is changed, where there is one
 abbrev pub changed_where : PlainTree → Names → (Row → Row) → Option Row → PlainTree

@@ -13,9 +13,12 @@
 //! ```
 #![tactic(auto)]
 
+mod describe;
 mod edit;
 mod entries;
+mod given;
 mod inherit;
+mod keep;
 mod laws;
 mod node;
 mod opening;

@@ -1,0 +1,33 @@
+//! What a node keeps when it is protected.
+
+ghost use Rattle.std.specs.Prelude.{◌≡◌, IfOk, MatchOption, option_map};
+ghost use Rattle.sd_tree.specs.Edits.{kept_dacl, keeping};
+ghost use Rattle.sd_tree.specs.declared.node.Row.{Row};
+
+use crate::entries::Entries;
+use crate::node::NodeDacl;
+use sd_acl::{AceList, canonicalize, explicit_of};
+use std::alloc::{AllocError, Global};
+
+/// The DACL that a node with this whole DACL gets as its own when it is protected and keeps what it had inherited:
+/// all entries as explicit ones, in canonical order ([MS-DTYP] 2.4.6, control bit PD). `None` where it is a null one,
+/// which stays.
+pub(crate) fn kept_dacl(
+    alloc: Global,
+    whole: &Option<AceList>,
+) -> Result<Option<NodeDacl>, AllocError>
+    ensures kept { IfOk result (λ kept. kept ≡ option_map kept_dacl whole.now) }
+    ensures keeping { IfOk result (λ kept. MatchOption kept
+        ((row : Row) → keeping whole.now row ≡ row)
+        (λ dacl. (row : Row) → keeping whole.now row ≡ record row { dacl = dacl })) }
+{
+    let Some(list) = whole else {
+        return Ok(None);
+    };
+    let explicit = explicit_of(alloc, list.entries())?;
+    let ordered = canonicalize(alloc, &explicit)?;
+    Ok(Some(NodeDacl::List {
+        protected: true,
+        entries: Entries::new(ordered),
+    }))
+}
