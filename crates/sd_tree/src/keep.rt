@@ -31,3 +31,6 @@ pub(crate) fn kept_dacl(
         entries: Entries::new(ordered),
     }))
 }
+
+#[cfg(test)]
+mod tests;
