@@ -1,12 +1,13 @@
 -- That masks computed from masks are those of the tests on places.
-use Rattle.std.proofs.Common.{◌≡◌, ℕ, ◌<◌, Bool, ◌&&◌, ◌||◌, not, nat_lt, refl, ◌∙◌, ap, List, Option, Some, None}
+use Rattle.std.proofs.Common.{◌≡◌, ℕ, ◌<◌, Bool, true, false, ◌&&◌, ◌||◌, ◌==◌, not, nat_lt, refl, sym, ◌∙◌, ap, List, Option, Some, None}
 use Rattle.std.proofs.lemmas.Bool.{agree_below_at}
-use Rattle.std.proofs.Math.Bool.{and_comm}
+use Rattle.std.proofs.Math.Bool.{and_comm, and-false, and-true}
 use Rattle.sd_sid.specs.Mask.{holds, mask_of}
 use Rattle.sd_sid.specs.Mapping.{MappingValue}
 use Rattle.sd_sid.proofs.Masks.{holds_place, mask_of-alike}
-use Rattle.sd_acl.specs.Verdict.{missing_of, most_of}
+use Rattle.sd_acl.specs.Verdict.{missing_of, most_of, joined_with, is_implied, maximum_verdict}
 use Rattle.sd_acl.specs.declared.ace.Ace.{Ace}
+use Rattle.sd_check.proofs.Given.{implied_low}
 
 holds_object : (b : ℕ) → b < 32 → holds 0x001FFFFF b ≡ nat_lt b 21
 holds_object b h = agree_below_at (holds 0x001FFFFF) (λ k. nat_lt k 21) 32 b refl h
@@ -18,28 +19,124 @@ within_is m r is = is ∙ mask_of-alike _ _ 32 (λ b h. ap (λ t. holds m b && t
 pub stands : (p : ℕ → Bool) (m b : ℕ) → b < 32 → m ≡ mask_of p 32 → holds m b ≡ p b
 stands p m b h is = ap (λ n. holds n b) is ∙ holds_place p b h
 
-pub union_is : (p q : ℕ → Bool) (a b u : ℕ) → a ≡ mask_of p 32 → b ≡ mask_of q 32
-    → u ≡ mask_of (λ k. holds a k || holds b k) 32 → u ≡ mask_of (λ k. p k || q k) 32
-union_is p q a b u is_a is_b is_u = is_u ∙ mask_of-alike _ _ 32 (λ k h.
-    ap (λ t. t || holds b k) (stands p a k h is_a) ∙ ap (λ t. p k || t) (stands q b k h is_b))
+-- ---- what is granted, of the bits that are wanted
 
-pub missing_is : (p : ℕ → Bool) (granted q m : ℕ) → granted ≡ mask_of p 32
+pub granted_without_a_list : (o : Bool) (wanted r : ℕ) → r ≡ mask_of (λ b. holds wanted b && holds 0x001FFFFF b) 32
+    → r ≡ mask_of (λ b. holds wanted b && (nat_lt b 21 || is_implied o false false b)) 32
+granted_without_a_list o wanted r is =
+    is ∙ mask_of-alike _ _ 32 (λ b h. ap (λ t. holds wanted b && t) (holds_object b h ∙ sym (implied_low o b)))
+
+listed_bit : (wanted low allowed o place free : Bool)
+    → (((wanted && low) && allowed) || ((wanted && (((o && place) || false) || false)) && free))
+    ≡ (wanted && ((low && allowed) || ((((o && free) && place) || false) || false)))
+listed_bit false low allowed o place free = refl
+listed_bit true low allowed false place free = refl
+listed_bit true low allowed true true true = refl
+listed_bit true low allowed true true false = refl
+listed_bit true low allowed true false true = refl
+listed_bit true low allowed true false false = refl
+
+pub granted_by_list : (allowed : ℕ → Bool) (o free : Bool) (wanted asked owners r : ℕ)
+    → asked ≡ mask_of (λ b. holds wanted b && holds 0x001FFFFF b) 32
+    → owners ≡ mask_of (λ b. holds wanted b && is_implied o false false b) 32
+    → r ≡ mask_of (λ b. (holds asked b && allowed b) || (holds owners b && free)) 32
+    → r ≡ mask_of (λ b. holds wanted b && ((nat_lt b 21 && allowed b) || is_implied (o && free) false false b)) 32
+granted_by_list allowed o free wanted asked owners r is_asked is_owners is =
+    is ∙ mask_of-alike _ _ 32 (λ b h.
+    ap (λ t. (t && allowed b) || (holds owners b && free))
+    (stands (λ k. holds wanted k && holds 0x001FFFFF k) asked b h is_asked ∙ ap (λ t. holds wanted b && t) (holds_object b h))
+    ∙ ap (λ t. ((holds wanted b && nat_lt b 21) && allowed b) || (t && free)) (stands (λ k. holds wanted k && is_implied o false false k) owners b h is_owners)
+    ∙ listed_bit (holds wanted b) (nat_lt b 21) (allowed b) o (b == 17 || b == 18) free)
+
+granted_bit : (wanted listed owners takes secures : Bool)
+    → ((wanted && (listed || ((owners || false) || false))) || (wanted && (takes || secures))) ≡ (wanted && (listed || ((owners || takes) || secures)))
+granted_bit false listed owners takes secures = refl
+granted_bit true true owners takes secures = refl
+granted_bit true false true takes secures = refl
+granted_bit true false false takes secures = refl
+
+pub granted_is : (listed : ℕ → Bool) (o t s : Bool) (wanted by_list privileged kept r : ℕ)
+    → by_list ≡ mask_of (λ b. holds wanted b && (listed b || is_implied o false false b)) 32
+    → privileged ≡ mask_of (is_implied false t s) 32
+    → kept ≡ mask_of (λ b. holds wanted b && holds privileged b) 32
+    → r ≡ mask_of (λ b. holds by_list b || holds kept b) 32
+    → r ≡ mask_of (λ b. holds wanted b && (listed b || is_implied o t s b)) 32
+granted_is listed o t s wanted by_list privileged kept r is_list is_privileged is_kept is =
+    is ∙ mask_of-alike _ _ 32 (λ b h.
+    ap (λ x. x || holds kept b) (stands (λ k. holds wanted k && (listed k || is_implied o false false k)) by_list b h is_list)
+    ∙ ap (λ x. (holds wanted b && (listed b || is_implied o false false b)) || x)
+    (stands (λ k. holds wanted k && holds privileged k) kept b h is_kept ∙ ap (λ x. holds wanted b && x) (stands (is_implied false t s) privileged b h is_privileged))
+    ∙ granted_bit (holds wanted b) (listed b) (o && (b == 17 || b == 18)) (t && b == 19) (s && b == 24))
+
+-- ---- what MAXIMUM_ALLOWED takes in
+
+most_bit : (low all o place takes secures : Bool)
+    → ((all || ((low && (((o && place) || false) || false)) || (takes || secures))) && low)
+    ≡ (low && (all || ((((o && true) && place) || takes) || secures)))
+most_bit false all o place takes secures = and-false _
+most_bit true true o place takes secures = refl
+most_bit true false true true takes secures = refl
+most_bit true false true false takes secures = and-true _
+most_bit true false false place takes secures = and-true _
+
+pub most_without_a_list : (o t s : Bool) (all owners privileged given joined r : ℕ)
+    → owners ≡ mask_of (λ b. holds 0x001FFFFF b && is_implied o false false b) 32
+    → privileged ≡ mask_of (is_implied false t s) 32
+    → given ≡ mask_of (λ b. holds owners b || holds privileged b) 32
+    → joined ≡ mask_of (λ b. holds all b || holds given b) 32
+    → r ≡ mask_of (λ b. holds joined b && holds 0x001FFFFF b) 32
+    → r ≡ mask_of (λ b. nat_lt b 21 && (holds all b || is_implied (o && true) t s b)) 32
+most_without_a_list o t s all owners privileged given joined r is_owners is_privileged is_given is_joined is =
+    is ∙ mask_of-alike _ _ 32 (λ b h.
+    let theirs : holds owners b ≡ (nat_lt b 21 && is_implied o false false b) =
+    stands (λ k. holds 0x001FFFFF k && is_implied o false false k) owners b h is_owners ∙ ap (λ x. x && is_implied o false false b) (holds_object b h) in
+    let both : holds given b ≡ ((nat_lt b 21 && is_implied o false false b) || is_implied false t s b) =
+    stands (λ k. holds owners k || holds privileged k) given b h is_given
+    ∙ ap (λ x. x || holds privileged b) theirs
+    ∙ ap (λ x. (nat_lt b 21 && is_implied o false false b) || x) (stands (is_implied false t s) privileged b h is_privileged) in
+    ap (λ x. x && holds 0x001FFFFF b) (stands (λ k. holds all k || holds given k) joined b h is_joined ∙ ap (λ x. holds all b || x) both)
+    ∙ ap (λ x. (holds all b || ((nat_lt b 21 && is_implied o false false b) || is_implied false t s b)) && x) (holds_object b h)
+    ∙ most_bit (nat_lt b 21) (holds all b) o (b == 17 || b == 18) (t && b == 19) (s && b == 24))
+
+-- ---- the answer, from what is granted of the wanted bits
+
+missing_bit : (asked more granted : Bool) → (asked && not ((asked || more) && granted)) ≡ (asked && not granted)
+missing_bit true more granted = refl
+missing_bit false more granted = refl
+
+low_bit : (low asked granted : Bool) → (low && ((asked || low) && granted)) ≡ (low && granted)
+low_bit true true granted = refl
+low_bit true false granted = refl
+low_bit false asked granted = refl
+
+module _ (p : ℕ → Bool) (q wanted granted : ℕ) (is_wanted : wanted ≡ mask_of (λ b. holds q b || holds 0x001FFFFF b) 32)
+    (is_granted : granted ≡ mask_of (λ b. holds wanted b && p b) 32) where
+  at_place : (b : ℕ) → b < 32 → holds granted b ≡ ((holds q b || nat_lt b 21) && p b)
+  at_place b h =
+      stands (λ k. holds wanted k && p k) granted b h is_granted
+      ∙ ap (λ t. t && p b) (stands (λ k. holds q k || holds 0x001FFFFF k) wanted b h is_wanted ∙ ap (λ t. holds q b || t) (holds_object b h))
+
+  missing_of_more : (m : ℕ) → m ≡ mask_of (λ b. holds q b && not (holds granted b)) 32 → m ≡ missing_of p q
+  missing_of_more m is = is ∙ mask_of-alike _ _ 32 (λ b h. ap (λ t. holds q b && not t) (at_place b h) ∙ missing_bit (holds q b) (nat_lt b 21) (p b))
+
+  most_of_more : (g : MappingValue) (given : ℕ → Bool) (dacl : Option (List Ace)) → most_of g (holds granted) given dacl ≡ most_of g p given dacl
+  most_of_more g given None = refl
+  most_of_more g given (Some es) = mask_of-alike _ _ 32 (λ b h. ap (λ t. nat_lt b 21 && t) (at_place b h) ∙ low_bit (nat_lt b 21) (holds q b) (p b))
+
+  pub maximum_is : (g : MappingValue) (given : ℕ → Bool) (dacl : Option (List Ace)) (missing most all : ℕ)
+      → missing ≡ mask_of (λ b. holds q b && not (holds granted b)) 32
+      → most ≡ most_of g (holds granted) given dacl
+      → all ≡ mask_of (λ b. holds q b || holds most b) 32
+      → maximum_verdict missing all ≡ maximum_verdict (missing_of p q) (joined_with q (most_of g p given dacl))
+  maximum_is g given dacl missing most all is_missing is_most is_all =
+      ap (λ m. maximum_verdict m all) (missing_of_more missing is_missing)
+      ∙ ap (maximum_verdict (missing_of p q)) (is_all ∙ ap (joined_with q) (is_most ∙ most_of_more g given dacl))
+
+same_bit : (asked granted : Bool) → (asked && not (asked && granted)) ≡ (asked && not granted)
+same_bit true granted = refl
+same_bit false granted = refl
+
+pub missing_is : (p : ℕ → Bool) (q granted m : ℕ) → granted ≡ mask_of (λ b. holds q b && p b) 32
     → m ≡ mask_of (λ b. holds q b && not (holds granted b)) 32 → m ≡ missing_of p q
-missing_is p granted q m is_granted is_m = is_m ∙ mask_of-alike _ _ 32 (λ b h.
-    ap (λ t. holds q b && not t) (stands p granted b h is_granted))
-
-pub most_is : (g : MappingValue) (p q : ℕ → Bool) (granted given : ℕ) (dacl : Option (List Ace))
-    → granted ≡ mask_of p 32 → given ≡ mask_of q 32
-    → most_of g (holds granted) (holds given) dacl ≡ most_of g p q dacl
-most_is g p q granted given None is_granted is_given = mask_of-alike _ _ 32 (λ b h.
-    ap (λ t. nat_lt b 21 && (holds g.all b || t)) (stands q given b h is_given))
-most_is g p q granted given (Some es) is_granted is_given = mask_of-alike _ _ 32 (λ b h.
-    ap (λ t. nat_lt b 21 && t) (stands p granted b h is_granted))
-
--- what an absent or a null DACL lets MAXIMUM_ALLOWED take in
-pub most_without_a_list : (all given union r : ℕ)
-    → union ≡ mask_of (λ b. holds all b || holds given b) 32
-    → r ≡ mask_of (λ b. nat_lt b 21 && holds union b) 32
-    → r ≡ mask_of (λ b. nat_lt b 21 && (holds all b || holds given b)) 32
-most_without_a_list all given union r is_union is_r = is_r ∙ mask_of-alike _ _ 32 (λ b h.
-    ap (λ t. nat_lt b 21 && t) (stands (λ k. holds all k || holds given k) union b h is_union))
+missing_is p q granted m is_granted is = is ∙ mask_of-alike _ _ 32 (λ b h.
+    ap (λ t. holds q b && not t) (stands (λ k. holds q k && p k) granted b h is_granted) ∙ same_bit (holds q b) (p b))

@@ -1,9 +1,11 @@
--- What is granted without an entry, as a union of three masks.
-use Rattle.std.proofs.Common.{◌≡◌, ℕ, ◌<◌, Bool, ◌&&◌, ◌||◌, ◌==◌, nat_lt, cond, refl, ◌∙◌, ap}
-use Rattle.std.proofs.lemmas.Bool.{agree_below_at}
+-- What is granted without an entry, as masks.
+use Rattle.std.proofs.Common.{◌≡◌, ℕ, ◌<◌, Bool, true, false, ◌&&◌, ◌||◌, ◌==◌, nat_lt, cond, refl, sym, ◌∙◌, ap, arith, inl, inr}
+use Rattle.std.proofs.lemmas.Bool.{agree_below_at, cases_lt, lt-ltb, ne_eqb, eqb-true}
+use Rattle.std.proofs.Math.Bool.{and-false, or-false}
 use Rattle.sd_sid.specs.Mask.{holds, mask_of}
-use Rattle.sd_sid.proofs.Masks.{holds_place, holds_when, mask_of-alike}
+use Rattle.sd_sid.proofs.Masks.{holds_when, mask_of-alike}
 use Rattle.sd_acl.specs.Verdict.{is_implied}
+use Rattle.sd_check.proofs.LowMasks.{no_places}
 
 holds_owners : (b : ℕ) → b < 32 → holds 0x00060000 b ≡ (b == 17 || b == 18)
 holds_owners b h = agree_below_at (holds 0x00060000) (λ k. k == 17 || k == 18) 32 b refl h
@@ -18,21 +20,40 @@ holds_security b h = agree_below_at (holds 0x01000000) (λ k. k == 24) 32 b refl
 taken : (t : Bool) (m b : ℕ) (place : Bool) → holds m b ≡ place → holds (cond t m 0) b ≡ (t && place)
 taken t m b place is = holds_when t m b ∙ ap (λ p. t && p) is
 
-pub given_is : (o t s : Bool) (owners takes secures first all : ℕ)
-    → owners ≡ cond o 0x00060000 0 → takes ≡ cond t 0x00080000 0 → secures ≡ cond s 0x01000000 0
-    → first ≡ mask_of (λ b. holds owners b || holds takes b) 32
-    → all ≡ mask_of (λ b. holds first b || holds secures b) 32
-    → all ≡ mask_of (is_implied o t s) 32
-given_is o t s owners takes secures first all is_owners is_takes is_secures is_first is_all =
-    is_all ∙ mask_of-alike _ (is_implied o t s) 32 (λ b h.
-    ap (λ x. holds first b || x) (ap (λ n. holds n b) is_secures ∙ taken s 0x01000000 b (b == 24) (holds_security b h))
-    ∙ ap (λ x. x || (s && b == 24)) (
-    ap (λ n. holds n b) is_first ∙ holds_place (λ k. holds owners k || holds takes k) b h
-    ∙ ap (λ x. x || holds takes b) (ap (λ n. holds n b) is_owners ∙ taken o 0x00060000 b (b == 17 || b == 18) (holds_owners b h))
-    ∙ ap (λ x. (o && (b == 17 || b == 18)) || x) (ap (λ n. holds n b) is_takes ∙ taken t 0x00080000 b (b == 19) (holds_write_owner b h))
-    ))
+-- ---- the owner's
 
--- the mask of the places below 21
-pub object_rights : 0x001FFFFF ≡ mask_of (λ b. nat_lt b 21) 32
-unfolding mask_of
-object_rights = refl
+alone : (x : Bool) → ((x || false) || false) ≡ x
+alone true = refl
+alone false = refl
+
+-- the owner's two bits of a mask, where the token stands for the owner
+pub owners_is : (o : Bool) (wanted owners : ℕ) → owners ≡ mask_of (λ b. holds wanted b && holds 0x00060000 b) 32
+    → cond o owners 0 ≡ mask_of (λ b. holds wanted b && is_implied o false false b) 32
+owners_is true wanted owners is =
+    is ∙ mask_of-alike _ _ 32 (λ b h. ap (λ t. holds wanted b && t) (holds_owners b h ∙ sym (alone (b == 17 || b == 18))))
+owners_is false wanted owners is = sym (mask_of-alike _ (λ b. false) 32 (λ b h. and-false (holds wanted b)) ∙ no_places)
+
+-- where there are none, whether it does isn't asked
+pub no_owners : (o : Bool) (wanted owners : ℕ) → owners ≡ mask_of (λ b. holds wanted b && holds 0x00060000 b) 32 → (owners == 0) ≡ true
+    → owners ≡ mask_of (λ b. holds wanted b && is_implied o false false b) 32
+no_owners true wanted owners is none = owners_is true wanted owners is
+no_owners false wanted owners is none = eqb-true owners 0 none ∙ owners_is false wanted owners is
+
+-- the owner's two bits are places below 21
+pub implied_low : (o : Bool) (b : ℕ) → (nat_lt b 21 || is_implied o false false b) ≡ nat_lt b 21
+implied_low o b = elim (cases_lt b 21) [
+  | inl low ↦ rw (lt-ltb b 21 low) refl
+  | inr high ↦
+      let not_17 : (b == 17) ≡ false = ne_eqb b 17 (λ e. absurd (omega arith)) in
+      let not_18 : (b == 18) ≡ false = ne_eqb b 18 (λ e. absurd (omega arith)) in
+      rw (not_17, not_18, and-false o) (or-false (nat_lt b 21))
+]
+
+-- ---- the privileges'
+
+pub privileged_is : (t s : Bool) (takes secures all : ℕ) → takes ≡ cond t 0x00080000 0 → secures ≡ cond s 0x01000000 0
+    → all ≡ mask_of (λ b. holds takes b || holds secures b) 32 → all ≡ mask_of (is_implied false t s) 32
+privileged_is t s takes secures all is_takes is_secures is_all =
+    is_all ∙ mask_of-alike _ (is_implied false t s) 32 (λ b h.
+    ap (λ x. x || holds secures b) (ap (λ n. holds n b) is_takes ∙ taken t 0x00080000 b (b == 19) (holds_write_owner b h))
+    ∙ ap (λ x. (t && b == 19) || x) (ap (λ n. holds n b) is_secures ∙ taken s 0x01000000 b (b == 24) (holds_security b h)))

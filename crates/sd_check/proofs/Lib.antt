@@ -1,5 +1,5 @@
-pub mod FirstEntry
+pub mod LowMasks
 pub mod Given
 pub mod Answered
-pub mod LowMasks
+pub mod OneWalk
 pub mod LawProofs

@@ -1,15 +1,15 @@
 //! Which bits a DACL, the owner's rights and the privileges grant.
 
-ghost use Rattle.std.specs.Prelude.{◌≡◌, ◌<◌, ◌&&◌, not, nat_lt, Some};
+ghost use Rattle.std.specs.Prelude.{◌≡◌, ◌&&◌, ◌||◌, not, false, Some, None};
 ghost use Rattle.sd_acl.specs.declared.ace.AceKind.TheVariants.{Allow};
 ghost use Rattle.std.specs.Option.{option_copied};
 ghost use Rattle.sd_sid.specs.Mask.{holds, mask_of};
-ghost use Rattle.sd_acl.specs.Verdict.{acl_grants, first, is_allowed_by, limits_owner, subject, most_of};
+ghost use Rattle.sd_acl.specs.Verdict.{acl_grants, first, is_allowed_by, limits_owner, subject, is_implied, most_of};
 ghost use Rattle.sd_check.specs.Token.{applies, stands_for_subject};
 ghost use Rattle.sd_check.specs.Check.{is_given, is_granted, answer_of};
 ghost use Rattle.sd_check.specs.Dacl.{entries_of};
 ghost use Rattle.sd_acl.specs.Verdict as rules;
-ghost use Rattle.sd_check.specs.Walk.{mask_that_applies};
+ghost use Rattle.sd_check.specs.Walk.{mask_that_applies, is_limit};
 
 use crate::token::Token;
 use sd_acl::{Ace, AceKind, Verdict};
@@ -25,9 +25,6 @@ pub enum DaclRef<'a> {
     /// These entries, in this order.
     List(&'a [Ace]),
 }
-
-/// The places of the object's own rights and the standard ones are those below.
-const OBJECT_PLACES: u32 = 21;
 
 /// READ_CONTROL and WRITE_DAC, which are the owner's.
 const OWNERS_RIGHTS: Mask = Mask(0x0006_0000);
@@ -64,11 +61,11 @@ fn subject_of<'a>(owner: &'a Option<Sid>, sid: &'a Sid) -> Option<&'a Sid>
     }
 }
 
-/// Whether an effective entry for OWNER RIGHTS stands in the list.
-fn has_owner_rights(entries: &[Ace]) -> bool
-    ensures { result ≡ limits_owner (Some entries.now) }
+/// Whether the entry is effective, and limits the owner ([MS-DTYP] 2.5.3.2).
+fn limits_owner(entry: &Ace) -> bool
+    ensures { result ≡ is_limit entry.now }
 {
-    entries.iter().any(|entry| !entry.is_inherit_only() && entry.sid.is_owner_rights())
+    !entry.is_inherit_only() && entry.sid.is_owner_rights()
 }
 
 /// Whether an entry of the kind for the SID applies ([MS-DTYP] 2.5.3.1).
@@ -95,40 +92,38 @@ impl Access<'_> {
         self.mapping.map(entry.mask)
     }
 
-    /// Whether the first entry that settles the bit allows it.
-    fn is_allowed(&self, entries: &[Ace], place: u32) -> bool
-        requires { place < 32 }
-        ensures { result ≡ is_allowed_by (first self.now.mapping.now (applies self.now.token.now self.now.owner.now) entries.now place) }
+    /// Of the bits that are wanted, those that the entries grant; and the owner's, unless an entry limits the owner.
+    /// The walk ends as soon as what stands behind can tell nothing of either.
+    fn walk(&self, entries: &[Ace], wanted: Mask, owners: Mask) -> Mask
+        ensures { result ≡ mask_of (λ b. (holds wanted b && is_allowed_by (first self.now.mapping.now (applies self.now.token.now self.now.owner.now) entries.now b)) || (holds owners b && not (limits_owner (Some entries.now)))) 32 }
     {
-        for entry in entries {
-            if self.mask_that_applies(entry).holds(place) {
-                return entry.kind.is_allow();
-            }
-        }
-        false
-    }
-
-    /// The bits that the entries of a list grant.
-    fn allowed(&self, entries: &[Ace]) -> Mask
-        ensures { result ≡ mask_of (acl_grants self.now.mapping.now (applies self.now.token.now self.now.owner.now) (Some entries.now)) 32 }
-    {
+        let mut undecided = wanted;
         let mut allowed = Mask(0);
-        for place in 0..OBJECT_PLACES {
-            if self.is_allowed(entries, place) {
-                allowed = allowed.with(place);
+        let mut kept = owners;
+        for entry in entries {
+            let hanging = kept.minus(allowed);
+            if undecided.union(hanging).is_empty() {
+                return allowed.union(kept);
             }
+            let mask = self.mask_that_applies(entry).common(undecided);
+            undecided = undecided.minus(mask);
+            allowed = allowed.union(mask.when(entry.kind.is_allow()));
+            kept = kept.when(!limits_owner(entry));
         }
-        allowed
+        allowed.union(kept)
     }
 
-    /// The bits that the DACL grants.
-    fn granted_by_dacl(&self) -> Mask
-        ensures { result ≡ mask_of (acl_grants self.now.mapping.now (applies self.now.token.now self.now.owner.now) (entries_of self.now.dacl)) 32 }
+    /// Of the bits that are wanted, those that the DACL grants, and the owner's where it doesn't limit the owner.
+    fn granted_by_dacl(&self, wanted: Mask) -> Mask
+        ensures { result ≡ mask_of (λ b. holds wanted b && (acl_grants self.now.mapping.now (applies self.now.token.now self.now.owner.now) (entries_of self.now.dacl) b || is_implied (stands_for_subject self.now.token.now Allow self.now.owner.now && not (limits_owner (entries_of self.now.dacl))) false false b)) 32 }
     {
         match self.dacl {
-            DaclRef::Absent => OBJECT_RIGHTS,
-            DaclRef::Null => OBJECT_RIGHTS,
-            DaclRef::List(entries) => self.allowed(entries),
+            DaclRef::Absent => wanted.common(OBJECT_RIGHTS),
+            DaclRef::Null => wanted.common(OBJECT_RIGHTS),
+            DaclRef::List(entries) => {
+                let owners = self.owners_rights(wanted);
+                self.walk(entries, wanted.common(OBJECT_RIGHTS), owners)
+            }
         }
     }
 
@@ -142,56 +137,66 @@ impl Access<'_> {
         }
     }
 
-    /// Whether the token stands for the owner, and the list doesn't limit the owner.
-    fn has_owners_rights(&self) -> bool
-        ensures { result ≡ (stands_for_subject self.now.token.now Allow self.now.owner.now && not (limits_owner (entries_of self.now.dacl))) }
+    /// Of the bits that are wanted, the owner's, where the token stands for the owner.
+    fn owners_rights(&self, wanted: Mask) -> Mask
+        ensures { result ≡ mask_of (λ b. holds wanted b && is_implied (stands_for_subject self.now.token.now Allow self.now.owner.now) false false b) 32 }
     {
-        self.is_owner() && !self.dacl.limits_owner()
+        let owners = wanted.common(OWNERS_RIGHTS);
+        if owners.is_empty() {
+            return owners;
+        }
+        owners.when(self.is_owner())
     }
 
-    /// The bits that are granted without an entry.
-    fn given(&self) -> Mask
-        ensures { result ≡ mask_of (is_given self.now.owner.now (entries_of self.now.dacl) self.now.token.now) 32 }
+    /// What the privileges grant.
+    fn privileged(&self) -> Mask
+        ensures { result ≡ mask_of (is_implied false self.now.token.now.privileges.take_ownership self.now.token.now.privileges.security) 32 }
     {
         let privileges = self.token.privileges();
-        OWNERS_RIGHTS
-            .when(self.has_owners_rights())
-            .union(WRITE_OWNER.when(privileges.take_ownership))
+        WRITE_OWNER
+            .when(privileges.take_ownership)
             .union(ACCESS_SYSTEM_SECURITY.when(privileges.security))
     }
 
-    /// What MAXIMUM_ALLOWED takes in, from what is granted in all and what is granted without an entry.
-    fn most(&self, granted: Mask, given: Mask) -> Mask
-        ensures { result ≡ most_of self.now.mapping.now (holds granted) (holds given) (entries_of self.now.dacl) }
+    /// Of the bits that are wanted, those that are granted.
+    fn granted(&self, wanted: Mask) -> Mask
+        ensures { result ≡ mask_of (λ b. holds wanted b && is_granted self.now.owner.now (entries_of self.now.dacl) self.now.mapping.now self.now.token.now b) 32 }
+    {
+        let privileged = wanted.common(self.privileged());
+        self.granted_by_dacl(wanted).union(privileged)
+    }
+
+    /// What MAXIMUM_ALLOWED takes in, where `granted` are those of the wanted bits that are granted.
+    fn most(&self, granted: Mask) -> Mask
+        ensures { result ≡ most_of self.now.mapping.now (holds granted) (is_given self.now.owner.now (entries_of self.now.dacl) self.now.token.now) (entries_of self.now.dacl) }
     {
         match self.dacl {
-            DaclRef::Absent => within_object_rights(self.mapping.all().union(given)),
-            DaclRef::Null => within_object_rights(self.mapping.all().union(given)),
-            DaclRef::List(_) => within_object_rights(granted),
+            DaclRef::Absent => self.most_without_a_list(),
+            DaclRef::Null => self.most_without_a_list(),
+            DaclRef::List(_) => granted.common(OBJECT_RIGHTS),
         }
+    }
+
+    /// What MAXIMUM_ALLOWED takes in without a list: what GENERIC_ALL stands for, and what the owner and the privileges have.
+    fn most_without_a_list(&self) -> Mask
+        ensures { result ≡ most_of self.now.mapping.now (λ b. false) (is_given self.now.owner.now None self.now.token.now) None }
+    {
+        let given = self.owners_rights(OBJECT_RIGHTS).union(self.privileged());
+        self.mapping.all().union(given).common(OBJECT_RIGHTS)
     }
 
     /// The verdict on a request that isn't empty and has no reserved bit.
     pub(crate) fn answer(&self, asked: Mask) -> Verdict
         ensures { result ≡ answer_of self.now.owner.now (entries_of self.now.dacl) self.now.mapping.now self.now.token.now asked }
     {
-        let given = self.given();
-        let granted = self.granted_by_dacl().union(given);
         let wanted = self.mapping.map(asked.minus(MAXIMUM_ALLOWED));
-        let missing = wanted.minus(granted);
         if asked.holds(MAXIMUM_PLACE) {
-            maximum_verdict(missing, wanted.union(self.most(granted, given)))
+            let granted = self.granted(wanted.union(OBJECT_RIGHTS));
+            maximum_verdict(wanted.minus(granted), wanted.union(self.most(granted)))
         } else {
-            plain_verdict(wanted, missing)
+            plain_verdict(wanted, wanted.minus(self.granted(wanted)))
         }
     }
-}
-
-/// The object's own rights and the standard ones of a mask.
-fn within_object_rights(mask: Mask) -> Mask
-    ensures { result ≡ mask_of (λ b. nat_lt b 21 && holds mask b) 32 }
-{
-    mask.common(OBJECT_RIGHTS)
 }
 
 /// The verdict on a request without MAXIMUM_ALLOWED.
@@ -220,17 +225,4 @@ fn maximum_verdict(missing: Mask, all: Mask) -> Verdict
         };
     }
     Verdict::Granted(all)
-}
-
-impl DaclRef<'_> {
-    /// Whether an effective entry for OWNER RIGHTS stands in the list ([MS-DTYP] 2.5.3.2).
-    fn limits_owner(&self) -> bool
-        ensures { result ≡ limits_owner (entries_of self.now) }
-    {
-        match self {
-            DaclRef::Absent => false,
-            DaclRef::Null => false,
-            DaclRef::List(entries) => has_owner_rights(entries),
-        }
-    }
 }

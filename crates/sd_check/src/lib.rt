@@ -28,4 +28,6 @@ pub use sd_acl::Verdict;
 pub use token::{GroupState, Privileges, Token};
 
 #[cfg(test)]
+mod bit_by_bit;
+#[cfg(test)]
 mod tests;

@@ -26,7 +26,7 @@ pub fn check(
         Dacl::Null => DaclRef::Null,
         Dacl::List(list) => DaclRef::List(list.entries()),
     };
-    check_parts(descriptor.owner, dacl, mapping, token, asked)
+    judge(&descriptor.owner, dacl, mapping, token, asked)
 }
 
 /// The same for a descriptor in parts: its owner, and its DACL.
@@ -39,6 +39,19 @@ pub fn check_parts(
 ) -> Verdict
     ensures { result ≡ verdict owner (entries_of dacl.entry) mapping.now token.now asked }
 {
+    judge(&owner, dacl, mapping, token, asked)
+}
+
+/// The same, for an owner that is lent.
+fn judge(
+    owner: &Option<Sid>,
+    dacl: DaclRef<'_>,
+    mapping: &GenericMapping,
+    token: &Token,
+    asked: Mask,
+) -> Verdict
+    ensures { result ≡ verdict owner.now (entries_of dacl.entry) mapping.now token.now asked }
+{
     if asked.is_empty() {
         return Verdict::EmptyRequest;
     }
@@ -47,7 +60,7 @@ pub fn check_parts(
         return Verdict::Reserved(reserved);
     }
     let access = Access {
-        owner: &owner,
+        owner,
         dacl,
         mapping,
         token,

@@ -1,0 +1,128 @@
+-- One walk over a list, whichever entries apply: what the masks so far and the rest of the list come to.
+use Rattle.std.proofs.Common.{◌≡◌, ℕ, ◌+◌, ◌<◌, Bool, true, false, not, ◌&&◌, ◌||◌, ◌==◌, cond, List, [], ◌∷◌, length, get_or, drop, Option, Some, refl, sym, ◌∙◌, ap, add-one, find}
+use Rattle.std.specs.List.{list_any}
+use Rattle.std.proofs.Math.Seq.{drop-cons}
+use Rattle.std.proofs.lemmas.Bool.{eqb-true}
+use Rattle.std.proofs.lemmas.Nat.Bits.{bit_at-zero}
+use Rattle.sd_sid.specs.Mask.{holds, mask_of}
+use Rattle.sd_sid.specs.Mapping.{MappingValue, mapped}
+use Rattle.sd_sid.specs.Sid.{SidValue}
+use Rattle.sd_sid.proofs.Masks.{holds_when, mask_of-alike}
+use Rattle.sd_acl.specs.Ace.{is_allow, is_inherit_only}
+use Rattle.sd_acl.specs.Verdict.{decides, first, is_allowed_by, limits_owner}
+use Rattle.sd_acl.specs.declared.ace.Ace.{Ace}
+use Rattle.sd_acl.specs.declared.ace.AceKind.{AceKind}
+use Rattle.sd_check.specs.Walk.{mask_that_applies, is_limit}
+use Rattle.sd_check.proofs.Answered.{stands}
+
+-- what is granted in the end: what is allowed so far, what is undecided and the rest allows, and what the owner keeps
+-- whom the rest doesn't limit. `mask` tells what an entry takes part with, `limits` whether it limits the owner
+pub outcome : (Ace → ℕ) → (Ace → Bool) → List Ace → ℕ → ℕ → ℕ → ℕ
+outcome mask limits es undecided allowed kept =
+    mask_of (λ b. (holds allowed b || (holds undecided b && is_allowed_by (find (λ e. holds (mask e) b) es))) || (holds kept b && not (list_any limits es))) 32
+
+-- ---- an entry
+
+allowed_first : (here : Bool) (e : Ace) (later : Option Ace) → is_allowed_by (cond here (Some e) later) ≡ cond here (is_allow e.kind) (is_allowed_by later)
+allowed_first true e later = refl
+allowed_first false e later = refl
+
+-- a bit that was undecided is what its entry says, or what the rest says
+bit_step : (allowed undecided here allows later : Bool)
+    → (allowed || (undecided && cond here allows later)) ≡ ((allowed || (allows && (here && undecided))) || ((undecided && not (here && undecided)) && later))
+bit_step true undecided here allows later = refl
+bit_step false true true true later = refl
+bit_step false true true false later = refl
+bit_step false true false true later = refl
+bit_step false true false false later = refl
+bit_step false false true true later = refl
+bit_step false false true false later = refl
+bit_step false false false true later = refl
+bit_step false false false false later = refl
+
+owner_step : (kept limits later : Bool) → (kept && not (limits || later)) ≡ ((not limits && kept) && not later)
+owner_step true true later = refl
+owner_step true false later = refl
+owner_step false true later = refl
+owner_step false false later = refl
+
+pub outcome_step : (mask : Ace → ℕ) (limits : Ace → Bool) (e : Ace) (es : List Ace) (u a k m left got keeps : ℕ)
+    → m ≡ mask_of (λ b. holds (mask e) b && holds u b) 32
+    → left ≡ mask_of (λ b. holds u b && not (holds m b)) 32
+    → got ≡ mask_of (λ b. holds a b || holds (cond (is_allow e.kind) m 0) b) 32
+    → keeps ≡ cond (not (limits e)) k 0
+    → outcome mask limits (e ∷ es) u a k ≡ outcome mask limits es left got keeps
+unfolding outcome
+outcome_step mask limits e es u a k m left got keeps is_m is_left is_got is_keeps =
+    mask_of-alike _ _ 32 (λ b h.
+    let later = find (λ x. holds (mask x) b) es in
+    let settled : holds m b ≡ (holds (mask e) b && holds u b) = stands (λ i. holds (mask e) i && holds u i) m b h is_m in
+    let at_left : holds left b ≡ (holds u b && not (holds (mask e) b && holds u b)) =
+    stands (λ i. holds u i && not (holds m i)) left b h is_left ∙ ap (λ t. holds u b && not t) settled in
+    let at_got : holds got b ≡ (holds a b || (is_allow e.kind && (holds (mask e) b && holds u b))) =
+    stands (λ i. holds a i || holds (cond (is_allow e.kind) m 0) i) got b h is_got
+    ∙ ap (λ t. holds a b || t) (holds_when (is_allow e.kind) m b ∙ ap (λ t. is_allow e.kind && t) settled) in
+    let at_keeps : holds keeps b ≡ (not (limits e) && holds k b) = ap (λ n. holds n b) is_keeps ∙ holds_when (not (limits e)) k b in
+    ap (λ t. (holds a b || (holds u b && t)) || (holds k b && not (limits e || list_any limits es))) (allowed_first (holds (mask e) b) e later)
+    ∙ ap (λ t. t || (holds k b && not (limits e || list_any limits es))) (bit_step (holds a b) (holds u b) (holds (mask e) b) (is_allow e.kind) (is_allowed_by later))
+    ∙ ap (λ t. ((holds a b || (is_allow e.kind && (holds (mask e) b && holds u b))) || ((holds u b && not (holds (mask e) b && holds u b)) && is_allowed_by later)) || t)
+    (owner_step (holds k b) (limits e) (list_any limits es))
+    ∙ sym (ap (λ t. (t || (holds left b && is_allowed_by later)) || (holds keeps b && not (list_any limits es))) at_got
+    ∙ ap (λ t. ((holds a b || (is_allow e.kind && (holds (mask e) b && holds u b))) || (t && is_allowed_by later)) || (holds keeps b && not (list_any limits es))) at_left
+    ∙ ap (λ t. ((holds a b || (is_allow e.kind && (holds (mask e) b && holds u b))) || ((holds u b && not (holds (mask e) b && holds u b)) && is_allowed_by later)) || (t && not (list_any limits es))) at_keeps))
+
+-- ---- the end
+
+bit_end : (allowed undecided kept : Bool) → ((allowed || (undecided && false)) || (kept && true)) ≡ (allowed || kept)
+bit_end true undecided kept = refl
+bit_end false true true = refl
+bit_end false true false = refl
+bit_end false false true = refl
+bit_end false false false = refl
+
+pub outcome_at_end : (mask : Ace → ℕ) (limits : Ace → Bool) (u a k r : ℕ) → r ≡ mask_of (λ b. holds a b || holds k b) 32 → outcome mask limits [] u a k ≡ r
+unfolding outcome
+outcome_at_end mask limits u a k r is = mask_of-alike _ _ 32 (λ b h. bit_end (holds a b) (holds u b) (holds k b)) ∙ sym is
+
+bit_early : (allowed undecided kept later free : Bool) → (undecided || (kept && not allowed)) ≡ false → ((allowed || (undecided && later)) || (kept && free)) ≡ (allowed || kept)
+bit_early true undecided kept later free e = refl
+bit_early false true kept later free e = absurd cc
+bit_early false false true later free e = absurd cc
+bit_early false false false later free e = refl
+
+-- where no bit is undecided, nor any that the owner keeps and isn't allowed, the rest of the list tells nothing
+pub outcome_early : (mask : Ace → ℕ) (limits : Ace → Bool) (es : List Ace) (u a k hanging left r : ℕ)
+    → hanging ≡ mask_of (λ b. holds k b && not (holds a b)) 32
+    → left ≡ mask_of (λ b. holds u b || holds hanging b) 32
+    → (left == 0) ≡ true
+    → r ≡ mask_of (λ b. holds a b || holds k b) 32
+    → outcome mask limits es u a k ≡ r
+unfolding outcome
+outcome_early mask limits es u a k hanging left r is_hanging is_left none is =
+    mask_of-alike _ _ 32 (λ b h.
+    let nothing : (holds u b || (holds k b && not (holds a b))) ≡ false =
+    ap (λ t. holds u b || t) (sym (stands (λ i. holds k i && not (holds a i)) hanging b h is_hanging))
+    ∙ sym (stands (λ i. holds u i || holds hanging i) left b h is_left)
+    ∙ ap (λ n. holds n b) (eqb-true left 0 none) ∙ ap (λ n. n == 1) (bit_at-zero b) in
+    bit_early (holds a b) (holds u b) (holds k b) _ _ nothing) ∙ sym is
+
+-- ---- the whole list
+
+-- an entry settles a bit where what it takes part with holds the bit
+settles : (g : MappingValue) (who : AceKind → SidValue → Bool) (b : ℕ) → (λ e. holds (mask_that_applies g who e) b) ≡ decides g who b
+settles g who b = λ i e. holds_when (not (is_inherit_only e) && who e.kind e.sid) (mapped g e.mask) b i
+
+pub outcome_of_list : (g : MappingValue) (who : AceKind → SidValue → Bool) (es : List Ace) (wanted owners : ℕ)
+    → outcome (mask_that_applies g who) is_limit es wanted 0 owners
+    ≡ mask_of (λ b. (holds wanted b && is_allowed_by (first g who es b)) || (holds owners b && not (limits_owner (Some es)))) 32
+unfolding outcome
+outcome_of_list g who es wanted owners =
+    mask_of-alike _ _ 32 (λ b h.
+    ap (λ t. (t || (holds wanted b && is_allowed_by (find (λ e. holds (mask_that_applies g who e) b) es))) || (holds owners b && not (limits_owner (Some es))))
+    (ap (λ n. n == 1) (bit_at-zero b))
+    ∙ ap (λ p. (holds wanted b && is_allowed_by (find p es)) || (holds owners b && not (limits_owner (Some es)))) (settles g who b))
+
+-- from a place of the list on
+pub outcome_from : (mask : Ace → ℕ) (limits : Ace → Bool) (es : List Ace) (i : ℕ) (e : Ace) (u a k : ℕ) → i < length es → e ≡ get_or es i e
+    → outcome mask limits (drop i es) u a k ≡ outcome mask limits (e ∷ drop (i + 1) es) u a k
+outcome_from mask limits es i e u a k low is = ap (λ rest. outcome mask limits rest u a k) (rw (add-one, drop-cons es i e low, ← is) refl)

@@ -1,0 +1,159 @@
+//! The check as its rules are told, each bit by itself and each group looked at: what the one walk is tried against.
+
+use crate::{DaclRef, GroupState, Privileges, Token, Verdict, check_parts};
+use bitflags::Flags;
+use sd_acl::{Ace, AceFlags, AceKind};
+use sd_sid::{GenericMapping, Mask, Sid};
+use std::test::Fail;
+
+/// Who asks, of what.
+#[derive(Clone, Copy)]
+struct Access<'a> {
+    owner: &'a Sid,
+    entries: &'a [Ace],
+    user: &'a Sid,
+    groups: &'a [(Sid, GroupState)],
+}
+
+impl Access<'_> {
+    fn stands_for(&self, kind: AceKind, sid: &Sid) -> bool {
+        if self.user == sid {
+            return true;
+        }
+        for (group, state) in self.groups {
+            let counts = match state {
+                GroupState::Enabled => true,
+                GroupState::DenyOnly => kind == AceKind::Deny,
+                GroupState::Disabled => false,
+            };
+            if group == sid && counts {
+                return true;
+            }
+        }
+        false
+    }
+
+    fn applies(&self, entry: &Ace) -> bool {
+        let subject = if entry.sid.is_owner_rights() {
+            self.owner
+        } else {
+            &entry.sid
+        };
+        !entry.is_inherit_only() && self.stands_for(entry.kind, subject)
+    }
+
+    /// Whether the first entry that settles the bit allows it.
+    fn is_allowed(&self, bit: u32) -> bool {
+        for entry in self.entries {
+            let mask = GenericMapping::file().map(entry.mask).bits();
+            if mask & bit != 0 && self.applies(entry) {
+                return entry.kind == AceKind::Allow;
+            }
+        }
+        false
+    }
+
+    fn limits_owner(&self) -> bool {
+        for entry in self.entries {
+            if !entry.is_inherit_only() && entry.sid.is_owner_rights() {
+                return true;
+            }
+        }
+        false
+    }
+
+    fn granted(&self) -> u32 {
+        let mut granted = 0;
+        for place in 0..21 {
+            if self.is_allowed(1 << place) {
+                granted |= 1 << place;
+            }
+        }
+        if self.stands_for(AceKind::Allow, self.owner) && !self.limits_owner() {
+            granted |= 0x0006_0000;
+        }
+        granted
+    }
+
+    /// The verdict on a request without generic rights, reserved bits and privileges.
+    fn answer(&self, asked: u32) -> Verdict {
+        let granted = self.granted();
+        let wanted = asked & !0x0200_0000;
+        if wanted & !granted != 0 {
+            let missing = Mask(wanted & !granted);
+            return Verdict::Denied { missing };
+        }
+        if asked & 0x0200_0000 == 0 {
+            return Verdict::Granted(Mask(wanted));
+        }
+        if granted == 0 {
+            let missing = Mask(0x0200_0000);
+            return Verdict::Denied { missing };
+        }
+        Verdict::Granted(Mask(granted))
+    }
+
+    /// Whether the walk gives the same answers.
+    fn agrees(&self, token: &Token) -> bool {
+        let (owner, mapping) = (Some(*self.owner), GenericMapping::file());
+        for asked in [0x0002_0003, 0x0200_0000, 0x1, 0x0204_0002] {
+            let list = DaclRef::List(self.entries);
+            if check_parts(owner, list, &mapping, token, Mask(asked)) != self.answer(asked) {
+                return false;
+            }
+        }
+        true
+    }
+}
+
+/// The entries of each kind, with or without IO, of these masks, for these SIDs.
+fn entries(rt: HostRuntime, masks: &[u32], sids: &[Sid]) -> Result<Vec<Ace>, Fail> {
+    let mut entries = Vec::new(rt.alloc());
+    for kind in [AceKind::Allow, AceKind::Deny] {
+        for flags in [AceFlags::empty(), AceFlags::IO] {
+            for mask in masks {
+                for sid in sids {
+                    entries.push(Ace {
+                        kind,
+                        flags,
+                        mask: Mask(*mask),
+                        sid: *sid,
+                    })?;
+                }
+            }
+        }
+    }
+    Ok(entries)
+}
+
+#[test]
+fn every_list_of_at_most_two_entries(rt: HostRuntime) -> Result<(), Fail> {
+    let user = Sid::new(5, &[21, 1, 2, 3, 1001])?;
+    let users = Sid::new(5, &[32, 545])?;
+    let sids = [user, users, Sid::new(3, &[4])?];
+    let entries = entries(rt, &[0x1, 0x3, 0x0002_0000], &sids)?;
+    let groups = [(users, GroupState::Enabled)];
+    let held = vec![in rt.alloc(); (users, GroupState::Enabled)]?;
+    let token = Token::new(user, held, Privileges::default());
+    let access = |entries| Access {
+        owner: &user,
+        entries,
+        user: &user,
+        groups: &groups,
+    };
+    assert!(rt; access(&[]).agrees(&token));
+    let mut lists = 1;
+    for first in &entries {
+        assert!(rt; access(&[*first]).agrees(&token), "{first:?}");
+        lists += 1;
+        for second in &entries {
+            assert!(rt;
+                access(&[*first, *second]).agrees(&token),
+                "{first:?} {second:?}"
+            );
+            lists += 1;
+        }
+    }
+    assert_eq!(rt; lists, 1333);
+    Ok(())
+}
