@@ -1,4 +1,5 @@
 pub mod Token
+pub mod Filter
 pub mod Check
 pub mod Dacl
 pub mod Walk

@@ -126,6 +126,35 @@ fn entries(rt: HostRuntime, masks: &[u32], sids: &[Sid]) -> Result<Vec<Ace>, Fai
     Ok(entries)
 }
 
+/// Whether the walk agrees on the empty list, each entry alone and each two of them; and how many lists these are.
+fn all_agree(access: Access<'_>, entries: &[Ace], token: &Token) -> (bool, u32) {
+    let mut lists = 1;
+    let mut agree = Access {
+        entries: &[],
+        ..access
+    }
+    .agrees(token);
+    for first in entries {
+        let one = [*first];
+        agree &= Access {
+            entries: &one,
+            ..access
+        }
+        .agrees(token);
+        lists += 1;
+        for second in entries {
+            let two = [*first, *second];
+            agree &= Access {
+                entries: &two,
+                ..access
+            }
+            .agrees(token);
+            lists += 1;
+        }
+    }
+    (agree, lists)
+}
+
 #[test]
 fn every_list_of_at_most_two_entries(rt: HostRuntime) -> Result<(), Fail> {
     let user = Sid::new(5, &[21, 1, 2, 3, 1001])?;
@@ -135,25 +164,48 @@ fn every_list_of_at_most_two_entries(rt: HostRuntime) -> Result<(), Fail> {
     let groups = [(users, GroupState::Enabled)];
     let held = vec![in rt.alloc(); (users, GroupState::Enabled)]?;
     let token = Token::new(user, held, Privileges::default());
-    let access = |entries| Access {
+    let access = Access {
         owner: &user,
-        entries,
+        entries: &[],
         user: &user,
         groups: &groups,
     };
-    assert!(rt; access(&[]).agrees(&token));
-    let mut lists = 1;
-    for first in &entries {
-        assert!(rt; access(&[*first]).agrees(&token), "{first:?}");
-        lists += 1;
-        for second in &entries {
-            assert!(rt;
-                access(&[*first, *second]).agrees(&token),
-                "{first:?} {second:?}"
-            );
-            lists += 1;
-        }
-    }
-    assert_eq!(rt; lists, 1333);
+    assert_eq!(rt; all_agree(access, &entries, &token), (true, 1333));
+    Ok(())
+}
+
+/// A SID's bit in the filter is that of its last sub-authority, of 1,024: so 2025 has that of 1001, and 1300 its own.
+#[test]
+fn each_branch_of_the_filter(rt: HostRuntime) -> Result<(), Fail> {
+    let user = Sid::new(5, &[21, 1, 2, 3, 1001])?;
+    let enabled = Sid::new(5, &[21, 1, 2, 3, 1100])?;
+    let deny_only = Sid::new(5, &[21, 1, 2, 3, 1200])?;
+    let disabled = Sid::new(5, &[21, 1, 2, 3, 1201])?;
+    let groups = [
+        (enabled, GroupState::Enabled),
+        (deny_only, GroupState::DenyOnly),
+        (disabled, GroupState::Disabled),
+    ];
+    let sids = [
+        user,
+        enabled,
+        deny_only,
+        disabled,
+        Sid::new(5, &[21, 1, 2, 3, 2025])?,
+        Sid::new(5, &[21, 1, 2, 3, 2224])?,
+        Sid::new(5, &[21, 1, 2, 3, 1300])?,
+        Sid::new(3, &[4])?,
+    ];
+    let entries = entries(rt, &[0x1, 0x0004_0003], &sids)?;
+    let mut held = Vec::new(rt.alloc());
+    held.extend_from_slice(&groups)?;
+    let token = Token::new(user, held, Privileges::default());
+    let access = Access {
+        owner: &user,
+        entries: &[],
+        user: &user,
+        groups: &groups,
+    };
+    assert_eq!(rt; all_agree(access, &entries, &token), (true, 4161));
     Ok(())
 }

@@ -14,6 +14,7 @@
 #![tactic(auto)]
 
 mod access;
+mod filter;
 mod laws;
 mod request;
 mod token;

@@ -3,6 +3,7 @@
 ghost use Rattle.std.specs.Prelude.{◌≡◌};
 ghost use Rattle.sd_check.specs.Token.{stands_for, a_group_stands_for, counts};
 
+use crate::filter::Filter;
 use sd_acl::AceKind;
 use sd_sid::Sid;
 use std::marker::Model;
@@ -47,6 +48,7 @@ pub struct Token {
     user: Sid,
     groups: Vec<(Sid, GroupState)>,
     privileges: Privileges,
+    filter: Filter,
 }
 
 impl Model for Token {
@@ -54,12 +56,16 @@ impl Model for Token {
 
     ghost Value = { TokenValue };
 
+    ghost use Rattle.sd_check.specs.Filter.{IsFilterOf};
+
     ghost view = { λ t. record { user = t.user; groups = t.groups.items; privileges = t.privileges } };
+
+    ghost invariant = { λ t. IsFilterOf t.filter.words t.user t.groups.items };
 }
 
 impl GroupState {
     /// Whether a group in this state counts for an entry of the kind.
-    fn counts(self, kind: AceKind) -> bool
+    pub(crate) fn counts(self, kind: AceKind) -> bool
         ensures { result ≡ counts kind self }
     {
         match self {
@@ -76,10 +82,12 @@ impl Token {
     pub fn new(user: Sid, groups: Vec<(Sid, GroupState)>, privileges: Privileges) -> Token
         ensures { result ≡ record { user = user; groups = groups.items; privileges = privileges } }
     {
+        let filter = Filter::new(&user, &groups);
         Token {
             user,
             groups,
             privileges,
+            filter,
         }
     }
 
@@ -93,6 +101,9 @@ impl Token {
     pub(crate) fn stands_for(&self, kind: AceKind, sid: &Sid) -> bool
         ensures { result ≡ stands_for self.now kind sid.now }
     {
+        if !self.filter.may_hold(sid) {
+            return false;
+        }
         self.user.is(sid) || self.a_group_stands_for(kind, sid)
     }
 

@@ -1,0 +1,25 @@
+use Rattle.std.proofs.Common.{◌≡◌, true, false, sym, ◌∙◌, subst}
+use Rattle.std.proofs.lemmas.List.{take_all}
+use Rattle.sd_check.specs.Filter.{IsFilterOf}
+use Rattle.sd_check.proofs.Filters.{filter_of_more}
+use Rattle.sd_check.proofs.filter.Filter.new.Goals as goal
+use Rattle.sd_check.proofs.filter.Filter.new.Goals.{then-counts, else-counts}
+
+pub groups-preserved : goal.groups-preserved
+groups-preserved c =
+    let words = c.groups.filter.words in
+    let user = c.args.user.now in
+    let groups = c.args.groups.now in
+    elim c.if-counts.branch [
+      | then-counts w ↦ rw w.filter-is
+          (filter_of_more words w.with-filter-then-counts.result.words user groups c.groups.place-index c.place-item.result c.groups-test.true c.place-item.is
+          c.groups.invariant w.with-filter-then-counts.ensures.kept (λ h. w.with-filter-then-counts.ensures.here))
+      | else-counts w ↦ rw w.filter-is
+          (filter_of_more words words user groups c.groups.place-index c.place-item.result c.groups-test.true c.place-item.is
+          c.groups.invariant (λ s h. h) (λ h. absurd (let clash : true ≡ false = sym h ∙ sym c.counts.ensures ∙ w.if-counts.false in cc)))
+    ]
+
+pub returns : goal.returns
+returns c =
+    subst (λ groups. IsFilterOf c.groups.filter.words c.args.user.now groups)
+    (take_all c.groups.place-index c.args.groups.now c.groups-test.false) c.groups.invariant

@@ -1,0 +1,61 @@
+//! Which SIDs a token may stand for: most entries speak of none of them, and one look tells.
+
+ghost use Rattle.std.specs.Prelude.{◌≡◌, ◌<◌, true};
+ghost use Rattle.sd_sid.specs.Sid.{SidValue};
+ghost use Rattle.sd_check.specs.Filter.{IsFilterOf, filter_place, may_hold};
+
+use crate::token::GroupState;
+use sd_acl::AceKind;
+use sd_sid::Sid;
+
+/// A set of 1,024 bits, of which each SID has one. Where a SID's bit isn't set, the SID isn't in.
+#[derive(Clone, Copy, Debug)]
+pub(crate) struct Filter {
+    words: [u64; 16],
+}
+
+impl Filter {
+    /// The filter of a user and of the groups that count for anything.
+    pub(crate) fn new(user: &Sid, groups: &[(Sid, GroupState)]) -> Filter
+        ensures { IsFilterOf result.words user.now groups.now }
+    {
+        let mut filter = Filter { words: [0; 16] }.with(user);
+        'groups: for place in groups {
+            let (group, state) = place;
+            if state.counts(AceKind::Deny) {
+                filter = filter.with(group);
+            }
+        }
+        filter
+    }
+
+    /// The filter with one more SID.
+    fn with(self, sid: &Sid) -> Filter
+        ensures here { may_hold result.words sid.now ≡ true }
+        ensures kept { (s : SidValue) → may_hold self.words s ≡ true → may_hold result.words s ≡ true }
+    {
+        let mut words = self.words;
+        let place = place_of(sid);
+        words[place / 64] |= 1 << (place % 64);
+        Filter { words }
+    }
+
+    /// Whether the SID's bit is set.
+    #[inline]
+    pub(crate) fn may_hold(&self, sid: &Sid) -> bool
+        ensures { result ≡ may_hold self.now.words sid.now }
+    {
+        let place = place_of(sid);
+        (self.words[place / 64] >> (place % 64)) & 1 == 1
+    }
+}
+
+/// The place of a SID's bit.
+#[inline]
+fn place_of(sid: &Sid) -> usize
+    ensures place { result ≡ filter_place sid.now }
+    ensures small { result < 1024 }
+{
+    let subs = sid.subs();
+    subs[subs.len() - 1] as usize % 1024
+}
