@@ -11,7 +11,7 @@ use Rattle.sd_sid.proofs.Masks.{holds-or, holds-and}
 use Rattle.sd_acl.specs.Canonical.{is_explicit}
 use Rattle.sd_acl.specs.declared.ace.Ace.{Ace}
 use Rattle.sd_tree.specs.Inheritance.{object_inherit, container_inherit, no_propagate, effective_copy, waiting_copy, whole_copy, is_split, pass_on}
-use Rattle.sd_tree.specs.Laws.{StaysAtItsNode, GoesOneLevelDown, speaks_of_children, NothingWaitsInAnObject, InheritedIsTold}
+use Rattle.sd_tree.specs.Laws.{UnmarkedEntryStays, NoPropagateGoesOneLevel, speaks_of_children, NothingWaitsInAnObject, InheritedHasId}
 use Rattle.sd_tree.specs.declared.node.NodeKind.{NodeKind}
 use Rattle.sd_tree.specs.declared.node.NodeKind.TheVariants.{Container, Object}
 
@@ -55,14 +55,14 @@ no_piece_passes p f (x ∷ xs) h = list_any-append p (f x) (flat_map f xs) ∙ o
 effective_off : (g : MappingValue) (owner group : SidValue) (e : Ace) (b : ℕ) → holds 0xC0 b ≡ false → holds 0x10 b ≡ false → holds (effective_copy g owner group e).flags.0 b ≡ false
 effective_off g owner group e b h k = flag_off e.flags.0 0xC0 0x10 b h k
 
-pub stays_at_its_node : StaysAtItsNode
-stays_at_its_node g Object owner group e no_object no_container = rw no_object refl
-stays_at_its_node g Container owner group e no_object no_container = rw (no_container, no_object) refl
+pub unmarked_entry_stays : UnmarkedEntryStays
+unmarked_entry_stays g Object owner group e no_object no_container = rw no_object refl
+unmarked_entry_stays g Container owner group e no_object no_container = rw (no_container, no_object) refl
 
 effective_hands_nothing : (g : MappingValue) (kind : NodeKind) (owner group next_owner next_group : SidValue) (e : Ace)
     → pass_on g kind next_owner next_group (effective_copy g owner group e) ≡ []
 effective_hands_nothing g kind owner group next_owner next_group e =
-    stays_at_its_node g kind next_owner next_group (effective_copy g owner group e)
+    unmarked_entry_stays g kind next_owner next_group (effective_copy g owner group e)
     (effective_off g owner group e 0 refl refl) (effective_off g owner group e 1 refl refl)
 
 only_effective : (h : Ace → List Ace) (object container stops split : Bool) (effective waiting whole : Ace) → stops ≡ true → h effective ≡ []
@@ -76,11 +76,11 @@ once : (h : Ace → List Ace) (object : Bool) (effective : Ace) → h effective 
 once h true effective e = append-nil (h effective) ∙ e
 once h false effective e = refl
 
-pub goes_one_level_down : GoesOneLevelDown
-goes_one_level_down g Object next_kind owner group next_owner next_group e np =
+pub no_propagate_goes_one_level : NoPropagateGoesOneLevel
+no_propagate_goes_one_level g Object next_kind owner group next_owner next_group e np =
     once (pass_on g next_kind next_owner next_group) (object_inherit e) (effective_copy g owner group e)
     (effective_hands_nothing g next_kind owner group next_owner next_group e)
-goes_one_level_down g Container next_kind owner group next_owner next_group e np =
+no_propagate_goes_one_level g Container next_kind owner group next_owner next_group e np =
     only_effective (pass_on g next_kind next_owner next_group) (object_inherit e) (container_inherit e) (no_propagate e) (is_split e)
     (effective_copy g owner group e) (waiting_copy e) (whole_copy e) np
     (effective_hands_nothing g next_kind owner group next_owner next_group e)
@@ -105,9 +105,9 @@ nothing_waits_in_an_object g row (Some above) is =
 told : (f kept set : ℕ) → holds set 4 ≡ true → not (holds (bit_or (bit_and f kept) set) 4) ≡ false
 told f kept set h = ap not (flag_on f kept set 4 h)
 
-pub inherited_is_told : InheritedIsTold
-inherited_is_told g row None = refl
-inherited_is_told g row (Some above) =
+pub inherited_has_id : InheritedHasId
+inherited_has_id g row None = refl
+inherited_has_id g row (Some above) =
     no_piece_passes is_explicit (pass_on g row.kind row.owner row.group) above
     (λ e. no_copy_passes is_explicit g row.owner row.group e
     (told e.flags.0 0xC0 0x10 refl) (told e.flags.0 0xC3 0x18 refl) (told e.flags.0 0xC3 0x10 refl) row.kind)

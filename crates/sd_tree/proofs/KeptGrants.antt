@@ -16,7 +16,7 @@ use Rattle.sd_tree.specs.Names.{Names}
 use Rattle.sd_tree.specs.Plain.{PlainTree, row_at, dacl_at}
 use Rattle.sd_tree.specs.Edits.{keeping, edited}
 use Rattle.sd_tree.specs.Answers.{reply_for}
-use Rattle.sd_tree.specs.Laws.{KeptGrantWasGiven, granted_by_row}
+use Rattle.sd_tree.specs.Laws.{KeepingGrantsNoNewRequest, granted_by_row}
 use Rattle.sd_tree.specs.declared.node.Row.{Row}
 use Rattle.sd_tree.specs.declared.tree.CheckReply.TheVariants as reply
 use Rattle.sd_tree.specs.declared.edit.Edit.TheVariants.{ProtectKeeping}
@@ -82,8 +82,8 @@ none_comes g t top path none =
     let known = known_kind (edited g t (ProtectKeeping top)) path row there in
     absurd cc)
 
-pub kept_grant_was_given : KeptGrantWasGiven
-kept_grant_was_given g t top path token asked m plain e =
+pub keeping_grants_no_new_request : KeepingGrantsNoNewRequest
+keeping_grants_no_new_request g t top path token asked m plain e =
     reply_more g token asked m (dacl_at g (edited g t (ProtectKeeping top)) path) (dacl_at g t path)
     (row_at (edited g t (ProtectKeeping top)) path) (row_at t path) (none_comes g t top path)
     (λ b. keeping_lets_nobody_in g t top path token b) plain e

@@ -11,7 +11,7 @@ use Rattle.sd_tree.specs.Plain.{PlainTree, row_at, dacl_here, dacl_at}
 use Rattle.sd_tree.specs.Edits.{keeping, changed, edited}
 use Rattle.sd_tree.specs.Journal.{opened, root_row, replay, root_refusal, IsLawful}
 use Rattle.sd_tree.specs.Refusals.{early_refusal, early_tests, own_entries, list_tests, has_large_dacl}
-use Rattle.sd_tree.specs.Laws.{OwnIsExplicit, ExplicitIsOwn, EveryListIsCanonical}
+use Rattle.sd_tree.specs.Laws.{OwnHasNoId, WithoutIdIsOwn, EveryListIsCanonical}
 use Rattle.sd_tree.specs.declared.node.Row.{Row}
 use Rattle.sd_tree.specs.declared.node.NodeDacl.{NodeDacl}
 use Rattle.sd_tree.specs.declared.node.NodeDacl.TheVariants.{Null, List as Entries}
@@ -24,7 +24,7 @@ use Rattle.sd_tree.proofs.Refused.{none_fits, not_refused}
 use Rattle.sd_tree.proofs.Journals.{holds_of_lawful}
 use Rattle.sd_tree.proofs.Dacls.{dacl_over, dacl_at_here}
 use Rattle.sd_tree.proofs.Ordered.{canonical_parts, explicit_front, ordered_canonical, kept_explicit}
-use Rattle.sd_tree.proofs.Copies.{inherited_is_told}
+use Rattle.sd_tree.proofs.Copies.{inherited_has_id}
 
 pub record IsSound (dacl : NodeDacl) : Type 0 where
   pub explicit : list_any is_inherited (own_entries dacl) ≡ false
@@ -97,8 +97,8 @@ sound_replay o journal fits =
 
 -- ---- the laws
 
-pub own_is_explicit : OwnIsExplicit
-own_is_explicit o journal path row fits lawful there = (sound_replay o journal fits lawful path row there).explicit
+pub own_has_no_id : OwnHasNoId
+own_has_no_id o journal path row fits lawful there = (sound_replay o journal fits lawful path row there).explicit
 
 canonical_under : (g : MappingValue) (row : Row) (dacl : NodeDacl) (above : Option (List Ace)) (entries : List Ace) → IsSound dacl
     → dacl_under g row dacl above ≡ Some entries → is_canonical entries ≡ true
@@ -106,7 +106,7 @@ canonical_under g row Null above entries sound e = absurd cc
 canonical_under g row (Entries true own) above entries sound e =
     ap is_canonical (sym (inside _ _ e)) ∙ canonical_parts own [] sound.explicit sound.ordered refl
 canonical_under g row (Entries false own) above entries sound e =
-    ap is_canonical (sym (inside _ _ e)) ∙ canonical_parts own (handed_on g row above) sound.explicit sound.ordered (inherited_is_told g row above)
+    ap is_canonical (sym (inside _ _ e)) ∙ canonical_parts own (handed_on g row above) sound.explicit sound.ordered (inherited_has_id g row above)
 
 canonical_here : (g : MappingValue) (o : Option Row) (above : Option (List Ace)) (entries : List Ace) → ((row : Row) → o ≡ Some row → IsSound row.dacl)
     → dacl_here g o above ≡ Some entries → is_canonical entries ≡ true
@@ -119,10 +119,10 @@ explicit_under g row Null above entries sound e = absurd cc
 explicit_under g row (Entries true own) above entries sound e =
     ap (filter is_explicit) (sym (inside _ _ e)) ∙ explicit_front own [] sound.explicit refl
 explicit_under g row (Entries false own) above entries sound e =
-    ap (filter is_explicit) (sym (inside _ _ e)) ∙ explicit_front own (handed_on g row above) sound.explicit (inherited_is_told g row above)
+    ap (filter is_explicit) (sym (inside _ _ e)) ∙ explicit_front own (handed_on g row above) sound.explicit (inherited_has_id g row above)
 
-pub explicit_is_own : ExplicitIsOwn
-explicit_is_own o journal path row entries fits lawful there e =
+pub without_id_is_own : WithoutIdIsOwn
+without_id_is_own o journal path row entries fits lawful there e =
     let t = replay o journal in
     explicit_under o.mapping row row.dacl (dacl_over o.mapping t path) entries (sound_replay o journal fits lawful path row there)
     (sym (dacl_at_here o.mapping t path ∙ ap (λ r. dacl_here o.mapping r (dacl_over o.mapping t path)) there) ∙ e)

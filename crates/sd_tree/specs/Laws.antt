@@ -55,14 +55,14 @@ ProtectedStandsAlone =
 
 -- ---- how far an entry reaches
 
-abbrev pub StaysAtItsNode : Type 0
-StaysAtItsNode =
+abbrev pub UnmarkedEntryStays : Type 0
+UnmarkedEntryStays =
     (g : MappingValue) (kind : NodeKind) (owner group : SidValue) (e : Ace)
     → object_inherit e ≡ false → container_inherit e ≡ false → pass_on g kind owner group e ≡ []
 
 -- what a child has of an entry with NP hands nothing on to a child of the child's own
-abbrev pub GoesOneLevelDown : Type 0
-GoesOneLevelDown =
+abbrev pub NoPropagateGoesOneLevel : Type 0
+NoPropagateGoesOneLevel =
     (g : MappingValue) (kind next_kind : NodeKind) (owner group next_owner next_group : SidValue) (e : Ace)
     → no_propagate e ≡ true → flat_map (pass_on g next_kind next_owner next_group) (pass_on g kind owner group e) ≡ []
 
@@ -77,19 +77,19 @@ NothingWaitsInAnObject =
 
 -- ---- what is inherited is told by the flag ID
 
-abbrev pub InheritedIsTold : Type 0
-InheritedIsTold = (g : MappingValue) (row : Row) (above : Option (List Ace)) → list_any is_explicit (handed_on g row above) ≡ false
+abbrev pub InheritedHasId : Type 0
+InheritedHasId = (g : MappingValue) (row : Row) (above : Option (List Ace)) → list_any is_explicit (handed_on g row above) ≡ false
 
 -- after a lawful journal no node's own entries have it
-abbrev pub OwnIsExplicit : Type 0
-OwnIsExplicit =
+abbrev pub OwnHasNoId : Type 0
+OwnHasNoId =
     (opening : Opening) (journal : List Edit) (path : Names) (row : Row)
     → root_refusal opening ≡ None → IsLawful opening journal
     → row_at (replay opening journal) path ≡ Some row → list_any is_inherited (own_entries row.dacl) ≡ false
 
 -- what a node's DACL has without it is what the node has of its own
-abbrev pub ExplicitIsOwn : Type 0
-ExplicitIsOwn =
+abbrev pub WithoutIdIsOwn : Type 0
+WithoutIdIsOwn =
     (opening : Opening) (journal : List Edit) (path : Names) (row : Row) (entries : List Ace)
     → root_refusal opening ≡ None → IsLawful opening journal
     → row_at (replay opening journal) path ≡ Some row → dacl_at opening.mapping (replay opening journal) path ≡ Some entries
@@ -127,8 +127,8 @@ KeepingLetsNobodyIn =
     → is_granted_at g (edited g t (ProtectKeeping protected)) path token b ≡ true → is_granted_at g t path token b ≡ true
 
 -- and a request without MAXIMUM_ALLOWED, place 25, that a check grants afterwards, it granted before
-abbrev pub KeptGrantWasGiven : Type 0
-KeptGrantWasGiven =
+abbrev pub KeepingGrantsNoNewRequest : Type 0
+KeepingGrantsNoNewRequest =
     (g : MappingValue) (t : PlainTree) (protected path : Names) (token : TokenValue) (asked m : ℕ)
     → holds asked 25 ≡ false
     → reply_in g (edited g t (ProtectKeeping protected)) path token asked ≡ Verdict (Granted m)

@@ -1,6 +1,6 @@
 //! What follows from the rules of the tree. Each law is the contract of a function that does nothing.
 
-ghost use Rattle.sd_tree.specs.Laws.{EditStaysBelow, ProtectedStandsAlone, StaysAtItsNode, GoesOneLevelDown, NothingWaitsInAnObject, InheritedIsTold, OwnIsExplicit, ExplicitIsOwn, EveryListIsCanonical, OrderGrantsNothing, OrderKeepsOwnersLimit, KeepingLetsNobodyIn, KeptGrantWasGiven};
+ghost use Rattle.sd_tree.specs.Laws.{EditStaysBelow, ProtectedStandsAlone, UnmarkedEntryStays, NoPropagateGoesOneLevel, NothingWaitsInAnObject, InheritedHasId, OwnHasNoId, WithoutIdIsOwn, EveryListIsCanonical, OrderGrantsNothing, OrderKeepsOwnersLimit, KeepingLetsNobodyIn, KeepingGrantsNoNewRequest};
 
 /// An edit changes the descriptor of no node but the edited one and those below it.
 pub fn edit_stays_below()
@@ -15,13 +15,13 @@ pub fn protected_stands_alone()
 
 /// An entry with neither OI nor CI never leaves its node ([MS-DTYP] 2.4.4.1).
 pub fn unmarked_entry_stays()
-    ensures { StaysAtItsNode }
+    ensures { UnmarkedEntryStays }
 {}
 
 /// An entry with NP goes one level down and no further: what a child has of it hands nothing on
 /// ([MS-DTYP] 2.4.4.1, NO_PROPAGATE_INHERIT_ACE).
-pub fn entry_goes_one_level_down()
-    ensures { GoesOneLevelDown }
+pub fn no_propagate_goes_one_level()
+    ensures { NoPropagateGoesOneLevel }
 {}
 
 /// No inherited entry of an object waits to be inherited further: none has OI, CI, NP or IO.
@@ -31,10 +31,10 @@ pub fn nothing_waits_in_an_object()
 
 /// Each entry that a node inherits has the flag ID, and after a lawful journal no entry of a node's own has it: what
 /// its DACL has without the flag is what the node has of its own ([MS-DTYP] 2.4.4.1, INHERITED_ACE).
-pub fn inherited_entry_is_told()
-    ensures inherited { InheritedIsTold }
-    ensures own { OwnIsExplicit }
-    ensures explicit { ExplicitIsOwn }
+pub fn inherited_has_id()
+    ensures inherited { InheritedHasId }
+    ensures own { OwnHasNoId }
+    ensures explicit { WithoutIdIsOwn }
 {}
 
 /// After a lawful journal each node's DACL is in canonical order: the explicit entries stand before the inherited
@@ -55,5 +55,5 @@ pub fn order_grants_nothing()
 /// grants as it was asked for.
 pub fn keeping_lets_nobody_in()
     ensures bits { KeepingLetsNobodyIn }
-    ensures requests { KeptGrantWasGiven }
+    ensures requests { KeepingGrantsNoNewRequest }
 {}

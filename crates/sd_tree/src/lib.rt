@@ -29,8 +29,8 @@ mod tree;
 pub use edit::Edit;
 pub use entries::Entries;
 pub use laws::{
-    edit_stays_below, entry_goes_one_level_down, every_list_is_canonical, inherited_entry_is_told,
-    keeping_lets_nobody_in, nothing_waits_in_an_object, order_grants_nothing,
+    edit_stays_below, every_list_is_canonical, inherited_has_id, keeping_lets_nobody_in,
+    no_propagate_goes_one_level, nothing_waits_in_an_object, order_grants_nothing,
     protected_stands_alone, unmarked_entry_stays,
 };
 pub use node::{NodeDacl, NodeKind};
