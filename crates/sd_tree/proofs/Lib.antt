@@ -10,6 +10,7 @@ pub mod OrderGrants
 pub mod Ordered
 pub mod OwnEntries
 pub mod PathBytes
+pub mod PathTexts
 pub mod Paths
 pub mod Reach
 pub mod Refused

@@ -11,6 +11,7 @@ use Rattle.std.proofs.Math.Seq.{take-append_seam, get_or-append_seam, get_or-app
 use Rattle.std.proofs.Math.ListN.{get_or-append}
 use Rattle.std.proofs.lemmas.Bool.{and_parts}
 use Rattle.std.proofs.lemmas.Bool.Decides.{nat_tests}
+use Rattle.sd_tree.proofs.Paths.{last_name}
 use Rattle.sd_tree.specs.Names.{Names, names_cmp, up, is_within, is_name_byte, is_name, IsPath, ended, names_of, Keeps}
 
 -- no byte is zero
@@ -134,9 +135,12 @@ names_of-ended [] h = refl
 names_of-ended (name ∷ names) h =
     names_of-name name (ended names) h.0 ∙ ap (λ ns. name ∷ ns) (names_of-ended names h.1)
 
+pub names_of-path : (names : Names) → IsPath names → names_of (ended names) ≡ names
+names_of-path names h = names_of-ended names (HaveNoZero-names names h.named)
+
 pub Keeps-ended : (names : Names) → IsPath names → Keeps (ended names) (length names)
 Keeps-ended names h =
-    let e = names_of-ended names (HaveNoZero-names names h.named) in
+    let e = names_of-path names h in
     record { whole = ap ended e; counted = ap length e; path = rw e h }
 
 -- ---- the path of what holds it
@@ -160,21 +164,14 @@ IsPath-up names h = record {
 }
 
 -- the bytes of the path of what holds it, and behind them those of the last name
-last_name : Names → List ℕ
-last_name [] = []
-last_name (name ∷ []) = name
-last_name (name ∷ next ∷ names) = last_name (next ∷ names)
-
 ended-up : (name : List ℕ) (names : Names)
     → ended (name ∷ names) ≡ ended (up (name ∷ names)) ++ (last_name (name ∷ names) ++ 0 ∷ [])
-unfolding last_name
 ended-up name [] = refl
 ended-up name (next ∷ names) =
     ap (λ bs. name ++ 0 ∷ bs) (ended-up next names)
     ∙ sym (append_assoc name (0 ∷ ended (up (next ∷ names))) (last_name (next ∷ names) ++ 0 ∷ []))
 
 HasNoZero-last_name : (names : Names) → HaveNoZero names → HasNoZero (last_name names)
-unfolding last_name
 HasNoZero-last_name [] h = tt
 HasNoZero-last_name (name ∷ []) h = h.0
 HasNoZero-last_name (name ∷ next ∷ names) h = HasNoZero-last_name (next ∷ names) h.1
@@ -254,4 +251,4 @@ Keeps-up bs front n k e =
 
 pub names_of-up : (bs front : List ℕ) (n : ℕ) → Keeps bs n → front ≡ ended (up (names_of bs)) → names_of front ≡ up (names_of bs)
 names_of-up bs front n k e =
-    ap names_of e ∙ names_of-ended (up (names_of bs)) (HaveNoZero-names (up (names_of bs)) (IsPath-up (names_of bs) k.path).named)
+    ap names_of e ∙ names_of-path (up (names_of bs)) (IsPath-up (names_of bs) k.path)

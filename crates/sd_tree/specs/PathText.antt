@@ -1,40 +1,51 @@
 -- Paths as texts: `/` is the root, and else each name is led by `/`.
-use Rattle.std.specs.Prelude.{ℕ, zero, suc, ◌==◌, ◌||◌, nat_lt, if◌then◌else◌, List, [], ◌∷◌, length, Result, Ok, Err}
-use Rattle.std.specs.List.{list_any}
-use Rattle.sd_tree.specs.Names.{Names}
+use Rattle.std.specs.Prelude.{◌≡◌, ℕ, zero, suc, false, not, ◌==◌, ◌&&◌, nat_lt, if◌then◌else◌, List, [], ◌∷◌, length, Option, Some, None, Result, Ok, Err, IsOkAnd}
+use Rattle.std.specs.List.{list_all, slice_split}
+use Rattle.std.specs.Option.{option_or}
+use Rattle.sd_tree.specs.Names.{Names, is_root, is_name_byte}
 use Rattle.sd_tree.specs.declared.path.PathError.{PathError}
-use Rattle.sd_tree.specs.declared.path.PathError.TheVariants.{Syntax, NameTooLong, TooManyNames}
+use Rattle.sd_tree.specs.declared.path.PathError.TheVariants.{Syntax, NameTooLong, TooManyNames, Memory}
 
--- the bytes between one byte `c` and the next
-abbrev pub split_at_each : ℕ → List ℕ → List (List ℕ)
-split_at_each c [] = [] ∷ []
-split_at_each c (b ∷ bs) = if b == c then [] ∷ split_at_each c bs else led_by b (split_at_each c bs)
-  where
-    led_by : ℕ → List (List ℕ) → List (List ℕ)
-    led_by b [] = (b ∷ []) ∷ []
-    led_by b (first ∷ pieces) = (b ∷ first) ∷ pieces
+-- what stands between one `/` and the next
+abbrev pub between_slashes : List ℕ → Names
+between_slashes = slice_split (λ b. b == 0x2F)
 
--- a name that is empty or has a zero byte is none, and one of more than 255 bytes is too long
-abbrev pub name_fault : List ℕ → Result (List ℕ) PathError
+-- why these bytes are no name, if they are none
+abbrev pub name_fault : List ℕ → Option PathError
 name_fault name =
-    if (length name == 0 || list_any (λ b. b == 0) name) then Err Syntax
-    else if nat_lt 255 (length name) then Err NameTooLong
-    else Ok name
+    if not (nat_lt 0 (length name) && list_all is_name_byte name) then Some Syntax
+    else if nat_lt 255 (length name) then Some NameTooLong
+    else None
 
--- the names are judged from the left, and no more than `room` of them
-abbrev pub judged : ℕ → List (List ℕ) → Result Names PathError
-judged room [] = Ok []
-judged zero (name ∷ names) = Err TooManyNames
-judged (suc room) (name ∷ names) = behind (name_fault name) (judged room names)
-  where
-    behind : Result (List ℕ) PathError → Result Names PathError → Result Names PathError
-    behind (Err fault) rest = Err fault
-    behind (Ok first) (Err fault) = Err fault
-    behind (Ok first) (Ok rest) = Ok (first ∷ rest)
+-- the names are judged from the left, and no more than so many of them
+abbrev pub fault_of : ℕ → Names → Option PathError
+fault_of most [] = None
+fault_of zero (name ∷ names) = Some TooManyNames
+fault_of (suc most) (name ∷ names) = option_or (name_fault name) (fault_of most names)
 
--- the path of a text, or the first reason why it is none
+abbrev pub unless : Option PathError → Names → Result Names PathError
+unless None names = Ok names
+unless (Some fault) names = Err fault
+
+-- the path that a text says, or the first reason why it says none
 unfoldable pub path_of : List ℕ → Result Names PathError
 path_of [] = Err Syntax
 path_of (b ∷ bs) =
-    if b == 0x2F then (if length bs == 0 then Ok [] else judged 128 (split_at_each 0x2F bs))
-    else Err Syntax
+    if not (b == 0x2F) then Err Syntax
+    else if length bs == 0 then Ok []
+    else unless (fault_of 128 (between_slashes bs)) (between_slashes bs)
+
+-- the answer is what the text says; memory is wanted only for a path that has a name
+abbrev pub IsReadAs : Result Names PathError → Result Names PathError → Type 0
+IsReadAs said (Ok path) = said ≡ Ok path
+IsReadAs said (Err Memory) = IsOkAnd said (λ path. is_root path ≡ false)
+IsReadAs said (Err Syntax) = said ≡ Err Syntax
+IsReadAs said (Err NameTooLong) = said ≡ Err NameTooLong
+IsReadAs said (Err TooManyNames) = said ≡ Err TooManyNames
+
+-- each error's number
+abbrev pub path_error_number : PathError → ℕ
+path_error_number Syntax = 1
+path_error_number NameTooLong = 2
+path_error_number TooManyNames = 3
+path_error_number Memory = 4

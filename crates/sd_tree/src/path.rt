@@ -1,8 +1,10 @@
 //! Paths.
 
 ghost use Rattle.std.specs.Prelude.{◌≡◌, IfOk};
+ghost use Rattle.sd_tree.specs.PathText.{path_error_number};
 
 mod lent;
+mod read;
 
 pub(crate) use lent::PathRef;
 use std::alloc::{AllocError, Global};
@@ -24,6 +26,31 @@ pub enum PathError {
     /// Memory was refused.
     #[error("memory was refused")]
     Memory,
+}
+
+impl PathError {
+    /// The error's number.
+    pub fn number(self) -> u8
+        ensures { result ≡ path_error_number self }
+    {
+        match self {
+            PathError::Syntax => 1,
+            PathError::NameTooLong => 2,
+            PathError::TooManyNames => 3,
+            PathError::Memory => 4,
+        }
+    }
+}
+
+impl From<AllocError> for PathError {
+    ghost use Rattle.std.specs.Prelude.{◌≡◌};
+    ghost use Rattle.sd_tree.specs.declared.path.PathError.TheVariants.{Memory};
+
+    ghost from_gives = { λ _ error. error ≡ Memory };
+
+    fn from(_: AllocError) -> PathError {
+        PathError::Memory
+    }
 }
 
 /// A path: at most 128 names, from the root down. Contracts see it as the list of its names.
