@@ -9,6 +9,7 @@ use Rattle.sd_sid.specs.Mapping.{MappingValue}
 use Rattle.sd_acl.specs.declared.ace.Ace.{Ace}
 use Rattle.sd_tree.specs.Names.{Names, names_cmp, up, is_root}
 use Rattle.sd_tree.specs.Plain.{PlainTree, row_at, dacl_at}
+use Rattle.sd_tree.specs.Closed.{IsClosed, IsAddable}
 use Rattle.sd_tree.specs.Edits.{keeping, changed, edited}
 use Rattle.sd_tree.specs.Answers.{kind_at}
 use Rattle.sd_tree.specs.Journal.{opened, root_row, replay, IsLawful}
@@ -23,10 +24,6 @@ use Rattle.sd_tree.specs.declared.opening.Opening.{Opening}
 use Rattle.sd_tree.proofs.Rows.{one_path, path_itself, same_or_other, row_at-empty, row_at-insert_same, row_at-insert_other, row_at-remove_same, row_at-remove_other, row_at-changed_same, row_at-changed_other}
 use Rattle.sd_tree.proofs.Refused.{none_fits, not_refused}
 use Rattle.sd_tree.proofs.Journals.{holds_of_lawful}
-
-pub record IsClosed (t : PlainTree) : Type 0 where
-  pub root : kind_at t [] ≡ Some Container
-  pub parents : (path : Names) (row : Row) → row_at t path ≡ Some row → kind_at t (up path) ≡ Some Container
 
 -- ---- kinds
 
@@ -109,11 +106,6 @@ closed_inserted t path row free holder closed = record { root = still [] closed.
     ])
 
 -- what the tests of an addition leave: the path is free, and a container holds it
-pub record IsAddable (t : PlainTree) (path : Names) : Type 0 where
-  pub free : row_at t path ≡ None
-  pub held : kind_at t (up path) ≡ Some Container
-  pub below_root : is_root path ≡ false
-
 one_of : (root there : Bool) → (not root && not there) ≡ false → root ≡ false → there ≡ true
 one_of true there h k = absurd cc
 one_of false true h k = refl

@@ -1,5 +1,5 @@
 -- Two tests in order, where the second is told by what isn't so.
-use Rattle.std.proofs.Common.{◌≡◌, Bool, true, false, not, cond, Option, Some, None, refl}
+use Rattle.std.proofs.Common.{◌≡◌, Bool, true, false, not, cond, Some, None, refl}
 
 pub neither_fits : {A : Type 0} (one two : Bool) (a b : A) → one ≡ false → not two ≡ true → None ≡ cond one (Some a) (cond two (Some b) None)
 neither_fits false false a b h k = refl

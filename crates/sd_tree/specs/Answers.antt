@@ -1,5 +1,5 @@
 -- What a tree answers.
-use Rattle.std.specs.Prelude.{◌≡◌, ℕ, false, List, Option, Some, None, option_map, Result, Ok, Err}
+use Rattle.std.specs.Prelude.{◌≡◌, ℕ, false, List, Option, Some, None, option_map}
 use Rattle.sd_acl.specs.declared.ace.Ace.{Ace}
 use Rattle.sd_acl.specs.Descriptor.{DescriptorValue}
 use Rattle.sd_sid.specs.Mapping.{MappingValue}

@@ -1,5 +1,5 @@
 -- The tree as a finite map from paths to nodes. It holds no inherited entry.
-use Rattle.std.specs.Prelude.{ℕ, Bool, ◌≤◌, List, [], ◌∷◌, ◌++◌, Option, Some, None}
+use Rattle.std.specs.Prelude.{List, [], ◌∷◌, ◌++◌, Option, Some, None}
 use Rattle.std.specs.FinMap as map
 use Rattle.std.specs.FinMap.{FinMap}
 use Rattle.sd_sid.specs.Mapping.{MappingValue}

@@ -25,15 +25,28 @@ pub enum Edit {
         dacl: NodeDacl,
     },
     /// The node gets an owner; what CREATOR OWNER became in its inherited entries changes with it.
-    SetOwner { path: Path, owner: Sid },
+    SetOwner {
+        path: Path,
+        owner: Sid,
+    },
     /// The node gets a group; what CREATOR GROUP became in its inherited entries changes with it.
-    SetGroup { path: Path, group: Sid },
+    SetGroup {
+        path: Path,
+        group: Sid,
+    },
     /// The node gets a DACL of its own.
-    SetDacl { path: Path, dacl: NodeDacl },
+    SetDacl {
+        path: Path,
+        dacl: NodeDacl,
+    },
     /// A node without children, and not the root, goes.
-    Remove { path: Path },
+    Remove {
+        path: Path,
+    },
     /// The node is protected, and what it had inherited becomes its own, in canonical order.
-    ProtectKeeping { path: Path },
+    ProtectKeeping {
+        path: Path,
+    },
 }
 
 impl Edit {

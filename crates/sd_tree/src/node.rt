@@ -3,6 +3,8 @@
 ghost use Rattle.std.specs.Prelude.{◌≡◌, IfOk};
 
 use crate::entries::Entries;
+use crate::path::Path;
+use sd_acl::AceList;
 use sd_sid::Sid;
 use std::alloc::{AllocError, Global};
 
@@ -46,4 +48,12 @@ pub(crate) struct Row {
     pub owner: Sid,
     pub group: Sid,
     pub dacl: NodeDacl,
+}
+
+/// A node where it stands, with its whole DACL: its own entries and what it inherits, or None for a null one.
+#[derive(Debug, Drop)]
+pub(crate) struct Node {
+    pub path: Path,
+    pub row: Row,
+    pub whole: Option<AceList>,
 }

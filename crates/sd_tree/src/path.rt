@@ -1,6 +1,6 @@
 //! Paths.
 
-ghost use Rattle.std.specs.Prelude.{◌≡◌, IfOk};
+ghost use Rattle.std.specs.Prelude.{◌≡◌, [], IfOk};
 ghost use Rattle.sd_tree.specs.PathText.{path_error_number};
 
 mod lent;
@@ -74,6 +74,16 @@ impl Model for Path {
 }
 
 impl Path {
+    /// The root's path. Takes no memory.
+    pub(crate) fn root(alloc: Global) -> Path
+        ensures { result ≡ [] }
+    {
+        Path {
+            bytes: Vec::new(alloc),
+            count: 0,
+        }
+    }
+
     /// The same path, lent.
     pub(crate) fn as_path_ref(&self) -> PathRef<'_>
         ensures { result ≡ self.now }

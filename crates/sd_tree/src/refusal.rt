@@ -3,7 +3,7 @@
 ghost use Rattle.std.specs.Prelude.{◌≡◌};
 ghost use Rattle.sd_tree.specs.Refusals.{number_of};
 
-use std::alloc::AllocError;
+use std::alloc::{AllocError, AllocFailed};
 use thiserror::Error;
 
 /// Why an edit is refused. The first that fits, in this order, is answered.
@@ -87,6 +87,17 @@ impl From<AllocError> for TreeError {
     ghost from_gives = { λ _ error. error ≡ Memory };
 
     fn from(_: AllocError) -> TreeError {
+        TreeError::Memory
+    }
+}
+
+impl<T: Drop> From<AllocFailed<T>> for TreeError {
+    ghost use Rattle.std.specs.Prelude.{◌≡◌};
+    ghost use Rattle.sd_tree.specs.declared.refusal.TreeError.TheVariants.{Memory};
+
+    ghost from_gives = { λ _ error. error ≡ Memory };
+
+    fn from(_: AllocFailed<T>) -> TreeError {
         TreeError::Memory
     }
 }

@@ -1,6 +1,33 @@
 //! A tree that is the replay of its journal.
 
-use sd_acl::Verdict;
+ghost use Rattle.std.specs.Prelude.{◌≡◌, ◌≤◌, [], ◌∷◌, ◌++◌, length, None, false, OnOk, IfOk, IfErr, MatchResult, option_map};
+ghost use Rattle.sd_acl.specs.Descriptor.{descriptor_of};
+ghost use Rattle.sd_tree.specs.Answers.{answer, kind_at, descriptor_at, IsError};
+ghost use Rattle.sd_tree.specs.Journal.{opening_of, root_row, replay, refusal, root_refusal, IsLawful};
+ghost use Rattle.sd_tree.specs.Plans.{IsPlanned};
+ghost use Rattle.sd_tree.specs.Prepared.{IsPrepared};
+ghost use Rattle.sd_tree.specs.Refusals.{is_early, dacl_size};
+ghost use Rattle.sd_tree.specs.Inheritance.{dacl_of_row};
+ghost use Rattle.sd_tree.specs.Sizes.{IsSizeError};
+ghost use Rattle.sd_tree.specs.Stored.{AreStanding, tree_of};
+
+use crate::describe::described;
+use crate::edit::Edit;
+use crate::given::list_refusal;
+use crate::inherit::dacl_of_row;
+use crate::node::{Node, NodeKind, Row};
+use crate::nodes::node_at;
+use crate::opening::{Opening, RootSpec};
+use crate::path::Path;
+use crate::plan::{Plan, carry_out};
+use crate::refusal::{EditRefusal, TreeError};
+use crate::standing::Standing;
+use sd_acl::{Descriptor, Verdict};
+use sd_check::{DaclRef, Token, check_parts};
+use sd_sid::{GenericMapping, Mask};
+use std::alloc::{AllocError, Global};
+use std::marker::Model;
+use std::snapshot::Snapshot;
 
 /// What a check of a path answers.
 #[derive(Clone, Copy, Debug, PartialEq, Eq)]
@@ -9,4 +36,231 @@ pub enum CheckReply {
     Verdict(Verdict),
     /// No node stands there.
     NoNode,
+}
+
+/// A tree of securable nodes: its opening, the journal of the edits that it accepted, and what they make of it.
+/// Contracts see the opening, the journal, and for how many edits and nodes there is room.
+#[derive(Drop)]
+pub struct Tree {
+    alloc: Global,
+    opening: Opening,
+    journal: Vec<Edit>,
+    nodes: Vec<Box<Node>>,
+}
+
+impl Model for Tree {
+    ghost use Rattle.std.specs.Prelude.{vec_capacity};
+    ghost use Rattle.sd_tree.specs.Journal.{TreeValue};
+    ghost use Rattle.sd_tree.specs.Stored.{IsStored};
+
+    ghost Value = { TreeValue };
+
+    ghost view = { λ t. record { opening = t.opening; journal = t.journal.items; edit_room = vec_capacity t.journal; node_room = vec_capacity t.nodes } };
+
+    ghost invariant = { λ t. IsStored t.opening t.journal.items t.nodes.items };
+}
+
+/// An edit that was prepared: all that is new is built, and `commit` takes no memory. Contracts see of which tree it
+/// was prepared, and which edit it is.
+#[derive(Drop)]
+pub struct Prepared {
+    edit: Edit,
+    plan: Plan,
+    tree: Snapshot<Tree>,
+}
+
+impl Model for Prepared {
+    ghost use Rattle.sd_tree.specs.Plans.{Planned, IsPlanned};
+
+    ghost Value = { Planned };
+
+    ghost view = { λ p. record { opening = p.tree.value.opening; journal = p.tree.value.journal; edit = p.edit } };
+
+    ghost invariant = { λ p. IsPlanned p.tree.value.opening p.tree.value.journal p.edit p.plan };
+}
+
+impl Tree {
+    /// The tree of the root alone, which is a container; or the first refusal of the root: `InheritedEntry`,
+    /// `NotCanonical`, `AclTooLarge`.
+    pub fn opening(
+        alloc: Global,
+        mapping: &GenericMapping,
+        root: &RootSpec,
+    ) -> Result<Tree, TreeError>
+        ensures opening { IfOk result (λ t. t.opening ≡ opening_of mapping.now root.now) }
+        ensures journal { IfOk result (λ t. t.journal ≡ []) }
+        ensures accepted { IfOk result (λ _. root_refusal (opening_of mapping.now root.now) ≡ None) }
+        ensures refused { IfErr result (λ e. IsError e (root_refusal (opening_of mapping.now root.now))) }
+    {
+        if let Some(refusal) = list_refusal(&root.dacl) {
+            return Err(TreeError::Refused(refusal));
+        }
+        let node = root_node(alloc, mapping, root)?;
+        let opening = Opening {
+            mapping: *mapping,
+            root: root.copy(alloc)?,
+        };
+        let mut nodes = Vec::new(alloc);
+        nodes.push(node)?;
+        Ok(Tree {
+            alloc,
+            opening,
+            journal: Vec::new(alloc),
+            nodes,
+        })
+    }
+
+    /// Works out an edit: all new DACLs are built and all room is made, and nothing that a caller sees changes. The
+    /// first refusal that fits is answered; want of memory only where none is due that is found without it.
+    pub fn prepare(&mut self, edit: &Edit) -> Result<Prepared, TreeError>
+        ensures same { (self.new.opening ≡ self.old.opening) × (self.new.journal ≡ self.old.journal) }
+        ensures room { (self.old.edit_room ≤ self.new.edit_room) × (self.old.node_room ≤ self.new.node_room) }
+        ensures prepared { IfOk result (λ p. IsPrepared self.new p × (p.edit ≡ edit.now)) }
+        ensures accepted { IfOk result (λ _. refusal self.old.opening self.old.journal edit.now ≡ None) }
+        ensures refused { IfErr result (λ e. IsError e (refusal self.old.opening self.old.journal edit.now)) }
+    {
+        let plan = self.planned(edit)?;
+        let edit = edit.copy(self.alloc)?;
+        self.journal.reserve(1)?;
+        self.nodes.reserve(1)?;
+        Ok(Prepared {
+            edit,
+            plan,
+            tree: Snapshot::of(self),
+        })
+    }
+
+    /// The prepared edit joins the journal, on the condition that the tree, its room included, is as that `prepare` left
+    /// it. Takes no memory.
+    pub fn commit(&mut self, prepared: Prepared)
+        requires { IsPrepared self.old prepared }
+        ensures opening { self.new.opening ≡ self.old.opening }
+        ensures journal { self.new.journal ≡ self.old.journal ++ prepared.edit ∷ [] }
+        ensures room { (self.new.edit_room ≡ self.old.edit_room) × (self.new.node_room ≡ self.old.node_room) }
+    {
+        let Prepared {
+            edit,
+            plan,
+            tree: _,
+        } = prepared;
+        carry_out(&mut self.nodes, plan);
+        self.journal.push_reserved(edit);
+    }
+
+    /// Prepares and commits an edit: it joins the journal, or the first refusal that fits is answered and the tree
+    /// stays; want of memory only where none is due that is found without it.
+    pub fn apply(&mut self, edit: &Edit) -> Result<(), TreeError>
+        ensures opening { self.new.opening ≡ self.old.opening }
+        ensures journal { MatchResult result (λ _. self.new.journal ≡ self.old.journal ++ edit.now ∷ []) (λ _. self.new.journal ≡ self.old.journal) }
+        ensures accepted { OnOk result (refusal self.old.opening self.old.journal edit.now ≡ None) }
+        ensures refused { IfErr result (λ e. IsError e (refusal self.old.opening self.old.journal edit.now)) }
+    {
+        let prepared = self.prepare(edit)?;
+        self.commit(prepared);
+        Ok(())
+    }
+
+    /// The edits that were accepted, in their order.
+    pub fn journal(&self) -> &[Edit]
+        ensures journal { result.now ≡ self.now.journal }
+        ensures lawful { IsLawful self.now.opening self.now.journal }
+    {
+        &self.journal
+    }
+
+    /// How many edits were accepted.
+    pub fn len(&self) -> u64
+        ensures length { result ≡ length self.now.journal }
+        ensures lawful { IsLawful self.now.opening self.now.journal }
+    {
+        self.journal.len() as u64
+    }
+
+    /// The kind of the node of a path, if there is one. Takes no memory.
+    pub fn lookup(&self, path: &Path) -> Option<NodeKind>
+        ensures { result ≡ kind_at (replay self.now.opening self.now.journal) path.now }
+    {
+        self.standing().kind_at(&path.as_path_ref())
+    }
+
+    /// The verdict on a request for the node of a path ([MS-DTYP] 2.5.3.2). Takes no memory.
+    pub fn check(&self, path: &Path, token: &Token, asked: Mask) -> CheckReply
+        ensures { result ≡ answer self.now.opening self.now.journal path.now token.now asked }
+    {
+        match node_at(&self.nodes, &path.as_path_ref()) {
+            None => CheckReply::NoNode,
+            Some(node) => {
+                let dacl = match &node.whole {
+                    None => DaclRef::Null,
+                    Some(list) => DaclRef::List(list.entries()),
+                };
+                let owner = Some(node.row.owner);
+                CheckReply::Verdict(check_parts(owner, dacl, &self.opening.mapping, token, asked))
+            }
+        }
+    }
+
+    /// The descriptor of the node of a path, if there is one ([MS-DTYP] 2.4.6).
+    pub fn descriptor(&self, path: &Path) -> Result<Option<Descriptor>, AllocError>
+        ensures { IfOk result (λ found. option_map descriptor_of found ≡ descriptor_at self.now.opening.mapping (replay self.now.opening self.now.journal) path.now) }
+    {
+        match node_at(&self.nodes, &path.as_path_ref()) {
+            None => Ok(None),
+            Some(node) => Ok(Some(described(self.alloc, &node.row, &node.whole)?)),
+        }
+    }
+
+    /// Why an edit is refused, if it is: the first refusal that fits. `AllocError` only where none is due that is found
+    /// without memory. The tree stays.
+    pub fn judge(&self, edit: &Edit) -> Result<Option<EditRefusal>, AllocError>
+        ensures due { IfOk result (λ due. due ≡ refusal self.now.opening self.now.journal edit.now) }
+        ensures memory { IfErr result (λ _. is_early (refusal self.now.opening self.now.journal edit.now) ≡ false) }
+    {
+        match self.planned(edit) {
+            Ok(_) => Ok(None),
+            Err(TreeError::Refused(refusal)) => Ok(Some(refusal)),
+            Err(TreeError::Memory) => Err(AllocError),
+        }
+    }
+
+    /// The plan of an edit, or why it is refused.
+    fn planned(&self, edit: &Edit) -> Result<Plan, TreeError>
+        ensures plan { IfOk result (IsPlanned self.now.opening self.now.journal edit.now) }
+        ensures refused { IfErr result (λ e. IsError e (refusal self.now.opening self.now.journal edit.now)) }
+    {
+        self.standing().planned(edit, self.journal.len())
+    }
+
+    /// The nodes as they stand.
+    fn standing(&self) -> Standing<'_>
+        ensures standing { AreStanding result.mapping.now result.nodes.now }
+        ensures mapping { result.mapping.now ≡ self.now.opening.mapping }
+        ensures tree { tree_of result.nodes.now ≡ replay self.now.opening self.now.journal }
+    {
+        Standing {
+            alloc: self.alloc,
+            mapping: &self.opening.mapping,
+            nodes: &self.nodes,
+        }
+    }
+}
+
+/// The node of the root.
+fn root_node(
+    alloc: Global,
+    mapping: &GenericMapping,
+    root: &RootSpec,
+) -> Result<Box<Node>, TreeError>
+    ensures node { IfOk result (λ b. (b.value.path ≡ []) × (b.value.row ≡ root_row root.now) × (b.value.whole ≡ dacl_of_row mapping.now (root_row root.now) None) × (dacl_size b.value.whole ≤ 65535)) }
+    ensures refused { IfErr result (λ e. IsSizeError e (dacl_of_row mapping.now (root_row root.now) None)) }
+{
+    let row = Row {
+        kind: NodeKind::Container,
+        owner: root.owner,
+        group: root.group,
+        dacl: root.dacl.copy(alloc)?,
+    };
+    let whole = dacl_of_row(alloc, mapping, &row, &None)?;
+    let path = Path::root(alloc);
+    Ok(Box::new(alloc, Node { path, row, whole })?)
 }

@@ -1,0 +1,244 @@
+-- Whole DACLs that are built anew, from a node on down the run of those below it.
+use Rattle.std.proofs.Common.{◌≡◌, ◌≢◌, ◌⊎◌, ℕ, ◌+◌, ◌-◌, ◌<◌, ◌≤◌, Bool, true, false, ◌||◌, List, [], ◌∷◌, ◌++◌, length, get_or, Option, Some, None, IsSome, is_some, option_map, inl, inr, refl, sym, ap, subst, ◌∙◌, arith, nat_lt, add-zero}
+use Rattle.std.specs.List.{HoldsAt, AllWithin, list_any}
+use Rattle.std.specs.FinMap.{insert, keys, contains_key-keys}
+use Rattle.std.specs.Ordering.{eq_by_cmp}
+use Rattle.std.specs.Cmp.{tied_itself}
+use Rattle.std.specs.declared.cmp.Ordering.TheVariants.{Less, Equal}
+use Rattle.std.proofs.lemmas.Bool.{cases_Bool, cases_lt}
+use Rattle.std.proofs.lemmas.Bool.Decides.{nat_tests}
+use Rattle.std.proofs.lemmas.List.{get_or_default, get_or_append_left, length-append}
+use Rattle.std.proofs.Math.Seq.{get_or-append_seam}
+use Rattle.sd_sid.specs.Mapping.{MappingValue}
+use Rattle.sd_acl.specs.declared.ace.Ace.{Ace}
+use Rattle.sd_tree.specs.Names.{Names, names_cmp, up, is_root, is_within}
+use Rattle.sd_tree.specs.Inheritance.{dacl_of_row}
+use Rattle.sd_tree.specs.Plain.{PlainTree, row_at, dacl_here, dacl_at}
+use Rattle.sd_tree.specs.Closed.{IsClosed}
+use Rattle.sd_tree.specs.Refusals.{dacl_size, has_large_dacl}
+use Rattle.sd_tree.specs.Sizes.{IsSizeError}
+use Rattle.sd_tree.specs.Stored.{Boxed, path_of_node, IsInOrder, tree_of, AreStanding}
+use Rattle.sd_tree.specs.Plans.{IsRewriting, IsLargeError}
+use Rattle.sd_tree.specs.declared.node.Row.{Row}
+use Rattle.sd_tree.specs.declared.node.NodeKind.{NodeKind}
+use Rattle.sd_tree.specs.declared.refusal.TreeError.{TreeError}
+use Rattle.sd_tree.specs.declared.refusal.TreeError.TheVariants.{Refused, Memory}
+use Rattle.sd_tree.proofs.Paths.{names_cmp_total, within_before, up_before, up_within, root_is_empty}
+use Rattle.sd_tree.proofs.Dacls.{dacl_at_up, dacl_at_outside}
+use Rattle.sd_tree.proofs.Rows.{same_or_other, one_path, row_at-insert_other}
+use Rattle.sd_tree.proofs.Sorted.{greater_from_less}
+use Rattle.sd_tree.proofs.Places.{paths_rise}
+use Rattle.sd_tree.proofs.Kept.{row_here, a_node}
+use Rattle.sd_tree.proofs.CarriedOut.{key_at, keys_count}
+
+-- ---- places and the order of paths
+
+-- no path is before itself
+pub not_before_itself : (p q : Names) → p ≡ q → names_cmp p q ≡ Less → ⊥
+not_before_itself p q same low =
+    let tied : names_cmp p q ≡ Equal = ap (names_cmp p) (sym same) ∙ tied_itself names_cmp_total p in
+    absurd cc
+
+not_both : (p q : Names) → names_cmp p q ≡ Less → names_cmp q p ≡ Less → ⊥
+not_both p q low high = let turned = greater_from_less names_cmp_total p q low in absurd cc
+
+pub place_before : (bs : List Boxed) → IsInOrder bs → (i j : ℕ) (b : Boxed) → i < length bs → j < length bs
+    → names_cmp (path_of_node (get_or bs i b)) (path_of_node (get_or bs j b)) ≡ Less → i < j
+place_before bs order i j b in-i in-j low = elim (cases_lt i j) [
+  | inl lt ↦ lt
+  | inr ge ↦ elim (cases_lt j i) [
+    | inl gt ↦ absurd (not_both (path_of_node (get_or bs i b)) (path_of_node (get_or bs j b)) low (paths_rise bs order j i b gt in-i))
+    | inr le ↦
+        let same : i ≡ j = omega arith in
+        absurd (not_before_itself (path_of_node (get_or bs i b)) (path_of_node (get_or bs j b)) (ap (λ k. path_of_node (get_or bs k b)) same) low)
+  ]
+]
+
+pub place_same : (bs : List Boxed) → IsInOrder bs → (i j : ℕ) (b : Boxed) → i < length bs → j < length bs
+    → path_of_node (get_or bs i b) ≡ path_of_node (get_or bs j b) → i ≡ j
+place_same bs order i j b in-i in-j same = elim (cases_lt i j) [
+  | inl lt ↦ absurd (not_before_itself _ _ same (paths_rise bs order i j b lt in-j))
+  | inr ge ↦ elim (cases_lt j i) [
+    | inl gt ↦ absurd (not_before_itself _ _ (sym same) (paths_rise bs order j i b gt in-i))
+    | inr le ↦ omega arith
+  ]
+]
+
+-- ---- a node of the run behind its first, and what holds it
+module _ (bs : List Boxed) (order : IsInOrder bs) (q : Names) (at : ℕ) (stands : HoldsAt (λ c. path_of_node c ≡ q) bs at)
+    (k : ℕ) (b : Boxed) (behind : at < k) (in' : k < length bs) (inside : is_within q (path_of_node (get_or bs k b)) ≡ true) where
+  pub first_before : names_cmp q (path_of_node (get_or bs k b)) ≡ Less
+  first_before = rw (stands b) at (paths_rise bs order at k b behind in')
+
+  pub run_other : path_of_node (get_or bs k b) ≢ q
+  run_other same = not_before_itself q _ (sym same) first_before
+
+  pub run_below_root : is_root (path_of_node (get_or bs k b)) ≡ false
+  run_below_root = elim (cases_Bool (is_root (path_of_node (get_or bs k b)))) [
+    | inl root ↦
+        let empty = root_is_empty _ root in
+        let first : names_cmp q [] ≡ Less = ap (names_cmp q) (sym empty) ∙ first_before in
+        absurd (none_before_root q first)
+    | inr below ↦ below
+  ]
+    where
+      none_before_root : (p : Names) → names_cmp p [] ≡ Less → ⊥
+      none_before_root [] low = absurd cc
+      none_before_root (n ∷ p) low = absurd cc
+
+  pub parent_place : (p : ℕ) → p < length bs → HoldsAt (λ c. path_of_node c ≡ up (path_of_node (get_or bs k b))) bs p → (at ≤ p) × (p < k)
+  parent_place p in-p there =
+      let path = path_of_node (get_or bs k b) in
+      let low : names_cmp (path_of_node (get_or bs p b)) path ≡ Less = rw (there b) (up_before path run_below_root) in
+      let before' = place_before bs order p k b in-p in' low in
+      elim (same_or_other (up path) q) [
+        | inl same ↦ (omega (arith, place_same bs order at p b (omega arith) in-p (stands b ∙ sym same ∙ sym (there b))), before')
+        | inr other ↦
+            let above = within_before q (up path) (up_within q path inside run_other) other in
+            let low-q : names_cmp (path_of_node (get_or bs at b)) (path_of_node (get_or bs p b)) ≡ Less = rw (stands b, there b) above in
+            (omega (arith, place_before bs order at p b (omega arith) in-p low-q), before')
+      ]
+
+  -- its DACL, once the first of the run has another row
+  pub run_whole : (g : MappingValue) (row : Row) (above : Option (List Ace)) → above ≡ dacl_at g (insert (tree_of bs) q row) (up (path_of_node (get_or bs k b)))
+      → dacl_of_row g (get_or bs k b).value.row above ≡ dacl_at g (insert (tree_of bs) q row) (path_of_node (get_or bs k b))
+  run_whole g row above is-above =
+      let path = path_of_node (get_or bs k b) in
+      let t' = insert (tree_of bs) q row in
+      let found : row_at t' path ≡ Some (get_or bs k b).value.row = row_at-insert_other (tree_of bs) q path row run_other ∙ row_here bs order k b in' in
+      ap (dacl_of_row g (get_or bs k b).value.row) is-above
+      ∙ ap (λ r. dacl_here g r (dacl_at g t' (up path))) (sym found)
+      ∙ sym (dacl_at_up g t' path run_below_root)
+
+-- ---- what is built so far: the whole DACLs of the first nodes of the run
+pub record IsRebuilt (g : MappingValue) (after : PlainTree) (bs : List Boxed) (at k : ℕ) (wholes : List (Option (List Ace))) : Type 0 where
+  pub count : at + length wholes ≡ k
+  pub each : (j : ℕ) (b : Boxed) (whole : Option (List Ace)) → j < length wholes
+      → (get_or wholes j whole ≡ dacl_at g after (path_of_node (get_or bs (at + j) b))) × (dacl_size (get_or wholes j whole) ≤ 65535)
+
+pub rebuilt_first : (g : MappingValue) (after : PlainTree) (bs : List Boxed) (at : ℕ) (q : Names) (whole : Option (List Ace))
+    → HoldsAt (λ c. path_of_node c ≡ q) bs at → whole ≡ dacl_at g after q → dacl_size whole ≤ 65535 → IsRebuilt g after bs at (at + 1) (whole ∷ [])
+rebuilt_first g after bs at q whole stands is fits = record {
+  count = omega arith;
+  each = λ j b w lt.
+      let first : j ≡ 0 = omega arith in
+      let P : ℕ → Type 0 = λ i. (get_or (whole ∷ []) i w ≡ dacl_at g after (path_of_node (get_or bs (at + i) b))) × (dacl_size (get_or (whole ∷ []) i w) ≤ 65535) in
+      subst P (sym first) (is ∙ ap (dacl_at g after) (sym (ap (λ i. path_of_node (get_or bs i b)) (add-zero at) ∙ stands b)), fits);
+}
+
+pub rebuilt_more : (g : MappingValue) (after : PlainTree) (bs : List Boxed) (at k : ℕ) (wholes : List (Option (List Ace))) (c : Boxed) (whole : Option (List Ace))
+    → IsRebuilt g after bs at k wholes → k < length bs → whole ≡ dacl_at g after (path_of_node (get_or bs k c)) → dacl_size whole ≤ 65535
+    → IsRebuilt g after bs at (k + 1) (wholes ++ whole ∷ [])
+rebuilt_more g after bs at k wholes c whole h in' is fits = record {
+  count = omega (arith, h.count, length-append wholes (whole ∷ []));
+  each = λ j b w lt. elim (cases_lt j (length wholes)) [
+    | inl low ↦
+        let same = get_or_append_left wholes (whole ∷ []) w j low in
+        let old = h.each j b w low in
+        (same ∙ old.0, rw same old.1)
+    | inr high ↦
+        let last : j ≡ length wholes = omega (arith, length-append wholes (whole ∷ [])) in
+        let same : get_or (wholes ++ whole ∷ []) j w ≡ whole = ap (λ i. get_or (wholes ++ whole ∷ []) i w) last ∙ get_or-append_seam wholes whole [] w in
+        let place : at + j ≡ k = omega (arith, h.count, last) in
+        (same ∙ is ∙ ap (dacl_at g after) (ap path_of_node (get_or_default bs k c b in') ∙ ap (λ i. path_of_node (get_or bs i b)) (sym place)), rw same fits)
+  ];
+}
+
+-- ---- the whole run
+
+module _ (g : MappingValue) (bs : List Boxed) (standing : AreStanding g bs) (q : Names) (at : ℕ) (in' : at < length bs) (stands : HoldsAt (λ c. path_of_node c ≡ q) bs at) (row : Row) where
+  -- outside of it a DACL stays
+  outside_stays : (end : ℕ) → AllWithin (λ c. is_within q (path_of_node c) ≡ false) bs end (length bs) → (k : ℕ) (b : Boxed) → k < length bs → (k < at) ⊎ (end ≤ k)
+      → dacl_at g (insert (tree_of bs) q row) (path_of_node (get_or bs k b)) ≡ dacl_at g (tree_of bs) (path_of_node (get_or bs k b))
+  outside_stays end beyond k b lt where' =
+      let path = path_of_node (get_or bs k b) in
+      let out : is_within q path ≡ false = elim where' [
+        | inl low ↦ elim (cases_Bool (is_within q path)) [
+          | inl inside ↦
+              let before' : names_cmp path q ≡ Less = rw (stands b) at (paths_rise bs standing.kept.order k at b low in') in
+              absurd (elim (same_or_other path q) [
+                | inl same ↦ not_before_itself path q same before'
+                | inr other ↦ not_both path q before' (within_before q path inside other)
+              ])
+          | inr outside ↦ outside
+        ]
+        | inr high ↦ beyond k b high lt
+      ] in
+      dacl_at_outside g (insert (tree_of bs) q row) (tree_of bs) q path (λ p other. row_at-insert_other (tree_of bs) q p row other) out
+
+  pub run_rewriting : (end : ℕ) (wholes : List (Option (List Ace))) → end ≤ length bs → AllWithin (λ c. is_within q (path_of_node c) ≡ false) bs end (length bs)
+      → IsRebuilt g (insert (tree_of bs) q row) bs at end wholes → IsRewriting g (tree_of bs) (insert (tree_of bs) q row) at row wholes
+  run_rewriting end wholes le beyond h =
+      let order = standing.kept.order in
+      let count = keys_count bs order in
+      record {
+        place = omega (arith, count);
+        fits = omega (arith, count, h.count);
+        made = λ path. ap (λ p. insert (tree_of bs) p row) (sym (key_at bs order at path (a_node bs at in') in' ∙ stands (a_node bs at in')));
+        below = λ k path whole lt.
+            let b = a_node bs at in' in
+            let there = key_at bs order (at + k) path b (omega (arith, h.count)) in
+            let built = h.each k b whole lt in
+            (built.0 ∙ ap (dacl_at g (insert (tree_of bs) q row)) (sym there), built.1);
+        others = λ k path lt where'.
+            let b = a_node bs at in' in
+            let there = key_at bs order k path b (omega (arith, count)) in
+            ap (dacl_at g (insert (tree_of bs) q row)) there
+            ∙ outside_stays end beyond k b (omega (arith, count)) (elim where' [ inl low ↦ inl low | inr high ↦ inr (omega (arith, h.count)) ])
+            ∙ ap (dacl_at g (tree_of bs)) (sym there);
+      }
+
+-- ---- a DACL that takes too many bytes
+
+found_by : {X : Type 0} (p r : X → Bool) → ((x : X) → r x ≡ true → p x ≡ true) → (xs : List X) → list_any r xs ≡ true → list_any p xs ≡ true
+found_by p r implies [] h = h
+found_by p r implies (x ∷ xs) h = elim (cases_Bool (r x)) [
+  | inl yes' ↦ ap (λ b. b || list_any p xs) (implies x yes')
+  | inr no' ↦ elim (cases_Bool (p x)) [
+    | inl pass ↦ ap (λ b. b || list_any p xs) pass
+    | inr fail ↦ ap (λ b. b || list_any p xs) fail ∙ found_by p r implies xs (sym (ap (λ b. b || list_any r xs) no') ∙ h)
+  ]
+]
+
+pub large_found : (g : MappingValue) (t : PlainTree) (q : Names) (row : Row) → row_at t q ≡ Some row → 65535 < dacl_size (dacl_at g t q) → has_large_dacl g t ≡ true
+large_found g t q row there large =
+    found_by (λ path. nat_lt 65535 (dacl_size (dacl_at g t path))) (eq_by_cmp names_cmp q)
+    (λ path same.
+    let is : q ≡ path = one_path q path same in
+    let big : 65535 < dacl_size (dacl_at g t path) = subst (λ (p : Names). 65535 < dacl_size (dacl_at g t p)) is large in
+    grind (arith, nat_tests))
+    (keys t) (sym (contains_key-keys t q) ∙ ap is_some there)
+
+pub large_error : (g : MappingValue) (t : PlainTree) (q : Names) (row : Row) (e : TreeError) → row_at t q ≡ Some row → IsSizeError e (dacl_at g t q) → IsLargeError g t e
+large_error g t q row (Refused r) there h = (h.0, large_found g t q row there h.1)
+large_error g t q row Memory there h = tt
+
+-- the parent of a node is there
+pub parent_there : (t : PlainTree) → IsClosed t → (q : Names) (row : Row) → row_at t q ≡ Some row → IsSome (row_at t (up q))
+parent_there t closed q row there = some_of_kind (row_at t (up q)) _ (closed.parents q row there)
+  where
+    some_of_kind : (o : Option Row) (k : NodeKind) → option_map (λ (r : Row). r.kind) o ≡ Some k → IsSome o
+    some_of_kind None k e = absurd cc
+    some_of_kind (Some row) k e = refl
+
+-- what stands at a place has a row
+pub row_there : (bs : List Boxed) → IsInOrder bs → (q : Names) (at : ℕ) → at < length bs → HoldsAt (λ c. path_of_node c ≡ q) bs at → (row : Row) × (row_at (tree_of bs) q ≡ Some row)
+row_there [] order q at in' stands = absurd (omega arith)
+row_there (b ∷ bs) order q at in' stands = ((get_or (b ∷ bs) at b).value.row, ap (row_at (tree_of (b ∷ bs))) (sym (stands b)) ∙ row_here (b ∷ bs) order at b in')
+
+-- the DACL of the next node of the run, below the one that is built already for what holds it
+pub next_rebuilt : (g : MappingValue) (bs : List Boxed) (order : IsInOrder bs) (q : Names) (at : ℕ) (stands : HoldsAt (λ c. path_of_node c ≡ q) bs at) (row : Row)
+    → (k : ℕ) (b : Boxed) → at < k → k < length bs → is_within q (path_of_node (get_or bs k b)) ≡ true
+    → (wholes : List (Option (List Ace))) → IsRebuilt g (insert (tree_of bs) q row) bs at k wholes
+    → (p : ℕ) → p < length bs → HoldsAt (λ c. path_of_node c ≡ up (path_of_node (get_or bs k b))) bs p
+    → (row-k : Row) → row-k ≡ (get_or bs k b).value.row
+    → (above : Option (List Ace)) → above ≡ get_or wholes (p - at) above
+    → dacl_of_row g row-k above ≡ dacl_at g (insert (tree_of bs) q row) (path_of_node (get_or bs k b))
+next_rebuilt g bs order q at stands row k b behind in' inside wholes h p in-p there row-k is-row above is-above =
+    let t' = insert (tree_of bs) q row in
+    let place = parent_place bs order q at stands k b behind in' inside p in-p there in
+    let built = (h.each (p - at) b above (omega (arith, place.0, place.1, h.count))).0 in
+    let same : at + (p - at) ≡ p = omega (arith, place.0) in
+    let above_is : above ≡ dacl_at g t' (up (path_of_node (get_or bs k b))) =
+    is-above ∙ built ∙ ap (dacl_at g t') (ap (λ j. path_of_node (get_or bs j b)) same ∙ there b) in
+    ap (λ r. dacl_of_row g r above) is-row ∙ run_whole bs order q at stands k b behind in' inside g row above above_is

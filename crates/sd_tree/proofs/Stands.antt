@@ -1,0 +1,173 @@
+-- What a tree keeps, from its opening through each edit.
+use Rattle.std.proofs.Common.{◌≡◌, ℕ, ◌<◌, ◌≤◌, Bool, true, false, cond, List, [], ◌∷◌, ◌++◌, length, map, get_or, Option, Some, None, Result, Ok, Err, IfOk, IfErr, refl, sym, ap, subst, ◌∙◌, arith}
+use Rattle.std.specs.FinMap as finite
+use Rattle.std.specs.FinMap.{entries-insert, len-entries, len-empty, put}
+use Rattle.std.proofs.lemmas.List.{length-map}
+use Rattle.sd_sid.specs.Mapping.{MappingValue}
+use Rattle.sd_tree.specs.Names.{Names, names_cmp}
+use Rattle.sd_tree.specs.Inheritance.{dacl_of_row}
+use Rattle.sd_tree.specs.Plain.{PlainTree, row_at, dacl_here, dacl_at}
+use Rattle.sd_tree.specs.Edits.{edited}
+use Rattle.std.specs.List.{list_any}
+use Rattle.sd_acl.specs.Canonical.{is_inherited, deny_behind_allow}
+use Rattle.sd_tree.specs.Refusals.{first_fit, list_tests, own_entries, refusal_in, dacl_size, has_large_dacl, is_early}
+use Rattle.sd_tree.specs.Sizes.{IsSizeError}
+use Rattle.sd_tree.specs.Closed.{IsClosed}
+use Rattle.sd_tree.specs.Journal.{opened, root_row, replay, refusal, root_refusal}
+use Rattle.sd_tree.specs.Answers.{IsError}
+use Rattle.sd_tree.specs.Stored.{Boxed, entry_of, tree_of, IsWhole, AreNodes, AreStanding, IsStored}
+use Rattle.sd_tree.specs.Plans.{IsPlan, IsPlanned, CanCarryOut, IsCarriedOut}
+use Rattle.sd_tree.specs.declared.node.Row.{Row}
+use Rattle.sd_tree.specs.declared.edit.Edit.{Edit}
+use Rattle.sd_tree.specs.declared.opening.Opening.{Opening}
+use Rattle.sd_tree.specs.declared.plan.Plan.{Plan}
+use Rattle.sd_tree.specs.declared.plan.Plan.TheVariants.{Insert, Rewrite, Remove}
+use Rattle.sd_tree.specs.declared.refusal.EditRefusal.{EditRefusal}
+use Rattle.sd_tree.specs.declared.refusal.EditRefusal.TheVariants.{InheritedEntry, NotCanonical, AclTooLarge}
+use Rattle.sd_tree.specs.declared.refusal.TreeError.{TreeError}
+use Rattle.sd_tree.specs.declared.refusal.TreeError.TheVariants.{Refused, Memory}
+use Rattle.sd_tree.proofs.Paths.{names_cmp_total}
+use Rattle.sd_tree.proofs.Dacls.{dacl_at_root}
+use Rattle.sd_tree.proofs.Rows.{row_at-insert_same}
+use Rattle.sd_tree.proofs.Journals.{replay-none, replay-push, lawful_none, lawful_push}
+use Rattle.sd_tree.proofs.Closed.{closed_replay}
+use Rattle.sd_tree.proofs.Kept.{a_node}
+use Rattle.sd_tree.proofs.CarriedOut.{tree_from_entries, order_from_entries, keys_count, inserted, rewritten, removed}
+use Rattle.sd_tree.proofs.Rebuilding.{large_found}
+use Rattle.sd_tree.proofs.Fitting.{no_large}
+
+-- the nodes of a tree may be edited
+pub standing_from_stored : (o : Opening) (journal : List Edit) (bs : List Boxed) → IsStored o journal bs → AreStanding o.mapping bs
+standing_from_stored o journal bs s = record {
+  kept = s.nodes;
+  closed = let P : PlainTree → Type 0 = IsClosed in subst P (sym s.tree) (closed_replay o journal s.lawful);
+}
+
+-- ---- what is planned of the nodes is planned of the tree
+
+same_refusal : (o : Opening) (journal : List Edit) (g : MappingValue) (t : PlainTree) (n : ℕ) (e : Edit) → g ≡ o.mapping → t ≡ replay o journal → n ≡ length journal → refusal_in g t n e ≡ refusal o journal e
+same_refusal o journal g t n e same-g same-t same-n = λ i. refusal_in (same-g i) (same-t i) (same-n i) e
+
+pub planned_of_tree : (o : Opening) (journal : List Edit) (g : MappingValue) (t : PlainTree) (n : ℕ) (e : Edit) (r : Result Plan TreeError)
+    → g ≡ o.mapping → t ≡ replay o journal → n ≡ length journal
+    → IfOk r (IsPlan g t (edited g t e)) → IfOk r (λ _. refusal_in g t n e ≡ None) → IfOk r (IsPlanned o journal e)
+planned_of_tree o journal g t n e (Err x) same-g same-t same-n plan accepted = tt
+planned_of_tree o journal g t n e (Ok p) same-g same-t same-n plan accepted = record {
+  accepted = sym (same_refusal o journal g t n e same-g same-t same-n) ∙ accepted;
+  planned =
+      let P : MappingValue → Type 0 = λ h. IsPlan h t (edited h t e) p in
+      let Q : PlainTree → Type 0 = λ u. IsPlan o.mapping u (edited o.mapping u e) p in
+      subst Q same-t (subst P same-g plan);
+}
+
+pub refused_of_tree : (o : Opening) (journal : List Edit) (g : MappingValue) (t : PlainTree) (n : ℕ) (e : Edit) (r : Result Plan TreeError)
+    → g ≡ o.mapping → t ≡ replay o journal → n ≡ length journal
+    → IfErr r (λ x. IsError x (refusal_in g t n e)) → IfErr r (λ x. IsError x (refusal o journal e))
+refused_of_tree o journal g t n e r same-g same-t same-n h =
+    let P : Option EditRefusal → Type 0 = λ due. IfErr r (λ x. IsError x due) in subst P (same_refusal o journal g t n e same-g same-t same-n) h
+
+-- ---- a plan is carried out
+
+pub planned_alike : (o o' : Opening) (journal journal' : List Edit) (e : Edit) (plan : Plan) → o ≡ o' → journal ≡ journal' → IsPlanned o journal e plan → IsPlanned o' journal' e plan
+planned_alike o o' journal journal' e plan same-o same-journal h =
+    let P : Opening → Type 0 = λ p. IsPlanned p journal e plan in
+    let Q : List Edit → Type 0 = λ k. IsPlanned o' k e plan in
+    subst Q same-journal (subst P same-o h)
+
+plan_of_nodes : (o : Opening) (journal : List Edit) (e : Edit) (plan : Plan) (bs : List Boxed) → IsStored o journal bs → IsPlanned o journal e plan
+    → IsPlan o.mapping (tree_of bs) (edited o.mapping (replay o journal) e) plan
+plan_of_nodes o journal e plan bs s h = let P : PlainTree → Type 0 = λ t. IsPlan o.mapping t (edited o.mapping (replay o journal) e) plan in subst P (sym s.tree) h.planned
+
+can_carry : (g : MappingValue) (bs : List Boxed) → AreNodes g bs → (after : PlainTree) (plan : Plan) (room : ℕ) → IsPlan g (tree_of bs) after plan → length bs < room → CanCarryOut (length bs) room plan
+can_carry g bs kept after (Insert at b) room h lt = let count = keys_count bs kept.order in (omega (arith, h.place), lt)
+can_carry g bs kept after (Rewrite at row wholes) room h lt = let count = keys_count bs kept.order in (omega (arith, h.place), omega (arith, h.fits))
+can_carry g bs kept after (Remove at) room h lt = let count = keys_count bs kept.order in omega (arith, h.place)
+
+pub nodes_of_tree : (o : Opening) (journal : List Edit) (bs : List Boxed) → IsStored o journal bs → finite.len (replay o journal) ≡ length bs
+nodes_of_tree o journal bs s =
+    ap finite.len (sym s.tree) ∙ len-entries (tree_of bs) ∙ sym (length-map (finite.entries (tree_of bs)) (λ (e : Names × Row). e.0)) ∙ keys_count bs s.nodes.order
+
+pub can_carry_out : (o : Opening) (journal : List Edit) (e : Edit) (plan : Plan) (bs : List Boxed) (room : ℕ) → IsStored o journal bs → IsPlanned o journal e plan → finite.len (replay o journal) < room
+    → CanCarryOut (length bs) room plan
+can_carry_out o journal e plan bs room s h lt =
+    can_carry o.mapping bs s.nodes (edited o.mapping (replay o journal) e) plan room (plan_of_nodes o journal e plan bs s h) (omega (arith, nodes_of_tree o journal bs s))
+
+carried : (g : MappingValue) (bs bs' : List Boxed) → AreNodes g bs → (after : PlainTree) (plan : Plan) → IsPlan g (tree_of bs) after plan → IsCarriedOut plan bs bs' → (tree_of bs' ≡ after) × AreNodes g bs'
+carried g bs bs' kept after (Insert at b) h is =
+    let P : List Boxed → Type 0 = λ cs. (tree_of cs ≡ after) × AreNodes g cs in subst P (sym is) (inserted g bs kept after at b h)
+carried g bs bs' kept after (Rewrite at row wholes) h r =
+    let place : at < length bs = omega (arith, h.place, keys_count bs kept.order) in
+    rewritten g bs kept after at row wholes.items h bs' r (a_node bs at place)
+carried g bs bs' kept after (Remove at) h is =
+    let place : at < length bs = omega (arith, h.place, keys_count bs kept.order) in
+    let P : List Boxed → Type 0 = λ cs. (tree_of cs ≡ after) × AreNodes g cs in subst P (sym is) (removed g bs kept after at h (a_node bs at place))
+
+-- a tree that an edit joined
+pub stored_more : (o : Opening) (journal : List Edit) (e : Edit) (plan : Plan) (bs bs' : List Boxed) → IsStored o journal bs → IsPlanned o journal e plan → IsCarriedOut plan bs bs' → IsStored o (journal ++ e ∷ []) bs'
+stored_more o journal e plan bs bs' s h is =
+    let done = carried o.mapping bs bs' s.nodes (edited o.mapping (replay o journal) e) plan (plan_of_nodes o journal e plan bs s h) is in
+    record {
+      lawful = lawful_push o journal e s.lawful h.accepted;
+      tree = done.0 ∙ sym (replay-push o journal e);
+      nodes = done.1;
+    }
+
+-- ---- the opening
+
+no_length : {X : Type 0} (xs : List X) → length xs ≡ 0 → xs ≡ []
+no_length [] e = refl
+no_length (x ∷ xs) e = absurd (omega arith)
+
+none_of_empty : finite.entries (finite.empty {X = Row} {R = names_cmp}) ≡ []
+none_of_empty = no_length _ (sym (len-entries (finite.empty {X = Row} {R = names_cmp})) ∙ len-empty names_cmp Row)
+
+opened_entries : (o : Opening) → finite.entries (opened o) ≡ ([], root_row o.root) ∷ []
+opened_entries o = entries-insert names_cmp_total finite.empty [] (root_row o.root) ∙ ap (put names_cmp [] (root_row o.root)) none_of_empty
+
+opened_root : (o : Opening) → row_at (opened o) [] ≡ Some (root_row o.root)
+opened_root o = row_at-insert_same finite.empty [] (root_row o.root)
+
+opened_dacl : (o : Opening) → dacl_at o.mapping (opened o) [] ≡ dacl_of_row o.mapping (root_row o.root) None
+opened_dacl o = dacl_at_root o.mapping (opened o) ∙ ap (λ r. dacl_here o.mapping r None) (opened_root o)
+
+pub stored_first : (o : Opening) (b : Boxed) → b.value.path ≡ [] → b.value.row ≡ root_row o.root → b.value.whole ≡ dacl_of_row o.mapping (root_row o.root) None → dacl_size b.value.whole ≤ 65535
+    → IsStored o [] (b ∷ [])
+stored_first o b path-is row-is whole-is fits =
+    let e : map entry_of (b ∷ []) ≡ finite.entries (opened o) = (λ i. (path-is i, row-is i) ∷ []) ∙ sym (opened_entries o) in
+    let same = tree_from_entries (b ∷ []) (opened o) e in
+    let whole : b.value.whole ≡ dacl_at o.mapping (tree_of (b ∷ [])) b.value.path =
+    whole-is ∙ sym (opened_dacl o) ∙ (λ i. dacl_at o.mapping (sym same i) (sym path-is i)) in
+    record {
+      lawful = lawful_none o;
+      tree = same ∙ sym (replay-none o);
+      nodes = record {
+        order = order_from_entries (b ∷ []) (opened o) e;
+        whole = λ k d lt.
+            let first : 0 ≡ k = omega arith in
+            let P : ℕ → Type 0 = λ j. IsWhole o.mapping (tree_of (b ∷ [])) (get_or (b ∷ []) j d) in
+            subst P first (record { is = whole; fits = fits });
+      };
+    }
+
+root_by_parts : (o : Opening) (large : Bool) → first_fit (list_tests o.root.dacl) ≡ None → has_large_dacl o.mapping (opened o) ≡ large → root_refusal o ≡ cond large (Some AclTooLarge) None
+root_by_parts o large list is = passed (list_any is_inherited (own_entries o.root.dacl)) (deny_behind_allow (own_entries o.root.dacl)) InheritedEntry NotCanonical list ∙ ap (λ b. cond b (Some AclTooLarge) None) is
+  where
+    passed : (a b : Bool) (x y : EditRefusal) {rest : Option EditRefusal} → cond a (Some x) (cond b (Some y) None) ≡ None → cond a (Some x) (cond b (Some y) rest) ≡ rest
+    passed true b x y h = absurd cc
+    passed false true x y h = absurd cc
+    passed false false x y h = refl
+
+pub root_accepted : (o : Opening) (bs : List Boxed) → IsStored o [] bs → first_fit (list_tests o.root.dacl) ≡ None → root_refusal o ≡ None
+root_accepted o bs s list =
+    let fits : has_large_dacl o.mapping (opened o) ≡ false = ap (has_large_dacl o.mapping) (sym (s.tree ∙ replay-none o)) ∙ no_large o.mapping bs s.nodes in
+    root_by_parts o false list fits
+
+late_root : (large : Bool) → is_early (cond large (Some AclTooLarge) None) ≡ false
+late_root true = refl
+late_root false = refl
+
+pub root_error : (o : Opening) (e : TreeError) → first_fit (list_tests o.root.dacl) ≡ None → IsSizeError e (dacl_of_row o.mapping (root_row o.root) None) → IsError e (root_refusal o)
+root_error o (Refused r) list h =
+    let big : 65535 < dacl_size (dacl_at o.mapping (opened o) []) = rw (opened_dacl o) h.1 in
+    root_by_parts o true list (large_found o.mapping (opened o) [] (root_row o.root) (opened_root o) big) ∙ ap Some (sym h.0)
+root_error o Memory list h = ap is_early (root_by_parts o (has_large_dacl o.mapping (opened o)) list refl) ∙ late_root (has_large_dacl o.mapping (opened o))

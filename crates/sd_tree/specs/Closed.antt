@@ -1,0 +1,18 @@
+-- Trees without gaps: what every tree of a lawful journal is.
+use Rattle.std.specs.Prelude.{◌≡◌, false, [], Some, None}
+use Rattle.sd_tree.specs.Names.{Names, up, is_root}
+use Rattle.sd_tree.specs.Plain.{PlainTree, row_at}
+use Rattle.sd_tree.specs.Answers.{kind_at}
+use Rattle.sd_tree.specs.declared.node.Row.{Row}
+use Rattle.sd_tree.specs.declared.node.NodeKind.TheVariants.{Container}
+
+-- the root is there and is a container, and so is what holds each node
+pub record IsClosed (t : PlainTree) : Type 0 where
+  pub root : kind_at t [] ≡ Some Container
+  pub parents : (path : Names) (row : Row) → row_at t path ≡ Some row → kind_at t (up path) ≡ Some Container
+
+-- a path where a node may be added: none stands there, and a container holds it
+pub record IsAddable (t : PlainTree) (path : Names) : Type 0 where
+  pub free : row_at t path ≡ None
+  pub held : kind_at t (up path) ≡ Some Container
+  pub below_root : is_root path ≡ false

@@ -1,0 +1,12 @@
+-- What `commit` wants of a tree: that it is as `prepare` left it.
+use Rattle.std.specs.Prelude.{◌≡◌, ◌<◌, length}
+use Rattle.std.specs.FinMap as finite
+use Rattle.sd_tree.specs.Journal.{TreeValue, replay}
+use Rattle.sd_tree.specs.Plans.{Planned}
+
+-- the tree has the opening and the journal that the edit was prepared for, and room for one more edit and one more node
+pub record IsPrepared (t : TreeValue) (p : Planned) : Type 0 where
+  pub opening : p.opening ≡ t.opening
+  pub journal : p.journal ≡ t.journal
+  pub edit_room : length t.journal < t.edit_room
+  pub node_room : finite.len (replay t.opening t.journal) < t.node_room

@@ -1,0 +1,174 @@
+//! Whether an edit is refused.
+
+ghost use Rattle.std.specs.Prelude.{◌≡◌, ◌<◌, length, false, None, ◌++◌, ◌∷◌, [], nat_lt, nat_le, IfOk, IfErr};
+ghost use Rattle.std.specs.List.{HoldsAt};
+ghost use Rattle.std.specs.FinMap.{len};
+ghost use Rattle.sd_tree.specs.Answers.{kind_at, IsError};
+ghost use Rattle.sd_tree.specs.Edits.{edited};
+ghost use Rattle.sd_tree.specs.Names.{is_root};
+ghost use Rattle.sd_tree.specs.Plans.{IsPlan};
+ghost use Rattle.sd_tree.specs.Refusals.{early_refusal, first_fit, addition_tests, node_tests, room_tests, has_child, refusal_in};
+ghost use Rattle.sd_tree.specs.Stored.{path_of_node, tree_of, AreStanding};
+ghost use Rattle.sd_tree.specs.declared.refusal.EditRefusal.TheVariants.{NotEmpty, IsRoot, TooDeep, NodesFull, JournalFull};
+
+use crate::edit::Edit;
+use crate::given::list_refusal;
+use crate::node::{Node, NodeDacl, NodeKind};
+use crate::nodes::{locate, node_at};
+use crate::path::{Path, PathRef};
+use crate::plan::Plan;
+use crate::refusal::{EditRefusal, TreeError};
+use crate::standing::Standing;
+
+/// The most names of a node's path.
+const MAX_DEPTH: u64 = 64;
+
+/// The most nodes of a tree, the root counted.
+const MAX_NODES: usize = 0x1_0000;
+
+/// The most edits of a journal.
+const MAX_EDITS: usize = 0x10_0000;
+
+impl Standing<'_> {
+    /// The kind of the node of a path.
+    pub(crate) fn kind_at(&self, path: &PathRef<'_>) -> Option<NodeKind>
+        requires { AreStanding self.now.mapping.now self.now.nodes.now }
+        ensures { result ≡ kind_at (tree_of self.now.nodes.now) path.now }
+    {
+        match node_at(self.nodes, path) {
+            Some(node) => Some(node.row.kind),
+            None => None,
+        }
+    }
+
+    /// Why no node may be added at the path with this DACL.
+    fn addition_refusal(&self, path: &Path, dacl: &NodeDacl) -> Option<EditRefusal>
+        requires { AreStanding self.now.mapping.now self.now.nodes.now }
+        ensures { result ≡ first_fit (addition_tests (tree_of self.now.nodes.now) path.now dacl.now) }
+    {
+        let path = path.as_path_ref();
+        if !path.is_root() {
+            match self.kind_at(&path.parent()) {
+                None => return Some(EditRefusal::NoParent),
+                Some(NodeKind::Object) => return Some(EditRefusal::ParentIsObject),
+                Some(NodeKind::Container) => {}
+            }
+        }
+        match self.kind_at(&path) {
+            Some(_) => Some(EditRefusal::Exists),
+            None => list_refusal(dacl),
+        }
+    }
+
+    /// Why the node of the path can't be changed: none is there.
+    fn absence(&self, path: &Path) -> Option<EditRefusal>
+        requires { AreStanding self.now.mapping.now self.now.nodes.now }
+        ensures { result ≡ first_fit (node_tests (tree_of self.now.nodes.now) path.now) }
+    {
+        match self.kind_at(&path.as_path_ref()) {
+            Some(_) => None,
+            None => Some(EditRefusal::NoNode),
+        }
+    }
+
+    /// Whether a node stands right below the one at a place: then the next in order does.
+    fn has_child(&self, path: &PathRef<'_>, at: usize) -> bool
+        requires standing { AreStanding self.now.mapping.now self.now.nodes.now }
+        requires within { at < length self.now.nodes.now }
+        requires stands { HoldsAt (λ b. path_of_node b ≡ path.now) self.now.nodes.now at }
+        ensures { result ≡ has_child (tree_of self.now.nodes.now) path.now }
+    {
+        if at + 1 == self.nodes.len() {
+            return false;
+        }
+        let next: &Node = &self.nodes[at + 1];
+        next.path.as_path_ref().is_within(path)
+    }
+
+    /// Why the node of the path can't go.
+    fn removal_refusal(&self, path: &Path) -> Option<EditRefusal>
+        requires { AreStanding self.now.mapping.now self.now.nodes.now }
+        ensures { result ≡ first_fit (node_tests (tree_of self.now.nodes.now) path.now ++ (has_child (tree_of self.now.nodes.now) path.now, NotEmpty) ∷ (is_root path.now, IsRoot) ∷ []) }
+    {
+        let path = path.as_path_ref();
+        match locate(self.nodes, &path) {
+            Err(_) => Some(EditRefusal::NoNode),
+            Ok(at) => {
+                if self.has_child(&path, at) {
+                    return Some(EditRefusal::NotEmpty);
+                }
+                if path.is_root() {
+                    return Some(EditRefusal::IsRoot);
+                }
+                None
+            }
+        }
+    }
+
+    /// Why an edit is refused by the tests that take no memory.
+    fn early_refusal(&self, edit: &Edit) -> Option<EditRefusal>
+        requires { AreStanding self.now.mapping.now self.now.nodes.now }
+        ensures { result ≡ early_refusal (tree_of self.now.nodes.now) edit.now }
+    {
+        match edit {
+            Edit::AddContainer { path, dacl, .. } => self.addition_refusal(path, dacl),
+            Edit::AddObject { path, dacl, .. } => self.addition_refusal(path, dacl),
+            Edit::SetOwner { path, .. } => self.absence(path),
+            Edit::SetGroup { path, .. } => self.absence(path),
+            Edit::SetDacl { path, dacl } => match self.absence(path) {
+                Some(refusal) => Some(refusal),
+                None => list_refusal(dacl),
+            },
+            Edit::Remove { path } => self.removal_refusal(path),
+            Edit::ProtectKeeping { path } => self.absence(path),
+        }
+    }
+
+    /// Why one more node can't be had at the path.
+    fn room_refusal(&self, path: &Path) -> Option<EditRefusal>
+        requires { AreStanding self.now.mapping.now self.now.nodes.now }
+        ensures { result ≡ first_fit ((nat_lt 64 (length path.now), TooDeep) ∷ (nat_le 65536 (len (tree_of self.now.nodes.now)), NodesFull) ∷ []) }
+    {
+        if path.as_path_ref().depth() > MAX_DEPTH {
+            return Some(EditRefusal::TooDeep);
+        }
+        if self.nodes.len() >= MAX_NODES {
+            return Some(EditRefusal::NodesFull);
+        }
+        None
+    }
+
+    /// Why an edit is refused by the limits, after so many edits.
+    fn limit_refusal(&self, edit: &Edit, edits: usize) -> Option<EditRefusal>
+        requires { AreStanding self.now.mapping.now self.now.nodes.now }
+        ensures { result ≡ first_fit (room_tests (tree_of self.now.nodes.now) edit.now ++ (nat_le 1048576 edits, JournalFull) ∷ []) }
+    {
+        let room = match edit {
+            Edit::AddContainer { path, .. } => self.room_refusal(path),
+            Edit::AddObject { path, .. } => self.room_refusal(path),
+            _ => None,
+        };
+        match room {
+            Some(refusal) => Some(refusal),
+            None if edits >= MAX_EDITS => Some(EditRefusal::JournalFull),
+            None => None,
+        }
+    }
+
+    /// The plan of an edit after so many edits, or why it is refused.
+    pub(crate) fn planned(&self, edit: &Edit, edits: usize) -> Result<Plan, TreeError>
+        requires { AreStanding self.now.mapping.now self.now.nodes.now }
+        ensures plan { IfOk result (IsPlan self.now.mapping.now (tree_of self.now.nodes.now) (edited self.now.mapping.now (tree_of self.now.nodes.now) edit.now)) }
+        ensures accepted { IfOk result (λ _. refusal_in self.now.mapping.now (tree_of self.now.nodes.now) edits edit.now ≡ None) }
+        ensures refused { IfErr result (λ e. IsError e (refusal_in self.now.mapping.now (tree_of self.now.nodes.now) edits edit.now)) }
+    {
+        if let Some(refusal) = self.early_refusal(edit) {
+            return Err(TreeError::Refused(refusal));
+        }
+        let plan = self.plan(edit)?;
+        match self.limit_refusal(edit, edits) {
+            Some(refusal) => Err(TreeError::Refused(refusal)),
+            None => Ok(plan),
+        }
+    }
+}
