@@ -1,0 +1,60 @@
+//! What ProtectKeeping makes of a node.
+
+use super::*;
+use crate::CheckReply;
+use sd_acl::Verdict;
+use sd_sid::Mask;
+
+const READ_CONTROL: Mask = Mask(0x0002_0000);
+
+#[test]
+fn keeping_puts_inherited_denies_before_allows(rt: HostRuntime) -> Result<(), Fail> {
+    let (alloc, who) = (rt.alloc(), trustees()?);
+    let token = users_token(alloc)?;
+    let path = Path::read(alloc, "/p/o")?;
+    let mut tree = opened(alloc, list(alloc, &[])?)?;
+    let above = [deny(OI | CI, FILE_WRITE, who.users)];
+    tree.apply(&add_container(alloc, "/p", protected_list(alloc, &above)?)?)?;
+    let own = [allow(0, FILE_READ, who.users)];
+    tree.apply(&add_object(alloc, "/p/o", list(alloc, &own)?)?)?;
+    let before = [
+        allow(0, FILE_READ, who.users),
+        deny(ID, FILE_WRITE, who.users),
+    ];
+    expect(&rt, &tree, "/p/o", listed(&before)?)?;
+    let granted = CheckReply::Verdict(Verdict::Granted(READ_CONTROL));
+    assert_eq!(rt; tree.check(&path, &token, READ_CONTROL), granted);
+    tree.apply(&protect_keeping(alloc, "/p/o")?)?;
+    let after = [
+        deny(0, FILE_WRITE, who.users),
+        allow(0, FILE_READ, who.users),
+    ];
+    let (protected, wanted) = (true, listed(&after)?);
+    expect(
+        &rt,
+        &tree,
+        "/p/o",
+        ListedDescriptor {
+            protected,
+            ..wanted
+        },
+    )?;
+    let missing = READ_CONTROL;
+    let denied = CheckReply::Verdict(Verdict::Denied { missing });
+    assert_eq!(rt; tree.check(&path, &token, READ_CONTROL), denied);
+    Ok(())
+}
+
+#[test]
+fn keeping_leaves_a_null_dacl(rt: HostRuntime) -> Result<(), Fail> {
+    let alloc = rt.alloc();
+    let mut tree = opened(alloc, list(alloc, &[])?)?;
+    tree.apply(&add_container(alloc, "/n", NodeDacl::Null)?)?;
+    tree.apply(&protect_keeping(alloc, "/n")?)?;
+    let null = descriptor(alloc, &tree, "/n")?;
+    assert!(rt; matches!(&null.dacl, Dacl::Null) && !null.protected);
+    assert_eq!(rt; tree.journal().len(), 2);
+    let last = tree.journal().last();
+    assert!(rt; matches!(last, Some(Edit::ProtectKeeping { .. })));
+    Ok(())
+}

@@ -1,0 +1,68 @@
+//! Lists at the limit of 65,535 bytes, which 3,276 entries for Everyone nearly fill.
+
+use super::*;
+use crate::NodeKind;
+
+/// A tree whose root has the entry so many times.
+fn crowded(alloc: Global, entry: Ace, times: usize) -> Result<Tree, Fail> {
+    let entries = vec![in alloc; entry; times]?;
+    opened(alloc, list(alloc, &entries)?)
+}
+
+/// The number of entries in the DACL of a node.
+fn count_at(alloc: Global, tree: &Tree, path: &str) -> Result<Option<usize>, Fail> {
+    match &descriptor(alloc, tree, path)?.dacl {
+        Dacl::List(list) => Ok(Some(list.entries().len())),
+        _ => Ok(None),
+    }
+}
+
+#[test]
+fn one_entry_more_is_too_large(rt: HostRuntime) -> Result<(), Fail> {
+    let (alloc, who) = (rt.alloc(), trustees()?);
+    let entry = allow(OI | CI, FILE_ALL, who.everyone);
+    let mut tree = crowded(alloc, entry, 3276)?;
+    let own = [allow(0, FILE_ALL, who.everyone)];
+    let edit = add_container(alloc, "/c", list(alloc, &own)?)?;
+    assert_eq!(rt; refusal_of(&mut tree, &edit)?, Some(EditRefusal::AclTooLarge));
+    let shut = add_container(alloc, "/p", protected_list(alloc, &own)?)?;
+    tree.apply(&shut)?;
+    assert_eq!(rt; count_at(alloc, &tree, "/p")?, Some(1));
+    tree.apply(&add_container(alloc, "/c", list(alloc, &[])?)?)?;
+    assert_eq!(rt; count_at(alloc, &tree, "/c")?, Some(3276));
+    Ok(())
+}
+
+#[test]
+fn a_split_entry_counts_twice(rt: HostRuntime) -> Result<(), Fail> {
+    let (alloc, who) = (rt.alloc(), trustees()?);
+    let entry = allow(OI | CI, GENERIC_ALL, who.everyone);
+    let mut tree = crowded(alloc, entry, 1639)?;
+    let edit = add_container(alloc, "/c", list(alloc, &[])?)?;
+    assert_eq!(rt; refusal_of(&mut tree, &edit)?, Some(EditRefusal::AclTooLarge));
+    tree.apply(&add_object(alloc, "/o", list(alloc, &[])?)?)?;
+    assert_eq!(rt; count_at(alloc, &tree, "/o")?, Some(1639));
+    let mut smaller = crowded(alloc, entry, 1638)?;
+    smaller.apply(&edit)?;
+    assert_eq!(rt; count_at(alloc, &smaller, "/c")?, Some(3276));
+    Ok(())
+}
+
+#[test]
+fn a_list_is_too_large_for_those_below(rt: HostRuntime) -> Result<(), Fail> {
+    let (alloc, who) = (rt.alloc(), trustees()?);
+    let mut tree = opened(alloc, list(alloc, &[])?)?;
+    let own = [allow(0, FILE_ALL, who.everyone)];
+    tree.apply(&add_container(alloc, "/c", list(alloc, &own)?)?)?;
+    let many = vec![in alloc; allow(OI | CI, FILE_ALL, who.everyone); 3276]?;
+    let edit = set_dacl(alloc, "/", list(alloc, &many)?)?;
+    assert_eq!(rt; refusal_of(&mut tree, &edit)?, Some(EditRefusal::AclTooLarge));
+    assert_eq!(rt; count_at(alloc, &tree, "/")?, Some(0));
+    expect(&rt, &tree, "/c", listed(&own)?)?;
+    let kind = tree.lookup(&Path::read(alloc, "/c")?);
+    assert_eq!(rt; kind, Some(NodeKind::Container));
+    tree.apply(&remove(alloc, "/c")?)?;
+    tree.apply(&edit)?;
+    assert_eq!(rt; count_at(alloc, &tree, "/")?, Some(3276));
+    Ok(())
+}
