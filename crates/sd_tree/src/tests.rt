@@ -118,6 +118,20 @@ fn add_object(alloc: Global, path: &str, dacl: NodeDacl) -> Result<Edit, Fail> {
     })
 }
 
+/// A container with an empty list is added.
+fn grow(alloc: Global, tree: &mut Tree, path: &str) -> Result<(), Fail> {
+    let edit = add_container(alloc, path, list(alloc, &[])?)?;
+    tree.apply(&edit)?;
+    Ok(())
+}
+
+/// An object with an empty list is added.
+fn plant(alloc: Global, tree: &mut Tree, path: &str) -> Result<(), Fail> {
+    let edit = add_object(alloc, path, list(alloc, &[])?)?;
+    tree.apply(&edit)?;
+    Ok(())
+}
+
 fn set_dacl(alloc: Global, path: &str, dacl: NodeDacl) -> Result<Edit, Fail> {
     let path = Path::read(alloc, path)?;
     Ok(Edit::SetDacl { path, dacl })

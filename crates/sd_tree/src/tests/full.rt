@@ -40,23 +40,41 @@ fn a_full_tree_takes_a_node_for_one_that_went(rt: HostRuntime) -> Result<(), Fai
     let mut tree = full_tree(alloc)?;
     assert_eq!(rt; tree.len(), 65_535);
     let object = add_object(alloc, "/200/x", list(alloc, &[])?)?;
-    assert_eq!(rt; refusal_of(&mut tree, &object)?, Some(EditRefusal::NodesFull));
+    assert_eq!(rt;
+        refusal_of(&mut tree, &object)?,
+        Some(EditRefusal::NodesFull)
+    );
     let container = add_container(alloc, "/x", list(alloc, &[])?)?;
-    assert_eq!(rt; refusal_of(&mut tree, &container)?, Some(EditRefusal::NodesFull));
+    assert_eq!(rt;
+        refusal_of(&mut tree, &container)?,
+        Some(EditRefusal::NodesFull)
+    );
     let orphan = add_object(alloc, "/x/y", list(alloc, &[])?)?;
-    assert_eq!(rt; refusal_of(&mut tree, &orphan)?, Some(EditRefusal::NoParent));
+    assert_eq!(rt;
+        refusal_of(&mut tree, &orphan)?,
+        Some(EditRefusal::NoParent)
+    );
     let large = vec![in alloc; allow(0, FILE_READ, who.everyone); 3276]?;
     let large = add_object(alloc, "/200/x", list(alloc, &large)?)?;
-    assert_eq!(rt; refusal_of(&mut tree, &large)?, Some(EditRefusal::AclTooLarge));
+    assert_eq!(rt;
+        refusal_of(&mut tree, &large)?,
+        Some(EditRefusal::AclTooLarge)
+    );
     tree.apply(&remove(alloc, "/300/355")?)?;
     tree.apply(&object)?;
     let inherited = [allow(ID, FILE_READ, who.users)];
     expect(&rt, &tree, "/200/x", listed(&inherited)?)?;
-    assert_eq!(rt; refusal_of(&mut tree, &container)?, Some(EditRefusal::NodesFull));
+    assert_eq!(rt;
+        refusal_of(&mut tree, &container)?,
+        Some(EditRefusal::NodesFull)
+    );
     let mut path = deepen(alloc, &mut tree)?;
     path.push_str("/x")?;
     let deep = add_object(alloc, path.as_str(), list(alloc, &[])?)?;
     assert_eq!(rt; refusal_of(&mut tree, &deep)?, Some(EditRefusal::TooDeep));
-    assert_eq!(rt; refusal_of(&mut tree, &container)?, Some(EditRefusal::NodesFull));
+    assert_eq!(rt;
+        refusal_of(&mut tree, &container)?,
+        Some(EditRefusal::NodesFull)
+    );
     Ok(())
 }

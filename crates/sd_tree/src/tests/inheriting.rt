@@ -38,8 +38,8 @@ fn oi_waits_in_a_container_and_np_goes_one_level_down(rt: HostRuntime) -> Result
         allow(OI | CI | NP, FILE_EXECUTE, who.users),
     ];
     let mut tree = opened(alloc, list(alloc, &above)?)?;
-    tree.apply(&add_container(alloc, "/c", list(alloc, &[])?)?)?;
-    tree.apply(&add_object(alloc, "/c/o", list(alloc, &[])?)?)?;
+    grow(alloc, &mut tree, "/c")?;
+    plant(alloc, &mut tree, "/c/o")?;
     let container = [
         allow(OI | IO | ID, FILE_READ, who.users),
         allow(ID, FILE_EXECUTE, who.users),
@@ -62,7 +62,10 @@ fn a_new_dacl_reaches_three_levels_down(rt: HostRuntime) -> Result<(), Fail> {
         deny(0, FILE_WRITE, who.users),
     ];
     let edit = set_dacl(alloc, "/a", list(alloc, &disordered)?)?;
-    assert_eq!(rt; refusal_of(&mut tree, &edit)?, Some(EditRefusal::NotCanonical));
+    assert_eq!(rt;
+        refusal_of(&mut tree, &edit)?,
+        Some(EditRefusal::NotCanonical)
+    );
     assert_eq!(rt; tree.journal().len(), 3);
     let handed_on = [allow(OI | CI | ID, FILE_ALL, who.administrators)];
     expect(&rt, &tree, "/a/b/c", listed(&handed_on)?)?;

@@ -7,41 +7,59 @@ use sd_sid::Mask;
 
 const READ_CONTROL: Mask = Mask(0x0002_0000);
 
-#[test]
-fn keeping_puts_inherited_denies_before_allows(rt: HostRuntime) -> Result<(), Fail> {
-    let (alloc, who) = (rt.alloc(), trustees()?);
-    let token = users_token(alloc)?;
-    let path = Path::read(alloc, "/p/o")?;
+/// A protected container with a deny, and an object with an allow in it.
+fn deny_above_an_allow(alloc: Global) -> Result<Tree, Fail> {
+    let who = trustees()?;
     let mut tree = opened(alloc, list(alloc, &[])?)?;
     let above = [deny(OI | CI, FILE_WRITE, who.users)];
-    tree.apply(&add_container(alloc, "/p", protected_list(alloc, &above)?)?)?;
+    let container = add_container(alloc, "/p", protected_list(alloc, &above)?)?;
+    tree.apply(&container)?;
     let own = [allow(0, FILE_READ, who.users)];
-    tree.apply(&add_object(alloc, "/p/o", list(alloc, &own)?)?)?;
+    let object = add_object(alloc, "/p/o", list(alloc, &own)?)?;
+    tree.apply(&object)?;
+    Ok(tree)
+}
+
+/// What a user of the object is answered who asks for READ_CONTROL.
+fn reply(alloc: Global, tree: &Tree) -> Result<CheckReply, Fail> {
+    let token = users_token(alloc)?;
+    let path = Path::read(alloc, "/p/o")?;
+    Ok(tree.check(&path, &token, READ_CONTROL))
+}
+
+#[test]
+fn the_own_allow_stands_before_the_inherited_deny(rt: HostRuntime) -> Result<(), Fail> {
+    let (alloc, who) = (rt.alloc(), trustees()?);
+    let tree = deny_above_an_allow(alloc)?;
     let before = [
         allow(0, FILE_READ, who.users),
         deny(ID, FILE_WRITE, who.users),
     ];
     expect(&rt, &tree, "/p/o", listed(&before)?)?;
     let granted = CheckReply::Verdict(Verdict::Granted(READ_CONTROL));
-    assert_eq!(rt; tree.check(&path, &token, READ_CONTROL), granted);
-    tree.apply(&protect_keeping(alloc, "/p/o")?)?;
+    assert_eq!(rt; reply(alloc, &tree)?, granted);
+    Ok(())
+}
+
+#[test]
+fn keeping_puts_inherited_denies_before_allows(rt: HostRuntime) -> Result<(), Fail> {
+    let (alloc, who) = (rt.alloc(), trustees()?);
+    let mut tree = deny_above_an_allow(alloc)?;
+    let edit = protect_keeping(alloc, "/p/o")?;
+    tree.apply(&edit)?;
     let after = [
         deny(0, FILE_WRITE, who.users),
         allow(0, FILE_READ, who.users),
     ];
     let (protected, wanted) = (true, listed(&after)?);
-    expect(
-        &rt,
-        &tree,
-        "/p/o",
-        ListedDescriptor {
-            protected,
-            ..wanted
-        },
-    )?;
+    let wanted = ListedDescriptor {
+        protected,
+        ..wanted
+    };
+    expect(&rt, &tree, "/p/o", wanted)?;
     let missing = READ_CONTROL;
     let denied = CheckReply::Verdict(Verdict::Denied { missing });
-    assert_eq!(rt; tree.check(&path, &token, READ_CONTROL), denied);
+    assert_eq!(rt; reply(alloc, &tree)?, denied);
     Ok(())
 }
 

@@ -24,12 +24,21 @@ fn one_entry_more_is_too_large(rt: HostRuntime) -> Result<(), Fail> {
     let mut tree = crowded(alloc, entry, 3276)?;
     let own = [allow(0, FILE_ALL, who.everyone)];
     let edit = add_container(alloc, "/c", list(alloc, &own)?)?;
-    assert_eq!(rt; refusal_of(&mut tree, &edit)?, Some(EditRefusal::AclTooLarge));
+    let refusal = refusal_of(&mut tree, &edit)?;
+    assert_eq!(rt; refusal, Some(EditRefusal::AclTooLarge));
+    grow(alloc, &mut tree, "/c")?;
+    assert_eq!(rt; count_at(alloc, &tree, "/c")?, Some(3276));
+    Ok(())
+}
+
+#[test]
+fn a_protected_list_isnt_filled_from_above(rt: HostRuntime) -> Result<(), Fail> {
+    let (alloc, who) = (rt.alloc(), trustees()?);
+    let mut tree = crowded(alloc, allow(OI | CI, FILE_ALL, who.everyone), 3276)?;
+    let own = [allow(0, FILE_ALL, who.everyone)];
     let shut = add_container(alloc, "/p", protected_list(alloc, &own)?)?;
     tree.apply(&shut)?;
     assert_eq!(rt; count_at(alloc, &tree, "/p")?, Some(1));
-    tree.apply(&add_container(alloc, "/c", list(alloc, &[])?)?)?;
-    assert_eq!(rt; count_at(alloc, &tree, "/c")?, Some(3276));
     Ok(())
 }
 
@@ -39,7 +48,10 @@ fn a_split_entry_counts_twice(rt: HostRuntime) -> Result<(), Fail> {
     let entry = allow(OI | CI, GENERIC_ALL, who.everyone);
     let mut tree = crowded(alloc, entry, 1639)?;
     let edit = add_container(alloc, "/c", list(alloc, &[])?)?;
-    assert_eq!(rt; refusal_of(&mut tree, &edit)?, Some(EditRefusal::AclTooLarge));
+    assert_eq!(rt;
+        refusal_of(&mut tree, &edit)?,
+        Some(EditRefusal::AclTooLarge)
+    );
     tree.apply(&add_object(alloc, "/o", list(alloc, &[])?)?)?;
     assert_eq!(rt; count_at(alloc, &tree, "/o")?, Some(1639));
     let mut smaller = crowded(alloc, entry, 1638)?;
@@ -48,20 +60,35 @@ fn a_split_entry_counts_twice(rt: HostRuntime) -> Result<(), Fail> {
     Ok(())
 }
 
-#[test]
-fn a_list_is_too_large_for_those_below(rt: HostRuntime) -> Result<(), Fail> {
-    let (alloc, who) = (rt.alloc(), trustees()?);
+/// A tree with one container that has an entry, and an edit that would hand it 3,276 more.
+fn filled(alloc: Global) -> Result<(Tree, Edit), Fail> {
+    let who = trustees()?;
     let mut tree = opened(alloc, list(alloc, &[])?)?;
     let own = [allow(0, FILE_ALL, who.everyone)];
-    tree.apply(&add_container(alloc, "/c", list(alloc, &own)?)?)?;
+    let child = add_container(alloc, "/c", list(alloc, &own)?)?;
+    tree.apply(&child)?;
     let many = vec![in alloc; allow(OI | CI, FILE_ALL, who.everyone); 3276]?;
     let edit = set_dacl(alloc, "/", list(alloc, &many)?)?;
-    assert_eq!(rt; refusal_of(&mut tree, &edit)?, Some(EditRefusal::AclTooLarge));
+    Ok((tree, edit))
+}
+
+#[test]
+fn a_list_is_too_large_for_those_below(rt: HostRuntime) -> Result<(), Fail> {
+    let alloc = rt.alloc();
+    let (mut tree, edit) = filled(alloc)?;
+    let refusal = refusal_of(&mut tree, &edit)?;
+    assert_eq!(rt; refusal, Some(EditRefusal::AclTooLarge));
     assert_eq!(rt; count_at(alloc, &tree, "/")?, Some(0));
-    expect(&rt, &tree, "/c", listed(&own)?)?;
-    let kind = tree.lookup(&Path::read(alloc, "/c")?);
-    assert_eq!(rt; kind, Some(NodeKind::Container));
-    tree.apply(&remove(alloc, "/c")?)?;
+    assert_eq!(rt; count_at(alloc, &tree, "/c")?, Some(1));
+    Ok(())
+}
+
+#[test]
+fn a_list_fits_where_none_stands_below(rt: HostRuntime) -> Result<(), Fail> {
+    let alloc = rt.alloc();
+    let (mut tree, edit) = filled(alloc)?;
+    let gone = remove(alloc, "/c")?;
+    tree.apply(&gone)?;
     tree.apply(&edit)?;
     assert_eq!(rt; count_at(alloc, &tree, "/")?, Some(3276));
     Ok(())

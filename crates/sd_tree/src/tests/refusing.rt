@@ -133,7 +133,10 @@ fn the_sixty_fifth_name_is_too_deep(rt: HostRuntime) -> Result<(), Fail> {
     let path = path.as_str();
     let large = vec![in alloc; allow(0, FILE_READ, who.users); 3277]?;
     let edit = add_object(alloc, path, list(alloc, &large)?)?;
-    assert_eq!(rt; refusal_of(&mut tree, &edit)?, Some(EditRefusal::AclTooLarge));
+    assert_eq!(rt;
+        refusal_of(&mut tree, &edit)?,
+        Some(EditRefusal::AclTooLarge)
+    );
     let edit = add_object(alloc, path, list(alloc, &[])?)?;
     assert_eq!(rt; refusal_of(&mut tree, &edit)?, Some(EditRefusal::TooDeep));
     let edit = add_container(alloc, path, list(alloc, &[])?)?;
@@ -148,21 +151,21 @@ fn the_sixty_fifth_name_is_too_deep(rt: HostRuntime) -> Result<(), Fail> {
 
 #[test]
 fn each_refusal_has_its_number(rt: HostRuntime) {
-    let refusals = [
-        EditRefusal::NoParent,
-        EditRefusal::ParentIsObject,
-        EditRefusal::Exists,
-        EditRefusal::NoNode,
-        EditRefusal::NotEmpty,
-        EditRefusal::IsRoot,
-        EditRefusal::InheritedEntry,
-        EditRefusal::NotCanonical,
-        EditRefusal::AclTooLarge,
-        EditRefusal::TooDeep,
-        EditRefusal::NodesFull,
-        EditRefusal::JournalFull,
+    let rows = [
+        (EditRefusal::NoParent, 1),
+        (EditRefusal::ParentIsObject, 2),
+        (EditRefusal::Exists, 3),
+        (EditRefusal::NoNode, 4),
+        (EditRefusal::NotEmpty, 5),
+        (EditRefusal::IsRoot, 6),
+        (EditRefusal::InheritedEntry, 7),
+        (EditRefusal::NotCanonical, 8),
+        (EditRefusal::AclTooLarge, 9),
+        (EditRefusal::TooDeep, 10),
+        (EditRefusal::NodesFull, 11),
+        (EditRefusal::JournalFull, 12),
     ];
-    for (refusal, number) in refusals.iter().zip(1..) {
+    for (refusal, number) in rows {
         assert_eq!(rt; refusal.number(), number, "{refusal}");
     }
 }
