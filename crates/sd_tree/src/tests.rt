@@ -1,11 +1,9 @@
 //! Trees from their opening on: what edits make of the nodes, and why they are refused.
 
-mod full;
 mod inheriting;
 mod keeping;
 mod limits;
 mod refusing;
-mod replaying;
 mod stepping;
 
 use crate::inherit::tests::allow;
@@ -14,7 +12,6 @@ use sd_acl::{Ace, AceKind, Dacl, Descriptor};
 use sd_check::{GroupState, Privileges, Token};
 use sd_sid::{GenericMapping, Sid, SidError};
 use std::alloc::{AllocError, Global};
-use std::process::Abort;
 use std::test::Fail;
 
 const OI: u8 = 0x01;
@@ -152,7 +149,7 @@ fn dig(alloc: Global, tree: &mut Tree) -> Result<String, Fail> {
     let mut path = String::new(alloc);
     for _ in 0..64 {
         path.push_str("/d")?;
-        tree.apply(&add_container(alloc, path.as_str(), list(alloc, &[])?)?)?;
+        grow(alloc, tree, path.as_str())?;
     }
     Ok(path)
 }
@@ -164,43 +161,36 @@ fn descriptor(alloc: Global, tree: &Tree, path: &str) -> Result<Descriptor, Fail
     Ok(found.ok_or("no node")?)
 }
 
-/// A descriptor with a list.
-#[derive(Clone, Copy, Debug)]
-struct ListedDescriptor<'a> {
-    owner: Sid,
-    group: Sid,
-    protected: bool,
-    entries: &'a [Ace],
-}
-
-/// `O:BAG:SYD:AI` with these entries.
-fn listed(entries: &[Ace]) -> Result<ListedDescriptor<'_>, SidError> {
-    let who = trustees()?;
-    Ok(ListedDescriptor {
-        owner: who.administrators,
-        group: who.system,
-        protected: false,
-        entries,
-    })
-}
-
-/// Wants this descriptor at the path.
-fn expect(
-    rt: &(impl Abort + AllocGlobal),
+/// Whether the node has just these entries, DI set and DC clear, and PD as it is wanted.
+fn has_list(
+    alloc: Global,
     tree: &Tree,
     path: &str,
-    wanted: ListedDescriptor<'_>,
-) -> Result<(), Fail> {
-    let found = descriptor(rt.alloc(), tree, path)?;
-    assert_eq!(rt; found.owner, Some(wanted.owner), "{path}");
-    assert_eq!(rt; found.group, Some(wanted.group), "{path}");
-    assert_eq!(rt; found.protected, wanted.protected, "{path}");
-    assert!(rt; found.auto_inherited && !found.auto_req, "{path}");
+    protected: bool,
+    entries: &[Ace],
+) -> Result<bool, Fail> {
+    let found = descriptor(alloc, tree, path)?;
+    let found = &found;
+    let flags = found.protected == protected && found.auto_inherited && !found.auto_req;
     match &found.dacl {
-        Dacl::List(list) => assert!(rt; list.entries() == wanted.entries, "{path}: {list:?}"),
-        _ => assert!(rt; false, "{path} has a list"),
+        Dacl::List(list) => Ok(flags && list.entries() == entries),
+        _ => Ok(false),
     }
-    Ok(())
+}
+
+/// Whether the node's DACL is Null, with PD, DI and DC clear.
+fn has_null(alloc: Global, tree: &Tree, path: &str) -> Result<bool, Fail> {
+    let found = descriptor(alloc, tree, path)?;
+    let found = &found;
+    let flags = found.protected || found.auto_inherited || found.auto_req;
+    Ok(!flags && matches!(&found.dacl, Dacl::Null))
+}
+
+/// Whether the node has this owner and this group.
+fn is_of(alloc: Global, tree: &Tree, path: &str, owner: Sid, group: Sid) -> Result<bool, Fail> {
+    let found = descriptor(alloc, tree, path)?;
+    let found = &found;
+    Ok(found.owner == Some(owner) && found.group == Some(group))
 }
 
 /// Why the edit is refused, if it is: `judge` and `apply` have to agree.

@@ -35,7 +35,7 @@ fn the_own_allow_stands_before_the_inherited_deny(rt: HostRuntime) -> Result<(),
         allow(0, FILE_READ, who.users),
         deny(ID, FILE_WRITE, who.users),
     ];
-    expect(&rt, &tree, "/p/o", listed(&before)?)?;
+    assert!(rt; has_list(alloc, &tree, "/p/o", false, &before)?);
     let granted = CheckReply::Verdict(Verdict::Granted(READ_CONTROL));
     assert_eq!(rt; reply(alloc, &tree)?, granted);
     Ok(())
@@ -51,12 +51,7 @@ fn keeping_puts_inherited_denies_before_allows(rt: HostRuntime) -> Result<(), Fa
         deny(0, FILE_WRITE, who.users),
         allow(0, FILE_READ, who.users),
     ];
-    let (protected, wanted) = (true, listed(&after)?);
-    let wanted = ListedDescriptor {
-        protected,
-        ..wanted
-    };
-    expect(&rt, &tree, "/p/o", wanted)?;
+    assert!(rt; has_list(alloc, &tree, "/p/o", true, &after)?);
     let missing = READ_CONTROL;
     let denied = CheckReply::Verdict(Verdict::Denied { missing });
     assert_eq!(rt; reply(alloc, &tree)?, denied);
@@ -67,10 +62,11 @@ fn keeping_puts_inherited_denies_before_allows(rt: HostRuntime) -> Result<(), Fa
 fn keeping_leaves_a_null_dacl(rt: HostRuntime) -> Result<(), Fail> {
     let alloc = rt.alloc();
     let mut tree = opened(alloc, list(alloc, &[])?)?;
-    tree.apply(&add_container(alloc, "/n", NodeDacl::Null)?)?;
-    tree.apply(&protect_keeping(alloc, "/n")?)?;
-    let null = descriptor(alloc, &tree, "/n")?;
-    assert!(rt; matches!(&null.dacl, Dacl::Null) && !null.protected);
+    let null = add_container(alloc, "/n", NodeDacl::Null)?;
+    tree.apply(&null)?;
+    let edit = protect_keeping(alloc, "/n")?;
+    tree.apply(&edit)?;
+    assert!(rt; has_null(alloc, &tree, "/n")?);
     assert_eq!(rt; tree.journal().len(), 2);
     let last = tree.journal().last();
     assert!(rt; matches!(last, Some(Edit::ProtectKeeping { .. })));
