@@ -43,6 +43,3 @@ pub use opening::{Opening, RootSpec};
 pub use path::{Path, PathError};
 pub use refusal::{EditRefusal, TreeError};
 pub use tree::{CheckReply, Prepared, Tree};
-
-#[cfg(test)]
-mod tests;
