@@ -1,13 +1,12 @@
 -- Masks as sets of places: what `mask_of` holds, and when two masks are one.
-use Rattle.std.proofs.Common.{◌≡◌, ℕ, zero, suc, ◌+◌, ◌-◌, ◌*◌, ◌%◌, ◌^◌, ◌<◌, ◌≤◌, Bool, true, false, ◌&&◌, ◌||◌, not, ◌==◌, nat_lt, cond, refl, sym, ◌∙◌, ap, arith, inl, inr, ◌⊎◌, bit_and, bit_or, add-one, lit<, min, max}
+use Rattle.std.proofs.Common.{◌≡◌, ℕ, zero, suc, ◌+◌, ◌-◌, ◌*◌, ◌^◌, ◌<◌, Bool, true, false, ◌&&◌, ◌||◌, not, ◌==◌, nat_lt, cond, refl, sym, ◌∙◌, ap, arith, inl, inr, ◌⊎◌, bit_and, bit_or, add-one, lit<, min, max}
 use Rattle.std.specs.Int.{bit_at, w32}
-use Rattle.std.proofs.lemmas.Nat.Bits.{bit_at_cat_low, bit_at_cat_high, bit_at-zero, bit_at-lt, bit_at_above, same_from_bits_below, bit_at_and, bit_at_or, bit_at_not, and_pow, bit_at_set_same, bit_at_set_other}
+use Rattle.std.proofs.lemmas.Nat.Bits.{bit_at_cat_low, bit_at_cat_high, bit_at-zero, bit_at-lt, bit_at_above, same_from_bits_below, bit_at_and, bit_at_or, bit_at_not, and_pow}
 use Rattle.std.proofs.lemmas.Nat.{or_lt}
 use Rattle.std.specs.Int.Bits.{and_lt}
-use Rattle.std.proofs.lemmas.Bool.{cases_order, cases_eq, lt-ltb, le-ltb, ne_eqb, eq-eqb, or_right}
-use Rattle.std.proofs.Math.Pow.{pow_pos, pow_mono}
-use Rattle.std.proofs.Math.Nat.{zero-mul, one-mul, zero-add, mod-lt}
-use Rattle.std.proofs.Math.Bool.{or-false}
+use Rattle.std.proofs.lemmas.Bool.{cases_order, lt-ltb, le-ltb, ne_eqb, eq-eqb}
+use Rattle.std.proofs.Math.Pow.{pow_pos}
+use Rattle.std.proofs.Math.Nat.{zero-mul, one-mul, zero-add}
 use Rattle.std.proofs.Math.Nat.{pow-suc}
 use Rattle.std.proofs.lemmas.Bool.Decides.{nat_tests}
 use Rattle.sd_sid.specs.Mask.{holds, mask_of}
@@ -140,40 +139,9 @@ flag_test n k = rw and_pow (elim (bit_cases (bit_at n k) (bit_at-lt n k)) [
   | inr on ↦ rw (on, one-mul) (eq-eqb (2 ^ k) (2 ^ k) refl)
 ])
 
-one_place_small : (k : ℕ) → k < 32 → 1 * 2 ^ k % 2 ^ 32 < 2 ^ 32
-one_place_small k h = mod-lt (1 * 2 ^ k) (pow_pos 32)
-
-pub with_is : (m place : ℕ) → m < 2 ^ 32 → place < 32 → bit_or m (1 * 2 ^ place % 2 ^ 32) ≡ mask_of (λ b. holds m b || b == place) 32
-with_is m place hm hp =
-    is_mask_of (λ b. holds m b || b == place) (bit_or m (1 * 2 ^ place % 2 ^ 32)) (or_lt 32 m (1 * 2 ^ place % 2 ^ 32) hm (one_place_small place hp))
-    (λ k h. elim (cases_eq k place) [
-      | inl same ↦ rw same (ap (λ n. n == 1) (bit_at_set_same w32 m place hp) ∙ sym (or_right (holds m place) (place == place) (eq-eqb place place refl)))
-      | inr other ↦ ap (λ n. n == 1) (bit_at_set_other w32 m place hp k other) ∙ sym (ap (λ b. holds m k || b) (ne_eqb k place other) ∙ or-false (holds m k))
-    ])
-
 -- a mask of fewer places is one of all places that asks for them
 pub fewer_places : (p : ℕ → Bool) → mask_of p 21 ≡ mask_of (λ b. nat_lt b 21 && p b) 32
 fewer_places p = is_mask_of (λ b. nat_lt b 21 && p b) (mask_of p 21) (let h = mask_of-lt p 21 in omega arith) (λ k h. holds-mask_of p 21 k)
-
--- whether a place of the next mask is held
-step_holds : (p : ℕ → Bool) (m k i : ℕ) → m ≡ mask_of p k → p k ≡ true → holds (mask_of p (k + 1)) i ≡ (holds m i || i == k)
-step_holds p m k i is here =
-    let before : holds m i ≡ (nat_lt i k && p i) = ap (λ n. holds n i) is ∙ holds-mask_of p k i in
-    holds-mask_of p (k + 1) i ∙ elim (cases_order i k) [
-      | inl same ↦ ap (λ b. b && p i) (lt-ltb i (k + 1) (omega arith)) ∙ ap p same ∙ here ∙ sym (or_right (holds m i) (i == k) (eq-eqb i k same))
-      | inr other ↦ elim other [
-        | inl low ↦ ap (λ b. b && p i) (lt-ltb i (k + 1) (omega arith) ∙ sym (lt-ltb i k low)) ∙ sym before
-            ∙ sym (ap (λ b. holds m i || b) (ne_eqb i k (λ e. absurd (omega arith))) ∙ or-false (holds m i))
-        | inr high ↦ ap (λ b. b && p i) (le-ltb i (k + 1) (omega arith) ∙ sym (le-ltb i k (omega arith))) ∙ sym before
-            ∙ sym (ap (λ b. holds m i || b) (ne_eqb i k (λ e. absurd (omega arith))) ∙ or-false (holds m i))
-      ]
-    ]
-
--- a place more
-pub mask_of-more : (p : ℕ → Bool) (m k : ℕ) → k < 32 → m ≡ mask_of p k → p k ≡ true → mask_of (λ b. holds m b || b == k) 32 ≡ mask_of p (k + 1)
-mask_of-more p m k hk is here =
-    let small : mask_of p (k + 1) < 2 ^ 32 = omega (arith, mask_of-lt p (k + 1), (let more : k + 1 ≤ 32 = omega arith in pow_mono more)) in
-    sym (is_mask_of (λ b. holds m b || b == k) (mask_of p (k + 1)) small (λ i h. step_holds p m k i is here))
 
 pub mask_of-same : (p : ℕ → Bool) (k : ℕ) → p k ≡ false → mask_of p k ≡ mask_of p (k + 1)
 unfolding mask_of

@@ -68,15 +68,6 @@ impl Mask {
         (self.0 >> place) & 1 == 1
     }
 
-    /// The mask with one more place.
-    #[tactic(auto, using(crate::proofs::Masks::with_is))]
-    pub fn with(self, place: u32) -> Mask
-        requires { place < 32 }
-        ensures { result ≡ mask_of (λ b. holds self b || b == place) 32 }
-    {
-        Mask(self.0 | (1 << place))
-    }
-
     /// The mask where the test holds, and else the empty one.
     pub fn when(self, test: bool) -> Mask
         ensures { result ≡ cond test self 0 }

@@ -53,7 +53,6 @@ fn joins_and_maps_masks(rt: HostRuntime) -> Result<(), Fail> {
     assert_eq!(rt; one.union(two), Mask(0x0111));
     assert_eq!(rt; one.minus(two), Mask(0x0001));
     assert_eq!(rt; one.common(two), Mask(0x0010));
-    assert_eq!(rt; Mask(0).with(31).bits(), 0x8000_0000);
     assert!(rt; Mask(0).is_empty() && !one.is_empty() && one.holds(4) && !one.holds(5));
     assert_eq!(rt; one.when(false), Mask(0));
     let file = GenericMapping::file();
