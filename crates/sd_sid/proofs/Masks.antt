@@ -1,12 +1,12 @@
 -- Masks as sets of places: what `mask_of` holds, and when two masks are one.
-use Rattle.std.proofs.Common.{◌≡◌, ℕ, zero, suc, ◌+◌, ◌-◌, ◌*◌, ◌^◌, ◌<◌, Bool, true, false, ◌&&◌, ◌||◌, not, ◌==◌, nat_lt, cond, refl, sym, ◌∙◌, ap, arith, inl, inr, ◌⊎◌, bit_and, bit_or, add-one, lit<, min, max}
+use Rattle.std.proofs.Common.{◌≡◌, ℕ, zero, suc, ◌+◌, ◌-◌, ◌*◌, ◌^◌, ◌<◌, Bool, true, false, ◌&&◌, ◌||◌, not, ◌==◌, nat_lt, cond, refl, sym, ◌∙◌, ap, arith, inl, inr, ◌⊎◌, bit_and, bit_or, lit<, min, max}
 use Rattle.std.specs.Int.{bit_at, w32}
 use Rattle.std.proofs.lemmas.Nat.Bits.{bit_at_cat_low, bit_at_cat_high, bit_at-zero, bit_at-lt, bit_at_above, same_from_bits_below, bit_at_and, bit_at_or, bit_at_not, and_pow}
 use Rattle.std.proofs.lemmas.Nat.{or_lt}
 use Rattle.std.specs.Int.Bits.{and_lt}
 use Rattle.std.proofs.lemmas.Bool.{cases_order, lt-ltb, le-ltb, ne_eqb, eq-eqb}
 use Rattle.std.proofs.Math.Pow.{pow_pos}
-use Rattle.std.proofs.Math.Nat.{zero-mul, one-mul, zero-add}
+use Rattle.std.proofs.Math.Nat.{zero-mul, one-mul}
 use Rattle.std.proofs.Math.Nat.{pow-suc}
 use Rattle.std.proofs.lemmas.Bool.Decides.{nat_tests}
 use Rattle.sd_sid.specs.Mask.{holds, mask_of}
@@ -138,16 +138,3 @@ flag_test n k = rw and_pow (elim (bit_cases (bit_at n k) (bit_at-lt n k)) [
   | inl off ↦ rw (off, zero-mul) (ne_eqb 0 (2 ^ k) (λ e. let h : 0 < 2 ^ k = pow_pos k in absurd (omega arith)))
   | inr on ↦ rw (on, one-mul) (eq-eqb (2 ^ k) (2 ^ k) refl)
 ])
-
--- a mask of fewer places is one of all places that asks for them
-pub fewer_places : (p : ℕ → Bool) → mask_of p 21 ≡ mask_of (λ b. nat_lt b 21 && p b) 32
-fewer_places p = is_mask_of (λ b. nat_lt b 21 && p b) (mask_of p 21) (let h = mask_of-lt p 21 in omega arith) (λ k h. holds-mask_of p 21 k)
-
-pub mask_of-same : (p : ℕ → Bool) (k : ℕ) → p k ≡ false → mask_of p k ≡ mask_of p (k + 1)
-unfolding mask_of
-mask_of-same p k here = rw (add-one, here, zero-mul, zero-add) refl
-
--- no place at all
-pub mask_of-none : (p : ℕ → Bool) → 0 ≡ mask_of p 0
-unfolding mask_of
-mask_of-none p = refl
