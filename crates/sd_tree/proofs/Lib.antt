@@ -25,6 +25,7 @@ pub mod Reordered
 pub mod Rewriting
 pub mod Rows
 pub mod Runs
+pub mod SameNodes
 pub mod Sorted
 pub mod Stands
 pub mod TwoTests

@@ -107,6 +107,7 @@ pub stored_more : (o : Opening) (journal : List Edit) (e : Edit) (plan : Plan) (
 stored_more o journal e plan bs bs' s h is =
     let done = carried o.mapping bs bs' s.nodes (edited o.mapping (replay o journal) e) plan (plan_of_nodes o journal e plan bs s h) is in
     record {
+      accepted = s.accepted;
       lawful = lawful_push o journal e s.lawful h.accepted;
       tree = done.0 ∙ sym (replay-push o journal e);
       nodes = done.1;
@@ -130,25 +131,6 @@ opened_root o = row_at-insert_same finite.empty [] (root_row o.root)
 opened_dacl : (o : Opening) → dacl_at o.mapping (opened o) [] ≡ dacl_of_row o.mapping (root_row o.root) None
 opened_dacl o = dacl_at_root o.mapping (opened o) ∙ ap (λ r. dacl_here o.mapping r None) (opened_root o)
 
-pub stored_first : (o : Opening) (b : Boxed) → b.value.path ≡ [] → b.value.row ≡ root_row o.root → b.value.whole ≡ dacl_of_row o.mapping (root_row o.root) None → dacl_size b.value.whole ≤ 65535
-    → IsStored o [] (b ∷ [])
-stored_first o b path-is row-is whole-is fits =
-    let e : map entry_of (b ∷ []) ≡ finite.entries (opened o) = (λ i. (path-is i, row-is i) ∷ []) ∙ sym (opened_entries o) in
-    let same = tree_from_entries (b ∷ []) (opened o) e in
-    let whole : b.value.whole ≡ dacl_at o.mapping (tree_of (b ∷ [])) b.value.path =
-    whole-is ∙ sym (opened_dacl o) ∙ (λ i. dacl_at o.mapping (sym same i) (sym path-is i)) in
-    record {
-      lawful = lawful_none o;
-      tree = same ∙ sym (replay-none o);
-      nodes = record {
-        order = order_from_entries (b ∷ []) (opened o) e;
-        whole = λ k d lt.
-            let first : 0 ≡ k = omega arith in
-            let P : ℕ → Type 0 = λ j. IsWhole o.mapping (tree_of (b ∷ [])) (get_or (b ∷ []) j d) in
-            subst P first (record { is = whole; fits = fits });
-      };
-    }
-
 root_by_parts : (o : Opening) (large : Bool) → first_fit (list_tests o.root.dacl) ≡ None → has_large_dacl o.mapping (opened o) ≡ large → root_refusal o ≡ cond large (Some AclTooLarge) None
 root_by_parts o large list is = passed (list_any is_inherited (own_entries o.root.dacl)) (deny_behind_allow (own_entries o.root.dacl)) InheritedEntry NotCanonical list ∙ ap (λ b. cond b (Some AclTooLarge) None) is
   where
@@ -157,10 +139,26 @@ root_by_parts o large list is = passed (list_any is_inherited (own_entries o.roo
     passed false true x y h = absurd cc
     passed false false x y h = refl
 
-pub root_accepted : (o : Opening) (bs : List Boxed) → IsStored o [] bs → first_fit (list_tests o.root.dacl) ≡ None → root_refusal o ≡ None
-root_accepted o bs s list =
-    let fits : has_large_dacl o.mapping (opened o) ≡ false = ap (has_large_dacl o.mapping) (sym (s.tree ∙ replay-none o)) ∙ no_large o.mapping bs s.nodes in
-    root_by_parts o false list fits
+pub stored_first : (o : Opening) (b : Boxed) → b.value.path ≡ [] → b.value.row ≡ root_row o.root → b.value.whole ≡ dacl_of_row o.mapping (root_row o.root) None → dacl_size b.value.whole ≤ 65535
+    → first_fit (list_tests o.root.dacl) ≡ None → IsStored o [] (b ∷ [])
+stored_first o b path-is row-is whole-is fits list =
+    let e : map entry_of (b ∷ []) ≡ finite.entries (opened o) = (λ i. (path-is i, row-is i) ∷ []) ∙ sym (opened_entries o) in
+    let same = tree_from_entries (b ∷ []) (opened o) e in
+    let whole : b.value.whole ≡ dacl_at o.mapping (tree_of (b ∷ [])) b.value.path =
+    whole-is ∙ sym (opened_dacl o) ∙ (λ i. dacl_at o.mapping (sym same i) (sym path-is i)) in
+    let nodes : AreNodes o.mapping (b ∷ []) = record {
+      order = order_from_entries (b ∷ []) (opened o) e;
+      whole = λ k d lt.
+          let first : 0 ≡ k = omega arith in
+          let P : ℕ → Type 0 = λ j. IsWhole o.mapping (tree_of (b ∷ [])) (get_or (b ∷ []) j d) in
+          subst P first (record { is = whole; fits = fits });
+    } in
+    record {
+      accepted = root_by_parts o false list (ap (has_large_dacl o.mapping) (sym same) ∙ no_large o.mapping (b ∷ []) nodes);
+      lawful = lawful_none o;
+      tree = same ∙ sym (replay-none o);
+      nodes = nodes;
+    }
 
 late_root : (large : Bool) → is_early (cond large (Some AclTooLarge) None) ≡ false
 late_root true = refl

@@ -8,7 +8,7 @@ use Rattle.sd_tree.specs.Names.{Names, names_cmp}
 use Rattle.sd_tree.specs.Plain.{PlainTree, row_at, dacl_at}
 use Rattle.sd_tree.specs.Refusals.{dacl_size}
 use Rattle.sd_tree.specs.Closed.{IsClosed}
-use Rattle.sd_tree.specs.Journal.{replay, IsLawful}
+use Rattle.sd_tree.specs.Journal.{replay, root_refusal, IsLawful}
 use Rattle.sd_tree.specs.declared.opening.Opening.{Opening}
 use Rattle.sd_tree.specs.declared.edit.Edit.{Edit}
 use Rattle.sd_tree.specs.declared.node.Row.{Row}
@@ -16,6 +16,9 @@ use Rattle.sd_tree.specs.declared.node.Node.{Node}
 
 abbrev pub Boxed : Type 0
 Boxed = Box Node Global
+
+abbrev pub node_of : Boxed → Node
+node_of b = b.value
 
 abbrev pub path_of_node : Boxed → Names
 path_of_node b = b.value.path
@@ -57,8 +60,9 @@ pub record AreStanding (g : MappingValue) (boxes : List Boxed) : Type 0 where
   pub kept : AreNodes g boxes
   pub closed : IsClosed (tree_of boxes)
 
--- what a tree keeps: its journal is lawful, and its nodes are the tree of it
+-- what a tree keeps: its root was accepted, its journal is lawful, and its nodes are the tree of it
 pub record IsStored (opening : Opening) (journal : List Edit) (boxes : List Boxed) : Type 0 where
+  pub accepted : root_refusal opening ≡ None
   pub lawful : IsLawful opening journal
   pub tree : tree_of boxes ≡ replay opening journal
   pub nodes : AreNodes opening.mapping boxes

@@ -4,6 +4,7 @@ ghost use Rattle.std.specs.Prelude.{◌≡◌, IfOk};
 ghost use Rattle.sd_acl.specs.Descriptor.{descriptor_of};
 ghost use Rattle.sd_tree.specs.Descriptors.{is_protected, descriptor_of_row};
 
+use crate::copying::copied_list;
 use crate::node::{NodeDacl, Row};
 use sd_acl::{AceList, Dacl, Descriptor};
 use std::alloc::{AllocError, Global};
@@ -20,7 +21,7 @@ pub(crate) fn described(
     let (dacl, protected, auto_inherited) = match whole {
         None => (Dacl::Null, false, false),
         Some(list) => (
-            Dacl::List(copied(alloc, list)?),
+            Dacl::List(copied_list(alloc, list)?),
             is_protected(&row.dacl),
             true,
         ),
@@ -46,14 +47,4 @@ fn is_protected(dacl: &NodeDacl) -> bool
             ..
         }
     )
-}
-
-/// An equal list.
-fn copied(alloc: Global, list: &AceList) -> Result<AceList, AllocError>
-    ensures { IfOk result (λ copy. copy ≡ list.now) }
-{
-    match AceList::new(Vec::from_slice(alloc, list.entries())?) {
-        Ok(copy) => Ok(copy),
-        Err(_) => unreachable!(),
-    }
 }

@@ -222,6 +222,3 @@ pub(crate) fn dacl_of_row(
         Err(_) => Err(TreeError::Refused(EditRefusal::AclTooLarge)),
     }
 }
-
-#[cfg(test)]
-pub(crate) mod tests;

@@ -31,6 +31,3 @@ pub(crate) fn kept_dacl(
         entries: Entries::new(ordered),
     }))
 }
-
-#[cfg(test)]
-mod tests;

@@ -13,6 +13,7 @@
 //! ```
 #![tactic(auto)]
 
+mod copying;
 mod describe;
 mod edit;
 mod entries;

@@ -5,8 +5,6 @@ ghost use Rattle.sd_tree.specs.PathText.{path_error_number};
 
 mod lent;
 mod read;
-#[cfg(test)]
-mod tests;
 
 pub(crate) use lent::PathRef;
 use std::alloc::{AllocError, Global};

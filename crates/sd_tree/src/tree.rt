@@ -11,6 +11,7 @@ ghost use Rattle.sd_tree.specs.Inheritance.{dacl_of_row};
 ghost use Rattle.sd_tree.specs.Sizes.{IsSizeError};
 ghost use Rattle.sd_tree.specs.Stored.{AreStanding, tree_of};
 
+use crate::copying::{copied_edits, copied_nodes};
 use crate::describe::described;
 use crate::edit::Edit;
 use crate::given::list_refusal;
@@ -163,6 +164,7 @@ impl Tree {
     /// The edits that were accepted, in their order.
     pub fn journal(&self) -> &[Edit]
         ensures journal { result.now ≡ self.now.journal }
+        ensures accepted { root_refusal self.now.opening ≡ None }
         ensures lawful { IsLawful self.now.opening self.now.journal }
     {
         &self.journal
@@ -171,6 +173,7 @@ impl Tree {
     /// How many edits were accepted.
     pub fn len(&self) -> u64
         ensures length { result ≡ length self.now.journal }
+        ensures accepted { root_refusal self.now.opening ≡ None }
         ensures lawful { IsLawful self.now.opening self.now.journal }
     {
         self.journal.len() as u64
@@ -221,6 +224,22 @@ impl Tree {
             Err(TreeError::Refused(refusal)) => Ok(Some(refusal)),
             Err(TreeError::Memory) => Err(AllocError),
         }
+    }
+
+    /// A tree of the same opening and the same journal, with all that follows from them.
+    pub fn copy(&self) -> Result<Tree, AllocError>
+        ensures opening { IfOk result (λ t. t.opening ≡ self.now.opening) }
+        ensures journal { IfOk result (λ t. t.journal ≡ self.now.journal) }
+    {
+        let opening = self.opening.copy(self.alloc)?;
+        let journal = copied_edits(self.alloc, &self.journal)?;
+        let nodes = copied_nodes(self.alloc, &self.nodes)?;
+        Ok(Tree {
+            alloc: self.alloc,
+            opening,
+            journal,
+            nodes,
+        })
     }
 
     /// The plan of an edit, or why it is refused.

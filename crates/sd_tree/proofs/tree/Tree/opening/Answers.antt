@@ -1,7 +1,7 @@
 use Rattle.std.proofs.Common.{◌≡◌, [], ◌∷◌, ◌++◌, sym, ap, ◌∙◌}
 use Rattle.std.proofs.lemmas.Result.{err_from_is_err_and}
 use Rattle.sd_tree.specs.Journal.{opening_of}
-use Rattle.sd_tree.proofs.Stands.{stored_first, root_error, root_accepted}
+use Rattle.sd_tree.proofs.Stands.{stored_first, root_error}
 use Rattle.sd_tree.proofs.tree.Tree.opening.Goals as goal
 
 pub returns-in_err-node-clause-refused : goal.returns-in_err-node-clause-refused
@@ -12,7 +12,7 @@ returns-in_err-node-clause-refused c =
 pub invariant_of-result : goal.invariant_of-result
 invariant_of-result c =
     let n = c.in_ok-node.ensures.node in
-    let first = stored_first (opening_of c.args.mapping.now c.args.root.now) c.in_ok-node.node n.0 n.1 n.2 n.3 in
+    let first = stored_first (opening_of c.args.mapping.now c.args.root.now) c.in_ok-node.node n.0 n.1 n.2 n.3 (sym c.in_default.ensures) in
     let items : c.push.new.self.items ≡ c.in_ok-node.node ∷ [] = c.in_ok-push.ensures.items ∙ ap (λ xs. xs ++ c.in_ok-node.node ∷ []) c.new-nodes.ensures.items in
     rw (c.in_ok-copy.ensures, c.new.ensures.items, items) first
 
@@ -20,4 +20,4 @@ pub returns-clause-accepted : goal.returns-clause-accepted
 returns-clause-accepted c =
     let n = c.in_ok-node.ensures.node in
     let o = opening_of c.args.mapping.now c.args.root.now in
-    root_accepted o (c.in_ok-node.node ∷ []) (stored_first o c.in_ok-node.node n.0 n.1 n.2 n.3) (sym c.in_default.ensures)
+    (stored_first o c.in_ok-node.node n.0 n.1 n.2 n.3 (sym c.in_default.ensures)).accepted

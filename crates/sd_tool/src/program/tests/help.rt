@@ -1,0 +1,127 @@
+//! Words that aren't a command line, help, and the version.
+
+use super::*;
+
+#[test]
+fn refuses_other_words(rt: HostRuntime) -> Result<(), Fail> {
+    let rows: [(&[&str], &str); 13] = [
+        (&[], "requires a subcommand"),
+        (&["sdstore"], "requires a subcommand"),
+        (&["sdstore", ""], "unrecognized subcommand ''"),
+        (&["sdstore", "frob"], "unrecognized subcommand 'frob'"),
+        (&["sdstore", "--frob"], "unexpected argument '--frob'"),
+        (
+            &["sdstore", "--", "print", "D:"],
+            "unexpected argument 'print'",
+        ),
+        (
+            &["sdstore", "help", "frob"],
+            "unrecognized subcommand 'frob'",
+        ),
+        (
+            &["sdstore", "verdict", "D:", USER],
+            "not provided:\n  <MASK>\n",
+        ),
+        (
+            &["sdstore", "verdict", "--", USER, "0x1"],
+            "not provided:\n  <MASK>\n",
+        ),
+        (
+            &["sdstore", "print", "D:", "O:"],
+            "unexpected argument 'O:'",
+        ),
+        (
+            &["sdstore", "print", "D:", "--"],
+            "only a first '--' behind the command",
+        ),
+        (
+            &["sdstore", "--version", "D:"],
+            "help and the version are asked for by",
+        ),
+        (
+            &["sdstore", "verdict", "--help", USER],
+            "help and the version are asked for by",
+        ),
+    ];
+    for (words, reason) in rows {
+        let ended = run(rt.alloc(), words);
+        assert_eq!(rt; ended.status, 2, "{words:?}");
+        assert!(rt; ended.output.is_empty(), "{words:?}");
+        let text = str::from_utf8(ended.errors.as_slice()).ok().ok_or("text")?;
+        assert!(rt; text.contains(reason), "{words:?}: {text}");
+    }
+    Ok(())
+}
+
+/// What is printed for words that ask for help or the version.
+fn shown(rt: &(impl Abort + AllocGlobal), words: &[&str]) -> Vec<u8> {
+    let ended = run(rt.alloc(), words);
+    assert_eq!(rt; ended.status, 0, "{words:?}");
+    assert!(rt; ended.errors.is_empty(), "{words:?}");
+    ended.output
+}
+
+#[test]
+fn prints_help_on_each_command(rt: HostRuntime) -> Result<(), Fail> {
+    let program = shown(&rt, &["sdstore", "help"]);
+    assert!(rt; shown(&rt, &["sdstore", "-h"]).as_slice() == program.as_slice());
+    assert!(rt; shown(&rt, &["sdstore", "--help"]).as_slice() == program.as_slice());
+    expect_example(&rt, program.as_slice())?;
+    for command in ["verdict", "print", "tobin", "frombin"] {
+        let help = shown(&rt, &["sdstore", "help", command]);
+        assert!(rt; shown(&rt, &["sdstore", command, "-h"]).as_slice() == help.as_slice());
+        assert!(rt; shown(&rt, &["sdstore", command, "--help"]).as_slice() == help.as_slice());
+        let usage = format!(in rt.alloc(); "Usage: sdstore {command} [--] <")?;
+        let text = str::from_utf8(help.as_slice()).ok().ok_or("text")?;
+        assert!(rt; text.contains(usage.as_str()), "{text}");
+        expect_example(&rt, help.as_slice())?;
+    }
+    Ok(())
+}
+
+/// Runs the words of the example that a help text ends with, of which no word has a space.
+fn expect_example(rt: &(impl Abort + AllocGlobal), help: &[u8]) -> Result<(), Fail> {
+    let text = str::from_utf8(help).ok().ok_or("text")?;
+    let (_, example) = text.split_once("\n\nExample:\n  ").ok_or("an example")?;
+    let mut words = Vec::new(rt.alloc());
+    for word in example.trim_end().split(' ') {
+        words.push(word.trim_matches('\''))?;
+    }
+    let ended = run(rt.alloc(), words.as_slice());
+    assert_eq!(rt; ended.status, 0, "{example}");
+    Ok(())
+}
+
+#[test]
+fn prints_help_on_each_argument(rt: HostRuntime) -> Result<(), Fail> {
+    let help = shown(&rt, &["sdstore", "help", "verdict"]);
+    let text = str::from_utf8(help.as_slice()).ok().ok_or("text")?;
+    let lines = [
+        "  <SDDL>\n",
+        "  <USER>\n",
+        "  <MASK>\n",
+        "  [WORD]...\n",
+        " SID=deny ",
+        " SID=off ",
+        " +security ",
+        " +take ",
+        " hexadecimal (0x1f01ff), octal (01777) or decimal (2032127)\n",
+        "sdstore verdict -- \"$sddl\" ",
+        " GR 0x120089  GW 0x120116  GX 0x1200a0  GA 0x1f01ff\n",
+        "\n  0  granted\n",
+    ];
+    for line in lines {
+        assert!(rt; text.contains(line), "{line}");
+    }
+    Ok(())
+}
+
+#[test]
+fn prints_the_version(rt: HostRuntime) {
+    for flag in ["-V", "--version"] {
+        let lines = "sdstore 0.1.0\nrattle-kit-13b logic dac8208d650f15bf\n";
+        expect(&rt, &["sdstore", flag], lines, 0);
+    }
+}
+
+// The line has eleven bytes, so the twelfth call is the flush.

@@ -1,0 +1,59 @@
+//! Copies of what a tree keeps.
+
+ghost use Rattle.std.specs.Prelude.{◌≡◌, map, IfOk};
+ghost use Rattle.sd_tree.specs.Stored.{node_of};
+
+use crate::edit::Edit;
+use crate::node::{Node, Row};
+use sd_acl::AceList;
+use std::alloc::{AllocError, Global};
+
+/// Equal edits.
+pub(crate) fn copied_edits(alloc: Global, edits: &[Edit]) -> Result<Vec<Edit>, AllocError>
+    ensures { IfOk result (λ copy. copy.items ≡ edits.now) }
+{
+    let mut copy = Vec::with_capacity(alloc, edits.len())?;
+    for edit in edits {
+        copy.push(edit.copy(alloc)?)?;
+    }
+    Ok(copy)
+}
+
+/// Equal nodes.
+pub(crate) fn copied_nodes(alloc: Global, nodes: &[Box<Node>]) -> Result<Vec<Box<Node>>, AllocError>
+    ensures { IfOk result (λ copy. map node_of copy.items ≡ map node_of nodes.now) }
+{
+    let mut copy = Vec::with_capacity(alloc, nodes.len())?;
+    for node in nodes {
+        copy.push(Box::new(alloc, copied_node(alloc, node)?)?)?;
+    }
+    Ok(copy)
+}
+
+/// An equal node.
+fn copied_node(alloc: Global, node: &Node) -> Result<Node, AllocError>
+    ensures { IfOk result (λ copy. copy ≡ node.now) }
+{
+    let path = node.path.copy(alloc)?;
+    let row = Row {
+        kind: node.row.kind,
+        owner: node.row.owner,
+        group: node.row.group,
+        dacl: node.row.dacl.copy(alloc)?,
+    };
+    let whole = match &node.whole {
+        None => None,
+        Some(list) => Some(copied_list(alloc, list)?),
+    };
+    Ok(Node { path, row, whole })
+}
+
+/// An equal list.
+pub(crate) fn copied_list(alloc: Global, list: &AceList) -> Result<AceList, AllocError>
+    ensures { IfOk result (λ copy. copy ≡ list.now) }
+{
+    match AceList::new(Vec::from_slice(alloc, list.entries())?) {
+        Ok(copy) => Ok(copy),
+        Err(_) => unreachable!(),
+    }
+}
