@@ -1,5 +1,5 @@
 -- Paths as they are kept: what is said of names is said of the bytes in which each is ended by a zero byte.
-use Rattle.std.proofs.Common.{◌≡◌, ◌≢◌, ℕ, zero, suc, ◌-◌, ◌<◌, ◌≤◌, true, false, ◌&&◌, nat_eq, nat_lt, nat_le, nat_cmp, cond, List, [], ◌∷◌, ◌++◌, length, take, get_or, refl, sym, ◌∙◌, ap, arith, length-append, append_assoc}
+use Rattle.std.proofs.Common.{◌≡◌, ◌≢◌, ℕ, zero, suc, ◌+◌, ◌-◌, ◌<◌, ◌≤◌, true, false, ◌&&◌, nat_eq, nat_lt, nat_le, nat_cmp, cond, List, [], ◌∷◌, ◌++◌, length, take, get_or, refl, sym, ◌∙◌, ap, subst, arith, length-append, append_assoc}
 use Rattle.std.specs.Str.{bytes_eq}
 use Rattle.std.specs.List.{list_all, onto_first, starts_with}
 use Rattle.std.specs.Ordering.{ordering_then}
@@ -10,6 +10,7 @@ use Rattle.std.proofs.Math.Bool.{and_assoc}
 use Rattle.std.proofs.Math.Seq.{take-append_seam, get_or-append_seam, get_or-append_right}
 use Rattle.std.proofs.Math.ListN.{get_or-append}
 use Rattle.std.proofs.lemmas.Bool.{and_parts}
+use Rattle.std.proofs.lemmas.List.Folds.{list_all-append}
 use Rattle.std.proofs.lemmas.Bool.Decides.{nat_tests}
 use Rattle.sd_tree.proofs.Paths.{last_name}
 use Rattle.sd_tree.specs.Names.{Names, names_cmp, up, is_within, is_name_byte, is_name, IsPath, ended, names_of, Keeps}
@@ -144,6 +145,37 @@ Keeps-ended names h =
     record { whole = ap ended e; counted = ap length e; path = rw e h }
 
 -- ---- the path of what holds it
+
+-- ---- one more name
+
+ended-push : (names : Names) (name : List ℕ) → ended (names ++ name ∷ []) ≡ ended names ++ (name ++ 0 ∷ [])
+ended-push [] name = refl
+ended-push (first ∷ names) name =
+    ap (λ bs. first ++ 0 ∷ bs) (ended-push names name) ∙ sym (append_assoc first (0 ∷ ended names) (name ++ 0 ∷ []))
+
+IsPath-push : (names : Names) (name : List ℕ) → IsPath names → length names < 128 → is_name name ≡ true → IsPath (names ++ name ∷ [])
+IsPath-push names name h room is = record {
+  at_most = omega (arith, length-append names (name ∷ []));
+  named = list_all-append is_name names (name ∷ []) ∙ rw (h.named, is) refl;
+}
+
+kept-push : (bs name kept : List ℕ) (n : ℕ) → Keeps bs n → kept ≡ bs ++ (name ++ 0 ∷ []) → kept ≡ ended (names_of bs ++ name ∷ [])
+kept-push bs name kept n h is = is ∙ ap (λ front. front ++ (name ++ 0 ∷ [])) (sym h.whole) ∙ sym (ended-push (names_of bs) name)
+
+-- the bytes of a path with one more name behind them keep the path with that name
+pub names_of-push : (bs name kept : List ℕ) (n : ℕ) → Keeps bs n → n < 128 → is_name name ≡ true → kept ≡ bs ++ (name ++ 0 ∷ [])
+    → names_of kept ≡ names_of bs ++ name ∷ []
+names_of-push bs name kept n h room is same =
+    ap names_of (kept-push bs name kept n h same)
+    ∙ names_of-path (names_of bs ++ name ∷ []) (IsPath-push (names_of bs) name h.path (omega (arith, h.counted)) is)
+
+pub Keeps-push : (bs name kept : List ℕ) (n : ℕ) → Keeps bs n → n < 128 → is_name name ≡ true → kept ≡ bs ++ (name ++ 0 ∷ []) → Keeps kept (n + 1)
+Keeps-push bs name kept n h room is same =
+    let path = IsPath-push (names_of bs) name h.path (omega (arith, h.counted)) is in
+    let P : List ℕ → Type 0 = λ bytes. Keeps bytes (n + 1) in
+    let Q : ℕ → Type 0 = λ count. Keeps (ended (names_of bs ++ name ∷ [])) count in
+    let count : length (names_of bs ++ name ∷ []) ≡ n + 1 = omega (arith, length-append (names_of bs) (name ∷ []), h.counted) in
+    subst P (sym (kept-push bs name kept n h same)) (subst Q count (Keeps-ended (names_of bs ++ name ∷ []) path))
 
 pub length-up : (names : Names) → length (up names) ≡ length names - 1
 length-up [] = refl

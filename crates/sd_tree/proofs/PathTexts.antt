@@ -3,7 +3,7 @@ use Rattle.std.proofs.Common.{◌≡◌, ◌≢◌, ℕ, zero, suc, ◌+◌, ◌
 use Rattle.std.specs.List.{list_all, onto_first, before_first, position_or_len, prefix_len}
 use Rattle.std.specs.Option.{option_or}
 use Rattle.std.proofs.lemmas.Bool.Decides.{nat_tests}
-use Rattle.std.proofs.lemmas.List.Sums.{prefix_len-le-length, position_or_len_is, prefix_len_passes, passes_at_first, fails_before_first, list_all-from_AllPass}
+use Rattle.std.proofs.lemmas.List.Sums.{prefix_len-le-length, position_or_len_is, prefix_len_passes, prefix_len_stops, passes_at_first, fails_before_first, list_all-from_AllPass}
 use Rattle.std.proofs.lemmas.List.{length-take-le, get_or-take, take_all}
 use Rattle.std.proofs.lemmas.List.Elements.{All-from_get_or}
 use Rattle.std.proofs.lemmas.List.Folds.{list_all_at}
@@ -108,6 +108,31 @@ pub first-none : (bs : List ℕ) (n : ℕ) → n ≡ prefix_len is_name_byte bs 
 first-none bs n e other some short =
     let size = length-front bs n e in
     ap name_fault (first_is_front bs n e other) ∙ fault-none (take n bs) (front_has_name_bytes bs n e) (omega arith) (omega arith)
+
+-- ---- a whole text as one name
+
+pub whole-cut : (bs : List ℕ) (n : ℕ) → n ≡ prefix_len is_name_byte bs → n < length bs → name_fault bs ≡ Some Syntax
+whole-cut bs n e below =
+    fault-bytes bs (list_all_at is_name_byte bs n 0 below (rw e (prefix_len_stops is_name_byte bs 0 (omega (arith, e)))))
+
+pub whole-empty : (bs : List ℕ) → length bs ≡ 0 → name_fault bs ≡ Some Syntax
+whole-empty [] e = refl
+whole-empty (b ∷ bs) e = absurd (omega arith)
+
+pub whole-within : (bs : List ℕ) (n : ℕ) → n ≡ prefix_len is_name_byte bs → n ≤ length bs
+whole-within bs n e = rw e (prefix_len-le-length is_name_byte bs)
+
+whole-bytes : (bs : List ℕ) (n : ℕ) → n ≡ prefix_len is_name_byte bs → length bs ≤ n → list_all is_name_byte bs ≡ true
+whole-bytes bs n e all = ap (list_all is_name_byte) (sym (take_all n bs all)) ∙ front_has_name_bytes bs n e
+
+pub whole-long : (bs : List ℕ) (n : ℕ) → n ≡ prefix_len is_name_byte bs → length bs ≤ n → 255 < length bs → name_fault bs ≡ Some NameTooLong
+whole-long bs n e all long = fault-long bs (whole-bytes bs n e all) long
+
+pub whole-none : (bs : List ℕ) (n : ℕ) → n ≡ prefix_len is_name_byte bs → length bs ≤ n → 0 < length bs → length bs ≤ 255 → name_fault bs ≡ None
+whole-none bs n e all some short = fault-none bs (whole-bytes bs n e all) some short
+
+pub whole-name : (bs : List ℕ) (n : ℕ) → n ≡ prefix_len is_name_byte bs → length bs ≤ n → 0 < length bs → length bs ≤ 255 → is_name bs ≡ true
+whole-name bs n e all some short = rw (whole-bytes bs n e all) (grind (arith, nat_tests))
 
 -- ---- the names, one after the other
 

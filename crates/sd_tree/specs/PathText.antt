@@ -1,5 +1,5 @@
 -- Paths as texts: `/` is the root, and else each name is led by `/`.
-use Rattle.std.specs.Prelude.{◌≡◌, ℕ, zero, suc, false, not, ◌==◌, ◌&&◌, nat_lt, if◌then◌else◌, List, [], ◌∷◌, length, Option, Some, None, Result, Ok, Err, IsOkAnd}
+use Rattle.std.specs.Prelude.{◌≡◌, ◌<◌, ◌≤◌, ◌++◌, ℕ, zero, suc, false, not, ◌==◌, ◌&&◌, nat_lt, if◌then◌else◌, List, [], ◌∷◌, length, Option, Some, None, Result, Ok, Err, IsOkAnd}
 use Rattle.std.specs.List.{list_all, slice_split}
 use Rattle.std.specs.Option.{option_or}
 use Rattle.sd_tree.specs.Names.{Names, is_root, is_name_byte}
@@ -49,3 +49,10 @@ path_error_number Syntax = 1
 path_error_number NameTooLong = 2
 path_error_number TooManyNames = 3
 path_error_number Memory = 4
+
+-- the answer is the path with the name behind it, where there is room for one more
+abbrev pub IsChildOf : Names → List ℕ → Result Names PathError → Type 0
+IsChildOf above name (Ok path) = (length above < 128) × (path ≡ above ++ name ∷ [])
+IsChildOf above name (Err Memory) = length above < 128
+IsChildOf above name (Err TooManyNames) = 128 ≤ length above
+IsChildOf above name (Err fault) = ⊥

@@ -41,6 +41,6 @@ pub use laws::{
 };
 pub use node::{NodeDacl, NodeKind};
 pub use opening::{Opening, RootSpec};
-pub use path::{Path, PathError};
+pub use path::{Name, Path, PathError};
 pub use refusal::{EditRefusal, TreeError};
 pub use tree::{CheckReply, Prepared, Tree};

@@ -1,12 +1,15 @@
 //! Paths.
 
-ghost use Rattle.std.specs.Prelude.{◌≡◌, [], IfOk};
-ghost use Rattle.sd_tree.specs.PathText.{path_error_number};
+ghost use Rattle.std.specs.Prelude.{◌≡◌, [], ◌∷◌, ◌++◌, IfOk};
+ghost use Rattle.sd_tree.specs.PathText.{path_error_number, IsChildOf};
 
 mod lent;
+mod name;
 mod read;
 
 pub(crate) use lent::PathRef;
+pub use name::Name;
+use read::MAX_NAMES;
 use std::alloc::{AllocError, Global};
 use std::marker::Model;
 use thiserror::Error;
@@ -94,6 +97,20 @@ impl Path {
         }
     }
 
+    /// The path of the node with this name right below: `TooManyNames` where the path has 128 names already.
+    pub fn child(&self, alloc: Global, name: &Name) -> Result<Path, PathError>
+        ensures { IsChildOf self.now name.now result }
+    {
+        if self.count >= MAX_NAMES {
+            return Err(PathError::TooManyNames);
+        }
+        let bytes = with_name(alloc, &self.bytes, name.as_str().as_bytes())?;
+        Ok(Path {
+            bytes,
+            count: self.count + 1,
+        })
+    }
+
     /// An equal path.
     pub fn copy(&self, alloc: Global) -> Result<Path, AllocError>
         ensures { IfOk result (λ path. path ≡ self.now) }
@@ -104,4 +121,15 @@ impl Path {
             count: self.count,
         })
     }
+}
+
+/// The bytes of a path with one more name, which is ended by a zero byte too.
+fn with_name(alloc: Global, above: &[u8], name: &[u8]) -> Result<Vec<u8>, AllocError>
+    ensures { IfOk result (λ bytes. bytes.items ≡ above.now ++ name.now ++ 0 ∷ []) }
+{
+    let mut bytes = Vec::with_capacity(alloc, above.len() + name.len() + 1)?;
+    bytes.extend_from_slice(above)?;
+    bytes.extend_from_slice(name)?;
+    bytes.push(0)?;
+    Ok(bytes)
 }

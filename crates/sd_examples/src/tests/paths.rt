@@ -1,7 +1,7 @@
 //! Paths from texts at their edges.
 
 use super::*;
-use sd_tree::PathError;
+use sd_tree::{Name, NodeKind, PathError};
 
 /// Why a text isn't read.
 fn fault(alloc: Global, text: &str) -> Option<PathError> {
@@ -39,6 +39,50 @@ fn names_and_paths_have_their_limits(rt: HostRuntime) -> Result<(), Fail> {
         text.push_str(end)?;
         assert_eq!(rt; fault(rt.alloc(), text.as_str()), *wanted);
     }
+    Ok(())
+}
+
+const NAMES: [(&str, Option<PathError>); 6] = [
+    ("a", None),
+    ("..", None),
+    ("", Some(PathError::Syntax)),
+    ("/", Some(PathError::Syntax)),
+    ("a/b", Some(PathError::Syntax)),
+    ("a\0", Some(PathError::Syntax)),
+];
+
+#[test]
+fn a_name_stands_alone(rt: HostRuntime) -> Result<(), Fail> {
+    for (text, wanted) in &NAMES {
+        assert_eq!(rt; Name::read(text).err(), *wanted, "{text:?}");
+    }
+    let long = repeated(rt.alloc(), "", "a", 256)?;
+    let fault = Name::read(long.as_str()).err();
+    assert_eq!(rt; fault, Some(PathError::NameTooLong));
+    Ok(())
+}
+
+#[test]
+fn a_child_stands_below(rt: HostRuntime) -> Result<(), Fail> {
+    let alloc = rt.alloc();
+    let mut tree = opened(alloc, "D:")?;
+    let told = answer(alloc, &mut tree, Act::Container, "/a", "D:")?;
+    assert_eq!(rt; told.as_str(), "ok");
+    let told = answer(alloc, &mut tree, Act::Object, "/a/b", "D:")?;
+    assert_eq!(rt; told.as_str(), "ok");
+    let name = Name::read("b")?;
+    assert_eq!(rt; name.as_str(), "b");
+    let child = Path::read(alloc, "/a")?.child(alloc, &name)?;
+    assert_eq!(rt; tree.lookup(&child), Some(NodeKind::Object));
+    Ok(())
+}
+
+#[test]
+fn a_path_of_128_names_has_no_child(rt: HostRuntime) -> Result<(), Fail> {
+    let text = repeated(rt.alloc(), "", "/a", 128)?;
+    let path = Path::read(rt.alloc(), text.as_str())?;
+    let fault = path.child(rt.alloc(), &Name::read("b")?).err();
+    assert_eq!(rt; fault, Some(PathError::TooManyNames));
     Ok(())
 }
 

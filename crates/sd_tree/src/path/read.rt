@@ -9,10 +9,10 @@ use crate::path::{Path, PathError};
 use std::alloc::{AllocError, Global};
 
 /// The most names of a path.
-const MAX_NAMES: u8 = 128;
+pub(super) const MAX_NAMES: u8 = 128;
 
 /// The most bytes of a name.
-const MAX_NAME_BYTES: usize = 255;
+pub(super) const MAX_NAME_BYTES: usize = 255;
 
 impl Path {
     /// Reads a path: `/` is the root, and else each name is led by `/`. Names are judged from the left, so the first
@@ -76,7 +76,7 @@ fn first_name(text: &[u8]) -> Result<usize, PathError>
 }
 
 /// How many bytes that a name may have stand at the front.
-fn name_len(text: &[u8]) -> usize
+pub(super) fn name_len(text: &[u8]) -> usize
     ensures { result ≡ prefix_len is_name_byte text.now }
 {
     for (i, b) in text.iter().enumerate() {
