@@ -71,6 +71,17 @@ outcome_step mask limits e es u a k m left got keeps is_m is_left is_got is_keep
     ∙ ap (λ t. ((holds a b || (is_allow e.kind && (holds (mask e) b && holds u b))) || (t && is_allowed_by later)) || (holds keeps b && not (list_any limits es))) at_left
     ∙ ap (λ t. ((holds a b || (is_allow e.kind && (holds (mask e) b && holds u b))) || ((holds u b && not (holds (mask e) b && holds u b)) && is_allowed_by later)) || (t && not (list_any limits es))) at_keeps))
 
+-- an entry that takes part with nothing and limits nobody changes nothing
+pub outcome_silent : (mask : Ace → ℕ) (limits : Ace → Bool) (e : Ace) (es : List Ace) (u a k : ℕ) → mask e ≡ 0 → limits e ≡ false
+    → outcome mask limits (e ∷ es) u a k ≡ outcome mask limits es u a k
+unfolding outcome
+outcome_silent mask limits e es u a k none free =
+    mask_of-alike _ _ 32 (λ b h.
+    let later = find (λ x. holds (mask x) b) es in
+    let quiet : holds (mask e) b ≡ false = ap (λ n. holds n b) none ∙ ap (λ n. n == 1) (bit_at-zero b) in
+    ap (λ here. (holds a b || (holds u b && is_allowed_by (cond here (Some e) later))) || (holds k b && not (limits e || list_any limits es))) quiet
+    ∙ ap (λ limit. (holds a b || (holds u b && is_allowed_by later)) || (holds k b && not (limit || list_any limits es))) free)
+
 -- ---- the end
 
 bit_end : (allowed undecided kept : Bool) → ((allowed || (undecided && false)) || (kept && true)) ≡ (allowed || kept)

@@ -1,6 +1,6 @@
 //! Which bits a DACL, the owner's rights and the privileges grant.
 
-ghost use Rattle.std.specs.Prelude.{◌≡◌, ◌&&◌, ◌||◌, not, false, Some, None};
+ghost use Rattle.std.specs.Prelude.{◌≡◌, ◌&&◌, ◌||◌, not, true, false, Some, None};
 ghost use Rattle.sd_acl.specs.declared.ace.AceKind.TheVariants.{Allow};
 ghost use Rattle.std.specs.Option.{option_copied};
 ghost use Rattle.sd_sid.specs.Mask.{holds, mask_of};
@@ -92,6 +92,15 @@ impl Access<'_> {
         self.mapping.map(entry.mask)
     }
 
+    /// Whether one look tells that an entry has no part in the check, as most entries of a long list have none.
+    #[inline]
+    fn is_silent(&self, entry: &Ace) -> bool
+        ensures mask { result ≡ true → mask_that_applies self.now.mapping.now (applies self.now.token.now self.now.owner.now) entry.now ≡ 0 }
+        ensures limit { result ≡ true → is_limit entry.now ≡ false }
+    {
+        !entry.sid.is_owner_rights() && !self.token.may_stand_for(&entry.sid)
+    }
+
     /// Of the bits that are wanted, those that the entries grant; and the owner's, unless an entry limits the owner.
     /// The walk ends as soon as what stands behind can tell nothing of either.
     fn walk(&self, entries: &[Ace], wanted: Mask, owners: Mask) -> Mask
@@ -104,6 +113,9 @@ impl Access<'_> {
             let hanging = kept.minus(allowed);
             if undecided.union(hanging).is_empty() {
                 return allowed.union(kept);
+            }
+            if self.is_silent(entry) {
+                continue;
             }
             let mask = self.mask_that_applies(entry).common(undecided);
             undecided = undecided.minus(mask);

@@ -1,6 +1,7 @@
 //! Who asks.
 
-ghost use Rattle.std.specs.Prelude.{◌≡◌};
+ghost use Rattle.std.specs.Prelude.{◌≡◌, false};
+ghost use Rattle.sd_acl.specs.declared.ace.AceKind.{AceKind};
 ghost use Rattle.sd_check.specs.Token.{stands_for, a_group_stands_for, counts};
 
 use crate::filter::Filter;
@@ -97,13 +98,27 @@ impl Token {
         self.privileges
     }
 
+    /// Whether the token may stand for the SID at all. Where it can't, no entry of either kind applies.
+    #[inline]
+    pub(crate) fn may_stand_for(&self, sid: &Sid) -> bool
+        ensures { result ≡ false → (kind : AceKind) → stands_for self.now kind sid.now ≡ false }
+    {
+        self.filter.may_hold(sid)
+    }
+
     /// Whether an entry of the kind for the SID applies: the user has the SID, or a group that counts.
+    #[inline]
     pub(crate) fn stands_for(&self, kind: AceKind, sid: &Sid) -> bool
         ensures { result ≡ stands_for self.now kind sid.now }
     {
-        if !self.filter.may_hold(sid) {
-            return false;
-        }
+        self.may_stand_for(sid) && self.has(kind, sid)
+    }
+
+    // Most entries end at the filter, and what comes behind it stays out of the walk.
+    #[inline(never)]
+    fn has(&self, kind: AceKind, sid: &Sid) -> bool
+        ensures { result ≡ stands_for self.now kind sid.now }
+    {
         self.user.is(sid) || self.a_group_stands_for(kind, sid)
     }
 

@@ -142,13 +142,12 @@ impl Sid {
         self.may_be(other) && self == other
     }
 
-    /// Whether the numbers are the same in which SIDs mostly differ: those of a domain in the fifth, those of the built-in
-    /// domain in the second.
+    /// Whether the fifth numbers are the same: those of a domain's accounts differ there, in the relative identifier.
     #[inline]
     fn may_be(&self, other: &Sid) -> bool
         ensures { same_sid self.now other.now ≡ true → result ≡ true }
     {
-        self.subs[4] == other.subs[4] && self.subs[1] == other.subs[1]
+        self.subs[4] == other.subs[4]
     }
 
     /// Whether this is OWNER RIGHTS, S-1-3-4 ([MS-DTYP] 2.4.2.4).

@@ -4,7 +4,7 @@ use Rattle.std.specs.Borrow.{Bor}
 use Rattle.sd_tool.specs.CommandLine.{InvocationValue, arguments_in, command_named, command_on}
 use Rattle.sd_tool.specs.Laws.{is_shown, HelpStandsAlone, DashesKeepTexts}
 use Rattle.sd_tool.specs.declared.command_line.CommandName.{CommandName}
-use Rattle.sd_tool.specs.declared.command_line.CommandName.TheVariants.{Verdict, Print, ToBinary, FromBinary}
+use Rattle.sd_tool.specs.declared.command_line.CommandName.TheVariants.{Verdict, Print, ToBinary, FromBinary, Script}
 
 -- a command with arguments is neither help nor the version
 command_runs : (command : CommandName) (arguments : List (Bor (List ℕ))) → is_shown (command_on command arguments) ≡ true → ⊥
@@ -21,6 +21,8 @@ command_runs ToBinary (a ∷ b ∷ rest) h = cc
 command_runs FromBinary [] h = cc
 command_runs FromBinary (a ∷ []) h = cc
 command_runs FromBinary (a ∷ b ∷ rest) h = cc
+command_runs Script [] h = cc
+command_runs Script (a ∷ rest) h = cc
 
 -- nor is what several words behind a first one make
 several_run : (named : Option CommandName) (arguments : List (Bor (List ℕ))) (otherwise : Option InvocationValue)

@@ -1,8 +1,8 @@
 -- What the program prints as an answer, and whether it did what was asked for. The arguments are read from left to
 -- right, and the first that isn't read is told as a fault.
-use Rattle.std.specs.Prelude.{◌≡◌, ◌⊎◌, ℕ, List, [], ◌∷◌, ◌++◌, Result, Ok, Err, false, codes}
+use Rattle.std.specs.Prelude.{◌≡◌, ◌⊎◌, ℕ, List, ◌++◌, Option, Result, Ok, Err, codes}
 use Rattle.std.specs.Borrow.{Bor}
-use Rattle.std.specs.Fmt.{digits, decimal}
+use Rattle.std.specs.Fmt.{decimal}
 use Rattle.hex.specs.Hex.{encode_lower, decode_of}
 use Rattle.hex.specs.declared.FromHexError.{FromHexError}
 use Rattle.sd_sid.specs.Sid.{SidValue}
@@ -15,7 +15,6 @@ use Rattle.sd_text.specs.Sddl.{sddl}
 use Rattle.sd_text.specs.Sid.{sid_text}
 use Rattle.sd_text.specs.Rights.{mask_text}
 use Rattle.sd_text.specs.Canon.{canon}
-use Rattle.sd_text.specs.Fault as text
 use Rattle.sd_text.specs.declared.fault.TextFault.{TextFault}
 use Rattle.sd_wire.specs.Reading.{descriptor_read}
 use Rattle.sd_wire.specs.Writing.{wire_of}
@@ -23,42 +22,23 @@ use Rattle.sd_wire.specs.Fault.{wire_fault_number, wire_fault_name}
 use Rattle.sd_wire.specs.declared.fault.WireFault.{WireFault}
 use Rattle.sd_check.specs.Check.{verdict}
 use Rattle.sd_check.specs.Dacl.{dacl_entries}
-use Rattle.sd_tool.specs.CommandLine.{InvocationValue, Verdict as AsksVerdict, Print, ToBinary, FromBinary, Help, Version}
-use Rattle.sd_tool.specs.Word.{AreWords, IsNoWordIn, token_of}
-use Rattle.sd_tool.specs.declared.word.Word.{Word}
+use Rattle.sd_check.specs.Token.{TokenValue}
+use Rattle.sd_script.specs.Answer.{line, verdict_line, fault_line, sddl_fault_line}
+use Rattle.sd_script.specs.Word.{IsToken, IsNoWordIn, texts}
+use Rattle.sd_script.specs.Run.{IsOutput}
+use Rattle.sd_script.specs.declared.mode.Mode.TheVariants.{Script}
+use Rattle.sd_tool.specs.CommandLine.{InvocationValue, Verdict as AsksVerdict, Print, ToBinary, FromBinary, Script as AsksScript, Help, Version}
 use Rattle.sd_tool.specs.declared.answer.Outcome.{Outcome}
 use Rattle.sd_tool.specs.declared.answer.Outcome.TheVariants.{Done, Refused}
 use Rattle.sd_tool.specs.declared.version.TheConstants.{VERSION, KIT}
 
 -- ---- lines
 
--- the text, and the end of the line
-abbrev pub line : List ℕ → List ℕ
-line text = text ++ 10 ∷ []
-
--- a mask in lower-case hexadecimal without leading zeros
-abbrev pub mask_digits : ℕ → List ℕ
-mask_digits mask = codes "0x" ++ digits 16 false mask
-
-abbrev pub verdict_line : Verdict → List ℕ
-verdict_line (Granted mask) = line (codes "granted " ++ mask_digits mask)
-verdict_line (Denied missing) = line (codes "denied " ++ mask_digits missing)
-verdict_line (Reserved mask) = line (codes "reserved " ++ mask_digits mask)
-verdict_line EmptyRequest = line (codes "empty")
-
 abbrev pub verdict_outcome : Verdict → Outcome
 verdict_outcome (Granted mask) = Done
 verdict_outcome (Denied missing) = Refused
 verdict_outcome (Reserved mask) = Refused
 verdict_outcome EmptyRequest = Refused
-
--- the line for an argument that isn't read
-abbrev pub fault_line : List ℕ → List ℕ
-fault_line what = line (codes "fault " ++ what)
-
--- the line for a descriptor's text with a fault
-abbrev pub sddl_fault_line : TextFault → ℕ → List ℕ
-sddl_fault_line fault place = line (codes "fault sddl " ++ decimal (text.number_of fault) ++ codes " " ++ text.name_of fault ++ codes " at " ++ decimal place)
 
 -- the line for bytes that hold no descriptor
 abbrev pub wire_fault_line : WireFault → List ℕ
@@ -89,8 +69,8 @@ AnswersSddlFault written printed outcome = (fault : TextFault) × (place : ℕ) 
 -- the words make a token, for which this is the verdict; or one of them is no word
 abbrev pub AnswersWords : DescriptorValue → SidValue → ℕ → List (Bor (List ℕ)) → List ℕ → Outcome → Type 0
 AnswersWords d user asked words printed outcome =
-    ((read : List Word) × AreWords words read × IsVerdict (verdict d.owner (dacl_entries d.dacl) file_mapping (token_of user read) asked) printed outcome)
-    ⊎ (IsNoWordIn words × IsFault (fault_line (codes "token")) printed outcome)
+    ((token : TokenValue) × IsToken user (texts words) token × IsVerdict (verdict d.owner (dacl_entries d.dacl) file_mapping token asked) printed outcome)
+    ⊎ (IsNoWordIn (texts words) × IsFault (fault_line (codes "token")) printed outcome)
 
 abbrev pub AnswersMask : DescriptorValue → SidValue → List ℕ → List (Bor (List ℕ)) → List ℕ → Outcome → Type 0
 AnswersMask d user mask words printed outcome =
@@ -135,11 +115,16 @@ AnswersDecoded (Err e) printed outcome = IsFault (fault_line (codes "hex")) prin
 abbrev pub AnswersFromBinary : List ℕ → List ℕ → Outcome → Type 0
 AnswersFromBinary written printed outcome = AnswersDecoded (decode_of written) printed outcome
 
--- what is printed for an invocation, and what came of it; the help's text is `clap`'s
-abbrev pub Answers : InvocationValue → List ℕ → Outcome → Type 0
-Answers (AsksVerdict sddl user mask words) printed outcome = AnswersVerdict sddl user mask words printed outcome
-Answers (Print sddl) printed outcome = AnswersPrint sddl printed outcome
-Answers (ToBinary sddl) printed outcome = AnswersToBinary sddl printed outcome
-Answers (FromBinary hex) printed outcome = AnswersFromBinary hex printed outcome
-Answers (Help command) printed outcome = outcome ≡ Done
-Answers Version printed outcome = IsDone version_lines printed outcome
+-- the output of the script on the input
+abbrev pub AnswersScript : Option (List ℕ) → List ℕ → Outcome → Type 0
+AnswersScript input printed outcome = IsOutput Script input printed × (outcome ≡ Done)
+
+-- what is printed for an invocation, with this input where it is known, and what came of it; the help's text is `clap`'s
+abbrev pub Answers : Option (List ℕ) → InvocationValue → List ℕ → Outcome → Type 0
+Answers input (AsksVerdict sddl user mask words) printed outcome = AnswersVerdict sddl user mask words printed outcome
+Answers input (Print sddl) printed outcome = AnswersPrint sddl printed outcome
+Answers input (ToBinary sddl) printed outcome = AnswersToBinary sddl printed outcome
+Answers input (FromBinary hex) printed outcome = AnswersFromBinary hex printed outcome
+Answers input AsksScript printed outcome = AnswersScript input printed outcome
+Answers input (Help command) printed outcome = outcome ≡ Done
+Answers input Version printed outcome = IsDone version_lines printed outcome

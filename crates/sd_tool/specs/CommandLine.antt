@@ -1,6 +1,6 @@
 -- The one reading of a command line: which words run a command, and which ask for help or for the version. Any other
 -- words aren't read.
-use Rattle.std.specs.Prelude.{◌≡◌, ℕ, List, [], ◌∷◌, Bool, ◌||◌, if◌then◌else◌, Option, Some, None, option_map, codes, bytes_eq}
+use Rattle.std.specs.Prelude.{◌≡◌, ℕ, List, [], ◌∷◌, Bool, true, false, ◌||◌, if◌then◌else◌, Option, Some, None, option_map, codes, bytes_eq}
 use Rattle.std.specs.Borrow.{Bor}
 use Rattle.sd_tool.specs.declared.command_line.CommandName.{CommandName}
 use Rattle.sd_tool.specs.declared.command_line.CommandName.TheVariants as names
@@ -13,6 +13,7 @@ pub data InvocationValue : Type 0 where
   Print : List ℕ → InvocationValue
   ToBinary : List ℕ → InvocationValue
   FromBinary : List ℕ → InvocationValue
+  Script : InvocationValue
   Help : Option CommandName → InvocationValue
   Version : InvocationValue
 
@@ -21,6 +22,7 @@ invocation_of (invocations.Verdict sddl user mask words) = Verdict sddl.now user
 invocation_of (invocations.Print sddl) = Print sddl.now
 invocation_of (invocations.ToBinary sddl) = ToBinary sddl.now
 invocation_of (invocations.FromBinary hex) = FromBinary hex.now
+invocation_of invocations.Script = Script
 invocation_of (invocations.Help command) = Help command
 invocation_of invocations.Version = Version
 
@@ -31,7 +33,8 @@ command_named word =
     else (if bytes_eq word (codes "print") then Some names.Print
     else (if bytes_eq word (codes "tobin") then Some names.ToBinary
     else (if bytes_eq word (codes "frombin") then Some names.FromBinary
-    else None)))
+    else (if bytes_eq word (codes "script") then Some names.Script
+    else None))))
 
 abbrev pub is_help_flag : List ℕ → Bool
 is_help_flag word = bytes_eq word (codes "-h") || bytes_eq word (codes "--help")
@@ -53,6 +56,7 @@ command_on names.Verdict (sddl ∷ user ∷ mask ∷ words) = Some (Verdict sddl
 command_on names.Print (sddl ∷ []) = Some (Print sddl.now)
 command_on names.ToBinary (sddl ∷ []) = Some (ToBinary sddl.now)
 command_on names.FromBinary (hex ∷ []) = Some (FromBinary hex.now)
+command_on names.Script [] = Some Script
 command_on command arguments = None
 
 -- a command and the words behind it, which ask for help where they are one of the two flags alone
@@ -82,3 +86,13 @@ reading (name ∷ word ∷ words) = behind_name word.now words
 -- the words aren't a command line
 abbrev pub IsUnread : List (Bor (List ℕ)) → Type 0
 IsUnread words = reading words ≡ None
+
+-- whether a script is asked for, the one thing that is answered from the input
+abbrev pub is_script : InvocationValue → Bool
+is_script Script = true
+is_script (Verdict sddl user mask words) = false
+is_script (Print sddl) = false
+is_script (ToBinary sddl) = false
+is_script (FromBinary hex) = false
+is_script (Help command) = false
+is_script Version = false

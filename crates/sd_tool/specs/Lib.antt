@@ -3,4 +3,3 @@ pub mod CommandLine
 pub mod Laws
 pub mod Output
 pub mod Status
-pub mod Word

@@ -1,7 +1,8 @@
 //! The answer to an invocation: what is printed, and whether that is what was asked for.
-ghost use Rattle.std.specs.Prelude.{◌≡◌, IfErr, IfOk, string_bytes};
-ghost use Rattle.sd_tool.specs.Answer.{Answers, IsFault, fault_line, sddl_fault_line};
-ghost use Rattle.sd_tool.specs.CommandLine.{invocation_of};
+ghost use Rattle.std.specs.Prelude.{◌≡◌, ℕ, List, Option, false, IfErr, IfOk, string_bytes};
+ghost use Rattle.sd_script.specs.Answer.{fault_line as fault_line_of, sddl_fault_line as sddl_fault_line_of};
+ghost use Rattle.sd_tool.specs.Answer.{Answers, IsFault};
+ghost use Rattle.sd_tool.specs.CommandLine.{invocation_of, is_script};
 ghost use Rattle.sd_tool.specs.Status.{outcome_status};
 
 use crate::command_line::Invocation;
@@ -10,6 +11,8 @@ use crate::failure::Failure;
 use crate::usage::help;
 use crate::verdict::answer_verdict;
 use crate::version::version_text;
+use sd_script::{fault_line, sddl_fault_line};
+use sd_stream::RunError;
 use sd_text::TextFault;
 use std::alloc::Global;
 
@@ -41,10 +44,11 @@ pub(crate) struct Answer {
     pub(crate) outcome: Outcome,
 }
 
-/// The answer to an invocation.
+/// The answer to an invocation that needs no input.
 pub(crate) fn answer_to(alloc: Global, invocation: Invocation<'_>) -> Result<Answer, Failure>
-    ensures ok { IfOk result (λ answer. Answers (invocation_of invocation.entry) (string_bytes answer.text) answer.outcome) }
-    ensures err { IfErr result (λ failure. failure ≡ Failure.Memory) }
+    requires { is_script (invocation_of invocation) ≡ false }
+    ensures ok { (input : Option (List ℕ)) → IfOk result (λ answer. Answers input (invocation_of invocation.entry) (string_bytes answer.text) answer.outcome) }
+    ensures err { IfErr result (λ failure. failure ≡ Failure.Run RunError.Memory) }
 {
     match invocation {
         Invocation::Verdict {
@@ -56,6 +60,7 @@ pub(crate) fn answer_to(alloc: Global, invocation: Invocation<'_>) -> Result<Ans
         Invocation::Print { sddl } => answer_print(alloc, sddl),
         Invocation::ToBinary { sddl } => answer_to_binary(alloc, sddl),
         Invocation::FromBinary { hex } => answer_from_binary(alloc, hex),
+        Invocation::Script => unreachable!(),
         Invocation::Help { command } => Ok(Answer {
             text: help(alloc, command)?,
             outcome: Outcome::Done,
@@ -69,24 +74,22 @@ pub(crate) fn answer_to(alloc: Global, invocation: Invocation<'_>) -> Result<Ans
 
 /// The answer to an argument that isn't read: what it should have been.
 pub(crate) fn fault(alloc: Global, what: &str) -> Result<Answer, Failure>
-    ensures ok { IfOk result (λ answer. IsFault (fault_line what.now) (string_bytes answer.text) answer.outcome) }
-    ensures err { IfErr result (λ failure. failure ≡ Failure.Memory) }
+    ensures ok { IfOk result (λ answer. IsFault (fault_line_of what.now) (string_bytes answer.text) answer.outcome) }
+    ensures err { IfErr result (λ failure. failure ≡ Failure.Run RunError.Memory) }
 {
     Ok(Answer {
-        text: format!(in alloc; "fault {what}\n")?,
+        text: fault_line(alloc, what)?,
         outcome: Outcome::Refused,
     })
 }
 
 /// The answer to a descriptor's text with a fault.
 pub(crate) fn sddl_fault(alloc: Global, fault: TextFault, place: u64) -> Result<Answer, Failure>
-    ensures ok { IfOk result (λ answer. IsFault (sddl_fault_line fault place) (string_bytes answer.text) answer.outcome) }
-    ensures err { IfErr result (λ failure. failure ≡ Failure.Memory) }
+    ensures ok { IfOk result (λ answer. IsFault (sddl_fault_line_of fault place) (string_bytes answer.text) answer.outcome) }
+    ensures err { IfErr result (λ failure. failure ≡ Failure.Run RunError.Memory) }
 {
-    let number = fault.number();
-    let name = fault.name();
     Ok(Answer {
-        text: format!(in alloc; "fault sddl {number} {name} at {place}\n")?,
+        text: sddl_fault_line(alloc, fault, place)?,
         outcome: Outcome::Refused,
     })
 }

@@ -13,6 +13,8 @@ pub(crate) enum CommandName {
     ToBinary,
     /// `frombin`.
     FromBinary,
+    /// `script`.
+    Script,
 }
 
 /// What a command line asks for.
@@ -37,6 +39,8 @@ pub(crate) enum Invocation<'a> {
     FromBinary {
         hex: &'a str,
     },
+    /// The output of the script on standard input.
+    Script,
     /// The help on a command, or on the program.
     Help {
         command: Option<CommandName>,
@@ -60,6 +64,9 @@ impl CommandName {
         }
         if word == "frombin" {
             return Some(CommandName::FromBinary);
+        }
+        if word == "script" {
+            return Some(CommandName::Script);
         }
         None
     }
@@ -134,6 +141,7 @@ fn command_on<'a>(command: CommandName, arguments: &'a [&'a str]) -> Option<Invo
         (CommandName::Print, [sddl]) => Some(Invocation::Print { sddl }),
         (CommandName::ToBinary, [sddl]) => Some(Invocation::ToBinary { sddl }),
         (CommandName::FromBinary, [hex]) => Some(Invocation::FromBinary { hex }),
+        (CommandName::Script, []) => Some(Invocation::Script),
         _ => None,
     }
 }

@@ -1,10 +1,12 @@
 //! The answers to `print`, `tobin` and `frombin`: a descriptor in another form.
 ghost use Rattle.std.specs.Prelude.{◌≡◌, IfErr, IfOk, string_bytes};
-ghost use Rattle.sd_tool.specs.Answer.{AnswersPrint, AnswersToBinary, AnswersFromBinary, AnswersBytes, IsDone, IsFault, line, wire_fault_line};
+ghost use Rattle.sd_script.specs.Answer.{line};
+ghost use Rattle.sd_tool.specs.Answer.{AnswersPrint, AnswersToBinary, AnswersFromBinary, AnswersBytes, IsDone, IsFault, wire_fault_line};
 
 use crate::answer::{Answer, Outcome, fault, sddl_fault};
 use crate::failure::Failure;
 use hex::FromHexError;
+use sd_stream::RunError;
 use sd_text::{TextError, print_sddl, read_sddl};
 use sd_wire::{WireError, WireFault, read_descriptor, write_descriptor};
 use std::alloc::Global;
@@ -12,19 +14,19 @@ use std::alloc::Global;
 /// The canonical text of a descriptor's text.
 pub(crate) fn answer_print(alloc: Global, sddl: &str) -> Result<Answer, Failure>
     ensures ok { IfOk result (λ answer. AnswersPrint sddl.now (string_bytes answer.text) answer.outcome) }
-    ensures err { IfErr result (λ failure. failure ≡ Failure.Memory) }
+    ensures err { IfErr result (λ failure. failure ≡ Failure.Run RunError.Memory) }
 {
     match read_sddl(alloc, sddl) {
         Ok(descriptor) => printed(print_sddl(alloc, &descriptor)?),
         Err(TextError::Fault { fault, place }) => sddl_fault(alloc, fault, place),
-        Err(TextError::Memory) => Err(Failure::Memory),
+        Err(TextError::Memory) => Err(Failure::Run(RunError::Memory)),
     }
 }
 
 /// The self-relative form of a descriptor's text, in hexadecimal.
 pub(crate) fn answer_to_binary(alloc: Global, sddl: &str) -> Result<Answer, Failure>
     ensures ok { IfOk result (λ answer. AnswersToBinary sddl.now (string_bytes answer.text) answer.outcome) }
-    ensures err { IfErr result (λ failure. failure ≡ Failure.Memory) }
+    ensures err { IfErr result (λ failure. failure ≡ Failure.Run RunError.Memory) }
 {
     match read_sddl(alloc, sddl) {
         Ok(descriptor) => {
@@ -32,37 +34,37 @@ pub(crate) fn answer_to_binary(alloc: Global, sddl: &str) -> Result<Answer, Fail
             printed(hex::encode(alloc, bytes.as_slice())?)
         }
         Err(TextError::Fault { fault, place }) => sddl_fault(alloc, fault, place),
-        Err(TextError::Memory) => Err(Failure::Memory),
+        Err(TextError::Memory) => Err(Failure::Run(RunError::Memory)),
     }
 }
 
 /// The canonical text of the self-relative form in hexadecimal.
 pub(crate) fn answer_from_binary(alloc: Global, hex: &str) -> Result<Answer, Failure>
     ensures ok { IfOk result (λ answer. AnswersFromBinary hex.now (string_bytes answer.text) answer.outcome) }
-    ensures err { IfErr result (λ failure. failure ≡ Failure.Memory) }
+    ensures err { IfErr result (λ failure. failure ≡ Failure.Run RunError.Memory) }
 {
     match hex::decode(alloc, hex) {
         Ok(bytes) => answer_bytes(alloc, &bytes),
-        Err(FromHexError::OutOfMemory) => Err(Failure::Memory),
+        Err(FromHexError::OutOfMemory) => Err(Failure::Run(RunError::Memory)),
         Err(_) => fault(alloc, "hex"),
     }
 }
 
 fn answer_bytes(alloc: Global, bytes: &[u8]) -> Result<Answer, Failure>
     ensures ok { IfOk result (λ answer. AnswersBytes bytes.now (string_bytes answer.text) answer.outcome) }
-    ensures err { IfErr result (λ failure. failure ≡ Failure.Memory) }
+    ensures err { IfErr result (λ failure. failure ≡ Failure.Run RunError.Memory) }
 {
     match read_descriptor(alloc, bytes) {
         Ok(descriptor) => printed(print_sddl(alloc, &descriptor)?),
         Err(WireError::Fault(fault)) => wire_fault(alloc, fault),
-        Err(WireError::Memory) => Err(Failure::Memory),
+        Err(WireError::Memory) => Err(Failure::Run(RunError::Memory)),
     }
 }
 
 /// The answer that is a line of this text.
 fn printed(mut text: String) -> Result<Answer, Failure>
     ensures ok { IfOk result (λ answer. IsDone (line (string_bytes text)) (string_bytes answer.text) answer.outcome) }
-    ensures err { IfErr result (λ failure. failure ≡ Failure.Memory) }
+    ensures err { IfErr result (λ failure. failure ≡ Failure.Run RunError.Memory) }
 {
     text.push_str("\n")?;
     Ok(Answer {
@@ -74,7 +76,7 @@ fn printed(mut text: String) -> Result<Answer, Failure>
 /// The answer to bytes that hold no descriptor.
 fn wire_fault(alloc: Global, fault: WireFault) -> Result<Answer, Failure>
     ensures ok { IfOk result (λ answer. IsFault (wire_fault_line fault) (string_bytes answer.text) answer.outcome) }
-    ensures err { IfErr result (λ failure. failure ≡ Failure.Memory) }
+    ensures err { IfErr result (λ failure. failure ≡ Failure.Run RunError.Memory) }
 {
     let number = fault.number();
     let name = fault.name();

@@ -1,8 +1,10 @@
 //! Why the program ends without an answer.
 ghost use Rattle.std.specs.Prelude.{◌≡◌};
+ghost use Rattle.sd_stream.specs.declared.error.RunError.TheVariants.{Memory};
 ghost use Rattle.sd_tool.specs.Status.{failure_status};
-ghost use Rattle.sd_tool.specs.declared.failure.Failure.TheVariants.{Memory};
+ghost use Rattle.sd_tool.specs.declared.failure.Failure.TheVariants.{Run};
 
+use sd_stream::RunError;
 use std::alloc::{AllocError, AllocFailed};
 use thiserror::Error;
 
@@ -12,12 +14,9 @@ pub(crate) enum Failure {
     /// The words aren't a command line, and the text says why.
     #[error("{0}")]
     Unread(String),
-    /// Standard output didn't take all of the answer.
-    #[error("sdstore: write\n")]
-    Write,
-    /// Memory was refused.
-    #[error("sdstore: memory\n")]
-    Memory,
+    /// A stream failed or held too much, or memory was refused.
+    #[error("{0}\n")]
+    Run(RunError),
 }
 
 impl Failure {
@@ -27,23 +26,31 @@ impl Failure {
     {
         match self {
             Failure::Unread(_) => 2,
-            Failure::Write | Failure::Memory => 3,
+            Failure::Run(_) => 3,
         }
     }
 }
 
+impl From<RunError> for Failure {
+    ghost from_gives = { λ error failure. failure ≡ Run error };
+
+    fn from(error: RunError) -> Failure {
+        Failure::Run(error)
+    }
+}
+
 impl<T: Drop> From<AllocFailed<T>> for Failure {
-    ghost from_gives = { λ _ failure. failure ≡ Memory };
+    ghost from_gives = { λ _ failure. failure ≡ Run Memory };
 
     fn from(_error: AllocFailed<T>) -> Failure {
-        Failure::Memory
+        Failure::Run(RunError::Memory)
     }
 }
 
 impl From<AllocError> for Failure {
-    ghost from_gives = { λ _ failure. failure ≡ Memory };
+    ghost from_gives = { λ _ failure. failure ≡ Run Memory };
 
     fn from(_error: AllocError) -> Failure {
-        Failure::Memory
+        Failure::Run(RunError::Memory)
     }
 }

@@ -16,12 +16,12 @@ mod command_line;
 mod convert;
 mod failure;
 mod laws;
-mod output;
 mod program;
 mod usage;
 mod verdict;
 mod version;
-mod word;
 
 pub use laws::{dashes_keep_texts, help_stands_alone};
 pub use program::drive;
+pub use sd_script::run;
+pub use sd_stream::{RunError, Watched};

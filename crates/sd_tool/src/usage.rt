@@ -8,10 +8,10 @@ use std::alloc::{AllocError, Global};
 
 const NOTES: &str = "\
 Statuses:
-  0  the text was printed, or the right granted
+  0  the text was printed, the right granted, or the script carried out to its end
   1  an argument's fault was printed, or a verdict other than granted
   2  the words aren't a command line
-  3  memory was wanting, or the output didn't take the answer
+  3  memory was wanting, the input wasn't read or too long, or the output didn't take the answer
 
 Example:
   sdstore verdict 'D:(A;;FR;;;WD)' S-1-5-21-1-2-3-1001 0x1 WD";
@@ -50,6 +50,27 @@ A first '--' behind 'frombin' is dropped.
 Example:
   sdstore frombin 010000801400000000000000000000000000000001020000000000052000000020020000";
 
+const SCRIPT_NOTES: &str = "\
+Each line is a command, and is answered by a line; an empty line and one that begins with '#' aren't:
+  open N SDDL                          opens the store: a root, and N readers
+  addc PATH SDDL, addo PATH SDDL       adds a container, an object
+  owner PATH SID, group PATH SID       gives the node an owner, a group
+  dacl PATH SDDL                       gives the node a DACL of its own
+  remove PATH, protect PATH            takes the node away; keeps what it has, protected
+  publish                              shows the edits so far to the readers
+  tell, learn I L                      tells the published length; reader I learns of one
+  check I PATH USER MASK [WORD]...     asks, as reader I, whether the user is granted the mask
+  show I PATH                          asks, as reader I, for the node's descriptor
+
+Statuses:
+  0  the script was carried out to its end, whatever its lines were answered
+  2  the words aren't a command line
+  3  memory was wanting, the input wasn't read or has more than 16777216 bytes, or the output
+     didn't take the answer
+
+Example:
+  printf 'open 1 O:BAG:SYD:\\naddo /a O:BAG:SYD:(A;;FR;;;WD)\\npublish\\ncheck 0 /a BU FR WD\\n' | sdstore script";
+
 const USER: &str = "The user's SID: in full, as S-1-5-21-1-2-3-1001, or an alias, as BU";
 
 const MASK: &str = "\
@@ -81,6 +102,7 @@ pub(crate) fn help(alloc: Global, command: Option<CommandName>) -> Result<String
         Some(CommandName::Print) => print_command(alloc)?,
         Some(CommandName::ToBinary) => to_binary_command(alloc)?,
         Some(CommandName::FromBinary) => from_binary_command(alloc)?,
+        Some(CommandName::Script) => script_command(alloc)?,
     };
     described.render_help()
 }
@@ -126,7 +148,8 @@ fn sdstore<'a>(alloc: Global) -> Result<Command<'a>, AllocError> {
         .subcommand(verdict_command(alloc)?)?
         .subcommand(print_command(alloc)?)?
         .subcommand(to_binary_command(alloc)?)?
-        .subcommand(from_binary_command(alloc)?)
+        .subcommand(from_binary_command(alloc)?)?
+        .subcommand(script_command(alloc)?)
 }
 
 fn verdict_command<'a>(alloc: Global) -> Result<Command<'a>, AllocError> {
@@ -163,6 +186,16 @@ fn from_binary_command<'a>(alloc: Global) -> Result<Command<'a>, AllocError> {
         .override_usage("sdstore frombin [--] <HEX>")
         .after_help(FROM_BINARY_NOTES)
         .arg(text(alloc, "HEX").help("The bytes of the descriptor, in hexadecimal"))
+}
+
+fn script_command<'a>(alloc: Global) -> Result<Command<'a>, AllocError> {
+    let script = Command::new(alloc, "script")
+        .about(
+            "Carries out the script on standard input: builds a tree of nodes, edits it and asks",
+        )
+        .override_usage("sdstore script")
+        .after_help(SCRIPT_NOTES);
+    Ok(script)
 }
 
 // An argument that takes each word as it stands.

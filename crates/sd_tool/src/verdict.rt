@@ -4,17 +4,17 @@ ghost use Rattle.sd_acl.specs.Descriptor.{descriptor_of};
 ghost use Rattle.sd_check.specs.Check.{verdict as verdict_of};
 ghost use Rattle.sd_check.specs.Dacl.{dacl_entries};
 ghost use Rattle.sd_sid.specs.Mapping.{file_mapping};
-ghost use Rattle.sd_tool.specs.Answer.{AnswersVerdict, AnswersUser, AnswersMask, AnswersWords, verdict_line, verdict_outcome};
-ghost use Rattle.sd_tool.specs.Word.{token_of};
+ghost use Rattle.sd_tool.specs.Answer.{AnswersVerdict, AnswersUser, AnswersMask, AnswersWords, verdict_outcome};
 
 use crate::answer::{Answer, Outcome, fault, sddl_fault};
 use crate::failure::Failure;
-use crate::word::{WordsError, read_words, token_of};
 use sd_acl::Descriptor;
 use sd_check::{Verdict, check};
+use sd_script::{TokenError, read_token, verdict_line};
 use sd_sid::{GenericMapping, Mask, Sid};
+use sd_stream::RunError;
 use sd_text::{TextError, read_mask, read_sddl, read_sid_text};
-use std::alloc::{AllocError, Global};
+use std::alloc::Global;
 
 /// The verdict on these texts, or the fault of the first from the left that isn't read.
 pub(crate) fn answer_verdict(
@@ -25,12 +25,12 @@ pub(crate) fn answer_verdict(
     words: &[&str],
 ) -> Result<Answer, Failure>
     ensures ok { IfOk result (λ answer. AnswersVerdict sddl.now user.now mask.now words.now (string_bytes answer.text) answer.outcome) }
-    ensures err { IfErr result (λ failure. failure ≡ Failure.Memory) }
+    ensures err { IfErr result (λ failure. failure ≡ Failure.Run RunError.Memory) }
 {
     match read_sddl(alloc, sddl) {
         Ok(descriptor) => verdict_for_user(alloc, &descriptor, user, mask, words),
         Err(TextError::Fault { fault, place }) => sddl_fault(alloc, fault, place),
-        Err(TextError::Memory) => Err(Failure::Memory),
+        Err(TextError::Memory) => Err(Failure::Run(RunError::Memory)),
     }
 }
 
@@ -42,7 +42,7 @@ fn verdict_for_user(
     words: &[&str],
 ) -> Result<Answer, Failure>
     ensures ok { IfOk result (λ answer. AnswersUser (descriptor_of descriptor.now) user.now mask.now words.now (string_bytes answer.text) answer.outcome) }
-    ensures err { IfErr result (λ failure. failure ≡ Failure.Memory) }
+    ensures err { IfErr result (λ failure. failure ≡ Failure.Run RunError.Memory) }
 {
     match read_sid_text(user) {
         Ok(user) => verdict_on_mask(alloc, descriptor, user, mask, words),
@@ -58,7 +58,7 @@ fn verdict_on_mask(
     words: &[&str],
 ) -> Result<Answer, Failure>
     ensures ok { IfOk result (λ answer. AnswersMask (descriptor_of descriptor.now) user mask.now words.now (string_bytes answer.text) answer.outcome) }
-    ensures err { IfErr result (λ failure. failure ≡ Failure.Memory) }
+    ensures err { IfErr result (λ failure. failure ≡ Failure.Run RunError.Memory) }
 {
     match read_mask(mask) {
         Ok(asked) => verdict_with_words(alloc, descriptor, user, asked, words),
@@ -74,19 +74,18 @@ fn verdict_with_words(
     words: &[&str],
 ) -> Result<Answer, Failure>
     ensures ok { IfOk result (λ answer. AnswersWords (descriptor_of descriptor.now) user asked words.now (string_bytes answer.text) answer.outcome) }
-    ensures err { IfErr result (λ failure. failure ≡ Failure.Memory) }
+    ensures err { IfErr result (λ failure. failure ≡ Failure.Run RunError.Memory) }
 {
-    match read_words(alloc, words) {
-        Ok(words) => {
-            let token = token_of(alloc, user, &words)?;
+    match read_token(alloc, user, words) {
+        Ok(token) => {
             let verdict = check(descriptor, &GenericMapping::file(), &token, asked);
             Ok(Answer {
-                text: line_of(alloc, verdict)?,
+                text: verdict_line(alloc, verdict)?,
                 outcome: outcome_of(verdict),
             })
         }
-        Err(WordsError::NoWord) => fault(alloc, "token"),
-        Err(WordsError::Memory) => Err(Failure::Memory),
+        Err(TokenError::NoWord) => fault(alloc, "token"),
+        Err(TokenError::Memory) => Err(Failure::Run(RunError::Memory)),
     }
 }
 
@@ -98,16 +97,5 @@ fn outcome_of(verdict: Verdict) -> Outcome
         Verdict::Denied { .. } => Outcome::Refused,
         Verdict::Reserved(_) => Outcome::Refused,
         Verdict::EmptyRequest => Outcome::Refused,
-    }
-}
-
-fn line_of(alloc: Global, verdict: Verdict) -> Result<String, AllocError>
-    ensures { IfOk result (λ text. string_bytes text ≡ verdict_line verdict) }
-{
-    match verdict {
-        Verdict::Granted(mask) => format!(in alloc; "granted 0x{:x}\n", mask.bits()),
-        Verdict::Denied { missing } => format!(in alloc; "denied 0x{:x}\n", missing.bits()),
-        Verdict::Reserved(mask) => format!(in alloc; "reserved 0x{:x}\n", mask.bits()),
-        Verdict::EmptyRequest => String::from_str(alloc, "empty\n"),
     }
 }

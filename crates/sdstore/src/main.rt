@@ -1,7 +1,7 @@
 //! The program `sdstore`: the command line of `sd_tool` over the words and the streams of the process.
 #![tactic(auto)]
 
-use sd_tool::drive;
+use sd_tool::{Watched, drive};
 use std::io::ErrorKind;
 use std::process::ExitCode;
 use std::{env, io};
@@ -29,8 +29,8 @@ fn run(rt: &HostRuntime) -> io::Result<u8> {
     Ok(drive(
         alloc,
         words.as_slice(),
-        &mut rt.stdin(),
-        &mut rt.stdout(),
+        &mut Watched::new(rt.stdin()),
+        &mut Watched::new(rt.stdout()),
         &mut rt.stderr(),
     ))
 }

@@ -2,6 +2,7 @@
 
 mod answers;
 mod help;
+mod scripts;
 mod streams;
 
 use super::*;
@@ -23,12 +24,18 @@ struct Ended {
 }
 
 fn run(alloc: Global, words: &[&str]) -> Ended {
-    let mut output = Vec::new(alloc);
+    run_over(alloc, words, io::empty(), Vec::new(alloc))
+}
+
+/// Runs the words over an input and a writer in memory.
+fn run_over<R: Read + Drop>(alloc: Global, words: &[&str], input: R, output: Vec<u8>) -> Ended {
+    let mut reader = Watched::new(input);
+    let mut writer = Watched::new(output);
     let mut errors = Vec::new(alloc);
-    let status = drive(alloc, words, &mut io::empty(), &mut output, &mut errors);
+    let status = drive(alloc, words, &mut reader, &mut writer, &mut errors);
     Ended {
         status,
-        output,
+        output: writer.into_inner(),
         errors,
     }
 }

@@ -56,7 +56,7 @@ fn expect(
 
 #[test]
 fn both_read_commands(rt: HostRuntime) -> Result<(), AllocError> {
-    let rows: [&[&str]; 31] = [
+    let rows: [&[&str]; 33] = [
         &["verdict", "D:", "SY", "0x1"],
         &["verdict", "D:", "SY", "0x1", "4"],
         &["verdict", "D:", "SY", "0x1", "4", "5"],
@@ -90,13 +90,15 @@ fn both_read_commands(rt: HostRuntime) -> Result<(), AllocError> {
         &["print", "--", "--"],
         &["tobin", "--", "--help"],
         &["frombin", "-01"],
+        &["script"],
+        &["script", "--"],
     ];
     expect(&rt, &rows, Kind::Command, Kind::Command)
 }
 
 #[test]
 fn both_read_help_and_version(rt: HostRuntime) -> Result<(), AllocError> {
-    let rows: [&[&str]; 15] = [
+    let rows: [&[&str]; 18] = [
         &["-h"],
         &["--help"],
         &["help"],
@@ -112,6 +114,9 @@ fn both_read_help_and_version(rt: HostRuntime) -> Result<(), AllocError> {
         &["tobin", "--help"],
         &["frombin", "-h"],
         &["frombin", "--help"],
+        &["help", "script"],
+        &["script", "-h"],
+        &["script", "--help"],
     ];
     expect(&rt, &rows, Kind::Help, Kind::Help)?;
     let rows: [&[&str]; 2] = [&["-V"], &["--version"]];
@@ -128,7 +133,7 @@ fn both_refuse_other_words(rt: HostRuntime) -> Result<(), AllocError> {
         &["frob"],
         &["Verdict"],
         &["verdict "],
-        &["script"],
+        &["script", "x"],
         &["audit", "2"],
         &["-x"],
         &["--frob"],
@@ -199,7 +204,7 @@ fn takes_later_dashes_as_arguments(rt: HostRuntime) -> Result<(), AllocError> {
 
 #[test]
 fn gives_no_help_beside_other_words(rt: HostRuntime) -> Result<(), AllocError> {
-    let rows: [&[&str]; 15] = [
+    let rows: [&[&str]; 18] = [
         &["-h", "-h"],
         &["-hh"],
         &["-hV"],

@@ -1,4 +1,4 @@
 use Rattle.sd_tool.proofs.answer.answer_to.Goals as goal
 
 pub returns-in-Verdict-clause-ok : goal.returns-in-Verdict-clause-ok
-returns-in-Verdict-clause-ok c = rw (c.in-Verdict.is) c.answer_verdict.ensures.ok
+returns-in-Verdict-clause-ok c = λ input. rw (c.in-Verdict.is) c.answer_verdict.ensures.ok

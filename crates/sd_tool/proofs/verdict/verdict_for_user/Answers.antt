@@ -2,7 +2,7 @@
 use Rattle.std.proofs.Common.{Err, ap, inr}
 use Rattle.std.proofs.lemmas.Result.{IfOk-weaker}
 use Rattle.sd_text.specs.Sid.{sid_text}
-use Rattle.sd_tool.proofs.Words.{not_spelled}
+use Rattle.sd_script.proofs.Words.{not_spelled}
 use Rattle.sd_tool.proofs.verdict.verdict_for_user.Goals as goal
 
 pub returns-in-Err-clause-ok : goal.returns-in-Err-clause-ok

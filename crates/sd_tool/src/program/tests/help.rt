@@ -79,6 +79,22 @@ fn prints_help_on_each_command(rt: HostRuntime) -> Result<(), Fail> {
     Ok(())
 }
 
+#[test]
+fn prints_help_on_scripts(rt: HostRuntime) -> Result<(), Fail> {
+    let help = shown(&rt, &["sdstore", "help", "script"]);
+    assert!(rt; shown(&rt, &["sdstore", "script", "-h"]).as_slice() == help.as_slice());
+    assert!(rt; shown(&rt, &["sdstore", "script", "--help"]).as_slice() == help.as_slice());
+    let text = str::from_utf8(help.as_slice()).ok().ok_or("text")?;
+    for line in [
+        "Usage: sdstore script\n",
+        "  open N SDDL ",
+        " | sdstore script\n",
+    ] {
+        assert!(rt; text.contains(line), "{text}");
+    }
+    Ok(())
+}
+
 /// Runs the words of the example that a help text ends with, of which no word has a space.
 fn expect_example(rt: &(impl Abort + AllocGlobal), help: &[u8]) -> Result<(), Fail> {
     let text = str::from_utf8(help).ok().ok_or("text")?;

@@ -57,12 +57,13 @@ fn tells_of_a_writer_that_fails(rt: HostRuntime) {
     let words = ["sdstore", "verdict", "D:", USER, "zz"];
     for fault in [Fault::Refuses, Fault::IsInterrupted, Fault::TakesNothing] {
         for calls in 0..11 {
-            let mut writer = Failing::after(rt.alloc(), calls, fault);
+            let mut writer = Watched::new(Failing::after(rt.alloc(), calls, fault));
             let mut errors = Vec::new(rt.alloc());
-            let input = &mut io::empty();
+            let input = &mut Watched::new(io::empty());
             let status = drive(rt.alloc(), &words, input, &mut writer, &mut errors);
             assert_eq!(rt; status, 3, "{fault:?} after {calls}");
             assert_eq!(rt; errors.as_slice(), b"sdstore: write\n".as_slice());
+            let writer = writer.into_inner();
             assert_eq!(rt; writer.taken.len() as u64, calls, "{fault:?}");
             assert!(rt; b"fault mask\n".starts_with(writer.taken.as_slice()));
         }
@@ -73,11 +74,12 @@ fn tells_of_a_writer_that_fails(rt: HostRuntime) {
 fn tells_of_a_flush_that_fails(rt: HostRuntime) {
     let words = ["sdstore", "verdict", "D:", USER, "zz"];
     for (fault, status) in [(Fault::Refuses, 3), (Fault::TakesNothing, 1)] {
-        let mut writer = Failing::after(rt.alloc(), 11, fault);
+        let mut writer = Watched::new(Failing::after(rt.alloc(), 11, fault));
         let mut errors = Vec::new(rt.alloc());
-        let input = &mut io::empty();
+        let input = &mut Watched::new(io::empty());
         let ended = drive(rt.alloc(), &words, input, &mut writer, &mut errors);
         assert_eq!(rt; ended, status, "{fault:?}");
+        let writer = writer.into_inner();
         assert_eq!(rt; writer.taken.as_slice(), b"fault mask\n".as_slice());
     }
 }
@@ -85,12 +87,12 @@ fn tells_of_a_flush_that_fails(rt: HostRuntime) {
 #[test]
 fn keeps_the_status_where_errors_fail(rt: HostRuntime) {
     let mut errors = Failing::after(rt.alloc(), 0, Fault::Refuses);
-    let mut output = Vec::new(rt.alloc());
-    let input = &mut io::empty();
+    let mut output = Watched::new(Vec::new(rt.alloc()));
+    let input = &mut Watched::new(io::empty());
     let words = ["sdstore", "frob"];
     let unread = drive(rt.alloc(), &words, input, &mut output, &mut errors);
     assert_eq!(rt; unread, 2);
-    let mut writer = Failing::after(rt.alloc(), 0, Fault::Refuses);
+    let mut writer = Watched::new(Failing::after(rt.alloc(), 0, Fault::Refuses));
     let words = ["sdstore", "--help"];
     let failed = drive(rt.alloc(), &words, input, &mut writer, &mut errors);
     assert_eq!(rt; failed, 3);

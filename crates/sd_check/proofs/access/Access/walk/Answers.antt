@@ -4,8 +4,17 @@ use Rattle.std.proofs.lemmas.List.{drop_all}
 use Rattle.sd_sid.specs.Mask.{holds, mask_of}
 use Rattle.sd_check.specs.Token.{applies}
 use Rattle.sd_check.specs.Walk.{mask_that_applies, is_limit}
-use Rattle.sd_check.proofs.OneWalk.{outcome, outcome_step, outcome_at_end, outcome_early, outcome_of_list, outcome_from}
+use Rattle.sd_check.proofs.OneWalk.{outcome, outcome_step, outcome_silent, outcome_at_end, outcome_early, outcome_of_list, outcome_from}
 use Rattle.sd_check.proofs.access.Access.walk.Goals as goal
+
+pub loop-entry-preserved-then-is_silent : goal.loop-entry-preserved-then-is_silent
+loop-entry-preserved-then-is_silent c =
+    let mask = mask_that_applies c.args.self.now.mapping.now (applies c.args.self.now.token.now c.args.self.now.owner.now) in
+    let loop = c.loop-entry in
+    loop.invariant
+    ∙ outcome_from mask is_limit c.args.entries.now loop.entry-index c.entry-item.result loop.undecided loop.allowed loop.kept c.loop-entry-test.true c.entry-item.is
+    ∙ outcome_silent mask is_limit c.entry-item.result (drop (loop.entry-index + 1) c.args.entries.now) loop.undecided loop.allowed loop.kept
+    (c.is_silent.ensures.mask c.if-is_silent.true) (c.is_silent.ensures.limit c.if-is_silent.true)
 
 pub loop-entry-preserved : goal.loop-entry-preserved
 loop-entry-preserved c =

@@ -1,0 +1,77 @@
+-- Texts that are no SID and no word, and words one for one.
+use Rattle.std.proofs.Common.{◌≡◌, ℕ, suc, zero, ◌+◌, ◌<◌, inl, inr, List, [], ◌∷◌, ◌++◌, length, get_or, take, Option, Some, None, refl, ap, sym, ◌∙◌, arith}
+use Rattle.std.specs.Prelude.{IfNone, codes, Bool, false, ◌||◌}
+use Rattle.std.specs.List.{list_any}
+use Rattle.std.specs.Borrow.{Bor}
+use Rattle.std.specs.Str.{bytes_eq}
+use lib.Pointwise.{bytes_decides}
+use Rattle.std.proofs.lemmas.List.{take_more}
+use Rattle.std.proofs.lemmas.Bool.{false≢true}
+use Rattle.sd_sid.specs.Sid.{SidValue}
+use Rattle.sd_text.specs.Grammar.{Grammar, Spells}
+use Rattle.sd_text.specs.Fault.{StandsIn}
+use Rattle.sd_text.specs.Sid.{sid_text}
+use Rattle.sd_text.proofs.Engine.{no_fault}
+use Rattle.sd_text.specs.declared.fault.TextError.{TextError}
+use Rattle.sd_text.specs.declared.fault.TextError.TheVariants.{Fault, Memory}
+use Rattle.sd_check.specs.declared.token.GroupState.TheVariants.{Enabled, DenyOnly, Disabled}
+use Rattle.sd_script.specs.Word.{IsWord, AreWords, IsNoWordIn, texts}
+use Rattle.sd_script.specs.declared.word.Word.{Word}
+use Rattle.sd_script.specs.declared.word.Word.TheVariants.{Group, Security, TakeOwnership}
+
+-- a text whose fault is told spells nothing
+pub not_spelled : {A : Type 0} (grammar : Grammar A) (text : List ℕ) (e : TextError)
+    → StandsIn grammar text e → (e ≡ Memory → ⊥) → (a : A) → Spells grammar text a → ⊥
+not_spelled grammar text (Fault fault place) stands told a spelled = no_fault grammar text a fault place spelled stands
+not_spelled grammar text Memory stands told a spelled = told refl
+
+-- texts that the test tells apart are two
+pub apart : (xs ys : List ℕ) → bytes_eq xs ys ≡ false → xs ≡ ys → ⊥
+apart xs ys h e = false≢true (sym h ∙ (bytes_decides xs ys).1 e)
+
+is_none : (text : List ℕ)
+    → (text ≡ codes "+security" → ⊥) → (text ≡ codes "+take" → ⊥)
+    → ((sid : SidValue) → Spells sid_text text sid → ⊥)
+    → ((front : List ℕ) (sid : SidValue) → text ≡ front ++ codes "=deny" → Spells sid_text front sid → ⊥)
+    → ((front : List ℕ) (sid : SidValue) → text ≡ front ++ codes "=off" → Spells sid_text front sid → ⊥)
+    → (word : Word) → IsWord text word → ⊥
+is_none text security take enabled deny off (Group sid Enabled) h = enabled sid h
+is_none text security take enabled deny off (Group sid DenyOnly) h = deny h.0 sid h.1 h.2
+is_none text security take enabled deny off (Group sid Disabled) h = off h.0 sid h.1 h.2
+is_none text security take enabled deny off Security h = security h
+is_none text security take enabled deny off TakeOwnership h = take h
+
+-- a text that is no group and neither privilege is no word
+pub no_word : (r : Option Word) (text : List ℕ)
+    → (text ≡ codes "+security" → ⊥) → (text ≡ codes "+take" → ⊥)
+    → IfNone r ((sid : SidValue) → Spells sid_text text sid → ⊥)
+    → IfNone r ((front : List ℕ) (sid : SidValue) → text ≡ front ++ codes "=deny" → Spells sid_text front sid → ⊥)
+    → IfNone r ((front : List ℕ) (sid : SidValue) → text ≡ front ++ codes "=off" → Spells sid_text front sid → ⊥)
+    → IfNone r ((word : Word) → IsWord text word → ⊥)
+no_word (Some word) text security take enabled deny off = tt
+no_word None text security take enabled deny off = λ word h. is_none text security take enabled deny off word h
+
+-- one word more
+AreWords-push : (front : List (Bor (List ℕ))) (words : List Word) (text : Bor (List ℕ)) (word : Word)
+    → AreWords (texts front) words → IsWord text.now word → AreWords (texts (front ++ text ∷ [])) (words ++ word ∷ [])
+AreWords-push [] [] text word are is = (is, tt)
+AreWords-push [] (w ∷ words) text word are is = absurd are
+AreWords-push (t ∷ front) [] text word are is = absurd are
+AreWords-push (t ∷ front) (w ∷ words) text word are is = (are.0, AreWords-push front words text word are.1 is)
+
+-- a text that is no word, at its place
+pub no_word_at : (lent : List (Bor (List ℕ))) (i : ℕ) (d : Bor (List ℕ)) → i < length lent
+    → ((word : Word) → IsWord (get_or lent i d).now word → ⊥) → IsNoWordIn (texts lent)
+no_word_at [] i d low none = absurd (omega arith)
+no_word_at (text ∷ lent) zero d low none = inl none
+no_word_at (text ∷ lent) (suc i) d low none = inr (no_word_at lent i d (omega arith) none)
+
+pub AreWords-more : (lent : List (Bor (List ℕ))) (i : ℕ) (d : Bor (List ℕ)) (words new : List Word) (word : Word) → i < length lent
+    → AreWords (texts (take i lent)) words → IsWord (get_or lent i d).now word → new ≡ words ++ word ∷ [] → AreWords (texts (take (i + 1) lent)) new
+AreWords-more lent i d words new word low are is more =
+    rw (more, take_more lent i d low) (AreWords-push (take i lent) words (get_or lent i d) word are is)
+
+-- a test of lent texts
+pub list_any-texts : (test : List ℕ → Bool) (lent : List (Bor (List ℕ))) → list_any (λ (text : Bor (List ℕ)). test text.now) lent ≡ list_any test (texts lent)
+list_any-texts test [] = refl
+list_any-texts test (text ∷ lent) = ap (λ b. test text.now || b) (list_any-texts test lent)

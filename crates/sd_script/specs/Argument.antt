@@ -1,0 +1,81 @@
+-- The words of a line behind its command, each read as what it stands for.
+use Rattle.std.specs.Prelude.{◌≡◌, ℕ, ◌<◌, ◌^◌, Bool, false, List, [], Option, Some, None, Result, Ok, Err}
+use Rattle.std.specs.Str.Parse.{IsNumeral, digits_value}
+use Rattle.sd_sid.specs.Sid.{SidValue}
+use Rattle.sd_acl.specs.Descriptor.{DescriptorValue}
+use Rattle.sd_acl.specs.declared.descriptor.Dacl.{Dacl}
+use Rattle.sd_acl.specs.declared.descriptor.Dacl.TheVariants as dacls
+use Rattle.sd_text.specs.Grammar.{Spells, HasFault}
+use Rattle.sd_text.specs.Sddl.{sddl}
+use Rattle.sd_text.specs.Sid.{sid_text}
+use Rattle.sd_text.specs.Rights.{mask_text}
+use Rattle.sd_text.specs.declared.fault.TextFault.{TextFault}
+use Rattle.sd_check.specs.Token.{TokenValue}
+use Rattle.sd_tree.specs.Names.{Names}
+use Rattle.sd_tree.specs.PathText.{path_of}
+use Rattle.sd_tree.specs.declared.node.NodeDacl.{NodeDacl}
+use Rattle.sd_tree.specs.declared.node.NodeDacl.TheVariants.{Null, List as Entries}
+use Rattle.sd_tree.specs.declared.opening.RootSpec.{RootSpec}
+use Rattle.sd_script.specs.Fault.{Reading, SomeOr, Then}
+use Rattle.sd_script.specs.Word.{IsToken, IsNoWordIn}
+use Rattle.sd_script.specs.declared.fault.LineFault.{LineFault}
+use Rattle.sd_script.specs.declared.fault.LineFault.TheVariants.{Number, Path, Sid, Sddl, Parts, Mask, Token}
+
+-- the decimal digits of this number, which has 64 bits
+abbrev pub IsNumber : List ℕ → ℕ → Type 0
+IsNumber word n = IsNumeral 10 word × (digits_value 10 word ≡ n) × (n < 2 ^ 64)
+
+abbrev pub number : List ℕ → Reading ℕ
+number word = SomeOr (IsNumber word) Number
+
+abbrev pub path : List ℕ → Reading Names
+path word = SomeOr (λ names. path_of word ≡ Ok names) Path
+
+abbrev pub sid : List ℕ → Reading SidValue
+sid word = SomeOr (Spells sid_text word) Sid
+
+abbrev pub mask : List ℕ → Reading ℕ
+mask word = SomeOr (Spells mask_text word) Mask
+
+-- the token of a user and words
+abbrev pub token : SidValue → List (List ℕ) → Reading TokenValue
+token user words (Ok t) = IsToken user words t
+token user words (Err told) = IsNoWordIn words × (told ≡ Token)
+
+-- a descriptor, or the first fault of its text, at its place
+abbrev pub descriptor : List ℕ → Reading DescriptorValue
+descriptor word (Ok d) = Spells sddl word d
+descriptor word (Err told) = (fault : TextFault) × (place : ℕ) × HasFault sddl word fault place × (told ≡ Sddl fault place)
+
+-- the DACL that a descriptor gives a node: an absent one is an empty list that isn't protected, and of the words of a
+-- list the one for its protection is kept
+abbrev pub own_dacl : Bool → Dacl → NodeDacl
+own_dacl protected dacls.Absent = Entries false []
+own_dacl protected dacls.Null = Null
+own_dacl protected (dacls.List entries) = Entries protected entries
+
+-- an owner, a group and a DACL, where both are there
+abbrev pub with_parts : Option SidValue → Option SidValue → NodeDacl → Result RootSpec LineFault
+with_parts (Some owner) (Some group) dacl = Ok (record { owner = owner; group = group; dacl = dacl })
+with_parts (Some owner) None dacl = Err Parts
+with_parts None group dacl = Err Parts
+
+-- a DACL, where neither is
+abbrev pub without_parts : Option SidValue → Option SidValue → NodeDacl → Result NodeDacl LineFault
+without_parts None None dacl = Ok dacl
+without_parts None (Some group) dacl = Err Parts
+without_parts (Some owner) group dacl = Err Parts
+
+abbrev pub node_of : DescriptorValue → Result RootSpec LineFault
+node_of d = with_parts d.owner d.group (own_dacl d.protected d.dacl)
+
+abbrev pub dacl_of : DescriptorValue → Result NodeDacl LineFault
+dacl_of d = without_parts d.owner d.group (own_dacl d.protected d.dacl)
+
+-- the text of a descriptor with an owner and a group
+abbrev pub node : List ℕ → Reading RootSpec
+node word = Then (descriptor word) (λ d read. read ≡ node_of d)
+
+-- the text of a descriptor with neither
+abbrev pub dacl : List ℕ → Reading NodeDacl
+dacl word = Then (descriptor word) (λ d read. read ≡ dacl_of d)

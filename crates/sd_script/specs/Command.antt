@@ -1,0 +1,159 @@
+-- What a line asks for.
+use Rattle.std.specs.Prelude.{◌≡◌, ℕ, Bool, not, ◌==◌, MatchBool, if◌then◌else◌, ◌⊎◌, List, [], ◌∷◌, length, Option, Some, None, Err, option_and_then, codes, bytes_eq}
+use Rattle.std.specs.List.{list_any}
+use Rattle.std.specs.Str.{IsUtf8}
+use Rattle.sd_sid.specs.Sid.{SidValue}
+use Rattle.sd_tree.specs.Names.{Names}
+use Rattle.sd_tree.specs.declared.edit.Edit.{Edit}
+use Rattle.sd_tree.specs.declared.edit.Edit.TheVariants as edits
+use Rattle.sd_share.specs.declared.request.Request.{Request}
+use Rattle.sd_share.specs.declared.request.Request.TheVariants as requests
+use Rattle.sd_script.specs.Argument.{number, path, sid, mask, token, node, dacl}
+use Rattle.sd_script.specs.Fault.{Reading, Just, Then, nothing_read}
+use Rattle.sd_script.specs.Lines.{words_of}
+use Rattle.sd_script.specs.Word.{texts}
+use Rattle.sd_script.specs.declared.asked.Asked.{Asked}
+use Rattle.sd_script.specs.declared.asked.Asked.TheVariants.{Opening, Asking}
+use Rattle.sd_script.specs.declared.command.Command.{Command}
+use Rattle.sd_script.specs.declared.command.Command.TheVariants as lent
+use Rattle.sd_script.specs.declared.command.CommandName.{CommandName}
+use Rattle.sd_script.specs.declared.command.CommandName.TheVariants as names
+use Rattle.sd_script.specs.declared.fault.LineFault.TheVariants as faults
+use Rattle.sd_script.specs.declared.mode.Mode.{Mode}
+use Rattle.sd_script.specs.declared.mode.Mode.TheVariants.{Script}
+
+-- ---- commands, with their words as they stand
+
+pub data CommandValue : Type 0 where
+  Open : List ℕ → List ℕ → CommandValue
+  AddContainer : List ℕ → List ℕ → CommandValue
+  AddObject : List ℕ → List ℕ → CommandValue
+  SetOwner : List ℕ → List ℕ → CommandValue
+  SetGroup : List ℕ → List ℕ → CommandValue
+  SetDacl : List ℕ → List ℕ → CommandValue
+  Remove : List ℕ → CommandValue
+  Protect : List ℕ → CommandValue
+  Publish : CommandValue
+  Tell : CommandValue
+  Learn : List ℕ → List ℕ → CommandValue
+  Check : List ℕ → List ℕ → List ℕ → List ℕ → List (List ℕ) → CommandValue
+  Show : List ℕ → List ℕ → CommandValue
+
+abbrev pub command_value : Command → CommandValue
+command_value (lent.Open readers sddl) = Open readers.now sddl.now
+command_value (lent.AddContainer path sddl) = AddContainer path.now sddl.now
+command_value (lent.AddObject path sddl) = AddObject path.now sddl.now
+command_value (lent.SetOwner path sid) = SetOwner path.now sid.now
+command_value (lent.SetGroup path sid) = SetGroup path.now sid.now
+command_value (lent.SetDacl path sddl) = SetDacl path.now sddl.now
+command_value (lent.Remove path) = Remove path.now
+command_value (lent.Protect path) = Protect path.now
+command_value lent.Publish = Publish
+command_value lent.Tell = Tell
+command_value (lent.Learn reader length) = Learn reader.now length.now
+command_value (lent.Check reader path user mask words) = Check reader.now path.now user.now mask.now (texts words.now)
+command_value (lent.Show reader path) = Show reader.now path.now
+
+-- the command that the word names
+abbrev pub command_named : List ℕ → Option CommandName
+command_named word =
+    if bytes_eq word (codes "open") then Some names.Open
+    else if bytes_eq word (codes "addc") then Some names.AddContainer
+    else if bytes_eq word (codes "addo") then Some names.AddObject
+    else if bytes_eq word (codes "owner") then Some names.SetOwner
+    else if bytes_eq word (codes "group") then Some names.SetGroup
+    else if bytes_eq word (codes "dacl") then Some names.SetDacl
+    else if bytes_eq word (codes "remove") then Some names.Remove
+    else if bytes_eq word (codes "protect") then Some names.Protect
+    else if bytes_eq word (codes "publish") then Some names.Publish
+    else if bytes_eq word (codes "tell") then Some names.Tell
+    else if bytes_eq word (codes "learn") then Some names.Learn
+    else if bytes_eq word (codes "check") then Some names.Check
+    else if bytes_eq word (codes "show") then Some names.Show
+    else None
+
+-- the command with these arguments, where they are as many as it takes
+abbrev pub command_on : CommandName → List (List ℕ) → Option CommandValue
+command_on names.Open (readers ∷ sddl ∷ []) = Some (Open readers sddl)
+command_on names.AddContainer (path ∷ sddl ∷ []) = Some (AddContainer path sddl)
+command_on names.AddObject (path ∷ sddl ∷ []) = Some (AddObject path sddl)
+command_on names.SetOwner (path ∷ sid ∷ []) = Some (SetOwner path sid)
+command_on names.SetGroup (path ∷ sid ∷ []) = Some (SetGroup path sid)
+command_on names.SetDacl (path ∷ sddl ∷ []) = Some (SetDacl path sddl)
+command_on names.Remove (path ∷ []) = Some (Remove path)
+command_on names.Protect (path ∷ []) = Some (Protect path)
+command_on names.Publish [] = Some Publish
+command_on names.Tell [] = Some Tell
+command_on names.Learn (reader ∷ length ∷ []) = Some (Learn reader length)
+command_on names.Check (reader ∷ path ∷ user ∷ mask ∷ words) = Some (Check reader path user mask words)
+command_on names.Show (reader ∷ path ∷ []) = Some (Show reader path)
+command_on name arguments = None
+
+abbrev pub is_empty : List ℕ → Bool
+is_empty word = length word == 0
+
+-- the command that the words are, none of which is empty
+abbrev pub command_of : List (List ℕ) → Option CommandValue
+command_of [] = None
+command_of (word ∷ words) =
+    if list_any is_empty (word ∷ words) then None
+    else option_and_then (λ name. command_on name words) (command_named word)
+
+-- a store is opened where none is open, and each other command is for where one is
+abbrev pub is_untimely : Bool → CommandValue → Bool
+is_untimely is_open (Open readers sddl) = is_open
+is_untimely is_open command = not is_open
+
+-- ---- what a command asks for, where its words are read from the left
+
+-- for how many readers a store is opened
+abbrev pub readers_in : Mode → ℕ → ℕ
+readers_in Script readers = readers
+
+abbrev pub edit : Edit → Reading Asked
+edit e = Just (Asking (requests.Edit e))
+
+abbrev pub request : Request → Reading Asked
+request r = Just (Asking r)
+
+-- a check: the user, what is asked, and the user's groups and privileges
+abbrev pub check_with : ℕ → Names → List (List ℕ) → SidValue → ℕ → Reading Asked
+check_with reader names words user asked = Then (token user words) (λ t. request (requests.Check reader names t asked))
+
+abbrev pub check_by : ℕ → Names → List ℕ → List (List ℕ) → SidValue → Reading Asked
+check_by reader names asked words user = Then (mask asked) (check_with reader names words user)
+
+abbrev pub check_of : ℕ → Names → List ℕ → List ℕ → List (List ℕ) → Reading Asked
+check_of reader names user asked words = Then (sid user) (check_by reader names asked words)
+
+-- what each command but an opening asks of the store that is open
+abbrev pub asks_of_store : CommandValue → Reading Asked
+asks_of_store (Open readers sddl) = nothing_read
+asks_of_store (AddContainer at sddl) = Then (path at) (λ p. Then (node sddl) (λ n. edit (edits.AddContainer p n.owner n.group n.dacl)))
+asks_of_store (AddObject at sddl) = Then (path at) (λ p. Then (node sddl) (λ n. edit (edits.AddObject p n.owner n.group n.dacl)))
+asks_of_store (SetOwner at owner) = Then (path at) (λ p. Then (sid owner) (λ s. edit (edits.SetOwner p s)))
+asks_of_store (SetGroup at group) = Then (path at) (λ p. Then (sid group) (λ s. edit (edits.SetGroup p s)))
+asks_of_store (SetDacl at sddl) = Then (path at) (λ p. Then (dacl sddl) (λ d. edit (edits.SetDacl p d)))
+asks_of_store (Remove at) = Then (path at) (λ p. edit (edits.Remove p))
+asks_of_store (Protect at) = Then (path at) (λ p. edit (edits.ProtectKeeping p))
+asks_of_store Publish = request requests.Publish
+asks_of_store Tell = request requests.Tell
+asks_of_store (Learn reader length) = Then (number reader) (λ i. Then (number length) (λ n. request (requests.Learn i n)))
+asks_of_store (Check reader at user asked words) =
+    Then (number reader) (λ i. Then (path at) (λ p. check_of i p user asked words))
+asks_of_store (Show reader at) = Then (number reader) (λ i. Then (path at) (λ p. request (requests.Show i p)))
+
+abbrev pub asks : Mode → CommandValue → Reading Asked
+asks mode (Open readers sddl) = Then (number readers) (λ n. Then (node sddl) (λ root. Just (Opening (readers_in mode n) root)))
+asks mode command = asks_of_store command
+
+-- ---- what a line asks for
+
+abbrev pub asks_where : Mode → Bool → Option CommandValue → Reading Asked
+asks_where mode is_open None read = read ≡ Err faults.Words
+asks_where mode is_open (Some command) read = MatchBool (is_untimely is_open command) (read ≡ Err faults.Open) (asks mode command read)
+
+abbrev pub line_asks : Mode → Bool → List ℕ → Reading Asked
+line_asks mode is_open line read =
+    (IsUtf8 line × asks_where mode is_open (command_of (words_of line)) read)
+    ⊎ ((IsUtf8 line → ⊥) × (read ≡ Err faults.Utf8))

@@ -1,0 +1,9 @@
+pub mod Answer
+pub mod Argument
+pub mod Command
+pub mod Fault
+pub mod Lines
+pub mod Output
+pub mod Reply
+pub mod Run
+pub mod Word

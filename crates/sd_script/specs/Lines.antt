@@ -1,0 +1,13 @@
+-- The words of a line, and lines that ask for nothing. The lines of a text are those of std's `lines`: each but the last
+-- is ended by a line feed, of which a carriage return right before it is a part.
+use Rattle.std.specs.Prelude.{ℕ, Bool, true, ◌==◌, List, [], ◌∷◌}
+use Rattle.std.specs.List.{slice_split}
+
+-- the line is empty, or begins with `#`
+abbrev pub is_silent : List ℕ → Bool
+is_silent [] = true
+is_silent (b ∷ bs) = b == 0x23
+
+-- the words, parted by single spaces
+abbrev pub words_of : List ℕ → List (List ℕ)
+words_of line = slice_split (λ b. b == 0x20) line

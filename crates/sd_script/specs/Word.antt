@@ -1,0 +1,71 @@
+-- The words that make a token: a user's groups and privileges.
+use Rattle.std.specs.Prelude.{◌≡◌, ℕ, Bool, true, false, ⊤, ◌⊎◌, List, [], ◌∷◌, ◌++◌, map, codes}
+use Rattle.std.specs.List.{list_any, flat_map}
+use Rattle.std.specs.Borrow.{Bor}
+use Rattle.sd_sid.specs.Sid.{SidValue}
+use Rattle.sd_text.specs.Grammar.{Spells}
+use Rattle.sd_text.specs.Sid.{sid_text}
+use Rattle.sd_check.specs.Token.{TokenValue}
+use Rattle.sd_check.specs.declared.token.GroupState.{GroupState}
+use Rattle.sd_check.specs.declared.token.GroupState.TheVariants.{Enabled, DenyOnly, Disabled}
+use Rattle.sd_script.specs.declared.word.Word.{Word}
+use Rattle.sd_script.specs.declared.word.Word.TheVariants.{Group, Security, TakeOwnership}
+
+-- the text is a group in this state
+abbrev pub IsGroup : List ℕ → SidValue → GroupState → Type 0
+IsGroup text sid Enabled = Spells sid_text text sid
+IsGroup text sid DenyOnly = (front : List ℕ) × (text ≡ front ++ codes "=deny") × Spells sid_text front sid
+IsGroup text sid Disabled = (front : List ℕ) × (text ≡ front ++ codes "=off") × Spells sid_text front sid
+
+-- the text is this word
+abbrev pub IsWord : List ℕ → Word → Type 0
+IsWord text (Group sid state) = IsGroup text sid state
+IsWord text Security = text ≡ codes "+security"
+IsWord text TakeOwnership = text ≡ codes "+take"
+
+-- lent texts, as what they are
+abbrev pub texts : List (Bor (List ℕ)) → List (List ℕ)
+texts lent = map (λ (text : Bor (List ℕ)). text.now) lent
+
+-- the texts are these words, one for one
+abbrev pub AreWords : List (List ℕ) → List Word → Type 0
+AreWords [] [] = ⊤
+AreWords [] (word ∷ words) = ⊥
+AreWords (text ∷ texts) [] = ⊥
+AreWords (text ∷ texts) (word ∷ words) = IsWord text word × AreWords texts words
+
+-- one of the texts is no word
+abbrev pub IsNoWordIn : List (List ℕ) → Type 0
+IsNoWordIn [] = ⊥
+IsNoWordIn (text ∷ texts) = ((word : Word) → IsWord text word → ⊥) ⊎ IsNoWordIn texts
+
+-- the group that a word adds
+abbrev pub group_of : Word → List (SidValue × GroupState)
+group_of (Group sid state) = (sid, state) ∷ []
+group_of Security = []
+group_of TakeOwnership = []
+
+abbrev pub groups_of : List Word → List (SidValue × GroupState)
+groups_of words = flat_map group_of words
+
+abbrev pub is_security : Word → Bool
+is_security (Group sid state) = false
+is_security Security = true
+is_security TakeOwnership = false
+
+abbrev pub is_take_ownership : Word → Bool
+is_take_ownership (Group sid state) = false
+is_take_ownership Security = false
+is_take_ownership TakeOwnership = true
+
+-- the token of a user and words
+abbrev pub token_of : SidValue → List Word → TokenValue
+token_of user words = record {
+  user = user;
+  groups = groups_of words;
+  privileges = record { security = list_any is_security words; take_ownership = list_any is_take_ownership words };
+}
+
+-- the token of a user and of the words that the texts are
+abbrev pub IsToken : SidValue → List (List ℕ) → TokenValue → Type 0
+IsToken user texts token = (words : List Word) × AreWords texts words × (token ≡ token_of user words)

@@ -1,0 +1,134 @@
+//! The words of a line behind its command, each read as what it stands for.
+ghost use Rattle.std.specs.Prelude.{◌≡◌, IfOk};
+ghost use Rattle.sd_acl.specs.Descriptor.{descriptor_of};
+ghost use Rattle.sd_script.specs.Argument.{number, path as path_of_word, sid, mask, token, node, dacl, node_of, dacl_of, own_dacl};
+ghost use Rattle.sd_script.specs.Fault.{UnlessMemory};
+ghost use Rattle.sd_script.specs.Word.{texts};
+
+use crate::fault::{LineFault, Stop};
+use crate::word::{TokenError, read_token};
+use sd_acl::{Dacl, Descriptor};
+use sd_check::Token;
+use sd_sid::{Mask, Sid};
+use sd_text::{TextError, read_mask, read_sddl, read_sid_text};
+use sd_tree::{Entries, NodeDacl, Path, PathError, RootSpec};
+use std::alloc::{AllocError, Global};
+
+/// A run of decimal digits with a value below 2^64.
+pub(crate) fn number_in(word: &str) -> Result<u64, LineFault>
+    ensures { number word.now result }
+{
+    if word.starts_with('+') {
+        return Err(LineFault::Number);
+    }
+    match word.parse::<u64>() {
+        Ok(n) => Ok(n),
+        Err(_) => Err(LineFault::Number),
+    }
+}
+
+/// A path.
+pub(crate) fn path_in(alloc: Global, word: &str) -> Result<Path, Stop>
+    ensures { UnlessMemory (path_of_word word.now) result }
+{
+    match Path::read(alloc, word) {
+        Ok(path) => Ok(path),
+        Err(PathError::Memory) => Err(Stop::Memory),
+        Err(_) => Err(Stop::Fault(LineFault::Path)),
+    }
+}
+
+/// The text of a SID ([MS-DTYP] 2.4.2.1).
+pub(crate) fn sid_in(word: &str) -> Result<Sid, LineFault>
+    ensures { sid word.now result }
+{
+    match read_sid_text(word) {
+        Ok(sid) => Ok(sid),
+        Err(_) => Err(LineFault::Sid),
+    }
+}
+
+/// A rights field ([MS-DTYP] 2.5.1.1, ace-rights).
+pub(crate) fn mask_in(word: &str) -> Result<Mask, LineFault>
+    ensures { mask word.now result }
+{
+    match read_mask(word) {
+        Ok(mask) => Ok(mask),
+        Err(_) => Err(LineFault::Mask),
+    }
+}
+
+/// The token of a user and of words.
+pub(crate) fn token_in(alloc: Global, user: Sid, words: &[&str]) -> Result<Token, Stop>
+    ensures { UnlessMemory (token user (texts words.now)) result }
+{
+    match read_token(alloc, user, words) {
+        Ok(token) => Ok(token),
+        Err(TokenError::NoWord) => Err(Stop::Fault(LineFault::Token)),
+        Err(TokenError::Memory) => Err(Stop::Memory),
+    }
+}
+
+/// The text of a descriptor ([MS-DTYP] 2.5.1) with an owner and a group.
+pub(crate) fn node_in(alloc: Global, word: &str) -> Result<RootSpec, Stop>
+    ensures { UnlessMemory (node word.now) result }
+{
+    match read_sddl(alloc, word) {
+        Ok(descriptor) => Ok(node_of(alloc, &descriptor)?),
+        Err(TextError::Fault { fault, place }) => {
+            Err(Stop::Fault(LineFault::Sddl { fault, place }))
+        }
+        Err(TextError::Memory) => Err(Stop::Memory),
+    }
+}
+
+/// The text of a descriptor ([MS-DTYP] 2.5.1) with neither.
+pub(crate) fn dacl_in(alloc: Global, word: &str) -> Result<NodeDacl, Stop>
+    ensures { UnlessMemory (dacl word.now) result }
+{
+    match read_sddl(alloc, word) {
+        Ok(descriptor) => Ok(dacl_of(alloc, &descriptor)?),
+        Err(TextError::Fault { fault, place }) => {
+            Err(Stop::Fault(LineFault::Sddl { fault, place }))
+        }
+        Err(TextError::Memory) => Err(Stop::Memory),
+    }
+}
+
+fn node_of(alloc: Global, descriptor: &Descriptor) -> Result<RootSpec, Stop>
+    ensures { UnlessMemory (λ read. read ≡ node_of (descriptor_of descriptor.now)) result }
+{
+    match (descriptor.owner, descriptor.group) {
+        (Some(owner), Some(group)) => {
+            let dacl = own_dacl(alloc, descriptor)?;
+            Ok(RootSpec { owner, group, dacl })
+        }
+        _ => Err(Stop::Fault(LineFault::Parts)),
+    }
+}
+
+fn dacl_of(alloc: Global, descriptor: &Descriptor) -> Result<NodeDacl, Stop>
+    ensures { UnlessMemory (λ read. read ≡ dacl_of (descriptor_of descriptor.now)) result }
+{
+    match (descriptor.owner, descriptor.group) {
+        (None, None) => Ok(own_dacl(alloc, descriptor)?),
+        _ => Err(Stop::Fault(LineFault::Parts)),
+    }
+}
+
+/// The DACL that a descriptor gives a node.
+fn own_dacl(alloc: Global, descriptor: &Descriptor) -> Result<NodeDacl, AllocError>
+    ensures { IfOk result (λ given. given ≡ own_dacl descriptor.now.protected descriptor.now.dacl) }
+{
+    match &descriptor.dacl {
+        Dacl::Absent => Ok(NodeDacl::List {
+            protected: false,
+            entries: Entries::new(Vec::new(alloc)),
+        }),
+        Dacl::Null => Ok(NodeDacl::Null),
+        Dacl::List(list) => Ok(NodeDacl::List {
+            protected: descriptor.protected,
+            entries: Entries::new(Vec::from_slice(alloc, list.entries())?),
+        }),
+    }
+}

@@ -1,0 +1,196 @@
+//! The commands of a script, with their words as they stand.
+ghost use Rattle.std.specs.Prelude.{◌≡◌, option_map};
+ghost use Rattle.std.specs.List.{list_any};
+ghost use Rattle.sd_script.specs.Command.{command_named, command_of, command_on, command_value, is_empty, is_untimely};
+ghost use Rattle.sd_script.specs.Word.{texts};
+
+/// A command's name.
+#[derive(Clone, Copy, Debug, PartialEq, Eq)]
+pub(crate) enum CommandName {
+    Open,
+    AddContainer,
+    AddObject,
+    SetOwner,
+    SetGroup,
+    SetDacl,
+    Remove,
+    Protect,
+    Publish,
+    Tell,
+    Learn,
+    Check,
+    Show,
+}
+
+/// A command with its arguments, as many as it takes.
+#[derive(Clone, Copy, Debug)]
+pub(crate) enum Command<'a> {
+    /// A store is opened.
+    Open {
+        readers: &'a str,
+        sddl: &'a str,
+    },
+    /// A container is added.
+    AddContainer {
+        path: &'a str,
+        sddl: &'a str,
+    },
+    /// An object is added.
+    AddObject {
+        path: &'a str,
+        sddl: &'a str,
+    },
+    /// A node gets an owner.
+    SetOwner {
+        path: &'a str,
+        sid: &'a str,
+    },
+    /// A node gets a group.
+    SetGroup {
+        path: &'a str,
+        sid: &'a str,
+    },
+    /// A node gets a DACL of its own.
+    SetDacl {
+        path: &'a str,
+        sddl: &'a str,
+    },
+    /// A node goes.
+    Remove {
+        path: &'a str,
+    },
+    /// A node is protected, and keeps what it had inherited.
+    Protect {
+        path: &'a str,
+    },
+    /// What was edited is published.
+    Publish,
+    /// How much was published is told.
+    Tell,
+    /// A reader learns how much was published.
+    Learn {
+        reader: &'a str,
+        length: &'a str,
+    },
+    /// A reader checks a request of a user, whose groups and privileges the words tell.
+    Check {
+        reader: &'a str,
+        path: &'a str,
+        user: &'a str,
+        mask: &'a str,
+        words: &'a [&'a str],
+    },
+    /// A reader asks for a node's descriptor.
+    Show {
+        reader: &'a str,
+        path: &'a str,
+    },
+}
+
+impl CommandName {
+    fn named(word: &str) -> Option<CommandName>
+        ensures { result ≡ command_named word.now }
+    {
+        if word == "open" {
+            return Some(CommandName::Open);
+        }
+        if word == "addc" {
+            return Some(CommandName::AddContainer);
+        }
+        if word == "addo" {
+            return Some(CommandName::AddObject);
+        }
+        if word == "owner" {
+            return Some(CommandName::SetOwner);
+        }
+        if word == "group" {
+            return Some(CommandName::SetGroup);
+        }
+        if word == "dacl" {
+            return Some(CommandName::SetDacl);
+        }
+        if word == "remove" {
+            return Some(CommandName::Remove);
+        }
+        if word == "protect" {
+            return Some(CommandName::Protect);
+        }
+        if word == "publish" {
+            return Some(CommandName::Publish);
+        }
+        if word == "tell" {
+            return Some(CommandName::Tell);
+        }
+        if word == "learn" {
+            return Some(CommandName::Learn);
+        }
+        if word == "check" {
+            return Some(CommandName::Check);
+        }
+        if word == "show" {
+            return Some(CommandName::Show);
+        }
+        None
+    }
+}
+
+impl Command<'_> {
+    /// Whether a store is open and the command would open one, or none is and it wants one.
+    pub(crate) fn is_untimely(self, is_open: bool) -> bool
+        ensures { result ≡ is_untimely is_open (command_value self.entry) }
+    {
+        match self {
+            Command::Open { .. } => is_open,
+            _ => !is_open,
+        }
+    }
+}
+
+/// The command that the words are, none of which is empty.
+pub(crate) fn command_of<'a>(words: &'a [&'a str]) -> Option<Command<'a>>
+    ensures { option_map command_value result ≡ command_of (texts words.entry.now) }
+{
+    if has_empty(words) {
+        return None;
+    }
+    match words {
+        [word, arguments @ ..] => match CommandName::named(word) {
+            Some(name) => command_on(name, arguments),
+            None => None,
+        },
+        [] => None,
+    }
+}
+
+fn has_empty(words: &[&str]) -> bool
+    ensures { result ≡ list_any is_empty (texts words.now) }
+{
+    words.iter().any(|word| word.is_empty())
+}
+
+fn command_on<'a>(name: CommandName, arguments: &'a [&'a str]) -> Option<Command<'a>>
+    ensures { option_map command_value result ≡ command_on name (texts arguments.entry.now) }
+{
+    match (name, arguments) {
+        (CommandName::Open, [readers, sddl]) => Some(Command::Open { readers, sddl }),
+        (CommandName::AddContainer, [path, sddl]) => Some(Command::AddContainer { path, sddl }),
+        (CommandName::AddObject, [path, sddl]) => Some(Command::AddObject { path, sddl }),
+        (CommandName::SetOwner, [path, sid]) => Some(Command::SetOwner { path, sid }),
+        (CommandName::SetGroup, [path, sid]) => Some(Command::SetGroup { path, sid }),
+        (CommandName::SetDacl, [path, sddl]) => Some(Command::SetDacl { path, sddl }),
+        (CommandName::Remove, [path]) => Some(Command::Remove { path }),
+        (CommandName::Protect, [path]) => Some(Command::Protect { path }),
+        (CommandName::Publish, []) => Some(Command::Publish),
+        (CommandName::Tell, []) => Some(Command::Tell),
+        (CommandName::Learn, [reader, length]) => Some(Command::Learn { reader, length }),
+        (CommandName::Check, [reader, path, user, mask, words @ ..]) => Some(Command::Check {
+            reader,
+            path,
+            user,
+            mask,
+            words,
+        }),
+        (CommandName::Show, [reader, path]) => Some(Command::Show { reader, path }),
+        _ => None,
+    }
+}

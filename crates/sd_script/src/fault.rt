@@ -1,0 +1,82 @@
+//! What is wrong with a line.
+ghost use Rattle.std.specs.Prelude.{◌≡◌, IfOk, string_bytes};
+ghost use Rattle.sd_script.specs.Fault.{line_of_fault};
+ghost use Rattle.sd_script.specs.declared.fault.Stop.TheVariants as stops;
+
+use crate::answer::{fault_line, sddl_fault_line};
+use sd_text::TextFault;
+use std::alloc::{AllocError, AllocFailed, Global};
+
+/// The first thing that is wrong with a line: of the line as a whole, and then of its arguments from the left.
+#[derive(Clone, Copy, Debug, PartialEq, Eq)]
+pub(crate) enum LineFault {
+    /// The line isn't UTF-8.
+    Utf8,
+    /// There is no such command, it takes another number of words, or a word is empty.
+    Words,
+    /// No store is open; or one is, and the line would open one.
+    Open,
+    /// The word isn't a run of decimal digits with a value below 2^64.
+    Number,
+    /// The word isn't a path.
+    Path,
+    /// The word isn't the text of a SID.
+    Sid,
+    /// The word isn't the text of a descriptor.
+    Sddl { fault: TextFault, place: u64 },
+    /// The descriptor lacks an owner or a group, or has one where it may not.
+    Parts,
+    /// The word isn't a rights field.
+    Mask,
+    /// The word is no group and no privilege.
+    Token,
+}
+
+/// Why a line isn't read: its fault, or want of memory.
+#[derive(Clone, Copy, Debug, PartialEq, Eq)]
+pub(crate) enum Stop {
+    Fault(LineFault),
+    Memory,
+}
+
+impl From<LineFault> for Stop {
+    ghost from_gives = { λ fault stop. stop ≡ stops.Fault fault };
+
+    fn from(fault: LineFault) -> Stop {
+        Stop::Fault(fault)
+    }
+}
+
+impl From<AllocError> for Stop {
+    ghost from_gives = { λ _ stop. stop ≡ stops.Memory };
+
+    fn from(_error: AllocError) -> Stop {
+        Stop::Memory
+    }
+}
+
+impl<T: Drop> From<AllocFailed<T>> for Stop {
+    ghost from_gives = { λ _ stop. stop ≡ stops.Memory };
+
+    fn from(_error: AllocFailed<T>) -> Stop {
+        Stop::Memory
+    }
+}
+
+/// The line that tells the fault.
+pub(crate) fn line_of_fault(alloc: Global, fault: LineFault) -> Result<String, AllocError>
+    ensures { IfOk result (λ text. string_bytes text ≡ line_of_fault fault) }
+{
+    match fault {
+        LineFault::Utf8 => fault_line(alloc, "utf8"),
+        LineFault::Words => fault_line(alloc, "words"),
+        LineFault::Open => fault_line(alloc, "open"),
+        LineFault::Number => fault_line(alloc, "number"),
+        LineFault::Path => fault_line(alloc, "path"),
+        LineFault::Sid => fault_line(alloc, "sid"),
+        LineFault::Sddl { fault, place } => sddl_fault_line(alloc, fault, place),
+        LineFault::Parts => fault_line(alloc, "parts"),
+        LineFault::Mask => fault_line(alloc, "mask"),
+        LineFault::Token => fault_line(alloc, "token"),
+    }
+}

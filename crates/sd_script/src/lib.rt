@@ -1,0 +1,36 @@
+//! Scripts: lines of text that build a tree of securable nodes, edit it, publish and ask.
+//!
+//! Each line is a command with its words, and is answered by one line: by what a store replies, or by the first
+//! thing that is wrong with it. `script_output` takes a whole text and gives the whole output, which is what
+//! `Prints` in specs/Output.antt says. The commands are told in docs/SCRIPT.md.
+//!
+//! ```text
+//! let text = b"open 1 O:BAG:SYD:\naddo /a O:BAG:SYD:(A;;FR;;;BU)\npublish\ncheck 0 /a BU 0x1\n";
+//! let printed = script_output(alloc, Mode::Script, text)?;
+//! // printed holds "opened 1\nok\npublished 1\nseen 1 granted 0x1\n"
+//! ```
+//!
+//! The lines of verdicts and faults, and the words that make a token, are the command line's too.
+#![tactic(auto)]
+
+mod answer;
+mod argument;
+mod asked;
+mod command;
+mod fault;
+mod line;
+mod lines;
+mod mode;
+mod reply;
+mod script;
+mod streams;
+mod word;
+
+pub use answer::{fault_line, sddl_fault_line, verdict_line};
+pub use mode::Mode;
+pub use streams::run;
+pub use script::script_output;
+pub use word::{TokenError, read_token};
+
+#[cfg(test)]
+mod tests;

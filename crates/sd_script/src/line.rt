@@ -1,0 +1,33 @@
+//! Reading a line: what it asks for.
+ghost use Rattle.sd_script.specs.Command.{line_asks};
+ghost use Rattle.sd_script.specs.Fault.{UnlessMemory};
+
+use crate::asked::{Asked, asked_by};
+use crate::command::command_of;
+use crate::fault::{LineFault, Stop};
+use crate::lines::words_of;
+use crate::mode::Mode;
+use std::alloc::Global;
+use std::str::from_utf8;
+
+/// What a line asks for, where a store is open or none is; or its first fault.
+pub(crate) fn read_line(
+    alloc: Global,
+    mode: Mode,
+    is_open: bool,
+    line: &[u8],
+) -> Result<Asked, Stop>
+    ensures { UnlessMemory (line_asks mode is_open line.now) result }
+{
+    let Ok(text) = from_utf8(line) else {
+        return Err(Stop::Fault(LineFault::Utf8));
+    };
+    let words = words_of(alloc, text)?;
+    let Some(command) = command_of(&words) else {
+        return Err(Stop::Fault(LineFault::Words));
+    };
+    if command.is_untimely(is_open) {
+        return Err(Stop::Fault(LineFault::Open));
+    }
+    asked_by(alloc, mode, command)
+}

@@ -1,0 +1,111 @@
+//! The line of each reply of a store.
+ghost use Rattle.std.specs.Prelude.{◌≡◌, Some, IfOk, codes, string_bytes};
+ghost use Rattle.sd_script.specs.Reply.{check_line, counted_line, refusal_name, refused_line, reply_line, seen_line, shown_line, start_error_line};
+
+use crate::answer::verdict_line;
+use sd_acl::Descriptor;
+use sd_share::{Reply, StartError};
+use sd_text::print_sddl;
+use sd_tree::{CheckReply, EditRefusal};
+use std::alloc::{AllocError, Global};
+
+/// The line of a reply. Want of memory has none: it is told as an error.
+pub(crate) fn reply_line(alloc: Global, reply: &Reply) -> Result<String, AllocError>
+    ensures { IfOk result (λ text. reply_line reply.now ≡ Some (string_bytes text)) }
+{
+    match reply {
+        Reply::Edited => String::from_str(alloc, "ok\n"),
+        Reply::Refused(refusal) => refused_line(alloc, *refusal),
+        Reply::Published(len) => counted_line(alloc, "published", *len),
+        Reply::Told(len) => counted_line(alloc, "told", *len),
+        Reply::Learned(floor) => counted_line(alloc, "learned", *floor),
+        Reply::Answered(answer) => {
+            let what = check_line(alloc, answer.reply)?;
+            seen_line(alloc, answer.seen, &what)
+        }
+        Reply::Shown { seen, descriptor } => {
+            let what = shown_line(alloc, descriptor)?;
+            seen_line(alloc, *seen, &what)
+        }
+        Reply::NoReader => String::from_str(alloc, "noreader\n"),
+        Reply::NoNotice => String::from_str(alloc, "nonotice\n"),
+        Reply::Memory => Err(AllocError),
+    }
+}
+
+/// The line that tells why a store wasn't opened. Want of memory has none: it is told as an error.
+pub(crate) fn start_error_line(alloc: Global, error: StartError) -> Result<String, AllocError>
+    ensures { IfOk result (λ text. start_error_line error ≡ Some (string_bytes text)) }
+{
+    match error {
+        StartError::Readers => String::from_str(alloc, "refused readers\n"),
+        StartError::Root(refusal) => refused_line(alloc, refusal),
+        StartError::Memory | StartError::Place => Err(AllocError),
+    }
+}
+
+/// A word, and a number behind it.
+pub(crate) fn counted_line(alloc: Global, word: &str, number: u64) -> Result<String, AllocError>
+    ensures { IfOk result (λ text. string_bytes text ≡ counted_line word.now number) }
+{
+    let text = format!(in alloc; "{word} {number}\n")?;
+    Ok(text)
+}
+
+fn refused_line(alloc: Global, refusal: EditRefusal) -> Result<String, AllocError>
+    ensures { IfOk result (λ text. string_bytes text ≡ refused_line refusal) }
+{
+    let number = refusal.number();
+    let name = refusal_name(refusal);
+    let text = format!(in alloc; "refused {number} {name}\n")?;
+    Ok(text)
+}
+
+/// By how long a journal, and what it gives to the end of the line.
+fn seen_line(alloc: Global, seen: u64, what: &str) -> Result<String, AllocError>
+    ensures { IfOk result (λ text. string_bytes text ≡ seen_line seen what.now) }
+{
+    let text = format!(in alloc; "seen {seen} {what}")?;
+    Ok(text)
+}
+
+fn check_line(alloc: Global, reply: CheckReply) -> Result<String, AllocError>
+    ensures { IfOk result (λ text. string_bytes text ≡ check_line reply) }
+{
+    match reply {
+        CheckReply::Verdict(verdict) => verdict_line(alloc, verdict),
+        CheckReply::NoNode => String::from_str(alloc, "nonode\n"),
+    }
+}
+
+fn shown_line(alloc: Global, descriptor: &Option<Descriptor>) -> Result<String, AllocError>
+    ensures { IfOk result (λ text. string_bytes text ≡ shown_line descriptor.now) }
+{
+    match descriptor {
+        None => String::from_str(alloc, "nonode\n"),
+        Some(descriptor) => {
+            let sddl = print_sddl(alloc, descriptor)?;
+            format!(in alloc; "shown {sddl}\n")
+        }
+    }
+}
+
+/// The name by which a refusal is printed.
+fn refusal_name(refusal: EditRefusal) -> &'static str
+    ensures { result.now ≡ refusal_name refusal }
+{
+    match refusal {
+        EditRefusal::NoParent => "NoParent",
+        EditRefusal::ParentIsObject => "ParentIsObject",
+        EditRefusal::Exists => "Exists",
+        EditRefusal::NoNode => "NoNode",
+        EditRefusal::NotEmpty => "NotEmpty",
+        EditRefusal::IsRoot => "IsRoot",
+        EditRefusal::InheritedEntry => "InheritedEntry",
+        EditRefusal::NotCanonical => "NotCanonical",
+        EditRefusal::AclTooLarge => "AclTooLarge",
+        EditRefusal::TooDeep => "TooDeep",
+        EditRefusal::NodesFull => "NodesFull",
+        EditRefusal::JournalFull => "JournalFull",
+    }
+}

@@ -1,0 +1,88 @@
+//! The whole output of a script.
+ghost use Rattle.std.specs.Prelude.{◌≡◌, IfOk, IsSome, string_bytes};
+ghost use Rattle.sd_script.specs.Output.{IsAnswered, IsDone, IsOpened, Prints};
+ghost use Rattle.sd_script.specs.declared.asked.Asked.TheVariants.{Asking};
+
+use crate::asked::Asked;
+use crate::fault::{Stop, line_of_fault};
+use crate::line::read_line;
+use crate::lines::{first_line, is_silent};
+use crate::mode::Mode;
+use crate::reply::{counted_line, reply_line, start_error_line};
+use sd_share::{Desk, Request};
+use sd_sid::GenericMapping;
+use sd_tree::RootSpec;
+use std::alloc::{AllocError, Global};
+
+/// The whole output of a script. Each line is answered by one line; an empty line, and one that begins with `#`, by
+/// none. A line that can't be carried out is answered by its first fault, and the script goes on. Fails only where
+/// memory is refused.
+pub fn script_output(alloc: Global, mode: Mode, text: &[u8]) -> Result<Vec<u8>, AllocError>
+    ensures { IfOk result (λ printed. Prints mode text.now printed.items) }
+{
+    let mut desk = None;
+    let mut printed = Vec::new(alloc);
+    let mut rest = text;
+    while !rest.is_empty() {
+        let (line, behind) = first_line(rest);
+        let answer = answer_line(alloc, mode, &mut desk, line)?;
+        printed.extend_from_slice(answer.as_bytes())?;
+        rest = behind;
+    }
+    Ok(printed)
+}
+
+/// What a line is answered by. The desk is the store that is open, if one is.
+fn answer_line(
+    alloc: Global,
+    mode: Mode,
+    desk: &mut Option<Desk>,
+    line: &[u8],
+) -> Result<String, AllocError>
+    ensures { IfOk result (λ text. IsAnswered mode desk.old line.now (string_bytes text) desk.new) }
+{
+    if is_silent(line) {
+        return Ok(String::new(alloc));
+    }
+    match read_line(alloc, mode, desk.is_some(), line) {
+        Ok(Asked::Opening { readers, root }) => Ok(open_store(alloc, desk, readers, &root)?),
+        Ok(Asked::Asking(request)) => Ok(ask(alloc, desk, &request)?),
+        Err(Stop::Fault(fault)) => Ok(line_of_fault(alloc, fault)?),
+        Err(Stop::Memory) => Err(AllocError),
+    }
+}
+
+/// Opens a store.
+fn open_store(
+    alloc: Global,
+    desk: &mut Option<Desk>,
+    readers: u64,
+    root: &RootSpec,
+) -> Result<String, AllocError>
+    ensures { IfOk result (λ text. IsOpened readers root.now (string_bytes text) desk.new) }
+{
+    match Desk::start(alloc, &GenericMapping::file(), root, readers) {
+        Ok(started) => {
+            *desk = Some(started);
+            Ok(counted_line(alloc, "opened", readers)?)
+        }
+        Err(error) => {
+            *desk = None;
+            Ok(start_error_line(alloc, error)?)
+        }
+    }
+}
+
+/// Asks the store that is open.
+fn ask(alloc: Global, desk: &mut Option<Desk>, request: &Request) -> Result<String, AllocError>
+    requires { IsSome desk.old }
+    ensures { IfOk result (λ text. IsDone desk.old (Asking request.now) (string_bytes text) desk.new) }
+{
+    match desk {
+        Some(desk) => {
+            let reply = desk.step(request);
+            Ok(reply_line(alloc, &reply)?)
+        }
+        None => unreachable!(),
+    }
+}

@@ -1,0 +1,96 @@
+//! Whole scripts, each with its whole output.
+
+use crate::{
+    Mode, TokenError, fault_line, read_token, script_output, sddl_fault_line, verdict_line,
+};
+use sd_acl::Verdict;
+use sd_sid::Mask;
+use sd_text::{TextFault, read_sid_text};
+use std::test::Fail;
+
+/// Scripts, and what they print.
+static SCRIPTS: [(&str, &str); 9] = [
+    ("", ""),
+    // A store, from its opening on; the last line isn't ended.
+    (
+        "open 2 O:BAG:SYD:(A;OICI;FA;;;BA)\naddo /a O:BAG:SYD:(A;;FR;;;BU)\ncheck 0 /a S-1-5-21-1-2-3-1001 0x1 BU\npublish\ntell\nlearn 0 1\ncheck 0 /a S-1-5-21-1-2-3-1001 0x1 BU\naddo /a O:BAG:SYD:(A;;FR;;;BU)\nshow 0 /a",
+        "opened 2\nok\nseen 0 nonode\npublished 1\ntold 1\nlearned 1\nseen 1 granted 0x1\nrefused 3 Exists\nseen 1 shown O:BAG:SYD:AI(A;;FR;;;BU)(A;ID;FA;;;BA)\n",
+    ),
+    // What each command answers, and faults between them.
+    (
+        "publish\nopen 2 O:BAG:SYD:\naddc /a O:BAG:SYD:\naddo /a/b O:BAG:SYD:(A;;FR;;;BU)\nremove /a\ncheck 1 /a/b S-1-5-21-1-2-3-1001 0x1 BU\npublish\ncheck 1 /a/b S-1-5-21-1-2-3-1001 0x1 BU\nlearn 1 3\nlearn 1 1\nlearn 2 9\nowner /a/b BU\ntell\naddo x O:DA\naddo /x O:DA\naddo /x D:\nlearn 0 99999999999999999999\nfrob\n",
+        "fault open\nopened 2\nok\nok\nrefused 5 NotEmpty\nseen 0 nonode\npublished 2\nseen 2 granted 0x1\nnonotice\nlearned 2\nnoreader\nok\ntold 2\nfault path\nfault sddl 6 DomainAlias at 2\nfault parts\nfault number\nfault words\n",
+    ),
+    // An edit of a container reaches what stands three levels below it.
+    (
+        "open 1 O:BAG:SYD:(A;OICI;FA;;;BA)\naddc /a O:BAG:SYD:\naddc /a/b O:BAG:SYD:\naddc /a/b/c O:BAG:SYD:\ndacl /a D:(A;;FR;;;BU)(D;;FW;;;BU)\npublish\nshow 0 /a/b/c\ndacl /a D:P(A;OI;FR;;;BU)\npublish\nshow 0 /a\nshow 0 /a/b/c\n",
+        "opened 1\nok\nok\nok\nrefused 8 NotCanonical\npublished 3\nseen 3 shown O:BAG:SYD:AI(A;OICIID;FA;;;BA)\nok\npublished 4\nseen 4 shown O:BAG:SYD:PAI(A;OI;FR;;;BU)\nseen 4 shown O:BAG:SYD:AI(A;OIIOID;FR;;;BU)\n",
+    ),
+    // A node that is protected keeps what it had inherited; a node that is removed is gone.
+    (
+        "open 1 O:BAG:SYD:\naddc /p O:BAG:SYD:P(D;OICI;FW;;;BU)\naddo /p/o O:BAG:SYD:(A;;FR;;;BU)\npublish\ncheck 0 /p/o S-1-5-21-1-2-3-1001 0x20000 BU\nprotect /p/o\ngroup /p/o BA\npublish\nshow 0 /p/o\ncheck 0 /p/o S-1-5-21-1-2-3-1001 0x20000 BU\nremove /p/o\npublish\nshow 0 /p/o\n",
+        "opened 1\nok\nok\npublished 2\nseen 2 granted 0x20000\nok\nok\npublished 4\nseen 4 shown O:BAG:BAD:PAI(D;;FW;;;BU)(A;;FR;;;BU)\nseen 4 denied 0x20000\nok\npublished 5\nseen 5 nonode\n",
+    ),
+    // Null, absent and protected lists, and the answers of a check.
+    (
+        "open 1 O:BAG:SYD:PNO_ACCESS_CONTROL\naddo /a O:BAG:SY\naddo /p O:BAG:SYD:PARAI\npublish\nshow 0 /\nshow 0 /a\nshow 0 /p\ncheck 0 / WD 0x1\ncheck 0 /a WD 0x1 +take\ncheck 0 /a WD 0x80000 +take\ncheck 0 /a WD 0\ncheck 0 /a WD 0x00200001\ncheck 1 /a WD 0x1\nshow 1 /a\n",
+        "opened 1\nok\nok\npublished 2\nseen 2 shown O:BAG:SYD:NO_ACCESS_CONTROL\nseen 2 shown O:BAG:SYD:AI\nseen 2 shown O:BAG:SYD:PAI\nseen 2 granted 0x1\nseen 2 denied 0x1\nseen 2 granted 0x80000\nseen 2 empty\nseen 2 reserved 0x200000\nnoreader\nnoreader\n",
+    ),
+    // After a refused opening no store is open, and a store is opened once.
+    (
+        "open 0 O:BAG:SYD:\ntell\nopen 65 O:BAG:SYD:\nopen 1 O:BAG:SYD:(A;ID;FR;;;BU)\ntell\nopen 64 O:BAG:SYD:\nopen 1 O:BAG:SYD:\ntell\n",
+        "refused readers\nfault open\nrefused readers\nrefused 7 InheritedEntry\nfault open\nopened 64\nfault open\ntold 0\n",
+    ),
+    // The first fault is told, and the script goes on.
+    (
+        "open 1 O:BAG:SYD:\nowner / \nowner  / BA\ntell 1\nPUBLISH\ncheck 0 a WD\nopen x D:\nlearn 0 +1\nlearn 0 18446744073709551615\nlearn 0 18446744073709551616\ncheck x a QQ ZZ WD=\ncheck 0 a QQ ZZ WD=\ncheck 0 / QQ ZZ WD=\ncheck 0 / WD ZZ WD=\ncheck 0 / WD 0x1 WD WD=\ndacl / O:BAD:\ndacl / D:(A;;FA;;;QQ)\ntell\n",
+        "opened 1\nfault words\nfault words\nfault words\nfault words\nfault words\nfault open\nfault number\nnonotice\nfault number\nfault number\nfault path\nfault sid\nfault mask\nfault token\nfault parts\nfault sddl 5 UnknownAlias at 11\ntold 0\n",
+    ),
+    // One carriage return before a line feed is dropped, and only there; some lines ask for nothing.
+    (
+        "\n\r\n# publish\r\n#\ntell\r\ntell\r\r\n tell\ntell\r",
+        "fault open\nfault words\nfault words\nfault words\n",
+    ),
+];
+
+#[test]
+fn prints_the_output_of_scripts(rt: HostRuntime) -> Result<(), Fail> {
+    for (script, output) in &SCRIPTS {
+        let printed = script_output(rt.alloc(), Mode::Script, script.as_bytes())?;
+        assert_eq!(rt; printed.as_slice(), output.as_bytes(), "{script}");
+    }
+    Ok(())
+}
+
+#[test]
+fn lines_that_are_no_text(rt: HostRuntime) -> Result<(), Fail> {
+    let printed = script_output(rt.alloc(), Mode::Script, b"\xFF\n#\xFF\ntell")?;
+    assert_eq!(rt; printed.as_slice(), b"fault utf8\nfault open\n".as_slice());
+    Ok(())
+}
+
+#[test]
+fn lines_of_faults_and_verdicts(rt: HostRuntime) -> Result<(), Fail> {
+    let line = fault_line(rt.alloc(), "sid")?;
+    assert_eq!(rt; line.as_str(), "fault sid\n");
+    let line = sddl_fault_line(rt.alloc(), TextFault::DomainAlias, 2)?;
+    assert_eq!(rt; line.as_str(), "fault sddl 6 DomainAlias at 2\n");
+    let line = verdict_line(rt.alloc(), Verdict::Granted(Mask(0x1F01FF)))?;
+    assert_eq!(rt; line.as_str(), "granted 0x1f01ff\n");
+    Ok(())
+}
+
+#[test]
+fn tokens_of_words(rt: HostRuntime) -> Result<(), Fail> {
+    let user = read_sid_text("SY")?;
+    let words = ["BU", "WD=deny", "+take"];
+    assert!(rt; read_token(rt.alloc(), user, &words).is_ok());
+    let words = ["BU", "WD=none"];
+    assert!(rt;
+        matches!(
+            read_token(rt.alloc(), user, &words),
+            Err(TokenError::NoWord)
+        )
+    );
+    Ok(())
+}

@@ -1,0 +1,185 @@
+//! The words that make a token: a user's groups and privileges.
+ghost use Rattle.std.specs.Prelude.{◌≡◌, ◌++◌, ℕ, IfSome, IfNone, IfOk, List, codes};
+ghost use Rattle.sd_text.specs.Grammar.{Spells};
+ghost use Rattle.sd_text.specs.Sid.{sid_text};
+ghost use Rattle.sd_sid.specs.Sid.{SidValue};
+ghost use Rattle.sd_script.specs.declared.word.Word.{Word as WordValue};
+ghost use Rattle.sd_script.specs.declared.word.TokenError.TheVariants.{Memory};
+ghost use Rattle.sd_script.specs.Word.{IsWord, AreWords, IsNoWordIn, IsToken, groups_of, is_security, is_take_ownership, texts as texts_of, token_of};
+ghost use Rattle.std.specs.List.{list_any};
+
+use sd_check::{GroupState, Privileges, Token};
+use sd_sid::Sid;
+use sd_text::read_sid_text;
+use std::alloc::{AllocError, AllocFailed, Global};
+use thiserror::Error;
+
+/// What a word adds to the token.
+#[derive(Clone, Copy, Debug)]
+pub(crate) enum Word {
+    /// `SID`, `SID=deny` or `SID=off`: a group.
+    Group { sid: Sid, state: GroupState },
+    /// `+security`.
+    Security,
+    /// `+take`.
+    TakeOwnership,
+}
+
+impl Word {
+    fn is_security(&self) -> bool
+        ensures { result ≡ is_security self.now }
+    {
+        match self {
+            Word::Security => true,
+            _ => false,
+        }
+    }
+
+    fn is_take_ownership(&self) -> bool
+        ensures { result ≡ is_take_ownership self.now }
+    {
+        match self {
+            Word::TakeOwnership => true,
+            _ => false,
+        }
+    }
+}
+
+/// Why there is no token.
+#[derive(Clone, Copy, Debug, PartialEq, Eq, Error)]
+pub enum TokenError {
+    /// One of the texts is no such word.
+    #[error("a word is no group and no privilege")]
+    NoWord,
+    /// Memory was refused.
+    #[error("memory was refused")]
+    Memory,
+}
+
+impl From<AllocError> for TokenError {
+    ghost from_gives = { λ _ e. e ≡ Memory };
+
+    fn from(_error: AllocError) -> TokenError {
+        TokenError::Memory
+    }
+}
+
+impl<T: Drop> From<AllocFailed<T>> for TokenError {
+    ghost from_gives = { λ _ e. e ≡ Memory };
+
+    fn from(_error: AllocFailed<T>) -> TokenError {
+        TokenError::Memory
+    }
+}
+
+/// The SID that the text has before the ending.
+fn sid_before(text: &str, ending: &str) -> Option<Sid>
+    ensures found { IfSome result (λ sid. (front : List ℕ) × (text.now ≡ front ++ ending.now) × Spells sid_text front sid) }
+    ensures none { IfNone result ((front : List ℕ) (sid : SidValue) → text.now ≡ front ++ ending.now → Spells sid_text front sid → ⊥) }
+{
+    match text.strip_suffix(ending) {
+        None => None,
+        Some(front) => match read_sid_text(front) {
+            Ok(sid) => Some(sid),
+            Err(_) => None,
+        },
+    }
+}
+
+/// The word that the text is.
+fn read_word(text: &str) -> Option<Word>
+    ensures word { IfSome result (IsWord text.now) }
+    ensures none { IfNone result ((word : WordValue) → IsWord text.now word → ⊥) }
+{
+    if text == "+security" {
+        return Some(Word::Security);
+    }
+    if text == "+take" {
+        return Some(Word::TakeOwnership);
+    }
+    read_group(text)
+}
+
+/// The group that the text is.
+fn read_group(text: &str) -> Option<Word>
+    ensures word { IfSome result (IsWord text.now) }
+    ensures enabled { IfNone result ((sid : SidValue) → Spells sid_text text.now sid → ⊥) }
+    ensures deny_only { IfNone result ((front : List ℕ) (sid : SidValue) → text.now ≡ front ++ codes "=deny" → Spells sid_text front sid → ⊥) }
+    ensures disabled { IfNone result ((front : List ℕ) (sid : SidValue) → text.now ≡ front ++ codes "=off" → Spells sid_text front sid → ⊥) }
+{
+    if let Ok(sid) = read_sid_text(text) {
+        let state = GroupState::Enabled;
+        return Some(Word::Group { sid, state });
+    }
+    if let Some(sid) = sid_before(text, "=deny") {
+        let state = GroupState::DenyOnly;
+        return Some(Word::Group { sid, state });
+    }
+    if let Some(sid) = sid_before(text, "=off") {
+        let state = GroupState::Disabled;
+        return Some(Word::Group { sid, state });
+    }
+    None
+}
+
+/// The token of a user and of these words ([MS-DTYP] 2.5.2): each is a group, `SID`, `SID=deny` (it counts for denies
+/// alone) or `SID=off` (it counts for nothing), or a privilege, `+security` or `+take`. `NoWord` where one is neither.
+pub fn read_token(alloc: Global, user: Sid, texts: &[&str]) -> Result<Token, TokenError>
+    ensures token { IfOk result (λ token. IsToken user (texts_of texts.now) token) }
+    ensures no_word { result ≡ Err TokenError.NoWord → IsNoWordIn (texts_of texts.now) }
+{
+    let words = read_words(alloc, texts)?;
+    Ok(token_of(alloc, user, &words)?)
+}
+
+/// The words that the texts are, in order.
+fn read_words(alloc: Global, texts: &[&str]) -> Result<Vec<Word>, TokenError>
+    ensures words { IfOk result (λ words. AreWords (texts_of texts.now) words.items) }
+    ensures no_word { result ≡ Err TokenError.NoWord → IsNoWordIn (texts_of texts.now) }
+{
+    let mut words = Vec::new(alloc);
+    for text in texts {
+        match read_word(text) {
+            Some(word) => words.push(word)?,
+            None => return Err(TokenError::NoWord),
+        }
+    }
+    Ok(words)
+}
+
+/// The token of a user and words.
+fn token_of(alloc: Global, user: Sid, words: &[Word]) -> Result<Token, AllocError>
+    ensures { IfOk result (λ token. token ≡ token_of user words.now) }
+{
+    let groups = groups_in(alloc, words)?;
+    let privileges = Privileges {
+        security: has_security(words),
+        take_ownership: has_take_ownership(words),
+    };
+    Ok(Token::new(user, groups, privileges))
+}
+
+fn has_security(words: &[Word]) -> bool
+    ensures { result ≡ list_any is_security words.now }
+{
+    words.iter().any(|word| word.is_security())
+}
+
+fn has_take_ownership(words: &[Word]) -> bool
+    ensures { result ≡ list_any is_take_ownership words.now }
+{
+    words.iter().any(|word| word.is_take_ownership())
+}
+
+/// The groups among the words.
+fn groups_in(alloc: Global, words: &[Word]) -> Result<Vec<(Sid, GroupState)>, AllocError>
+    ensures { IfOk result (λ groups. groups.items ≡ groups_of words.now) }
+{
+    let mut groups = Vec::new(alloc);
+    for word in words {
+        if let Word::Group { sid, state } = word {
+            groups.push((*sid, *state))?;
+        }
+    }
+    Ok(groups)
+}

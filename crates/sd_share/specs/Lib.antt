@@ -1,0 +1,4 @@
+pub mod Kept
+pub mod Laws
+pub mod Machine
+pub mod Starts

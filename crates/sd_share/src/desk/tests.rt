@@ -1,0 +1,255 @@
+//! Two stories of a desk with two readers, and how none starts.
+
+use super::Desk;
+use crate::request::{Reply, Request};
+use crate::start::StartError;
+use sd_acl::{Ace, AceFlags, AceKind, Dacl, Descriptor, Verdict};
+use sd_check::{GroupState, Privileges, Token};
+use sd_sid::{GenericMapping, Mask, Sid};
+use sd_tree::{CheckReply, Edit, EditRefusal, Entries, NodeDacl, Path, RootSpec};
+use std::alloc::{AllocError, Global};
+use std::test::Fail;
+
+const READ: u32 = 0x0012_0089;
+
+const ALL: u32 = 0x001F_01FF;
+
+/// What is asked in a story. The reader's token is S-1-5-21-1-2-3-1001 with BUILTIN\Users, which asks for 0x1.
+#[derive(Clone, Copy)]
+enum Line {
+    Container(&'static str),
+    Object(&'static str),
+    Remove(&'static str),
+    Owner(&'static str),
+    Publish,
+    Tell,
+    Learn(u64, u64),
+    Check(u64, &'static str),
+    Show(u64, &'static str),
+}
+
+fn allow(flags: AceFlags, mask: u32, sid: Sid) -> Ace {
+    Ace {
+        kind: AceKind::Allow,
+        flags,
+        mask: Mask(mask),
+        sid,
+    }
+}
+
+/// No flag: what two of them have in common.
+fn no_flags() -> AceFlags {
+    AceFlags::OI & AceFlags::CI
+}
+
+fn list(alloc: Global, entries: &[Ace]) -> Result<NodeDacl, AllocError> {
+    let entries = Entries::new(Vec::from_slice(alloc, entries)?);
+    Ok(NodeDacl::List {
+        protected: false,
+        entries,
+    })
+}
+
+/// The root of the administrators and the system, with these entries.
+fn root(alloc: Global, entries: &[Ace]) -> Result<RootSpec, Fail> {
+    Ok(RootSpec {
+        owner: Sid::new(5, &[32, 544])?,
+        group: Sid::new(5, &[18])?,
+        dacl: list(alloc, entries)?,
+    })
+}
+
+fn started(alloc: Global, entries: &[Ace], readers: u64) -> Result<Desk, Fail> {
+    let root = root(alloc, entries)?;
+    Ok(Desk::start(alloc, &GenericMapping::file(), &root, readers)?)
+}
+
+fn token(alloc: Global) -> Result<Token, Fail> {
+    let users = Sid::new(5, &[32, 545])?;
+    let groups = vec![in alloc; (users, GroupState::Enabled)]?;
+    let user = Sid::new(5, &[21, 1, 2, 3, 1001])?;
+    Ok(Token::new(user, groups, Privileges::default()))
+}
+
+fn edit(alloc: Global, line: Line) -> Result<Edit, Fail> {
+    let users = Sid::new(5, &[32, 545])?;
+    let RootSpec { owner, group, dacl } = root(alloc, &[])?;
+    match line {
+        Line::Container(path) => Ok(Edit::AddContainer {
+            path: Path::read(alloc, path)?,
+            owner,
+            group,
+            dacl,
+        }),
+        Line::Object(path) => Ok(Edit::AddObject {
+            path: Path::read(alloc, path)?,
+            owner,
+            group,
+            dacl: list(alloc, &[allow(no_flags(), READ, users)])?,
+        }),
+        Line::Remove(path) => Ok(Edit::Remove {
+            path: Path::read(alloc, path)?,
+        }),
+        Line::Owner(path) => Ok(Edit::SetOwner {
+            path: Path::read(alloc, path)?,
+            owner: users,
+        }),
+        _ => Err("an edit".into()),
+    }
+}
+
+fn request(alloc: Global, line: Line) -> Result<Request, Fail> {
+    match line {
+        Line::Publish => Ok(Request::Publish),
+        Line::Tell => Ok(Request::Tell),
+        Line::Learn(reader, length) => Ok(Request::Learn { reader, length }),
+        Line::Check(reader, path) => Ok(Request::Check {
+            reader,
+            path: Path::read(alloc, path)?,
+            token: token(alloc)?,
+            asked: Mask(0x1),
+        }),
+        Line::Show(reader, path) => Ok(Request::Show {
+            reader,
+            path: Path::read(alloc, path)?,
+        }),
+        edited => Ok(Request::Edit(edit(alloc, edited)?)),
+    }
+}
+
+fn requests(alloc: Global, lines: &[Line]) -> Result<Vec<Request>, Fail> {
+    let mut requests = Vec::new(alloc);
+    for line in lines {
+        requests.push(request(alloc, *line)?)?;
+    }
+    Ok(requests)
+}
+
+/// The kind of a reply, its length or number, and what is granted.
+fn outline(reply: &Reply) -> (&'static str, u64, u32) {
+    match reply {
+        Reply::Edited => ("ok", 0, 0),
+        Reply::Refused(refusal) => ("refused", u64::from(refusal.number()), 0),
+        Reply::Published(length) => ("published", *length, 0),
+        Reply::Told(length) => ("told", *length, 0),
+        Reply::Learned(length) => ("learned", *length, 0),
+        Reply::Answered(answer) => match answer.reply {
+            CheckReply::NoNode => ("nonode", answer.seen, 0),
+            CheckReply::Verdict(Verdict::Granted(mask)) => ("granted", answer.seen, mask.bits()),
+            CheckReply::Verdict(_) => ("not granted", answer.seen, 0),
+        },
+        Reply::Shown { seen, .. } => ("shown", *seen, 0),
+        Reply::NoReader => ("noreader", 0, 0),
+        Reply::NoNotice => ("nonotice", 0, 0),
+        Reply::Memory => ("memory", 0, 0),
+    }
+}
+
+#[test]
+fn steps(rt: HostRuntime) -> Result<(), Fail> {
+    let administrators = Sid::new(5, &[32, 544])?;
+    let entries = [allow(AceFlags::OI | AceFlags::CI, ALL, administrators)];
+    let mut desk = started(rt.alloc(), &entries, 2)?;
+    let rows = [
+        (Line::Object("/a"), ("ok", 0, 0)),
+        (Line::Check(0, "/a"), ("nonode", 0, 0)),
+        (Line::Publish, ("published", 1, 0)),
+        (Line::Tell, ("told", 1, 0)),
+        (Line::Learn(0, 1), ("learned", 1, 0)),
+        (Line::Check(0, "/a"), ("granted", 1, 0x1)),
+        (Line::Object("/a"), ("refused", 3, 0)),
+        (Line::Show(0, "/a"), ("shown", 1, 0)),
+        (Line::Publish, ("published", 1, 0)),
+    ];
+    for (line, wanted) in rows {
+        let reply = desk.step(&request(rt.alloc(), line)?);
+        assert_eq!(rt; outline(&reply), wanted);
+    }
+    assert_eq!(rt; desk.journal().len(), 1);
+    Ok(())
+}
+
+#[test]
+fn runs(rt: HostRuntime) -> Result<(), Fail> {
+    let rows = [
+        (Line::Container("/a"), ("ok", 0, 0)),
+        (Line::Object("/a/b"), ("ok", 0, 0)),
+        (Line::Remove("/a"), ("refused", 5, 0)),
+        (Line::Check(1, "/a/b"), ("nonode", 0, 0)),
+        (Line::Publish, ("published", 2, 0)),
+        (Line::Check(1, "/a/b"), ("granted", 2, 0x1)),
+        (Line::Learn(1, 3), ("nonotice", 0, 0)),
+        (Line::Learn(1, 1), ("learned", 2, 0)),
+        (Line::Learn(2, 9), ("noreader", 0, 0)),
+        (Line::Owner("/a/b"), ("ok", 0, 0)),
+        (Line::Tell, ("told", 2, 0)),
+    ];
+    let requests = requests(rt.alloc(), &rows.map(|(line, _)| line))?;
+    let mut desk = started(rt.alloc(), &[], 2)?;
+    let replies = desk.run(&requests)?;
+    assert_eq!(rt; replies.len(), rows.len());
+    for (reply, (_, wanted)) in replies.iter().zip(rows) {
+        assert_eq!(rt; outline(reply), wanted);
+    }
+    Ok(())
+}
+
+/// The descriptor of `/a`, once it is published below such a root.
+fn shown(alloc: Global, entries: &[Ace]) -> Result<Option<Descriptor>, Fail> {
+    let mut desk = started(alloc, entries, 1)?;
+    for line in [Line::Object("/a"), Line::Publish] {
+        let _ = desk.step(&request(alloc, line)?);
+    }
+    match desk.step(&request(alloc, Line::Show(0, "/a"))?) {
+        Reply::Shown { descriptor, .. } => Ok(descriptor),
+        _ => Ok(None),
+    }
+}
+
+fn entries(descriptor: &Descriptor) -> &[Ace] {
+    match &descriptor.dacl {
+        Dacl::List(list) => list.entries(),
+        Dacl::Absent | Dacl::Null => &[],
+    }
+}
+
+#[test]
+fn shows_what_was_inherited(rt: HostRuntime) -> Result<(), Fail> {
+    let administrators = Sid::new(5, &[32, 544])?;
+    let users = Sid::new(5, &[32, 545])?;
+    let above = [allow(AceFlags::OI | AceFlags::CI, ALL, administrators)];
+    let descriptor = shown(rt.alloc(), &above)?.ok_or("it is shown")?;
+    let wanted = [
+        allow(no_flags(), READ, users),
+        allow(AceFlags::ID, ALL, administrators),
+    ];
+    assert_eq!(rt; entries(&descriptor), wanted.as_slice());
+    assert_eq!(rt; descriptor.owner, Some(administrators));
+    assert!(rt; descriptor.auto_inherited && !descriptor.protected);
+    Ok(())
+}
+
+#[test]
+fn refuses_to_start(rt: HostRuntime) -> Result<(), Fail> {
+    let users = Sid::new(5, &[32, 545])?;
+    let disordered = [
+        allow(no_flags(), 1, users),
+        Ace {
+            kind: AceKind::Deny,
+            ..allow(no_flags(), 1, users)
+        },
+    ];
+    let root = root(rt.alloc(), &disordered)?;
+    let file = GenericMapping::file();
+    let rows = [
+        (0, StartError::Readers, 1),
+        (65, StartError::Readers, 1),
+        (64, StartError::Root(EditRefusal::NotCanonical), 2),
+    ];
+    for (readers, wanted, number) in rows {
+        let error = Desk::start(rt.alloc(), &file, &root, readers).err();
+        assert_eq!(rt; error, Some(wanted), "{readers}");
+        assert_eq!(rt; wanted.number(), number, "{readers}");
+    }
+    Ok(())
+}

@@ -1,0 +1,30 @@
+//! The machine of one thread: a published tree, the edits that wait, and the readers that ask.
+//!
+//! A desk takes one request after the other. Accepted edits wait until a publish shows them all at once; each reader
+//! has a floor, the beginning of the published journal that it has seen, which never falls. An answer tells the length
+//! of the journal that it was given by. The rules are told in docs/SCRIPT.md.
+//!
+//! ```text
+//! let mut desk = Desk::start(alloc, &GenericMapping::file(), &root, 2)?;
+//! desk.step(&Request::Edit(edit));
+//! desk.step(&Request::Publish);
+//! match desk.step(&Request::Check { reader: 0, path, token, asked: Mask(0x1) }) {
+//!     Reply::Answered(answer) => ..,
+//!     ..
+//! }
+//! ```
+#![tactic(auto)]
+
+mod desk;
+mod draft;
+mod laws;
+mod request;
+mod start;
+
+pub use desk::Desk;
+pub use laws::{
+    answers_are_of_the_published, failure_changes_nothing, floors_never_fall, opening_stays,
+    publish_is_whole, runs_are_sound,
+};
+pub use request::{Answer, Reply, Request};
+pub use start::{MAX_READERS, StartError};

@@ -1,8 +1,0 @@
-use Rattle.std.proofs.Common.{Err, ap}
-use Rattle.sd_text.specs.Sid.{sid_text}
-use Rattle.sd_tool.proofs.Words.{not_spelled}
-use Rattle.sd_tool.proofs.word.read_group.Goals as goal
-
-pub returns-clause-enabled : goal.returns-clause-enabled
-returns-clause-enabled c =
-    not_spelled sid_text c.args.text.now c.in_default.field-0 c.in_default.ensures.fault (λ memory. c.in_default.ensures.no_memory (ap Err memory))

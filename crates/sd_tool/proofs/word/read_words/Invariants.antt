@@ -1,7 +1,0 @@
--- The words so far are those of the texts so far.
-use Rattle.std.proofs.Common.{take}
-use Rattle.sd_tool.specs.Word.{AreWords}
-use Rattle.sd_tool.proofs.word.read_words.Given as goal
-
-abbrev pub invariant-loop-text : goal.invariant-loop-text
-invariant-loop-text l = AreWords (take l.text-index l.texts) l.words.items
