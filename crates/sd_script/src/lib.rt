@@ -28,8 +28,8 @@ mod word;
 
 pub use answer::{fault_line, sddl_fault_line, verdict_line};
 pub use mode::Mode;
-pub use streams::run;
 pub use script::script_output;
+pub use streams::run;
 pub use word::{TokenError, read_token};
 
 #[cfg(test)]

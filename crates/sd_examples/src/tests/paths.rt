@@ -15,7 +15,11 @@ const PATHS: [&str; 7] = ["/", "/a", "/a/b", "/.", "/..", "/a/../b", "/grüße/�
 #[test]
 fn a_path_begins_with_a_slash_and_has_no_empty_name(rt: HostRuntime) {
     for text in &NO_PATHS {
-        assert_eq!(rt; fault(rt.alloc(), text), Some(PathError::Syntax), "{text:?}");
+        assert_eq!(rt;
+            fault(rt.alloc(), text),
+            Some(PathError::Syntax),
+            "{text:?}"
+        );
     }
     for text in &PATHS {
         assert_eq!(rt; fault(rt.alloc(), text), None, "{text:?}");
