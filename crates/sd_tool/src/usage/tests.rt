@@ -204,7 +204,7 @@ fn takes_later_dashes_as_arguments(rt: HostRuntime) -> Result<(), AllocError> {
 
 #[test]
 fn gives_no_help_beside_other_words(rt: HostRuntime) -> Result<(), AllocError> {
-    let rows: [&[&str]; 18] = [
+    let rows: [&[&str]; 15] = [
         &["-h", "-h"],
         &["-hh"],
         &["-hV"],

@@ -62,7 +62,7 @@ fn tells_of_a_reader_that_fails(rt: HostRuntime) {
     let ended = carry_out(rt.alloc(), Interrupted);
     assert_eq!(rt; ended.status, 3);
     assert!(rt; ended.output.is_empty());
-    assert_eq!(rt; ended.errors.as_slice(), b"sdstore: read\n");
+    assert_eq!(rt; ended.errors.as_slice(), b"sdstore: read\n".as_slice());
 }
 
 #[test]
@@ -70,5 +70,5 @@ fn tells_of_a_script_that_is_too_long(rt: HostRuntime) {
     let ended = carry_out(rt.alloc(), io::repeat(b'#'));
     assert_eq!(rt; ended.status, 3);
     assert!(rt; ended.output.is_empty());
-    assert_eq!(rt; ended.errors.as_slice(), b"sdstore: too long\n");
+    assert_eq!(rt; ended.errors.as_slice(), b"sdstore: too long\n".as_slice());
 }
