@@ -4,9 +4,8 @@ use Rattle.std.specs.Fmt.{decimal}
 use Rattle.sd_acl.specs.Descriptor.{descriptor_of}
 use Rattle.sd_acl.specs.declared.descriptor.Descriptor.{Descriptor}
 use Rattle.sd_text.specs.Canon.{canon}
-use Rattle.sd_tree.specs.Refusals.{number_of}
+use Rattle.sd_tree.specs.Refusals.{number_of, name_of}
 use Rattle.sd_tree.specs.declared.refusal.EditRefusal.{EditRefusal}
-use Rattle.sd_tree.specs.declared.refusal.EditRefusal.TheVariants.{NoParent, ParentIsObject, Exists, NoNode, NotEmpty, IsRoot, InheritedEntry, NotCanonical, AclTooLarge, TooDeep, NodesFull, JournalFull}
 use Rattle.sd_tree.specs.declared.tree.CheckReply.{CheckReply}
 use Rattle.sd_tree.specs.declared.tree.CheckReply.TheVariants as checks
 use Rattle.sd_share.specs.declared.request.Reply.{Reply}
@@ -15,23 +14,8 @@ use Rattle.sd_share.specs.declared.start.StartError.{StartError}
 use Rattle.sd_share.specs.declared.start.StartError.TheVariants as starts
 use Rattle.sd_script.specs.Answer.{line, verdict_line}
 
--- the name by which a refusal is printed
-abbrev pub refusal_name : EditRefusal → List ℕ
-refusal_name NoParent = codes "NoParent"
-refusal_name ParentIsObject = codes "ParentIsObject"
-refusal_name Exists = codes "Exists"
-refusal_name NoNode = codes "NoNode"
-refusal_name NotEmpty = codes "NotEmpty"
-refusal_name IsRoot = codes "IsRoot"
-refusal_name InheritedEntry = codes "InheritedEntry"
-refusal_name NotCanonical = codes "NotCanonical"
-refusal_name AclTooLarge = codes "AclTooLarge"
-refusal_name TooDeep = codes "TooDeep"
-refusal_name NodesFull = codes "NodesFull"
-refusal_name JournalFull = codes "JournalFull"
-
 abbrev pub refused_line : EditRefusal → List ℕ
-refused_line refusal = line (codes "refused " ++ decimal (number_of refusal) ++ codes " " ++ refusal_name refusal)
+refused_line refusal = line (codes "refused " ++ decimal (number_of refusal) ++ codes " " ++ name_of refusal)
 
 -- a word, and a number behind it
 abbrev pub counted_line : List ℕ → ℕ → List ℕ

@@ -74,7 +74,7 @@ pub(crate) fn node_in(alloc: Global, word: &str) -> Result<RootSpec, Stop>
     ensures { UnlessMemory (node word.now) result }
 {
     match read_sddl(alloc, word) {
-        Ok(descriptor) => Ok(node_of(alloc, &descriptor)?),
+        Ok(descriptor) => node_of(alloc, &descriptor),
         Err(TextError::Fault { fault, place }) => {
             Err(Stop::Fault(LineFault::Sddl { fault, place }))
         }
@@ -87,7 +87,7 @@ pub(crate) fn dacl_in(alloc: Global, word: &str) -> Result<NodeDacl, Stop>
     ensures { UnlessMemory (dacl word.now) result }
 {
     match read_sddl(alloc, word) {
-        Ok(descriptor) => Ok(dacl_of(alloc, &descriptor)?),
+        Ok(descriptor) => dacl_of(alloc, &descriptor),
         Err(TextError::Fault { fault, place }) => {
             Err(Stop::Fault(LineFault::Sddl { fault, place }))
         }

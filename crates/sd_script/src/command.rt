@@ -91,46 +91,22 @@ impl CommandName {
     fn named(word: &str) -> Option<CommandName>
         ensures { result ≡ command_named word.now }
     {
-        if word == "open" {
-            return Some(CommandName::Open);
+        match word {
+            "open" => Some(CommandName::Open),
+            "addc" => Some(CommandName::AddContainer),
+            "addo" => Some(CommandName::AddObject),
+            "owner" => Some(CommandName::SetOwner),
+            "group" => Some(CommandName::SetGroup),
+            "dacl" => Some(CommandName::SetDacl),
+            "remove" => Some(CommandName::Remove),
+            "protect" => Some(CommandName::Protect),
+            "publish" => Some(CommandName::Publish),
+            "tell" => Some(CommandName::Tell),
+            "learn" => Some(CommandName::Learn),
+            "check" => Some(CommandName::Check),
+            "show" => Some(CommandName::Show),
+            _ => None,
         }
-        if word == "addc" {
-            return Some(CommandName::AddContainer);
-        }
-        if word == "addo" {
-            return Some(CommandName::AddObject);
-        }
-        if word == "owner" {
-            return Some(CommandName::SetOwner);
-        }
-        if word == "group" {
-            return Some(CommandName::SetGroup);
-        }
-        if word == "dacl" {
-            return Some(CommandName::SetDacl);
-        }
-        if word == "remove" {
-            return Some(CommandName::Remove);
-        }
-        if word == "protect" {
-            return Some(CommandName::Protect);
-        }
-        if word == "publish" {
-            return Some(CommandName::Publish);
-        }
-        if word == "tell" {
-            return Some(CommandName::Tell);
-        }
-        if word == "learn" {
-            return Some(CommandName::Learn);
-        }
-        if word == "check" {
-            return Some(CommandName::Check);
-        }
-        if word == "show" {
-            return Some(CommandName::Show);
-        }
-        None
     }
 }
 

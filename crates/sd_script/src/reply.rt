@@ -1,6 +1,6 @@
 //! The line of each reply of a store.
 ghost use Rattle.std.specs.Prelude.{◌≡◌, Some, IfOk, codes, string_bytes};
-ghost use Rattle.sd_script.specs.Reply.{check_line, counted_line, refusal_name, refused_line, reply_line, seen_line, shown_line, start_error_line};
+ghost use Rattle.sd_script.specs.Reply.{check_line, counted_line, refused_line, reply_line, seen_line, shown_line, start_error_line};
 
 use crate::answer::verdict_line;
 use sd_acl::Descriptor;
@@ -56,7 +56,7 @@ fn refused_line(alloc: Global, refusal: EditRefusal) -> Result<String, AllocErro
     ensures { IfOk result (λ text. string_bytes text ≡ refused_line refusal) }
 {
     let number = refusal.number();
-    let name = refusal_name(refusal);
+    let name = refusal.name();
     let text = format!(in alloc; "refused {number} {name}\n")?;
     Ok(text)
 }
@@ -87,25 +87,5 @@ fn shown_line(alloc: Global, descriptor: &Option<Descriptor>) -> Result<String, 
             let sddl = print_sddl(alloc, descriptor)?;
             format!(in alloc; "shown {sddl}\n")
         }
-    }
-}
-
-/// The name by which a refusal is printed.
-fn refusal_name(refusal: EditRefusal) -> &'static str
-    ensures { result.now ≡ refusal_name refusal }
-{
-    match refusal {
-        EditRefusal::NoParent => "NoParent",
-        EditRefusal::ParentIsObject => "ParentIsObject",
-        EditRefusal::Exists => "Exists",
-        EditRefusal::NoNode => "NoNode",
-        EditRefusal::NotEmpty => "NotEmpty",
-        EditRefusal::IsRoot => "IsRoot",
-        EditRefusal::InheritedEntry => "InheritedEntry",
-        EditRefusal::NotCanonical => "NotCanonical",
-        EditRefusal::AclTooLarge => "AclTooLarge",
-        EditRefusal::TooDeep => "TooDeep",
-        EditRefusal::NodesFull => "NodesFull",
-        EditRefusal::JournalFull => "JournalFull",
     }
 }

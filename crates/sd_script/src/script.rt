@@ -45,9 +45,9 @@ fn answer_line(
         return Ok(String::new(alloc));
     }
     match read_line(alloc, mode, desk.is_some(), line) {
-        Ok(Asked::Opening { readers, root }) => Ok(open_store(alloc, desk, readers, &root)?),
-        Ok(Asked::Asking(request)) => Ok(ask(alloc, desk, &request)?),
-        Err(Stop::Fault(fault)) => Ok(line_of_fault(alloc, fault)?),
+        Ok(Asked::Opening { readers, root }) => open_store(alloc, desk, readers, &root),
+        Ok(Asked::Asking(request)) => ask(alloc, desk, &request),
+        Err(Stop::Fault(fault)) => line_of_fault(alloc, fault),
         Err(Stop::Memory) => Err(AllocError),
     }
 }
@@ -64,11 +64,11 @@ fn open_store(
     match Desk::start(alloc, &GenericMapping::file(), root, readers) {
         Ok(started) => {
             *desk = Some(started);
-            Ok(counted_line(alloc, "opened", readers)?)
+            counted_line(alloc, "opened", readers)
         }
         Err(error) => {
             *desk = None;
-            Ok(start_error_line(alloc, error)?)
+            start_error_line(alloc, error)
         }
     }
 }
@@ -81,7 +81,7 @@ fn ask(alloc: Global, desk: &mut Option<Desk>, request: &Request) -> Result<Stri
     match desk {
         Some(desk) => {
             let reply = desk.step(request);
-            Ok(reply_line(alloc, &reply)?)
+            reply_line(alloc, &reply)
         }
         None => unreachable!(),
     }

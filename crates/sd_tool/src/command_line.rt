@@ -53,22 +53,14 @@ impl CommandName {
     fn named(word: &str) -> Option<CommandName>
         ensures { result ≡ command_named word.now }
     {
-        if word == "verdict" {
-            return Some(CommandName::Verdict);
+        match word {
+            "verdict" => Some(CommandName::Verdict),
+            "print" => Some(CommandName::Print),
+            "tobin" => Some(CommandName::ToBinary),
+            "frombin" => Some(CommandName::FromBinary),
+            "script" => Some(CommandName::Script),
+            _ => None,
         }
-        if word == "print" {
-            return Some(CommandName::Print);
-        }
-        if word == "tobin" {
-            return Some(CommandName::ToBinary);
-        }
-        if word == "frombin" {
-            return Some(CommandName::FromBinary);
-        }
-        if word == "script" {
-            return Some(CommandName::Script);
-        }
-        None
     }
 }
 

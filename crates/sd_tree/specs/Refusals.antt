@@ -1,5 +1,5 @@
 -- Why an edit is refused: tests in order, of which the first that fits answers.
-use Rattle.std.specs.Prelude.{ℕ, Bool, true, false, not, ◌&&◌, nat_lt, nat_le, cond, List, [], ◌∷◌, ◌++◌, length, Option, Some, None, is_some}
+use Rattle.std.specs.Prelude.{ℕ, Bool, true, false, not, ◌&&◌, nat_lt, nat_le, cond, List, [], ◌∷◌, ◌++◌, length, Option, Some, None, is_some, codes}
 use Rattle.std.specs.List.{list_any}
 use Rattle.std.specs.Option.{option_or}
 use Rattle.std.specs.Ordering.{is_eq}
@@ -123,6 +123,21 @@ number_of AclTooLarge = 9
 number_of TooDeep = 10
 number_of NodesFull = 11
 number_of JournalFull = 12
+
+-- and its name
+abbrev pub name_of : EditRefusal → List ℕ
+name_of NoParent = codes "NoParent"
+name_of ParentIsObject = codes "ParentIsObject"
+name_of Exists = codes "Exists"
+name_of NoNode = codes "NoNode"
+name_of NotEmpty = codes "NotEmpty"
+name_of IsRoot = codes "IsRoot"
+name_of InheritedEntry = codes "InheritedEntry"
+name_of NotCanonical = codes "NotCanonical"
+name_of AclTooLarge = codes "AclTooLarge"
+name_of TooDeep = codes "TooDeep"
+name_of NodesFull = codes "NodesFull"
+name_of JournalFull = codes "JournalFull"
 
 -- the refusals that are found without memory: 1 to 8
 abbrev pub is_early : Option EditRefusal → Bool

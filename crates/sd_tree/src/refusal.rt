@@ -1,7 +1,7 @@
 //! Why an edit is refused.
 
 ghost use Rattle.std.specs.Prelude.{◌≡◌};
-ghost use Rattle.sd_tree.specs.Refusals.{number_of};
+ghost use Rattle.sd_tree.specs.Refusals.{number_of, name_of};
 
 use std::alloc::{AllocError, AllocFailed};
 use thiserror::Error;
@@ -65,6 +65,26 @@ impl EditRefusal {
             EditRefusal::TooDeep => 10,
             EditRefusal::NodesFull => 11,
             EditRefusal::JournalFull => 12,
+        }
+    }
+
+    /// The refusal's name.
+    pub fn name(self) -> &'static str
+        ensures { result.now ≡ name_of self }
+    {
+        match self {
+            EditRefusal::NoParent => "NoParent",
+            EditRefusal::ParentIsObject => "ParentIsObject",
+            EditRefusal::Exists => "Exists",
+            EditRefusal::NoNode => "NoNode",
+            EditRefusal::NotEmpty => "NotEmpty",
+            EditRefusal::IsRoot => "IsRoot",
+            EditRefusal::InheritedEntry => "InheritedEntry",
+            EditRefusal::NotCanonical => "NotCanonical",
+            EditRefusal::AclTooLarge => "AclTooLarge",
+            EditRefusal::TooDeep => "TooDeep",
+            EditRefusal::NodesFull => "NodesFull",
+            EditRefusal::JournalFull => "JournalFull",
         }
     }
 }

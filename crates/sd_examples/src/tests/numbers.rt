@@ -1,25 +1,26 @@
-//! The numbers of the refusals.
+//! The numbers and the names of the refusals.
 
 use super::*;
 
-const NUMBERS: [(EditRefusal, u8); 12] = [
-    (EditRefusal::NoParent, 1),
-    (EditRefusal::ParentIsObject, 2),
-    (EditRefusal::Exists, 3),
-    (EditRefusal::NoNode, 4),
-    (EditRefusal::NotEmpty, 5),
-    (EditRefusal::IsRoot, 6),
-    (EditRefusal::InheritedEntry, 7),
-    (EditRefusal::NotCanonical, 8),
-    (EditRefusal::AclTooLarge, 9),
-    (EditRefusal::TooDeep, 10),
-    (EditRefusal::NodesFull, 11),
-    (EditRefusal::JournalFull, 12),
+const NUMBERS: [(EditRefusal, u8, &str); 12] = [
+    (EditRefusal::NoParent, 1, "NoParent"),
+    (EditRefusal::ParentIsObject, 2, "ParentIsObject"),
+    (EditRefusal::Exists, 3, "Exists"),
+    (EditRefusal::NoNode, 4, "NoNode"),
+    (EditRefusal::NotEmpty, 5, "NotEmpty"),
+    (EditRefusal::IsRoot, 6, "IsRoot"),
+    (EditRefusal::InheritedEntry, 7, "InheritedEntry"),
+    (EditRefusal::NotCanonical, 8, "NotCanonical"),
+    (EditRefusal::AclTooLarge, 9, "AclTooLarge"),
+    (EditRefusal::TooDeep, 10, "TooDeep"),
+    (EditRefusal::NodesFull, 11, "NodesFull"),
+    (EditRefusal::JournalFull, 12, "JournalFull"),
 ];
 
 #[test]
-fn each_refusal_has_its_number(rt: HostRuntime) {
-    for (refusal, number) in &NUMBERS {
+fn each_refusal_has_its_number_and_its_name(rt: HostRuntime) {
+    for (refusal, number, name) in &NUMBERS {
         assert_eq!(rt; refusal.number(), *number);
+        assert_eq!(rt; refusal.name(), *name);
     }
 }

@@ -3,4 +3,4 @@ use Rattle.std.proofs.Common.{append_assoc}
 use Rattle.sd_script.proofs.reply.refused_line.Goals as goal
 
 pub returns : goal.returns
-returns c = rw (c.in_ok-text.ensures.ok, c.number-number.ensures, c.refusal_name-name.ensures) (simp append_assoc)
+returns c = rw (c.in_ok-text.ensures.ok, c.number-number.ensures, c.name-name.ensures) (simp append_assoc)
