@@ -1,0 +1,211 @@
+"""Scripts by the rules of docs/SCRIPT.md, docs/TREE.md and docs/CHECK.md: a second implementation, for comparison alone.
+
+It shares nothing with the first: it keeps what was given to each node, and works out each DACL anew from the root down.
+"""
+from dataclasses import dataclass, field, replace
+
+OI, CI, NP, IO, ID, SA, FA = 0x01, 0x02, 0x04, 0x08, 0x10, 0x40, 0x80
+FLAGS = {"OI": OI, "CI": CI, "NP": NP, "IO": IO, "ID": ID, "SA": SA, "FA": FA}
+GENERIC = {0x80000000: 0x120089, 0x40000000: 0x120116, 0x20000000: 0x1200A0, 0x10000000: 0x1F01FF}
+MAXIMUM_ALLOWED, RESERVED, RIGHTS = 0x02000000, 0x0CE00000, 21
+READ_CONTROL, WRITE_DAC, WRITE_OWNER, SYSTEM_SECURITY = 17, 18, 19, 24
+
+# A SID is an authority and its sub-authorities.
+ALIASES = {
+    "WD": (1, (0,)), "CO": (3, (0,)), "CG": (3, (1,)), "OW": (3, (4,)), "SY": (5, (18,)), "AU": (5, (11,)),
+    "BA": (5, (32, 544)), "BU": (5, (32, 545)), "BG": (5, (32, 546)),
+}
+CREATOR_OWNER, CREATOR_GROUP, OWNER_RIGHTS = ALIASES["CO"], ALIASES["CG"], ALIASES["OW"]
+RIGHT_NAMES = {
+    0x1F01FF: "FA", 0x120089: "FR", 0x120116: "FW", 0x1200A0: "FX", 0xF003F: "KA", 0x20019: "KR", 0x20006: "KW",
+    0x10000000: "GA", 0x80000000: "GR", 0x40000000: "GW", 0x20000000: "GX", 0x10000: "SD", 0x20000: "RC",
+    0x40000: "WD", 0x80000: "WO",
+}
+REFUSALS = [
+    "NoParent", "ParentIsObject", "Exists", "NoNode", "NotEmpty", "IsRoot", "InheritedEntry", "NotCanonical",
+    "AclTooLarge", "TooDeep", "NodesFull", "JournalFull",
+]
+
+
+@dataclass(frozen=True)
+class Entry:
+    kind: str
+    flags: int
+    mask: int
+    sid: tuple
+
+
+@dataclass(frozen=True)
+class Node:
+    is_container: bool
+    owner: tuple
+    group: tuple
+    # None is a null DACL; else whether it is protected, and its own entries
+    dacl: tuple
+
+
+def sid_text(sid):
+    for alias, known in ALIASES.items():
+        if sid == known:
+            return alias
+    return "S-1-%d-%s" % (sid[0], "-".join(map(str, sid[1])))
+
+
+def entry_text(e):
+    flags = "".join(name for name, bit in FLAGS.items() if e.flags & bit)
+    return "(%s;%s;%s;;;%s)" % (e.kind, flags, RIGHT_NAMES.get(e.mask, hex(e.mask)), sid_text(e.sid))
+
+
+def mapped(mask):
+    own = mask & 0x0FFFFFFF
+    for bit, stands_for in GENERIC.items():
+        if mask & bit:
+            own |= stands_for
+    return own
+
+
+def handed_on(e, child):
+    kept = e.flags & (SA | FA)
+    subject = {CREATOR_OWNER: child.owner, CREATOR_GROUP: child.group}.get(e.sid, e.sid)
+    effective = Entry(e.kind, ID | kept, mapped(e.mask), subject)
+    waiting = replace(e, flags=(e.flags & (OI | CI)) | IO | ID | kept)
+    whole = replace(e, flags=(e.flags & (OI | CI)) | ID | kept)
+    objects, containers, stops = e.flags & OI, e.flags & CI, e.flags & NP
+    if not child.is_container:
+        return [effective] if objects else []
+    if containers and stops:
+        return [effective]
+    if containers:
+        is_split = e.mask & 0xF0000000 or e.sid in (CREATOR_OWNER, CREATOR_GROUP)
+        return [effective, waiting] if is_split else [whole]
+    return [waiting] if objects and not stops else []
+
+
+def list_refusal(dacl):
+    if dacl is None:
+        return None
+    kinds = "".join(e.kind for e in dacl[1])
+    if any(e.flags & ID for e in dacl[1]):
+        return "InheritedEntry"
+    return "NotCanonical" if "AD" in kinds else None
+
+
+@dataclass
+class Tree:
+    nodes: dict
+    length: int = 0
+
+    def dacl(self, path):
+        node = self.nodes[path]
+        if node.dacl is None:
+            return None
+        protected, own = node.dacl
+        if protected or not path:
+            return list(own)
+        return list(own) + [copy for e in self.dacl(path[:-1]) or [] for copy in handed_on(e, node)]
+
+    def has_large_dacl(self):
+        lists = [self.dacl(path) or [] for path in self.nodes]
+        return any(8 + sum(16 + 4 * len(e.sid[1]) for e in entries) > 65535 for entries in lists)
+
+    def apply(self, edit, path, given):
+        """Makes the edit, and answers None, or the name of its refusal."""
+        is_addition = edit in ("addc", "addo")
+        if is_addition:
+            if path and path[:-1] not in self.nodes:
+                return "NoParent"
+            if path and not self.nodes[path[:-1]].is_container:
+                return "ParentIsObject"
+            if path in self.nodes:
+                return "Exists"
+        elif path not in self.nodes:
+            return "NoNode"
+        if edit == "remove":
+            if any(other[: len(path)] == path for other in self.nodes if other != path):
+                return "NotEmpty"
+            if not path:
+                return "IsRoot"
+        dacl = given.dacl if is_addition else given if edit == "dacl" else None
+        if refusal := list_refusal(dacl):
+            return refusal
+        after = Tree(dict(self.nodes))
+        if is_addition:
+            after.nodes[path] = given
+        elif edit == "remove":
+            del after.nodes[path]
+        elif edit == "protect":
+            whole = self.dacl(path)
+            if whole is not None:
+                explicit = [replace(e, flags=e.flags & ~ID) for e in whole]
+                ordered = [e for e in explicit if e.kind == "D"] + [e for e in explicit if e.kind == "A"]
+                after.nodes[path] = replace(self.nodes[path], dacl=(True, ordered))
+        else:
+            part = {"owner": "owner", "group": "group", "dacl": "dacl"}[edit]
+            after.nodes[path] = replace(self.nodes[path], **{part: given})
+        if after.has_large_dacl():
+            return "AclTooLarge"
+        if is_addition and len(path) > 64:
+            return "TooDeep"
+        if is_addition and len(self.nodes) >= 65536:
+            return "NodesFull"
+        self.nodes = after.nodes
+        self.length += 1
+        return None
+
+    def copy(self):
+        return Tree(dict(self.nodes), self.length)
+
+    def shown(self, path):
+        node = self.nodes[path]
+        whole = self.dacl(path)
+        words = "NO_ACCESS_CONTROL" if whole is None else ("P" if node.dacl[0] else "") + "AI"
+        return "O:%sG:%sD:%s%s" % (sid_text(node.owner), sid_text(node.group), words, "".join(map(entry_text, whole or [])))
+
+
+@dataclass
+class Token:
+    user: tuple
+    groups: list = field(default_factory=list)
+    security: bool = False
+    take: bool = False
+
+
+def verdict(owner, dacl, token, asked):
+    """Each bit by itself, by the first effective entry that applies and names it."""
+
+    def applies(kind, sid):
+        subject = owner if sid == OWNER_RIGHTS else sid
+        states = [state for group, state in token.groups if group == subject]
+        return subject == token.user or "" in states or (kind == "D" and "=deny" in states)
+
+    effective = [] if dacl is None else [e for e in dacl if not e.flags & IO]
+    owners = applies("A", owner) and not any(e.sid == OWNER_RIGHTS for e in effective)
+
+    def granted(bit):
+        by_entries = dacl is None
+        for e in effective:
+            if mapped(e.mask) >> bit & 1 and applies(e.kind, e.sid):
+                by_entries = e.kind == "A"
+                break
+        return (
+            (bit < RIGHTS and by_entries)
+            or (bit in (READ_CONTROL, WRITE_DAC) and owners)
+            or (bit == WRITE_OWNER and token.take)
+            or (bit == SYSTEM_SECURITY and token.security)
+        )
+
+    if asked == 0:
+        return "empty"
+    if asked & RESERVED:
+        return "reserved " + hex(asked & RESERVED)
+    wanted = mapped(asked & ~MAXIMUM_ALLOWED)
+    missing = sum(1 << bit for bit in range(32) if wanted >> bit & 1 and not granted(bit))
+    if missing:
+        return "denied " + hex(missing)
+    if not asked & MAXIMUM_ALLOWED:
+        return "granted " + hex(wanted) if wanted else "empty"
+    if dacl is None:
+        most = 0x1F01FF
+    else:
+        most = sum(1 << bit for bit in range(RIGHTS) if granted(bit))
+    return "granted " + hex(wanted | most) if wanted | most else "denied " + hex(MAXIMUM_ALLOWED)
