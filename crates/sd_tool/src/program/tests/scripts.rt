@@ -3,8 +3,10 @@
 use super::*;
 use std::io::ErrorKind;
 
-/// Propagation at depth three, one publish at a time.
-const SCRIPT: &str = "\
+/// A change that reaches three levels down, and each command with faults between them.
+const SCRIPTS: [(&str, &str); 2] = [
+    (
+        "\
 open 1 O:BAG:SYD:(A;OICI;FA;;;BA)
 addc /a O:BAG:SYD:
 addc /a/b O:BAG:SYD:
@@ -16,10 +18,8 @@ dacl /a D:P(A;OI;FR;;;BU)
 publish
 show 0 /a
 show 0 /a/b/c
-frob
-";
-
-const OUTPUT: &str = "\
+",
+        "\
 opened 1
 ok
 ok
@@ -31,8 +31,51 @@ ok
 published 4
 seen 4 shown O:BAG:SYD:PAI(A;OI;FR;;;BU)
 seen 4 shown O:BAG:SYD:AI(A;OIIOID;FR;;;BU)
+",
+    ),
+    (
+        "\
+publish
+open 2 O:BAG:SYD:
+addc /a O:BAG:SYD:
+addo /a/b O:BAG:SYD:(A;;FR;;;BU)
+remove /a
+check 1 /a/b S-1-5-21-1-2-3-1001 0x1 BU
+publish
+check 1 /a/b S-1-5-21-1-2-3-1001 0x1 BU
+learn 1 3
+learn 1 1
+learn 2 9
+owner /a/b BU
+tell
+addo x O:DA
+addo /x O:DA
+addo /x D:
+learn 0 99999999999999999999
+frob
+",
+        "\
+fault open
+opened 2
+ok
+ok
+refused 5 NotEmpty
+seen 0 nonode
+published 2
+seen 2 granted 0x1
+nonotice
+learned 2
+noreader
+ok
+told 2
+fault path
+fault sddl 6 DomainAlias at 2
+fault parts
+fault number
 fault words
-";
+",
+    ),
+];
 
 /// Runs the script that a reader gives.
 fn carry_out<R: Read + Drop>(alloc: Global, reader: R) -> Ended {
@@ -41,10 +84,12 @@ fn carry_out<R: Read + Drop>(alloc: Global, reader: R) -> Ended {
 
 #[test]
 fn answers_each_line(rt: HostRuntime) {
-    let ended = carry_out(rt.alloc(), SCRIPT.as_bytes());
-    assert_eq!(rt; ended.output.as_slice(), OUTPUT.as_bytes());
-    assert_eq!(rt; ended.status, 0);
-    assert!(rt; ended.errors.is_empty());
+    for (script, output) in &SCRIPTS {
+        let ended = carry_out(rt.alloc(), script.as_bytes());
+        assert_eq!(rt; ended.output.as_slice(), output.as_bytes());
+        assert_eq!(rt; ended.status, 0);
+        assert!(rt; ended.errors.is_empty());
+    }
 }
 
 /// A reader that is interrupted at its first call.
