@@ -1,0 +1,19 @@
+//! Which history it is.
+
+use std::marker::Brand;
+
+/// Which history it is: its book, and the pen that began it. Each call of a program picks it, in proofs.
+pub trait Chain {
+    ghost use Rattle.std.specs.Prelude.{ℕ};
+    ghost use Rattle.logbook.specs.Pages.{Book};
+
+    ghost book: { Book };
+
+    ghost first: { ℕ };
+}
+
+impl Chain for Brand {
+    ghost book = { record { number = 0; log_name = 0; cells_name = 0 } };
+
+    ghost first = { 0 };
+}

@@ -1,0 +1,9 @@
+use Rattle.std.proofs.Common.{◌≡◌, ◌≤◌, [], All, vec_len, vec_capacity}
+use Rattle.sd_store.specs.Rules.{newcomer}
+use Rattle.sd_store.proofs.opening.seated.Given as goal
+
+abbrev pub invariant-loop : goal.invariant-loop
+invariant-loop g l =
+    (vec_len l.checkers ≡ l.counter)
+    × (l.readers ≤ vec_capacity l.checkers)
+    × All (λ checker. (checker.floor ≡ []) × (checker.view ≡ newcomer)) l.checkers.items

@@ -1,0 +1,30 @@
+-- What contracts see of a writer and of a checker.
+use Rattle.std.specs.Prelude.{ℕ, List, [], Option}
+use Rattle.sd_tree.specs.declared.edit.Edit.{Edit}
+use Rattle.sd_share.specs.declared.request.Answer.{Answer}
+use Rattle.sd_store.specs.declared.error.AuditError.{AuditError}
+use Rattle.sd_store.specs.declared.rule.View.{View}
+
+-- a checker: its view in the shared store, its floor, the journal that it has seen, and its part of the last audit
+pub record Sight : Type 0 where
+  pub view : View
+  pub floor : List Edit
+  pub drawn : List Answer
+  pub failed : Option AuditError
+
+-- a writer: the published journal and its marks, and the edits that wait
+pub record Script : Type 0 where
+  pub journal : List Edit
+  pub marks : List ℕ
+  pub pending : List Edit
+
+abbrev pub script_of : View → List Edit → Script
+script_of v pending = record { journal = v.journal; marks = v.marks; pending = pending }
+
+abbrev pub blank : Script
+blank = record { journal = []; marks = []; pending = [] }
+
+-- a notice: the journal that was published when it was told, and its marks
+pub record Told : Type 0 where
+  pub journal : List Edit
+  pub marks : List ℕ

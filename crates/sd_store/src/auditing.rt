@@ -1,0 +1,81 @@
+//! A report over a store that goes on being edited: many queries, dealt among the checkers.
+
+ghost use Rattle.std.specs.Prelude.{◌≡◌, ◌<◌, ◌≤◌, length, vec_len, IfOk, IfErr};
+ghost use Rattle.sd_store.specs.Audits.{AreAnswers, HaveGrown};
+ghost use Rattle.sd_store.specs.Workers.{AreDone, AreInformed, IsDone};
+ghost use Rattle.sd_store.specs.declared.error.AuditError.TheVariants as failed;
+
+use crate::checker::Checker;
+use crate::drawing::work;
+use crate::error::AuditError;
+use crate::gate::Gate;
+use crate::gathering::{first_failure, gathered};
+use crate::naming::Naming;
+use crate::notice::Notice;
+use crate::query::Query;
+use sd_share::Answer;
+use std::alloc::Global;
+use std::thread;
+use std::thread::Threads;
+
+/// The answers to the queries, in their order, on the condition that there is a checker. Each checker learns the notice
+/// first, so no answer is by less than it tells of. One worker for each of the `n` checkers, in a thread of its own
+/// where one can be made: worker `i` answers the queries `i`, `i + n`, `i + 2n` and so on. After an error each checker
+/// has seen no less than it had.
+pub fn audit<J: Naming + Send + Sync, G: Gate + Sync, R: Threads + Sync>(
+    rt: &R,
+    alloc: Global,
+    checkers: &mut [Checker<J>],
+    notice: &mut Notice<J>,
+    queries: &[Query],
+    gate: &G,
+) -> Result<Vec<Answer>, AuditError>
+    requires some { (0 < length checkers.old) × (length checkers.old ≤ 64) }
+    ensures notice { notice.new ≡ notice.old }
+    ensures grown { HaveGrown J.opening (length queries.now) notice.old.journal checkers.old checkers.new }
+    ensures count { IfOk result (λ answers. vec_len answers ≡ length queries.now) }
+    ensures answers { IfOk result (λ answers. AreAnswers J.opening queries.now notice.old.journal checkers.old checkers.new answers.items) }
+    ensures gate { IfErr result (λ e. e ≡ failed.Gate → ¬ G.always) }
+{
+    inform(checkers, notice);
+    spread(rt, alloc, checkers, queries, gate);
+    match first_failure(checkers) {
+        Some(error) => Err(error),
+        None => gathered(alloc, checkers, queries.len()),
+    }
+}
+
+/// Each checker learns the notice.
+fn inform<J: Naming>(checkers: &mut [Checker<J>], notice: &mut Notice<J>)
+    ensures count { length checkers.new ≡ length checkers.old }
+    ensures notice { notice.new ≡ notice.old }
+    ensures informed { AreInformed notice.old.journal checkers.old checkers.new }
+{
+    for checker in checkers {
+        checker.learn(notice);
+    }
+}
+
+/// Each checker's worker does its part, as many side by side as there are checkers.
+fn spread<J: Naming + Send + Sync, G: Gate + Sync, R: Threads + Sync>(
+    rt: &R,
+    alloc: Global,
+    checkers: &mut [Checker<J>],
+    queries: &[Query],
+    gate: &G,
+)
+    requires some { (0 < length checkers.old) × (length checkers.old ≤ 64) }
+    ensures count { length checkers.new ≡ length checkers.old }
+    ensures done { AreDone J.opening G.always queries.now (length checkers.old) checkers.old checkers.new }
+{
+    let step = checkers.len();
+    thread::for_each_mut(
+        rt,
+        checkers,
+        step,
+        &|worker, checker: &mut Checker<J>|
+            requires { (0 < step) × (step ≤ 64) × (worker < step) }
+            ensures { IsDone J.opening G.always queries.entry.now step worker checker.entry.now checker.exit.now }
+        { work(alloc, worker, step, queries, gate, checker) },
+    );
+}

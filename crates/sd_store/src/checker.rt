@@ -1,0 +1,174 @@
+//! The readers of a store.
+
+ghost use Rattle.std.specs.Prelude.{◌≡◌, length, OnOk, OnErr, IfOk, MatchResult, option_map};
+ghost use mathlib.Core.List.{IsPrefix};
+ghost use Rattle.sd_acl.specs.Descriptor.{descriptor_of};
+ghost use Rattle.sd_history.specs.Chains.{items_from};
+ghost use Rattle.sd_tree.specs.Answers.{answer, descriptor_at};
+ghost use Rattle.sd_tree.specs.Journal.{replay, IsLawful};
+ghost use Rattle.sd_share.specs.Machine.{longer};
+ghost use Rattle.sd_store.specs.Marks.{last_of};
+
+use crate::error::{AuditError, Gone, ShowError};
+use crate::naming::Naming;
+use crate::notice::Notice;
+use crate::rule::{Seat, Sees};
+use sd_acl::Descriptor;
+use sd_check::Token;
+use sd_history::Front;
+use sd_share::Answer;
+use sd_sid::Mask;
+use sd_tree::{Edit, Path};
+use std::marker::Model;
+
+/// A reader of a store. Contracts see its view, the journal and the marks that it found last, and its floor, the
+/// journal that it has seen or was told of, which never falls.
+#[derive(Drop)]
+pub struct Checker<J: Naming> {
+    /// The place in the shared store; away during a look alone.
+    pub(crate) seat: Option<Seat<J>>,
+    /// The floor's length.
+    pub(crate) seen: u64,
+    /// Of the history of accepted edits, the beginning that the floor is.
+    pub(crate) front: Front<Edit>,
+    /// Its answers in the last audit.
+    pub(crate) drawn: Vec<Answer>,
+    /// Why it has none.
+    pub(crate) failed: Option<AuditError>,
+}
+
+impl<J: Naming> Model for Checker<J> {
+    ghost use Rattle.std.specs.Prelude.{◌≡◌, length, IsSome};
+    ghost use Rattle.std.specs.Option.{option_map_or};
+    ghost use Rattle.left_right.specs.Sides.{view as client_of};
+    ghost use Rattle.sd_tree.specs.Journal.{IsLawful};
+    ghost use Rattle.sd_history.specs.Chains.{items_from};
+    ghost use Rattle.sd_store.specs.Rules.{newcomer};
+    ghost use Rattle.sd_store.specs.Sights.{Sight};
+
+    ghost Value = { Sight };
+
+    ghost view = { λ c. record { view = option_map_or (λ r. client_of r.place) c.seat newcomer; floor = items_from J.first c.front.log; drawn = c.drawn.items; failed = c.failed } };
+
+    ghost invariant = { λ c. IsSome c.seat
+        × (c.seen ≡ length (items_from J.first c.front.log))
+        × (c.front.book ≡ J.book)
+        × IsLawful J.opening (items_from J.first c.front.log) };
+}
+
+impl<J: Naming> Checker<J> {
+    /// The verdict on a request for the node of a path ([MS-DTYP] 2.5.3.2), by the journal that is published at one
+    /// moment of this call, and its length. That journal extends all that this reader has seen or was told of. Takes no
+    /// memory, and waits for nobody.
+    pub fn check(&mut self, path: &Path, token: &Token, asked: Mask) -> Result<Answer, Gone>
+        ensures floor { OnOk result (self.new.floor ≡ self.new.view.journal) }
+        ensures extends { OnOk result (IsPrefix self.old.floor self.new.floor) }
+        ensures views { OnOk result (IsPrefix self.old.view.journal self.new.view.journal × IsPrefix self.old.view.marks self.new.view.marks) }
+        ensures lawful { OnOk result (IsLawful J.opening self.new.floor) }
+        ensures seen { IfOk result (λ a. (a.seen ≡ length self.new.floor) × (a.seen ≡ last_of self.new.view.marks)) }
+        ensures reply { IfOk result (λ a. a.reply ≡ answer J.opening self.new.floor path.now token.now asked) }
+        ensures gone { OnErr result (self.new.floor ≡ self.old.floor) }
+    {
+        let Some(seat) = self.seat.take() else {
+            unreachable!()
+        };
+        match seat.enter_as::<Sees<J>>() {
+            Err(seat) => {
+                self.seat = Some(seat);
+                Err(Gone)
+            }
+            Ok(reading) => {
+                let published = reading.get();
+                let seen = published.tree.len();
+                let reply = published.tree.check(path, token, asked);
+                let front = published.front.again();
+                self.seat = Some(reading.leave());
+                raise::<J>(&mut self.front, &mut self.seen, front, seen)?;
+                Ok(Answer { seen, reply })
+            }
+        }
+    }
+
+    /// The descriptor of the node of a path ([MS-DTYP] 2.4.6), if there is one, by the journal that is published at one
+    /// moment of this call, and its length. `Gone` and `Memory` leave what the reader has seen.
+    pub fn descriptor(&mut self, path: &Path) -> Result<(u64, Option<Descriptor>), ShowError>
+        ensures floor { OnOk result (self.new.floor ≡ self.new.view.journal) }
+        ensures extends { OnOk result (IsPrefix self.old.floor self.new.floor) }
+        ensures views { OnOk result (IsPrefix self.old.view.journal self.new.view.journal × IsPrefix self.old.view.marks self.new.view.marks) }
+        ensures lawful { OnOk result (IsLawful J.opening self.new.floor) }
+        ensures seen { IfOk result (λ r. (r.0 ≡ length self.new.floor) × (r.0 ≡ last_of self.new.view.marks)) }
+        ensures shown { IfOk result (λ r. option_map descriptor_of r.1 ≡ descriptor_at J.opening.mapping (replay J.opening self.new.floor) path.now) }
+        ensures failed { OnErr result (self.new.floor ≡ self.old.floor) }
+    {
+        let Some(seat) = self.seat.take() else {
+            unreachable!()
+        };
+        match seat.enter_as::<Sees<J>>() {
+            Err(seat) => {
+                self.seat = Some(seat);
+                Err(ShowError::Gone)
+            }
+            Ok(reading) => {
+                let published = reading.get();
+                let seen = published.tree.len();
+                let found = published.tree.descriptor(path);
+                let front = published.front.again();
+                self.seat = Some(reading.leave());
+                let Ok(descriptor) = found else {
+                    return Err(ShowError::Memory);
+                };
+                raise::<J>(&mut self.front, &mut self.seen, front, seen).map_err(
+                    |_| ShowError::Gone,
+                )?;
+                Ok((seen, descriptor))
+            }
+        }
+    }
+
+    /// The reader is told of a publish: its floor becomes the longer of what it was and the notice's journal. An older
+    /// notice lowers nothing. Takes no memory, and waits for nobody.
+    pub fn learn(&mut self, notice: &mut Notice<J>)
+        ensures view { self.new.view ≡ self.old.view }
+        ensures floor { self.new.floor ≡ longer self.old.floor notice.old.journal }
+        ensures extends { IsPrefix self.old.floor self.new.floor × IsPrefix notice.old.journal self.new.floor }
+        ensures notice { notice.new ≡ notice.old }
+    {
+        self.front.meet(&notice.front);
+        if self.seen <= notice.len {
+            self.front = notice.front.again();
+            self.seen = notice.len;
+        }
+    }
+
+    /// The length of the journal that the reader has seen or was told of.
+    pub fn seen(&self) -> u64
+        ensures length { result ≡ length self.now.floor }
+        ensures lawful { IsLawful J.opening self.now.floor }
+    {
+        self.seen
+    }
+}
+
+/// The floor becomes what was found, unless that is shorter. It never is: of two beginnings of one history the longer
+/// extends the other, and a notice tells only what was published before. But that a look comes behind a publish that was
+/// told of isn't proved, so the lengths are compared.
+fn raise<J: Naming>(
+    floor: &mut Front<Edit>,
+    seen: &mut u64,
+    found: Front<Edit>,
+    len: u64,
+) -> Result<(), Gone>
+    requires book { found.book ≡ floor.old.book }
+    requires seen { seen.old ≡ length (items_from J.first floor.old.log) }
+    requires len { len ≡ length (items_from J.first found.log) }
+    ensures raised { OnOk result ((floor.new ≡ found) × (seen.new ≡ len) × IsPrefix (items_from J.first floor.old.log) (items_from J.first found.log)) }
+    ensures gone { OnErr result ((floor.new ≡ floor.old) × (seen.new ≡ seen.old)) }
+{
+    floor.meet(&found);
+    if len < *seen {
+        return Err(Gone);
+    }
+    *floor = found;
+    *seen = len;
+    Ok(())
+}

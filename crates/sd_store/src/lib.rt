@@ -1,0 +1,41 @@
+//! The store of many threads: one writer that edits and publishes, and up to 64 checkers that ask and never wait.
+//!
+//! Each check takes effect at one moment, by the journal that is published then; that journal extends all that the same
+//! checker has seen or was told of. A publish shows all edits that wait at once. docs/STORE.md tells what is promised.
+//!
+//! ```text
+//! let (mut writer, mut checkers) = start(&rt, alloc, Opened::new(), &mapping, &root, 2)?;
+//! writer.edit(&edit)?;
+//! writer.publish(&rt)?;
+//! let mut notice = writer.tell();
+//! checkers[0].learn(&mut notice);
+//! let answer = checkers[0].check(&path, &token, Mask(0x1))?;
+//! writer.end(&rt);
+//! ```
+#![tactic(auto)]
+
+mod auditing;
+mod checker;
+mod drawing;
+mod error;
+mod gate;
+mod gathering;
+mod naming;
+mod notice;
+mod opening;
+mod operation;
+mod published;
+mod publishing;
+mod query;
+mod rule;
+mod writer;
+
+pub use auditing::audit;
+pub use checker::Checker;
+pub use error::{AuditError, EditError, Gone, PublishError, ShowError};
+pub use gate::{Gate, OpenGate};
+pub use naming::Naming;
+pub use notice::Notice;
+pub use opening::start;
+pub use query::Query;
+pub use writer::StoreWriter;

@@ -1,0 +1,72 @@
+//! What a writer tells readers of a publish.
+
+ghost use Rattle.std.specs.Prelude.{◌≡◌, length};
+ghost use Rattle.sd_tree.specs.Journal.{IsLawful};
+
+use crate::naming::Naming;
+use boxcar::tag::{Names, Tag};
+use sd_history::Front;
+use sd_tree::Edit;
+use std::marker::{Model, PhantomData};
+
+/// A publish that readers may learn of, on any thread and any number of times. Contracts see the journal that was then
+/// published, and its marks.
+#[derive(Drop)]
+pub struct Notice<J: Naming> {
+    /// The journal's length.
+    pub(crate) len: u64,
+    /// Of the history of accepted edits, the beginning that the journal is.
+    pub(crate) front: Front<Edit>,
+    /// The marks, in the proofs alone.
+    pub(crate) marks: Tag,
+    pub(crate) of: PhantomData<J>,
+}
+
+/// What a notice keeps of the marks.
+pub(crate) struct Listed;
+
+impl Names<Vec<u64>> for Listed {
+    ghost numbers = { λ marks. marks.items };
+}
+
+/// The marks of another notice.
+struct Same;
+
+impl Names<Tag> for Same {
+    ghost numbers = { λ marks. marks.numbers };
+}
+
+impl<J: Naming> Model for Notice<J> {
+    ghost use Rattle.std.specs.Prelude.{◌≡◌, length};
+    ghost use Rattle.sd_tree.specs.Journal.{IsLawful};
+    ghost use Rattle.sd_history.specs.Chains.{items_from};
+    ghost use Rattle.sd_store.specs.Sights.{Told};
+
+    ghost Value = { Told };
+
+    ghost view = { λ n. record { journal = items_from J.first n.front.log; marks = n.marks.numbers } };
+
+    ghost invariant = { λ n. (n.len ≡ length (items_from J.first n.front.log)) × (n.front.book ≡ J.book) × IsLawful J.opening (items_from J.first n.front.log) };
+}
+
+impl<J: Naming> Notice<J> {
+    /// A copy, for another thread. Takes no memory.
+    pub fn again(&self) -> Notice<J>
+        ensures { result ≡ self.now }
+    {
+        Notice {
+            len: self.len,
+            front: self.front.again(),
+            marks: Tag::of::<Tag, Same>(&self.marks),
+            of: PhantomData,
+        }
+    }
+
+    /// The length of the journal that it tells of.
+    pub fn length(&self) -> u64
+        ensures length { result ≡ length self.now.journal }
+        ensures lawful { IsLawful J.opening self.now.journal }
+    {
+        self.len
+    }
+}

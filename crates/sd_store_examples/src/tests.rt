@@ -1,0 +1,48 @@
+//! A store of many threads that is led and asked step by step.
+
+mod audits;
+mod beside;
+mod memory;
+mod opening;
+mod runs;
+mod stage;
+mod step;
+mod threads;
+mod told;
+
+use stage::{Setting, run};
+use std::alloc::Global;
+use std::sync::Wait;
+use std::thread::Threads;
+use step::Step;
+
+/// A step, and what it is told.
+type Row = (Step, &'static str);
+
+const ADMINISTRATORS: &str = "O:BAG:SYD:(A;OICI;FA;;;BA)";
+
+/// A store whose root hands all rights of the administrators on.
+fn of_administrators(readers: u64) -> Setting {
+    Setting {
+        root: ADMINISTRATORS,
+        times: 1,
+        readers,
+    }
+}
+
+/// What the steps are told, in words: those before the writer ends, and those after it. Nothing where memory was
+/// refused for anything but an edit or a publish.
+fn words<R: Threads + Wait>(
+    rt: &R,
+    alloc: Global,
+    setting: Setting,
+    before: &[Step],
+    after: &[Step],
+) -> Option<Vec<String>> {
+    let told = run(rt, alloc, setting, before, after)?;
+    let mut words = Vec::with_capacity(alloc, told.len()).ok()?;
+    for told in &told {
+        words.push(told.text(alloc).ok()?).ok()?;
+    }
+    Some(words)
+}
