@@ -1,0 +1,31 @@
+"""Who may do what with a file, and what a refusal looks like."""
+
+from hudarin import DENY_ONLY, Descriptor, Refused, Sid, mask
+
+descriptor = Descriptor.from_sddl("o:bag:syd:(d;;fw;;;s-1-5-21-1-2-3-1001)(a;;fa;;;bu)")
+user = Sid.from_text("S-1-5-21-1-2-3-1001")
+groups = [Sid.from_text("BU"), (Sid.from_text("BA"), DENY_ONLY)]
+
+print(len(bytes(descriptor)), "bytes:", descriptor)
+print("read:", descriptor.check(user, groups, asked=0x1))
+print("write:", descriptor.check(user, groups, asked=0x2))
+print("all that is granted:", descriptor.check(user, groups, asked=0x02000000))
+print("GR, as nobody's friend:", descriptor.check(user, asked=mask("GR")))
+
+# What stands behind a descriptor or a SID is left out.
+print(bytes(Descriptor(bytes(descriptor) + b"more")) == bytes(descriptor))
+print(repr(Sid(bytes(user) + b"more")), Sid(bytes(user) + b"more") == user)
+
+for refused in (
+    lambda: Descriptor.from_sddl("D:(A;;FA;;;DA)"),
+    lambda: Descriptor(bytes(descriptor)[:-1]),
+    lambda: Sid.from_text("S-1-5"),
+    lambda: Sid(b"\x01\x00\x00\x00\x00\x00\x00\x05"),
+    lambda: mask("FA\udcff"),
+    lambda: descriptor.check(user, [(user, 0x14)], asked=0x1),
+    lambda: descriptor.check(user, mapping=(0, 0, 0, 0x200000), asked=0x1),
+):
+    try:
+        refused()
+    except Refused as e:
+        print("refused:", e.status, e.fault, e.place, e.argument)

@@ -1,0 +1,193 @@
+"""Asks the worked rows of the pages through the shared library, and compares each answer with the program's.
+
+    rows.py PROGRAM USER PAGE ..
+
+Rows of tables are known by their heads, and lines `$ ./sdstore ..` of console blocks by their command. The last line is
+'N passed, M failed'."""
+
+import os
+import re
+import shlex
+import subprocess
+import sys
+
+sys.path.insert(0, os.path.join(os.path.dirname(os.path.abspath(__file__)), "..", "python"))
+
+import hudarin  # noqa: E402
+
+PROGRAM, USER, PAGES = sys.argv[1], sys.argv[2], sys.argv[3:]
+STATES = {"deny": hudarin.DENY_ONLY, "off": hudarin.DISABLED}
+PRIVILEGES = {"+security": hudarin.SECURITY, "+take": hudarin.TAKE_OWNERSHIP}
+
+passed = failed = 0
+
+
+def miss(place, text):
+    global failed
+    failed += 1
+    print(f"{place}: {text[:300]}")
+
+
+def fault(reading, kind):
+    """The reading, or the program's line for what refuses it."""
+    try:
+        return reading(), None
+    except hudarin.Refused as e:
+        if kind == "sddl":
+            names = ["", "Syntax", "HasSacl", "EntryKind", "ObjectGuid", "UnknownAlias", "DomainAlias", "Range", "AclTooLarge"]
+            return None, f"fault sddl {e.fault} {names[e.fault]} at {e.place}"
+        if kind == "wire":
+            names = ["", "Short", "Revision", "NotSelfRelative", "HasSacl", "BadOffset", "BadSid", "AclRevision", "AclSize"]
+            return None, f"fault wire {e.fault} {(names + ['EntrySize', 'EntryKind'])[e.fault]}"
+        return None, f"fault {kind}"
+
+
+def verdict(sddl, user, asked, *words):
+    descriptor, refused = fault(lambda: hudarin.Descriptor.from_sddl(sddl), "sddl")
+    sid, refused = (None, refused) if refused else fault(lambda: hudarin.Sid.from_text(user), "sid")
+    mask, refused = (None, refused) if refused else fault(lambda: hudarin.mask(asked), "mask")
+    if refused:
+        return refused
+    groups, privileges = [], 0
+    for word in words:
+        name, _, state = word.partition("=")
+        if word in PRIVILEGES:
+            privileges |= PRIVILEGES[word]
+            continue
+        group, refused = fault(lambda: hudarin.Sid.from_text(name), "token")
+        if refused or ("=" in word and state not in STATES):
+            return "fault token"
+        groups.append((group, STATES.get(state, hudarin.ENABLED)))
+    return str(descriptor.check(sid, groups, mask, privileges))
+
+
+def answer(command, *words):
+    """The line that the library's answer would be printed as."""
+    if words and words[0] == "--":
+        words = words[1:]
+    if command == "verdict":
+        return verdict(*words)
+    if command == "frombin":
+        if not re.fullmatch("([0-9a-fA-F]{2})*", words[0]):
+            return "fault hex"
+        read, refused = fault(lambda: hudarin.Descriptor(bytes.fromhex(words[0])), "wire")
+        return refused or str(read)
+    read, refused = fault(lambda: hudarin.Descriptor.from_sddl(words[0]), "sddl")
+    return refused or (str(read) if command == "print" else bytes(read).hex())
+
+
+def ask(place, *words):
+    """The library answers as the program does."""
+    global passed
+    said = subprocess.run([PROGRAM, *words], stdin=subprocess.DEVNULL, stdout=subprocess.PIPE, check=False).stdout.decode()
+    here = answer(*words) + "\n"
+    if here == said:
+        passed += 1
+    else:
+        miss(place, f"{words!r}: the library says {here!r}, and the program {said!r}")
+
+
+def span(cell):
+    """The cell's code spans in a row, each as often as the words before it say."""
+    parts, text = cell.split("`"), ""
+    for before, part in zip(parts[::2], parts[1::2]):
+        times = re.search(r"([0-9,]+) times $", before)
+        text += part * (int(times[1].replace(",", "")) if times else 1)
+    return text
+
+
+def pairs(cells):
+    return [pair for pair in zip(cells[::2], cells[1::2]) if pair[0]]
+
+
+def check_row(place, owner, dacl, words, asked):
+    full = lambda text: text.replace(";U)", f";{USER})")
+    owned = "" if owner == "*none*" else "O:" + (USER if owner == "U" else owner)
+    ask(place, "verdict", f"{owned}G:SY{full(dacl)}", USER, asked, *words.split())
+
+
+class Table:
+    """A table of a page, row by row; `bytes` are those of the last table of bytes."""
+
+    bytes = ""
+
+    def __init__(self, heads):
+        self.heads = "|".join(heads)
+        if self.heads.startswith("Place|Bytes of "):
+            Table.bytes = ""
+
+    def row(self, place, cells):
+        one, heads = span(cells[0]), self.heads
+        two = span(cells[1]) if len(cells) > 1 else ""
+        if heads in ("Text|Printed", "Text|Fault", "Text|Fault|Why", "Text|Fault|Write instead"):
+            ask(place, "print", one)
+            ask(place, "tobin", one)
+        elif heads == "Text|Bytes":
+            ask(place, "tobin", one)
+            ask(place, "frombin", two)
+        elif heads == "Bytes|Answer":
+            ask(place, "frombin", one)
+        elif heads.startswith("Place|Bytes of "):
+            Table.bytes += two
+        elif heads == "Cut to|Fault":
+            for part in cells[0].split(","):
+                first, _, last = part.partition(" to ")
+                for length in range(int(first), int(last or first) + 1):
+                    ask(place, "frombin", Table.bytes[: 2 * length])
+        elif heads == "Place|Instead|Answer":
+            at = 2 * int(cells[0])
+            ask(place, "frombin", Table.bytes[:at] + two + Table.bytes[at + len(two) :])
+        elif heads == "Rights|Mask|Printed":
+            ask(place, "print", f"D:(A;;{one};;;WD)")
+            ask(place, "verdict", "D:NO_ACCESS_CONTROL", USER, one)
+        elif heads.startswith(("Alias|SID|", "Domain alias|", "Unknown alias|")):
+            for alias, sid in pairs(cells):
+                ask(place, "print", f"O:{alias}")
+                ask(place, "verdict", "D:", alias, "0x1")
+                if sid.startswith("S-1-"):
+                    ask(place, "tobin", f"O:{sid}")
+        elif heads.startswith("Name|Bits|"):
+            for name, _ in pairs(cells):
+                ask(place, "verdict", "D:", USER, name)
+        elif heads == "DACL|Words|Asked|Verdict":
+            check_row(place, "BA", one, cells[1], cells[2])
+        elif heads == "Owner|DACL|Words|Asked|Verdict":
+            check_row(place, cells[0], two, cells[2], cells[3])
+        else:
+            return False
+        return True
+
+
+def console(place, line):
+    """A line of a console block that asks for an answer, and no more."""
+    words = shlex.split(line[2:]) if " | " not in line and '"$' not in line else []
+    if words[:1] == ["./sdstore"] and words[1:2] and words[1] in ("verdict", "print", "tobin", "frombin"):
+        if "help" not in line.replace("-- --help", "") and len(words) > 2:
+            ask(place, *words[1:])
+
+
+def page(path):
+    before, table, language = passed + failed, None, None
+    name = os.path.basename(path)
+    with open(path, encoding="utf-8") as lines:
+        for number, line in enumerate(lines, 1):
+            place, line = f"{name}:{number}", line.rstrip("\n")
+            if line.startswith("```"):
+                language = None if language else line[3:] or "text"
+            elif language == "console" and line.startswith("$ "):
+                console(place, line)
+            elif language is None and line.startswith("|"):
+                cells = [cell.strip() for cell in line.strip("|").split("|")]
+                if table is None:
+                    table = Table(cells)
+                elif not line.startswith("|--"):
+                    table.row(place, cells)
+            elif language is None:
+                table = None
+    if passed + failed == before:
+        miss(name, "no row of it was asked")
+
+
+for each in PAGES:
+    page(each)
+print(f"{passed} passed, {failed} failed")

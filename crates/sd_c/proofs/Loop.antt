@@ -1,0 +1,52 @@
+-- Reading groups one after the other, as a loop does.
+use Rattle.std.proofs.Common.{◌≡◌, ℕ, suc, ◌-◌, ◌+◌, ◌≤◌, ◌<◌, List, [], ◌∷◌, ◌++◌, length, drop, slice_index, Result, Ok, Err, refl, sym, ap, ◌∙◌, append_assoc, arith}
+use Rattle.std.proofs.lemmas.List.{append-nil}
+use Rattle.sd_sid.specs.Sid.{SidValue}
+use Rattle.sd_check.specs.declared.token.GroupState.{GroupState}
+use Rattle.sd_c.specs.declared.stop.NotRead.{NotRead}
+use Rattle.sd_c.specs.declared.stop.NotRead.TheVariants.{BehindGroups}
+use Rattle.sd_c.specs.Request.{◌>>=◌, group_read, groups_read}
+
+-- the groups that were read before, and those that are still read
+abbrev pub behind : List (SidValue × GroupState) → Result (List (SidValue × GroupState)) NotRead → Result (List (SidValue × GroupState)) NotRead
+behind front read = read >>= λ groups. Ok (front ++ groups)
+
+regroup : (front : List (SidValue × GroupState)) (g : SidValue × GroupState) (read : Result (List (SidValue × GroupState)) NotRead) → behind front (read >>= λ groups. Ok (g ∷ groups)) ≡ behind (front ++ g ∷ []) read
+regroup front g (Ok groups) = ap (λ (x : List (SidValue × GroupState)). Ok x) (simp append_assoc)
+regroup front g (Err why) = refl
+
+pub goes_on : (rest : List ℕ) (states : List ℕ) (count k : ℕ) (front : List (SidValue × GroupState)) (g : SidValue × GroupState) (size : ℕ) (total : Result (List (SidValue × GroupState)) NotRead)
+    → k < count → group_read rest (slice_index states k) k ≡ Ok (g, size)
+    → behind front (groups_read rest states k (count - k)) ≡ total → behind (front ++ g ∷ []) (groups_read (drop size rest) states (k + 1) (count - (k + 1))) ≡ total
+unfolding groups_read
+goes_on rest states count k front g size total lt h so_far =
+    let left : count - k ≡ suc (count - (k + 1)) = omega arith in
+    let one : behind front (groups_read rest states k (count - k)) ≡ behind (front ++ g ∷ []) (groups_read (drop size rest) states (k + 1) (count - (k + 1))) = rw (left, h) (regroup front g (groups_read (drop size rest) states (k + 1) (count - (k + 1)))) in
+    sym one ∙ so_far
+
+pub ends : (rest : List ℕ) (states : List ℕ) (count k : ℕ) (front : List (SidValue × GroupState)) (why : NotRead) (total : Result (List (SidValue × GroupState)) NotRead)
+    → k < count → group_read rest (slice_index states k) k ≡ Err why
+    → behind front (groups_read rest states k (count - k)) ≡ total → total ≡ Err why
+unfolding groups_read
+ends rest states count k front why total lt h so_far =
+    let left : count - k ≡ suc (count - (k + 1)) = omega arith in
+    let one : behind front (groups_read rest states k (count - k)) ≡ Err why = rw (left, h) refl in
+    sym so_far ∙ one
+
+-- behind the last group nothing stands
+pub is_done : (rest : List ℕ) (states : List ℕ) (count k : ℕ) (front : List (SidValue × GroupState)) (total : Result (List (SidValue × GroupState)) NotRead)
+    → count ≤ k → length rest ≡ 0 → behind front (groups_read rest states k (count - k)) ≡ total → total ≡ Ok front
+unfolding groups_read
+is_done rest states count k front total le empty so_far =
+    let left : count - k ≡ 0 = omega arith in
+    let one : behind front (groups_read rest states k (count - k)) ≡ Ok front = rw (left, empty) (ap (λ (x : List (SidValue × GroupState)). Ok x) (append-nil front)) in
+    sym so_far ∙ one
+
+-- or something does
+pub has_more : (rest : List ℕ) (states : List ℕ) (count k : ℕ) (front : List (SidValue × GroupState)) (total : Result (List (SidValue × GroupState)) NotRead)
+    → count ≤ k → 0 < length rest → behind front (groups_read rest states k (count - k)) ≡ total → total ≡ Err (BehindGroups k)
+unfolding groups_read
+has_more rest states count k front total le some so_far =
+    let left : count - k ≡ 0 = omega arith in
+    let one : behind front (groups_read rest states k (count - k)) ≡ Err (BehindGroups k) = rw left (search (arith)) in
+    sym so_far ∙ one

@@ -1,0 +1,76 @@
+-- What the calls over handles answer, and what they leave in the handles.
+use Rattle.std.specs.Prelude.{◌≡◌, ◌⊎◌, ℕ, ◌==◌, List, Result, Ok, Err, if◌then◌else◌}
+use Rattle.sd_acl.specs.Descriptor.{DescriptorValue, descriptor_of}
+use Rattle.sd_check.specs.Token.{TokenValue}
+use Rattle.sd_wire.specs.Reading.{descriptor_read}
+use Rattle.sd_c.specs.declared.answer.CheckAnswer.{CheckAnswer}
+use Rattle.sd_c.specs.declared.answer.Written.{Written}
+use Rattle.sd_c.specs.declared.handle.Handle.{Handle}
+use Rattle.sd_c.specs.declared.handle.kept.Kept.{Kept}
+use Rattle.sd_c.specs.declared.handle.kept.Kept.TheVariants as kinds
+use Rattle.sd_c.specs.declared.mapping.Mapping.{Mapping}
+use Rattle.sd_c.specs.declared.refusal.Refusal.{Refusal}
+use Rattle.sd_c.specs.declared.stop.NotRead.{NotRead}
+use Rattle.sd_c.specs.declared.stop.NotRead.TheVariants.{DescriptorHandle, TokenHandle}
+use Rattle.sd_c.specs.Answer.{not_read, unread}
+use Rattle.sd_c.specs.Request.{◌>>=◌, RequestValue, mapping_read}
+use Rattle.sd_c.specs.Written.{not_written, refused}
+
+-- ---- a check
+
+-- the handle keeps something, or this is why there is no check
+abbrev pub is_kept : ℕ → NotRead → Result (Unit {0}) NotRead
+is_kept is_there why = if is_there == 0 then Err why else Ok tt
+
+abbrev pub descriptor_in : Kept → Result DescriptorValue NotRead
+descriptor_in (kinds.Descriptor d) = Ok (descriptor_of d)
+descriptor_in (kinds.Token t) = Err DescriptorHandle
+
+abbrev pub token_in : Kept → Result TokenValue NotRead
+token_in (kinds.Descriptor d) = Err TokenHandle
+token_in (kinds.Token t) = Ok t
+
+-- what two things that are kept ask of a check
+unfoldable pub asked_of : Kept → Kept → Mapping → Result RequestValue NotRead
+asked_of first second mapping =
+    descriptor_in first >>= λ d. (token_in second >>= λ t. (mapping_read mapping >>= λ g. Ok (record { descriptor = d; token = t; mapping = g })))
+
+-- the same of two handles
+unfoldable pub kept_request : Handle → Handle → Mapping → Result RequestValue NotRead
+kept_request first second mapping =
+    is_kept first.is_there DescriptorHandle >>= λ u. (is_kept second.is_there TokenHandle >>= λ v. asked_of first.seal.kept second.seal.kept mapping)
+
+-- ---- the handles afterwards
+
+-- the handle keeps what it kept
+abbrev pub Stays : Handle → Handle → Type 0
+Stays old new = (new.is_there ≡ old.is_there) × (new.is_there ≡ 1 → new.seal.kept ≡ old.seal.kept)
+
+-- the handle keeps this
+abbrev pub Keeps : Handle → Kept → Type 0
+Keeps new kept = (new.is_there ≡ 1) × (new.seal.kept ≡ kept)
+
+-- the handle kept something already, and is as it was
+abbrev pub InUse : Handle → Handle → Written → Type 0
+InUse old new answer = (old.is_there ≡ 1) × (new ≡ old) × (answer ≡ not_written 11 0 0)
+
+-- a descriptor that is right is kept, or a reason that holds is told and nothing is kept, or something was kept already
+abbrev pub KeepsDescriptor : (DescriptorValue → Type 0) → (Refusal → Type 0) → Handle → Handle → Written → Type 0
+KeepsDescriptor Right Holds old new answer =
+    ((kept : Kept) × (d : DescriptorValue) × Right d × (descriptor_in kept ≡ Ok d) × Keeps new kept × (answer ≡ not_written 0 0 0))
+    ⊎ ((why : Refusal) × Holds why × (new ≡ old) × (answer ≡ refused why))
+    ⊎ InUse old new answer
+
+-- the bytes hold the descriptor
+abbrev pub IsHeldAs : List ℕ → DescriptorValue → Type 0
+IsHeldAs bytes d = descriptor_read bytes ≡ Ok d
+
+-- the token that was read is kept, or why it wasn't is told and nothing is kept
+abbrev pub KeepsToken : Result TokenValue NotRead → Handle → Handle → CheckAnswer → Type 0
+KeepsToken read old new answer =
+    ((kept : Kept) × (t : TokenValue) × (read ≡ Ok t) × (token_in kept ≡ Ok t) × Keeps new kept × (answer ≡ unread 0 0 0 0))
+    ⊎ ((why : NotRead) × (read ≡ Err why) × (new ≡ old) × (answer ≡ not_read why))
+
+-- the handle kept something already, and is as it was
+abbrev pub TokenInUse : Handle → Handle → CheckAnswer → Type 0
+TokenInUse old new answer = (old.is_there ≡ 1) × (new ≡ old) × (answer ≡ unread 11 7 0 0)

@@ -1,0 +1,6 @@
+pub mod Request
+pub mod Answer
+pub mod Written
+pub mod Length
+pub mod Handle
+pub mod Kept

@@ -1,0 +1,135 @@
+-- What the calls answer that write into the caller's room.
+use Rattle.std.specs.Prelude.{◌≡◌, ◌⊎◌, ℕ, nat_lt, List, ◌++◌, length, drop, Ok, Err, if◌then◌else◌}
+use Rattle.std.specs.Str.{IsUtf8, IsValidUpTo}
+use Rattle.sd_sid.specs.Sid.{SidValue, sid_error_number}
+use Rattle.sd_sid.specs.SidBytes.{sid_reading, bytes_of_sid}
+use Rattle.sd_acl.specs.Descriptor.{DescriptorValue}
+use Rattle.sd_text.specs.Canon.{canon, sid_canon}
+use Rattle.sd_text.specs.Fault.{number_of}
+use Rattle.sd_text.specs.Grammar.{Grammar, Spells, HasFault}
+use Rattle.sd_text.specs.Sddl.{sddl}
+use Rattle.sd_text.specs.Sid.{sid_text}
+use Rattle.sd_wire.specs.Fault.{wire_fault_number}
+use Rattle.sd_wire.specs.Reading.{descriptor_read}
+use Rattle.sd_wire.specs.Writing.{wire_of}
+use Rattle.sd_text.specs.Rights.{mask_text}
+use Rattle.sd_text.specs.declared.fault.TextError.{TextError}
+use Rattle.sd_text.specs.declared.fault.TextError.TheVariants as errors
+use Rattle.sd_c.specs.declared.answer.Written.{Written}
+use Rattle.sd_c.specs.declared.answer.MaskAnswer.{MaskAnswer}
+use Rattle.sd_c.specs.declared.refusal.Refusal.{Refusal}
+use Rattle.sd_c.specs.declared.refusal.Refusal.TheVariants.{Memory, Utf8, Text, Wire, Sid}
+
+-- ---- the answer and the room
+
+-- the bytes are wanted in the room: status 0, or 2 where it is too small
+abbrev pub written : List ℕ → List ℕ → Written
+written bytes room = record { status = (if nat_lt (length room) (length bytes) then 2 else 0); fault = 0; place = 0; length = length bytes }
+
+-- they stand at the front of the room; where it is too small it is as it was
+abbrev pub room_with : List ℕ → List ℕ → List ℕ
+room_with bytes room = if nat_lt (length room) (length bytes) then room else bytes ++ drop (length bytes) room
+
+-- nothing is written: why, the fault's number, and its place in a text
+abbrev pub not_written : ℕ → ℕ → ℕ → Written
+not_written status fault place = record { status = status; fault = fault; place = place; length = 0 }
+
+abbrev pub refused : Refusal → Written
+refused Memory = not_written 1 0 0
+refused (Utf8 place) = not_written 3 0 place
+refused (Text fault place) = not_written 4 (number_of fault) place
+refused (Wire fault) = not_written 5 (wire_fault_number fault) 0
+refused (Sid fault) = not_written 6 (sid_error_number fault) 0
+
+-- the call writes these bytes, or tells that the room is too small for them
+abbrev pub Writes : List ℕ → List ℕ → List ℕ → Written → Type 0
+Writes bytes old new answer = (answer ≡ written bytes old) × (new ≡ room_with bytes old)
+
+-- the call refuses, and writes nothing
+abbrev pub Refuses : Refusal → List ℕ → List ℕ → Written → Type 0
+Refuses why old new answer = (answer ≡ refused why) × (new ≡ old)
+
+-- the call writes bytes that are right, or refuses for a reason that holds
+abbrev pub Answers : (List ℕ → Type 0) → (Refusal → Type 0) → List ℕ → List ℕ → Written → Type 0
+Answers Right Holds old new answer =
+    ((bytes : List ℕ) × Right bytes × Writes bytes old new answer)
+    ⊎ ((why : Refusal) × Holds why × Refuses why old new answer)
+
+-- ---- reasons
+
+-- the text isn't UTF-8, from this byte on
+abbrev pub IsNotUtf8 : List ℕ → ℕ → Type 0
+IsNotUtf8 text place = ¬ (IsUtf8 text) × IsValidUpTo text place
+
+-- a text of the grammar is refused: it isn't UTF-8 from there on, or has its fault there
+abbrev pub RefusesText : {A : Type 0} → Grammar A → List ℕ → Refusal → Type 0
+RefusesText grammar text Memory = Unit {0}
+RefusesText grammar text (Utf8 place) = IsNotUtf8 text place
+RefusesText grammar text (Text fault place) = HasFault grammar text fault place
+RefusesText grammar text (Wire fault) = ⊥
+RefusesText grammar text (Sid fault) = ⊥
+
+-- bytes are refused: they hold no descriptor
+abbrev pub RefusesBytes : List ℕ → Refusal → Type 0
+RefusesBytes bytes Memory = Unit {0}
+RefusesBytes bytes (Utf8 place) = ⊥
+RefusesBytes bytes (Text fault place) = ⊥
+RefusesBytes bytes (Wire fault) = descriptor_read bytes ≡ Err fault
+RefusesBytes bytes (Sid fault) = ⊥
+
+-- bytes are refused: they don't begin with a SID
+abbrev pub RefusesSid : List ℕ → Refusal → Type 0
+RefusesSid bytes Memory = Unit {0}
+RefusesSid bytes (Utf8 place) = ⊥
+RefusesSid bytes (Text fault place) = ⊥
+RefusesSid bytes (Wire fault) = ⊥
+RefusesSid bytes (Sid fault) = sid_reading bytes ≡ Err fault
+
+-- the reason that an error of a text is
+abbrev pub text_refusal : TextError → Refusal
+text_refusal (errors.Fault fault place) = Text fault place
+text_refusal errors.Memory = Memory
+
+-- ---- what is written
+
+-- the self-relative form of the descriptor that the text spells
+abbrev pub IsFormOf : List ℕ → List ℕ → Type 0
+IsFormOf text bytes = (d : DescriptorValue) × Spells sddl text d × (bytes ≡ wire_of d)
+
+-- the canonical text of the descriptor that the text spells
+abbrev pub IsCanonOf : List ℕ → List ℕ → Type 0
+IsCanonOf text printed = (d : DescriptorValue) × Spells sddl text d × (printed ≡ canon d)
+
+-- the canonical text of the descriptor that the bytes hold
+abbrev pub IsTextOf : List ℕ → List ℕ → Type 0
+IsTextOf bytes printed = (d : DescriptorValue) × (descriptor_read bytes ≡ Ok d) × (printed ≡ canon d)
+
+-- the bytes of the SID that the text spells
+abbrev pub IsSidOf : List ℕ → List ℕ → Type 0
+IsSidOf text bytes = (s : SidValue) × Spells sid_text text s × (bytes ≡ bytes_of_sid s)
+
+-- the canonical text of the SID that the bytes begin with
+abbrev pub IsSidTextOf : List ℕ → List ℕ → Type 0
+IsSidTextOf bytes printed = (s : SidValue) × (n : ℕ) × (sid_reading bytes ≡ Ok (s, n)) × (printed ≡ sid_canon s)
+
+-- ---- masks
+
+abbrev pub mask_given : ℕ → MaskAnswer
+mask_given mask = record { status = 0; fault = 0; place = 0; mask = mask }
+
+abbrev pub no_mask : Refusal → MaskAnswer
+no_mask why = record { status = (refused why).status; fault = (refused why).fault; place = (refused why).place; mask = 0 }
+
+-- the text of a mask is refused, for which no memory is wanted
+abbrev pub RefusesMask : List ℕ → Refusal → Type 0
+RefusesMask text Memory = ⊥
+RefusesMask text (Utf8 place) = IsNotUtf8 text place
+RefusesMask text (Text fault place) = HasFault mask_text text fault place
+RefusesMask text (Wire fault) = ⊥
+RefusesMask text (Sid fault) = ⊥
+
+-- the mask that the text spells, or a reason that holds
+abbrev pub AnswersMask : List ℕ → MaskAnswer → Type 0
+AnswersMask text answer =
+    ((mask : ℕ) × Spells mask_text text mask × (answer ≡ mask_given mask))
+    ⊎ ((why : Refusal) × RefusesMask text why × (answer ≡ no_mask why))

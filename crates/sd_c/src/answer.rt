@@ -1,0 +1,215 @@
+//! The answers of the calls, as C takes them: by value, and as numbers.
+
+ghost use Rattle.std.specs.Prelude.{◌≡◌};
+ghost use Rattle.sd_c.specs.Answer.{given, verdict_given, unread, not_read};
+ghost use Rattle.sd_c.specs.Length.{length_told};
+ghost use Rattle.sd_c.specs.Written.{Writes, mask_given, no_mask, not_written, refused};
+
+use crate::refusal::Refusal;
+use crate::stop::NotRead;
+use sd_check::Verdict;
+use sd_sid::Mask;
+
+/// All went well.
+pub const OK: u32 = 0;
+/// Memory ran out.
+pub const MEMORY: u32 = 1;
+/// The room is too small; the answer tells how many bytes are wanted.
+pub const ROOM: u32 = 2;
+/// A text isn't UTF-8.
+pub const UTF8: u32 = 3;
+/// A text isn't read; the fault is one of those of `TextFault`.
+pub const TEXT: u32 = 4;
+/// A descriptor's bytes aren't read; the fault is one of those of `WireFault`.
+pub const WIRE: u32 = 5;
+/// The bytes of a SID aren't read; the fault is one of those of `SidError`.
+pub const SID: u32 = 6;
+/// Bytes stand behind the groups.
+pub const BEHIND_GROUPS: u32 = 7;
+/// A group's state isn't one.
+pub const STATE: u32 = 8;
+/// A bit is no privilege.
+pub const PRIVILEGES: u32 = 9;
+/// A mask of a mapping has a bit beyond 0x001FFFFF.
+pub const MAPPING: u32 = 10;
+/// A handle keeps nothing, or something else; or it keeps something already.
+pub const HANDLE: u32 = 11;
+
+/// What a check answers: a verdict and its mask, or which argument isn't read.
+#[repr(C)]
+#[derive(Clone, Copy, Debug, PartialEq, Eq)]
+pub struct CheckAnswer {
+    pub status: u32,
+    /// The argument that isn't read, counted from 1; 0 where none is to blame.
+    pub argument: u32,
+    /// The fault's number, 0 where there is none.
+    pub fault: u32,
+    /// The verdict, 0 where there is none.
+    pub kind: u32,
+    /// The index of the group that isn't read.
+    pub place: u64,
+    pub mask: u32,
+}
+
+fn given(kind: u32, mask: u32) -> CheckAnswer
+    ensures { result ≡ given kind mask }
+{
+    CheckAnswer {
+        status: OK,
+        argument: 0,
+        fault: 0,
+        kind,
+        place: 0,
+        mask,
+    }
+}
+
+/// The answer that is this verdict.
+pub(crate) fn verdict_given(verdict: Verdict) -> CheckAnswer
+    ensures { result ≡ verdict_given verdict }
+{
+    match verdict {
+        Verdict::Granted(mask) => given(1, mask.bits()),
+        Verdict::Denied { missing } => given(2, missing.bits()),
+        Verdict::Reserved(mask) => given(3, mask.bits()),
+        Verdict::EmptyRequest => given(4, 0),
+    }
+}
+
+/// The answer of a check that isn't made.
+pub(crate) fn unread(status: u32, argument: u32, fault: u8, place: u64) -> CheckAnswer
+    ensures { result ≡ unread status argument fault place }
+{
+    CheckAnswer {
+        status,
+        argument,
+        fault: u32::from(fault),
+        kind: 0,
+        place,
+        mask: 0,
+    }
+}
+
+/// The answer that says which argument isn't read.
+pub(crate) fn not_read(why: NotRead) -> CheckAnswer
+    ensures { result ≡ not_read why }
+{
+    match why {
+        NotRead::Descriptor(fault) => unread(WIRE, 1, fault.number(), 0),
+        NotRead::User(fault) => unread(SID, 2, fault.number(), 0),
+        NotRead::Group { fault, at } => unread(SID, 3, fault.number(), at),
+        NotRead::BehindGroups { at } => unread(BEHIND_GROUPS, 3, 0, at),
+        NotRead::State { at } => unread(STATE, 4, 0, at),
+        NotRead::PrivilegeBits => unread(PRIVILEGES, 5, 0, 0),
+        NotRead::MappingBits => unread(MAPPING, 6, 0, 0),
+        NotRead::DescriptorHandle => unread(HANDLE, 1, 0, 0),
+        NotRead::TokenHandle => unread(HANDLE, 7, 0, 0),
+    }
+}
+
+/// What a call that writes answers.
+#[repr(C)]
+#[derive(Clone, Copy, Debug, PartialEq, Eq)]
+pub struct Written {
+    pub status: u32,
+    /// The fault's number, 0 where there is none.
+    pub fault: u32,
+    /// Where a fault stands in a text, in bytes from 0.
+    pub place: u64,
+    /// The bytes that are written, or would be where the room is too small.
+    pub length: u64,
+}
+
+/// Writes the bytes at the front of the room, where they fit.
+pub(crate) fn write(bytes: &[u8], room: &mut [u8]) -> Written
+    ensures { Writes bytes.now room.old room.new result }
+{
+    let status = if room.len() < bytes.len() { ROOM } else { OK };
+    if status == OK {
+        room[..bytes.len()].copy_from_slice(bytes);
+    }
+    Written {
+        status,
+        fault: 0,
+        place: 0,
+        length: bytes.len() as u64,
+    }
+}
+
+/// The answer that tells a length.
+pub(crate) fn length_told(length: u64) -> Written
+    ensures { result ≡ length_told length }
+{
+    Written {
+        status: OK,
+        fault: 0,
+        place: 0,
+        length,
+    }
+}
+
+pub(crate) fn not_written(status: u32, fault: u8, place: u64) -> Written
+    ensures { result ≡ not_written status fault place }
+{
+    Written {
+        status,
+        fault: u32::from(fault),
+        place,
+        length: 0,
+    }
+}
+
+/// The answer that says why nothing is written.
+pub(crate) fn refused(why: Refusal) -> Written
+    ensures { result ≡ refused why }
+{
+    match why {
+        Refusal::Memory => not_written(MEMORY, 0, 0),
+        Refusal::Utf8 { place } => not_written(UTF8, 0, place),
+        Refusal::Text { fault, place } => not_written(TEXT, fault.number(), place),
+        Refusal::Wire(fault) => not_written(WIRE, fault.number(), 0),
+        Refusal::Sid(fault) => not_written(SID, fault.number(), 0),
+    }
+}
+
+/// What the reading of a mask's text answers.
+#[repr(C)]
+#[derive(Clone, Copy, Debug, PartialEq, Eq)]
+pub struct MaskAnswer {
+    pub status: u32,
+    /// The fault's number, 0 where there is none.
+    pub fault: u32,
+    /// Where a fault stands in the text, in bytes from 0.
+    pub place: u64,
+    pub mask: u32,
+}
+
+/// The answer that is this mask.
+pub(crate) fn mask_given(mask: Mask) -> MaskAnswer
+    ensures { result ≡ mask_given mask }
+{
+    MaskAnswer {
+        status: OK,
+        fault: 0,
+        place: 0,
+        mask: mask.bits(),
+    }
+}
+
+/// The answer that says why no mask was read.
+pub(crate) fn no_mask(why: Refusal) -> MaskAnswer
+    ensures { result ≡ no_mask why }
+{
+    let Written {
+        status,
+        fault,
+        place,
+        ..
+    } = refused(why);
+    MaskAnswer {
+        status,
+        fault,
+        place,
+        mask: 0,
+    }
+}

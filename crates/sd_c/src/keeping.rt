@@ -1,0 +1,128 @@
+//! The calls that keep what they read behind a handle.
+
+ghost use Rattle.std.specs.Prelude.{◌≡◌, ◌⊎◌, IfErr, IfOk};
+ghost use Rattle.sd_acl.specs.Descriptor.{DescriptorValue};
+ghost use Rattle.sd_check.specs.Token.{TokenValue};
+ghost use Rattle.sd_text.specs.Grammar.{Spells};
+ghost use Rattle.sd_text.specs.Sddl.{sddl};
+ghost use Rattle.sd_c.specs.Answer.{check_memory};
+ghost use Rattle.sd_c.specs.Kept.{IsHeldAs, KeepsDescriptor, KeepsToken, TokenInUse, descriptor_in, token_in};
+ghost use Rattle.sd_c.specs.Request.{Fails, token_read};
+ghost use Rattle.sd_c.specs.Written.{RefusesBytes, RefusesText};
+
+use crate::answer::{
+    CheckAnswer, HANDLE, MEMORY, OK, Written, not_read, not_written, refused, unread,
+};
+use crate::handle::{Handle, Kept};
+use crate::refusal::Refusal;
+use crate::request::token_of;
+use crate::stop::Stop;
+use crate::text::descriptor_of;
+use sd_wire::{WireError, read_descriptor};
+use std::alloc::Global;
+
+/// Keeps the descriptor that the SDDL text spells ([MS-DTYP] 2.5.1). Refused as `hudarin_sddl_to_bytes` is, or where the
+/// handle keeps something already; then it stays as it was.
+#[unsafe(no_mangle)]
+pub extern "C" fn hudarin_keep_sddl(alloc: Global, text: &[u8], handle: &mut Handle) -> Written
+    ensures { KeepsDescriptor (Spells sddl text.now) (RefusesText sddl text.now) handle.old handle.new result }
+{
+    if handle.is_there == 1 {
+        return not_written(HANDLE, 0, 0);
+    }
+    match kept_text(alloc, text) {
+        Ok(kept) => {
+            handle.put(kept);
+            not_written(OK, 0, 0)
+        }
+        Err(why) => refused(why),
+    }
+}
+
+/// Keeps the descriptor at the front of the bytes ([MS-DTYP] 2.4.6). Refused as `hudarin_bytes_to_sddl` is, or where the
+/// handle keeps something already; then it stays as it was.
+#[unsafe(no_mangle)]
+pub extern "C" fn hudarin_keep_bytes(alloc: Global, bytes: &[u8], handle: &mut Handle) -> Written
+    ensures { KeepsDescriptor (IsHeldAs bytes.now) (RefusesBytes bytes.now) handle.old handle.new result }
+{
+    if handle.is_there == 1 {
+        return not_written(HANDLE, 0, 0);
+    }
+    match kept_bytes(alloc, bytes) {
+        Ok(kept) => {
+            handle.put(kept);
+            not_written(OK, 0, 0)
+        }
+        Err(why) => refused(why),
+    }
+}
+
+/// Keeps the token of a user, groups with their states, and privileges ([MS-DTYP] 2.5.2), as `hudarin_check` reads them.
+/// Refused where one of them isn't read, memory runs out, or the handle keeps something already; then it stays as it was.
+#[unsafe(no_mangle)]
+pub extern "C" fn hudarin_keep_token(
+    alloc: Global,
+    user: &[u8],
+    groups: &[u8],
+    states: &[u32],
+    privileges: u32,
+    handle: &mut Handle,
+) -> CheckAnswer
+    ensures { KeepsToken (token_read user.now groups.now states.now privileges) handle.old handle.new result
+        ⊎ ((result ≡ check_memory) × (handle.new ≡ handle.old))
+        ⊎ TokenInUse handle.old handle.new result }
+{
+    if handle.is_there == 1 {
+        return unread(HANDLE, 7, 0, 0);
+    }
+    match kept_token(alloc, user, groups, states, privileges) {
+        Ok(kept) => {
+            handle.put(kept);
+            unread(OK, 0, 0, 0)
+        }
+        Err(Stop::NotRead(why)) => not_read(why),
+        Err(Stop::Memory) => unread(MEMORY, 0, 0, 0),
+    }
+}
+
+fn kept_text(alloc: Global, text: &[u8]) -> Result<Box<Kept>, Refusal>
+    ensures ok { IfOk result (λ kept. (d : DescriptorValue) × Spells sddl text.now d × (descriptor_in kept.value ≡ Ok d)) }
+    ensures err { IfErr result (λ why. RefusesText sddl text.now why) }
+{
+    let descriptor = descriptor_of(alloc, text)?;
+    match Box::new(alloc, Kept::Descriptor(descriptor)) {
+        Ok(kept) => Ok(kept),
+        Err(_) => Err(Refusal::Memory),
+    }
+}
+
+fn kept_bytes(alloc: Global, bytes: &[u8]) -> Result<Box<Kept>, Refusal>
+    ensures ok { IfOk result (λ kept. (d : DescriptorValue) × IsHeldAs bytes.now d × (descriptor_in kept.value ≡ Ok d)) }
+    ensures err { IfErr result (λ why. RefusesBytes bytes.now why) }
+{
+    match read_descriptor(alloc, bytes) {
+        Ok(descriptor) => match Box::new(alloc, Kept::Descriptor(descriptor)) {
+            Ok(kept) => Ok(kept),
+            Err(_) => Err(Refusal::Memory),
+        },
+        Err(WireError::Fault(fault)) => Err(Refusal::Wire(fault)),
+        Err(WireError::Memory) => Err(Refusal::Memory),
+    }
+}
+
+fn kept_token(
+    alloc: Global,
+    user: &[u8],
+    groups: &[u8],
+    states: &[u32],
+    privileges: u32,
+) -> Result<Box<Kept>, Stop>
+    ensures ok { IfOk result (λ kept. (t : TokenValue) × (token_read user.now groups.now states.now privileges ≡ Ok t) × (token_in kept.value ≡ Ok t)) }
+    ensures err { IfErr result (λ stop. Fails stop (token_read user.now groups.now states.now privileges)) }
+{
+    let token = token_of(alloc, user, groups, states, privileges)?;
+    match Box::new(alloc, Kept::Token(token)) {
+        Ok(kept) => Ok(kept),
+        Err(_) => Err(Stop::Memory),
+    }
+}

@@ -1,0 +1,32 @@
+//! Why nothing is written.
+
+ghost use Rattle.std.specs.Prelude.{◌≡◌};
+ghost use Rattle.sd_c.specs.declared.refusal.Refusal.TheVariants.{Memory};
+
+use sd_sid::SidError;
+use sd_text::TextFault;
+use sd_wire::WireFault;
+use std::alloc::AllocError;
+
+/// Why a call that writes is refused.
+#[derive(Clone, Copy)]
+pub enum Refusal {
+    /// Memory ran out.
+    Memory,
+    /// The text isn't UTF-8 from this byte on.
+    Utf8 { place: u64 },
+    /// The text's first fault, and its byte.
+    Text { fault: TextFault, place: u64 },
+    /// The bytes hold no descriptor.
+    Wire(WireFault),
+    /// The bytes don't begin with a SID.
+    Sid(SidError),
+}
+
+impl From<AllocError> for Refusal {
+    ghost from_gives = { λ _ why. why ≡ Memory };
+
+    fn from(_: AllocError) -> Refusal {
+        Refusal::Memory
+    }
+}

@@ -1,0 +1,142 @@
+//! The calls that turn a text into bytes, a canonical text or a number.
+
+ghost use Rattle.std.specs.Prelude.{◌≡◌, IfOk, IfErr, string_bytes};
+ghost use Rattle.sd_acl.specs.Descriptor.{descriptor_of as value_of};
+ghost use Rattle.sd_text.specs.Grammar.{Spells};
+ghost use Rattle.sd_text.specs.Rights.{mask_text};
+ghost use Rattle.sd_text.specs.Sddl.{sddl};
+ghost use Rattle.sd_text.specs.Sid.{sid_text};
+ghost use Rattle.sd_c.specs.Written.{Answers, AnswersMask, IsCanonOf, IsFormOf, IsNotUtf8, IsSidOf, RefusesMask, RefusesText, text_refusal};
+
+use crate::answer::{MaskAnswer, Written, mask_given, no_mask, refused, write};
+use crate::refusal::Refusal;
+use sd_acl::Descriptor;
+use sd_sid::{Mask, sid_bytes};
+use sd_text::{TextError, print_sddl, read_mask, read_sddl, read_sid_text};
+use sd_wire::write_descriptor;
+use std::alloc::Global;
+
+/// The self-relative form ([MS-DTYP] 2.4.6) of the descriptor that the SDDL text spells ([MS-DTYP] 2.5.1), written into the
+/// room. Refused where the text isn't UTF-8, has a fault, or memory runs out; then, and where the room is too small, nothing
+/// is written.
+#[unsafe(no_mangle)]
+pub extern "C" fn hudarin_sddl_to_bytes(alloc: Global, text: &[u8], room: &mut [u8]) -> Written
+    ensures { Answers (IsFormOf text.now) (RefusesText sddl text.now) room.old room.new result }
+{
+    match form_of(alloc, text) {
+        Ok(bytes) => write(&bytes, room),
+        Err(why) => refused(why),
+    }
+}
+
+/// The canonical text of the descriptor that the SDDL text spells ([MS-DTYP] 2.5.1), written into the room, and refused as
+/// `hudarin_sddl_to_bytes` is.
+#[unsafe(no_mangle)]
+pub extern "C" fn hudarin_sddl_canonical(alloc: Global, text: &[u8], room: &mut [u8]) -> Written
+    ensures { Answers (IsCanonOf text.now) (RefusesText sddl text.now) room.old room.new result }
+{
+    match canon_of(alloc, text) {
+        Ok(printed) => write(printed.as_bytes(), room),
+        Err(why) => refused(why),
+    }
+}
+
+/// The bytes of the SID that the text spells, in full or by its alias ([MS-DTYP] 2.4.2), written into the room, and refused
+/// as `hudarin_sddl_to_bytes` is. At most 68 bytes are written.
+#[unsafe(no_mangle)]
+pub extern "C" fn hudarin_sid_text_to_bytes(alloc: Global, text: &[u8], room: &mut [u8]) -> Written
+    ensures { Answers (IsSidOf text.now) (RefusesText sid_text text.now) room.old room.new result }
+{
+    match sid_of(alloc, text) {
+        Ok(bytes) => write(&bytes, room),
+        Err(why) => refused(why),
+    }
+}
+
+/// The mask that the text spells: a number, or names of rights ([MS-DTYP] 2.5.1.1, ace-rights). Refused where the text isn't
+/// UTF-8 or has a fault. Takes no memory.
+#[unsafe(no_mangle)]
+pub extern "C" fn hudarin_mask_from_text(text: &[u8]) -> MaskAnswer
+    ensures { AnswersMask text.now result }
+{
+    match mask_of(text) {
+        Ok(mask) => mask_given(mask),
+        Err(why) => no_mask(why),
+    }
+}
+
+/// The bytes as a text, or where they cease to be UTF-8.
+fn utf8_of(bytes: &[u8]) -> Result<&str, u64>
+    ensures ok { IfOk result (λ text. text.now ≡ bytes.now) }
+    ensures err { IfErr result (λ place. IsNotUtf8 bytes.now place) }
+{
+    match str::from_utf8(bytes) {
+        Ok(text) => Ok(text),
+        Err(e) => Err(e.valid_up_to() as u64),
+    }
+}
+
+/// The reason that an error of a text is.
+fn refusal_of(e: TextError) -> Refusal
+    ensures { result ≡ text_refusal e }
+{
+    match e {
+        TextError::Fault { fault, place } => Refusal::Text { fault, place },
+        TextError::Memory => Refusal::Memory,
+    }
+}
+
+pub(crate) fn descriptor_of(alloc: Global, text: &[u8]) -> Result<Descriptor, Refusal>
+    ensures ok { IfOk result (λ d. Spells sddl text.now (value_of d)) }
+    ensures err { IfErr result (λ why. RefusesText sddl text.now why) }
+{
+    match utf8_of(text) {
+        Ok(text) => match read_sddl(alloc, text) {
+            Ok(descriptor) => Ok(descriptor),
+            Err(e) => Err(refusal_of(e)),
+        },
+        Err(place) => Err(Refusal::Utf8 { place }),
+    }
+}
+
+fn form_of(alloc: Global, text: &[u8]) -> Result<Vec<u8>, Refusal>
+    ensures ok { IfOk result (λ bytes. IsFormOf text.now bytes.items) }
+    ensures err { IfErr result (λ why. RefusesText sddl text.now why) }
+{
+    let descriptor = descriptor_of(alloc, text)?;
+    Ok(write_descriptor(alloc, &descriptor)?)
+}
+
+fn canon_of(alloc: Global, text: &[u8]) -> Result<String, Refusal>
+    ensures ok { IfOk result (λ printed. IsCanonOf text.now (string_bytes printed)) }
+    ensures err { IfErr result (λ why. RefusesText sddl text.now why) }
+{
+    let descriptor = descriptor_of(alloc, text)?;
+    Ok(print_sddl(alloc, &descriptor)?)
+}
+
+fn sid_of(alloc: Global, text: &[u8]) -> Result<Vec<u8>, Refusal>
+    ensures ok { IfOk result (λ bytes. IsSidOf text.now bytes.items) }
+    ensures err { IfErr result (λ why. RefusesText sid_text text.now why) }
+{
+    match utf8_of(text) {
+        Ok(text) => match read_sid_text(text) {
+            Ok(sid) => Ok(sid_bytes(alloc, &sid)?),
+            Err(e) => Err(refusal_of(e)),
+        },
+        Err(place) => Err(Refusal::Utf8 { place }),
+    }
+}
+
+fn mask_of(text: &[u8]) -> Result<Mask, Refusal>
+    ensures ok { IfOk result (λ mask. Spells mask_text text.now mask) }
+    ensures err { IfErr result (λ why. RefusesMask text.now why) }
+{
+    match utf8_of(text) {
+        Ok(text) => match read_mask(text) {
+            Ok(mask) => Ok(mask),
+            Err(e) => Err(refusal_of(e)),
+        },
+        Err(place) => Err(Refusal::Utf8 { place }),
+    }
+}
