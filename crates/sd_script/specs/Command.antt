@@ -9,7 +9,7 @@ use Rattle.sd_tree.specs.declared.edit.Edit.TheVariants as edits
 use Rattle.sd_share.specs.declared.request.Request.{Request}
 use Rattle.sd_share.specs.declared.request.Request.TheVariants as requests
 use Rattle.sd_script.specs.Argument.{number, path, sid, mask, token, node, dacl}
-use Rattle.sd_script.specs.Fault.{Reading, Just, Then, nothing_read}
+use Rattle.sd_script.specs.Fault.{Reading, Just, Faulty, Then}
 use Rattle.sd_script.specs.Lines.{words_of}
 use Rattle.sd_script.specs.Word.{texts}
 use Rattle.sd_script.specs.declared.asked.Asked.{Asked}
@@ -20,7 +20,7 @@ use Rattle.sd_script.specs.declared.command.CommandName.{CommandName}
 use Rattle.sd_script.specs.declared.command.CommandName.TheVariants as names
 use Rattle.sd_script.specs.declared.fault.LineFault.TheVariants as faults
 use Rattle.sd_script.specs.declared.mode.Mode.{Mode}
-use Rattle.sd_script.specs.declared.mode.Mode.TheVariants.{Script}
+use Rattle.sd_script.specs.declared.mode.Mode.TheVariants.{Script, Audit}
 
 -- ---- commands, with their words as they stand
 
@@ -109,6 +109,7 @@ is_untimely is_open command = not is_open
 -- for how many readers a store is opened
 abbrev pub readers_in : Mode → ℕ → ℕ
 readers_in Script readers = readers
+readers_in (Audit workers) readers = workers
 
 abbrev pub edit : Edit → Reading Asked
 edit e = Just (Asking (requests.Edit e))
@@ -126,26 +127,35 @@ check_by reader names asked words user = Then (mask asked) (check_with reader na
 abbrev pub check_of : ℕ → Names → List ℕ → List ℕ → List (List ℕ) → Reading Asked
 check_of reader names user asked words = Then (sid user) (check_by reader names asked words)
 
--- what each command but an opening asks of the store that is open
-abbrev pub asks_of_store : CommandValue → Reading Asked
-asks_of_store (Open readers sddl) = nothing_read
-asks_of_store (AddContainer at sddl) = Then (path at) (λ p. Then (node sddl) (λ n. edit (edits.AddContainer p n.owner n.group n.dacl)))
-asks_of_store (AddObject at sddl) = Then (path at) (λ p. Then (node sddl) (λ n. edit (edits.AddObject p n.owner n.group n.dacl)))
-asks_of_store (SetOwner at owner) = Then (path at) (λ p. Then (sid owner) (λ s. edit (edits.SetOwner p s)))
-asks_of_store (SetGroup at group) = Then (path at) (λ p. Then (sid group) (λ s. edit (edits.SetGroup p s)))
-asks_of_store (SetDacl at sddl) = Then (path at) (λ p. Then (dacl sddl) (λ d. edit (edits.SetDacl p d)))
-asks_of_store (Remove at) = Then (path at) (λ p. edit (edits.Remove p))
-asks_of_store (Protect at) = Then (path at) (λ p. edit (edits.ProtectKeeping p))
-asks_of_store Publish = request requests.Publish
-asks_of_store Tell = request requests.Tell
-asks_of_store (Learn reader length) = Then (number reader) (λ i. Then (number length) (λ n. request (requests.Learn i n)))
-asks_of_store (Check reader at user asked words) =
+-- what each command asks for, by its words alone
+abbrev pub asks_by_words : CommandValue → Reading Asked
+asks_by_words (Open readers sddl) = Then (number readers) (λ n. Then (node sddl) (λ root. Just (Opening n root)))
+asks_by_words (AddContainer at sddl) = Then (path at) (λ p. Then (node sddl) (λ n. edit (edits.AddContainer p n.owner n.group n.dacl)))
+asks_by_words (AddObject at sddl) = Then (path at) (λ p. Then (node sddl) (λ n. edit (edits.AddObject p n.owner n.group n.dacl)))
+asks_by_words (SetOwner at owner) = Then (path at) (λ p. Then (sid owner) (λ s. edit (edits.SetOwner p s)))
+asks_by_words (SetGroup at group) = Then (path at) (λ p. Then (sid group) (λ s. edit (edits.SetGroup p s)))
+asks_by_words (SetDacl at sddl) = Then (path at) (λ p. Then (dacl sddl) (λ d. edit (edits.SetDacl p d)))
+asks_by_words (Remove at) = Then (path at) (λ p. edit (edits.Remove p))
+asks_by_words (Protect at) = Then (path at) (λ p. edit (edits.ProtectKeeping p))
+asks_by_words Publish = request requests.Publish
+asks_by_words Tell = request requests.Tell
+asks_by_words (Learn reader length) = Then (number reader) (λ i. Then (number length) (λ n. request (requests.Learn i n)))
+asks_by_words (Check reader at user asked words) =
     Then (number reader) (λ i. Then (path at) (λ p. check_of i p user asked words))
-asks_of_store (Show reader at) = Then (number reader) (λ i. Then (path at) (λ p. request (requests.Show i p)))
+asks_by_words (Show reader at) = Then (number reader) (λ i. Then (path at) (λ p. request (requests.Show i p)))
+
+-- what that is in this mode: an audit opens its store for its own number of readers, and tells, teaches and shows
+-- nothing
+abbrev pub in_mode : Mode → Asked → Reading Asked
+in_mode mode (Opening readers root) = Just (Opening (readers_in mode readers) root)
+in_mode Script (Asking r) = request r
+in_mode (Audit workers) (Asking requests.Tell) = Faulty faults.Audit
+in_mode (Audit workers) (Asking (requests.Learn reader length)) = Faulty faults.Audit
+in_mode (Audit workers) (Asking (requests.Show reader names)) = Faulty faults.Audit
+in_mode (Audit workers) (Asking r) = request r
 
 abbrev pub asks : Mode → CommandValue → Reading Asked
-asks mode (Open readers sddl) = Then (number readers) (λ n. Then (node sddl) (λ root. Just (Opening (readers_in mode n) root)))
-asks mode command = asks_of_store command
+asks mode command = Then (asks_by_words command) (in_mode mode)
 
 -- ---- what a line asks for
 

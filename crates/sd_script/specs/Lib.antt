@@ -1,5 +1,7 @@
 pub mod Answer
 pub mod Argument
+pub mod Audit
+pub mod Auditing
 pub mod Command
 pub mod Fault
 pub mod Lines

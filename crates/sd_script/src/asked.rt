@@ -1,12 +1,12 @@
 //! What a line asks for, and how its words are read.
 ghost use Rattle.std.specs.Prelude.{◌≡◌};
-ghost use Rattle.sd_script.specs.Command.{CommandValue, Open, AddContainer, AddObject, SetOwner, SetGroup, SetDacl, Remove, Protect, Learn, Check, Show, asks, asks_of_store, check_of, command_value};
+ghost use Rattle.sd_script.specs.Command.{in_mode, CommandValue, Open, AddContainer, AddObject, SetOwner, SetGroup, SetDacl, Remove, Protect, Learn, Check, Show, asks, asks_by_words, check_of, command_value};
 ghost use Rattle.sd_script.specs.Fault.{UnlessMemory};
 ghost use Rattle.sd_script.specs.Word.{texts};
 
 use crate::argument::{dacl_in, mask_in, node_in, number_in, path_in, sid_in, token_in};
 use crate::command::Command;
-use crate::fault::Stop;
+use crate::fault::{LineFault, Stop};
 use crate::mode::Mode;
 use sd_share::Request;
 use sd_tree::{Edit, Path, RootSpec};
@@ -21,12 +21,38 @@ pub(crate) enum Asked {
     Asking(Request),
 }
 
-/// What a command asks for, or its first argument from the left that isn't read.
+/// What a command asks for in this mode, or its first argument from the left that isn't read.
 pub(crate) fn asked_by(alloc: Global, mode: Mode, command: Command<'_>) -> Result<Asked, Stop>
     ensures { UnlessMemory (asks mode (command_value command.entry)) result }
 {
+    let asked = asked_by_words(alloc, command)?;
+    let asked = in_mode(mode, asked)?;
+    Ok(asked)
+}
+
+/// What is asked for, in this mode: an audit tells, teaches and shows nothing.
+fn in_mode(mode: Mode, asked: Asked) -> Result<Asked, LineFault>
+    ensures { in_mode mode asked result }
+{
+    match (mode, asked) {
+        (_, Asked::Opening { readers, root }) => Ok(Asked::Opening {
+            readers: mode.readers(readers),
+            root,
+        }),
+        (
+            Mode::Audit(_),
+            Asked::Asking(Request::Tell | Request::Learn { .. } | Request::Show { .. }),
+        ) => Err(LineFault::Audit),
+        (_, asked) => Ok(asked),
+    }
+}
+
+/// What a command asks for, by its words alone.
+fn asked_by_words(alloc: Global, command: Command<'_>) -> Result<Asked, Stop>
+    ensures { UnlessMemory (asks_by_words (command_value command.entry)) result }
+{
     match command {
-        Command::Open { readers, sddl } => opening(alloc, mode, readers, sddl),
+        Command::Open { readers, sddl } => opening(alloc, readers, sddl),
         Command::AddContainer { path, sddl } => added_container(alloc, path, sddl),
         Command::AddObject { path, sddl } => added_object(alloc, path, sddl),
         Command::SetOwner { path, sid } => set_owner(alloc, path, sid),
@@ -48,17 +74,16 @@ pub(crate) fn asked_by(alloc: Global, mode: Mode, command: Command<'_>) -> Resul
     }
 }
 
-fn opening(alloc: Global, mode: Mode, readers: &str, sddl: &str) -> Result<Asked, Stop>
-    ensures { UnlessMemory (asks mode (Open readers.now sddl.now)) result }
+fn opening(alloc: Global, readers: &str, sddl: &str) -> Result<Asked, Stop>
+    ensures { UnlessMemory (asks_by_words (Open readers.now sddl.now)) result }
 {
-    let named = number_in(readers)?;
+    let readers = number_in(readers)?;
     let root = node_in(alloc, sddl)?;
-    let readers = mode.readers(named);
     Ok(Asked::Opening { readers, root })
 }
 
 fn added_container(alloc: Global, path: &str, sddl: &str) -> Result<Asked, Stop>
-    ensures { UnlessMemory (asks_of_store (AddContainer path.now sddl.now)) result }
+    ensures { UnlessMemory (asks_by_words (AddContainer path.now sddl.now)) result }
 {
     let path = path_in(alloc, path)?;
     let RootSpec { owner, group, dacl } = node_in(alloc, sddl)?;
@@ -71,7 +96,7 @@ fn added_container(alloc: Global, path: &str, sddl: &str) -> Result<Asked, Stop>
 }
 
 fn added_object(alloc: Global, path: &str, sddl: &str) -> Result<Asked, Stop>
-    ensures { UnlessMemory (asks_of_store (AddObject path.now sddl.now)) result }
+    ensures { UnlessMemory (asks_by_words (AddObject path.now sddl.now)) result }
 {
     let path = path_in(alloc, path)?;
     let RootSpec { owner, group, dacl } = node_in(alloc, sddl)?;
@@ -84,7 +109,7 @@ fn added_object(alloc: Global, path: &str, sddl: &str) -> Result<Asked, Stop>
 }
 
 fn set_owner(alloc: Global, path: &str, sid: &str) -> Result<Asked, Stop>
-    ensures { UnlessMemory (asks_of_store (SetOwner path.now sid.now)) result }
+    ensures { UnlessMemory (asks_by_words (SetOwner path.now sid.now)) result }
 {
     let path = path_in(alloc, path)?;
     let owner = sid_in(sid)?;
@@ -92,7 +117,7 @@ fn set_owner(alloc: Global, path: &str, sid: &str) -> Result<Asked, Stop>
 }
 
 fn set_group(alloc: Global, path: &str, sid: &str) -> Result<Asked, Stop>
-    ensures { UnlessMemory (asks_of_store (SetGroup path.now sid.now)) result }
+    ensures { UnlessMemory (asks_by_words (SetGroup path.now sid.now)) result }
 {
     let path = path_in(alloc, path)?;
     let group = sid_in(sid)?;
@@ -100,7 +125,7 @@ fn set_group(alloc: Global, path: &str, sid: &str) -> Result<Asked, Stop>
 }
 
 fn set_dacl(alloc: Global, path: &str, sddl: &str) -> Result<Asked, Stop>
-    ensures { UnlessMemory (asks_of_store (SetDacl path.now sddl.now)) result }
+    ensures { UnlessMemory (asks_by_words (SetDacl path.now sddl.now)) result }
 {
     let path = path_in(alloc, path)?;
     let dacl = dacl_in(alloc, sddl)?;
@@ -108,21 +133,21 @@ fn set_dacl(alloc: Global, path: &str, sddl: &str) -> Result<Asked, Stop>
 }
 
 fn removed(alloc: Global, path: &str) -> Result<Asked, Stop>
-    ensures { UnlessMemory (asks_of_store (Remove path.now)) result }
+    ensures { UnlessMemory (asks_by_words (Remove path.now)) result }
 {
     let path = path_in(alloc, path)?;
     Ok(Asked::Asking(Request::Edit(Edit::Remove { path })))
 }
 
 fn protected(alloc: Global, path: &str) -> Result<Asked, Stop>
-    ensures { UnlessMemory (asks_of_store (Protect path.now)) result }
+    ensures { UnlessMemory (asks_by_words (Protect path.now)) result }
 {
     let path = path_in(alloc, path)?;
     Ok(Asked::Asking(Request::Edit(Edit::ProtectKeeping { path })))
 }
 
 fn learned(reader: &str, length: &str) -> Result<Asked, Stop>
-    ensures { UnlessMemory (asks_of_store (Learn reader.now length.now)) result }
+    ensures { UnlessMemory (asks_by_words (Learn reader.now length.now)) result }
 {
     let reader = number_in(reader)?;
     let length = number_in(length)?;
@@ -137,7 +162,7 @@ fn checked(
     mask: &str,
     words: &[&str],
 ) -> Result<Asked, Stop>
-    ensures { UnlessMemory (asks_of_store (Check reader.now path.now user.now mask.now (texts words.now))) result }
+    ensures { UnlessMemory (asks_by_words (Check reader.now path.now user.now mask.now (texts words.now))) result }
 {
     let reader = number_in(reader)?;
     let path = path_in(alloc, path)?;
@@ -167,7 +192,7 @@ fn checked_for(
 }
 
 fn shown(alloc: Global, reader: &str, path: &str) -> Result<Asked, Stop>
-    ensures { UnlessMemory (asks_of_store (Show reader.now path.now)) result }
+    ensures { UnlessMemory (asks_by_words (Show reader.now path.now)) result }
 {
     let reader = number_in(reader)?;
     let path = path_in(alloc, path)?;

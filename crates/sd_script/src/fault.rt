@@ -30,6 +30,8 @@ pub(crate) enum LineFault {
     Mask,
     /// The word is no group and no privilege.
     Token,
+    /// An audit tells, teaches and shows nothing.
+    Audit,
 }
 
 /// Why a line isn't read: its fault, or want of memory.
@@ -78,5 +80,6 @@ pub(crate) fn line_of_fault(alloc: Global, fault: LineFault) -> Result<String, A
         LineFault::Parts => fault_line(alloc, "parts"),
         LineFault::Mask => fault_line(alloc, "mask"),
         LineFault::Token => fault_line(alloc, "token"),
+        LineFault::Audit => fault_line(alloc, "audit"),
     }
 }

@@ -16,8 +16,12 @@
 mod answer;
 mod argument;
 mod asked;
+mod audit;
+mod auditing;
+mod closing;
 mod command;
 mod fault;
+mod hearing;
 mod line;
 mod lines;
 mod mode;
@@ -27,6 +31,7 @@ mod streams;
 mod word;
 
 pub use answer::{fault_line, sddl_fault_line, verdict_line};
+pub use audit::run_audit;
 pub use mode::Mode;
 pub use script::script_output;
 pub use streams::run;

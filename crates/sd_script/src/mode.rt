@@ -7,6 +7,8 @@ ghost use Rattle.sd_script.specs.Command.{readers_in};
 pub enum Mode {
     /// Each line is answered as it comes.
     Script,
+    /// Edits are answered as they come, and checks at the end, by so many workers.
+    Audit(u64),
 }
 
 impl Mode {
@@ -16,6 +18,7 @@ impl Mode {
     {
         match self {
             Mode::Script => named,
+            Mode::Audit(workers) => workers,
         }
     }
 }

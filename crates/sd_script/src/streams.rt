@@ -3,6 +3,7 @@
 ghost use Rattle.std.specs.Prelude.{◌≡◌, ◌||◌, Err, IfErr, OnOk};
 ghost use Rattle.sd_stream.specs.Watched.{inner_of, has_failed};
 ghost use Rattle.sd_stream.specs.Whole.{is_read_error, is_write_error, ReadsPart};
+ghost use Rattle.sd_script.specs.Output.{Prints};
 ghost use Rattle.sd_script.specs.Run.{AppendsOutput, LeavesOutput};
 
 use crate::mode::Mode;
@@ -22,9 +23,9 @@ pub fn run<R: Read, W: Write>(
     reader: &mut Watched<R>,
     writer: &mut Watched<W>,
 ) -> Result<(), RunError>
-    ensures ok { OnOk result (AppendsOutput Mode.Script (R.remaining (inner_of reader.old))
+    ensures ok { OnOk result (AppendsOutput (Prints Mode.Script) (R.remaining (inner_of reader.old))
         (W.contents (inner_of writer.old)) (W.contents (inner_of writer.new))) }
-    ensures err { IfErr result (LeavesOutput Mode.Script (R.remaining (inner_of reader.old))
+    ensures err { IfErr result (LeavesOutput (Prints Mode.Script) (R.remaining (inner_of reader.old))
         (W.contents (inner_of writer.old)) (W.contents (inner_of writer.new))) }
     ensures too_long { result ≡ Err RunError.TooLong
         → ReadsPart (R.remaining (inner_of reader.old)) (R.remaining (inner_of reader.new)) RunError.TooLong }

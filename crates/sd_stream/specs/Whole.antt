@@ -2,7 +2,7 @@
 use Rattle.std.specs.Prelude.{◌≡◌, ℕ, ◌<◌, ◌≤◌, Bool, true, false, List, ◌++◌, length, Option, Result, Ok, Err}
 use Rattle.std.specs.Io.KnownBytes.{Appends, Consumes}
 use Rattle.sd_stream.specs.declared.error.RunError.{RunError}
-use Rattle.sd_stream.specs.declared.error.RunError.TheVariants.{Read, TooLong, Write, Memory}
+use Rattle.sd_stream.specs.declared.error.RunError.TheVariants.{Read, TooLong, Write, Memory, Thread}
 use Rattle.sd_stream.specs.declared.input.TheConstants.{MAX_INPUT_BYTES}
 
 -- the answer is that the reader failed
@@ -12,6 +12,7 @@ is_read_error (Err Read) = true
 is_read_error (Err TooLong) = false
 is_read_error (Err Write) = false
 is_read_error (Err Memory) = false
+is_read_error (Err Thread) = false
 
 -- the answer is that the writer failed
 abbrev pub is_write_error : {T : Type 0} → Result T RunError → Bool
@@ -20,13 +21,15 @@ is_write_error (Err Read) = false
 is_write_error (Err TooLong) = false
 is_write_error (Err Write) = true
 is_write_error (Err Memory) = false
+is_write_error (Err Thread) = false
 
--- how many bytes were read before each error. A reading never answers Write
+-- how many bytes were read before each error. A reading never answers Write or Thread
 abbrev pub FitsError : RunError → ℕ → Type 0
 FitsError Read count = count ≤ MAX_INPUT_BYTES
 FitsError TooLong count = MAX_INPUT_BYTES < count
 FitsError Write count = ⊥
 FitsError Memory count = count ≤ MAX_INPUT_BYTES
+FitsError Thread count = ⊥
 
 -- known bytes lost a beginning, as long as the error says
 pub record ReadsPart (old new : Option (List ℕ)) (error : RunError) : Type 0 where

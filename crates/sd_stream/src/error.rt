@@ -22,6 +22,9 @@ pub enum RunError {
     /// Memory was refused.
     #[error("sdstore: memory")]
     Memory,
+    /// The workers of an audit, or the store that they share, didn't answer.
+    #[error("sdstore: thread")]
+    Thread,
 }
 
 impl RunError {
@@ -34,6 +37,7 @@ impl RunError {
             RunError::TooLong => 2,
             RunError::Write => 3,
             RunError::Memory => 4,
+            RunError::Thread => 5,
         }
     }
 }

@@ -199,6 +199,7 @@ fn errors_have_numbers_and_texts(rt: HostRuntime) {
         (RunError::TooLong, 2, "sdstore: too long"),
         (RunError::Write, 3, "sdstore: write"),
         (RunError::from(AllocError), 4, "sdstore: memory"),
+        (RunError::Thread, 5, "sdstore: thread"),
     ];
     for (error, number, text) in rows {
         assert_eq!(rt; error.number(), number);

@@ -1,10 +1,16 @@
 -- The proofs of the laws.
 use Rattle.std.proofs.Common.{◌≡◌, ℕ, List, [], ◌∷◌, true, false, Option, Some, None, refl, arith}
+use Rattle.std.specs.Prelude.{option_map}
 use Rattle.std.specs.Borrow.{Bor}
-use Rattle.sd_tool.specs.CommandLine.{InvocationValue, arguments_in, command_named, command_on}
+use Rattle.sd_tool.specs.CommandLine.{InvocationValue, Audit as Audits, arguments_in, command_named, command_on, workers_of}
 use Rattle.sd_tool.specs.Laws.{is_shown, HelpStandsAlone, DashesKeepTexts}
 use Rattle.sd_tool.specs.declared.command_line.CommandName.{CommandName}
-use Rattle.sd_tool.specs.declared.command_line.CommandName.TheVariants.{Verdict, Print, ToBinary, FromBinary, Script}
+use Rattle.sd_tool.specs.declared.command_line.CommandName.TheVariants.{Verdict, Print, ToBinary, FromBinary, Script, Audit}
+
+-- an audit is neither help nor the version, whatever its number
+audit_runs : (workers : Option ℕ) → is_shown (option_map Audits workers) ≡ true → ⊥
+audit_runs (Some n) h = cc
+audit_runs None h = cc
 
 -- a command with arguments is neither help nor the version
 command_runs : (command : CommandName) (arguments : List (Bor (List ℕ))) → is_shown (command_on command arguments) ≡ true → ⊥
@@ -23,6 +29,9 @@ command_runs FromBinary (a ∷ []) h = cc
 command_runs FromBinary (a ∷ b ∷ rest) h = cc
 command_runs Script [] h = cc
 command_runs Script (a ∷ rest) h = cc
+command_runs Audit [] h = cc
+command_runs Audit (a ∷ []) h = audit_runs (workers_of a.now) h
+command_runs Audit (a ∷ b ∷ rest) h = cc
 
 -- nor is what several words behind a first one make
 several_run : (named : Option CommandName) (arguments : List (Bor (List ℕ))) (otherwise : Option InvocationValue)

@@ -25,9 +25,11 @@ use Rattle.sd_check.specs.Dacl.{dacl_entries}
 use Rattle.sd_check.specs.Token.{TokenValue}
 use Rattle.sd_script.specs.Answer.{line, verdict_line, fault_line, sddl_fault_line}
 use Rattle.sd_script.specs.Word.{IsToken, IsNoWordIn, texts}
+use Rattle.sd_script.specs.Audit.{PrintsAudit}
+use Rattle.sd_script.specs.Output.{Prints}
 use Rattle.sd_script.specs.Run.{IsOutput}
 use Rattle.sd_script.specs.declared.mode.Mode.TheVariants.{Script}
-use Rattle.sd_tool.specs.CommandLine.{InvocationValue, Verdict as AsksVerdict, Print, ToBinary, FromBinary, Script as AsksScript, Help, Version}
+use Rattle.sd_tool.specs.CommandLine.{InvocationValue, Verdict as AsksVerdict, Print, ToBinary, FromBinary, Script as AsksScript, Audit as AsksAudit, Help, Version}
 use Rattle.sd_tool.specs.declared.answer.Outcome.{Outcome}
 use Rattle.sd_tool.specs.declared.answer.Outcome.TheVariants.{Done, Refused}
 use Rattle.sd_tool.specs.declared.version.TheConstants.{VERSION, KIT}
@@ -117,7 +119,11 @@ AnswersFromBinary written printed outcome = AnswersDecoded (decode_of written) p
 
 -- the output of the script on the input
 abbrev pub AnswersScript : Option (List ℕ) → List ℕ → Outcome → Type 0
-AnswersScript input printed outcome = IsOutput Script input printed × (outcome ≡ Done)
+AnswersScript input printed outcome = IsOutput (Prints Script) input printed × (outcome ≡ Done)
+
+-- the output of the audit of the script on the input
+abbrev pub AnswersAudit : ℕ → Option (List ℕ) → List ℕ → Outcome → Type 0
+AnswersAudit workers input printed outcome = IsOutput (PrintsAudit workers) input printed × (outcome ≡ Done)
 
 -- what is printed for an invocation, with this input where it is known, and what came of it; the help's text is `clap`'s
 abbrev pub Answers : Option (List ℕ) → InvocationValue → List ℕ → Outcome → Type 0
@@ -126,5 +132,6 @@ Answers input (Print sddl) printed outcome = AnswersPrint sddl printed outcome
 Answers input (ToBinary sddl) printed outcome = AnswersToBinary sddl printed outcome
 Answers input (FromBinary hex) printed outcome = AnswersFromBinary hex printed outcome
 Answers input AsksScript printed outcome = AnswersScript input printed outcome
+Answers input (AsksAudit workers) printed outcome = AnswersAudit workers input printed outcome
 Answers input (Help command) printed outcome = outcome ≡ Done
 Answers input Version printed outcome = IsDone version_lines printed outcome

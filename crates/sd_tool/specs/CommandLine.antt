@@ -1,7 +1,8 @@
 -- The one reading of a command line: which words run a command, and which ask for help or for the version. Any other
 -- words aren't read.
-use Rattle.std.specs.Prelude.{◌≡◌, ℕ, List, [], ◌∷◌, Bool, true, false, ◌||◌, if◌then◌else◌, Option, Some, None, option_map, codes, bytes_eq}
+use Rattle.std.specs.Prelude.{◌≡◌, ℕ, List, [], ◌∷◌, ◌+◌, ◌-◌, ◌*◌, nat_le, Bool, true, false, ◌||◌, ◌&&◌, if◌then◌else◌, Option, Some, None, option_map, codes, bytes_eq}
 use Rattle.std.specs.Borrow.{Bor}
+use Rattle.std.specs.Char.{is_ascii_digit}
 use Rattle.sd_tool.specs.declared.command_line.CommandName.{CommandName}
 use Rattle.sd_tool.specs.declared.command_line.CommandName.TheVariants as names
 use Rattle.sd_tool.specs.declared.command_line.Invocation.{Invocation}
@@ -14,6 +15,7 @@ pub data InvocationValue : Type 0 where
   ToBinary : List ℕ → InvocationValue
   FromBinary : List ℕ → InvocationValue
   Script : InvocationValue
+  Audit : ℕ → InvocationValue
   Help : Option CommandName → InvocationValue
   Version : InvocationValue
 
@@ -23,6 +25,7 @@ invocation_of (invocations.Print sddl) = Print sddl.now
 invocation_of (invocations.ToBinary sddl) = ToBinary sddl.now
 invocation_of (invocations.FromBinary hex) = FromBinary hex.now
 invocation_of invocations.Script = Script
+invocation_of (invocations.Audit workers) = Audit workers
 invocation_of (invocations.Help command) = Help command
 invocation_of invocations.Version = Version
 
@@ -34,7 +37,8 @@ command_named word =
     else (if bytes_eq word (codes "tobin") then Some names.ToBinary
     else (if bytes_eq word (codes "frombin") then Some names.FromBinary
     else (if bytes_eq word (codes "script") then Some names.Script
-    else None))))
+    else (if bytes_eq word (codes "audit") then Some names.Audit
+    else None)))))
 
 abbrev pub is_help_flag : List ℕ → Bool
 is_help_flag word = bytes_eq word (codes "-h") || bytes_eq word (codes "--help")
@@ -50,6 +54,20 @@ abbrev pub arguments_in : List (Bor (List ℕ)) → List (Bor (List ℕ))
 arguments_in [] = []
 arguments_in (word ∷ words) = if bytes_eq word.now (codes "--") then words else word ∷ words
 
+-- the number that two decimal digits write, where it is one of 1 to 64
+abbrev pub count_of : ℕ → ℕ → Option ℕ
+count_of tens ones =
+    if is_ascii_digit tens && is_ascii_digit ones && nat_le 1 ((tens - 48) * 10 + (ones - 48)) && nat_le ((tens - 48) * 10 + (ones - 48)) 64
+    then Some ((tens - 48) * 10 + (ones - 48))
+    else None
+
+-- a number of workers: 1 to 64, in one or two decimal digits
+abbrev pub workers_of : List ℕ → Option ℕ
+workers_of [] = None
+workers_of (ones ∷ []) = count_of 48 ones
+workers_of (tens ∷ ones ∷ []) = count_of tens ones
+workers_of (a ∷ b ∷ c ∷ rest) = None
+
 -- the command with these arguments, where they are as many as it takes
 abbrev pub command_on : CommandName → List (Bor (List ℕ)) → Option InvocationValue
 command_on names.Verdict (sddl ∷ user ∷ mask ∷ words) = Some (Verdict sddl.now user.now mask.now words)
@@ -57,6 +75,7 @@ command_on names.Print (sddl ∷ []) = Some (Print sddl.now)
 command_on names.ToBinary (sddl ∷ []) = Some (ToBinary sddl.now)
 command_on names.FromBinary (hex ∷ []) = Some (FromBinary hex.now)
 command_on names.Script [] = Some Script
+command_on names.Audit (workers ∷ []) = option_map Audit (workers_of workers.now)
 command_on command arguments = None
 
 -- a command and the words behind it, which ask for help where they are one of the two flags alone
@@ -87,9 +106,10 @@ reading (name ∷ word ∷ words) = behind_name word.now words
 abbrev pub IsUnread : List (Bor (List ℕ)) → Type 0
 IsUnread words = reading words ≡ None
 
--- whether a script is asked for, the one thing that is answered from the input
+-- whether a script is asked for, or its audit: what is answered from the input
 abbrev pub is_script : InvocationValue → Bool
 is_script Script = true
+is_script (Audit workers) = true
 is_script (Verdict sddl user mask words) = false
 is_script (Print sddl) = false
 is_script (ToBinary sddl) = false

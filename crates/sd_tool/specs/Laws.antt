@@ -1,7 +1,7 @@
 -- What follows from the reading of a command line.
 use Rattle.std.specs.Prelude.{◌≡◌, ℕ, ◌≤◌, List, ◌∷◌, length, Bool, true, false, Option, Some, None, codes}
 use Rattle.std.specs.Borrow.{Bor}
-use Rattle.sd_tool.specs.CommandLine.{InvocationValue, Verdict, Print, ToBinary, FromBinary, Script, Help, Version, reading}
+use Rattle.sd_tool.specs.CommandLine.{InvocationValue, Verdict, Print, ToBinary, FromBinary, Script, Audit, Help, Version, reading}
 
 -- whether what was read is help or the version
 abbrev pub is_shown : Option InvocationValue → Bool
@@ -12,6 +12,7 @@ is_shown (Some (Print sddl)) = false
 is_shown (Some (ToBinary sddl)) = false
 is_shown (Some (FromBinary hex)) = false
 is_shown (Some Script) = false
+is_shown (Some (Audit workers)) = false
 is_shown None = false
 
 -- help and the version answer two words behind the program's name at most

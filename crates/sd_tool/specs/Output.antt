@@ -3,7 +3,7 @@ use Rattle.std.specs.Prelude.{◌≡◌, ℕ, List, Option, Some}
 use Rattle.std.specs.Io.KnownBytes.{Appends, Keeps}
 use Rattle.std.specs.Borrow.{Bor}
 use Rattle.sd_stream.specs.Whole.{AppendsBeginning}
-use Rattle.sd_stream.specs.declared.error.RunError.TheVariants.{Read, TooLong, Write, Memory}
+use Rattle.sd_stream.specs.declared.error.RunError.TheVariants.{Read, TooLong, Write, Memory, Thread}
 use Rattle.sd_tool.specs.Answer.{Answers}
 use Rattle.sd_tool.specs.CommandLine.{InvocationValue, reading, IsUnread}
 use Rattle.sd_tool.specs.Status.{outcome_status}
@@ -37,3 +37,4 @@ LeavesAtFailure words input old new (Run Read) = Keeps old new
 LeavesAtFailure words input old new (Run TooLong) = Keeps old new
 LeavesAtFailure words input old new (Run Write) = AppendsPartOfAnswer words input old new
 LeavesAtFailure words input old new (Run Memory) = Keeps old new
+LeavesAtFailure words input old new (Run Thread) = Keeps old new

@@ -60,7 +60,7 @@ pub(crate) fn answer_to(alloc: Global, invocation: Invocation<'_>) -> Result<Ans
         Invocation::Print { sddl } => answer_print(alloc, sddl),
         Invocation::ToBinary { sddl } => answer_to_binary(alloc, sddl),
         Invocation::FromBinary { hex } => answer_from_binary(alloc, hex),
-        Invocation::Script => unreachable!(),
+        Invocation::Script | Invocation::Audit { .. } => unreachable!(),
         Invocation::Help { command } => Ok(Answer {
             text: help(alloc, command)?,
             outcome: Outcome::Done,

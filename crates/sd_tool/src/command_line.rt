@@ -1,6 +1,6 @@
 //! The reading of a command line: what its words ask for.
 ghost use Rattle.std.specs.Prelude.{◌≡◌, option_map};
-ghost use Rattle.sd_tool.specs.CommandLine.{arguments_in as arguments_of, command_named, command_on as command_of, invocation_of, is_help_flag as is_help_flag_of, reading, with_command, without_command};
+ghost use Rattle.sd_tool.specs.CommandLine.{arguments_in as arguments_of, command_named, command_on as command_of, count_of, invocation_of, is_help_flag as is_help_flag_of, reading, with_command, without_command, workers_of};
 
 /// A command of the program.
 #[derive(Clone, Copy, Debug, PartialEq, Eq)]
@@ -15,6 +15,8 @@ pub(crate) enum CommandName {
     FromBinary,
     /// `script`.
     Script,
+    /// `audit`.
+    Audit,
 }
 
 /// What a command line asks for.
@@ -41,6 +43,10 @@ pub(crate) enum Invocation<'a> {
     },
     /// The output of the script on standard input.
     Script,
+    /// The output of its audit by so many workers.
+    Audit {
+        workers: u64,
+    },
     /// The help on a command, or on the program.
     Help {
         command: Option<CommandName>,
@@ -59,6 +65,7 @@ impl CommandName {
             "tobin" => Some(CommandName::ToBinary),
             "frombin" => Some(CommandName::FromBinary),
             "script" => Some(CommandName::Script),
+            "audit" => Some(CommandName::Audit),
             _ => None,
         }
     }
@@ -134,6 +141,35 @@ fn command_on<'a>(command: CommandName, arguments: &'a [&'a str]) -> Option<Invo
         (CommandName::ToBinary, [sddl]) => Some(Invocation::ToBinary { sddl }),
         (CommandName::FromBinary, [hex]) => Some(Invocation::FromBinary { hex }),
         (CommandName::Script, []) => Some(Invocation::Script),
+        (CommandName::Audit, [workers]) => match workers_in(workers) {
+            Some(workers) => Some(Invocation::Audit { workers }),
+            None => None,
+        },
         _ => None,
     }
+}
+
+/// A number of workers: 1 to 64, in one or two decimal digits.
+fn workers_in(word: &str) -> Option<u64>
+    ensures { result ≡ workers_of word.now }
+{
+    match word.as_bytes() {
+        [ones] => count_in(b'0', *ones),
+        [tens, ones] => count_in(*tens, *ones),
+        _ => None,
+    }
+}
+
+/// The number that two decimal digits write, where it is one of 1 to 64.
+fn count_in(tens: u8, ones: u8) -> Option<u64>
+    ensures { result ≡ count_of tens ones }
+{
+    if !tens.is_ascii_digit() || !ones.is_ascii_digit() {
+        return None;
+    }
+    let count = u64::from(tens - b'0') * 10 + u64::from(ones - b'0');
+    if count < 1 || 64 < count {
+        return None;
+    }
+    Some(count)
 }

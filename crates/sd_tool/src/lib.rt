@@ -6,7 +6,7 @@
 //!
 //! ```text
 //! let words = ["sdstore", "verdict", "D:(A;;0x1;;;S-1-1-0)", "S-1-1-0", "0x1"];
-//! let status = drive(alloc, &words, &mut input, &mut output, &mut errors);
+//! let status = drive(&rt, alloc, &words, &mut input, &mut output, &mut errors);
 //! // status is 0, and output holds "granted 0x1\n"
 //! ```
 #![tactic(auto)]
@@ -23,5 +23,6 @@ mod version;
 
 pub use laws::{dashes_keep_texts, help_stands_alone};
 pub use program::drive;
-pub use sd_script::run;
+pub use sd_script::{run, run_audit};
+pub use sd_store::{Gate, OpenGate};
 pub use sd_stream::{RunError, Watched};

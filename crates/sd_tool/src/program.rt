@@ -10,21 +10,27 @@ use crate::answer::{Answer, Outcome, answer_to};
 use crate::command_line::{Invocation, read_command_line};
 use crate::failure::Failure;
 use crate::usage::refusal;
-use sd_script::run;
+use sd_script::{run, run_audit};
+use sd_store::OpenGate;
 use sd_stream::{Watched, write_whole};
 use std::alloc::Global;
 use std::io::{Read, Write};
+use std::sync::Wait;
+use std::thread::Threads;
 
 /// Does what the program does with these words, of which the first is its name, and with these
-/// streams, and answers the status with which it ends. Only `script` reads `reader`.
+/// streams, and answers the status with which it ends. Only `script` and `audit` read `reader`, and
+/// only `audit` starts threads and waits for them.
 ///
 /// - 0: the text was printed, or the right granted, or the script carried out to its end. Help and
 ///   the version are such texts.
 /// - 1: an argument's fault was printed, or a verdict other than granted.
 /// - 2: the words aren't a command line, and `errors` has the reason.
-/// - 3: memory was wanting, a stream failed, or the script was too long: `errors` has
-///   `sdstore: memory`, `sdstore: read`, `sdstore: write` or `sdstore: too long`.
-pub fn drive<R: Read, W: Write, E: Write>(
+/// - 3: memory was wanting, a stream failed, the script was too long, or an audit's workers got no
+///   answers: `errors` has `sdstore: memory`, `sdstore: read`, `sdstore: write`,
+///   `sdstore: too long` or `sdstore: thread`.
+pub fn drive<T: Threads + Wait + Sync, R: Read, W: Write, E: Write>(
+    rt: &T,
     alloc: Global,
     words: &[&str],
     reader: &mut Watched<R>,
@@ -44,7 +50,7 @@ pub fn drive<R: Read, W: Write, E: Write>(
         ⊎ AppendsPartOfAnswer words.now (R.remaining (inner_of reader.old))
         (W.contents (inner_of writer.old)) (W.contents (inner_of writer.new)) }
 {
-    match carry_out(alloc, words, reader, writer) {
+    match carry_out(rt, alloc, words, reader, writer) {
         Ok(outcome) => outcome.status(),
         Err(failure) => {
             // The status stands, also where the errors can't be written.
@@ -54,7 +60,8 @@ pub fn drive<R: Read, W: Write, E: Write>(
     }
 }
 
-fn carry_out<R: Read, W: Write>(
+fn carry_out<T: Threads + Wait + Sync, R: Read, W: Write>(
+    rt: &T,
     alloc: Global,
     words: &[&str],
     reader: &mut Watched<R>,
@@ -70,6 +77,10 @@ fn carry_out<R: Read, W: Write>(
     };
     if let Invocation::Script = invocation {
         run(alloc, reader, writer)?;
+        return Ok(Outcome::Done);
+    }
+    if let Invocation::Audit { workers } = invocation {
+        run_audit(rt, alloc, workers, reader, writer, &OpenGate)?;
         return Ok(Outcome::Done);
     }
     let Answer { text, outcome } = answer_to(alloc, invocation)?;

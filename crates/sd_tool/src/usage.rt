@@ -11,7 +11,8 @@ Statuses:
   0  the text was printed, the right granted, or the script carried out to its end
   1  an argument's fault was printed, or a verdict other than granted
   2  the words aren't a command line
-  3  memory was wanting, the input wasn't read or too long, or the output didn't take the answer
+  3  memory was wanting, the input wasn't read or too long, the output didn't take the answer, or
+     an audit's workers got none
 
 Example:
   sdstore verdict 'D:(A;;FR;;;WD)' S-1-5-21-1-2-3-1001 0x1 WD";
@@ -71,6 +72,22 @@ Statuses:
 Example:
   printf 'open 1 O:BAG:SYD:\\naddo /a O:BAG:SYD:(A;;FR;;;WD)\\npublish\\ncheck 0 /a BU FR WD\\n' | sdstore script";
 
+const AUDIT_NOTES: &str = "\
+Each line is answered as by 'sdstore script', but that
+  open N SDDL                          opens the store for as many readers as there are workers
+  check I PATH USER MASK [WORD]...     is kept, whatever its reader, and answered at the end
+  tell, learn I L, show I PATH         are faults
+At the end all edits are published, and each check is answered by them, in order.
+
+Statuses:
+  0  the audit was carried out to its end, whatever its lines were answered
+  2  the words aren't a command line
+  3  memory was wanting, the input wasn't read or has more than 16777216 bytes, the output didn't
+     take the answer, or the workers got none
+
+Example:
+  printf 'open 1 O:BAG:SYD:\\naddo /a O:BAG:SYD:(A;;FR;;;WD)\\ncheck 0 /a BU FR WD\\n' | sdstore audit 4";
+
 const USER: &str = "The user's SID: in full, as S-1-5-21-1-2-3-1001, or an alias, as BU";
 
 const MASK: &str = "\
@@ -90,7 +107,11 @@ const STANDS_ALONE: &str = "\
 help and the version are asked for by '--help', 'help' or '--version' as the only word, \
 by '--help' as the only word behind a command, or by 'help' and a command";
 
-// What is told of words that `clap` would take, since it drops a later `--` too.
+// What is told of an audit's words that `clap` would take: it knows no numbers.
+const WORKERS: &str =
+    "the one argument of 'audit' is the number of workers: 1 to 64, in one or two decimal digits";
+
+// What is told of other words that `clap` would take, since it drops a later `--` too.
 const LATER_DASHES: &str =
     "only a first '--' behind the command is dropped, and any further one is an argument";
 
@@ -103,6 +124,7 @@ pub(crate) fn help(alloc: Global, command: Option<CommandName>) -> Result<String
         Some(CommandName::ToBinary) => to_binary_command(alloc)?,
         Some(CommandName::FromBinary) => from_binary_command(alloc)?,
         Some(CommandName::Script) => script_command(alloc)?,
+        Some(CommandName::Audit) => audit_command(alloc)?,
     };
     described.render_help()
 }
@@ -118,7 +140,10 @@ pub(crate) fn refusal<'a>(alloc: Global, words: &'a [&'a str]) -> Result<String,
         ),
         None => text_of(
             alloc,
-            sdstore.error(ErrorKind::UnknownArgument, LATER_DASHES)?,
+            match words {
+                [_, "audit", ..] => sdstore.error(ErrorKind::ValueValidation, WORKERS)?,
+                _ => sdstore.error(ErrorKind::UnknownArgument, LATER_DASHES)?,
+            },
         ),
     }
 }
@@ -149,7 +174,8 @@ fn sdstore<'a>(alloc: Global) -> Result<Command<'a>, AllocError> {
         .subcommand(print_command(alloc)?)?
         .subcommand(to_binary_command(alloc)?)?
         .subcommand(from_binary_command(alloc)?)?
-        .subcommand(script_command(alloc)?)
+        .subcommand(script_command(alloc)?)?
+        .subcommand(audit_command(alloc)?)
 }
 
 fn verdict_command<'a>(alloc: Global) -> Result<Command<'a>, AllocError> {
@@ -196,6 +222,14 @@ fn script_command<'a>(alloc: Global) -> Result<Command<'a>, AllocError> {
         .override_usage("sdstore script")
         .after_help(SCRIPT_NOTES);
     Ok(script)
+}
+
+fn audit_command<'a>(alloc: Global) -> Result<Command<'a>, AllocError> {
+    Command::new(alloc, "audit")
+        .about("Carries out the script on standard input, and answers its checks at the end")
+        .override_usage("sdstore audit [--] <N>")
+        .after_help(AUDIT_NOTES)
+        .arg(text(alloc, "N").help("The number of workers, 1 to 64, in one or two decimal digits"))
 }
 
 // An argument that takes each word as it stands.

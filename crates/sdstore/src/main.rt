@@ -2,12 +2,15 @@
 #![tactic(auto)]
 
 use sd_tool::{Watched, drive};
-use std::io::ErrorKind;
+use std::env::Env;
+use std::io::{ErrorKind, Read, Write};
 use std::process::ExitCode;
+use std::sync::Wait;
+use std::thread::Threads;
 use std::{env, io};
 
 fn main(rt: HostRuntime) -> ExitCode {
-    match run(&rt) {
+    match run(&rt, rt.stdin(), rt.stdout(), &mut rt.stderr()) {
         Ok(status) => ExitCode::from(status),
         Err(error) if error.kind() == ErrorKind::OutOfMemory => {
             let _ = eprintln!(rt; "sdstore: memory");
@@ -22,15 +25,21 @@ fn main(rt: HostRuntime) -> ExitCode {
 
 // The status with which the program ends. An `Err` says that there are no words: an argument isn't
 // Unicode, or there is no memory for them.
-fn run(rt: &HostRuntime) -> io::Result<u8> {
+fn run<T: Env + AllocGlobal + Threads + Wait + Sync, R: Read + Drop, W: Write + Drop, E: Write>(
+    rt: &T,
+    input: R,
+    output: W,
+    errors: &mut E,
+) -> io::Result<u8> {
     let alloc = rt.alloc();
     let texts: Vec<String> = env::args(rt)?.collect(alloc)?;
     let words: Vec<&str> = texts.iter().map(|text| text.as_str()).collect(alloc)?;
     Ok(drive(
+        rt,
         alloc,
         words.as_slice(),
-        &mut Watched::new(rt.stdin()),
-        &mut Watched::new(rt.stdout()),
-        &mut rt.stderr(),
+        &mut Watched::new(input),
+        &mut Watched::new(output),
+        errors,
     ))
 }

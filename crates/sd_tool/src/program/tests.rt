@@ -23,16 +23,21 @@ struct Ended {
     errors: Vec<u8>,
 }
 
-fn run(alloc: Global, words: &[&str]) -> Ended {
-    run_over(alloc, words, io::empty(), Vec::new(alloc))
+fn run(rt: &(impl AllocGlobal + Threads + Wait + Sync), words: &[&str]) -> Ended {
+    run_over(rt, words, io::empty())
 }
 
 /// Runs the words over an input and a writer in memory.
-fn run_over<R: Read + Drop>(alloc: Global, words: &[&str], input: R, output: Vec<u8>) -> Ended {
+fn run_over<T: AllocGlobal + Threads + Wait + Sync, R: Read + Drop>(
+    rt: &T,
+    words: &[&str],
+    input: R,
+) -> Ended {
+    let alloc = rt.alloc();
     let mut reader = Watched::new(input);
-    let mut writer = Watched::new(output);
+    let mut writer = Watched::new(Vec::new(alloc));
     let mut errors = Vec::new(alloc);
-    let status = drive(alloc, words, &mut reader, &mut writer, &mut errors);
+    let status = drive(rt, alloc, words, &mut reader, &mut writer, &mut errors);
     Ended {
         status,
         output: writer.into_inner(),
@@ -41,8 +46,13 @@ fn run_over<R: Read + Drop>(alloc: Global, words: &[&str], input: R, output: Vec
 }
 
 /// Runs the words, and wants this line alone on the output, with the status.
-fn expect(rt: &(impl Abort + AllocGlobal), words: &[&str], line: &str, status: u8) {
-    let ended = run(rt.alloc(), words);
+fn expect(
+    rt: &(impl Abort + AllocGlobal + Threads + Wait + Sync),
+    words: &[&str],
+    line: &str,
+    status: u8,
+) {
+    let ended = run(rt, words);
     assert_eq!(rt; ended.output.as_slice(), line.as_bytes(), "{words:?}");
     assert_eq!(rt; ended.status, status, "{words:?}");
     assert!(rt; ended.errors.is_empty(), "{words:?}");

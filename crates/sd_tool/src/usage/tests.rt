@@ -56,7 +56,7 @@ fn expect(
 
 #[test]
 fn both_read_commands(rt: HostRuntime) -> Result<(), AllocError> {
-    let rows: [&[&str]; 33] = [
+    let rows: [&[&str]; 36] = [
         &["verdict", "D:", "SY", "0x1"],
         &["verdict", "D:", "SY", "0x1", "4"],
         &["verdict", "D:", "SY", "0x1", "4", "5"],
@@ -92,13 +92,16 @@ fn both_read_commands(rt: HostRuntime) -> Result<(), AllocError> {
         &["frombin", "-01"],
         &["script"],
         &["script", "--"],
+        &["audit", "2"],
+        &["audit", "64"],
+        &["audit", "--", "01"],
     ];
     expect(&rt, &rows, Kind::Command, Kind::Command)
 }
 
 #[test]
 fn both_read_help_and_version(rt: HostRuntime) -> Result<(), AllocError> {
-    let rows: [&[&str]; 18] = [
+    let rows: [&[&str]; 21] = [
         &["-h"],
         &["--help"],
         &["help"],
@@ -117,6 +120,9 @@ fn both_read_help_and_version(rt: HostRuntime) -> Result<(), AllocError> {
         &["help", "script"],
         &["script", "-h"],
         &["script", "--help"],
+        &["help", "audit"],
+        &["audit", "-h"],
+        &["audit", "--help"],
     ];
     expect(&rt, &rows, Kind::Help, Kind::Help)?;
     let rows: [&[&str]; 2] = [&["-V"], &["--version"]];
@@ -125,7 +131,7 @@ fn both_read_help_and_version(rt: HostRuntime) -> Result<(), AllocError> {
 
 #[test]
 fn both_refuse_other_words(rt: HostRuntime) -> Result<(), AllocError> {
-    let rows: [&[&str]; 44] = [
+    let rows: [&[&str]; 45] = [
         &[],
         &[""],
         &["-"],
@@ -134,7 +140,8 @@ fn both_refuse_other_words(rt: HostRuntime) -> Result<(), AllocError> {
         &["Verdict"],
         &["verdict "],
         &["script", "x"],
-        &["audit", "2"],
+        &["audit"],
+        &["audit", "2", "3"],
         &["-x"],
         &["--frob"],
         &["--help="],
@@ -224,4 +231,22 @@ fn gives_no_help_beside_other_words(rt: HostRuntime) -> Result<(), AllocError> {
     expect(&rt, &rows, Kind::Nothing, Kind::Help)?;
     let rows: [&[&str]; 4] = [&["-V", "-V"], &["-VV"], &["-Vh"], &["--version", "x"]];
     expect(&rt, &rows, Kind::Nothing, Kind::Version)
+}
+
+#[test]
+fn clap_knows_no_numbers(rt: HostRuntime) -> Result<(), AllocError> {
+    let rows: [&[&str]; 11] = [
+        &["audit", ""],
+        &["audit", "0"],
+        &["audit", "00"],
+        &["audit", "65"],
+        &["audit", "001"],
+        &["audit", "-1"],
+        &["audit", "+1"],
+        &["audit", "1 "],
+        &["audit", "1/"],
+        &["audit", "two"],
+        &["audit", "18446744073709551616"],
+    ];
+    expect(&rt, &rows, Kind::Nothing, Kind::Command)
 }

@@ -1,5 +1,5 @@
 -- Where a line asks something of a store, one is open.
-use Rattle.sd_script.proofs.Answered.{open_where_asked}
+use Rattle.sd_script.proofs.Timely.{open_where_asked}
 use Rattle.sd_script.proofs.script.answer_line.Goals as goal
 
 pub ask-requires : goal.ask-requires

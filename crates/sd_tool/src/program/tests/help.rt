@@ -4,7 +4,7 @@ use super::*;
 
 #[test]
 fn refuses_other_words(rt: HostRuntime) -> Result<(), Fail> {
-    let rows: [(&[&str], &str); 13] = [
+    let rows: [(&[&str], &str); 21] = [
         (&[], "requires a subcommand"),
         (&["sdstore"], "requires a subcommand"),
         (&["sdstore", ""], "unrecognized subcommand ''"),
@@ -42,9 +42,20 @@ fn refuses_other_words(rt: HostRuntime) -> Result<(), Fail> {
             &["sdstore", "verdict", "--help", USER],
             "help and the version are asked for by",
         ),
+        (&["sdstore", "audit"], "not provided:\n  <N>\n"),
+        (&["sdstore", "audit", "1", "2"], "unexpected argument '2'"),
+        (&["sdstore", "audit", "0"], "number of workers: 1 to 64"),
+        (&["sdstore", "audit", "65"], "number of workers: 1 to 64"),
+        (&["sdstore", "audit", "-1"], "number of workers: 1 to 64"),
+        (&["sdstore", "audit", "+1"], "number of workers: 1 to 64"),
+        (&["sdstore", "audit", "two"], "number of workers: 1 to 64"),
+        (
+            &["sdstore", "audit", "18446744073709551616"],
+            "number of workers: 1 to 64",
+        ),
     ];
     for (words, reason) in rows {
-        let ended = run(rt.alloc(), words);
+        let ended = run(&rt, words);
         assert_eq!(rt; ended.status, 2, "{words:?}");
         assert!(rt; ended.output.is_empty(), "{words:?}");
         let text = str::from_utf8(ended.errors.as_slice()).ok().ok_or("text")?;
@@ -54,8 +65,8 @@ fn refuses_other_words(rt: HostRuntime) -> Result<(), Fail> {
 }
 
 /// What is printed for words that ask for help or the version.
-fn shown(rt: &(impl Abort + AllocGlobal), words: &[&str]) -> Vec<u8> {
-    let ended = run(rt.alloc(), words);
+fn shown(rt: &(impl Abort + AllocGlobal + Threads + Wait + Sync), words: &[&str]) -> Vec<u8> {
+    let ended = run(rt, words);
     assert_eq!(rt; ended.status, 0, "{words:?}");
     assert!(rt; ended.errors.is_empty(), "{words:?}");
     ended.output
@@ -81,29 +92,38 @@ fn prints_help_on_each_command(rt: HostRuntime) -> Result<(), Fail> {
 
 #[test]
 fn prints_help_on_scripts(rt: HostRuntime) -> Result<(), Fail> {
-    let help = shown(&rt, &["sdstore", "help", "script"]);
-    assert!(rt; shown(&rt, &["sdstore", "script", "-h"]).as_slice() == help.as_slice());
-    assert!(rt; shown(&rt, &["sdstore", "script", "--help"]).as_slice() == help.as_slice());
-    let text = str::from_utf8(help.as_slice()).ok().ok_or("text")?;
-    for line in [
-        "Usage: sdstore script\n",
-        "  open N SDDL ",
-        " | sdstore script\n",
-    ] {
-        assert!(rt; text.contains(line), "{text}");
+    let rows = [
+        ("script", "Usage: sdstore script\n", " | sdstore script\n"),
+        (
+            "audit",
+            "Usage: sdstore audit [--] <N>\n",
+            " | sdstore audit 4\n",
+        ),
+    ];
+    for (command, usage, example) in rows {
+        let help = shown(&rt, &["sdstore", "help", command]);
+        assert!(rt; shown(&rt, &["sdstore", command, "-h"]).as_slice() == help.as_slice());
+        assert!(rt; shown(&rt, &["sdstore", command, "--help"]).as_slice() == help.as_slice());
+        let text = str::from_utf8(help.as_slice()).ok().ok_or("text")?;
+        for line in [usage, "  open N SDDL ", example] {
+            assert!(rt; text.contains(line), "{text}");
+        }
     }
     Ok(())
 }
 
 /// Runs the words of the example that a help text ends with, of which no word has a space.
-fn expect_example(rt: &(impl Abort + AllocGlobal), help: &[u8]) -> Result<(), Fail> {
+fn expect_example(
+    rt: &(impl Abort + AllocGlobal + Threads + Wait + Sync),
+    help: &[u8],
+) -> Result<(), Fail> {
     let text = str::from_utf8(help).ok().ok_or("text")?;
     let (_, example) = text.split_once("\n\nExample:\n  ").ok_or("an example")?;
     let mut words = Vec::new(rt.alloc());
     for word in example.trim_end().split(' ') {
         words.push(word.trim_matches('\''))?;
     }
-    let ended = run(rt.alloc(), words.as_slice());
+    let ended = run(rt, words.as_slice());
     assert_eq!(rt; ended.status, 0, "{example}");
     Ok(())
 }

@@ -77,19 +77,55 @@ fault words
     ),
 ];
 
-/// Runs the script that a reader gives.
-fn carry_out<R: Read + Drop>(alloc: Global, reader: R) -> Ended {
-    run_over(alloc, &["sdstore", "script"], reader, Vec::new(alloc))
-}
+const SCRIPT: [&str; 2] = ["sdstore", "script"];
+
+const AUDIT: [&str; 3] = ["sdstore", "audit", "2"];
+
+/// A script whose checks are kept to the end by an audit, and what is printed behind the line of its opening.
+const AUDITED: (&str, &str) = (
+    "\
+open 1 O:BAG:SYD:
+addo /a O:BAG:SYD:(A;;FR;;;BU)
+check 0 /a S-1-5-21-1-2-3-1001 FR BU
+check 0 /b S-1-5-21-1-2-3-1001 0x1
+learn 0 1
+",
+    "\
+ok
+fault audit
+published 1
+told 1
+seen 1 granted 0x120089
+seen 1 nonode
+",
+);
 
 #[test]
 fn answers_each_line(rt: HostRuntime) {
     for (script, output) in &SCRIPTS {
-        let ended = carry_out(rt.alloc(), script.as_bytes());
+        let ended = run_over(&rt, &SCRIPT, script.as_bytes());
         assert_eq!(rt; ended.output.as_slice(), output.as_bytes());
         assert_eq!(rt; ended.status, 0);
         assert!(rt; ended.errors.is_empty());
     }
+}
+
+#[test]
+fn answers_audits_alike(rt: HostRuntime) -> Result<(), Fail> {
+    let (script, printed) = AUDITED;
+    for workers in ["1", "2", "9", "10", "64"] {
+        for words in [
+            ["sdstore", "audit", workers].as_slice(),
+            ["sdstore", "audit", "--", workers].as_slice(),
+        ] {
+            let ended = run_over(&rt, words, script.as_bytes());
+            let output = format!(in rt.alloc(); "opened {workers}\n{printed}")?;
+            assert_eq!(rt; ended.output.as_slice(), output.as_bytes(), "{words:?}");
+            assert_eq!(rt; ended.status, 0, "{words:?}");
+            assert!(rt; ended.errors.is_empty(), "{words:?}");
+        }
+    }
+    Ok(())
 }
 
 /// A reader that is interrupted at its first call.
@@ -104,16 +140,20 @@ impl Read for Interrupted {
 
 #[test]
 fn tells_of_a_reader_that_fails(rt: HostRuntime) {
-    let ended = carry_out(rt.alloc(), Interrupted);
-    assert_eq!(rt; ended.status, 3);
-    assert!(rt; ended.output.is_empty());
-    assert_eq!(rt; ended.errors.as_slice(), b"sdstore: read\n".as_slice());
+    for words in [SCRIPT.as_slice(), AUDIT.as_slice()] {
+        let ended = run_over(&rt, words, Interrupted);
+        assert_eq!(rt; ended.status, 3);
+        assert!(rt; ended.output.is_empty());
+        assert_eq!(rt; ended.errors.as_slice(), b"sdstore: read\n".as_slice());
+    }
 }
 
 #[test]
 fn tells_of_a_script_that_is_too_long(rt: HostRuntime) {
-    let ended = carry_out(rt.alloc(), io::repeat(b'#'));
-    assert_eq!(rt; ended.status, 3);
-    assert!(rt; ended.output.is_empty());
-    assert_eq!(rt; ended.errors.as_slice(), b"sdstore: too long\n".as_slice());
+    for words in [SCRIPT.as_slice(), AUDIT.as_slice()] {
+        let ended = run_over(&rt, words, io::repeat(b'#'));
+        assert_eq!(rt; ended.status, 3);
+        assert!(rt; ended.output.is_empty());
+        assert_eq!(rt; ended.errors.as_slice(), b"sdstore: too long\n".as_slice());
+    }
 }

@@ -54,18 +54,24 @@ impl Write for Failing {
 
 #[test]
 fn tells_of_a_writer_that_fails(rt: HostRuntime) {
-    let words = ["sdstore", "verdict", "D:", USER, "zz"];
-    for fault in [Fault::Refuses, Fault::IsInterrupted, Fault::TakesNothing] {
-        for calls in 0..11 {
-            let mut writer = Watched::new(Failing::after(rt.alloc(), calls, fault));
-            let mut errors = Vec::new(rt.alloc());
-            let input = &mut Watched::new(io::empty());
-            let status = drive(rt.alloc(), &words, input, &mut writer, &mut errors);
-            assert_eq!(rt; status, 3, "{fault:?} after {calls}");
-            assert_eq!(rt; errors.as_slice(), b"sdstore: write\n".as_slice());
-            let writer = writer.into_inner();
-            assert_eq!(rt; writer.taken.len() as u64, calls, "{fault:?}");
-            assert!(rt; b"fault mask\n".starts_with(writer.taken.as_slice()));
+    let rows: [(&[&str], &[u8]); 3] = [
+        (&["sdstore", "verdict", "D:", USER, "zz"], b"fault mask\n"),
+        (&["sdstore", "script"], b"fault open\n"),
+        (&["sdstore", "audit", "2"], b"fault open\n"),
+    ];
+    for (words, answer) in rows {
+        for fault in [Fault::Refuses, Fault::IsInterrupted, Fault::TakesNothing] {
+            for calls in 0..11 {
+                let mut writer = Watched::new(Failing::after(rt.alloc(), calls, fault));
+                let mut errors = Vec::new(rt.alloc());
+                let input = &mut Watched::new(b"tell".as_slice());
+                let status = drive(&rt, rt.alloc(), words, input, &mut writer, &mut errors);
+                assert_eq!(rt; status, 3, "{fault:?} after {calls}");
+                assert_eq!(rt; errors.as_slice(), b"sdstore: write\n".as_slice());
+                let writer = writer.into_inner();
+                assert_eq!(rt; writer.taken.len() as u64, calls, "{fault:?}");
+                assert!(rt; answer.starts_with(writer.taken.as_slice()));
+            }
         }
     }
 }
@@ -77,7 +83,7 @@ fn tells_of_a_flush_that_fails(rt: HostRuntime) {
         let mut writer = Watched::new(Failing::after(rt.alloc(), 11, fault));
         let mut errors = Vec::new(rt.alloc());
         let input = &mut Watched::new(io::empty());
-        let ended = drive(rt.alloc(), &words, input, &mut writer, &mut errors);
+        let ended = drive(&rt, rt.alloc(), &words, input, &mut writer, &mut errors);
         assert_eq!(rt; ended, status, "{fault:?}");
         let writer = writer.into_inner();
         assert_eq!(rt; writer.taken.as_slice(), b"fault mask\n".as_slice());
@@ -90,10 +96,10 @@ fn keeps_the_status_where_errors_fail(rt: HostRuntime) {
     let mut output = Watched::new(Vec::new(rt.alloc()));
     let input = &mut Watched::new(io::empty());
     let words = ["sdstore", "frob"];
-    let unread = drive(rt.alloc(), &words, input, &mut output, &mut errors);
+    let unread = drive(&rt, rt.alloc(), &words, input, &mut output, &mut errors);
     assert_eq!(rt; unread, 2);
     let mut writer = Watched::new(Failing::after(rt.alloc(), 0, Fault::Refuses));
     let words = ["sdstore", "--help"];
-    let failed = drive(rt.alloc(), &words, input, &mut writer, &mut errors);
+    let failed = drive(&rt, rt.alloc(), &words, input, &mut writer, &mut errors);
     assert_eq!(rt; failed, 3);
 }

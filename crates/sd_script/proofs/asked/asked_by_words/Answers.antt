@@ -1,4 +1,4 @@
-use Rattle.sd_script.proofs.asked.asked_by.Goals as goal
+use Rattle.sd_script.proofs.asked.asked_by_words.Goals as goal
 
 pub returns-in-Open : goal.returns-in-Open
 returns-in-Open c = rw (c.in-Open.is) c.opening.ensures
