@@ -16,7 +16,8 @@ use std::alloc::{AllocError, Global};
 
 /// The whole output of a script. Each line is answered by one line; an empty line, and one that begins with `#`, by
 /// none. A line that can't be carried out is answered by its first fault, and the script goes on. Fails only where
-/// memory is refused.
+/// memory is refused. In the mode of an audit its faults are told, and its checks answered where they stand: the audit,
+/// which keeps them to the end, is `run_audit`.
 pub fn script_output(alloc: Global, mode: Mode, text: &[u8]) -> Result<Vec<u8>, AllocError>
     ensures { IfOk result (λ printed. Prints mode text.now printed.items) }
 {
