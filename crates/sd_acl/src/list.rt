@@ -1,6 +1,6 @@
 //! Lists of entries, and the bytes that they take.
 
-ghost use Rattle.std.specs.Prelude.{◌≡◌, ◌≤◌, ◌<◌, IfOk, IfErr};
+ghost use Rattle.std.specs.Prelude.{◌≡◌, ◌≤◌, ◌<◌, IfOk, IfErr, codes};
 ghost use Rattle.sd_acl.specs.Ace.{acl_size_of};
 
 use crate::ace::Ace;
@@ -36,6 +36,22 @@ impl Model for AceList {
 #[error("a list's entries take at most 65535 bytes")]
 pub struct AclTooLarge {
     pub entries: Vec<Ace>,
+}
+
+impl AclTooLarge {
+    /// The error's number.
+    pub fn number(&self) -> u8
+        ensures { result ≡ 1 }
+    {
+        1
+    }
+
+    /// The error's name.
+    pub fn name(&self) -> &'static str
+        ensures { result.now ≡ codes "AclTooLarge" }
+    {
+        "AclTooLarge"
+    }
 }
 
 impl AceList {

@@ -21,10 +21,18 @@ stands p m b h is = ap (λ n. holds n b) is ∙ holds_place p b h
 
 -- ---- what is granted, of the bits that are wanted
 
-pub granted_without_a_list : (o : Bool) (wanted r : ℕ) → r ≡ mask_of (λ b. holds wanted b && holds 0x001FFFFF b) 32
-    → r ≡ mask_of (λ b. holds wanted b && (nat_lt b 21 || is_implied o false false b)) 32
-granted_without_a_list o wanted r is =
-    is ∙ mask_of-alike _ _ 32 (λ b h. ap (λ t. holds wanted b && t) (holds_object b h ∙ sym (implied_low o b)))
+-- both passes grant each such bit without a list, whether there are two or not
+both_alike : (low free : Bool) → (low && (free || low)) ≡ low
+both_alike true true = refl
+both_alike true false = refl
+both_alike false free = refl
+
+pub granted_without_a_list : (o free : Bool) (wanted r : ℕ) → r ≡ mask_of (λ b. holds wanted b && holds 0x001FFFFF b) 32
+    → r ≡ mask_of (λ b. holds wanted b && ((nat_lt b 21 && (free || nat_lt b 21)) || is_implied o false false b)) 32
+granted_without_a_list o free wanted r is =
+    is ∙ mask_of-alike _ _ 32 (λ b h.
+    ap (λ t. holds wanted b && t)
+    (holds_object b h ∙ sym (ap (λ t. t || is_implied o false false b) (both_alike (nat_lt b 21) free) ∙ implied_low o b)))
 
 listed_bit : (wanted low allowed o place free : Bool)
     → (((wanted && low) && allowed) || ((wanted && (((o && place) || false) || false)) && free))
@@ -47,6 +55,34 @@ granted_by_list allowed o free wanted asked owners r is_asked is_owners is =
     (stands (λ k. holds wanted k && holds 0x001FFFFF k) asked b h is_asked ∙ ap (λ t. holds wanted b && t) (holds_object b h))
     ∙ ap (λ t. ((holds wanted b && nat_lt b 21) && allowed b) || (t && free)) (stands (λ k. holds wanted k && is_implied o false false k) owners b h is_owners)
     ∙ listed_bit (holds wanted b) (nat_lt b 21) (allowed b) o (b == 17 || b == 18) free)
+
+-- of one pass, where nothing restricts, and of both, where something does
+one_of_both : (restricted low first again : Bool) → restricted ≡ false → (low && first) ≡ ((low && first) && (not restricted || (low && again)))
+one_of_both true low first again free = absurd cc
+one_of_both false low first again free = sym (and-true (low && first))
+
+both_of_both : (restricted low first again : Bool) → restricted ≡ true → (low && (first && again)) ≡ ((low && first) && (not restricted || (low && again)))
+both_of_both true true first again is = refl
+both_of_both true false first again is = refl
+both_of_both false low first again is = absurd cc
+
+pub granted_by_one_pass : (first again : ℕ → Bool) (restricted o free : Bool) (wanted asked owners r : ℕ) → restricted ≡ false
+    → asked ≡ mask_of (λ b. holds wanted b && holds 0x001FFFFF b) 32
+    → owners ≡ mask_of (λ b. holds wanted b && is_implied o false false b) 32
+    → r ≡ mask_of (λ b. (holds asked b && first b) || (holds owners b && free)) 32
+    → r ≡ mask_of (λ b. holds wanted b && (((nat_lt b 21 && first b) && (not restricted || (nat_lt b 21 && again b))) || is_implied (o && free) false false b)) 32
+granted_by_one_pass first again restricted o free wanted asked owners r alone is_asked is_owners is =
+    granted_by_list first o free wanted asked owners r is_asked is_owners is
+    ∙ mask_of-alike _ _ 32 (λ b h. ap (λ t. holds wanted b && (t || is_implied (o && free) false false b)) (one_of_both restricted (nat_lt b 21) (first b) (again b) alone))
+
+pub granted_by_both_passes : (first again : ℕ → Bool) (restricted o free : Bool) (wanted asked owners r : ℕ) → restricted ≡ true
+    → asked ≡ mask_of (λ b. holds wanted b && holds 0x001FFFFF b) 32
+    → owners ≡ mask_of (λ b. holds wanted b && is_implied o false false b) 32
+    → r ≡ mask_of (λ b. (holds asked b && (first b && again b)) || (holds owners b && free)) 32
+    → r ≡ mask_of (λ b. holds wanted b && (((nat_lt b 21 && first b) && (not restricted || (nat_lt b 21 && again b))) || is_implied (o && free) false false b)) 32
+granted_by_both_passes first again restricted o free wanted asked owners r both is_asked is_owners is =
+    granted_by_list (λ b. first b && again b) o free wanted asked owners r is_asked is_owners is
+    ∙ mask_of-alike _ _ 32 (λ b h. ap (λ t. holds wanted b && (t || is_implied (o && free) false false b)) (both_of_both restricted (nat_lt b 21) (first b) (again b) both))
 
 granted_bit : (wanted listed owners takes secures : Bool)
     → ((wanted && (listed || ((owners || false) || false))) || (wanted && (takes || secures))) ≡ (wanted && (listed || ((owners || takes) || secures)))

@@ -1,6 +1,7 @@
 -- That a filter keeps the bits that are set, and has that of each SID that counts.
 use Rattle.std.proofs.Common.{◌≡◌, ℕ, ◌+◌, ◌*◌, ◌%◌, ◌^◌, ◌<◌, Bool, true, false, ◌&&◌, ◌||◌, ◌==◌, List, [], length, get_or, set, take, bit_or, inl, inr, ◌⊎◌, refl, sym, ◌∙◌, ap}
 use Rattle.std.specs.Int.{bit_at, w64}
+use Rattle.std.specs.List.{list_any}
 use Rattle.std.proofs.lemmas.Bool.{cases_eq, cases_Bool, and_parts, or_cases, eq-eqb}
 use Rattle.std.proofs.lemmas.List.{get_or-set_same, get_or-set_other}
 use Rattle.std.proofs.lemmas.List.Folds.{list_any_more}
@@ -12,7 +13,7 @@ use Rattle.sd_acl.specs.declared.ace.AceKind.TheVariants.{Deny}
 use Rattle.sd_check.specs.declared.token.GroupState.{GroupState}
 use Rattle.sd_check.specs.declared.token.GroupState.TheVariants.{Enabled, DenyOnly, Disabled}
 use Rattle.sd_check.specs.Token.{counts, a_group_stands_for}
-use Rattle.sd_check.specs.Filter.{IsFilterOf, may_hold}
+use Rattle.sd_check.specs.Filter.{IsFilterOf, HoldsEach, may_hold}
 
 -- ---- a bit that is set in one of the words
 
@@ -82,4 +83,29 @@ pub not_held : (words : List ℕ) (user : SidValue) (groups : List (SidValue × 
 not_held words user groups kind s filter unset = elim (cases_Bool (same_sid user s || a_group_stands_for groups kind s)) [
   | inl stands ↦ absurd (let clash : true ≡ false = sym (filter kind s stands) ∙ unset in cc)
   | inr nobody ↦ sym nobody
+]
+
+-- ---- the restricting SIDs, one by one
+
+pub holds_each_of_none : (words : List ℕ) → HoldsEach words []
+holds_each_of_none words s stands = absurd cc
+
+pub holds_each_of_more : (words more : List ℕ) (sids : List SidValue) (i : ℕ) (sid : SidValue)
+    → i < length sids → sid ≡ get_or sids i sid
+    → HoldsEach words (take i sids)
+    → ((s : SidValue) → may_hold words s ≡ true → may_hold more s ≡ true)
+    → may_hold more sid ≡ true
+    → HoldsEach more (take (i + 1) sids)
+holds_each_of_more words more sids i sid low is before kept here s stands =
+    let test : SidValue → Bool = λ one. same_sid one s in
+    elim (or_cases (list_any test (take i sids)) (test sid) (sym (list_any_more test sids i sid low ∙ ap (λ one. list_any test (take i sids) || test one) (sym is)) ∙ stands)) [
+      | inl old ↦ kept s (before s old)
+      | inr new ↦ same_bit more sid s new here
+    ]
+
+-- a SID without its bit is none of them
+pub not_among : (words : List ℕ) (sids : List SidValue) (s : SidValue) → HoldsEach words sids → may_hold words s ≡ false → list_any (λ one. same_sid one s) sids ≡ false
+not_among words sids s each unset = elim (cases_Bool (list_any (λ one. same_sid one s) sids)) [
+  | inl stands ↦ absurd (let clash : true ≡ false = sym (each s stands) ∙ unset in cc)
+  | inr nobody ↦ nobody
 ]

@@ -18,9 +18,9 @@ use Rattle.sd_acl.specs.declared.ace.AceKind.{AceKind}
 use Rattle.sd_acl.specs.declared.ace.AceKind.TheVariants.{Allow, Deny}
 use Rattle.sd_acl.specs.declared.verdict.Verdict.{Verdict}
 use Rattle.sd_acl.specs.declared.verdict.Verdict.TheVariants.{Granted, Denied, Reserved, EmptyRequest}
-use Rattle.sd_check.specs.Token.{TokenValue, applies, counts, a_group_stands_for, stands_for_subject}
+use Rattle.sd_check.specs.Token.{TokenValue, applies, applies_again, counts, a_group_stands_for, stands_for_subject, in_each_pass, is_owner}
 use Rattle.sd_check.specs.declared.token.GroupState.TheVariants.{Enabled}
-use Rattle.sd_check.specs.Check.{is_granted, is_given}
+use Rattle.sd_check.specs.Check.{is_granted, is_given, is_listed}
 use Rattle.sd_check.specs.Laws.{FirstEntryDecides, SilentEntryChangesNothing, IsSilent, GrantsWhatWasAsked, MaximumIsEachByItself, DeniedMaximumIsNone, NothingBeyondMaximum, EnabledGroupTakesNothing, NamesNot, with_group, EntriesGrantRightsAlone}
 use Rattle.sd_check.proofs.LowMasks.{judged_plainly, no_places}
 
@@ -48,7 +48,7 @@ any_without p [] after e h = rw h refl
 any_without p (x ∷ xs) after e h = ap (λ b. p x || b) (any_without p xs after e h)
 
 -- tests that agree everywhere are one
-one_test : (p q : ℕ → Bool) → ((b : ℕ) → p b ≡ q b) → p ≡ q
+pub one_test : (p q : ℕ → Bool) → ((b : ℕ) → p b ≡ q b) → p ≡ q
 one_test p q h = λ i b. h b i
 
 -- for a list the verdict rests on which bits are granted
@@ -62,11 +62,17 @@ module _ (owner : Option SidValue) (before after : List Ace) (e : Ace) (g : Mapp
   same_first : (b : ℕ) → first g (applies t owner) (before ++ e ∷ after) b ≡ first g (applies t owner) (before ++ after) b
   same_first b = find_without (decides g (applies t owner) b) before after e (ap (λ x. x && holds (mapped g e.mask) b) silent.applies_not)
 
+  same_first_again : (b : ℕ) → first g (applies_again t owner) (before ++ e ∷ after) b ≡ first g (applies_again t owner) (before ++ after) b
+  same_first_again b = find_without (decides g (applies_again t owner) b) before after e (ap (λ x. x && holds (mapped g e.mask) b) silent.applies_not_again)
+
   same_grants : (b : ℕ) → is_granted owner (Some (before ++ e ∷ after)) g t b ≡ is_granted owner (Some (before ++ after)) g t b
   same_grants b =
-      ap (λ o. (nat_lt b 21 && is_allowed_by o) || is_given owner (Some (before ++ e ∷ after)) t b) (same_first b)
-      ∙ ap (λ l. acl_grants g (applies t owner) (Some (before ++ after)) b
-      || is_implied (stands_for_subject t Allow owner && not l) t.privileges.take_ownership t.privileges.security b) same_limits
+      ap (λ o. in_each_pass t (nat_lt b 21 && is_allowed_by o) (acl_grants g (applies_again t owner) (Some (before ++ e ∷ after)) b)
+      || is_given owner (Some (before ++ e ∷ after)) t b) (same_first b)
+      ∙ ap (λ o. in_each_pass t (acl_grants g (applies t owner) (Some (before ++ after)) b) (nat_lt b 21 && is_allowed_by o)
+      || is_given owner (Some (before ++ e ∷ after)) t b) (same_first_again b)
+      ∙ ap (λ l. is_listed owner (Some (before ++ after)) g t b
+      || is_implied (is_owner t owner && not l) t.privileges.take_ownership t.privileges.security b) same_limits
 
 pub silent_entry_changes_nothing : SilentEntryChangesNothing
 unfolding judged_list
@@ -254,7 +260,10 @@ or_more : (x y z : Bool) → (y || z) ≡ true → ((x || y) || z) ≡ true
 or_more true y z h = refl
 or_more false y z h = h
 
-still_given : (before now free bits takes secures : Bool) → (before ≡ true → now ≡ true)
+still_in_each : (before now again : Bool) → (before ≡ true → now ≡ true) → (before && again) ≡ true → (now && again) ≡ true
+still_in_each before now again more h = let parts = and_parts before again h in and_from now again (more parts.0) parts.1
+
+pub still_given : (before now free bits takes secures : Bool) → (before ≡ true → now ≡ true)
     → ((((before && free) && bits) || takes) || secures) ≡ true → ((((now && free) && bits) || takes) || secures) ≡ true
 still_given true true free bits takes secures more h = h
 still_given true false free bits takes secures more h = absurd (false≢true (more refl))
@@ -262,11 +271,12 @@ still_given false now free bits takes secures more h = or_more ((now && free) &&
 
 pub enabled_group_takes_nothing : EnabledGroupTakesNothing
 enabled_group_takes_nothing owner es g t s b names granted =
-    elim (or_cases (acl_grants g (applies t owner) (Some es) b) (is_given owner (Some es) t b) granted) [
+    elim (or_cases (is_listed owner (Some es) g t b) (is_given owner (Some es) t b) granted) [
       | inl listed ↦
-          let parts = and_parts (nat_lt b 21) (is_allowed_by (first g (applies t owner) es b)) listed in
-          or_left _ _ (and_from _ _ parts.0 (first_still_allows g owner t s b es names parts.1))
-      | inr given ↦ or_right _ _ (still_given _ _ _ _ _ _ (stands_more t s Allow owner) given)
+          let passes = and_parts (acl_grants g (applies t owner) (Some es) b) _ listed in
+          let parts = and_parts (nat_lt b 21) (is_allowed_by (first g (applies t owner) es b)) passes.0 in
+          or_left _ _ (and_from _ _ (and_from _ _ parts.0 (first_still_allows g owner t s b es names parts.1)) passes.1)
+      | inr given ↦ or_right _ _ (still_given _ _ _ _ _ _ (still_in_each _ _ _ (stands_more t s Allow owner)) given)
     ]
 
 -- ---- what comes from no entry

@@ -4,3 +4,5 @@ pub mod Filters
 pub mod Answered
 pub mod OneWalk
 pub mod LawProofs
+pub mod MoreGranted
+pub mod RestrictionProofs

@@ -2,6 +2,7 @@
 use Rattle.std.proofs.Common.{◌≡◌, ℕ, ◌+◌, ◌<◌, Bool, true, false, not, ◌&&◌, ◌||◌, ◌==◌, cond, List, [], ◌∷◌, length, get_or, drop, Option, Some, refl, sym, ◌∙◌, ap, add-one, find}
 use Rattle.std.specs.List.{list_any}
 use Rattle.std.proofs.Math.Seq.{drop-cons}
+use Rattle.std.proofs.Math.Bool.{or-true}
 use Rattle.std.proofs.lemmas.Bool.{eqb-true}
 use Rattle.std.proofs.lemmas.Nat.Bits.{bit_at-zero}
 use Rattle.sd_sid.specs.Mask.{holds, mask_of}
@@ -101,21 +102,25 @@ bit_early false true kept later free e = absurd cc
 bit_early false false true later free e = absurd cc
 bit_early false false false later free e = refl
 
--- where no bit is undecided, nor any that the owner keeps and isn't allowed, the rest of the list tells nothing
-pub outcome_early : (mask : Ace → ℕ) (limits : Ace → Bool) (es : List Ace) (u a k hanging left r : ℕ)
+-- a pass is over where no bit is undecided, nor any that the owner keeps and isn't allowed
+pub nothing_hangs : (u a k hanging left : ℕ)
     → hanging ≡ mask_of (λ b. holds k b && not (holds a b)) 32
     → left ≡ mask_of (λ b. holds u b || holds hanging b) 32
     → (left == 0) ≡ true
+    → (b : ℕ) → b < 32 → (holds u b || (holds k b && not (holds a b))) ≡ false
+nothing_hangs u a k hanging left is_hanging is_left none b h =
+    ap (λ t. holds u b || t) (sym (stands (λ i. holds k i && not (holds a i)) hanging b h is_hanging))
+    ∙ sym (stands (λ i. holds u i || holds hanging i) left b h is_left)
+    ∙ ap (λ n. holds n b) (eqb-true left 0 none) ∙ ap (λ n. n == 1) (bit_at-zero b)
+
+-- then the rest of the list tells nothing
+pub outcome_early : (mask : Ace → ℕ) (limits : Ace → Bool) (es : List Ace) (u a k r : ℕ)
+    → ((b : ℕ) → b < 32 → (holds u b || (holds k b && not (holds a b))) ≡ false)
     → r ≡ mask_of (λ b. holds a b || holds k b) 32
     → outcome mask limits es u a k ≡ r
 unfolding outcome
-outcome_early mask limits es u a k hanging left r is_hanging is_left none is =
-    mask_of-alike _ _ 32 (λ b h.
-    let nothing : (holds u b || (holds k b && not (holds a b))) ≡ false =
-    ap (λ t. holds u b || t) (sym (stands (λ i. holds k i && not (holds a i)) hanging b h is_hanging))
-    ∙ sym (stands (λ i. holds u i || holds hanging i) left b h is_left)
-    ∙ ap (λ n. holds n b) (eqb-true left 0 none) ∙ ap (λ n. n == 1) (bit_at-zero b) in
-    bit_early (holds a b) (holds u b) (holds k b) _ _ nothing) ∙ sym is
+outcome_early mask limits es u a k r nothing is =
+    mask_of-alike _ _ 32 (λ b h. bit_early (holds a b) (holds u b) (holds k b) _ _ (nothing b h)) ∙ sym is
 
 -- ---- the whole list
 
@@ -137,3 +142,30 @@ outcome_of_list g who es wanted owners =
 pub outcome_from : (mask : Ace → ℕ) (limits : Ace → Bool) (es : List Ace) (i : ℕ) (e : Ace) (u a k : ℕ) → i < length es → e ≡ get_or es i e
     → outcome mask limits (drop i es) u a k ≡ outcome mask limits (e ∷ drop (i + 1) es) u a k
 outcome_from mask limits es i e u a k low is = ap (λ rest. outcome mask limits rest u a k) (rw (add-one, drop-cons es i e low, ← is) refl)
+
+-- what two passes over one list allow each, and the owner keeps, they allow together
+each_bit : (wanted first again owners free : Bool)
+    → (((wanted && first) || (owners && free)) && ((wanted && again) || (owners && free))) ≡ ((wanted && (first && again)) || (owners && free))
+each_bit true true true owners free = refl
+each_bit true true false true true = refl
+each_bit true true false true false = refl
+each_bit true true false false free = refl
+each_bit true false again true true = or-true _
+each_bit true false again true false = refl
+each_bit true false again false free = refl
+each_bit false first again true true = refl
+each_bit false first again true false = refl
+each_bit false first again false free = refl
+
+pub outcome_of_both : (g : MappingValue) (who also : AceKind → SidValue → Bool) (es : List Ace) (wanted owners one two r : ℕ)
+    → one ≡ outcome (mask_that_applies g who) is_limit es wanted 0 owners
+    → two ≡ outcome (mask_that_applies g also) is_limit es wanted 0 owners
+    → r ≡ mask_of (λ b. holds one b && holds two b) 32
+    → r ≡ mask_of (λ b. (holds wanted b && (is_allowed_by (first g who es b) && is_allowed_by (first g also es b))) || (holds owners b && not (limits_owner (Some es)))) 32
+outcome_of_both g who also es wanted owners one two r is_one is_two is =
+    is ∙ mask_of-alike _ _ 32 (λ b h.
+    let pass : (AceKind → SidValue → Bool) → ℕ → Bool =
+    λ (applies : AceKind → SidValue → Bool) k. (holds wanted k && is_allowed_by (first g applies es k)) || (holds owners k && not (limits_owner (Some es))) in
+    ap (λ t. t && holds two b) (stands (pass who) one b h (is_one ∙ outcome_of_list g who es wanted owners))
+    ∙ ap (λ t. pass who b && t) (stands (pass also) two b h (is_two ∙ outcome_of_list g also es wanted owners))
+    ∙ each_bit (holds wanted b) (is_allowed_by (first g who es b)) (is_allowed_by (first g also es b)) (holds owners b) (not (limits_owner (Some es))))

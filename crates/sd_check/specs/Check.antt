@@ -4,18 +4,22 @@ use Rattle.sd_sid.specs.Mapping.{MappingValue, mapped}
 use Rattle.sd_sid.specs.Sid.{SidValue}
 use Rattle.sd_acl.specs.Verdict.{acl_grants, limits_owner, is_implied, most_of, answered, without_maximum, judged}
 use Rattle.sd_acl.specs.declared.ace.Ace.{Ace}
-use Rattle.sd_acl.specs.declared.ace.AceKind.TheVariants.{Allow}
 use Rattle.sd_acl.specs.declared.verdict.Verdict.{Verdict}
-use Rattle.sd_check.specs.Token.{TokenValue, applies, stands_for_subject}
+use Rattle.sd_check.specs.Token.{TokenValue, applies, applies_again, in_each_pass, is_owner}
 
--- granted without an entry: the owner's two bits, where the list doesn't limit the owner, and the privileges'
+-- granted by the DACL: in the pass of the user and the groups and, of a restricted token, in that of the restricting
+-- SIDs too
+abbrev pub is_listed : Option SidValue → Option (List Ace) → MappingValue → TokenValue → ℕ → Bool
+is_listed owner dacl g t b = in_each_pass t (acl_grants g (applies t owner) dacl b) (acl_grants g (applies_again t owner) dacl b)
+
+-- granted without an entry: the owner's two bits, where the token is the owner's in each pass and the list doesn't limit
+-- the owner, and the privileges', which nothing restricts
 abbrev pub is_given : Option SidValue → Option (List Ace) → TokenValue → ℕ → Bool
-is_given owner dacl t b =
-    is_implied (stands_for_subject t Allow owner && not (limits_owner dacl)) t.privileges.take_ownership t.privileges.security b
+is_given owner dacl t b = is_implied (is_owner t owner && not (limits_owner dacl)) t.privileges.take_ownership t.privileges.security b
 
 -- granted: by the DACL, or without an entry
 abbrev pub is_granted : Option SidValue → Option (List Ace) → MappingValue → TokenValue → ℕ → Bool
-is_granted owner dacl g t b = acl_grants g (applies t owner) dacl b || is_given owner dacl t b
+is_granted owner dacl g t b = is_listed owner dacl g t b || is_given owner dacl t b
 
 -- what MAXIMUM_ALLOWED takes in
 abbrev pub most : Option SidValue → Option (List Ace) → MappingValue → TokenValue → ℕ

@@ -1,6 +1,7 @@
 -- A token's filter: of 1,024 bits, in sixteen words, each SID has one.
 use Rattle.std.specs.Prelude.{◌≡◌, ℕ, ◌-◌, ◌/◌, ◌%◌, Bool, true, ◌||◌, ◌==◌, List, length, slice_index}
 use Rattle.std.specs.Int.{bit_at}
+use Rattle.std.specs.List.{list_any}
 use Rattle.sd_sid.specs.Sid.{SidValue, same_sid}
 use Rattle.sd_acl.specs.declared.ace.AceKind.{AceKind}
 use Rattle.sd_check.specs.declared.token.GroupState.{GroupState}
@@ -17,3 +18,7 @@ may_hold words s = bit_at (slice_index words (filter_place s / 64)) (filter_plac
 -- each SID that the user and the groups stand for, in an entry of either kind, has its bit set
 abbrev pub IsFilterOf : List ℕ → SidValue → List (SidValue × GroupState) → Type 0
 IsFilterOf words user groups = (kind : AceKind) (s : SidValue) → (same_sid user s || a_group_stands_for groups kind s) ≡ true → may_hold words s ≡ true
+
+-- and so has each restricting SID
+abbrev pub HoldsEach : List ℕ → List SidValue → Type 0
+HoldsEach words sids = (s : SidValue) → list_any (λ one. same_sid one s) sids ≡ true → may_hold words s ≡ true

@@ -1,17 +1,17 @@
 -- What follows from the rules of the check, as laws over all lists, tokens and requests.
-use Rattle.std.specs.Prelude.{◌≡◌, ◌↔◌, ℕ, ◌<◌, ◌≤◌, ◌^◌, Bool, true, false, not, ◌&&◌, nat_lt, List, ◌∷◌, ◌++◌, Option, Some}
+use Rattle.std.specs.Prelude.{◌≡◌, ◌↔◌, ℕ, ◌<◌, ◌≤◌, ◌^◌, Bool, true, false, not, ◌&&◌, ◌||◌, nat_lt, List, [], ◌∷◌, ◌++◌, Option, Some}
 use Rattle.std.specs.List.{AllByRecursion}
 use Rattle.sd_sid.specs.Mask.{holds}
 use Rattle.sd_sid.specs.Mapping.{MappingValue, mapped}
 use Rattle.sd_sid.specs.Sid.{SidValue, same_sid, owner_rights}
 use Rattle.sd_acl.specs.Ace.{is_allow, is_inherit_only}
-use Rattle.sd_acl.specs.Verdict.{decides, acl_grants, subject, without_maximum}
+use Rattle.sd_acl.specs.Verdict.{decides, acl_grants, subject, limits_owner, is_implied, without_maximum}
 use Rattle.sd_acl.specs.declared.ace.Ace.{Ace}
 use Rattle.sd_acl.specs.declared.ace.AceKind.{AceKind}
-use Rattle.sd_acl.specs.declared.ace.AceKind.TheVariants.{Deny}
+use Rattle.sd_acl.specs.declared.ace.AceKind.TheVariants.{Allow, Deny}
 use Rattle.sd_acl.specs.declared.verdict.Verdict.TheVariants.{Granted, Denied}
 use Rattle.sd_check.specs.declared.token.GroupState.TheVariants.{Enabled}
-use Rattle.sd_check.specs.Token.{TokenValue, applies}
+use Rattle.sd_check.specs.Token.{TokenValue, applies, applies_again, is_restricting, stands_for_subject}
 use Rattle.sd_check.specs.Check.{is_granted, verdict}
 
 -- where no entry before it settles the bit, an entry that does decides it
@@ -25,6 +25,7 @@ FirstEntryDecides =
 -- the entry has no part in the check: it is inherit-only, or applies to nobody, and doesn't limit the owner
 pub record IsSilent (t : TokenValue) (owner : Option SidValue) (e : Ace) : Type 0 where
   pub applies_not : (not (is_inherit_only e) && applies t owner e.kind e.sid) ≡ false
+  pub applies_not_again : (not (is_inherit_only e) && applies_again t owner e.kind e.sid) ≡ false
   pub limits_not : (not (is_inherit_only e) && same_sid e.sid owner_rights) ≡ false
 
 abbrev pub SilentEntryChangesNothing : Type 0
@@ -59,7 +60,7 @@ NothingBeyondMaximum =
 
 -- the token with one more group, which is enabled
 abbrev pub with_group : TokenValue → SidValue → TokenValue
-with_group t s = record { user = t.user; groups = (s, Enabled) ∷ t.groups; privileges = t.privileges }
+with_group t s = record { user = t.user; groups = (s, Enabled) ∷ t.groups; restricting = t.restricting; privileges = t.privileges }
 
 -- no effective deny entry that speaks of the SID names the bit
 abbrev pub NamesNot : MappingValue → Option SidValue → SidValue → ℕ → Ace → Type 0
@@ -76,3 +77,38 @@ abbrev pub EntriesGrantRightsAlone : Type 0
 EntriesGrantRightsAlone =
     (g : MappingValue) (who : AceKind → SidValue → Bool) (dacl : Option (List Ace)) (b : ℕ)
     → acl_grants g who dacl b ≡ true → b < 21
+
+-- ---- restricting SIDs
+
+-- the same token with these restricting SIDs
+abbrev pub restricted_to : TokenValue → List SidValue → TokenValue
+restricted_to t sids = record { user = t.user; groups = t.groups; restricting = sids; privileges = t.privileges }
+
+-- without restricting SIDs there is one pass: the DACL grants what it grants to the user and the groups
+abbrev pub NobodyRestrictsNothing : Type 0
+NobodyRestrictsNothing =
+    (owner : Option SidValue) (dacl : Option (List Ace)) (g : MappingValue) (t : TokenValue) (b : ℕ)
+    → is_granted owner dacl g (restricted_to t []) b
+    ≡ (acl_grants g (applies t owner) dacl b
+    || is_implied (stands_for_subject t Allow owner && not (limits_owner dacl)) t.privileges.take_ownership t.privileges.security b)
+
+-- a bit that a restricted token is granted, it is granted without the restriction too
+abbrev pub RestrictionGrantsNoBit : Type 0
+RestrictionGrantsNoBit =
+    (owner : Option SidValue) (dacl : Option (List Ace)) (g : MappingValue) (t : TokenValue) (b : ℕ)
+    → is_granted owner dacl g t b ≡ true → is_granted owner dacl g (restricted_to t []) b ≡ true
+
+-- and a request that it is granted is granted without it, with all that was granted, and perhaps more where
+-- MAXIMUM_ALLOWED was asked for
+abbrev pub RestrictionGrantsNoRequest : Type 0
+RestrictionGrantsNoRequest =
+    (owner : Option SidValue) (dacl : Option (List Ace)) (g : MappingValue) (t : TokenValue) (r m : ℕ)
+    → verdict owner dacl g t r ≡ Granted m
+    → (more : ℕ) × ((verdict owner dacl g (restricted_to t []) r ≡ Granted more) × ((b : ℕ) → b < 32 → holds m b ≡ true → holds more b ≡ true))
+
+-- the same restricting SIDs, in whatever order and however often each, give the same verdicts
+abbrev pub OrderOfRestrictingSidsIsFree : Type 0
+OrderOfRestrictingSidsIsFree =
+    (owner : Option SidValue) (dacl : Option (List Ace)) (g : MappingValue) (t : TokenValue) (some others : List SidValue) (r : ℕ)
+    → ((s : SidValue) → is_restricting (restricted_to t some) s ≡ is_restricting (restricted_to t others) s)
+    → verdict owner dacl g (restricted_to t some) r ≡ verdict owner dacl g (restricted_to t others) r

@@ -1,15 +1,15 @@
 //! Which bits a DACL, the owner's rights and the privileges grant.
 
-ghost use Rattle.std.specs.Prelude.{◌≡◌, ◌&&◌, ◌||◌, not, true, false, Some, None};
-ghost use Rattle.sd_acl.specs.declared.ace.AceKind.TheVariants.{Allow};
+ghost use Rattle.std.specs.Prelude.{◌≡◌, ◌&&◌, ◌||◌, not, true, false, cond, ℕ, ◌<◌, Some, None};
+ghost use Rattle.sd_acl.specs.Ace.{is_allow};
 ghost use Rattle.std.specs.Option.{option_copied};
 ghost use Rattle.sd_sid.specs.Mask.{holds, mask_of};
-ghost use Rattle.sd_acl.specs.Verdict.{acl_grants, first, is_allowed_by, limits_owner, subject, is_implied, most_of};
-ghost use Rattle.sd_check.specs.Token.{applies, stands_for_subject};
-ghost use Rattle.sd_check.specs.Check.{is_given, is_granted, answer_of};
+ghost use Rattle.sd_acl.specs.Verdict.{first, is_allowed_by, limits_owner, subject, is_implied, most_of};
+ghost use Rattle.sd_check.specs.Token.{applies, applies_again, in_each_pass, is_owner};
+ghost use Rattle.sd_check.specs.Check.{is_listed, is_given, is_granted, answer_of};
 ghost use Rattle.sd_check.specs.Dacl.{entries_of};
 ghost use Rattle.sd_acl.specs.Verdict as rules;
-ghost use Rattle.sd_check.specs.Walk.{mask_that_applies, is_limit};
+ghost use Rattle.sd_check.specs.Walk.{applies_in, stands_for_in, mask_that_applies, is_limit};
 
 use crate::token::Token;
 use sd_acl::{Ace, AceKind, Verdict};
@@ -41,6 +41,15 @@ const MAXIMUM_ALLOWED: Mask = Mask(1 << MAXIMUM_PLACE);
 /// The place of MAXIMUM_ALLOWED.
 const MAXIMUM_PLACE: u32 = 25;
 
+/// A pass over the list ([MS-DTYP] 2.5.3.2).
+#[derive(Clone, Copy)]
+enum Pass {
+    /// For the user and the groups.
+    First,
+    /// For the restricting SIDs alone, where the token has some.
+    Second,
+}
+
 /// Who asks, of what.
 #[derive(Clone, Copy)]
 pub(crate) struct Access<'a> {
@@ -48,6 +57,65 @@ pub(crate) struct Access<'a> {
     pub dacl: DaclRef<'a>,
     pub mapping: &'a GenericMapping,
     pub token: &'a Token,
+}
+
+/// What a pass has settled so far.
+#[derive(Clone, Copy)]
+struct Settled {
+    undecided: Mask,
+    allowed: Mask,
+}
+
+impl Settled {
+    /// Before the first entry: all that is wanted is undecided.
+    fn at_first(wanted: Mask) -> Settled
+        ensures { result ≡ record { undecided = wanted; allowed = 0 } }
+    {
+        Settled {
+            undecided: wanted,
+            allowed: Mask(0),
+        }
+    }
+
+    /// Whether an entry further on can tell nothing: no bit is undecided, nor any that the owner keeps and isn't allowed.
+    #[inline]
+    fn is_over(&self, kept: Mask) -> bool
+        ensures { result ≡ true → (b : ℕ) → b < 32 → (holds self.now.undecided b || (holds kept b && not (holds self.now.allowed b))) ≡ false }
+    {
+        self.undecided.union(kept.minus(self.allowed)).is_empty()
+    }
+
+    /// With what is allowed, what the owner keeps.
+    #[inline]
+    fn granted(&self, kept: Mask) -> Mask
+        ensures { result ≡ mask_of (λ b. holds self.now.allowed b || holds kept b) 32 }
+    {
+        self.allowed.union(kept)
+    }
+
+    /// What is settled after an entry of the kind that takes part with the mask: it decides what was undecided of it.
+    #[inline]
+    fn after(&self, kind: AceKind, mask: Mask) -> Settled
+        ensures undecided { let decided = mask_of (λ b. holds mask b && holds self.now.undecided b) 32 in
+            result.undecided ≡ mask_of (λ b. holds self.now.undecided b && not (holds decided b)) 32 }
+        ensures allowed { let decided = mask_of (λ b. holds mask b && holds self.now.undecided b) 32 in
+            result.allowed ≡ mask_of (λ b. holds self.now.allowed b || holds (cond (is_allow kind) decided 0) b) 32 }
+    {
+        let decided = mask.common(self.undecided);
+        Settled {
+            undecided: self.undecided.minus(decided),
+            allowed: self.allowed.union(decided.when(kind.is_allow())),
+        }
+    }
+}
+
+/// Whether neither pass has anything to learn from an entry further on.
+#[inline]
+fn are_over(first: &Settled, second: &Settled, kept: Mask) -> bool
+    ensures first { result ≡ true → (b : ℕ) → b < 32 → (holds first.now.undecided b || (holds kept b && not (holds first.now.allowed b))) ≡ false }
+    ensures second { result ≡ true → (b : ℕ) → b < 32 → (holds second.now.undecided b || (holds kept b && not (holds second.now.allowed b))) ≡ false }
+{
+    first.is_over(kept) && second.is_over(kept)
 }
 
 /// Whom an entry for the SID speaks of: OWNER RIGHTS is the owner, or nobody where there is none.
@@ -68,34 +136,49 @@ fn limits_owner(entry: &Ace) -> bool
     !entry.is_inherit_only() && entry.sid.is_owner_rights()
 }
 
-/// Whether an entry of the kind for the SID applies ([MS-DTYP] 2.5.3.1).
-fn applies_to(token: &Token, owner: &Option<Sid>, kind: AceKind, sid: &Sid) -> bool
-    ensures { result ≡ applies token.now owner.now kind sid.now }
-{
-    match subject_of(owner, sid) {
-        None => false,
-        Some(subject) => token.stands_for(kind, subject),
-    }
-}
-
 impl Access<'_> {
-    /// What an entry takes part with: its mapped mask, or nothing where it is inherit-only or doesn't apply.
-    fn mask_that_applies(&self, entry: &Ace) -> Mask
-        ensures { result ≡ mask_that_applies self.now.mapping.now (applies self.now.token.now self.now.owner.now) entry.now }
+    /// Whether an entry applies in a pass ([MS-DTYP] 2.5.3.1).
+    #[inline]
+    fn applies(&self, pass: Pass, kind: AceKind, sid: &Sid) -> bool
+        ensures { result ≡ applies_in pass self.now.token.now self.now.owner.now kind sid.now }
+    {
+        match subject_of(self.owner, sid) {
+            None => false,
+            Some(subject) => self.stands_for(pass, kind, subject),
+        }
+    }
+
+    /// Whether what an entry of the kind says of the SID is said of the token, in a pass.
+    #[inline]
+    fn stands_for(&self, pass: Pass, kind: AceKind, sid: &Sid) -> bool
+        ensures { result ≡ stands_for_in pass self.now.token.now kind sid.now }
+    {
+        match pass {
+            Pass::First => self.token.stands_for(kind, sid),
+            Pass::Second => self.token.is_restricting(sid),
+        }
+    }
+
+    /// What an entry takes part with in a pass: its mapped mask, or nothing where it is inherit-only or doesn't apply.
+    #[inline]
+    fn mask_that_applies(&self, pass: Pass, entry: &Ace) -> Mask
+        ensures { result ≡ mask_that_applies self.now.mapping.now (applies_in pass self.now.token.now self.now.owner.now) entry.now }
     {
         if entry.is_inherit_only() {
             return Mask(0);
         }
-        if !applies_to(self.token, self.owner, entry.kind, &entry.sid) {
+        if !self.applies(pass, entry.kind, &entry.sid) {
             return Mask(0);
         }
         self.mapping.map(entry.mask)
     }
 
-    /// Whether one look tells that an entry has no part in the check, as most entries of a long list have none.
+    /// Whether one look tells that an entry has no part in the check, in either pass, as most entries of a long list
+    /// have none.
     #[inline]
     fn is_silent(&self, entry: &Ace) -> bool
-        ensures mask { result ≡ true → mask_that_applies self.now.mapping.now (applies self.now.token.now self.now.owner.now) entry.now ≡ 0 }
+        ensures first { result ≡ true → mask_that_applies self.now.mapping.now (applies self.now.token.now self.now.owner.now) entry.now ≡ 0 }
+        ensures second { result ≡ true → mask_that_applies self.now.mapping.now (applies_again self.now.token.now self.now.owner.now) entry.now ≡ 0 }
         ensures limit { result ≡ true → is_limit entry.now ≡ false }
     {
         !entry.sid.is_owner_rights() && !self.token.may_stand_for(&entry.sid)
@@ -104,54 +187,106 @@ impl Access<'_> {
     /// Of the bits that are wanted, those that the entries grant; and the owner's, unless an entry limits the owner.
     /// The walk ends as soon as what stands behind can tell nothing of either.
     fn walk(&self, entries: &[Ace], wanted: Mask, owners: Mask) -> Mask
-        ensures { result ≡ mask_of (λ b. (holds wanted b && is_allowed_by (first self.now.mapping.now (applies self.now.token.now self.now.owner.now) entries.now b)) || (holds owners b && not (limits_owner (Some entries.now)))) 32 }
+        ensures { let applies = applies self.now.token.now self.now.owner.now in
+            result ≡ mask_of
+            (λ b. (holds wanted b && is_allowed_by (first self.now.mapping.now applies entries.now b))
+            || (holds owners b && not (limits_owner (Some entries.now))))
+            32 }
     {
-        let mut undecided = wanted;
-        let mut allowed = Mask(0);
+        let mut settled = Settled::at_first(wanted);
         let mut kept = owners;
         for entry in entries {
-            let hanging = kept.minus(allowed);
-            if undecided.union(hanging).is_empty() {
-                return allowed.union(kept);
+            if settled.is_over(kept) {
+                return settled.granted(kept);
             }
             if self.is_silent(entry) {
                 continue;
             }
-            let mask = self.mask_that_applies(entry).common(undecided);
-            undecided = undecided.minus(mask);
-            allowed = allowed.union(mask.when(entry.kind.is_allow()));
+            let mask = self.mask_that_applies(Pass::First, entry);
+            settled = settled.after(entry.kind, mask);
             kept = kept.when(!limits_owner(entry));
         }
-        allowed.union(kept)
+        settled.granted(kept)
+    }
+
+    /// The same for a restricted token: of the bits that are wanted, those that the entries grant in each pass, found in
+    /// one walk; and the owner's, unless an entry limits the owner.
+    fn walk_for_both(&self, entries: &[Ace], wanted: Mask, owners: Mask) -> Mask
+        ensures { let applies = applies self.now.token.now self.now.owner.now in
+            let applies_again = applies_again self.now.token.now self.now.owner.now in
+            result ≡ mask_of
+            (λ b. (holds wanted b
+            && (is_allowed_by (first self.now.mapping.now applies entries.now b)
+            && is_allowed_by (first self.now.mapping.now applies_again entries.now b)))
+            || (holds owners b && not (limits_owner (Some entries.now))))
+            32 }
+    {
+        let mut first = Settled::at_first(wanted);
+        let mut second = Settled::at_first(wanted);
+        let mut kept = owners;
+        for entry in entries {
+            if are_over(&first, &second, kept) {
+                return first.granted(kept).common(second.granted(kept));
+            }
+            if self.is_silent(entry) {
+                continue;
+            }
+            let mask = self.mask_that_applies(Pass::First, entry);
+            let mask_again = self.mask_that_applies(Pass::Second, entry);
+            first = first.after(entry.kind, mask);
+            second = second.after(entry.kind, mask_again);
+            kept = kept.when(!limits_owner(entry));
+        }
+        first.granted(kept).common(second.granted(kept))
     }
 
     /// Of the bits that are wanted, those that the DACL grants, and the owner's where it doesn't limit the owner.
     fn granted_by_dacl(&self, wanted: Mask) -> Mask
-        ensures { result ≡ mask_of (λ b. holds wanted b && (acl_grants self.now.mapping.now (applies self.now.token.now self.now.owner.now) (entries_of self.now.dacl) b || is_implied (stands_for_subject self.now.token.now Allow self.now.owner.now && not (limits_owner (entries_of self.now.dacl))) false false b)) 32 }
+        ensures { result ≡ mask_of
+            (λ b. holds wanted b
+            && (is_listed self.now.owner.now (entries_of self.now.dacl) self.now.mapping.now self.now.token.now b
+            || is_implied (is_owner self.now.token.now self.now.owner.now && not (limits_owner (entries_of self.now.dacl))) false false b))
+            32 }
     {
         match self.dacl {
             DaclRef::Absent => wanted.common(OBJECT_RIGHTS),
             DaclRef::Null => wanted.common(OBJECT_RIGHTS),
-            DaclRef::List(entries) => {
-                let owners = self.owners_rights(wanted);
-                self.walk(entries, wanted.common(OBJECT_RIGHTS), owners)
-            }
+            DaclRef::List(entries) => self.granted_by_list(entries, wanted),
         }
     }
 
-    /// Whether the token stands for the owner, as it would for an allow entry.
+    /// The same, of a list.
+    fn granted_by_list(&self, entries: &[Ace], wanted: Mask) -> Mask
+        ensures { result ≡ mask_of
+            (λ b. holds wanted b
+            && (is_listed self.now.owner.now (Some entries.now) self.now.mapping.now self.now.token.now b
+            || is_implied (is_owner self.now.token.now self.now.owner.now && not (limits_owner (Some entries.now))) false false b))
+            32 }
+    {
+        let owners = self.owners_rights(wanted);
+        let rights = wanted.common(OBJECT_RIGHTS);
+        if self.token.is_restricted() {
+            self.walk_for_both(entries, rights, owners)
+        } else {
+            self.walk(entries, rights, owners)
+        }
+    }
+
+    /// Whether the token stands for the owner, as it would for an allow entry, in each pass.
     fn is_owner(&self) -> bool
-        ensures { result ≡ stands_for_subject self.now.token.now Allow self.now.owner.now }
+        ensures { result ≡ is_owner self.now.token.now self.now.owner.now }
     {
         match self.owner {
             None => false,
-            Some(owner) => self.token.stands_for(AceKind::Allow, owner),
+            Some(owner) => {
+                self.token.stands_for(AceKind::Allow, owner) && self.token.passes_again(owner)
+            }
         }
     }
 
     /// Of the bits that are wanted, the owner's, where the token stands for the owner.
     fn owners_rights(&self, wanted: Mask) -> Mask
-        ensures { result ≡ mask_of (λ b. holds wanted b && is_implied (stands_for_subject self.now.token.now Allow self.now.owner.now) false false b) 32 }
+        ensures { result ≡ mask_of (λ b. holds wanted b && is_implied (is_owner self.now.token.now self.now.owner.now) false false b) 32 }
     {
         let owners = wanted.common(OWNERS_RIGHTS);
         if owners.is_empty() {

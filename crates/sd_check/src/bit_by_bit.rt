@@ -13,10 +13,21 @@ struct Access<'a> {
     entries: &'a [Ace],
     user: &'a Sid,
     groups: &'a [(Sid, GroupState)],
+    restricting: &'a [Sid],
+}
+
+/// A pass over the list: for the user and the groups, or for the restricting SIDs.
+#[derive(Clone, Copy, PartialEq, Eq)]
+enum Pass {
+    First,
+    Second,
 }
 
 impl Access<'_> {
-    fn stands_for(&self, kind: AceKind, sid: &Sid) -> bool {
+    fn stands_for(&self, pass: Pass, kind: AceKind, sid: &Sid) -> bool {
+        if pass == Pass::Second {
+            return self.restricting.iter().any(|one| one == sid);
+        }
         if self.user == sid {
             return true;
         }
@@ -33,20 +44,20 @@ impl Access<'_> {
         false
     }
 
-    fn applies(&self, entry: &Ace) -> bool {
+    fn applies(&self, pass: Pass, entry: &Ace) -> bool {
         let subject = if entry.sid.is_owner_rights() {
             self.owner
         } else {
             &entry.sid
         };
-        !entry.is_inherit_only() && self.stands_for(entry.kind, subject)
+        !entry.is_inherit_only() && self.stands_for(pass, entry.kind, subject)
     }
 
     /// Whether the first entry that settles the bit allows it.
-    fn is_allowed(&self, bit: u32) -> bool {
+    fn is_allowed(&self, pass: Pass, bit: u32) -> bool {
         for entry in self.entries {
             let mask = GenericMapping::file().map(entry.mask).bits();
-            if mask & bit != 0 && self.applies(entry) {
+            if mask & bit != 0 && self.applies(pass, entry) {
                 return entry.kind == AceKind::Allow;
             }
         }
@@ -62,14 +73,25 @@ impl Access<'_> {
         false
     }
 
-    fn granted(&self) -> u32 {
-        let mut granted = 0;
+    /// What the pass grants of the list, and whether it has the owner.
+    fn in_pass(&self, pass: Pass) -> (u32, bool) {
+        let mut listed = 0;
         for place in 0..21u32 {
-            if self.is_allowed(1 << place) {
-                granted |= 1 << place;
+            if self.is_allowed(pass, 1 << place) {
+                listed |= 1 << place;
             }
         }
-        if self.stands_for(AceKind::Allow, self.owner) && !self.limits_owner() {
+        (listed, self.stands_for(pass, AceKind::Allow, self.owner))
+    }
+
+    fn granted(&self) -> u32 {
+        let (mut granted, mut is_owner) = self.in_pass(Pass::First);
+        if !self.restricting.is_empty() {
+            let (listed, owns) = self.in_pass(Pass::Second);
+            granted &= listed;
+            is_owner = is_owner && owns;
+        }
+        if is_owner && !self.limits_owner() {
             granted |= 0x0006_0000;
         }
         granted
@@ -161,16 +183,29 @@ fn every_list_of_at_most_two_entries(rt: HostRuntime) -> Result<(), Fail> {
     let sids = [user, users, Sid::new(3, &[4])?];
     let entries = entries(rt, &[0x1, 0x3, 0x0002_0000], &sids)?;
     let groups = [(users, GroupState::Enabled)];
-    let held = vec![in rt.alloc(); (users, GroupState::Enabled)]?;
-    let token = Token::new(user, held, Privileges::default());
-    let access = Access {
-        owner: &user,
-        entries: &[],
-        user: &user,
-        groups: &groups,
-    };
     assert_eq!(rt; entries.len(), 36);
-    assert!(rt; all_agree(access, &entries, &token));
+    let none: &[Sid] = &[];
+    let rows = [
+        none,
+        &[user],
+        &[users],
+        &[users, user, users],
+        &[Sid::new(5, &[12])?],
+    ];
+    for restricting in rows {
+        let mut sids = Vec::new(rt.alloc());
+        sids.extend_from_slice(restricting)?;
+        let held = vec![in rt.alloc(); (users, GroupState::Enabled)]?;
+        let token = Token::restricted(user, held, sids, Privileges::default());
+        let access = Access {
+            owner: &user,
+            entries: &[],
+            user: &user,
+            groups: &groups,
+            restricting,
+        };
+        assert!(rt; all_agree(access, &entries, &token));
+    }
     Ok(())
 }
 
@@ -205,6 +240,7 @@ fn each_branch_of_the_filter(rt: HostRuntime) -> Result<(), Fail> {
         entries: &[],
         user: &user,
         groups: &groups,
+        restricting: &[],
     };
     assert!(rt; all_agree(access, &entries, &token));
     Ok(())

@@ -2,7 +2,7 @@
 
 ghost use Rattle.std.specs.Prelude.{◌≡◌, ◌<◌, true};
 ghost use Rattle.sd_sid.specs.Sid.{SidValue};
-ghost use Rattle.sd_check.specs.Filter.{IsFilterOf, filter_place, may_hold};
+ghost use Rattle.sd_check.specs.Filter.{IsFilterOf, HoldsEach, filter_place, may_hold};
 
 use crate::token::GroupState;
 use sd_acl::AceKind;
@@ -25,6 +25,18 @@ impl Filter {
             if state.counts(AceKind::Deny) {
                 filter = filter.with(group);
             }
+        }
+        filter
+    }
+
+    /// The filter with more SIDs.
+    pub(crate) fn with_each(self, sids: &[Sid]) -> Filter
+        ensures here { HoldsEach result.words sids.now }
+        ensures kept { (s : SidValue) → may_hold self.words s ≡ true → may_hold result.words s ≡ true }
+    {
+        let mut filter = self;
+        'sids: for sid in sids {
+            filter = filter.with(sid);
         }
         filter
     }

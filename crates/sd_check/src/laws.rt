@@ -1,6 +1,6 @@
 //! What follows from the rules of the check. Each law is the contract of a function that does nothing.
 
-ghost use Rattle.sd_check.specs.Laws.{FirstEntryDecides, SilentEntryChangesNothing, GrantsWhatWasAsked, MaximumIsEachByItself, DeniedMaximumIsNone, NothingBeyondMaximum, EnabledGroupTakesNothing, EntriesGrantRightsAlone};
+ghost use Rattle.sd_check.specs.Laws.{FirstEntryDecides, SilentEntryChangesNothing, GrantsWhatWasAsked, MaximumIsEachByItself, DeniedMaximumIsNone, NothingBeyondMaximum, EnabledGroupTakesNothing, EntriesGrantRightsAlone, NobodyRestrictsNothing, RestrictionGrantsNoBit, RestrictionGrantsNoRequest, OrderOfRestrictingSidsIsFree};
 
 /// A deny in front of an allow of the same bit wins, and behind it loses: the first entry that settles a bit
 /// decides it, whatever stands behind ([MS-DTYP] 2.5.3.2).
@@ -30,6 +30,23 @@ pub fn maximum_is_each_by_itself()
 /// One more enabled group takes no bit away that no effective deny entry for the group names.
 pub fn enabled_group_takes_nothing()
     ensures { EnabledGroupTakesNothing }
+{}
+
+/// An empty list of restricting SIDs restricts nothing.
+pub fn nobody_restricts_nothing()
+    ensures { NobodyRestrictsNothing }
+{}
+
+/// What a restricted token is granted, bit for bit and request for request, it is granted without its restricting SIDs
+/// too.
+pub fn restriction_only_takes_away()
+    ensures bits { RestrictionGrantsNoBit }
+    ensures requests { RestrictionGrantsNoRequest }
+{}
+
+/// In which order the restricting SIDs stand, and how often each, changes no verdict.
+pub fn order_of_restricting_sids_is_free()
+    ensures { OrderOfRestrictingSidsIsFree }
 {}
 
 /// Neither a reserved bit nor ACCESS_SYSTEM_SECURITY comes from an entry, or for want of a list.

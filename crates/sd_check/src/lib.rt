@@ -22,7 +22,8 @@ mod token;
 pub use access::DaclRef;
 pub use laws::{
     enabled_group_takes_nothing, entries_grant_rights_alone, first_entry_decides,
-    grants_what_was_asked, maximum_is_each_by_itself, silent_entry_changes_nothing,
+    grants_what_was_asked, maximum_is_each_by_itself, nobody_restricts_nothing,
+    order_of_restricting_sids_is_free, restriction_only_takes_away, silent_entry_changes_nothing,
 };
 pub use request::{check, check_parts};
 pub use sd_acl::Verdict;

@@ -65,3 +65,35 @@ fn answers_by_the_descriptor(rt: HostRuntime) -> Result<(), Fail> {
     assert_eq!(rt; verdict, Verdict::Denied { missing: Mask(0x1) });
     Ok(())
 }
+
+#[test]
+fn answers_a_restricted_token(rt: HostRuntime) -> Result<(), Fail> {
+    let user = Sid::new(5, &[21, 1, 2, 3, 1001])?;
+    let restricted = Sid::new(5, &[12])?;
+    let entries = [
+        entry(AceKind::Allow, 0x001F_01FF, user),
+        entry(AceKind::Allow, 0x0012_0089, restricted),
+    ];
+    let sids = vec![in rt.alloc(); restricted]?;
+    let token = Token::restricted(user, Vec::new(rt.alloc()), sids, Privileges::default());
+    let file = GenericMapping::file();
+    let rows = [
+        (0x0012_0089, Verdict::Granted(Mask(0x0012_0089))),
+        (
+            0x0012_0116,
+            Verdict::Denied {
+                missing: Mask(0x116),
+            },
+        ),
+        (0x0200_0000, Verdict::Granted(Mask(0x0012_0089))),
+    ];
+    for (asked, verdict) in rows {
+        let list = DaclRef::List(&entries);
+        assert_eq!(rt;
+            check_parts(None, list, &file, &token, Mask(asked)),
+            verdict,
+            "{asked:x}"
+        );
+    }
+    Ok(())
+}

@@ -1,8 +1,8 @@
 //! Who asks.
 
-ghost use Rattle.std.specs.Prelude.{◌≡◌, false};
+ghost use Rattle.std.specs.Prelude.{◌≡◌, false, not, ◌||◌, []};
 ghost use Rattle.sd_acl.specs.declared.ace.AceKind.{AceKind};
-ghost use Rattle.sd_check.specs.Token.{stands_for, a_group_stands_for, counts};
+ghost use Rattle.sd_check.specs.Token.{stands_for, a_group_stands_for, counts, is_restricted, is_restricting};
 
 use crate::filter::Filter;
 use sd_acl::AceKind;
@@ -43,11 +43,13 @@ impl Default for Privileges {
     }
 }
 
-/// Who asks ([MS-DTYP] 2.5.2): a user, its groups as they were given, and its privileges.
+/// Who asks ([MS-DTYP] 2.5.2): a user, its groups as they were given, its privileges and, where it is restricted, the SIDs
+/// for which access is asked a second time.
 #[derive(Debug, Drop)]
 pub struct Token {
     user: Sid,
     groups: Vec<(Sid, GroupState)>,
+    restricting: Vec<Sid>,
     privileges: Privileges,
     filter: Filter,
 }
@@ -57,11 +59,11 @@ impl Model for Token {
 
     ghost Value = { TokenValue };
 
-    ghost use Rattle.sd_check.specs.Filter.{IsFilterOf};
+    ghost use Rattle.sd_check.specs.Filter.{IsFilterOf, HoldsEach};
 
-    ghost view = { λ t. record { user = t.user; groups = t.groups.items; privileges = t.privileges } };
+    ghost view = { λ t. record { user = t.user; groups = t.groups.items; restricting = t.restricting.items; privileges = t.privileges } };
 
-    ghost invariant = { λ t. IsFilterOf t.filter.words t.user t.groups.items };
+    ghost invariant = { λ t. IsFilterOf t.filter.words t.user t.groups.items × HoldsEach t.filter.words t.restricting.items };
 }
 
 impl GroupState {
@@ -78,15 +80,31 @@ impl GroupState {
 }
 
 impl Token {
-    /// The token of a user, groups and privileges. A SID may stand in the groups more than once; each place
-    /// counts. Takes no memory.
+    /// The token of a user, groups and privileges, which nothing restricts. A SID may stand in the groups more than
+    /// once; each place counts. Takes no memory.
     pub fn new(user: Sid, groups: Vec<(Sid, GroupState)>, privileges: Privileges) -> Token
-        ensures { result ≡ record { user = user; groups = groups.items; privileges = privileges } }
+        ensures { result ≡ record { user = user; groups = groups.items; restricting = []; privileges = privileges } }
     {
-        let filter = Filter::new(&user, &groups);
+        let nobody = Vec::new(*groups.allocator());
+        Token::restricted(user, groups, nobody, privileges)
+    }
+
+    /// The token of a user, groups and privileges, restricted to what the restricting SIDs are granted too, by a second
+    /// pass over the list ([MS-DTYP] 2.5.2, a restricted token). Without restricting SIDs nothing restricts it. A SID
+    /// may stand among them more than once. Takes no memory.
+    pub fn restricted(
+        user: Sid,
+        groups: Vec<(Sid, GroupState)>,
+        restricting: Vec<Sid>,
+        privileges: Privileges,
+    ) -> Token
+        ensures { result ≡ record { user = user; groups = groups.items; restricting = restricting.items; privileges = privileges } }
+    {
+        let filter = Filter::new(&user, &groups).with_each(&restricting);
         Token {
             user,
             groups,
+            restricting,
             privileges,
             filter,
         }
@@ -98,12 +116,35 @@ impl Token {
         self.privileges
     }
 
-    /// Whether the token may stand for the SID at all. Where it can't, no entry of either kind applies.
+    /// Whether the token may stand for the SID at all, in either pass. Where it can't, no entry of either kind applies.
     #[inline]
     pub(crate) fn may_stand_for(&self, sid: &Sid) -> bool
-        ensures { result ≡ false → (kind : AceKind) → stands_for self.now kind sid.now ≡ false }
+        ensures first { result ≡ false → (kind : AceKind) → stands_for self.now kind sid.now ≡ false }
+        ensures again { result ≡ false → is_restricting self.now sid.now ≡ false }
     {
         self.filter.may_hold(sid)
+    }
+
+    /// Whether restricting SIDs stand in the token.
+    #[inline]
+    pub(crate) fn is_restricted(&self) -> bool
+        ensures { result ≡ is_restricted self.now }
+    {
+        !self.restricting.is_empty()
+    }
+
+    /// Whether the SID is a restricting one.
+    pub(crate) fn is_restricting(&self, sid: &Sid) -> bool
+        ensures { result ≡ is_restricting self.now sid.now }
+    {
+        self.may_stand_for(sid) && self.restricting.iter().any(|one| one.is(sid))
+    }
+
+    /// Whether what is the SID's is the token's in the second pass: it is a restricting one, or nothing restricts.
+    pub(crate) fn passes_again(&self, sid: &Sid) -> bool
+        ensures { result ≡ (not (is_restricted self.now) || is_restricting self.now sid.now) }
+    {
+        !self.is_restricted() || self.is_restricting(sid)
     }
 
     /// Whether an entry of the kind for the SID applies: the user has the SID, or a group that counts.

@@ -8,7 +8,7 @@ use Rattle.std.specs.declared.cmp.Ordering.TheVariants.{Less, Equal, Greater}
 use Rattle.std.proofs.Math.Bool.{and-false, and_assoc}
 use Rattle.std.proofs.Math.Dec.{eqb-suc-suc, eqb-zero-suc, eqb-suc-zero, leb-suc-suc}
 use Rattle.std.proofs.lemmas.List.{length-replicate}
-use Rattle.std.proofs.lemmas.Bool.{lt-ltb, le-ltb, and_parts, eqb-true}
+use Rattle.std.proofs.lemmas.Bool.{lt-ltb, le-ltb, and_parts, and_from, eqb-true, eq-eqb}
 use lib.Pointwise.{bytes_decides}
 use Rattle.sd_sid.specs.Sid.{SidValue, IsSid, same_sid, sid_cmp}
 
@@ -109,3 +109,7 @@ same_sid-true a b h =
     let authority = eqb-true a.authority b.authority parts.0 in
     let subs = (bytes_decides a.subs b.subs).0 parts.1 in
     λ i. record { authority = authority i; subs = subs i }
+
+-- and a SID passes it with itself
+pub same_sid-itself : (s : SidValue) → same_sid s s ≡ true
+same_sid-itself s = and_from (nat_eq s.authority s.authority) (bytes_eq s.subs s.subs) (eq-eqb s.authority s.authority refl) ((bytes_decides s.subs s.subs).1 refl)

@@ -1,6 +1,6 @@
 //! Generic mappings.
 
-ghost use Rattle.std.specs.Prelude.{◌≡◌, ◌<◌, ◌^◌};
+ghost use Rattle.std.specs.Prelude.{◌≡◌, ◌<◌, ◌^◌, codes};
 ghost use Rattle.sd_sid.specs.Mapping.{mapped, mapping_of, file_mapping, IsMapping};
 
 use crate::mask::Mask;
@@ -33,6 +33,22 @@ impl Model for GenericMapping {
 #[derive(Clone, Copy, Debug, PartialEq, Eq, Error)]
 #[error("a mask of a generic mapping has a bit beyond 0x001fffff")]
 pub struct BadMapping;
+
+impl BadMapping {
+    /// The error's number.
+    pub fn number(self) -> u8
+        ensures { result ≡ 1 }
+    {
+        1
+    }
+
+    /// The error's name.
+    pub fn name(self) -> &'static str
+        ensures { result.now ≡ codes "BadMapping" }
+    {
+        "BadMapping"
+    }
+}
 
 /// The object's own rights and the standard ones, all that a mapping gives and an entry grants ([MS-DTYP] 2.4.3).
 pub const OBJECT_RIGHTS: Mask = Mask(0x001F_FFFF);

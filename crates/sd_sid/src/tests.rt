@@ -32,6 +32,7 @@ fn names_errors(rt: HostRuntime) -> Result<(), Fail> {
         assert_eq!(rt; shown.as_str(), said);
         assert!(rt; said.ends_with(error.name()));
     }
+    assert_eq!(rt; (BadMapping.number(), BadMapping.name()), (1, "BadMapping"));
     Ok(())
 }
 
