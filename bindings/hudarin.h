@@ -1,8 +1,8 @@
 /*
  * Hudarin: Windows security descriptors, and access checks on them by [MS-DTYP].
  *
- * Threads: any number of threads may make any of these calls at once, but that each handle is used by one thread at a time:
- * a call that takes a hudarin_kept also changes it, and may be given no handle twice.
+ * Threads: any number of threads may make any of these calls at once, but that each handle stays on the thread that first
+ * kept something by it: a call that takes a hudarin_kept also changes it, and may be given no handle twice.
  *
  * Rooms: a room that is written lies apart from everything else that its call is given, and nobody else reads or writes
  * it, nor writes what the call reads, before the call returns.
@@ -90,10 +90,11 @@ extern "C" {
 #define HUDARIN_ARGUMENT_USER 2u
 #define HUDARIN_ARGUMENT_GROUPS 3u
 #define HUDARIN_ARGUMENT_STATES 4u
-#define HUDARIN_ARGUMENT_PRIVILEGES 5u
-#define HUDARIN_ARGUMENT_MAPPING 6u
+#define HUDARIN_ARGUMENT_RESTRICTING 5u
+#define HUDARIN_ARGUMENT_PRIVILEGES 6u
+#define HUDARIN_ARGUMENT_MAPPING 7u
 /* The handle of a token; that of a descriptor is HUDARIN_ARGUMENT_DESCRIPTOR. */
-#define HUDARIN_ARGUMENT_TOKEN 7u
+#define HUDARIN_ARGUMENT_TOKEN 8u
 
 /* ---- Verdicts */
 
@@ -147,7 +148,7 @@ typedef struct hudarin_verdict {
     uint32_t argument; /* which: HUDARIN_ARGUMENT_.., else 0 */
     uint32_t fault;    /* HUDARIN_WIRE_.. or HUDARIN_SID_.., else 0 */
     uint32_t kind;     /* with HUDARIN_OK the verdict: HUDARIN_GRANTED .., else 0 */
-    uint64_t place;    /* the group that isn't read or has no state, counted from 0, else 0 */
+    uint64_t place;    /* the group that isn't read or has no state, or the restricting SID, counted from 0, else 0 */
     uint32_t mask;     /* of the verdict */
 } hudarin_verdict;
 
@@ -183,13 +184,16 @@ typedef struct hudarin_kept {
 
 /*
  * The verdict on `asked`, for the self-relative descriptor in `descriptor`, a user whose SID begins `user`, and groups whose
- * SIDs stand in `groups` one behind the other, with a state for each. The arguments are read in their order, and the first
- * that isn't read answers. A user is in no group but those that are given: neither in Everyone nor in Authenticated Users.
+ * SIDs stand in `groups` one behind the other, with a state for each. `restricting` has SIDs one behind the other, to its end:
+ * where there are some the token is restricted, and what the descriptor's list grants is what it grants to the user and the
+ * groups and, asked again, to these SIDs alone. The arguments are read in their order, and the first that isn't read
+ * answers. A user is in no group but those that are given: neither in Everyone nor in Authenticated Users.
  */
 hudarin_verdict hudarin_check(const void *descriptor, size_t descriptor_length,
                               const void *user, size_t user_length,
                               const void *groups, size_t groups_length,
                               const uint32_t *states, size_t state_count,
+                              const void *restricting, size_t restricting_length,
                               uint32_t privileges, hudarin_mapping mapping, uint32_t asked);
 
 /* ---- Descriptors. A text is UTF-8 without a zero behind it, both as it is given and as it is written. */
@@ -225,11 +229,12 @@ hudarin_written hudarin_keep_sddl(const char *text, size_t text_length, hudarin_
 /* Keeps the descriptor that stands at the front of the bytes. The answer's `length` is 0. */
 hudarin_written hudarin_keep_bytes(const void *bytes, size_t bytes_length, hudarin_kept *descriptor);
 
-/* Keeps the token of a user, groups with their states, and privileges, which are read as hudarin_check reads them. With
- * HUDARIN_OK the answer's `kind` and `mask` are 0. */
+/* Keeps the token of a user, groups with their states, restricting SIDs, and privileges, which are read as hudarin_check
+ * reads them. With HUDARIN_OK the answer's `kind` and `mask` are 0. */
 hudarin_verdict hudarin_keep_token(const void *user, size_t user_length,
                                    const void *groups, size_t groups_length,
                                    const uint32_t *states, size_t state_count,
+                                   const void *restricting, size_t restricting_length,
                                    uint32_t privileges, hudarin_kept *token);
 
 /* The verdict on `asked`, for a descriptor and a token that are kept, and stay so. Takes no memory. */

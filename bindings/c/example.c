@@ -52,20 +52,20 @@ int main(void)
     groups_length = sid("BU", groups);
     groups_length += sid("BA", groups + groups_length);
 
-    show("read", hudarin_check(descriptor, length, user, user_length, groups, groups_length, states, 2, 0, files, 0x1));
-    show("write", hudarin_check(descriptor, length, user, user_length, groups, groups_length, states, 2, 0, files, 0x2));
+    show("read", hudarin_check(descriptor, length, user, user_length, groups, groups_length, states, 2, NULL, 0, 0, files, 0x1));
+    show("write", hudarin_check(descriptor, length, user, user_length, groups, groups_length, states, 2, NULL, 0, 0, files, 0x2));
     show("all that is granted",
-         hudarin_check(descriptor, length, user, user_length, groups, groups_length, states, 2, 0, files, 0x02000000));
+         hudarin_check(descriptor, length, user, user_length, groups, groups_length, states, 2, NULL, 0, 0, files, 0x02000000));
 
     asked = hudarin_mask_from_text("GR", 2);
     show("GR, as nobody's friend",
-         hudarin_check(descriptor, length, user, user_length, NULL, 0, NULL, 0, 0, files, asked.mask));
+         hudarin_check(descriptor, length, user, user_length, NULL, 0, NULL, 0, NULL, 0, 0, files, asked.mask));
 
     /* What isn't read is told, and nothing is written. */
     show("a descriptor that ends too soon",
-         hudarin_check(descriptor, length - 1, user, user_length, groups, groups_length, states, 2, 0, files, 0x1));
+         hudarin_check(descriptor, length - 1, user, user_length, groups, groups_length, states, 2, NULL, 0, 0, files, 0x1));
     show("a group without a state",
-         hudarin_check(descriptor, length, user, user_length, groups, groups_length, states, 1, 0, files, 0x1));
+         hudarin_check(descriptor, length, user, user_length, groups, groups_length, states, 1, NULL, 0, 0, files, 0x1));
     answer = hudarin_sddl_to_bytes("D:(A;;FA;;;DA)", 14, descriptor, sizeof descriptor);
     printf("a domain's alias: status %" PRIu32 ", fault %" PRIu32 " at %" PRIu64 "\n", answer.status, answer.fault, answer.place);
     answer = hudarin_bytes_to_sddl(descriptor, length, text, 10);
@@ -74,7 +74,7 @@ int main(void)
     /* Who asks often reads once, and keeps what was read. */
     answer = hudarin_keep_sddl(sddl, sizeof sddl - 1, &kept);
     printf("kept: status %" PRIu32 "\n", answer.status);
-    hudarin_keep_token(user, user_length, groups, groups_length, states, 2, 0, &token);
+    hudarin_keep_token(user, user_length, groups, groups_length, states, 2, NULL, 0, 0, &token);
     show("read, as kept", hudarin_check_kept(&kept, &token, files, 0x1));
     hudarin_free(&kept);
     show("a handle that was freed", hudarin_check_kept(&kept, &token, files, 0x1));

@@ -30,7 +30,7 @@ STATUSES = {
     10: "mapping",
 }
 VERDICTS = {1: "granted", 2: "denied", 3: "reserved", 4: "empty"}
-ARGUMENTS = {1: "descriptor", 2: "user", 3: "groups", 4: "states", 5: "privileges", 6: "mapping"}
+ARGUMENTS = {1: "descriptor", 2: "user", 3: "groups", 4: "states", 5: "restricting", 6: "privileges", 7: "mapping"}
 
 #: The states of a group.
 DISABLED, ENABLED, DENY_ONLY = 0x0, 0x4, 0x10
@@ -84,7 +84,7 @@ def _load():
     library.hudarin_descriptor_length.restype = _Written
     library.hudarin_mask_from_text.argtypes = given
     library.hudarin_mask_from_text.restype = _Mask
-    library.hudarin_check.argtypes = given * 3 + [ctypes.POINTER(_U32), _SIZE, _U32, _Mapping, _U32]
+    library.hudarin_check.argtypes = given * 3 + [ctypes.POINTER(_U32), _SIZE] + given + [_U32, _Mapping, _U32]
     library.hudarin_check.restype = _Verdict
     return library
 
@@ -94,7 +94,7 @@ _library = _load()
 
 class Refused(ValueError):
     """A call was refused: ``status`` is a name of STATUSES, ``fault`` the fault's number, ``place`` its byte in a text or the
-    index of a group, and ``argument`` the name of a check's argument, or None."""
+    index of a group or of a restricting SID, and ``argument`` the name of a check's argument, or None."""
 
     def __init__(self, answer):
         self.status = STATUSES[answer.status]
@@ -102,6 +102,40 @@ class Refused(ValueError):
         self.place = answer.place
         self.argument = ARGUMENTS.get(getattr(answer, "argument", 0))
         super().__init__(f"{self.status} {self.fault} at {self.place}")
+
+
+def _number(value, what):
+    """The value, where it is a number of 32 bits: ctypes would cut any other down to one, and another mask would be asked for."""
+    if not isinstance(value, int) or isinstance(value, bool):
+        raise TypeError(f"{what}: a number is wanted, and {value!r} isn't one")
+    if not 0 <= value < 1 << 32:
+        raise ValueError(f"{what}: {value:#x} isn't a number of 32 bits")
+    return value
+
+
+def _mapping(masks):
+    masks = tuple(masks)
+    if len(masks) != 4:
+        raise ValueError(f"mapping: four masks are wanted, and not {len(masks)}")
+    return _Mapping(*(_number(one, "mapping") for one in masks))
+
+
+def _sid(value, what):
+    if not isinstance(value, Sid):
+        raise TypeError(f"{what}: a Sid is wanted, and {value!r} isn't one")
+    return bytes(value)
+
+
+def _text(value):
+    if not isinstance(value, str):
+        raise TypeError(f"a text is wanted, and {value!r} isn't one")
+    return value.encode("utf-8", "surrogateescape")
+
+
+def _data(value):
+    if not (isinstance(value, (bytearray, memoryview)) or hasattr(type(value), "__bytes__")):
+        raise TypeError(f"bytes are wanted, and {value!r} isn't made of them")
+    return bytes(value)
 
 
 def _refuse(answer):
@@ -125,7 +159,7 @@ def _written(call, given):
 
 def mask(text):
     """The mask that the text spells: a number, or names of rights."""
-    given = text.encode("utf-8", "surrogateescape")
+    given = _text(text)
     answer = _library.hudarin_mask_from_text(given, len(given))
     if answer.status != 0:
         _refuse(answer)
@@ -154,13 +188,13 @@ class Sid:
 
     def __init__(self, data):
         """The SID at the front of the bytes; what stands behind it is left out."""
-        self._bytes = _written(_library.hudarin_sid_text_to_bytes, _written(_library.hudarin_sid_bytes_to_text, bytes(data)))
+        self._bytes = _written(_library.hudarin_sid_text_to_bytes, _written(_library.hudarin_sid_bytes_to_text, _data(data)))
 
     @classmethod
     def from_text(cls, text):
         """The SID that the text spells, in full or by an alias of two letters."""
         sid = cls.__new__(cls)
-        sid._bytes = _written(_library.hudarin_sid_text_to_bytes, text.encode("utf-8", "surrogateescape"))
+        sid._bytes = _written(_library.hudarin_sid_text_to_bytes, _text(text))
         return sid
 
     def __bytes__(self):
@@ -186,7 +220,7 @@ class Descriptor:
 
     def __init__(self, data):
         """The descriptor at the front of the bytes, which are kept up to the end of its last part."""
-        given = bytes(data)
+        given = _data(data)
         answer = _library.hudarin_descriptor_length(given, len(given))
         if answer.status != 0:
             _refuse(answer)
@@ -196,7 +230,7 @@ class Descriptor:
     def from_sddl(cls, text):
         """The descriptor that the SDDL text spells."""
         descriptor = cls.__new__(cls)
-        descriptor._bytes = _written(_library.hudarin_sddl_to_bytes, text.encode("utf-8", "surrogateescape"))
+        descriptor._bytes = _written(_library.hudarin_sddl_to_bytes, _text(text))
         return descriptor
 
     def __bytes__(self):
@@ -209,13 +243,16 @@ class Descriptor:
     def __repr__(self):
         return f"Descriptor.from_sddl({str(self)!r})"
 
-    def check(self, user, groups=(), asked=0, privileges=0, mapping=FILES):
+    def check(self, user, groups=(), asked=0, privileges=0, mapping=FILES, restricting=()):
         """The verdict on ``asked`` for a user, a Sid. Each group is a Sid, which is enabled, or a pair of a Sid and its state.
-        No group is added: neither Everyone nor Authenticated Users."""
+        No group is added: neither Everyone nor Authenticated Users. With ``restricting`` Sids the list has to grant to the user
+        and the groups and, asked again, to these Sids alone. Another number than one of 32 bits is a ValueError, and what
+        isn't a number (a bool too) or a Sid a TypeError."""
         pairs = [group if isinstance(group, tuple) else (group, ENABLED) for group in groups]
-        sids = b"".join(bytes(sid) for sid, _ in pairs)
-        states = (_U32 * len(pairs))(*(state for _, state in pairs))
-        who = bytes(user)
+        sids = b"".join(_sid(sid, "groups") for sid, _ in pairs)
+        states = (_U32 * len(pairs))(*(_number(state, "states") for _, state in pairs))
+        who = _sid(user, "user")
+        again = b"".join(_sid(sid, "restricting") for sid in restricting)
         answer = _library.hudarin_check(
             self._bytes,
             len(self._bytes),
@@ -225,9 +262,11 @@ class Descriptor:
             len(sids),
             states,
             len(pairs),
-            privileges,
-            _Mapping(*mapping),
-            asked,
+            again,
+            len(again),
+            _number(privileges, "privileges"),
+            _mapping(mapping),
+            _number(asked, "asked"),
         )
         if answer.status != 0:
             _refuse(answer)

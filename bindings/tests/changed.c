@@ -119,13 +119,20 @@ static void change_text(void)
     }
 }
 
+/* How many bytes of the groups are restricting SIDs too: a quarter of the checks is of a restricted token. */
+static size_t restricting(uint32_t asked, size_t groups)
+{
+    return (asked >> 4) % 4 == 3 ? groups : 0;
+}
+
 /* The verdict for the groups of the seeds, on any mask. */
 static hudarin_verdict verdict(const unsigned char *bytes, size_t length, uint32_t asked)
 {
     static const unsigned char user[] = { 1, 5, 0, 0, 0, 0, 0, 5, 21, 0, 0, 0, 1, 0, 0, 0, 2, 0, 0, 0, 3, 0, 0, 0, 0xe9, 3, 0, 0 };
     static const unsigned char groups[] = { 1, 1, 0, 0, 0, 0, 0, 1, 0, 0, 0, 0, 1, 1, 0, 0, 0, 0, 0, 5, 18, 0, 0, 0 };
     static const uint32_t states[] = { HUDARIN_GROUP_ENABLED, HUDARIN_GROUP_DENY_ONLY };
-    return hudarin_check(bytes, length, user, sizeof user, groups, sizeof groups, states, 2, asked & 3, files, asked);
+    return hudarin_check(bytes, length, user, sizeof user, groups, sizeof groups, states, 2, groups,
+                         restricting(asked, sizeof groups), asked & 3, files, asked);
 }
 
 /* The same by handles: what is kept answers as the bytes do, and is freed again. */
@@ -135,7 +142,8 @@ static void keeps(const unsigned char *bytes, size_t length, uint32_t asked, hud
     static const unsigned char groups[] = { 1, 1, 0, 0, 0, 0, 0, 1, 0, 0, 0, 0, 1, 1, 0, 0, 0, 0, 0, 5, 18, 0, 0, 0 };
     static const uint32_t states[] = { HUDARIN_GROUP_ENABLED, HUDARIN_GROUP_DENY_ONLY };
     hudarin_kept descriptor = HUDARIN_NOTHING, token = HUDARIN_NOTHING;
-    hudarin_verdict there = hudarin_keep_token(user, sizeof user, groups, sizeof groups, states, 2, asked & 3, &token);
+    hudarin_verdict there = hudarin_keep_token(user, sizeof user, groups, sizeof groups, states, 2, groups,
+                                               restricting(asked, sizeof groups), asked & 3, &token);
     hudarin_written answer = hudarin_keep_bytes(bytes, length, &descriptor);
     HOLDS(there.status == HUDARIN_OK && answer.status == here.status && answer.fault == here.fault);
     there = hudarin_check_kept(&descriptor, &token, files, asked);

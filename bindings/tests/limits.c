@@ -1,5 +1,6 @@
 /* Arguments at their limits: nothing at all, rooms that just fit, each bit of a state, a privilege and a mapping. */
 #include "tally.h"
+#include <string.h>
 
 #define ROOM 400
 
@@ -207,7 +208,7 @@ static int is_unread(hudarin_verdict answer, uint32_t status, uint32_t argument,
 static hudarin_verdict asked_as(const uint32_t *states, size_t count, uint32_t privileges, hudarin_mapping mapping)
 {
     return hudarin_check(worked, sizeof worked, user, sizeof user, lent(everyone, sizeof everyone), sizeof everyone, states,
-                         count, privileges, mapping, 0x1);
+                         count, NULL, 0, privileges, mapping, 0x1);
 }
 
 /* Each place of a state, of the privileges and of the mapping's masks. */
@@ -254,26 +255,54 @@ static void unread(void)
 {
     static const uint32_t states[] = { HUDARIN_GROUP_ENABLED, HUDARIN_GROUP_ENABLED };
     size_t cut;
-    hudarin_verdict answer = hudarin_check(NULL, 0, NULL, 0, NULL, 0, NULL, 0, ~0u, (hudarin_mapping){ ~0u, 0, 0, 0 }, 1);
+    hudarin_verdict answer = hudarin_check(NULL, 0, NULL, 0, NULL, 0, NULL, 0, NULL, 0, ~0u,
+                                           (hudarin_mapping){ ~0u, 0, 0, 0 }, 1);
     HOLDS(is_unread(answer, HUDARIN_WIRE, HUDARIN_ARGUMENT_DESCRIPTOR, HUDARIN_WIRE_SHORT, 0));
     for (cut = 0; cut < sizeof worked; cut++) {
-        answer = hudarin_check(lent(worked, cut), cut, user, sizeof user, NULL, 0, NULL, 0, 0, files, 1);
+        answer = hudarin_check(lent(worked, cut), cut, user, sizeof user, NULL, 0, NULL, 0, NULL, 0, 0, files, 1);
         HOLDS(answer.status == HUDARIN_WIRE && answer.argument == HUDARIN_ARGUMENT_DESCRIPTOR && answer.kind == 0);
     }
     for (cut = 0; cut < sizeof user; cut++) {
-        answer = hudarin_check(worked, sizeof worked, lent(user, cut), cut, NULL, 0, NULL, 0, 0, files, 1);
+        answer = hudarin_check(worked, sizeof worked, lent(user, cut), cut, NULL, 0, NULL, 0, NULL, 0, 0, files, 1);
         HOLDS(is_unread(answer, HUDARIN_SID, HUDARIN_ARGUMENT_USER, HUDARIN_SID_SHORT, 0));
     }
     for (cut = 0; cut < sizeof everyone; cut++) {
-        answer = hudarin_check(worked, sizeof worked, user, sizeof user, lent(everyone, cut), cut, states, 1, 0, files, 1);
+        answer = hudarin_check(worked, sizeof worked, user, sizeof user, lent(everyone, cut), cut, states, 1, NULL, 0, 0, files,
+                               1);
         HOLDS(is_unread(answer, HUDARIN_SID, HUDARIN_ARGUMENT_GROUPS, HUDARIN_SID_SHORT, 0));
     }
     HOLDS(is_unread(asked_as(NULL, 0, 0, files), HUDARIN_BEHIND_GROUPS, HUDARIN_ARGUMENT_GROUPS, 0, 0));
     HOLDS(is_unread(asked_as(states, 2, 0, files), HUDARIN_SID, HUDARIN_ARGUMENT_GROUPS, HUDARIN_SID_SHORT, 1));
-    answer = hudarin_check(worked, sizeof worked, user, sizeof user, NULL, 0, NULL, 0, 0, files, 0);
+    answer = hudarin_check(worked, sizeof worked, user, sizeof user, NULL, 0, NULL, 0, NULL, 0, 0, files, 0);
     HOLDS(answer.status == HUDARIN_OK && answer.kind == HUDARIN_EMPTY_REQUEST && answer.mask == 0);
-    answer = hudarin_check(worked, sizeof worked, user, sizeof user, NULL, 0, NULL, 0, 0, files, 0xffffffffu);
+    answer = hudarin_check(worked, sizeof worked, user, sizeof user, NULL, 0, NULL, 0, NULL, 0, 0, files, 0xffffffffu);
     HOLDS(answer.status == HUDARIN_OK && answer.kind == HUDARIN_RESERVED && answer.mask == 0x0ce00000u);
+}
+
+/* Restricting SIDs, cut short at each byte, one behind another, and what they take away. */
+static void restricting(void)
+{
+    static const uint32_t enabled = HUDARIN_GROUP_ENABLED;
+    unsigned char two[sizeof everyone + sizeof user];
+    hudarin_kept token = HUDARIN_NOTHING;
+    hudarin_verdict answer;
+    size_t cut;
+    memcpy(two, everyone, sizeof everyone);
+    memcpy(two + sizeof everyone, user, sizeof user);
+    for (cut = 0; cut <= sizeof two; cut++) {
+        answer = hudarin_check(worked, sizeof worked, user, sizeof user, everyone, sizeof everyone, &enabled, 1, lent(two, cut), cut,
+                               0, files, 1);
+        if (cut == 0 || cut == sizeof everyone || cut == sizeof two) {
+            HOLDS(answer.status == HUDARIN_OK && answer.kind == HUDARIN_GRANTED && answer.mask == 1);
+        } else {
+            HOLDS(is_unread(answer, HUDARIN_SID, HUDARIN_ARGUMENT_RESTRICTING, HUDARIN_SID_SHORT, cut > sizeof everyone));
+        }
+    }
+    answer = hudarin_check(worked, sizeof worked, user, sizeof user, everyone, sizeof everyone, &enabled, 1, user, sizeof user, 0, files,
+                           1);
+    HOLDS(answer.status == HUDARIN_OK && answer.kind == HUDARIN_DENIED && answer.mask == 1);
+    answer = hudarin_keep_token(user, sizeof user, everyone, sizeof everyone, &enabled, 1, user, sizeof user - 1, 0, &token);
+    HOLDS(is_unread(answer, HUDARIN_SID, HUDARIN_ARGUMENT_RESTRICTING, HUDARIN_SID_SHORT, 0) && token.is_there == 0);
 }
 
 static int keeps(const hudarin_kept *handle, int wanted)
@@ -301,11 +330,11 @@ static void handles(void)
     HOLDS(answer.status == HUDARIN_HANDLE && keeps(&descriptor, 1));
     verdict = hudarin_check_kept(&descriptor, &token, files, 1);
     HOLDS(is_unread(verdict, HUDARIN_HANDLE, HUDARIN_ARGUMENT_TOKEN, 0, 0));
-    verdict = hudarin_keep_token(user, sizeof user, everyone, sizeof everyone, &bad, 1, 0, &token);
+    verdict = hudarin_keep_token(user, sizeof user, everyone, sizeof everyone, &bad, 1, NULL, 0, 0, &token);
     HOLDS(is_unread(verdict, HUDARIN_STATE, HUDARIN_ARGUMENT_STATES, 0, 0) && keeps(&token, 0));
-    verdict = hudarin_keep_token(user, sizeof user, everyone, sizeof everyone, &enabled, 1, 0, &token);
+    verdict = hudarin_keep_token(user, sizeof user, everyone, sizeof everyone, &enabled, 1, NULL, 0, 0, &token);
     HOLDS(is_unread(verdict, HUDARIN_OK, 0, 0, 0) && keeps(&token, 1));
-    verdict = hudarin_keep_token(user, sizeof user, NULL, 0, NULL, 0, 0, &token);
+    verdict = hudarin_keep_token(user, sizeof user, NULL, 0, NULL, 0, NULL, 0, 0, &token);
     HOLDS(is_unread(verdict, HUDARIN_HANDLE, HUDARIN_ARGUMENT_TOKEN, 0, 0) && keeps(&token, 1));
     verdict = hudarin_check_kept(&token, &descriptor, files, 1);
     HOLDS(is_unread(verdict, HUDARIN_HANDLE, HUDARIN_ARGUMENT_DESCRIPTOR, 0, 0));
@@ -334,6 +363,7 @@ int main(void)
     masks();
     bits();
     unread();
+    restricting();
     handles();
     return close_tally();
 }

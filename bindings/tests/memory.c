@@ -62,10 +62,11 @@ static uint32_t status_of(int call)
     case 4: return hudarin_sid_text_to_bytes("S-1-5-18", 8, room, sizeof room).status;
     case 5: return hudarin_sid_bytes_to_text(user, user_length, (char *)room, sizeof room).status;
     case 6:
-        return hudarin_check(bytes, length, user, user_length, groups, groups_length, states, 2, 0, files, 1).status;
+        return hudarin_check(bytes, length, user, user_length, groups, groups_length, states, 2, groups, groups_length, 0, files,
+                             1).status;
     case 7: return hudarin_keep_sddl(sddl, sizeof sddl - 1, &kept).status;
     case 8: return hudarin_keep_bytes(bytes, length, &kept).status;
-    default: return hudarin_keep_token(user, user_length, groups, groups_length, states, 2, 0, &kept).status;
+    default: return hudarin_keep_token(user, user_length, groups, groups_length, states, 2, groups, groups_length, 0, &kept).status;
     }
 }
 
@@ -101,7 +102,7 @@ static void takes_none(void)
     hudarin_kept descriptor = HUDARIN_NOTHING, token = HUDARIN_NOTHING;
     hudarin_verdict verdict;
     hudarin_keep_bytes(bytes, length, &descriptor);
-    hudarin_keep_token(user, user_length, groups, groups_length, states, 2, 0, &token);
+    hudarin_keep_token(user, user_length, groups, groups_length, states, 2, NULL, 0, 0, &token);
     granted = 0;
     was_refused = 0;
     verdict = hudarin_check_kept(&descriptor, &token, files, 0x80000000u);

@@ -48,17 +48,20 @@ def verdict(sddl, user, asked, *words):
     mask, refused = (None, refused) if refused else fault(lambda: hudarin.mask(asked), "mask")
     if refused:
         return refused
-    groups, privileges = [], 0
+    groups, restricting, privileges = [], [], 0
     for word in words:
         name, _, state = word.partition("=")
         if word in PRIVILEGES:
             privileges |= PRIVILEGES[word]
             continue
         group, refused = fault(lambda: hudarin.Sid.from_text(name), "token")
-        if refused or ("=" in word and state not in STATES):
+        if refused or ("=" in word and state not in STATES and state != "restrict"):
             return "fault token"
+        if state == "restrict":
+            restricting.append(group)
+            continue
         groups.append((group, STATES.get(state, hudarin.ENABLED)))
-    return str(descriptor.check(sid, groups, mask, privileges))
+    return str(descriptor.check(sid, groups, mask, privileges, restricting=restricting))
 
 
 def answer(command, *words):
@@ -103,7 +106,7 @@ def pairs(cells):
 def check_row(place, owner, dacl, words, asked):
     full = lambda text: text.replace(";U)", f";{USER})")
     owned = "" if owner == "*none*" else "O:" + (USER if owner == "U" else owner)
-    ask(place, "verdict", f"{owned}G:SY{full(dacl)}", USER, asked, *words.split())
+    ask(place, "verdict", f"{owned}G:SY{full(dacl)}", USER, asked, *(re.sub("^U=", f"{USER}=", word) for word in words.split()))
 
 
 class Table:

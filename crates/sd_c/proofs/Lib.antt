@@ -1,3 +1,4 @@
 pub mod Loop
+mod RestrictingLoop
 pub mod Front
 pub mod SealSteps

@@ -7,13 +7,13 @@ use Rattle.sd_c.specs.declared.stop.NotRead.{NotRead}
 use Rattle.sd_c.specs.declared.stop.NotRead.TheVariants.{BehindGroups}
 use Rattle.sd_c.specs.Request.{◌>>=◌, group_read, groups_read}
 
--- the groups that were read before, and those that are still read
-abbrev pub behind : List (SidValue × GroupState) → Result (List (SidValue × GroupState)) NotRead → Result (List (SidValue × GroupState)) NotRead
-behind front read = read >>= λ groups. Ok (front ++ groups)
+-- what was read before, and what is still read
+abbrev pub behind : {A : Type 0} → List A → Result (List A) NotRead → Result (List A) NotRead
+behind front read = read >>= λ others. Ok (front ++ others)
 
-regroup : (front : List (SidValue × GroupState)) (g : SidValue × GroupState) (read : Result (List (SidValue × GroupState)) NotRead) → behind front (read >>= λ groups. Ok (g ∷ groups)) ≡ behind (front ++ g ∷ []) read
-regroup front g (Ok groups) = ap (λ (x : List (SidValue × GroupState)). Ok x) (simp append_assoc)
-regroup front g (Err why) = refl
+pub regroup : {A : Type 0} (front : List A) (x : A) (read : Result (List A) NotRead) → behind front (read >>= λ others. Ok (x ∷ others)) ≡ behind (front ++ x ∷ []) read
+regroup front x (Ok others) = ap (λ xs. Ok xs) (simp append_assoc)
+regroup front x (Err why) = refl
 
 pub goes_on : (rest : List ℕ) (states : List ℕ) (count k : ℕ) (front : List (SidValue × GroupState)) (g : SidValue × GroupState) (size : ℕ) (total : Result (List (SidValue × GroupState)) NotRead)
     → k < count → group_read rest (slice_index states k) k ≡ Ok (g, size)

@@ -6,7 +6,7 @@ use Rattle.sd_acl.specs.declared.verdict.Verdict.{Verdict}
 use Rattle.sd_acl.specs.declared.verdict.Verdict.TheVariants.{Granted, Denied, Reserved, EmptyRequest}
 use Rattle.sd_c.specs.declared.answer.CheckAnswer.{CheckAnswer}
 use Rattle.sd_c.specs.declared.stop.NotRead.{NotRead}
-use Rattle.sd_c.specs.declared.stop.NotRead.TheVariants.{Descriptor, User, Group, BehindGroups, State, PrivilegeBits, MappingBits, DescriptorHandle, TokenHandle}
+use Rattle.sd_c.specs.declared.stop.NotRead.TheVariants.{Descriptor, User, Group, BehindGroups, State, Restricting, PrivilegeBits, MappingBits, DescriptorHandle, TokenHandle}
 use Rattle.sd_c.specs.Request.{RequestValue, verdict_of}
 
 -- ---- a check
@@ -20,7 +20,7 @@ verdict_given (Denied missing) = given 2 missing
 verdict_given (Reserved mask) = given 3 mask
 verdict_given EmptyRequest = given 4 0
 
--- an argument isn't read: why, which, the fault's number, and of groups and states the index
+-- an argument isn't read: why, which, the fault's number, and of groups, states and restricting SIDs the index
 abbrev pub unread : ℕ → ℕ → ℕ → ℕ → CheckAnswer
 unread status argument fault place = record { status = status; argument = argument; fault = fault; kind = 0; place = place; mask = 0 }
 
@@ -30,10 +30,11 @@ not_read (User fault) = unread 6 2 (sid_error_number fault) 0
 not_read (Group fault at) = unread 6 3 (sid_error_number fault) at
 not_read (BehindGroups at) = unread 7 3 0 at
 not_read (State at) = unread 8 4 0 at
-not_read PrivilegeBits = unread 9 5 0 0
-not_read MappingBits = unread 10 6 0 0
+not_read (Restricting fault at) = unread 6 5 (sid_error_number fault) at
+not_read PrivilegeBits = unread 9 6 0 0
+not_read MappingBits = unread 10 7 0 0
 not_read DescriptorHandle = unread 11 1 0 0
-not_read TokenHandle = unread 11 7 0 0
+not_read TokenHandle = unread 11 8 0 0
 
 -- memory ran out
 abbrev pub check_memory : CheckAnswer

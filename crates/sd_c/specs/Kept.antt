@@ -73,4 +73,4 @@ KeepsToken read old new answer =
 
 -- the handle kept something already, and is as it was
 abbrev pub TokenInUse : Handle → Handle → CheckAnswer → Type 0
-TokenInUse old new answer = (old.is_there ≡ 1) × (new ≡ old) × (answer ≡ unread 11 7 0 0)
+TokenInUse old new answer = (old.is_there ≡ 1) × (new ≡ old) × (answer ≡ unread 11 8 0 0)

@@ -17,7 +17,7 @@ use Rattle.sd_check.specs.declared.token.GroupState.TheVariants.{Enabled, DenyOn
 use Rattle.sd_check.specs.declared.token.Privileges.{Privileges}
 use Rattle.sd_c.specs.declared.mapping.Mapping.{Mapping}
 use Rattle.sd_c.specs.declared.stop.NotRead.{NotRead}
-use Rattle.sd_c.specs.declared.stop.NotRead.TheVariants.{Descriptor, User, Group, BehindGroups, State, PrivilegeBits, MappingBits}
+use Rattle.sd_c.specs.declared.stop.NotRead.TheVariants.{Descriptor, User, Group, BehindGroups, State, Restricting, PrivilegeBits, MappingBits}
 use Rattle.sd_c.specs.declared.stop.Stop.{Stop}
 use Rattle.sd_c.specs.declared.stop.Stop.TheVariants as stops
 
@@ -68,6 +68,24 @@ groups_read bytes states at (suc n) =
     group_read bytes (slice_index states at) at >>= λ x.
     (groups_read (drop x.1 bytes) states (at + 1) n >>= λ others. Ok (x.0 ∷ others))
 
+-- ---- restricting SIDs
+
+-- the restricting SID with this index, and its length
+abbrev pub restricting_sid : ℕ → Result (SidValue × ℕ) SidError → Result (SidValue × ℕ) NotRead
+restricting_sid at (Ok x) = Ok x
+restricting_sid at (Err fault) = Err (Restricting fault at)
+
+-- SIDs one behind the other to the end of the bytes, from the one with this index on, and no more than so many
+unfoldable pub sids_read : List ℕ → ℕ → ℕ → Result (List SidValue) NotRead
+sids_read bytes at zero = Ok []
+sids_read bytes at (suc n) =
+    if length bytes == 0 then Ok []
+    else (restricting_sid at (sid_reading bytes) >>= λ x. (sids_read (drop x.1 bytes) (at + 1) n >>= λ others. Ok (x.0 ∷ others)))
+
+-- each takes a byte at least, so there are no more than bytes
+abbrev pub restricting_read : List ℕ → Result (List SidValue) NotRead
+restricting_read bytes = sids_read bytes 0 (length bytes)
+
 -- ---- the other arguments
 
 abbrev pub of_wire : Result DescriptorValue WireFault → Result DescriptorValue NotRead
@@ -93,12 +111,13 @@ mapping_read m = of_mapping (mapping_of m.read m.write m.execute m.all)
 
 -- ---- all of them
 
--- the token of a user, groups with their states, and privileges
-unfoldable pub token_read : List ℕ → List ℕ → List ℕ → ℕ → Result TokenValue NotRead
-token_read user groups states privileges =
+-- the token of a user, groups with their states, restricting SIDs, and privileges
+unfoldable pub token_read : List ℕ → List ℕ → List ℕ → List ℕ → ℕ → Result TokenValue NotRead
+token_read user groups states restricting privileges =
     of_user (sid_reading user) >>= λ sid.
     (groups_read groups states 0 (length states) >>= λ places.
-    (privileges_read privileges >>= λ held. Ok (record { user = sid; groups = places; privileges = held })))
+    (restricting_read restricting >>= λ sids.
+    (privileges_read privileges >>= λ held. Ok (record { user = sid; groups = places; restricting = sids; privileges = held }))))
 
 -- what a check is asked of
 pub record RequestValue : Type 0 where
@@ -106,10 +125,10 @@ pub record RequestValue : Type 0 where
   pub token : TokenValue
   pub mapping : MappingValue
 
-unfoldable pub request_read : List ℕ → List ℕ → List ℕ → List ℕ → ℕ → Mapping → Result RequestValue NotRead
-request_read descriptor user groups states privileges mapping =
+unfoldable pub request_read : List ℕ → List ℕ → List ℕ → List ℕ → List ℕ → ℕ → Mapping → Result RequestValue NotRead
+request_read descriptor user groups states restricting privileges mapping =
     of_wire (descriptor_read descriptor) >>= λ d.
-    (token_read user groups states privileges >>= λ token.
+    (token_read user groups states restricting privileges >>= λ token.
     (mapping_read mapping >>= λ g. Ok (record { descriptor = d; token = token; mapping = g })))
 
 -- the verdict on a request

@@ -100,10 +100,11 @@ pub(crate) fn not_read(why: NotRead) -> CheckAnswer
         NotRead::Group { fault, at } => unread(SID, 3, fault.number(), at),
         NotRead::BehindGroups { at } => unread(BEHIND_GROUPS, 3, 0, at),
         NotRead::State { at } => unread(STATE, 4, 0, at),
-        NotRead::PrivilegeBits => unread(PRIVILEGES, 5, 0, 0),
-        NotRead::MappingBits => unread(MAPPING, 6, 0, 0),
+        NotRead::Restricting { fault, at } => unread(SID, 5, fault.number(), at),
+        NotRead::PrivilegeBits => unread(PRIVILEGES, 6, 0, 0),
+        NotRead::MappingBits => unread(MAPPING, 7, 0, 0),
         NotRead::DescriptorHandle => unread(HANDLE, 1, 0, 0),
-        NotRead::TokenHandle => unread(HANDLE, 7, 0, 0),
+        NotRead::TokenHandle => unread(HANDLE, 8, 0, 0),
     }
 }
 

@@ -14,8 +14,8 @@ use sd_sid::Mask;
 use std::alloc::Global;
 
 /// The verdict on a request ([MS-DTYP] 2.5.3.2): for the descriptor in the bytes, the user whose SID begins its bytes, groups
-/// whose SIDs stand one behind the other with a state for each (0, 0x4 or 0x10), privileges (bit 0 SeSecurityPrivilege, bit 1
-/// SeTakeOwnershipPrivilege) and a mapping of four masks. Refused by the first argument from the left that isn't read.
+/// whose SIDs stand one behind the other with a state for each (0, 0x4 or 0x10), restricting SIDs one behind the other, privileges
+/// (bit 0 SeSecurityPrivilege, bit 1 SeTakeOwnershipPrivilege) and a mapping of four masks. Refused by the first argument from the left that isn't read.
 #[unsafe(no_mangle)]
 pub extern "C" fn hudarin_check(
     alloc: Global,
@@ -23,15 +23,24 @@ pub extern "C" fn hudarin_check(
     user: &[u8],
     groups: &[u8],
     states: &[u32],
+    restricting: &[u8],
     privileges: u32,
     mapping: Mapping,
     asked: u32,
 ) -> CheckAnswer
-    ensures answer { (result ≡ check_answer (request_read descriptor.now user.now groups.now states.now privileges mapping) asked) ⊎ (result ≡ check_memory) }
-    ensures memory { result.status ≡ 1 → TakesMemory descriptor.now ⊎ (0 < length states.now) }
+    ensures answer { (result ≡ check_answer (request_read descriptor.now user.now groups.now states.now restricting.now privileges mapping) asked) ⊎ (result ≡ check_memory) }
+    ensures memory { result.status ≡ 1 → TakesMemory descriptor.now ⊎ (0 < length states.now) ⊎ (0 < length restricting.now) }
 {
     match verdict_on(
-        alloc, descriptor, user, groups, states, privileges, mapping, asked,
+        alloc,
+        descriptor,
+        user,
+        groups,
+        states,
+        restricting,
+        privileges,
+        mapping,
+        asked,
     ) {
         Ok(verdict) => verdict_given(verdict),
         Err(Stop::NotRead(why)) => not_read(why),
@@ -46,15 +55,16 @@ fn verdict_on(
     user: &[u8],
     groups: &[u8],
     states: &[u32],
+    restricting: &[u8],
     privileges: u32,
     mapping: Mapping,
     asked: u32,
 ) -> Result<Verdict, Stop>
-    ensures read { Gives (λ verdict. verdict) result (verdict_read (request_read descriptor.now user.now groups.now states.now privileges mapping) asked) }
-    ensures memory { IsErrOf result Stop.Memory → TakesMemory descriptor.now ⊎ (0 < length states.now) }
+    ensures read { Gives (λ verdict. verdict) result (verdict_read (request_read descriptor.now user.now groups.now states.now restricting.now privileges mapping) asked) }
+    ensures memory { IsErrOf result Stop.Memory → TakesMemory descriptor.now ⊎ (0 < length states.now) ⊎ (0 < length restricting.now) }
 {
     let descriptor = descriptor_of(alloc, descriptor)?;
-    let token = token_of(alloc, user, groups, states, privileges)?;
+    let token = token_of(alloc, user, groups, states, restricting, privileges)?;
     let mapping = mapping_of(mapping)?;
     Ok(check(&descriptor, &mapping, &token, Mask(asked)))
 }

@@ -57,7 +57,7 @@ pub extern "C" fn hudarin_keep_bytes(alloc: Global, bytes: &[u8], handle: &mut H
     }
 }
 
-/// Keeps the token of a user, groups with their states, and privileges ([MS-DTYP] 2.5.2), as `hudarin_check` reads them.
+/// Keeps the token of a user, groups with their states, restricting SIDs, and privileges ([MS-DTYP] 2.5.2), as `hudarin_check` reads them.
 /// Refused where one of them isn't read, memory runs out, or the handle keeps something already; then it stays as it was.
 #[unsafe(no_mangle)]
 pub extern "C" fn hudarin_keep_token(
@@ -65,17 +65,18 @@ pub extern "C" fn hudarin_keep_token(
     user: &[u8],
     groups: &[u8],
     states: &[u32],
+    restricting: &[u8],
     privileges: u32,
     handle: &mut Handle,
 ) -> CheckAnswer
-    ensures { KeepsToken (token_read user.now groups.now states.now privileges) handle.old handle.new result
+    ensures { KeepsToken (token_read user.now groups.now states.now restricting.now privileges) handle.old handle.new result
         ⊎ ((result ≡ check_memory) × (handle.new ≡ handle.old))
         ⊎ TokenInUse handle.old handle.new result }
 {
     if handle.is_there == 1 {
-        return unread(HANDLE, 7, 0, 0);
+        return unread(HANDLE, 8, 0, 0);
     }
-    match kept_token(alloc, user, groups, states, privileges) {
+    match kept_token(alloc, user, groups, states, restricting, privileges) {
         Ok(kept) => {
             handle.put(kept);
             unread(OK, 0, 0, 0)
@@ -115,12 +116,13 @@ fn kept_token(
     user: &[u8],
     groups: &[u8],
     states: &[u32],
+    restricting: &[u8],
     privileges: u32,
 ) -> Result<Box<Kept>, Stop>
-    ensures ok { IfOk result (λ kept. (t : TokenValue) × (token_read user.now groups.now states.now privileges ≡ Ok t) × (token_in kept.value ≡ Ok t)) }
-    ensures err { IfErr result (λ stop. Fails stop (token_read user.now groups.now states.now privileges)) }
+    ensures ok { IfOk result (λ kept. (t : TokenValue) × (token_read user.now groups.now states.now restricting.now privileges ≡ Ok t) × (token_in kept.value ≡ Ok t)) }
+    ensures err { IfErr result (λ stop. Fails stop (token_read user.now groups.now states.now restricting.now privileges)) }
 {
-    let token = token_of(alloc, user, groups, states, privileges)?;
+    let token = token_of(alloc, user, groups, states, restricting, privileges)?;
     match Box::new(alloc, Kept::Token(token)) {
         Ok(kept) => Ok(kept),
         Err(_) => Err(Stop::Memory),

@@ -1,9 +1,9 @@
 //! The arguments of a check.
 
-ghost use Rattle.std.specs.Prelude.{◌≡◌, ◌<◌, ◌≤◌, length, IfOk, IsErrOf};
+ghost use Rattle.std.specs.Prelude.{◌≡◌, ◌<◌, ◌≤◌, ◌⊎◌, length, IfOk, IsErrOf};
 ghost use Rattle.sd_acl.specs.Descriptor.{descriptor_of};
 ghost use Rattle.sd_wire.specs.Memory.{TakesMemory};
-ghost use Rattle.sd_c.specs.Request.{Gives, state_read, group_read, groups_read, privileges_read, mapping_read, token_read, of_wire, of_user};
+ghost use Rattle.sd_c.specs.Request.{Gives, state_read, group_read, groups_read, restricting_sid, restricting_read, privileges_read, mapping_read, token_read, of_wire, of_user};
 ghost use Rattle.sd_wire.specs.Reading.{descriptor_read};
 ghost use Rattle.sd_sid.specs.SidBytes.{sid_reading};
 
@@ -36,22 +36,24 @@ pub(crate) fn descriptor_of(alloc: Global, bytes: &[u8]) -> Result<Descriptor, S
     }
 }
 
-/// The token of a user, groups with their states, and privileges.
+/// The token of a user, groups with their states, restricting SIDs, and privileges.
 #[tactic(auto, unfolding(crate::specs::Request::token_read))]
 pub(crate) fn token_of(
     alloc: Global,
     user: &[u8],
     groups: &[u8],
     states: &[u32],
+    restricting: &[u8],
     privileges: u32,
 ) -> Result<Token, Stop>
-    ensures read { Gives (λ token. token) result (token_read user.now groups.now states.now privileges) }
-    ensures memory { IsErrOf result Stop.Memory → 0 < length states.now }
+    ensures read { Gives (λ token. token) result (token_read user.now groups.now states.now restricting.now privileges) }
+    ensures memory { IsErrOf result Stop.Memory → (0 < length states.now) ⊎ (0 < length restricting.now) }
 {
     let user = user_of(user)?;
     let groups = groups_of(alloc, groups, states)?;
+    let restricting = restricting_of(alloc, restricting)?;
     let privileges = privileges_of(privileges)?;
-    Ok(Token::new(user, groups, privileges))
+    Ok(Token::restricted(user, groups, restricting, privileges))
 }
 
 /// The SID at the front of the user's bytes.
@@ -114,6 +116,39 @@ fn groups_of(alloc: Global, bytes: &[u8], states: &[u32]) -> Result<Vec<(Sid, Gr
         }));
     }
     Ok(groups)
+}
+
+/// The restricting SID at the front of the bytes, and how many of them it takes.
+fn restricting_sid(bytes: &[u8], at: usize) -> Result<(Sid, usize), NotRead>
+    ensures read { result ≡ restricting_sid at (sid_reading bytes.now) }
+    ensures size { IfOk result (λ x. x.1 ≤ length bytes.now) }
+{
+    match read_sid(bytes) {
+        Ok((sid, size)) => Ok((sid, size as usize)),
+        Err(fault) => Err(NotRead::Restricting {
+            fault,
+            at: at as u64,
+        }),
+    }
+}
+
+/// The restricting SIDs, to the end of the bytes. Memory is taken first, for no more than the bytes have room for.
+#[tactic(auto, unfolding(crate::specs::Request::sids_read))]
+fn restricting_of(alloc: Global, bytes: &[u8]) -> Result<Vec<Sid>, Stop>
+    ensures read { Gives (λ sids. sids.items) result (restricting_read bytes.now) }
+    ensures memory { IsErrOf result Stop.Memory → 0 < length bytes.now }
+{
+    let mut sids = Vec::with_capacity(alloc, bytes.len() / MIN_SID_BYTES)?;
+    let mut rest = bytes;
+    for at in 0..bytes.len() {
+        if rest.is_empty() {
+            return Ok(sids);
+        }
+        let (sid, size) = restricting_sid(rest, at)?;
+        sids.push(sid)?;
+        rest = &rest[size..];
+    }
+    Ok(sids)
 }
 
 /// The privileges that the bits say.

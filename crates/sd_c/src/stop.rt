@@ -20,6 +20,8 @@ pub enum NotRead {
     BehindGroups { at: u64 },
     /// The state of the group with this index isn't one.
     State { at: u64 },
+    /// No SID stands where the restricting SID with this index is wanted.
+    Restricting { fault: SidError, at: u64 },
     /// A bit that is no privilege.
     PrivilegeBits,
     /// A mask of the mapping has a bit beyond 0x001FFFFF.

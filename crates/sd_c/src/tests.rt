@@ -54,6 +54,7 @@ fn states_decide(rt: HostRuntime) {
             &USER,
             &GROUPS,
             &states,
+            &[],
             0,
             FILE,
             asked,
@@ -77,6 +78,7 @@ fn privileges_decide(rt: HostRuntime) {
             &USER,
             &[],
             &[],
+            &[],
             privileges,
             FILE,
             asked,
@@ -91,30 +93,72 @@ fn arguments_that_are_not_read(rt: HostRuntime) {
         read: 0x0020_0000,
         ..FILE
     };
-    let nothing = (&[] as &[u8], &USER as &[u8], &[] as &[u32], 0, FILE);
+    let none = &[] as &[u8];
+    let nothing = (none, &USER as &[u8], &[] as &[u32], none, 0, FILE);
     let groups = (
         &DENIED_TO_USERS as &[u8],
         &USER as &[u8],
         &[4u32] as &[u32],
+        none,
         0,
         FILE,
     );
+    let cut = &GROUPS[..GROUPS.len() - 1];
     for (row, status, argument, fault, place) in [
         (nothing, 5, 1, 1, 0),
-        ((&DENIED_TO_USERS, &USER[..27], &[], 0, FILE), 6, 2, 3, 0),
-        ((&DENIED_TO_USERS, &USER, &[4, 4, 4], 0, FILE), 6, 3, 3, 2),
+        (
+            (&DENIED_TO_USERS, &USER[..27], &[], none, 0, FILE),
+            6,
+            2,
+            3,
+            0,
+        ),
+        (
+            (&DENIED_TO_USERS, &USER, &[4, 4, 4], none, 0, FILE),
+            6,
+            3,
+            3,
+            2,
+        ),
         (groups, 7, 3, 0, 1),
-        ((&DENIED_TO_USERS, &USER, &[4, 0x14], 0, FILE), 8, 4, 0, 1),
-        ((&DENIED_TO_USERS, &USER, &[4, 4], 4, FILE), 9, 5, 0, 0),
-        ((&DENIED_TO_USERS, &USER, &[4, 4], 0, beyond), 10, 6, 0, 0),
+        (
+            (&DENIED_TO_USERS, &USER, &[4, 0x14], none, 0, FILE),
+            8,
+            4,
+            0,
+            1,
+        ),
+        ((&DENIED_TO_USERS, &USER, &[4, 4], cut, 4, FILE), 6, 5, 3, 1),
+        (
+            (&DENIED_TO_USERS, &USER, &[4, 4], &[0], 4, FILE),
+            6,
+            5,
+            3,
+            0,
+        ),
+        (
+            (&DENIED_TO_USERS, &USER, &[4, 4], none, 4, FILE),
+            9,
+            6,
+            0,
+            0,
+        ),
+        (
+            (&DENIED_TO_USERS, &USER, &[4, 4], none, 0, beyond),
+            10,
+            7,
+            0,
+            0,
+        ),
     ] {
-        let (descriptor, user, states, privileges, mapping) = row;
+        let (descriptor, user, states, restricting, privileges, mapping) = row;
         let answer = hudarin_check(
             rt.alloc(),
             descriptor,
             user,
             &GROUPS,
             states,
+            restricting,
             privileges,
             mapping,
             1,
@@ -130,6 +174,30 @@ fn arguments_that_are_not_read(rt: HostRuntime) {
                 mask: 0
             }
         );
+    }
+}
+
+/// The users' entry denies in the second pass, where a group's state counts for nothing.
+#[test]
+fn restricting_sids_take_away(rt: HostRuntime) {
+    for (restricting, kind) in [
+        (&[] as &[u8], 1),
+        (&GROUPS, 2),
+        (&GROUPS[16..], 1),
+        (&USER, 2),
+    ] {
+        let answer = hudarin_check(
+            rt.alloc(),
+            &DENIED_TO_USERS,
+            &USER,
+            &GROUPS,
+            &[0, 4],
+            restricting,
+            0,
+            FILE,
+            0x1,
+        );
+        assert_eq!(rt; (answer.status, answer.kind, answer.mask), (0, kind, 0x1));
     }
 }
 
@@ -254,7 +322,7 @@ fn what_is_kept_answers_as_what_was_read(rt: HostRuntime) {
     let text = b"O:BAG:SYD:(D;;0x1;;;BU)(A;;FR;;;WD)";
     let answer = hudarin_keep_sddl(rt.alloc(), text, &mut spelled);
     assert_eq!(rt; answer.status, 0);
-    let answer = hudarin_keep_token(rt.alloc(), &USER, &GROUPS, &[0, 4], 1, &mut token);
+    let answer = hudarin_keep_token(rt.alloc(), &USER, &GROUPS, &[0, 4], &[], 1, &mut token);
     assert_eq!(rt; answer.status, 0);
     for (asked, kind, mask) in [
         (0x1, 1, 0x1),
@@ -293,10 +361,10 @@ fn handles_that_do_not_serve(rt: HostRuntime) {
     let answer = hudarin_keep_sddl(rt.alloc(), b"D:", &mut descriptor);
     assert_eq!(rt; (answer.status, descriptor.is_there), (11, 1));
     let answer = hudarin_check_kept(rt.alloc(), &mut descriptor, &mut token, FILE, 1);
-    assert_eq!(rt; (answer.status, answer.argument), (11, 7));
-    let answer = hudarin_keep_token(rt.alloc(), &USER, &[], &[], 4, &mut token);
-    assert_eq!(rt; (answer.status, answer.argument, token.is_there), (9, 5, 0));
-    let answer = hudarin_keep_token(rt.alloc(), &USER, &[], &[], 0, &mut token);
+    assert_eq!(rt; (answer.status, answer.argument), (11, 8));
+    let answer = hudarin_keep_token(rt.alloc(), &USER, &[], &[], &[], 4, &mut token);
+    assert_eq!(rt; (answer.status, answer.argument, token.is_there), (9, 6, 0));
+    let answer = hudarin_keep_token(rt.alloc(), &USER, &[], &[], &[], 0, &mut token);
     assert_eq!(rt; (answer.status, token.is_there), (0, 1));
     let answer = hudarin_check_kept(rt.alloc(), &mut token, &mut descriptor, FILE, 1);
     assert_eq!(rt; (answer.status, answer.argument), (11, 1));

@@ -1,0 +1,94 @@
+"""What hudarin.py hands on: numbers of 32 bits, four masks, Sids, texts and bytes, and nothing else. The last line is
+'N passed, M failed'."""
+
+import os
+import sys
+
+sys.path.insert(0, os.path.join(os.path.dirname(os.path.abspath(__file__)), "..", "python"))
+
+from hudarin import ENABLED, FILES, Descriptor, Refused, Sid, mask  # noqa: E402
+
+USER = Sid.from_text("S-1-5-21-1-2-3-1001")
+EVERYONE = Sid.from_text("WD")
+OPEN = Descriptor.from_sddl("D:(A;;0x1;;;S-1-5-21-1-2-3-1001)")
+HELD = Descriptor.from_sddl("D:(A;;0x1;;;WD)")
+
+#: Not numbers of 32 bits: cut down to them, each but the last three would be asked for, and granted.
+NUMBERS = [
+    (-1, ValueError),
+    (-0xFFFFFFFF, ValueError),
+    (1 << 32, ValueError),
+    ((1 << 32) + 1, ValueError),
+    ((1 << 32) | ENABLED, ValueError),
+    ((1 << 64) + 1, ValueError),
+    (True, TypeError),
+    (1.0, TypeError),
+    (None, TypeError),
+    ("1", TypeError),
+    (b"\x01", TypeError),
+]
+
+passed = failed = 0
+
+
+def raises(place, wanted, call):
+    global passed, failed
+    try:
+        answer = call()
+    except Exception as e:  # noqa: BLE001
+        answer = e
+    if type(answer) is wanted:
+        passed += 1
+    else:
+        failed += 1
+        print(f"{place}: {wanted.__name__} is wanted, and not {answer!r}")
+
+
+def gives(place, wanted, call):
+    global passed, failed
+    answer = call()
+    if answer == wanted:
+        passed += 1
+    else:
+        failed += 1
+        print(f"{place}: {wanted!r} is wanted, and not {answer!r}")
+
+
+for number, wanted in NUMBERS:
+    raises(f"asked {number!r}", wanted, lambda: OPEN.check(USER, asked=number))
+    raises(f"state {number!r}", wanted, lambda: HELD.check(USER, [(EVERYONE, number)], asked=0x1))
+    raises(f"privileges {number!r}", wanted, lambda: OPEN.check(USER, asked=0x1, privileges=number))
+    for place in range(4):
+        masks = FILES[:place] + (number,) + FILES[place + 1 :]
+        raises(f"mask {place} {number!r}", wanted, lambda: OPEN.check(USER, asked=0x1, mapping=masks))
+
+for masks, wanted in [((), ValueError), (FILES[:3], ValueError), (FILES + (0,), ValueError), (None, TypeError), (7, TypeError)]:
+    raises(f"mapping {masks!r}", wanted, lambda: OPEN.check(USER, asked=0x1, mapping=masks))
+
+for other in (bytes(USER), str(USER), 5, None, (USER, ENABLED)):
+    raises(f"user {other!r}", TypeError, lambda: OPEN.check(other, asked=0x1))
+    raises(f"restricting {other!r}", TypeError, lambda: OPEN.check(USER, asked=0x1, restricting=[other]))
+for other in (bytes(EVERYONE), 5, None, (bytes(EVERYONE), ENABLED)):
+    raises(f"group {other!r}", TypeError, lambda: HELD.check(USER, [other], asked=0x1))
+
+for other in (b"D:", 5, None):
+    raises(f"text {other!r}", TypeError, lambda: Descriptor.from_sddl(other))
+    raises(f"SID text {other!r}", TypeError, lambda: Sid.from_text(other))
+    raises(f"mask text {other!r}", TypeError, lambda: mask(other))
+for other in ("D:", 5, None, [1, 2, 3]):
+    raises(f"bytes {other!r}", TypeError, lambda: Descriptor(other))
+    raises(f"SID bytes {other!r}", TypeError, lambda: Sid(other))
+
+# The largest numbers get to the library, which answers.
+gives("all reserved", "reserved 0xce00000", lambda: str(OPEN.check(USER, asked=0xFFFFFFFF)))
+raises("the largest state", Refused, lambda: HELD.check(USER, [(EVERYONE, 0xFFFFFFFF)], asked=0x1))
+raises("the largest privileges", Refused, lambda: OPEN.check(USER, asked=0x1, privileges=0xFFFFFFFF))
+raises("the largest mask", Refused, lambda: OPEN.check(USER, asked=0x1, mapping=(0, 0, 0, 0xFFFFFFFF)))
+
+# Restricting Sids only take away.
+gives("not restricted", "granted 0x1", lambda: str(HELD.check(USER, [EVERYONE], asked=0x1)))
+gives("restricted to the user", "denied 0x1", lambda: str(HELD.check(USER, [EVERYONE], asked=0x1, restricting=[USER])))
+gives("restricted to everyone too", "granted 0x1", lambda: str(HELD.check(USER, [EVERYONE], asked=0x1, restricting=[USER, EVERYONE])))
+gives("restricted to everyone, in no group", "denied 0x1", lambda: str(HELD.check(USER, asked=0x1, restricting=[EVERYONE])))
+
+print(f"{passed} passed, {failed} failed")
