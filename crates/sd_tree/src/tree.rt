@@ -19,7 +19,7 @@ use crate::inherit::dacl_of_row;
 use crate::node::{Node, NodeKind, Row};
 use crate::nodes::node_at;
 use crate::opening::{Opening, RootSpec};
-use crate::path::Path;
+use sd_path::Path;
 use crate::plan::{Plan, carry_out};
 use crate::refusal::{EditRefusal, TreeError};
 use crate::standing::Standing;
