@@ -148,7 +148,7 @@ step_moves old (asked.Check reader path token mask) NoReader new step = subst (M
 step_moves old (asked.Check reader path token mask) (Answered given) new step = subst (Moves old) (sym step.2) (look_moves old reader step.0)
 step_moves old (asked.Show reader path) NoReader new step = subst (Moves old) (sym step.1) (stays old)
 step_moves old (asked.Show reader path) (Shown seen descriptor) new step = subst (Moves old) (sym step.3) (look_moves old reader step.0)
-step_moves old (asked.Show reader path) Memory new step = subst (Moves old) (sym step.1) (stays old)
+step_moves old (asked.Show reader path) Memory new step = subst (Moves old) (sym step.2) (stays old)
 step_moves old request reply new step = absurd step
 
 pub publish_is_whole : PublishIsWhole
@@ -165,7 +165,7 @@ publish_is_whole old new (asked.Check reader path token mask) NoReader step = in
 publish_is_whole old new (asked.Check reader path token mask) (Answered given) step = inl (ap (λ (m : Machine). m.published) step.2)
 publish_is_whole old new (asked.Show reader path) NoReader step = inl (ap (λ (m : Machine). m.published) step.1)
 publish_is_whole old new (asked.Show reader path) (Shown seen descriptor) step = inl (ap (λ (m : Machine). m.published) step.3)
-publish_is_whole old new (asked.Show reader path) Memory step = inl (ap (λ (m : Machine). m.published) step.1)
+publish_is_whole old new (asked.Show reader path) Memory step = inl (ap (λ (m : Machine). m.published) step.2)
 publish_is_whole old new request reply step = absurd step
 
 pub failure_changes_nothing : FailureChangesNothing
@@ -176,7 +176,7 @@ failure_changes_nothing old new (asked.Learn reader len) NoReader step failed = 
 failure_changes_nothing old new (asked.Learn reader len) NoNotice step failed = step.2
 failure_changes_nothing old new (asked.Check reader path token mask) NoReader step failed = step.1
 failure_changes_nothing old new (asked.Show reader path) NoReader step failed = step.1
-failure_changes_nothing old new (asked.Show reader path) Memory step failed = step.1
+failure_changes_nothing old new (asked.Show reader path) Memory step failed = step.2
 failure_changes_nothing old new (asked.Edit edit) Edited step failed = cc
 failure_changes_nothing old new asked.Publish (Published len) step failed = cc
 failure_changes_nothing old new asked.Tell (Told len) step failed = cc

@@ -1,6 +1,7 @@
 -- The machine of one thread: what each request does to it, and what is replied.
-use Rattle.std.specs.Prelude.{◌≡◌, ℕ, ◌≤◌, ◌<◌, false, nat_le, if◌then◌else◌, List, [], ◌∷◌, ◌++◌, length, take, replicate, slice_set, slice_index_or, Option, Some, None, option_map}
+use Rattle.std.specs.Prelude.{◌≡◌, ℕ, ◌≤◌, ◌<◌, false, nat_le, if◌then◌else◌, List, [], ◌∷◌, ◌++◌, length, take, replicate, slice_set, slice_index_or, Option, Some, None, IsSome, option_map}
 use Rattle.sd_acl.specs.Descriptor.{descriptor_of}
+use Rattle.sd_tree.specs.Plain.{row_at}
 use Rattle.sd_tree.specs.Journal.{refusal, replay}
 use Rattle.sd_tree.specs.Refusals.{is_early}
 use Rattle.sd_tree.specs.Answers.{answer, descriptor_at}
@@ -62,7 +63,8 @@ with_look m reader = with_floor m reader m.published
 -- ---- one request
 
 -- the machine before, what is asked, what is replied, and the machine after. Want of memory is the one free choice:
--- of an edit that isn't due a refusal which is found without it, of a publish, and of a show to a reader that is there
+-- of an edit that isn't due a refusal which is found without it, of a publish, and of a show, to a reader that is there,
+-- of a node. A desk's publish never wants it; that of the store of many threads, whose audits are told by these steps, may
 abbrev pub Steps : Machine → Request → Reply → Machine → Type 0
 Steps old (asked.Edit edit) Edited new = (due old edit ≡ None) × (new ≡ with_edit old edit)
 Steps old (asked.Edit edit) (Refused refusal) new = (due old edit ≡ Some refusal) × (new ≡ old)
@@ -86,7 +88,8 @@ Steps old (asked.Show reader path) (Shown seen descriptor) new =
     IsReader old reader × (seen ≡ length old.published)
     × (option_map descriptor_of descriptor ≡ descriptor_at old.opening.mapping (replay old.opening old.published) path)
     × (new ≡ with_look old reader)
-Steps old (asked.Show reader path) Memory new = IsReader old reader × (new ≡ old)
+Steps old (asked.Show reader path) Memory new =
+    IsReader old reader × IsSome (row_at (replay old.opening old.published) path) × (new ≡ old)
 Steps old request reply new = ⊥
 
 -- ---- a list of requests

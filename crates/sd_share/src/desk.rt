@@ -1,6 +1,6 @@
 //! The machine of one thread.
 
-ghost use Rattle.std.specs.Prelude.{◌≡◌, None, IfOk, IfErr};
+ghost use Rattle.std.specs.Prelude.{◌≡◌, ◌≢◌, None, IfOk, IfErr};
 ghost use Rattle.sd_tree.specs.Journal.{opening_of, root_refusal, IsLawful};
 ghost use Rattle.sd_share.specs.Machine.{Steps, Runs, started, accepted};
 ghost use Rattle.sd_share.specs.Starts.{IsReaderCount, IsStartError};
@@ -68,9 +68,10 @@ impl Desk {
     }
 
     /// One request. `Memory` is replied only to an edit that isn't due a refusal which is found without memory, and to
-    /// a show for a reader that is there; nothing changed then.
+    /// a show, for a reader that is there, of a node that is there; nothing changed then.
     pub fn step(&mut self, request: &Request) -> Reply
-        ensures { Steps self.old request.now result self.new }
+        ensures step { Steps self.old request.now result self.new }
+        ensures publish { request.now ≡ Request.Publish → result ≢ Reply.Memory }
     {
         match request {
             Request::Edit(edit) => self.edit(edit),
@@ -130,7 +131,8 @@ impl Desk {
 
     /// The trees change places, where edits wait. Takes no memory.
     fn publish(&mut self) -> Reply
-        ensures { Steps self.old Request.Publish result self.new }
+        ensures step { Steps self.old Request.Publish result self.new }
+        ensures publish { result ≢ Reply.Memory }
     {
         if self.published.len() < self.draft.len() {
             mem::swap(&mut self.published, &mut self.draft);

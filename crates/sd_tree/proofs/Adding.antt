@@ -6,7 +6,7 @@ use Rattle.std.specs.declared.cmp.Ordering.TheVariants.{Less, Greater}
 use Rattle.std.proofs.lemmas.Bool.{cases_Bool, false≢true}
 use Rattle.sd_sid.specs.Mapping.{MappingValue}
 use Rattle.sd_acl.specs.declared.ace.Ace.{Ace}
-use Rattle.sd_tree.specs.Names.{Names, names_cmp, is_within}
+use Rattle.sd_path.specs.Names.{Names, names_cmp, is_within}
 use Rattle.sd_tree.specs.Plain.{PlainTree, row_at, dacl_at}
 use Rattle.sd_tree.specs.Closed.{IsClosed, IsAddable}
 use Rattle.sd_tree.specs.Refusals.{dacl_size, has_child}
@@ -18,7 +18,7 @@ use Rattle.sd_tree.specs.declared.plan.Plan.{Plan}
 use Rattle.sd_tree.specs.declared.refusal.TreeError.{TreeError}
 use Rattle.sd_tree.specs.declared.node.Row.{Row}
 use Rattle.sd_tree.proofs.Lists.{by_last}
-use Rattle.sd_tree.proofs.Paths.{up-push, push_not_root, up_within}
+use Rattle.sd_path.proofs.Paths.{up-push, push_not_root, up_within}
 use Rattle.sd_tree.proofs.Closed.{no_child}
 use Rattle.sd_tree.proofs.Dacls.{dacl_at_outside}
 use Rattle.sd_tree.proofs.Rows.{same_or_other, row_at-insert_other, row_at-remove_other}

@@ -13,7 +13,7 @@ use Rattle.std.specs.FinMap.Entries.{where_key, is_sorted-where_key, find-where_
 use Rattle.std.specs.FinMap.{put, get-entries, get-remove, is_sorted, entries_sorted, same_entries_map, entries-insert}
 use Rattle.sd_sid.specs.Mapping.{MappingValue}
 use Rattle.sd_acl.specs.declared.ace.Ace.{Ace}
-use Rattle.sd_tree.specs.Names.{Names, names_cmp}
+use Rattle.sd_path.specs.Names.{Names, names_cmp}
 use Rattle.sd_tree.specs.Plain.{PlainTree, dacl_at}
 use Rattle.sd_tree.specs.Refusals.{dacl_size}
 use Rattle.sd_tree.specs.Stored.{Boxed, path_of_node, entry_of, IsInOrder, tree_of, IsWhole, AreNodes}
@@ -23,7 +23,7 @@ use Rattle.std.proofs.Math.ListN.{get_or-map as get_or-mapped}
 use Rattle.sd_tree.proofs.Kept.{entries_kept}
 use Rattle.sd_tree.proofs.Sorted.{put_insert, put_set, where_remove, greater_from_less, less_from_greater}
 use Rattle.sd_tree.proofs.Rewriting.{set_cases}
-use Rattle.sd_tree.proofs.Paths.{names_cmp_total, names_cmp_antisymmetric}
+use Rattle.sd_path.proofs.Paths.{names_cmp_total, names_cmp_antisymmetric}
 
 -- nodes with a tree's entries are in order, and are that tree
 pub order_from_entries : (bs : List Boxed) (t : PlainTree) → map entry_of bs ≡ finite.entries t → IsInOrder bs

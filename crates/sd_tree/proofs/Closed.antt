@@ -7,7 +7,7 @@ use Rattle.std.specs.Ordering.{eq_by_cmp}
 use Rattle.std.proofs.lemmas.Bool.{or_cases, or_parts, false≢true}
 use Rattle.sd_sid.specs.Mapping.{MappingValue}
 use Rattle.sd_acl.specs.declared.ace.Ace.{Ace}
-use Rattle.sd_tree.specs.Names.{Names, names_cmp, up, is_root}
+use Rattle.sd_path.specs.Names.{Names, names_cmp, up, is_root}
 use Rattle.sd_tree.specs.Plain.{PlainTree, row_at, dacl_at}
 use Rattle.sd_tree.specs.Closed.{IsClosed, IsAddable}
 use Rattle.sd_tree.specs.Edits.{keeping, changed, edited}

@@ -2,9 +2,9 @@
 use Rattle.std.proofs.Common.{◌≡◌, cond, true, false, ℕ, List, [], ◌∷◌, ◌++◌, Option, None, refl, sym, ◌∙◌, ap, append_assoc, append-nil}
 use Rattle.sd_sid.specs.Mapping.{MappingValue}
 use Rattle.sd_acl.specs.declared.ace.Ace.{Ace}
-use Rattle.sd_tree.specs.Names.{Names, up, is_root, is_within}
+use Rattle.sd_path.specs.Names.{Names, up, is_root, is_within}
 use Rattle.sd_tree.specs.Plain.{PlainTree, row_at, dacl_here, dacl_below, dacl_at}
-use Rattle.sd_tree.proofs.Paths.{last_name, push-up, within-append, within-step}
+use Rattle.sd_path.proofs.Paths.{last_name, push-up, within-append, within-step}
 
 -- ---- the steps
 

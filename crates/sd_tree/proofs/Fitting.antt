@@ -11,7 +11,7 @@ use Rattle.std.proofs.lemmas.Bool.Decides.{nat_tests}
 use Rattle.std.proofs.lemmas.List.{length-map}
 use Rattle.sd_sid.specs.Mapping.{MappingValue}
 use Rattle.sd_acl.specs.declared.ace.Ace.{Ace}
-use Rattle.sd_tree.specs.Names.{Names}
+use Rattle.sd_path.specs.Names.{Names}
 use Rattle.sd_tree.specs.Plain.{PlainTree, dacl_at}
 use Rattle.sd_tree.specs.Edits.{edited}
 use Rattle.sd_tree.specs.Refusals.{first_fit, early_refusal, refusal_in, room_tests, dacl_size, has_large_dacl}
@@ -23,7 +23,7 @@ use Rattle.sd_tree.specs.declared.plan.Plan.{Plan}
 use Rattle.sd_tree.specs.declared.plan.Plan.TheVariants.{Insert, Rewrite, Remove}
 use Rattle.sd_tree.specs.declared.refusal.EditRefusal.{EditRefusal}
 use Rattle.sd_tree.specs.declared.refusal.EditRefusal.TheVariants.{AclTooLarge, JournalFull}
-use Rattle.sd_tree.proofs.Paths.{names_cmp_total}
+use Rattle.sd_path.proofs.Paths.{names_cmp_total}
 use Rattle.sd_tree.proofs.Sorted.{put_set}
 use Rattle.sd_tree.proofs.Kept.{entries_kept, a_node}
 use Rattle.sd_tree.proofs.CarriedOut.{key_at, keys_count, inserted, removed}

@@ -6,9 +6,9 @@ use Rattle.std.proofs.lemmas.List.Sorted.{searchable_from_sorted}
 use Rattle.std.specs.List.Sorted.{IsSortedBy, IsNonDecreasingBy}
 use Rattle.std.specs.Ordering.{is_lt, ordering_index}
 use Rattle.std.specs.declared.cmp.Ordering.TheVariants.{Less}
-use Rattle.sd_tree.specs.Names.{Names, names_cmp}
+use Rattle.sd_path.specs.Names.{Names, names_cmp}
 use Rattle.sd_tree.specs.Stored.{Boxed, path_of_node, entry_of, IsInOrder}
-use Rattle.sd_tree.proofs.Paths.{names_cmp_total as names_total}
+use Rattle.sd_path.proofs.Paths.{names_cmp_total as names_total}
 use Rattle.sd_tree.proofs.Sorted.{rises, greater_from_less}
 
 -- the paths rise from place to place

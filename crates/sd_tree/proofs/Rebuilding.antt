@@ -11,7 +11,7 @@ use Rattle.std.proofs.lemmas.List.{get_or_default, get_or_append_left, length-ap
 use Rattle.std.proofs.Math.Seq.{get_or-append_seam}
 use Rattle.sd_sid.specs.Mapping.{MappingValue}
 use Rattle.sd_acl.specs.declared.ace.Ace.{Ace}
-use Rattle.sd_tree.specs.Names.{Names, names_cmp, up, is_root, is_within}
+use Rattle.sd_path.specs.Names.{Names, names_cmp, up, is_root, is_within}
 use Rattle.sd_tree.specs.Inheritance.{dacl_of_row}
 use Rattle.sd_tree.specs.Plain.{PlainTree, row_at, dacl_here, dacl_at}
 use Rattle.sd_tree.specs.Closed.{IsClosed}
@@ -23,7 +23,7 @@ use Rattle.sd_tree.specs.declared.node.Row.{Row}
 use Rattle.sd_tree.specs.declared.node.NodeKind.{NodeKind}
 use Rattle.sd_tree.specs.declared.refusal.TreeError.{TreeError}
 use Rattle.sd_tree.specs.declared.refusal.TreeError.TheVariants.{Refused, Memory}
-use Rattle.sd_tree.proofs.Paths.{names_cmp_total, within_before, up_before, up_within, root_is_empty}
+use Rattle.sd_path.proofs.Paths.{names_cmp_total, within_before, up_before, up_within, root_is_empty}
 use Rattle.sd_tree.proofs.Dacls.{dacl_at_up, dacl_at_outside}
 use Rattle.sd_tree.proofs.Rows.{same_or_other, one_path, row_at-insert_other}
 use Rattle.sd_tree.proofs.Sorted.{greater_from_less}

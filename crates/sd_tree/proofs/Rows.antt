@@ -8,14 +8,13 @@ use Rattle.std.specs.declared.cmp.Ordering.TheVariants.{Less, Equal, Greater}
 use Rattle.std.proofs.lemmas.Cmp.{tied_itself}
 use Rattle.std.proofs.lemmas.Bool.{cases_Bool, false_from_ne_true, false≢true}
 use Rattle.sd_sid.specs.Mapping.{MappingValue}
-use Rattle.sd_tree.specs.Names.{Names, names_cmp}
+use Rattle.sd_path.specs.Names.{Names, names_cmp}
 use Rattle.sd_tree.specs.Plain.{PlainTree, row_at}
-use Rattle.sd_tree.specs.Edits.{changed_where, changed, edited}
-use Rattle.sd_tree.specs.Laws.{edited_path}
+use Rattle.sd_tree.specs.Edits.{changed_where, changed, edited, edited_path}
 use Rattle.sd_tree.specs.declared.node.Row.{Row}
 use Rattle.sd_tree.specs.declared.edit.Edit.{Edit}
 use Rattle.sd_tree.specs.declared.edit.Edit.TheVariants.{AddContainer, AddObject, SetOwner, SetGroup, SetDacl, Remove, ProtectKeeping}
-use Rattle.sd_tree.proofs.Paths.{names_cmp_total, names_cmp_antisymmetric}
+use Rattle.sd_path.proofs.Paths.{names_cmp_total, names_cmp_antisymmetric}
 
 -- ---- one path or two
 

@@ -4,9 +4,9 @@ use Rattle.std.proofs.lemmas.List.{get_or_default}
 use Rattle.std.specs.List.{HoldsAt, AllWithin}
 use Rattle.std.specs.declared.cmp.Ordering.TheVariants.{Less}
 use Rattle.std.proofs.lemmas.Bool.{cases_Bool, cases_lt, false≢true}
-use Rattle.sd_tree.specs.Names.{Names, names_cmp, is_within}
+use Rattle.sd_path.specs.Names.{Names, names_cmp, is_within}
 use Rattle.sd_tree.specs.Stored.{Boxed, path_of_node, IsInOrder}
-use Rattle.sd_tree.proofs.Paths.{within_itself, within_between}
+use Rattle.sd_path.proofs.Paths.{within_itself, within_between}
 use Rattle.sd_tree.proofs.Places.{paths_rise}
 
 -- the path itself begins the run

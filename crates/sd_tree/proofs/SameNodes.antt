@@ -5,7 +5,7 @@ use Rattle.std.proofs.Math.ListN.{get_or-map}
 use Rattle.std.proofs.lemmas.List.{length-map}
 use Rattle.std.proofs.lemmas.Simd.{map-map}
 use Rattle.sd_sid.specs.Mapping.{MappingValue}
-use Rattle.sd_tree.specs.Names.{Names, names_cmp}
+use Rattle.sd_path.specs.Names.{Names, names_cmp}
 use Rattle.sd_tree.specs.Plain.{PlainTree, dacl_at}
 use Rattle.sd_tree.specs.Refusals.{dacl_size}
 use Rattle.sd_tree.specs.Stored.{Boxed, node_of, entry_of, tree_of, IsWhole, IsStored}

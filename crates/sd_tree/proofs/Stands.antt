@@ -4,7 +4,7 @@ use Rattle.std.specs.FinMap as finite
 use Rattle.std.specs.FinMap.{entries-insert, len-entries, len-empty, put}
 use Rattle.std.proofs.lemmas.List.{length-map}
 use Rattle.sd_sid.specs.Mapping.{MappingValue}
-use Rattle.sd_tree.specs.Names.{Names, names_cmp}
+use Rattle.sd_path.specs.Names.{Names, names_cmp}
 use Rattle.sd_tree.specs.Inheritance.{dacl_of_row}
 use Rattle.sd_tree.specs.Plain.{PlainTree, row_at, dacl_here, dacl_at}
 use Rattle.sd_tree.specs.Edits.{edited}
@@ -26,7 +26,7 @@ use Rattle.sd_tree.specs.declared.refusal.EditRefusal.{EditRefusal}
 use Rattle.sd_tree.specs.declared.refusal.EditRefusal.TheVariants.{InheritedEntry, NotCanonical, AclTooLarge}
 use Rattle.sd_tree.specs.declared.refusal.TreeError.{TreeError}
 use Rattle.sd_tree.specs.declared.refusal.TreeError.TheVariants.{Refused, Memory}
-use Rattle.sd_tree.proofs.Paths.{names_cmp_total}
+use Rattle.sd_path.proofs.Paths.{names_cmp_total}
 use Rattle.sd_tree.proofs.Dacls.{dacl_at_root}
 use Rattle.sd_tree.proofs.Rows.{row_at-insert_same}
 use Rattle.sd_tree.proofs.Journals.{replay-none, replay-push, lawful_none, lawful_push}

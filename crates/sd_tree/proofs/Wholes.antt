@@ -7,14 +7,14 @@ use Rattle.std.specs.Cmp.{tied_itself}
 use Rattle.std.proofs.lemmas.Bool.{cases_Bool}
 use Rattle.sd_sid.specs.Mapping.{MappingValue}
 use Rattle.sd_acl.specs.declared.ace.Ace.{Ace}
-use Rattle.sd_tree.specs.Names.{Names, names_cmp, up, is_root, is_within}
+use Rattle.sd_path.specs.Names.{Names, names_cmp, up, is_root, is_within}
 use Rattle.sd_tree.specs.Inheritance.{dacl_of_row}
 use Rattle.sd_tree.specs.Plain.{PlainTree, row_at, dacl_here, dacl_at}
 use Rattle.sd_tree.specs.Sizes.{IsSizeError}
 use Rattle.sd_tree.specs.Stored.{Boxed, path_of_node, tree_of, AreNodes}
 use Rattle.sd_tree.specs.declared.node.Row.{Row}
 use Rattle.sd_tree.specs.declared.refusal.TreeError.{TreeError}
-use Rattle.sd_tree.proofs.Paths.{names_cmp_total, root_is_empty, within_before, up_before}
+use Rattle.sd_path.proofs.Paths.{names_cmp_total, root_is_empty, within_before, up_before}
 use Rattle.sd_tree.proofs.Dacls.{dacl_at_root, dacl_at_up, dacl_at_outside}
 use Rattle.sd_tree.proofs.Rows.{row_at-insert_same, row_at-insert_other}
 use Rattle.sd_tree.proofs.Sorted.{greater_from_less}

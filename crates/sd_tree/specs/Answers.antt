@@ -5,7 +5,7 @@ use Rattle.sd_acl.specs.Descriptor.{DescriptorValue}
 use Rattle.sd_sid.specs.Mapping.{MappingValue}
 use Rattle.sd_check.specs.Token.{TokenValue}
 use Rattle.sd_check.specs.Check.{verdict}
-use Rattle.sd_tree.specs.Names.{Names}
+use Rattle.sd_path.specs.Names.{Names}
 use Rattle.sd_tree.specs.Plain.{PlainTree, row_at, dacl_at}
 use Rattle.sd_tree.specs.Descriptors.{descriptor_of_row}
 use Rattle.sd_tree.specs.Journal.{replay}

@@ -1,6 +1,6 @@
 -- Trees without gaps: what every tree of a lawful journal is.
 use Rattle.std.specs.Prelude.{◌≡◌, false, [], Some, None}
-use Rattle.sd_tree.specs.Names.{Names, up, is_root}
+use Rattle.sd_path.specs.Names.{Names, up, is_root}
 use Rattle.sd_tree.specs.Plain.{PlainTree, row_at}
 use Rattle.sd_tree.specs.Answers.{kind_at}
 use Rattle.sd_tree.specs.declared.node.Row.{Row}

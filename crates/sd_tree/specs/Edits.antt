@@ -4,7 +4,7 @@ use Rattle.std.specs.FinMap as map
 use Rattle.sd_sid.specs.Mapping.{MappingValue}
 use Rattle.sd_acl.specs.Canonical.{canonical_order, explicit_entries}
 use Rattle.sd_acl.specs.declared.ace.Ace.{Ace}
-use Rattle.sd_tree.specs.Names.{Names}
+use Rattle.sd_path.specs.Names.{Names}
 use Rattle.sd_tree.specs.Plain.{PlainTree, row_at, dacl_at}
 use Rattle.sd_tree.specs.declared.node.Row.{Row}
 use Rattle.sd_tree.specs.declared.node.NodeKind.TheVariants.{Container, Object}
@@ -38,3 +38,13 @@ edited g t (SetGroup path group) = changed t path (λ row. record row { group = 
 edited g t (SetDacl path dacl) = changed t path (λ row. record row { dacl = dacl })
 edited g t (Remove path) = map.remove t path
 edited g t (ProtectKeeping path) = changed t path (keeping (dacl_at g t path))
+
+-- the path of the node that an edit adds, changes or removes
+abbrev pub edited_path : Edit → Names
+edited_path (AddContainer path owner group dacl) = path
+edited_path (AddObject path owner group dacl) = path
+edited_path (SetOwner path owner) = path
+edited_path (SetGroup path group) = path
+edited_path (SetDacl path dacl) = path
+edited_path (Remove path) = path
+edited_path (ProtectKeeping path) = path

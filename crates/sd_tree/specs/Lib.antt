@@ -4,12 +4,11 @@ pub mod Descriptors
 pub mod Edits
 pub mod Inheritance
 pub mod Journal
-pub mod Laws
-pub mod Names
-pub mod PathText
 pub mod Plain
 pub mod Plans
 pub mod Prepared
 pub mod Refusals
 pub mod Sizes
 pub mod Stored
+pub use Rattle.sd_path.specs.Names
+pub use Rattle.sd_path.specs.PathText

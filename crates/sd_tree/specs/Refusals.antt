@@ -8,7 +8,7 @@ use Rattle.sd_sid.specs.Mapping.{MappingValue}
 use Rattle.sd_acl.specs.Ace.{acl_size_of}
 use Rattle.sd_acl.specs.Canonical.{is_inherited, deny_behind_allow}
 use Rattle.sd_acl.specs.declared.ace.Ace.{Ace}
-use Rattle.sd_tree.specs.Names.{Names, names_cmp, up, is_root}
+use Rattle.sd_path.specs.Names.{Names, names_cmp, up, is_root}
 use Rattle.sd_tree.specs.Plain.{PlainTree, row_at, dacl_at}
 use Rattle.sd_tree.specs.Edits.{edited}
 use Rattle.sd_tree.specs.declared.node.Row.{Row}

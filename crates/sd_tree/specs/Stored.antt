@@ -4,7 +4,7 @@ use Rattle.std.specs.FinMap.{is_sorted, from_sorted}
 use Rattle.std.specs.declared.boxed.Box.{Box}
 use Rattle.std.specs.declared.alloc.Global.{Global}
 use Rattle.sd_sid.specs.Mapping.{MappingValue}
-use Rattle.sd_tree.specs.Names.{Names, names_cmp}
+use Rattle.sd_path.specs.Names.{Names, names_cmp}
 use Rattle.sd_tree.specs.Plain.{PlainTree, row_at, dacl_at}
 use Rattle.sd_tree.specs.Refusals.{dacl_size}
 use Rattle.sd_tree.specs.Closed.{IsClosed}

@@ -3,7 +3,7 @@
 ghost use Rattle.std.specs.Prelude.{◌≡◌, IfOk};
 
 use crate::node::NodeDacl;
-use crate::path::Path;
+use sd_path::Path;
 use sd_sid::Sid;
 use std::alloc::{AllocError, Global};
 

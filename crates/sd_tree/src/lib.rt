@@ -21,11 +21,9 @@ mod given;
 mod inherit;
 mod judging;
 mod keep;
-mod laws;
 mod node;
 mod nodes;
 mod opening;
-mod path;
 mod plan;
 mod planning;
 mod refusal;
@@ -34,13 +32,8 @@ mod tree;
 
 pub use edit::Edit;
 pub use entries::Entries;
-pub use laws::{
-    edit_stays_below, every_list_is_canonical, inherited_has_id, keeping_lets_nobody_in,
-    no_propagate_goes_one_level, nothing_waits_in_an_object, order_grants_nothing,
-    protected_stands_alone, unmarked_entry_stays,
-};
 pub use node::{NodeDacl, NodeKind};
 pub use opening::{Opening, RootSpec};
-pub use path::{Name, Path, PathError};
 pub use refusal::{EditRefusal, TreeError};
+pub use sd_path::{Name, Path, PathError};
 pub use tree::{CheckReply, Prepared, Tree};

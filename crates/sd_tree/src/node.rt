@@ -3,7 +3,7 @@
 ghost use Rattle.std.specs.Prelude.{◌≡◌, IfOk};
 
 use crate::entries::Entries;
-use crate::path::Path;
+use sd_path::Path;
 use sd_acl::AceList;
 use sd_sid::Sid;
 use std::alloc::{AllocError, Global};

@@ -4,11 +4,11 @@ ghost use Rattle.std.specs.Prelude.{◌≡◌, ◌<◌, ◌≤◌, length, IfOk,
 ghost use Rattle.std.specs.List.{HoldsAt, AllWithin};
 ghost use Rattle.std.specs.Option.{option_copied};
 ghost use Rattle.std.specs.declared.cmp.Ordering.TheVariants.{Less, Greater};
-ghost use Rattle.sd_tree.specs.Names.{names_cmp};
+ghost use Rattle.sd_path.specs.Names.{names_cmp};
 ghost use Rattle.sd_tree.specs.Stored.{path_of_node, IsInOrder, IsFound};
 
 use crate::node::Node;
-use crate::path::PathRef;
+use sd_path::PathRef;
 use std::cmp::Ordering;
 
 /// Where the node of a path stands, or where it would.

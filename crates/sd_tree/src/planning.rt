@@ -3,7 +3,7 @@
 ghost use Rattle.std.specs.Prelude.{◌≡◌, ◌<◌, length, false, None, IsSome, IfOk, IfErr};
 ghost use Rattle.std.specs.List.{HoldsAt};
 ghost use Rattle.std.specs.FinMap.{insert, remove};
-ghost use Rattle.sd_tree.specs.Names.{is_root};
+ghost use Rattle.sd_path.specs.Names.{is_root};
 ghost use Rattle.sd_tree.specs.Plain.{row_at, dacl_at};
 ghost use Rattle.sd_tree.specs.Closed.{IsAddable};
 ghost use Rattle.sd_tree.specs.Edits.{changed, edited, keeping};
@@ -15,7 +15,7 @@ use crate::edit::Edit;
 use crate::keep::kept_dacl;
 use crate::node::{Node, NodeDacl, NodeKind, Row};
 use crate::nodes::locate;
-use crate::path::Path;
+use sd_path::Path;
 use crate::plan::Plan;
 use crate::refusal::TreeError;
 use crate::standing::Standing;

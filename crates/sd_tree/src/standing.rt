@@ -3,7 +3,7 @@
 ghost use Rattle.std.specs.Prelude.{◌≡◌, ◌≤◌, ◌<◌, length, true, false, None, IfOk, IfErr, IsSome};
 ghost use Rattle.std.specs.List.{HoldsAt, AllWithin};
 ghost use Rattle.std.specs.FinMap.{insert};
-ghost use Rattle.sd_tree.specs.Names.{is_root, is_within, up};
+ghost use Rattle.sd_path.specs.Names.{is_root, is_within, up};
 ghost use Rattle.sd_tree.specs.Plain.{row_at, dacl_at};
 ghost use Rattle.sd_tree.specs.Refusals.{dacl_size};
 ghost use Rattle.sd_tree.specs.Sizes.{IsSizeError};
@@ -13,7 +13,7 @@ ghost use Rattle.sd_tree.specs.Plans.{IsInsertion, IsRewriting, IsLargeError};
 use crate::inherit::dacl_of_row;
 use crate::node::{Node, Row};
 use crate::nodes::locate;
-use crate::path::{Path, PathRef};
+use sd_path::{Path, PathRef};
 use crate::plan::Plan;
 use crate::refusal::TreeError;
 use sd_acl::AceList;

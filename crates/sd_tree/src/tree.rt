@@ -1,9 +1,10 @@
 //! A tree that is the replay of its journal.
 
-ghost use Rattle.std.specs.Prelude.{◌≡◌, ◌≤◌, [], ◌∷◌, ◌++◌, length, None, false, OnOk, IfOk, IfErr, MatchResult, option_map};
+ghost use Rattle.std.specs.Prelude.{◌≡◌, ◌≤◌, [], ◌∷◌, ◌++◌, length, None, false, OnOk, IfOk, IfErr, IsSome, MatchResult, option_map};
 ghost use Rattle.sd_acl.specs.Descriptor.{descriptor_of};
 ghost use Rattle.sd_tree.specs.Answers.{answer, kind_at, descriptor_at, IsError};
 ghost use Rattle.sd_tree.specs.Journal.{opening_of, root_row, replay, refusal, root_refusal, IsLawful};
+ghost use Rattle.sd_tree.specs.Plain.{row_at};
 ghost use Rattle.sd_tree.specs.Plans.{IsPlanned};
 ghost use Rattle.sd_tree.specs.Prepared.{IsPrepared};
 ghost use Rattle.sd_tree.specs.Refusals.{is_early, dacl_size};
@@ -19,7 +20,7 @@ use crate::inherit::dacl_of_row;
 use crate::node::{Node, NodeKind, Row};
 use crate::nodes::node_at;
 use crate::opening::{Opening, RootSpec};
-use crate::path::Path;
+use sd_path::Path;
 use crate::plan::{Plan, carry_out};
 use crate::refusal::{EditRefusal, TreeError};
 use crate::standing::Standing;
@@ -203,9 +204,11 @@ impl Tree {
         }
     }
 
-    /// The descriptor of the node of a path, if there is one ([MS-DTYP] 2.4.6).
+    /// The descriptor of the node of a path, if there is one ([MS-DTYP] 2.4.6). `AllocError` only where there is one.
     pub fn descriptor(&self, path: &Path) -> Result<Option<Descriptor>, AllocError>
-        ensures { IfOk result (λ found. option_map descriptor_of found ≡ descriptor_at self.now.opening.mapping (replay self.now.opening self.now.journal) path.now) }
+        ensures descriptor { IfOk result (λ found. option_map descriptor_of found
+            ≡ descriptor_at self.now.opening.mapping (replay self.now.opening self.now.journal) path.now) }
+        ensures memory { IfErr result (λ _. IsSome (row_at (replay self.now.opening self.now.journal) path.now)) }
     {
         match node_at(&self.nodes, &path.as_path_ref()) {
             None => Ok(None),

@@ -3,9 +3,9 @@ use Rattle.std.proofs.lemmas.Fn.{always_returns_same}
 use Rattle.std.specs.List.{HoldsAt, AllWithin}
 use Rattle.std.specs.List.Sorted.{IsSearchInRange, IsBinarySearchResult}
 use Rattle.std.specs.declared.cmp.Ordering.TheVariants.{Less, Greater}
-use Rattle.sd_tree.specs.Names.{Names, names_cmp}
+use Rattle.sd_path.specs.Names.{Names, names_cmp}
 use Rattle.sd_tree.specs.Stored.{Boxed, path_of_node, IsInOrder}
-use Rattle.sd_tree.proofs.Paths.{names_cmp_antisymmetric as names_same}
+use Rattle.sd_path.proofs.Paths.{names_cmp_antisymmetric as names_same}
 use Rattle.sd_tree.proofs.Places.{paths_searchable}
 use Rattle.sd_tree.proofs.nodes.locate.Goals as goal
 

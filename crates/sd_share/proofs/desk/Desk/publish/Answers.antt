@@ -8,8 +8,8 @@ use Rattle.sd_share.proofs.Keeping.{swapped_steps, unswapped_steps}
 use Rattle.sd_share.proofs.desk.Desk.publish.Goals as goal
 use Rattle.sd_share.proofs.desk.Desk.publish.Goals.{then-len, else-len}
 
-pub returns : goal.returns
-returns c =
+pub returns-clause-step : goal.returns-clause-step
+returns-clause-step c =
     let p = c.self.inside.published in
     let d = c.self.inside.draft in
     let ns = c.self.inside.floors.items in

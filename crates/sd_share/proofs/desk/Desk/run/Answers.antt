@@ -14,5 +14,5 @@ loop-request-preserved c =
     take_more requests i request within ∙ ap (λ x. take i requests ++ x ∷ []) (sym c.request-item.is) in (
       omega (arith, c.push_reserved.ensures.len),
       omega (arith, c.push_reserved.ensures.capacity),
-      rw (next, c.push_reserved.ensures.items) (runs_push _ _ _ _ _ _ _ before.2 c.step.ensures),
+      rw (next, c.push_reserved.ensures.items) (runs_push _ _ _ _ _ _ _ before.2 c.step.ensures.step),
     )

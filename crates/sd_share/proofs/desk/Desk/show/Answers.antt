@@ -14,4 +14,4 @@ returns c =
     let seen = c.len-seen.result in
     let P : Machine → Type 0 = λ m. Steps m (Show c.args.reader c.args.path.now) (Shown seen c.in-Ok.descriptor) (machine_of p d (slice_set ns c.args.reader seen)) in
     let there : c.args.reader < length ns = omega (arith, c.self.inside.floors.ok.0) in
-    subst P c.self.view_is (is_reader p d ns c.args.reader there, c.len-seen.ensures.length, c.in-Ok.ensures, look_set p d ns c.args.reader seen c.len-seen.ensures.length)
+    subst P c.self.view_is (is_reader p d ns c.args.reader there, c.len-seen.ensures.length, c.in-Ok.ensures.descriptor, look_set p d ns c.args.reader seen c.len-seen.ensures.length)

@@ -1,5 +1,5 @@
 use Rattle.std.proofs.Common.{sym, ap, ◌∙◌, arith}
-use Rattle.sd_tree.specs.Names.{is_within}
+use Rattle.sd_path.specs.Names.{is_within}
 use Rattle.sd_tree.specs.declared.node.Node.{Node}
 use Rattle.sd_tree.proofs.Runs.{run_begins, run_ends}
 use Rattle.sd_tree.proofs.standing.Standing.end_below.Goals as goal

@@ -1,6 +1,6 @@
 use Rattle.std.proofs.Common.{◌≡◌, true}
 use Rattle.std.specs.List.{AllWithin}
-use Rattle.sd_tree.specs.Names.{is_within}
+use Rattle.sd_path.specs.Names.{is_within}
 use Rattle.sd_tree.specs.Stored.{path_of_node}
 use Rattle.sd_tree.proofs.standing.Standing.end_below.Given as goal
 

@@ -1,5 +1,5 @@
 use Rattle.std.proofs.Common.{sym, ap, ◌∙◌, arith}
-use Rattle.sd_tree.specs.Names.{is_within}
+use Rattle.sd_path.specs.Names.{is_within}
 use Rattle.sd_tree.specs.declared.node.Node.{Node}
 use Rattle.sd_tree.proofs.Children.{childless_last, next_tells}
 use Rattle.sd_tree.proofs.Kept.{a_node}

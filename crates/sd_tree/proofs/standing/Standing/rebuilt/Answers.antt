@@ -1,6 +1,6 @@
 use Rattle.std.proofs.Common.{◌≡◌, ◌<◌, get_or, length, ap, ◌∙◌, arith}
 use Rattle.std.proofs.lemmas.Result.{err_from_is_err_and}
-use Rattle.sd_tree.specs.Names.{up}
+use Rattle.sd_path.specs.Names.{up}
 use Rattle.sd_tree.specs.Stored.{path_of_node, tree_of}
 use Rattle.sd_tree.specs.declared.node.Node.{Node}
 use Rattle.sd_tree.proofs.Kept.{row_here}

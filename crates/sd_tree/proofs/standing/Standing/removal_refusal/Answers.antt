@@ -1,5 +1,5 @@
 use Rattle.std.proofs.Common.{◌≡◌, true, false, is_some, sym, ap, ◌∙◌}
-use Rattle.sd_tree.specs.Names.{is_root}
+use Rattle.sd_path.specs.Names.{is_root}
 use Rattle.sd_tree.specs.Plain.{row_at}
 use Rattle.sd_tree.specs.Refusals.{has_child}
 use Rattle.sd_tree.specs.Stored.{tree_of}

@@ -2,7 +2,7 @@ use Rattle.std.proofs.Common.{◌≡◌, sym, ap, ◌∙◌}
 use Rattle.std.proofs.lemmas.Result.{IfOk-weaker, IfErr-weaker}
 use Rattle.std.specs.FinMap.{insert}
 use Rattle.sd_tree.specs.Inheritance.{dacl_of_row}
-use Rattle.sd_tree.specs.Names.{up}
+use Rattle.sd_path.specs.Names.{up}
 use Rattle.sd_tree.specs.Plain.{dacl_at}
 use Rattle.sd_tree.specs.Stored.{Boxed, tree_of}
 use Rattle.sd_tree.specs.declared.node.Node.{Node}

@@ -1,0 +1,3 @@
+pub mod PathBytes
+pub mod PathTexts
+pub mod Paths

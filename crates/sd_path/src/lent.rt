@@ -1,0 +1,78 @@
+//! Paths that are lent, so that a tree is searched without memory.
+
+ghost use Rattle.std.specs.Prelude.{◌≡◌, ◌≤◌, length, take};
+ghost use Rattle.sd_path.specs.Names.{names_cmp, up, is_root, is_within, ended, names_of, Keeps};
+
+use std::cmp::Ordering;
+use std::marker::Model;
+
+/// A path that is kept elsewhere. Contracts see it as the list of its names.
+#[derive(Drop)]
+pub struct PathRef<'a> {
+    pub(crate) bytes: &'a [u8],
+    pub(crate) count: u8,
+}
+
+impl<'a> Model for PathRef<'a> {
+    ghost use Rattle.std.specs.Prelude.{ℕ, List};
+    ghost use Rattle.sd_path.specs.Names.{names_of, Keeps};
+
+    ghost Value = { List (List ℕ) };
+
+    ghost view = { λ p. names_of p.bytes.now };
+
+    ghost invariant = { λ p. Keeps p.bytes.now p.count };
+}
+
+impl<'a> PathRef<'a> {
+    /// The number of names.
+    pub fn depth(&self) -> u64
+        ensures { result ≡ length self.now }
+    {
+        u64::from(self.count)
+    }
+
+    /// Whether it is the root.
+    pub fn is_root(&self) -> bool
+        ensures { result ≡ is_root self.now }
+    {
+        self.count == 0
+    }
+
+    /// The path of what holds it; the root's is the root.
+    pub fn parent(&self) -> PathRef<'a>
+        ensures { result ≡ up self.now }
+    {
+        PathRef {
+            bytes: &self.bytes[..parent_len(self.bytes)],
+            count: self.count.saturating_sub(1),
+        }
+    }
+
+    /// How the two stand in the order of paths.
+    pub fn compare(&self, other: &PathRef) -> Ordering
+        ensures { result ≡ names_cmp self.now other.now }
+    {
+        self.bytes.cmp(other.bytes)
+    }
+
+    /// Whether it is the top or stands below it.
+    pub fn is_within(&self, top: &PathRef) -> bool
+        ensures { result ≡ is_within top.now self.now }
+    {
+        self.bytes.starts_with(top.bytes)
+    }
+}
+
+/// How many of the bytes keep the path of what holds it.
+fn parent_len(bytes: &[u8]) -> usize
+    requires { Keeps bytes.now (length (names_of bytes.now)) }
+    ensures front { take result bytes.now ≡ ended (up (names_of bytes.now)) }
+    ensures within { result ≤ length bytes.now }
+{
+    let mut end = bytes.len().saturating_sub(1);
+    while end > 0 && bytes[end - 1] != 0 {
+        end -= 1;
+    }
+    end
+}

@@ -1,0 +1,89 @@
+//! Paths.
+
+ghost use Rattle.std.specs.Prelude.{◌≡◌, [], ◌∷◌, ◌++◌, IfOk};
+ghost use Rattle.sd_path.specs.PathText.{IsChildOf};
+
+use crate::error::PathError;
+use crate::lent::PathRef;
+use crate::name::Name;
+use crate::read::MAX_NAMES;
+use std::alloc::{AllocError, Global};
+use std::marker::Model;
+
+/// A path: at most 128 names, from the root down. Contracts see it as the list of its names.
+#[derive(Debug, Drop)]
+pub struct Path {
+    /// Each name is ended by a zero byte, so that paths compare as their bytes do.
+    pub(crate) bytes: Vec<u8>,
+    /// The number of names.
+    pub(crate) count: u8,
+}
+
+impl Model for Path {
+    ghost use Rattle.std.specs.Prelude.{ℕ, List};
+    ghost use Rattle.sd_path.specs.Names.{names_of, Keeps};
+
+    ghost Value = { List (List ℕ) };
+
+    ghost view = { λ p. names_of p.bytes.items };
+
+    ghost invariant = { λ p. Keeps p.bytes.items p.count };
+}
+
+impl Path {
+    /// The root's path. Takes no memory.
+    pub fn root(alloc: Global) -> Path
+        ensures { result ≡ [] }
+    {
+        Path {
+            bytes: Vec::new(alloc),
+            count: 0,
+        }
+    }
+
+    /// The same path, lent.
+    pub fn as_path_ref(&self) -> PathRef<'_>
+        ensures { result ≡ self.now }
+    {
+        PathRef {
+            bytes: &self.bytes,
+            count: self.count,
+        }
+    }
+
+    /// The path of the node with this name right below: `TooManyNames` where the path has 128 names already.
+    pub fn child(&self, alloc: Global, name: &Name) -> Result<Path, PathError>
+        ensures { IsChildOf self.now name.now result }
+    {
+        if self.count >= MAX_NAMES {
+            return Err(PathError::TooManyNames);
+        }
+        let bytes = with_name(alloc, &self.bytes, name.as_str().as_bytes())?;
+        Ok(Path {
+            bytes,
+            count: self.count + 1,
+        })
+    }
+
+    /// An equal path.
+    pub fn copy(&self, alloc: Global) -> Result<Path, AllocError>
+        ensures { IfOk result (λ path. path ≡ self.now) }
+    {
+        let bytes = Vec::from_slice(alloc, self.bytes.as_slice())?;
+        Ok(Path {
+            bytes,
+            count: self.count,
+        })
+    }
+}
+
+/// The bytes of a path with one more name, which is ended by a zero byte too.
+fn with_name(alloc: Global, above: &[u8], name: &[u8]) -> Result<Vec<u8>, AllocError>
+    ensures { IfOk result (λ bytes. bytes.items ≡ above.now ++ name.now ++ 0 ∷ []) }
+{
+    let mut bytes = Vec::with_capacity(alloc, above.len() + name.len() + 1)?;
+    bytes.extend_from_slice(above)?;
+    bytes.extend_from_slice(name)?;
+    bytes.push(0)?;
+    Ok(bytes)
+}

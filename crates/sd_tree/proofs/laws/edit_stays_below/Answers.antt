@@ -1,5 +1,0 @@
-use Rattle.sd_tree.proofs.Reach.{edit_stays_below}
-use Rattle.sd_tree.proofs.laws.edit_stays_below.Goals as goal
-
-pub returns : goal.returns
-returns c = edit_stays_below

@@ -1,5 +1,0 @@
-use Rattle.sd_tree.proofs.OwnEntries.{every_list_is_canonical}
-use Rattle.sd_tree.proofs.laws.every_list_is_canonical.Goals as goal
-
-pub returns : goal.returns
-returns c = every_list_is_canonical

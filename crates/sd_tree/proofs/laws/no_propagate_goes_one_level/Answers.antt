@@ -1,5 +1,0 @@
-use Rattle.sd_tree.proofs.Copies.{no_propagate_goes_one_level}
-use Rattle.sd_tree.proofs.laws.no_propagate_goes_one_level.Goals as goal
-
-pub returns : goal.returns
-returns c = no_propagate_goes_one_level

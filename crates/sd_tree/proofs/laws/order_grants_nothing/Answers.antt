@@ -1,8 +1,0 @@
-use Rattle.sd_tree.proofs.OrderGrants as laws
-use Rattle.sd_tree.proofs.laws.order_grants_nothing.Goals as goal
-
-pub returns-clause-grants : goal.returns-clause-grants
-returns-clause-grants c = laws.order_grants_nothing
-
-pub returns-clause-limits : goal.returns-clause-limits
-returns-clause-limits c = laws.order_keeps_owners_limit

@@ -1,5 +1,0 @@
-use Rattle.sd_tree.proofs.Reach.{protected_stands_alone}
-use Rattle.sd_tree.proofs.laws.protected_stands_alone.Goals as goal
-
-pub returns : goal.returns
-returns c = protected_stands_alone

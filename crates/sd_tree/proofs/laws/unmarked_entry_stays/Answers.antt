@@ -1,5 +1,0 @@
-use Rattle.sd_tree.proofs.Copies.{unmarked_entry_stays}
-use Rattle.sd_tree.proofs.laws.unmarked_entry_stays.Goals as goal
-
-pub returns : goal.returns
-returns c = unmarked_entry_stays

@@ -1,7 +1,0 @@
-use Rattle.sd_tree.proofs.PathBytes.{begins-kept}
-use Rattle.sd_tree.proofs.path.lent.PathRef.is_within.Goals as goal
-
-pub returns : goal.returns
-returns c =
-    let e = begins-kept _ _ _ _ c.top.invariant c.self.invariant in
-    cc (e, c.starts_with.ensures.value, c.self.view_is, c.top.view_is)

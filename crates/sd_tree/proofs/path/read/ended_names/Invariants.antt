@@ -1,6 +1,0 @@
-use Rattle.std.proofs.Common.{◌≡◌, map, take}
-use Rattle.sd_tree.proofs.PathTexts.{zero_for_slash}
-use Rattle.sd_tree.proofs.path.read.ended_names.Given as goal
-
-abbrev pub invariant-loop-b : goal.invariant-loop-b
-invariant-loop-b l = l.bytes.items ≡ map zero_for_slash (take l.b-index l.names)

@@ -1,0 +1,9 @@
+pub mod Copies
+pub mod ExplicitForm
+pub mod Keeping
+pub mod KeptGrants
+pub mod OrderGrants
+pub mod Ordered
+pub mod OwnEntries
+pub mod Reach
+pub mod Reordered

@@ -1,0 +1,134 @@
+-- The entries that a node has of its own, in the tree of a lawful journal: explicit, and in order.
+use Rattle.std.proofs.Common.{◌≡◌, true, false, List, [], ◌∷◌, ◌++◌, Option, Some, None, option_map, filter, refl, sym, ◌∙◌, ap, inl, inr}
+use Rattle.std.specs.List.{list_any}
+use Rattle.std.specs.FinMap as map
+use Rattle.sd_sid.specs.Mapping.{MappingValue}
+use Rattle.sd_acl.specs.Canonical.{is_inherited, is_explicit, deny_behind_allow, is_canonical, explicit_entries}
+use Rattle.sd_acl.specs.declared.ace.Ace.{Ace}
+use Rattle.sd_path.specs.Names.{Names}
+use Rattle.sd_tree.specs.Inheritance.{handed_on, dacl_under}
+use Rattle.sd_tree.specs.Plain.{PlainTree, row_at, dacl_here, dacl_at}
+use Rattle.sd_tree.specs.Edits.{keeping, changed, edited}
+use Rattle.sd_tree.specs.Journal.{opened, root_row, replay, root_refusal, IsLawful}
+use Rattle.sd_tree.specs.Refusals.{early_refusal, early_tests, own_entries, list_tests, has_large_dacl}
+use Rattle.sd_tree_laws.specs.Laws.{OwnHasNoId, WithoutIdIsOwn, EveryListIsCanonical}
+use Rattle.sd_tree.specs.declared.node.Row.{Row}
+use Rattle.sd_tree.specs.declared.node.NodeDacl.{NodeDacl}
+use Rattle.sd_tree.specs.declared.node.NodeDacl.TheVariants.{Null, List as Entries}
+use Rattle.sd_tree.specs.declared.opening.Opening.{Opening}
+use Rattle.sd_tree.specs.declared.refusal.EditRefusal.TheVariants.{AclTooLarge}
+use Rattle.sd_tree.specs.declared.edit.Edit.{Edit}
+use Rattle.sd_tree.specs.declared.edit.Edit.TheVariants.{AddContainer, AddObject, SetOwner, SetGroup, SetDacl, Remove, ProtectKeeping}
+use Rattle.sd_tree.proofs.Rows.{same_or_other, row_at-empty, row_at-insert_same, row_at-insert_other, row_at-remove_same, row_at-remove_other, row_at-changed_same, row_at-changed_other}
+use Rattle.sd_tree.proofs.Refused.{none_fits, not_refused}
+use Rattle.sd_tree.proofs.Journals.{holds_of_lawful}
+use Rattle.sd_tree.proofs.Dacls.{dacl_over, dacl_at_here}
+use Rattle.sd_tree_laws.proofs.Ordered.{canonical_parts, explicit_front, ordered_canonical, kept_explicit}
+use Rattle.sd_tree_laws.proofs.Copies.{inherited_has_id}
+
+pub record IsSound (dacl : NodeDacl) : Type 0 where
+  pub explicit : list_any is_inherited (own_entries dacl) ≡ false
+  pub ordered : deny_behind_allow (own_entries dacl) ≡ false
+
+-- each node's own entries are explicit and in order
+abbrev pub AllSound : PlainTree → Type 0
+AllSound t = (path : Names) (row : Row) → row_at t path ≡ Some row → IsSound row.dacl
+
+inside : {X : Type 0} (x y : X) → Some x ≡ Some y → x ≡ y
+inside x y e = cc
+
+sound_inserted : (t : PlainTree) (path : Names) (row : Row) → IsSound row.dacl → AllSound t → AllSound (map.insert t path row)
+sound_inserted t path row sound before q r e = elim (same_or_other q path) [
+  | inl same ↦
+      let is : Some row ≡ Some r = sym (ap (row_at (map.insert t path row)) same ∙ row_at-insert_same t path row) ∙ e in
+      rw (sym (inside row r is)) sound
+  | inr other ↦ before q r (sym (row_at-insert_other t path q row other) ∙ e)
+]
+
+sound_removed : (t : PlainTree) (path : Names) → AllSound t → AllSound (map.remove t path)
+sound_removed t path before q r e = elim (same_or_other q path) [
+  | inl same ↦
+      let gone : None ≡ Some r = sym (ap (row_at (map.remove t path)) same ∙ row_at-remove_same t path) ∙ e in
+      absurd cc
+  | inr other ↦ before q r (sym (row_at-remove_other t path q other) ∙ e)
+]
+
+sound_where : (change : Row → Row) (r : Row) (o : Option Row) → ((row : Row) → o ≡ Some row → IsSound (change row).dacl) → option_map change o ≡ Some r → IsSound r.dacl
+sound_where change r None sound e = absurd cc
+sound_where change r (Some row) sound e = rw (sym (inside (change row) r e)) (sound row refl)
+
+sound_changed : (t : PlainTree) (path : Names) (change : Row → Row) → ((row : Row) → row_at t path ≡ Some row → IsSound (change row).dacl)
+    → AllSound t → AllSound (changed t path change)
+sound_changed t path change sound before q r e = elim (same_or_other q path) [
+  | inl same ↦ sound_where change r (row_at t path) sound (sym (ap (row_at (changed t path change)) same ∙ row_at-changed_same t path change) ∙ e)
+  | inr other ↦ before q r (sym (row_at-changed_other t path q change other) ∙ e)
+]
+
+sound_keeping : (dacl : Option (List Ace)) (row : Row) → IsSound row.dacl → IsSound (keeping dacl row).dacl
+sound_keeping None row sound = sound
+sound_keeping (Some entries) row sound = record { explicit = kept_explicit entries; ordered = ordered_canonical (explicit_entries entries) }
+
+sound_edited : (g : MappingValue) (t : PlainTree) (e : Edit) → early_refusal t e ≡ None → AllSound t → AllSound (edited g t e)
+sound_edited g t (AddContainer path owner group dacl) fits before =
+    let tests = none_fits (early_tests t (AddContainer path owner group dacl)) fits in
+    sound_inserted t path _ (record { explicit = tests.1.1.1.0; ordered = tests.1.1.1.1.0 }) before
+sound_edited g t (AddObject path owner group dacl) fits before =
+    let tests = none_fits (early_tests t (AddObject path owner group dacl)) fits in
+    sound_inserted t path _ (record { explicit = tests.1.1.1.0; ordered = tests.1.1.1.1.0 }) before
+sound_edited g t (SetOwner path owner) fits before = sound_changed t path _ (λ row there. before path row there) before
+sound_edited g t (SetGroup path group) fits before = sound_changed t path _ (λ row there. before path row there) before
+sound_edited g t (SetDacl path dacl) fits before =
+    let tests = none_fits (early_tests t (SetDacl path dacl)) fits in
+    sound_changed t path _ (λ row there. record { explicit = tests.1.0; ordered = tests.1.1.0 }) before
+sound_edited g t (Remove path) fits before = sound_removed t path before
+sound_edited g t (ProtectKeeping path) fits before =
+    sound_changed t path (keeping (dacl_at g t path)) (λ row there. sound_keeping (dacl_at g t path) row (before path row there)) before
+
+sound_opened : (o : Opening) → root_refusal o ≡ None → AllSound (opened o)
+sound_opened o fits =
+    let tests = none_fits (list_tests o.root.dacl ++ (has_large_dacl o.mapping (opened o), AclTooLarge) ∷ []) fits in
+    sound_inserted map.empty [] (root_row o.root) (record { explicit = tests.0; ordered = tests.1.0 })
+    (λ path row e. let none = row_at-empty path in absurd cc)
+
+pub sound_replay : (o : Opening) (journal : List Edit) → root_refusal o ≡ None → IsLawful o journal → AllSound (replay o journal)
+sound_replay o journal fits =
+    holds_of_lawful o AllSound (sound_opened o fits)
+    (λ t count e before accepted. sound_edited o.mapping t e (not_refused o.mapping t count e accepted).0 before) journal
+
+-- ---- the laws
+
+pub own_has_no_id : OwnHasNoId
+own_has_no_id o journal path row fits lawful there = (sound_replay o journal fits lawful path row there).explicit
+
+canonical_under : (g : MappingValue) (row : Row) (dacl : NodeDacl) (above : Option (List Ace)) (entries : List Ace) → IsSound dacl
+    → dacl_under g row dacl above ≡ Some entries → is_canonical entries ≡ true
+canonical_under g row Null above entries sound e = absurd cc
+canonical_under g row (Entries true own) above entries sound e =
+    ap is_canonical (sym (inside _ _ e)) ∙ canonical_parts own [] sound.explicit sound.ordered refl
+canonical_under g row (Entries false own) above entries sound e =
+    ap is_canonical (sym (inside _ _ e)) ∙ canonical_parts own (handed_on g row above) sound.explicit sound.ordered (inherited_has_id g row above)
+
+canonical_here : (g : MappingValue) (o : Option Row) (above : Option (List Ace)) (entries : List Ace) → ((row : Row) → o ≡ Some row → IsSound row.dacl)
+    → dacl_here g o above ≡ Some entries → is_canonical entries ≡ true
+canonical_here g None above entries sound e = absurd cc
+canonical_here g (Some row) above entries sound e = canonical_under g row row.dacl above entries (sound row refl) e
+
+explicit_under : (g : MappingValue) (row : Row) (dacl : NodeDacl) (above : Option (List Ace)) (entries : List Ace) → IsSound dacl
+    → dacl_under g row dacl above ≡ Some entries → filter is_explicit entries ≡ own_entries dacl
+explicit_under g row Null above entries sound e = absurd cc
+explicit_under g row (Entries true own) above entries sound e =
+    ap (filter is_explicit) (sym (inside _ _ e)) ∙ explicit_front own [] sound.explicit refl
+explicit_under g row (Entries false own) above entries sound e =
+    ap (filter is_explicit) (sym (inside _ _ e)) ∙ explicit_front own (handed_on g row above) sound.explicit (inherited_has_id g row above)
+
+pub without_id_is_own : WithoutIdIsOwn
+without_id_is_own o journal path row entries fits lawful there e =
+    let t = replay o journal in
+    explicit_under o.mapping row row.dacl (dacl_over o.mapping t path) entries (sound_replay o journal fits lawful path row there)
+    (sym (dacl_at_here o.mapping t path ∙ ap (λ r. dacl_here o.mapping r (dacl_over o.mapping t path)) there) ∙ e)
+
+pub every_list_is_canonical : EveryListIsCanonical
+every_list_is_canonical o journal path entries fits lawful e =
+    let t = replay o journal in
+    canonical_here o.mapping (row_at t path) (dacl_over o.mapping t path) entries (sound_replay o journal fits lawful path)
+    (sym (dacl_at_here o.mapping t path) ∙ e)

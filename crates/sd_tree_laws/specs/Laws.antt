@@ -1,0 +1,125 @@
+-- What follows from the rules of the tree, as laws over all trees, edits, tokens and requests.
+use Rattle.std.specs.Prelude.{◌≡◌, ℕ, Bool, true, false, ◌||◌, List, [], Option, Some, None, filter}
+use Rattle.std.specs.List.{list_any, flat_map}
+use Rattle.sd_sid.specs.Mask.{holds}
+use Rattle.sd_sid.specs.Mapping.{MappingValue}
+use Rattle.sd_sid.specs.Sid.{SidValue}
+use Rattle.sd_acl.specs.Ace.{is_inherit_only}
+use Rattle.sd_acl.specs.Canonical.{is_inherited, is_explicit, is_canonical, canonical_order}
+use Rattle.sd_acl.specs.Verdict.{acl_grants, limits_owner}
+use Rattle.sd_acl.specs.declared.ace.Ace.{Ace}
+use Rattle.sd_acl.specs.declared.ace.AceKind.{AceKind}
+use Rattle.sd_acl.specs.declared.verdict.Verdict.TheVariants.{Granted}
+use Rattle.sd_check.specs.Token.{TokenValue}
+use Rattle.sd_check.specs.Check.{is_granted}
+use Rattle.sd_path.specs.Names.{Names, is_within}
+use Rattle.sd_tree.specs.Inheritance.{object_inherit, container_inherit, no_propagate, pass_on, handed_on}
+use Rattle.sd_tree.specs.Descriptors.{is_protected}
+use Rattle.sd_tree.specs.Plain.{PlainTree, row_at, dacl_at}
+use Rattle.sd_tree.specs.Edits.{edited, edited_path}
+use Rattle.sd_tree.specs.Answers.{descriptor_at, reply_in}
+use Rattle.sd_tree.specs.Journal.{replay, root_refusal, IsLawful}
+use Rattle.sd_tree.specs.Refusals.{own_entries}
+use Rattle.sd_tree.specs.declared.node.Row.{Row}
+use Rattle.sd_tree.specs.declared.node.NodeKind.{NodeKind}
+use Rattle.sd_tree.specs.declared.node.NodeKind.TheVariants.{Object}
+use Rattle.sd_tree.specs.declared.opening.Opening.{Opening}
+use Rattle.sd_tree.specs.declared.tree.CheckReply.TheVariants.{Verdict}
+use Rattle.sd_tree.specs.declared.edit.Edit.{Edit}
+use Rattle.sd_tree.specs.declared.edit.Edit.TheVariants.{ProtectKeeping}
+
+-- ---- how far an edit reaches
+
+abbrev pub EditStaysBelow : Type 0
+EditStaysBelow =
+    (g : MappingValue) (t : PlainTree) (edit : Edit) (path : Names)
+    → is_within (edited_path edit) path ≡ false → descriptor_at g (edited g t edit) path ≡ descriptor_at g t path
+
+-- two trees with the same nodes at and below a protected one have the same DACLs there
+abbrev pub ProtectedStandsAlone : Type 0
+ProtectedStandsAlone =
+    (g : MappingValue) (t u : PlainTree) (top path : Names) (row : Row)
+    → row_at t top ≡ Some row → is_protected row.dacl ≡ true
+    → ((q : Names) → is_within top q ≡ true → row_at t q ≡ row_at u q)
+    → is_within top path ≡ true → dacl_at g t path ≡ dacl_at g u path
+
+-- ---- how far an entry reaches
+
+abbrev pub UnmarkedEntryStays : Type 0
+UnmarkedEntryStays =
+    (g : MappingValue) (kind : NodeKind) (owner group : SidValue) (e : Ace)
+    → object_inherit e ≡ false → container_inherit e ≡ false → pass_on g kind owner group e ≡ []
+
+-- what a child has of an entry with NP hands nothing on to a child of the child's own
+abbrev pub NoPropagateGoesOneLevel : Type 0
+NoPropagateGoesOneLevel =
+    (g : MappingValue) (kind next_kind : NodeKind) (owner group next_owner next_group : SidValue) (e : Ace)
+    → no_propagate e ≡ true → flat_map (pass_on g next_kind next_owner next_group) (pass_on g kind owner group e) ≡ []
+
+-- the entry has a flag that speaks of children: OI, CI, NP or IO
+abbrev pub speaks_of_children : Ace → Bool
+speaks_of_children e = object_inherit e || (container_inherit e || (no_propagate e || is_inherit_only e))
+
+abbrev pub NothingWaitsInAnObject : Type 0
+NothingWaitsInAnObject =
+    (g : MappingValue) (row : Row) (above : Option (List Ace))
+    → row.kind ≡ Object → list_any speaks_of_children (handed_on g row above) ≡ false
+
+-- ---- what is inherited is told by the flag ID
+
+abbrev pub InheritedHasId : Type 0
+InheritedHasId = (g : MappingValue) (row : Row) (above : Option (List Ace)) → list_any is_explicit (handed_on g row above) ≡ false
+
+-- after a lawful journal no node's own entries have it
+abbrev pub OwnHasNoId : Type 0
+OwnHasNoId =
+    (opening : Opening) (journal : List Edit) (path : Names) (row : Row)
+    → root_refusal opening ≡ None → IsLawful opening journal
+    → row_at (replay opening journal) path ≡ Some row → list_any is_inherited (own_entries row.dacl) ≡ false
+
+-- what a node's DACL has without it is what the node has of its own
+abbrev pub WithoutIdIsOwn : Type 0
+WithoutIdIsOwn =
+    (opening : Opening) (journal : List Edit) (path : Names) (row : Row) (entries : List Ace)
+    → root_refusal opening ≡ None → IsLawful opening journal
+    → row_at (replay opening journal) path ≡ Some row → dacl_at opening.mapping (replay opening journal) path ≡ Some entries
+    → filter is_explicit entries ≡ own_entries row.dacl
+
+-- ---- the order of entries
+
+abbrev pub EveryListIsCanonical : Type 0
+EveryListIsCanonical =
+    (opening : Opening) (journal : List Edit) (path : Names) (entries : List Ace)
+    → root_refusal opening ≡ None → IsLawful opening journal
+    → dacl_at opening.mapping (replay opening journal) path ≡ Some entries → is_canonical entries ≡ true
+
+-- what allows in canonical order allows in the list's own, whoever the entries apply to
+abbrev pub OrderGrantsNothing : Type 0
+OrderGrantsNothing =
+    (g : MappingValue) (who : AceKind → SidValue → Bool) (es : List Ace) (b : ℕ)
+    → acl_grants g who (Some (canonical_order es)) b ≡ true → acl_grants g who (Some es) b ≡ true
+
+abbrev pub OrderKeepsOwnersLimit : Type 0
+OrderKeepsOwnersLimit = (es : List Ace) → limits_owner (Some (canonical_order es)) ≡ limits_owner (Some es)
+
+-- whether the bit is granted at the node: by its DACL, or without an entry
+abbrev pub granted_by_row : MappingValue → Option (List Ace) → TokenValue → ℕ → Option Row → Bool
+granted_by_row g dacl token b None = false
+granted_by_row g dacl token b (Some row) = is_granted (Some row.owner) dacl g token b
+
+abbrev pub is_granted_at : MappingValue → PlainTree → Names → TokenValue → ℕ → Bool
+is_granted_at g t path token b = granted_by_row g (dacl_at g t path) token b (row_at t path)
+
+-- what is granted after a node was protected was granted before, at the node and at each other
+abbrev pub KeepingLetsNobodyIn : Type 0
+KeepingLetsNobodyIn =
+    (g : MappingValue) (t : PlainTree) (protected path : Names) (token : TokenValue) (b : ℕ)
+    → is_granted_at g (edited g t (ProtectKeeping protected)) path token b ≡ true → is_granted_at g t path token b ≡ true
+
+-- and a request without MAXIMUM_ALLOWED, place 25, that a check grants afterwards, it granted before
+abbrev pub KeepingGrantsNoNewRequest : Type 0
+KeepingGrantsNoNewRequest =
+    (g : MappingValue) (t : PlainTree) (protected path : Names) (token : TokenValue) (asked m : ℕ)
+    → holds asked 25 ≡ false
+    → reply_in g (edited g t (ProtectKeeping protected)) path token asked ≡ Verdict (Granted m)
+    → reply_in g t path token asked ≡ Verdict (Granted m)

@@ -1,0 +1,59 @@
+//! What follows from the rules of the tree.
+
+ghost use Rattle.sd_tree_laws.specs.Laws.{EditStaysBelow, ProtectedStandsAlone, UnmarkedEntryStays, NoPropagateGoesOneLevel, NothingWaitsInAnObject, InheritedHasId, OwnHasNoId, WithoutIdIsOwn, EveryListIsCanonical, OrderGrantsNothing, OrderKeepsOwnersLimit, KeepingLetsNobodyIn, KeepingGrantsNoNewRequest};
+
+/// An edit changes the descriptor of no node but the edited one and those below it.
+pub fn edit_stays_below()
+    ensures { EditStaysBelow }
+{}
+
+/// The DACL of a protected node (control bit PD), and each DACL below it, is the same whatever stands above the
+/// node ([MS-DTYP] 2.4.6).
+pub fn protected_stands_alone()
+    ensures { ProtectedStandsAlone }
+{}
+
+/// An entry with neither OI nor CI never leaves its node ([MS-DTYP] 2.4.4.1).
+pub fn unmarked_entry_stays()
+    ensures { UnmarkedEntryStays }
+{}
+
+/// An entry with NP goes one level down and no further: what a child has of it hands nothing on
+/// ([MS-DTYP] 2.4.4.1, NO_PROPAGATE_INHERIT_ACE).
+pub fn no_propagate_goes_one_level()
+    ensures { NoPropagateGoesOneLevel }
+{}
+
+/// No inherited entry of an object waits to be inherited further: none has OI, CI, NP or IO.
+pub fn nothing_waits_in_an_object()
+    ensures { NothingWaitsInAnObject }
+{}
+
+/// Each entry that a node inherits has the flag ID, and after a lawful journal no entry of a node's own has it: what
+/// its DACL has without the flag is what the node has of its own ([MS-DTYP] 2.4.4.1, INHERITED_ACE).
+pub fn inherited_has_id()
+    ensures inherited { InheritedHasId }
+    ensures own { OwnHasNoId }
+    ensures explicit { WithoutIdIsOwn }
+{}
+
+/// After a lawful journal each node's DACL is in canonical order: the explicit entries stand before the inherited
+/// ones, and among the explicit the denies before the allows.
+pub fn every_list_is_canonical()
+    ensures { EveryListIsCanonical }
+{}
+
+/// Putting a list in canonical order grants no bit that the list didn't grant before, to no token and under no
+/// mapping, and whether the list limits the owner stays ([MS-DTYP] 2.5.3.2).
+pub fn order_grants_nothing()
+    ensures grants { OrderGrantsNothing }
+    ensures limits { OrderKeepsOwnersLimit }
+{}
+
+/// Protecting a node with what it had inherited can lock out and never lets in: a bit that is granted afterwards,
+/// at the node, below it or anywhere else, was granted before, to each token, and so was a request that a check
+/// grants as it was asked for.
+pub fn keeping_lets_nobody_in()
+    ensures bits { KeepingLetsNobodyIn }
+    ensures requests { KeepingGrantsNoNewRequest }
+{}

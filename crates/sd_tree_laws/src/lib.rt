@@ -1,0 +1,13 @@
+//! What follows from the rules of the tree, as laws over all trees, edits, tokens and requests.
+//!
+//! Each law is the contract of a function that does nothing: to call it is to have the law. No crate needs one to be
+//! right; who builds on a tree may cite them. docs/TREE.md tells them in prose.
+#![tactic(auto)]
+
+mod laws;
+
+pub use laws::{
+    edit_stays_below, every_list_is_canonical, inherited_has_id, keeping_lets_nobody_in,
+    no_propagate_goes_one_level, nothing_waits_in_an_object, order_grants_nothing,
+    protected_stands_alone, unmarked_entry_stays,
+};
