@@ -11,7 +11,7 @@ use Rattle.sd_acl.specs.declared.verdict.Verdict.{Verdict}
 use Rattle.sd_acl.specs.declared.verdict.Verdict.TheVariants.{Granted, Denied, Reserved, EmptyRequest}
 use Rattle.sd_check.specs.Token.{TokenValue}
 use Rattle.sd_check.specs.Check.{is_granted, most}
-use Rattle.sd_check.proofs.LowMasks.{no_places}
+use Rattle.sd_check.proofs.MoreGranted.{nothing_missing}
 use Rattle.sd_path.specs.Names.{Names}
 use Rattle.sd_tree.specs.Plain.{PlainTree, row_at, dacl_at}
 use Rattle.sd_tree.specs.Edits.{keeping, edited}
@@ -22,23 +22,6 @@ use Rattle.sd_tree.specs.declared.tree.CheckReply.TheVariants as reply
 use Rattle.sd_tree.specs.declared.edit.Edit.TheVariants.{ProtectKeeping}
 use Rattle.sd_tree.proofs.Closed.{kind_at-changed, kept_when_keeping, known_kind}
 use Rattle.sd_tree_laws.proofs.Keeping.{keeping_lets_nobody_in}
-
--- ---- nothing is missing where more is granted
-
-still_none : (asked now before : Bool) → (now ≡ true → before ≡ true) → (asked && not now) ≡ false → (asked && not before) ≡ false
-still_none false now before more h = refl
-still_none true false before more h = absurd (false≢true (sym h))
-still_none true true before more h = ap not (more refl)
-
-nothing_missing : (now before : ℕ → Bool) (q : ℕ) → ((b : ℕ) → now b ≡ true → before b ≡ true)
-    → (missing_of now q == 0) ≡ true → (missing_of before q == 0) ≡ true
-nothing_missing now before q more h =
-    let none = eqb-true (missing_of now q) 0 h in
-    eq-eqb (missing_of before q) 0
-    (mask_of-alike (λ b. holds q b && not (before b)) (λ b. false) 32
-    (λ b low. still_none (holds q b) (now b) (before b) (more b)
-    (sym (holds_place (λ k. holds q k && not (now k)) b low) ∙ ap (λ n. holds n b) none ∙ ap (λ n. n == 1) (bit_at-zero b)))
-    ∙ no_places)
 
 -- the cases of a verdict on a request without MAXIMUM_ALLOWED
 granted_still : (empty fine maximum nothing now before : Bool) (q n k x m : ℕ) (other more : Verdict) → maximum ≡ false → (now ≡ true → before ≡ true)

@@ -11,9 +11,9 @@ use Rattle.sd_acl.specs.Ace.{is_inherit_only}
 use Rattle.sd_acl.specs.Canonical.{allows, denies, canonical_order, explicit_entries}
 use Rattle.sd_acl.specs.Verdict.{decides, acl_grants, is_allowed_by, first, limits_owner, is_implied}
 use Rattle.sd_acl.specs.declared.ace.Ace.{Ace}
-use Rattle.sd_acl.specs.declared.ace.AceKind.TheVariants.{Allow}
-use Rattle.sd_check.specs.Token.{TokenValue, applies, stands_for_subject}
-use Rattle.sd_check.specs.Check.{is_granted, is_given}
+use Rattle.sd_acl.specs.declared.ace.AceKind.{AceKind}
+use Rattle.sd_check.specs.Token.{TokenValue, applies, applies_again, is_owner, is_restricted}
+use Rattle.sd_check.specs.Check.{is_granted, is_given, is_listed}
 use Rattle.sd_path.specs.Names.{Names}
 use Rattle.sd_tree.specs.Inheritance.{pass_on, handed_on, dacl_under}
 use Rattle.sd_tree.specs.Plain.{PlainTree, row_at, dacl_here, dacl_below}
@@ -140,23 +140,33 @@ down g t at after before (n ∷ names) r =
 
 same_given : (owner : Option SidValue) (after before : Option (List Ace)) (token : TokenValue) (b : ℕ) → limits_owner after ≡ limits_owner before → is_given owner after token b ≡ is_given owner before token b
 same_given owner after before token b e =
-    ap (λ x. is_implied (stands_for_subject token Allow owner && not x) token.privileges.take_ownership token.privileges.security b) e
+    ap (λ x. is_implied (is_owner token owner && not x) token.privileges.take_ownership token.privileges.security b) e
 
 either_more : (listed given before : Bool) → (listed ≡ true → before ≡ true) → (listed || given) ≡ true → (before || given) ≡ true
 either_more true given before more h = or_left before given (more refl)
 either_more false given before more h = or_right before given h
 
--- a list that grants no more, and limits the owner alike, lets nobody in
+-- what holds in each pass still does, where each pass grants no less
+each_more : (first again free other else : Bool) → (first ≡ true → other ≡ true) → (again ≡ true → else ≡ true)
+    → (first && (free || again)) ≡ true → (other && (free || else)) ≡ true
+each_more first again true other else one two h = let parts = and_parts first true h in and_from other true (one parts.0) refl
+each_more first again false other else one two h = let parts = and_parts first again h in and_from other else (one parts.0) (two parts.1)
+
+-- a list that grants no more, whoever its entries apply to, and limits the owner alike, lets nobody in
 lets_nobody_in : (owner : Option SidValue) (g : MappingValue) (token : TokenValue) (after before : List Ace) (b : ℕ)
-    → (is_allowed_by (first g (applies token owner) after b) ≡ true → is_allowed_by (first g (applies token owner) before b) ≡ true)
+    → ((who : AceKind → SidValue → Bool) → is_allowed_by (first g who after b) ≡ true → is_allowed_by (first g who before b) ≡ true)
     → limits_owner (Some after) ≡ limits_owner (Some before)
     → is_granted owner (Some after) g token b ≡ true → is_granted owner (Some before) g token b ≡ true
 lets_nobody_in owner g token after before b more limits granted =
     let given = same_given owner (Some after) (Some before) token b limits in
-    let who = applies token owner in
-    ap (λ x. acl_grants g who (Some before) b || x) (sym given)
-    ∙ either_more (acl_grants g who (Some after) b) (is_given owner (Some after) token b) (acl_grants g who (Some before) b)
-    (λ h. let parts = and_parts (nat_lt b 21) (is_allowed_by (first g who after b)) h in and_from _ _ parts.0 (more parts.1)) granted
+    let low = λ (who : AceKind → SidValue → Bool) (h : acl_grants g who (Some after) b ≡ true).
+    let parts = and_parts (nat_lt b 21) (is_allowed_by (first g who after b)) h in
+    and_from (nat_lt b 21) (is_allowed_by (first g who before b)) parts.0 (more who parts.1) in
+    ap (λ x. is_listed owner (Some before) g token b || x) (sym given)
+    ∙ either_more (is_listed owner (Some after) g token b) (is_given owner (Some after) token b) (is_listed owner (Some before) g token b)
+    (each_more (acl_grants g (applies token owner) (Some after) b) (acl_grants g (applies_again token owner) (Some after) b) (not (is_restricted token))
+    (acl_grants g (applies token owner) (Some before) b) (acl_grants g (applies_again token owner) (Some before) b)
+    (low (applies token owner)) (low (applies_again token owner))) granted
 
 pub reordered_grants : (owner : Option SidValue) (g : MappingValue) (token : TokenValue) (after before : Option (List Ace)) (b : ℕ) → AreReordered after before
     → is_granted owner after g token b ≡ true → is_granted owner before g token b ≡ true
@@ -164,17 +174,15 @@ reordered_grants owner g token None None b r h = h
 reordered_grants owner g token None (Some before) b r h = absurd r
 reordered_grants owner g token (Some after) None b r h = absurd r
 reordered_grants owner g token (Some after) (Some before) b r h =
-    let who = applies token owner in
     let limit = λ (e : Ace). not (is_inherit_only e) && same_sid e.sid owner_rights in
     rw r.is_before (lets_nobody_in owner g token (r.front ++ canonical_order r.back) (r.front ++ r.back) b
-    (allowed_behind (decides g who b) r.front r.back)
+    (λ who. allowed_behind (decides g who b) r.front r.back)
     (list_any-append limit r.front (canonical_order r.back) ∙ ap (λ x. list_any limit r.front || x) (any_canonical limit r.back) ∙ sym (list_any-append limit r.front r.back))
     (rw r.is_after at h))
 
 pub node_grants : (owner : Option SidValue) (g : MappingValue) (token : TokenValue) (es : List Ace) (b : ℕ)
     → is_granted owner (Some (canonical_order (explicit_entries es))) g token b ≡ true → is_granted owner (Some es) g token b ≡ true
 node_grants owner g token es b =
-    let who = applies token owner in
     lets_nobody_in owner g token (canonical_order (explicit_entries es)) es b
-    (λ h. sym (explicit_allowed g who b es) ∙ allowed_before (decides g who b) (explicit_entries es) h)
+    (λ who h. sym (explicit_allowed g who b es) ∙ allowed_before (decides g who b) (explicit_entries es) h)
     (any_canonical (λ e. not (is_inherit_only e) && same_sid e.sid owner_rights) (explicit_entries es) ∙ explicit_limits es)
