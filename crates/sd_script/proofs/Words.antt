@@ -17,7 +17,7 @@ use Rattle.sd_text.specs.declared.fault.TextError.TheVariants.{Fault, Memory}
 use Rattle.sd_check.specs.declared.token.GroupState.TheVariants.{Enabled, DenyOnly, Disabled}
 use Rattle.sd_script.specs.Word.{IsWord, AreWords, IsNoWordIn, texts}
 use Rattle.sd_script.specs.declared.word.Word.{Word}
-use Rattle.sd_script.specs.declared.word.Word.TheVariants.{Group, Security, TakeOwnership}
+use Rattle.sd_script.specs.declared.word.Word.TheVariants.{Group, Restricting, Security, TakeOwnership}
 
 -- a text whose fault is told spells nothing
 pub not_spelled : {A : Type 0} (grammar : Grammar A) (text : List ℕ) (e : TextError)
@@ -34,12 +34,14 @@ is_none : (text : List ℕ)
     → ((sid : SidValue) → Spells sid_text text sid → ⊥)
     → ((front : List ℕ) (sid : SidValue) → text ≡ front ++ codes "=deny" → Spells sid_text front sid → ⊥)
     → ((front : List ℕ) (sid : SidValue) → text ≡ front ++ codes "=off" → Spells sid_text front sid → ⊥)
+    → ((front : List ℕ) (sid : SidValue) → text ≡ front ++ codes "=restrict" → Spells sid_text front sid → ⊥)
     → (word : Word) → IsWord text word → ⊥
-is_none text security take enabled deny off (Group sid Enabled) h = enabled sid h
-is_none text security take enabled deny off (Group sid DenyOnly) h = deny h.0 sid h.1 h.2
-is_none text security take enabled deny off (Group sid Disabled) h = off h.0 sid h.1 h.2
-is_none text security take enabled deny off Security h = security h
-is_none text security take enabled deny off TakeOwnership h = take h
+is_none text security take enabled deny off restrict (Group sid Enabled) h = enabled sid h
+is_none text security take enabled deny off restrict (Group sid DenyOnly) h = deny h.1.0 sid h.1.1 h.1.2
+is_none text security take enabled deny off restrict (Group sid Disabled) h = off h.1.0 sid h.1.1 h.1.2
+is_none text security take enabled deny off restrict (Restricting sid) h = restrict h.1.0 sid h.1.1 h.1.2
+is_none text security take enabled deny off restrict Security h = security h
+is_none text security take enabled deny off restrict TakeOwnership h = take h
 
 -- a text that is no group and neither privilege is no word
 pub no_word : (r : Option Word) (text : List ℕ)
@@ -47,9 +49,10 @@ pub no_word : (r : Option Word) (text : List ℕ)
     → IfNone r ((sid : SidValue) → Spells sid_text text sid → ⊥)
     → IfNone r ((front : List ℕ) (sid : SidValue) → text ≡ front ++ codes "=deny" → Spells sid_text front sid → ⊥)
     → IfNone r ((front : List ℕ) (sid : SidValue) → text ≡ front ++ codes "=off" → Spells sid_text front sid → ⊥)
+    → IfNone r ((front : List ℕ) (sid : SidValue) → text ≡ front ++ codes "=restrict" → Spells sid_text front sid → ⊥)
     → IfNone r ((word : Word) → IsWord text word → ⊥)
-no_word (Some word) text security take enabled deny off = tt
-no_word None text security take enabled deny off = λ word h. is_none text security take enabled deny off word h
+no_word (Some word) text security take enabled deny off restrict = tt
+no_word None text security take enabled deny off restrict = λ word h. is_none text security take enabled deny off restrict word h
 
 -- one word more
 AreWords-push : (front : List (Bor (List ℕ))) (words : List Word) (text : Bor (List ℕ)) (word : Word)

@@ -1,4 +1,4 @@
--- The words that make a token: a user's groups and privileges.
+-- The words that make a token: a user's groups, restricting SIDs and privileges.
 use Rattle.std.specs.Prelude.{◌≡◌, ℕ, Bool, true, false, ⊤, ◌⊎◌, List, [], ◌∷◌, ◌++◌, map, codes}
 use Rattle.std.specs.List.{list_any, flat_map}
 use Rattle.std.specs.Borrow.{Bor}
@@ -9,17 +9,22 @@ use Rattle.sd_check.specs.Token.{TokenValue}
 use Rattle.sd_check.specs.declared.token.GroupState.{GroupState}
 use Rattle.sd_check.specs.declared.token.GroupState.TheVariants.{Enabled, DenyOnly, Disabled}
 use Rattle.sd_script.specs.declared.word.Word.{Word}
-use Rattle.sd_script.specs.declared.word.Word.TheVariants.{Group, Security, TakeOwnership}
+use Rattle.sd_script.specs.declared.word.Word.TheVariants.{Group, Restricting, Security, TakeOwnership}
 
--- the text is a group in this state
+-- the text is no SID
+abbrev pub IsNoSid : List ℕ → Type 0
+IsNoSid text = (sid : SidValue) → Spells sid_text text sid → ⊥
+
+-- the text is a group in this state; it is tried as a SID first
 abbrev pub IsGroup : List ℕ → SidValue → GroupState → Type 0
 IsGroup text sid Enabled = Spells sid_text text sid
-IsGroup text sid DenyOnly = (front : List ℕ) × (text ≡ front ++ codes "=deny") × Spells sid_text front sid
-IsGroup text sid Disabled = (front : List ℕ) × (text ≡ front ++ codes "=off") × Spells sid_text front sid
+IsGroup text sid DenyOnly = IsNoSid text × ((front : List ℕ) × (text ≡ front ++ codes "=deny") × Spells sid_text front sid)
+IsGroup text sid Disabled = IsNoSid text × ((front : List ℕ) × (text ≡ front ++ codes "=off") × Spells sid_text front sid)
 
 -- the text is this word
 abbrev pub IsWord : List ℕ → Word → Type 0
 IsWord text (Group sid state) = IsGroup text sid state
+IsWord text (Restricting sid) = IsNoSid text × ((front : List ℕ) × (text ≡ front ++ codes "=restrict") × Spells sid_text front sid)
 IsWord text Security = text ≡ codes "+security"
 IsWord text TakeOwnership = text ≡ codes "+take"
 
@@ -42,19 +47,32 @@ IsNoWordIn (text ∷ texts) = ((word : Word) → IsWord text word → ⊥) ⊎ I
 -- the group that a word adds
 abbrev pub group_of : Word → List (SidValue × GroupState)
 group_of (Group sid state) = (sid, state) ∷ []
+group_of (Restricting sid) = []
 group_of Security = []
 group_of TakeOwnership = []
 
 abbrev pub groups_of : List Word → List (SidValue × GroupState)
 groups_of words = flat_map group_of words
 
+-- the restricting SID that a word adds, which is no group
+abbrev pub restricting_sid_of : Word → List SidValue
+restricting_sid_of (Group sid state) = []
+restricting_sid_of (Restricting sid) = sid ∷ []
+restricting_sid_of Security = []
+restricting_sid_of TakeOwnership = []
+
+abbrev pub restricting_of : List Word → List SidValue
+restricting_of words = flat_map restricting_sid_of words
+
 abbrev pub is_security : Word → Bool
 is_security (Group sid state) = false
+is_security (Restricting sid) = false
 is_security Security = true
 is_security TakeOwnership = false
 
 abbrev pub is_take_ownership : Word → Bool
 is_take_ownership (Group sid state) = false
+is_take_ownership (Restricting sid) = false
 is_take_ownership Security = false
 is_take_ownership TakeOwnership = true
 
@@ -63,6 +81,7 @@ abbrev pub token_of : SidValue → List Word → TokenValue
 token_of user words = record {
   user = user;
   groups = groups_of words;
+  restricting = restricting_of words;
   privileges = record { security = list_any is_security words; take_ownership = list_any is_take_ownership words };
 }
 

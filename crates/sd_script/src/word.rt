@@ -1,11 +1,11 @@
-//! The words that make a token: a user's groups and privileges.
+//! The words that make a token: a user's groups, restricting SIDs and privileges.
 ghost use Rattle.std.specs.Prelude.{◌≡◌, ◌++◌, ℕ, IfSome, IfNone, IfOk, List, codes};
 ghost use Rattle.sd_text.specs.Grammar.{Spells};
 ghost use Rattle.sd_text.specs.Sid.{sid_text};
 ghost use Rattle.sd_sid.specs.Sid.{SidValue};
 ghost use Rattle.sd_script.specs.declared.word.Word.{Word as WordValue};
 ghost use Rattle.sd_script.specs.declared.word.TokenError.TheVariants.{Memory};
-ghost use Rattle.sd_script.specs.Word.{IsWord, AreWords, IsNoWordIn, IsToken, groups_of, is_security, is_take_ownership, texts as texts_of, token_of};
+ghost use Rattle.sd_script.specs.Word.{IsWord, AreWords, IsNoWordIn, IsToken, groups_of, restricting_of, is_security, is_take_ownership, texts as texts_of, token_of};
 ghost use Rattle.std.specs.List.{list_any};
 
 use sd_check::{GroupState, Privileges, Token};
@@ -19,6 +19,8 @@ use thiserror::Error;
 pub(crate) enum Word {
     /// `SID`, `SID=deny` or `SID=off`: a group.
     Group { sid: Sid, state: GroupState },
+    /// `SID=restrict`: a restricting SID, which is no group.
+    Restricting { sid: Sid },
     /// `+security`.
     Security,
     /// `+take`.
@@ -49,7 +51,7 @@ impl Word {
 #[derive(Clone, Copy, Debug, PartialEq, Eq, Error)]
 pub enum TokenError {
     /// One of the texts is no such word.
-    #[error("a word is no group and no privilege")]
+    #[error("a word is no group, no restricting SID and no privilege")]
     NoWord,
     /// Memory was refused.
     #[error("memory was refused")]
@@ -100,12 +102,13 @@ fn read_word(text: &str) -> Option<Word>
     read_group(text)
 }
 
-/// The group that the text is.
+/// The group or the restricting SID that the text is.
 fn read_group(text: &str) -> Option<Word>
     ensures word { IfSome result (IsWord text.now) }
     ensures enabled { IfNone result ((sid : SidValue) → Spells sid_text text.now sid → ⊥) }
     ensures deny_only { IfNone result ((front : List ℕ) (sid : SidValue) → text.now ≡ front ++ codes "=deny" → Spells sid_text front sid → ⊥) }
     ensures disabled { IfNone result ((front : List ℕ) (sid : SidValue) → text.now ≡ front ++ codes "=off" → Spells sid_text front sid → ⊥) }
+    ensures restricting { IfNone result ((front : List ℕ) (sid : SidValue) → text.now ≡ front ++ codes "=restrict" → Spells sid_text front sid → ⊥) }
 {
     if let Ok(sid) = read_sid_text(text) {
         let state = GroupState::Enabled;
@@ -119,11 +122,15 @@ fn read_group(text: &str) -> Option<Word>
         let state = GroupState::Disabled;
         return Some(Word::Group { sid, state });
     }
+    if let Some(sid) = sid_before(text, "=restrict") {
+        return Some(Word::Restricting { sid });
+    }
     None
 }
 
 /// The token of a user and of these words ([MS-DTYP] 2.5.2): each is a group, `SID`, `SID=deny` (it counts for denies
-/// alone) or `SID=off` (it counts for nothing), or a privilege, `+security` or `+take`. `NoWord` where one is neither.
+/// alone) or `SID=off` (it counts for nothing), a restricting SID, `SID=restrict`, or a privilege, `+security` or `+take`.
+/// `NoWord` where one is none of these.
 pub fn read_token(alloc: Global, user: Sid, texts: &[&str]) -> Result<Token, TokenError>
     ensures token { IfOk result (λ token. IsToken user (texts_of texts.now) token) }
     ensures no_word { result ≡ Err TokenError.NoWord → IsNoWordIn (texts_of texts.now) }
@@ -152,11 +159,12 @@ fn token_of(alloc: Global, user: Sid, words: &[Word]) -> Result<Token, AllocErro
     ensures { IfOk result (λ token. token ≡ token_of user words.now) }
 {
     let groups = groups_in(alloc, words)?;
+    let restricting = restricting_in(alloc, words)?;
     let privileges = Privileges {
         security: has_security(words),
         take_ownership: has_take_ownership(words),
     };
-    Ok(Token::new(user, groups, privileges))
+    Ok(Token::restricted(user, groups, restricting, privileges))
 }
 
 fn has_security(words: &[Word]) -> bool
@@ -182,4 +190,17 @@ fn groups_in(alloc: Global, words: &[Word]) -> Result<Vec<(Sid, GroupState)>, Al
         }
     }
     Ok(groups)
+}
+
+/// The restricting SIDs among the words.
+fn restricting_in(alloc: Global, words: &[Word]) -> Result<Vec<Sid>, AllocError>
+    ensures { IfOk result (λ sids. sids.items ≡ restricting_of words.now) }
+{
+    let mut sids = Vec::new(alloc);
+    for word in words {
+        if let Word::Restricting { sid } = word {
+            sids.push(*sid)?;
+        }
+    }
+    Ok(sids)
 }
