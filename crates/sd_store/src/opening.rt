@@ -31,7 +31,7 @@ pub fn start<J: Naming, R: Wait>(
     root: &RootSpec,
     readers: u64,
 ) -> Result<(StoreWriter<J>, Vec<Checker<J>>), StartError>
-    requires history { (history.seen.book ≡ J.book) × (history.pen.nib.key ≡ J.first) }
+    requires history { (history.book ≡ J.book) × (history.first ≡ J.first) }
     requires opening { opening_of mapping.now root.now ≡ J.opening }
     ensures accepted { IfOk result (λ _. IsReaderCount readers × (root_refusal (opening_of mapping.now root.now) ≡ None)) }
     ensures count { IfOk result (λ store. vec_len store.1 ≡ readers) }

@@ -37,11 +37,11 @@ impl<J: Naming> Model for StoreWriter<J> {
     ghost use Rattle.left_right.specs.Sides.{view as client_of};
     ghost use Rattle.sd_store.specs.Marks.{edits_of};
     ghost use Rattle.sd_store.specs.Rules.{naming, IsReady};
-    ghost use Rattle.sd_store.specs.Sights.{Script, script_of, blank};
+    ghost use Rattle.sd_store.specs.Sights.{StoreState, state_of, blank};
 
-    ghost Value = { Script };
+    ghost Value = { StoreState };
 
-    ghost view = { λ w. option_map_or (λ c. script_of (client_of c.desk.place) (edits_of (drop c.behind c.log.items))) w.cell blank };
+    ghost view = { λ w. option_map_or (λ c. state_of (client_of c.desk.place) (edits_of (drop c.behind c.log.items))) w.cell blank };
 
     ghost invariant = { λ w. MatchOption w.cell ⊥ (λ c.
         IsReady (naming J.opening J.book J.first) (client_of c.desk.place) c.desk.shown.value (drop c.behind c.log.items)

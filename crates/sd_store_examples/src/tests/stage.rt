@@ -78,7 +78,7 @@ fn run_at<J: Naming + Send + Sync + 'static, R: Threads + Wait>(
     before: Vec<Ready>,
     after: Vec<Ready>,
 ) -> Option<Vec<Told>>
-    requires history { (history.seen.book ≡ J.book) × (history.pen.nib.key ≡ J.first) }
+    requires history { (history.book ≡ J.book) × (history.first ≡ J.first) }
     requires opening { opening_of mapping.now root.now ≡ J.opening }
 {
     let mut stage: Stage<J> = Stage {
