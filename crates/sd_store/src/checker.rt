@@ -21,6 +21,7 @@ use sd_history::Front;
 use sd_share::Answer;
 use sd_sid::Mask;
 use sd_tree::{Edit, Path};
+use std::fmt;
 use std::marker::Model;
 
 /// A reader of a store. Contracts see its view, the journal and the marks that it found last, and its floor, the
@@ -61,6 +62,15 @@ impl<J: Naming> Model for Checker<J> {
         × (c.seen ≡ length (items_from J.first c.front.log))
         × (c.front.book ≡ J.book)
         × IsLawful J.opening (items_from J.first c.front.log) };
+}
+
+/// Shows the length of what it has seen.
+impl<J: Naming> fmt::Debug for Checker<J> {
+    fn fmt<W: fmt::Write>(&self, f: &mut fmt::Formatter<W>) -> fmt::Result {
+        f.debug_struct("Checker")
+            .field("seen", &self.seen)
+            .finish_non_exhaustive()
+    }
 }
 
 impl<J: Naming> Checker<J> {
