@@ -46,6 +46,12 @@ Appends s v found w = (k : ℕ) → end_of k v.0 ≡ s.ask.own → (items_from k
 abbrev pub Comparable : {T : Type 0} → List T → List T → Type 0
 Comparable xs ys = IsPrefix xs ys ⊎ IsPrefix ys xs
 
+-- which history it is that was opened, by its book and the pen that begins it, and its edits so far
+pub record Origin (T : Type 0) : Type 0 where
+  pub book : Book
+  pub first : ℕ
+  pub items : List T
+
 -- what a front has seen: of which book, and how much of its log
 pub record Sighting (T : Type 0) : Type 0 where
   pub book : Book

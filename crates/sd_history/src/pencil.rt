@@ -12,21 +12,34 @@ use logbook::{Offer, Pen, Seen, Start, Word};
 use std::marker::{Model, PhantomData};
 use std::snapshot::Snapshot;
 
-/// An empty history that has no name yet. It takes no memory.
+/// An empty history that has no name yet. It takes no memory. Contracts see which one it is: its book and the pen that
+/// begins it.
 #[derive(Drop)]
 pub struct Opened<T> {
     head: Word<Entry<T>, u64, Chained>,
     seen: Seen<Entry<T>, u64, Chained>,
     pen: Pen,
-    pub ghost empty: { seen.log ≡ [] },
-    pub ghost head_is: { head ≡ head_of seen.book },
-    pub ghost writes: { (pen.book ≡ seen.book) × (pen.nib.right ≡ may_write) },
+}
+
+impl<T> Model for Opened<T> {
+    ghost use Rattle.std.specs.Prelude.{◌≡◌, []};
+    ghost use Rattle.logbook.specs.Pages.{may_write};
+    ghost use Rattle.sd_history.specs.Chains.{Origin, items_from, head_of};
+
+    ghost Value = { Origin T };
+
+    ghost view = { λ o. record { book = o.seen.book; first = o.pen.nib.key; items = items_from o.pen.nib.key o.seen.log } };
+
+    ghost invariant = { λ o. (o.head ≡ head_of o.seen.book)
+        × (o.seen.log ≡ [])
+        × (o.pen.book ≡ o.seen.book)
+        × (o.pen.nib.right ≡ may_write) };
 }
 
 impl<T> Opened<T> {
     /// A history with no edit.
     pub fn new() -> Opened<T>
-        ensures { result.seen.log ≡ [] }
+        ensures { result.items ≡ [] }
     {
         let (seen, mut first, _second) = Seen::open(Start::alone(), 0, 0);
         let head = Word::tracked(0, &mut first);
@@ -36,7 +49,7 @@ impl<T> Opened<T> {
 
     /// The pencil that writes this history, under the name that the caller picked for it.
     pub fn named<J: Chain>(self) -> Pencil<T, J>
-        requires { (self.seen.book ≡ J.book) × (self.pen.nib.key ≡ J.first) }
+        requires { (self.book ≡ J.book) × (self.first ≡ J.first) }
         ensures { result ≡ [] }
     {
         let Opened { head, seen, pen } = self;
@@ -67,7 +80,11 @@ impl<T, J: Chain> Model for Pencil<T, J> {
 
     ghost view = { λ p. items_from J.first p.seen.log };
 
-    ghost invariant = { λ p. (p.head ≡ head_of J.book) × (p.seen.book ≡ J.book) × (p.pen.book ≡ J.book) × (p.pen.nib.right ≡ may_write) × (end_of J.first p.seen.log ≡ p.pen.nib.key) };
+    ghost invariant = { λ p. (p.head ≡ head_of J.book)
+        × (p.seen.book ≡ J.book)
+        × (p.pen.book ≡ J.book)
+        × (p.pen.nib.right ≡ may_write)
+        × (end_of J.first p.seen.log ≡ p.pen.nib.key) };
 }
 
 impl<T, J: Chain> Pencil<T, J> {

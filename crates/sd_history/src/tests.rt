@@ -3,25 +3,25 @@ ghost use Rattle.sd_history.specs.Chains.{items_from, Comparable};
 
 use super::*;
 use std::marker::Brand;
-use std::mem::size_of;
+use std::mem::{size_of, size_of_val};
 use std::process::Abort;
+use std::sync::atomic::{AtomicBool, Ordering};
 use std::test::*;
-use std::thread::{Threads, join};
+use std::thread::{Threads, join, yield_now};
 
+/// What the fronts have seen is in the clauses of `written`; at run time they cost nothing, and their pencil one word.
 #[test]
-fn fronts_have_no_bytes(rt: HostRuntime) {
-    assert_eq!(rt; size_of::<Front<u64>>(), 0);
-}
-
-/// The history is told from the fronts alone, so the check of this test is in its clauses.
-#[test]
-fn fronts_of_two_edits(_rt: HostRuntime) {
-    let _fronts = written::<Brand>(Opened::new(), 5, 7);
+fn fronts_of_two_edits(rt: HostRuntime) {
+    let (empty, one, both) = written::<Brand>(Opened::new(), 5, 7);
+    for front in [empty, one, both] {
+        assert_eq!(rt; size_of_val(&front), 0);
+    }
+    assert_eq!(rt; size_of::<Pencil<u64, Brand>>(), size_of::<u64>());
 }
 
 #[test]
 fn fronts_meet_in_another_thread(rt: HostRuntime) {
-    shared::<Brand, _>(&rt, Opened::new());
+    assert!(rt; is_shared::<Brand, _>(&rt, Opened::new()));
 }
 
 /// The fronts of a new history, of it with one edit, and of it with both.
@@ -30,7 +30,7 @@ fn written<J: Chain>(
     first: u64,
     second: u64,
 ) -> (Front<u64>, Front<u64>, Front<u64>)
-    requires { (history.seen.book ≡ J.book) × (history.pen.nib.key ≡ J.first) }
+    requires { (history.book ≡ J.book) × (history.first ≡ J.first) }
     ensures empty { items_from J.first result.0.log ≡ [] }
     ensures one { items_from J.first result.1.log ≡ first ∷ [] }
     ensures both { items_from J.first result.2.log ≡ first ∷ second ∷ [] }
@@ -46,24 +46,47 @@ fn written<J: Chain>(
     (empty, one, both)
 }
 
-/// One thread has the pencil and writes on, while another one copies a front that both know of.
-fn shared<J: Chain + Send + Sync, R: Threads + Abort + Sync>(rt: &R, history: Opened<u64>)
-    requires { (history.seen.book ≡ J.book) × (history.pen.nib.key ≡ J.first) }
+/// One thread has the pencil and writes on, while another one waits for that, and copies a front that both know of.
+/// Whether it came to the copy.
+fn is_shared<J: Chain + Send + Sync, R: Threads + Abort + Sync>(
+    rt: &R,
+    history: Opened<u64>,
+) -> bool
+    requires { (history.book ≡ J.book) × (history.first ≡ J.first) }
 {
     let mut pencil = history.named::<J>();
     pencil.write(&1);
     let early = pencil.front();
+    let written = AtomicBool::new(false);
     let (late, copy) = join(
         rt,
-        move || -> Front<u64>
+        || -> Front<u64>
             ensures { result.book ≡ J.book }
         {
             pencil.write(&2);
+            written.store(true, Ordering::SeqCst);
             pencil.front()
         },
-        || -> Front<u64>
-            ensures { result ≡ early }
-        { early.again() },
+        || -> (Front<u64>, bool)
+            ensures { result.0 ≡ early }
+        {
+            let is_written = is_set_soon(&written);
+            (early.again(), is_written)
+        },
     );
-    late.meet(&copy);
+    late.meet(&copy.0);
+    copy.1
+}
+
+const TURNS: u64 = 1_000_000;
+
+/// Whether the flag is set within so many turns, each of which lets other threads go first.
+fn is_set_soon(flag: &AtomicBool) -> bool {
+    for _ in 0..TURNS {
+        if flag.load(Ordering::SeqCst) {
+            return true;
+        }
+        yield_now();
+    }
+    false
 }

@@ -9,7 +9,7 @@ use Rattle.sd_tree.specs.declared.edit.Edit.{Edit}
 use Rattle.sd_tree.specs.declared.opening.Opening.{Opening}
 use Rattle.sd_share.specs.declared.request.Answer.{Answer}
 use Rattle.sd_store.specs.Audits.{AreAnswers, HaveGrown, reply_by}
-use Rattle.sd_store.specs.Sights.{Script, Sight}
+use Rattle.sd_store.specs.Sights.{Sight, StoreState}
 use Rattle.sd_store.specs.declared.query.Query.{Query}
 use Rattle.sd_store.proofs.Dealing.{nobody}
 use Rattle.sd_script.specs.Audit.{answer_line, IsEnd}
@@ -48,7 +48,7 @@ module _ (o : Opening) (journal : List Edit) where
       (ap (λ n. take n new.floor) (seen j d within) ∙ take_begun journal new.floor told))
 
   -- what is printed behind the last line is the end
-  pub closing_is : (w : Script) (readers : ℕ) (queries : List Query) (olds news : List Sight) (answers : List Answer) (out now new : List ℕ) (seen : ℕ)
+  pub closing_is : (w : StoreState) (readers : ℕ) (queries : List Query) (olds news : List Sight) (answers : List Answer) (out now new : List ℕ) (seen : ℕ)
       → journal ≡ w.journal ++ w.pending → seen ≡ length journal → now ≡ out ++ closing_lines w → new ≡ now ++ given_lines seen answers
       → All (λ given. given.seen ≡ seen) answers → 0 < length olds
       → HaveGrown o (length queries) journal olds news → AreAnswers o queries journal olds news answers → length answers ≡ length queries

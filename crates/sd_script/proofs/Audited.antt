@@ -10,7 +10,7 @@ use Rattle.sd_share.specs.Starts.{IsStartError}
 use Rattle.sd_share.specs.declared.start.StartError.{StartError}
 use Rattle.sd_share.specs.declared.start.StartError.TheVariants.{Readers, Root, Memory, Place}
 use Rattle.sd_store.specs.Errors.{IsStoreError}
-use Rattle.sd_store.specs.Sights.{Script}
+use Rattle.sd_store.specs.Sights.{StoreState}
 use Rattle.sd_script.specs.Audit.{Hearing, IsHeard, IsAnswered, AreAnswered, unopened}
 use Rattle.sd_script.specs.Auditing.{IsHeld, OpensStore, machine_of}
 use Rattle.sd_script.specs.Command.{line_asks}
@@ -62,7 +62,7 @@ module _ (whole : List ℕ → Type 0) (workers : ℕ) where
       (rw (opens.0) (inl (Opens workers root, opens.1, (held.1, refl)))) (held.2 ∙ ap (λ xs. xs ++ held.0) same)
 
 -- a writer that has just started stands for a machine that has
-pub machine_started : (o own : Opening) (n : ℕ) (w : Script) → o ≡ own → w.journal ≡ [] → w.pending ≡ [] → Some (machine_of own n w) ≡ Some (started o n)
+pub machine_started : (o own : Opening) (n : ℕ) (w : StoreState) → o ≡ own → w.journal ≡ [] → w.pending ≡ [] → Some (machine_of own n w) ≡ Some (started o n)
 machine_started o own n w is journal pending = rw (is, journal, pending) refl
 
 -- an error with a line is one of a store of one thread

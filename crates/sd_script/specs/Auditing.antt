@@ -8,7 +8,7 @@ use Rattle.sd_share.specs.Machine.{Machine}
 use Rattle.sd_share.specs.declared.request.Answer.{Answer}
 use Rattle.sd_share.specs.declared.request.Request.{Request}
 use Rattle.sd_share.specs.declared.request.Request.TheVariants as requests
-use Rattle.sd_store.specs.Sights.{Script}
+use Rattle.sd_store.specs.Sights.{StoreState}
 use Rattle.sd_store.specs.declared.query.Query.{Query}
 use Rattle.sd_script.specs.Audit.{Hearing, AreAnswered, last_publish}
 use Rattle.sd_script.specs.Command.{line_asks}
@@ -19,10 +19,10 @@ use Rattle.sd_script.specs.declared.asked.Asked.TheVariants.{Opening as Opens}
 use Rattle.sd_script.specs.declared.mode.Mode.TheVariants.{Audit}
 
 -- the machine of a writer, whose readers have seen nothing
-abbrev pub machine_of : Opening → ℕ → Script → Machine
+abbrev pub machine_of : Opening → ℕ → StoreState → Machine
 machine_of opening readers writer = record { opening = opening; published = writer.journal; pending = writer.pending; floors = replicate readers [] }
 
-abbrev pub hearing : Opening → ℕ → Script → List Query → Hearing
+abbrev pub hearing : Opening → ℕ → StoreState → List Query → Hearing
 hearing opening readers writer queries = record { store = Some (machine_of opening readers writer); queries = queries }
 
 -- a request that a line of an audit can make
@@ -49,7 +49,7 @@ IsHeld workers root behind false old new =
     (first : List ℕ) × IsOpened workers root first None × (new ≡ old ++ first)
 
 -- what the last publish and the notice print
-abbrev pub closing_lines : Script → List ℕ
+abbrev pub closing_lines : StoreState → List ℕ
 closing_lines writer =
     last_publish writer.pending (length (writer.journal ++ writer.pending)) ++ counted_line (codes "told") (length (writer.journal ++ writer.pending))
 

@@ -98,7 +98,7 @@ fn held<J: Naming + Send + Sync, T: Threads + Wait + Sync, G: Gate + Sync>(
     gate: &G,
     printed: &mut Vec<u8>,
 ) -> Result<bool, RunError>
-    requires history { (history.seen.book ≡ J.book) × (history.pen.nib.key ≡ J.first) }
+    requires history { (history.book ≡ J.book) × (history.first ≡ J.first) }
     requires opening { opening_with root.now ≡ J.opening }
     ensures held { IfOk result (λ is_open. IsHeld workers root.now behind.now is_open printed.old.items printed.new.items) }
     ensures failed { IfErr result (λ e. (e ≡ RunError.Memory) ⊎ (e ≡ RunError.Thread)) }

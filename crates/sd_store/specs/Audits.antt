@@ -35,7 +35,8 @@ pub record IsAnswer (opening : Opening) (checker : Sight) (query : Query) (given
 abbrev pub AreAnswers : Opening → List Query → List Edit → List Sight → List Sight → List Answer → Type 0
 AreAnswers opening queries journal olds news answers =
     (j : ℕ) (d : Answer) (e : Sight) (q : Query) → j < length answers
-    → IsAnswer opening (slice_index_or news (j % length olds) e) (slice_index_or queries j q) (slice_index_or answers j d)
+    → IsAnswer opening (slice_index_or news (j % length olds) e) (slice_index_or queries j q)
+        (slice_index_or answers j d)
     × (length (longer (slice_index_or olds (j % length olds) e).floor journal) ≤ (slice_index_or answers j d).seen)
     × (length olds ≤ j → (slice_index_or answers (j - length olds) d).seen ≤ (slice_index_or answers j d).seen)
 

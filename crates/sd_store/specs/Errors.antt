@@ -1,5 +1,5 @@
 -- Why a call on a store fails.
-use Rattle.std.specs.Prelude.{◌≡◌, ℕ, Option, Some}
+use Rattle.std.specs.Prelude.{◌≡◌, ℕ, Option, None, Some}
 use Rattle.sd_tree.specs.declared.refusal.EditRefusal.{EditRefusal}
 use Rattle.sd_tree.specs.declared.refusal.TreeError.{TreeError}
 use Rattle.sd_tree.specs.declared.refusal.TreeError.TheVariants as tree
@@ -24,9 +24,9 @@ abbrev pub edit_error_of : TreeError → EditError
 edit_error_of (tree.Refused refusal) = edit.Refused refusal
 edit_error_of tree.Memory = edit.Memory
 
--- why a store of threads didn't start: as a desk, or the shared cell gave no place for a reader
+-- why a store of threads didn't start: as a desk, or, where nothing refuses it, the shared cell gave no place for a reader
 abbrev pub IsStoreError : StartError → ℕ → Option EditRefusal → Type 0
-IsStoreError Place readers due = IsReaderCount readers
+IsStoreError Place readers due = IsReaderCount readers × (due ≡ None)
 IsStoreError Readers readers due = IsStartError Readers readers due
 IsStoreError (Root refusal) readers due = IsStartError (Root refusal) readers due
 IsStoreError Memory readers due = IsStartError Memory readers due

@@ -15,10 +15,11 @@ last_of (x ∷ y ∷ ys) = last_of (y ∷ ys)
 
 -- an edit that opens a publish adds a mark, as does a publish of nothing; each further edit moves the last mark
 abbrev pub marked : Facts → Operation → Facts
-marked s (Add edit true) = record { opening = s.opening; journal = s.journal ++ edit ∷ []; marks = s.marks ++ (length s.journal + 1) ∷ []; seen = s.seen }
-marked s (Add edit false) = record { opening = s.opening; journal = s.journal ++ edit ∷ []; marks = slice_set s.marks (length s.marks - 1) (length s.journal + 1); seen = s.seen }
-marked s Open = record { opening = s.opening; journal = s.journal; marks = s.marks ++ length s.journal ∷ []; seen = s.seen }
-marked s (Show front) = record { opening = s.opening; journal = s.journal; marks = s.marks; seen = front }
+marked s (Add edit true) = record s { journal = s.journal ++ edit ∷ []; marks = s.marks ++ (length s.journal + 1) ∷ [] }
+marked s (Add edit false) =
+    record s { journal = s.journal ++ edit ∷ []; marks = slice_set s.marks (length s.marks - 1) (length s.journal + 1) }
+marked s Open = record s { marks = s.marks ++ length s.journal ∷ [] }
+marked s (Show front) = record s { seen = front }
 
 -- the edits among the operations, in order
 abbrev pub edits_of : List Operation → List Edit

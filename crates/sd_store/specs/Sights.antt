@@ -1,5 +1,5 @@
 -- What contracts see of a writer and of a checker.
-use Rattle.std.specs.Prelude.{ℕ, List, [], Option}
+use Rattle.std.specs.Prelude.{◌≡◌, ℕ, ◌<◌, ◌⊎◌, List, [], length, Option}
 use Rattle.sd_tree.specs.declared.edit.Edit.{Edit}
 use Rattle.sd_share.specs.declared.request.Answer.{Answer}
 use Rattle.sd_store.specs.declared.error.AuditError.{AuditError}
@@ -12,16 +12,21 @@ pub record Sight : Type 0 where
   pub drawn : List Answer
   pub failed : Option AuditError
 
--- a writer: the published journal and its marks, and the edits that wait
-pub record Script : Type 0 where
+-- a look that gave no answer: nothing was read, or what was found is shorter than the floor, which stays
+pub record IsGone (old new : Sight) : Type 0 where
+  pub floor : new.floor ≡ old.floor
+  pub looked : (new.view ≡ old.view) ⊎ (length new.view.journal < length old.floor)
+
+-- a store, as its writer has it: the published journal and its marks, and the edits that wait
+pub record StoreState : Type 0 where
   pub journal : List Edit
   pub marks : List ℕ
   pub pending : List Edit
 
-abbrev pub script_of : View → List Edit → Script
-script_of v pending = record { journal = v.journal; marks = v.marks; pending = pending }
+abbrev pub state_of : View → List Edit → StoreState
+state_of v pending = record { journal = v.journal; marks = v.marks; pending = pending }
 
-abbrev pub blank : Script
+abbrev pub blank : StoreState
 blank = record { journal = []; marks = []; pending = [] }
 
 -- a notice: the journal that was published when it was told, and its marks

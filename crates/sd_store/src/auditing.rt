@@ -1,6 +1,6 @@
 //! A report over a store that goes on being edited: many queries, dealt among the checkers.
 
-ghost use Rattle.std.specs.Prelude.{◌≡◌, ◌<◌, ◌≤◌, length, vec_len, IfOk, IfErr};
+ghost use Rattle.std.specs.Prelude.{◌≡◌, ◌^◌, ◌<◌, length, vec_len, IfOk, IfErr};
 ghost use Rattle.sd_store.specs.Audits.{AreAnswers, HaveGrown};
 ghost use Rattle.sd_store.specs.Workers.{AreDone, AreInformed, IsDone};
 ghost use Rattle.sd_store.specs.declared.error.AuditError.TheVariants as failed;
@@ -30,11 +30,12 @@ pub fn audit<J: Naming + Send + Sync, G: Gate + Sync, R: Threads + Sync>(
     queries: &[Query],
     gate: &G,
 ) -> Result<Vec<Answer>, AuditError>
-    requires some { (0 < length checkers.old) × (length checkers.old ≤ 64) }
+    requires some { 0 < length checkers.old }
     ensures notice { notice.new ≡ notice.old }
     ensures grown { HaveGrown J.opening (length queries.now) notice.old.journal checkers.old checkers.new }
     ensures count { IfOk result (λ answers. vec_len answers ≡ length queries.now) }
-    ensures answers { IfOk result (λ answers. AreAnswers J.opening queries.now notice.old.journal checkers.old checkers.new answers.items) }
+    ensures answers { IfOk result (λ answers. AreAnswers J.opening queries.now notice.old.journal
+        checkers.old checkers.new answers.items) }
     ensures gate { IfErr result (λ e. e ≡ failed.Gate → ¬ G.always) }
 {
     inform(checkers, notice);
@@ -64,7 +65,7 @@ fn spread<J: Naming + Send + Sync, G: Gate + Sync, R: Threads + Sync>(
     queries: &[Query],
     gate: &G,
 )
-    requires some { (0 < length checkers.old) × (length checkers.old ≤ 64) }
+    requires some { 0 < length checkers.old }
     ensures count { length checkers.new ≡ length checkers.old }
     ensures done { AreDone J.opening G.always queries.now (length checkers.old) checkers.old checkers.new }
 {
@@ -74,7 +75,7 @@ fn spread<J: Naming + Send + Sync, G: Gate + Sync, R: Threads + Sync>(
         checkers,
         step,
         &|worker, checker: &mut Checker<J>|
-            requires { (0 < step) × (step ≤ 64) × (worker < step) }
+            requires { (worker < step) × (step < 2 ^ 63) }
             ensures { IsDone J.opening G.always queries.entry.now step worker checker.entry.now checker.exit.now }
         { work(alloc, worker, step, queries, gate, checker) },
     );

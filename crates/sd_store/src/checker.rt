@@ -1,6 +1,6 @@
 //! The readers of a store.
 
-ghost use Rattle.std.specs.Prelude.{◌≡◌, length, OnOk, OnErr, IfOk, MatchResult, option_map};
+ghost use Rattle.std.specs.Prelude.{◌≡◌, ◌<◌, length, OnOk, OnErr, IfOk, IfErr, option_map};
 ghost use mathlib.Core.List.{IsPrefix};
 ghost use Rattle.sd_acl.specs.Descriptor.{descriptor_of};
 ghost use Rattle.sd_history.specs.Chains.{items_from};
@@ -8,6 +8,8 @@ ghost use Rattle.sd_tree.specs.Answers.{answer, descriptor_at};
 ghost use Rattle.sd_tree.specs.Journal.{replay, IsLawful};
 ghost use Rattle.sd_share.specs.Machine.{longer};
 ghost use Rattle.sd_store.specs.Marks.{last_of};
+ghost use Rattle.sd_store.specs.Sights.{IsGone};
+ghost use Rattle.sd_store.specs.declared.error.ShowError.TheVariants as show;
 
 use crate::error::{AuditError, Gone, ShowError};
 use crate::naming::Naming;
@@ -19,6 +21,7 @@ use sd_history::Front;
 use sd_share::Answer;
 use sd_sid::Mask;
 use sd_tree::{Edit, Path};
+use std::fmt;
 use std::marker::Model;
 
 /// A reader of a store. Contracts see its view, the journal and the marks that it found last, and its floor, the
@@ -48,12 +51,26 @@ impl<J: Naming> Model for Checker<J> {
 
     ghost Value = { Sight };
 
-    ghost view = { λ c. record { view = option_map_or (λ r. client_of r.place) c.seat newcomer; floor = items_from J.first c.front.log; drawn = c.drawn.items; failed = c.failed } };
+    ghost view = { λ c. record {
+      view = option_map_or (λ r. client_of r.place) c.seat newcomer;
+      floor = items_from J.first c.front.log;
+      drawn = c.drawn.items;
+      failed = c.failed;
+    } };
 
     ghost invariant = { λ c. IsSome c.seat
         × (c.seen ≡ length (items_from J.first c.front.log))
         × (c.front.book ≡ J.book)
         × IsLawful J.opening (items_from J.first c.front.log) };
+}
+
+/// Shows the length of what it has seen.
+impl<J: Naming> fmt::Debug for Checker<J> {
+    fn fmt<W: fmt::Write>(&self, f: &mut fmt::Formatter<W>) -> fmt::Result {
+        f.debug_struct("Checker")
+            .field("seen", &self.seen)
+            .finish_non_exhaustive()
+    }
 }
 
 impl<J: Naming> Checker<J> {
@@ -63,11 +80,13 @@ impl<J: Naming> Checker<J> {
     pub fn check(&mut self, path: &Path, token: &Token, asked: Mask) -> Result<Answer, Gone>
         ensures floor { OnOk result (self.new.floor ≡ self.new.view.journal) }
         ensures extends { OnOk result (IsPrefix self.old.floor self.new.floor) }
-        ensures views { OnOk result (IsPrefix self.old.view.journal self.new.view.journal × IsPrefix self.old.view.marks self.new.view.marks) }
+        ensures views { OnOk result (IsPrefix self.old.view.journal self.new.view.journal
+            × IsPrefix self.old.view.marks self.new.view.marks) }
         ensures lawful { OnOk result (IsLawful J.opening self.new.floor) }
-        ensures seen { IfOk result (λ a. (a.seen ≡ length self.new.floor) × (a.seen ≡ last_of self.new.view.marks)) }
+        ensures seen { IfOk result (λ a. (a.seen ≡ length self.new.floor)
+            × (a.seen ≡ last_of self.new.view.marks)) }
         ensures reply { IfOk result (λ a. a.reply ≡ answer J.opening self.new.floor path.now token.now asked) }
-        ensures gone { OnErr result (self.new.floor ≡ self.old.floor) }
+        ensures gone { OnErr result (IsGone self.old self.new) }
     {
         let Some(seat) = self.seat.take() else {
             unreachable!()
@@ -94,11 +113,15 @@ impl<J: Naming> Checker<J> {
     pub fn descriptor(&mut self, path: &Path) -> Result<(u64, Option<Descriptor>), ShowError>
         ensures floor { OnOk result (self.new.floor ≡ self.new.view.journal) }
         ensures extends { OnOk result (IsPrefix self.old.floor self.new.floor) }
-        ensures views { OnOk result (IsPrefix self.old.view.journal self.new.view.journal × IsPrefix self.old.view.marks self.new.view.marks) }
+        ensures views { OnOk result (IsPrefix self.old.view.journal self.new.view.journal
+            × IsPrefix self.old.view.marks self.new.view.marks) }
         ensures lawful { OnOk result (IsLawful J.opening self.new.floor) }
-        ensures seen { IfOk result (λ r. (r.0 ≡ length self.new.floor) × (r.0 ≡ last_of self.new.view.marks)) }
-        ensures shown { IfOk result (λ r. option_map descriptor_of r.1 ≡ descriptor_at J.opening.mapping (replay J.opening self.new.floor) path.now) }
+        ensures seen { IfOk result (λ r. (r.0 ≡ length self.new.floor)
+            × (r.0 ≡ last_of self.new.view.marks)) }
+        ensures shown { IfOk result (λ r. option_map descriptor_of r.1
+            ≡ descriptor_at J.opening.mapping (replay J.opening self.new.floor) path.now) }
         ensures failed { OnErr result (self.new.floor ≡ self.old.floor) }
+        ensures gone { IfErr result (λ e. e ≡ show.Gone → IsGone self.old self.new) }
     {
         let Some(seat) = self.seat.take() else {
             unreachable!()
@@ -161,8 +184,10 @@ fn raise<J: Naming>(
     requires book { found.book ≡ floor.old.book }
     requires seen { seen.old ≡ length (items_from J.first floor.old.log) }
     requires len { len ≡ length (items_from J.first found.log) }
-    ensures raised { OnOk result ((floor.new ≡ found) × (seen.new ≡ len) × IsPrefix (items_from J.first floor.old.log) (items_from J.first found.log)) }
-    ensures gone { OnErr result ((floor.new ≡ floor.old) × (seen.new ≡ seen.old)) }
+    ensures raised { OnOk result ((floor.new ≡ found)
+        × (seen.new ≡ len)
+        × IsPrefix (items_from J.first floor.old.log) (items_from J.first found.log)) }
+    ensures gone { OnErr result ((floor.new ≡ floor.old) × (seen.new ≡ seen.old) × (len < seen.old)) }
 {
     floor.meet(&found);
     if len < *seen {

@@ -1,6 +1,6 @@
 //! One worker's part of an audit.
 
-ghost use Rattle.std.specs.Prelude.{◌≡◌, ◌+◌, ◌*◌, ◌<◌, ◌≤◌, [], length, None, Some, OnOk, OnErr, IfOk, IfErr};
+ghost use Rattle.std.specs.Prelude.{◌≡◌, ◌+◌, ◌*◌, ◌^◌, ◌<◌, ◌≤◌, [], length, None, Some, OnOk, OnErr, IfOk, IfErr};
 ghost use mathlib.Core.List.{IsPrefix};
 ghost use Rattle.sd_tree.specs.Journal.{IsLawful};
 ghost use Rattle.sd_store.specs.Workers.{IsAnswered, IsDrawn, IsFurther, IsDone};
@@ -23,7 +23,7 @@ pub(crate) fn work<J: Naming, G: Gate>(
     gate: &G,
     checker: &mut Checker<J>,
 )
-    requires { (0 < step) × (step ≤ 64) × (worker < step) }
+    requires { (worker < step) × (step < 2 ^ 63) }
     ensures { IsDone J.opening G.always queries.now step worker checker.old checker.new }
 {
     match draw(alloc, worker, step, queries, gate, checker) {
@@ -41,9 +41,10 @@ fn draw<J: Naming, G: Gate>(
     gate: &G,
     checker: &mut Checker<J>,
 ) -> Result<Vec<Answer>, AuditError>
-    requires { (0 < step) × (step ≤ 64) × (worker < step) }
+    requires { (worker < step) × (step < 2 ^ 63) }
     ensures further { IsFurther J.opening (length queries.now) worker checker.old checker.new }
-    ensures drawn { IfOk result (λ answers. IsDrawn J.opening checker.new (length checker.old.floor) worker step queries.now answers.items) }
+    ensures drawn { IfOk result (λ answers. IsDrawn J.opening checker.new (length checker.old.floor) worker step
+        queries.now answers.items) }
     ensures all { IfOk result (λ answers. length queries.now ≤ worker + length answers.items * step) }
     ensures gate { IfErr result (λ e. e ≡ audit.Gate → ¬ G.always) }
 {
@@ -61,10 +62,11 @@ fn fill<J: Naming, G: Gate>(
     checker: &mut Checker<J>,
     answers: &mut Vec<Answer>,
 ) -> Result<(), AuditError>
-    requires dealt { (0 < step) × (step ≤ 64) × (worker < step) }
+    requires dealt { (worker < step) × (step < 2 ^ 63) }
     requires empty { answers.old.items ≡ [] }
     ensures further { IsFurther J.opening (length queries.now) worker checker.old checker.new }
-    ensures drawn { OnOk result (IsDrawn J.opening checker.new (length checker.old.floor) worker step queries.now answers.new.items) }
+    ensures drawn { OnOk result (IsDrawn J.opening checker.new (length checker.old.floor) worker step
+        queries.now answers.new.items) }
     ensures all { OnOk result (length queries.now ≤ worker + length answers.new.items * step) }
     ensures gate { IfErr result (λ e. e ≡ audit.Gate → ¬ G.always) }
 {

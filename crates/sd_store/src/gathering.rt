@@ -1,6 +1,7 @@
 //! What the workers of an audit left, put together.
 
-ghost use Rattle.std.specs.Prelude.{◌≡◌, ◌+◌, ◌*◌, ◌<◌, ◌≤◌, ℕ, None, Some, length, vec_len, slice_index_or, IfOk, IfErr, MatchOption};
+ghost use Rattle.std.specs.Prelude.{◌≡◌, ◌+◌, ◌*◌, ◌<◌, ◌≤◌, ℕ, None, Some, length, vec_len, slice_index_or};
+ghost use Rattle.std.specs.Prelude.{IfOk, IfErr, MatchOption};
 ghost use Rattle.sd_store.specs.Sights.{Sight};
 ghost use Rattle.sd_store.specs.Workers.{IsDealt};
 ghost use Rattle.sd_store.specs.declared.error.AuditError.TheVariants.{Memory};
@@ -32,7 +33,8 @@ pub(crate) fn gathered<J: Naming>(
     count: usize,
 ) -> Result<Vec<Answer>, AuditError>
     requires some { 0 < length checkers.now }
-    requires enough { (i : ℕ) (d : Sight) → i < length checkers.now → count ≤ i + length (slice_index_or checkers.now i d).drawn * length checkers.now }
+    requires enough { (i : ℕ) (d : Sight) → i < length checkers.now
+        → count ≤ i + length (slice_index_or checkers.now i d).drawn * length checkers.now }
     ensures count { IfOk result (λ answers. vec_len answers ≡ count) }
     ensures dealt { IfOk result (λ answers. IsDealt checkers.now answers.items) }
     ensures memory { IfErr result (λ e. e ≡ Memory) }

@@ -5,13 +5,17 @@
 //!
 //! ```text
 //! let (mut writer, mut checkers) = start(&rt, alloc, Opened::new(), &mapping, &root, 2)?;
+//! let answer = asked(&rt, &mut writer, &mut checkers[0]);
+//! writer.end(&rt);
+//!
+//! // in `asked`, whose `?` leads back to where the writer is ended:
 //! writer.edit(&edit)?;
 //! writer.publish(&rt)?;
-//! let mut notice = writer.tell();
-//! checkers[0].learn(&mut notice);
-//! let answer = checkers[0].check(&path, &token, Mask(0x1))?;
-//! writer.end(&rt);
+//! checker.learn(&mut writer.tell());
+//! let answer = checker.check(&path, &token, Mask(0x1))?;
 //! ```
+//!
+//! `crates/sd_store_client` is such a client, proved.
 #![tactic(auto)]
 
 mod auditing;

@@ -7,6 +7,7 @@ use crate::naming::Naming;
 use boxcar::tag::{Names, Tag};
 use sd_history::Front;
 use sd_tree::Edit;
+use std::fmt;
 use std::marker::{Model, PhantomData};
 
 /// A publish that readers may learn of, on any thread and any number of times. Contracts see the journal that was then
@@ -46,7 +47,18 @@ impl<J: Naming> Model for Notice<J> {
 
     ghost view = { λ n. record { journal = items_from J.first n.front.log; marks = n.marks.numbers } };
 
-    ghost invariant = { λ n. (n.len ≡ length (items_from J.first n.front.log)) × (n.front.book ≡ J.book) × IsLawful J.opening (items_from J.first n.front.log) };
+    ghost invariant = { λ n. (n.len ≡ length (items_from J.first n.front.log))
+        × (n.front.book ≡ J.book)
+        × IsLawful J.opening (items_from J.first n.front.log) };
+}
+
+/// Shows the length of the journal that it tells of.
+impl<J: Naming> fmt::Debug for Notice<J> {
+    fn fmt<W: fmt::Write>(&self, f: &mut fmt::Formatter<W>) -> fmt::Result {
+        f.debug_struct("Notice")
+            .field("length", &self.len)
+            .finish_non_exhaustive()
+    }
 }
 
 impl<J: Naming> Notice<J> {

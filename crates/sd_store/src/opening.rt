@@ -31,12 +31,14 @@ pub fn start<J: Naming, R: Wait>(
     root: &RootSpec,
     readers: u64,
 ) -> Result<(StoreWriter<J>, Vec<Checker<J>>), StartError>
-    requires history { (history.seen.book ≡ J.book) × (history.pen.nib.key ≡ J.first) }
+    requires history { (history.book ≡ J.book) × (history.first ≡ J.first) }
     requires opening { opening_of mapping.now root.now ≡ J.opening }
-    ensures accepted { IfOk result (λ _. IsReaderCount readers × (root_refusal (opening_of mapping.now root.now) ≡ None)) }
+    ensures accepted { IfOk result (λ _. IsReaderCount readers
+        × (root_refusal (opening_of mapping.now root.now) ≡ None)) }
     ensures count { IfOk result (λ store. vec_len store.1 ≡ readers) }
     ensures writer { IfOk result (λ store. (store.0.journal ≡ []) × (store.0.marks ≡ 0 ∷ []) × (store.0.pending ≡ [])) }
-    ensures checkers { IfOk result (λ store. All (λ checker. (checker.floor ≡ []) × (checker.view ≡ newcomer)) store.1.items) }
+    ensures checkers { IfOk result (λ store.
+        All (λ checker. (checker.floor ≡ []) × (checker.view ≡ newcomer)) store.1.items) }
     ensures refused { IfErr result (λ e. IsStoreError e readers (root_refusal (opening_of mapping.now root.now))) }
 {
     if readers < 1 || MAX_READERS < readers {
@@ -74,7 +76,8 @@ fn opened<J: Naming>(
     requires readers { (0 < readers) × (readers ≤ 64) }
     requires tree { (tree.now.opening ≡ J.opening) × (tree.now.journal ≡ []) }
     requires front { IsFrontOf (naming J.opening J.book J.first) front.now [] }
-    ensures { IfOk result (λ c. IsOpened (naming J.opening J.book J.first) (view c.desk.place) c.desk.shown.value (drop c.behind c.log.items)) }
+    ensures { IfOk result (λ c. IsOpened (naming J.opening J.book J.first)
+        (view c.desk.place) c.desk.shown.value (drop c.behind c.log.items)) }
 {
     let first = first_published(alloc, tree, front)?;
     let second = first_published(alloc, tree, front)?;
@@ -104,7 +107,8 @@ fn seated<J: Naming>(
     requires readers { (0 < readers) × (readers ≤ 64) }
     requires front { (front.now.book ≡ J.book) × (items_from J.first front.now.log ≡ []) }
     ensures count { IfOk result (λ checkers. vec_len checkers ≡ readers) }
-    ensures checkers { IfOk result (λ checkers. All (λ checker. (checker.floor ≡ []) × (checker.view ≡ newcomer)) checkers.items) }
+    ensures checkers { IfOk result (λ checkers.
+        All (λ checker. (checker.floor ≡ []) × (checker.view ≡ newcomer)) checkers.items) }
     ensures refused { IfErr result (λ e. (e ≡ Memory) ⊎ (e ≡ Place)) }
 {
     let mut checkers = Vec::with_capacity(alloc, readers as usize)?;

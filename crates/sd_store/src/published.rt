@@ -23,7 +23,12 @@ impl Absorb<Operation> for Published {
 
     type State = Facts;
 
-    ghost state = { λ s. record { opening = s.tree.opening; journal = s.tree.journal; marks = s.marks.items; seen = s.front } };
+    ghost state = { λ s. record {
+      opening = s.tree.opening;
+      journal = s.tree.journal;
+      marks = s.marks.items;
+      seen = s.front;
+    } };
 
     ghost applied = { marked };
 

@@ -15,7 +15,14 @@ use std::alloc::{AllocError, Global};
 use std::sync::Wait;
 
 /// A copy of the edit joins what waits.
-#[tactic(auto, using(crate::proofs::Marking::one_more, crate::proofs::Marking::first_edit, crate::proofs::Marking::edits_push))]
+#[tactic(
+    auto,
+    using(
+        crate::proofs::Marking::one_more,
+        crate::proofs::Marking::first_edit,
+        crate::proofs::Marking::edits_push
+    )
+)]
 pub(crate) fn add<J: Naming>(
     alloc: Global,
     cell: &mut Cell<J>,
@@ -24,9 +31,9 @@ pub(crate) fn add<J: Naming>(
     requires one { IsOnePublish (drop cell.old.behind cell.old.log.items) }
     ensures desk { cell.new.desk ≡ cell.old.desk }
     ensures one { IsOnePublish (drop cell.new.behind cell.new.log.items) }
-    ensures edits { MatchResult result
-        (λ _. edits_of (drop cell.new.behind cell.new.log.items) ≡ edits_of (drop cell.old.behind cell.old.log.items) ++ edit.now ∷ [])
-        (λ _. edits_of (drop cell.new.behind cell.new.log.items) ≡ edits_of (drop cell.old.behind cell.old.log.items)) }
+    ensures edits { let waited = edits_of (drop cell.old.behind cell.old.log.items) in
+        let waiting = edits_of (drop cell.new.behind cell.new.log.items) in
+        MatchResult result (λ _. waiting ≡ waited ++ edit.now ∷ []) (λ _. waiting ≡ waited) }
 {
     let edit = edit.copy(alloc)?;
     let opens = !cell.has_pending_operations();
@@ -39,7 +46,8 @@ fn open_publish<J: Naming>(cell: &mut Cell<J>) -> Result<(), AllocError>
     requires one { IsOnePublish (drop cell.old.behind cell.old.log.items) }
     ensures desk { cell.new.desk ≡ cell.old.desk }
     ensures one { IsOnePublish (drop cell.new.behind cell.new.log.items) }
-    ensures edits { edits_of (drop cell.new.behind cell.new.log.items) ≡ edits_of (drop cell.old.behind cell.old.log.items) }
+    ensures edits { edits_of (drop cell.new.behind cell.new.log.items)
+        ≡ edits_of (drop cell.old.behind cell.old.log.items) }
     ensures some { OnOk result (0 < length (drop cell.new.behind cell.new.log.items)) }
 {
     if cell.has_pending_operations() {
@@ -49,15 +57,25 @@ fn open_publish<J: Naming>(cell: &mut Cell<J>) -> Result<(), AllocError>
 }
 
 /// The front joins what waits, for the value that is then published. It stands for the whole journal, so it comes last.
-#[tactic(auto, using(crate::proofs::Marking::one_shown, crate::proofs::Marking::some_shown, crate::proofs::Marking::edits_shown, crate::proofs::Marking::seen_shown))]
+#[tactic(
+    auto,
+    using(
+        crate::proofs::Marking::one_shown,
+        crate::proofs::Marking::some_shown,
+        crate::proofs::Marking::edits_shown,
+        crate::proofs::Marking::seen_shown
+    )
+)]
 fn show<J: Naming>(cell: &mut Cell<J>, front: Front<Edit>) -> Result<(), AllocError>
     requires one { IsOnePublish (drop cell.old.behind cell.old.log.items) }
     requires some { 0 < length (drop cell.old.behind cell.old.log.items) }
     ensures desk { cell.new.desk ≡ cell.old.desk }
     ensures one { IsOnePublish (drop cell.new.behind cell.new.log.items) }
     ensures some { 0 < length (drop cell.new.behind cell.new.log.items) }
-    ensures edits { edits_of (drop cell.new.behind cell.new.log.items) ≡ edits_of (drop cell.old.behind cell.old.log.items) }
-    ensures front { OnOk result (seen_after cell.old.desk.shown.value.front (drop cell.new.behind cell.new.log.items) ≡ front) }
+    ensures edits { edits_of (drop cell.new.behind cell.new.log.items)
+        ≡ edits_of (drop cell.old.behind cell.old.log.items) }
+    ensures front { OnOk result (seen_after cell.old.desk.shown.value.front (drop cell.new.behind cell.new.log.items)
+        ≡ front) }
 {
     cell.append(Operation::Show(front)).map_err(|_| AllocError)
 }
@@ -68,15 +86,21 @@ pub(crate) fn publish_all<J: Naming, R: Wait>(
     cell: Cell<J>,
     front: Front<Edit>,
 ) -> (Cell<J>, Result<(), AllocError>)
-    requires ready { IsReady (naming J.opening J.book J.first) (view cell.desk.place) cell.desk.shown.value (drop cell.behind cell.log.items) }
-    requires lawful { IsLawful J.opening (cell.desk.shown.value.tree.journal ++ edits_of (drop cell.behind cell.log.items)) }
-    requires front { IsFrontOf (naming J.opening J.book J.first) front (cell.desk.shown.value.tree.journal ++ edits_of (drop cell.behind cell.log.items)) }
-    ensures ready { IsReady (naming J.opening J.book J.first) (view result.0.desk.place) result.0.desk.shown.value (drop result.0.behind result.0.log.items) }
+    requires ready { IsReady (naming J.opening J.book J.first)
+        (view cell.desk.place) cell.desk.shown.value (drop cell.behind cell.log.items) }
+    requires lawful { IsLawful J.opening
+        (cell.desk.shown.value.tree.journal ++ edits_of (drop cell.behind cell.log.items)) }
+    requires front { IsFrontOf (naming J.opening J.book J.first) front
+        (cell.desk.shown.value.tree.journal ++ edits_of (drop cell.behind cell.log.items)) }
+    ensures ready { IsReady (naming J.opening J.book J.first)
+        (view result.0.desk.place) result.0.desk.shown.value (drop result.0.behind result.0.log.items) }
     ensures journal { MatchResult result.1
-        (λ _. result.0.desk.shown.value.tree.journal ≡ cell.desk.shown.value.tree.journal ++ edits_of (drop cell.behind cell.log.items))
+        (λ _. result.0.desk.shown.value.tree.journal
+            ≡ cell.desk.shown.value.tree.journal ++ edits_of (drop cell.behind cell.log.items))
         (λ _. result.0.desk.shown.value.tree.journal ≡ cell.desk.shown.value.tree.journal) }
     ensures marks { MatchResult result.1
-        (λ _. result.0.desk.shown.value.marks.items ≡ cell.desk.shown.value.marks.items ++ length result.0.desk.shown.value.tree.journal ∷ [])
+        (λ _. result.0.desk.shown.value.marks.items
+            ≡ cell.desk.shown.value.marks.items ++ length result.0.desk.shown.value.tree.journal ∷ [])
         (λ _. result.0.desk.shown.value.marks.items ≡ cell.desk.shown.value.marks.items) }
     ensures pending { MatchResult result.1
         (λ _. edits_of (drop result.0.behind result.0.log.items) ≡ [])

@@ -13,6 +13,7 @@ use boxcar::tag::Tag;
 use sd_history::Pencil;
 use sd_tree::{Edit, Tree};
 use std::alloc::Global;
+use std::fmt;
 use std::marker::{Model, PhantomData};
 use std::mem;
 use std::sync::Wait;
@@ -37,18 +38,31 @@ impl<J: Naming> Model for StoreWriter<J> {
     ghost use Rattle.left_right.specs.Sides.{view as client_of};
     ghost use Rattle.sd_store.specs.Marks.{edits_of};
     ghost use Rattle.sd_store.specs.Rules.{naming, IsReady};
-    ghost use Rattle.sd_store.specs.Sights.{Script, script_of, blank};
+    ghost use Rattle.sd_store.specs.Sights.{StoreState, state_of, blank};
 
-    ghost Value = { Script };
+    ghost Value = { StoreState };
 
-    ghost view = { λ w. option_map_or (λ c. script_of (client_of c.desk.place) (edits_of (drop c.behind c.log.items))) w.cell blank };
+    ghost view = { λ w. option_map_or
+        (λ c. state_of (client_of c.desk.place) (edits_of (drop c.behind c.log.items)))
+        w.cell blank };
 
     ghost invariant = { λ w. MatchOption w.cell ⊥ (λ c.
-        IsReady (naming J.opening J.book J.first) (client_of c.desk.place) c.desk.shown.value (drop c.behind c.log.items)
+        IsReady (naming J.opening J.book J.first)
+            (client_of c.desk.place) c.desk.shown.value (drop c.behind c.log.items)
         × (w.draft.opening ≡ J.opening)
         × (w.draft.journal ≡ c.desk.shown.value.tree.journal ++ edits_of (drop c.behind c.log.items))
         × (w.pencil ≡ w.draft.journal)
         × (w.published ≡ length c.desk.shown.value.tree.journal)) };
+}
+
+/// Shows the length of the published journal, and how many edits wait.
+impl<J: Naming> fmt::Debug for StoreWriter<J> {
+    fn fmt<W: fmt::Write>(&self, f: &mut fmt::Formatter<W>) -> fmt::Result {
+        f.debug_struct("StoreWriter")
+            .field("published", &self.published_len())
+            .field("pending", &self.pending_len())
+            .finish_non_exhaustive()
+    }
 }
 
 impl<J: Naming> StoreWriter<J> {
@@ -57,9 +71,12 @@ impl<J: Naming> StoreWriter<J> {
     /// the edit before a publish.
     pub fn edit(&mut self, edit: &Edit) -> Result<(), EditError>
         ensures published { (self.new.journal ≡ self.old.journal) × (self.new.marks ≡ self.old.marks) }
-        ensures pending { MatchResult result (λ _. self.new.pending ≡ self.old.pending ++ edit.now ∷ []) (λ _. self.new.pending ≡ self.old.pending) }
+        ensures pending { MatchResult result
+            (λ _. self.new.pending ≡ self.old.pending ++ edit.now ∷ [])
+            (λ _. self.new.pending ≡ self.old.pending) }
         ensures accepted { OnOk result (refusal J.opening (self.old.journal ++ self.old.pending) edit.now ≡ None) }
-        ensures refused { IfErr result (λ e. IsEditError e (refusal J.opening (self.old.journal ++ self.old.pending) edit.now)) }
+        ensures refused { IfErr result (λ e.
+            IsEditError e (refusal J.opening (self.old.journal ++ self.old.pending) edit.now)) }
     {
         let prepared = self.draft.prepare(edit)?;
         let Some(cell) = &mut self.cell else {
@@ -77,7 +94,8 @@ impl<J: Naming> StoreWriter<J> {
     /// more, its new length, which is answered. So it is also where nothing waits. At an error nothing was published,
     /// and the same edits wait. It waits for readers that are in the midst of a check.
     pub fn publish<R: Wait>(&mut self, rt: &R) -> Result<u64, PublishError>
-        ensures published { IfOk result (λ n. (self.new.journal ≡ self.old.journal ++ self.old.pending) × (n ≡ length self.new.journal)) }
+        ensures published { IfOk result (λ n. (self.new.journal ≡ self.old.journal ++ self.old.pending)
+            × (n ≡ length self.new.journal)) }
         ensures marks { IfOk result (λ n. self.new.marks ≡ self.old.marks ++ n ∷ []) }
         ensures pending { OnOk result (self.new.pending ≡ []) }
         ensures refused { IfErr result (λ _. self.new ≡ self.old) }

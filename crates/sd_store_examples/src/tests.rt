@@ -2,6 +2,8 @@
 
 mod audits;
 mod beside;
+mod client;
+mod limits;
 mod memory;
 mod opening;
 mod runs;
@@ -31,7 +33,8 @@ fn of_administrators(readers: u64) -> Setting {
 }
 
 /// What the steps are told, in words: those before the writer ends, and those after it. Nothing where memory was
-/// refused for anything but an edit or a publish.
+/// refused for anything but a publish that may be. Nothing is tried again: a test that goes on without a refused request
+/// makes its whole run again, and one request can't be refused in both.
 fn words<R: Threads + Wait>(
     rt: &R,
     alloc: Global,

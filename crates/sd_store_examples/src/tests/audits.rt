@@ -102,7 +102,7 @@ fn audited_at<J: Naming + Send + Sync, G: Gate + Sync, R: Threads + Wait + Sync>
     gate: &G,
     seen: Vec<u64>,
 ) -> Option<Report>
-    requires history { (history.seen.book ≡ J.book) × (history.pen.nib.key ≡ J.first) }
+    requires history { (history.book ≡ J.book) × (history.first ≡ J.first) }
     requires opening { opening_of mapping.now root.now ≡ J.opening }
 {
     let (mut writer, mut checkers) = start::<J, R>(

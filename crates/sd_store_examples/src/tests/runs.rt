@@ -130,7 +130,7 @@ fn untold<R: Threads + Wait>(rt: &R, alloc: Global) -> Option<Option<String>> {
 
 /// The first answer of a store with two readers that isn't the wanted one, if there is one. Nothing where memory was
 /// refused, or where an answer is missing.
-fn wrong<R: Threads + Wait>(
+pub(super) fn wrong<R: Threads + Wait>(
     rt: &R,
     alloc: Global,
     before: &[Row],

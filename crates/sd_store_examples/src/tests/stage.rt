@@ -8,7 +8,7 @@ use super::threads::{Errand, Worker, sent};
 use super::told::Told;
 use sd_history::Opened;
 use sd_sid::GenericMapping;
-use sd_store::{Checker, EditError, Naming, Notice, PublishError, ShowError, StoreWriter, start};
+use sd_store::{Checker, EditError, Naming, Notice, PublishError, StoreWriter, start};
 use sd_tree::{Edit, Path, RootSpec};
 use std::alloc::Global;
 use std::marker::Brand;
@@ -39,7 +39,7 @@ struct Stage<J: Naming> {
 }
 
 /// What the steps are told: those before the writer ends, and those after it. Where the store doesn't start, why.
-/// Nothing where memory was refused for anything but an edit or a publish.
+/// Nothing where memory was refused for anything but a publish that may be.
 pub(super) fn run<R: Threads + Wait>(
     rt: &R,
     alloc: Global,
@@ -78,7 +78,7 @@ fn run_at<J: Naming + Send + Sync + 'static, R: Threads + Wait>(
     before: Vec<Ready>,
     after: Vec<Ready>,
 ) -> Option<Vec<Told>>
-    requires history { (history.seen.book ≡ J.book) × (history.pen.nib.key ≡ J.first) }
+    requires history { (history.book ≡ J.book) × (history.first ≡ J.first) }
     requires opening { opening_of mapping.now root.now ≡ J.opening }
 {
     let mut stage: Stage<J> = Stage {
@@ -114,8 +114,8 @@ fn led<J: Naming + Send + Sync + 'static, R: Threads + Wait>(
     for step in steps {
         let told = match step {
             Ready::Edit(edit) => edited(&mut writer, &edit),
-            Ready::Publish => published(rt, &mut writer),
-            Ready::PublishOnce => published_once(rt, &mut writer),
+            Ready::Publish => published(rt, &mut writer, Told::Lost),
+            Ready::PublishOrMemory => published(rt, &mut writer, Told::Memory),
             Ready::Lengths => Told::Lengths(writer.published_len(), writer.pending_len()),
             Ready::Tell => stage.noticed(writer.tell()),
             asked => stage.asked(rt, asked),
@@ -125,42 +125,28 @@ fn led<J: Naming + Send + Sync + 'static, R: Threads + Wait>(
     writer.end(rt);
 }
 
-/// An edit, which is made again where memory is refused.
 fn edited<J: Naming>(writer: &mut StoreWriter<J>, edit: &Edit) -> Told {
-    match edited_once(writer, edit) {
-        Told::Memory => edited_once(writer, edit),
-        told => told,
-    }
-}
-
-fn edited_once<J: Naming>(writer: &mut StoreWriter<J>, edit: &Edit) -> Told {
     let lengths = (writer.published_len(), writer.pending_len());
     match writer.edit(edit) {
         Ok(()) => Told::Done,
         Err(EditError::Refused(refusal)) => Told::Refused(refusal),
-        Err(EditError::Memory) => same(writer, lengths),
+        Err(EditError::Memory) => refused(writer, lengths, Told::Lost),
     }
 }
 
-/// A publish, which is made again where memory is refused.
-fn published<J: Naming, R: Wait>(rt: &R, writer: &mut StoreWriter<J>) -> Told {
-    match published_once(rt, writer) {
-        Told::Memory => published_once(rt, writer),
-        told => told,
-    }
-}
-
-fn published_once<J: Naming, R: Wait>(rt: &R, writer: &mut StoreWriter<J>) -> Told {
+/// A publish, and what it is told where memory is refused.
+fn published<J: Naming, R: Wait>(rt: &R, writer: &mut StoreWriter<J>, memory: Told) -> Told {
     let lengths = (writer.published_len(), writer.pending_len());
     match writer.publish(rt) {
         Ok(length) => Told::Published(length),
-        Err(PublishError::Memory) => same(writer, lengths),
+        Err(PublishError::Memory) => refused(writer, lengths, memory),
     }
 }
 
-fn same<J: Naming>(writer: &StoreWriter<J>, lengths: (u64, u64)) -> Told {
+/// Where memory is refused both lengths stay.
+fn refused<J: Naming>(writer: &StoreWriter<J>, lengths: (u64, u64), memory: Told) -> Told {
     if (writer.published_len(), writer.pending_len()) == lengths {
-        Told::Memory
+        memory
     } else {
         Told::Changed
     }
@@ -207,11 +193,7 @@ impl<J: Naming> Stage<J> {
 
     fn shown(&mut self, reader: usize, path: Path) -> Option<Told> {
         let checker = self.checker(reader)?;
-        let shown = match checker.descriptor(&path) {
-            Err(ShowError::Memory) => checker.descriptor(&path),
-            shown => shown,
-        };
-        Some(Told::Shown(shown))
+        Some(Told::Shown(checker.descriptor(&path)))
     }
 }
 
@@ -226,7 +208,7 @@ impl<J: Naming + Send + Sync + 'static> Stage<J> {
             Ready::Away(reader, notice, errand) => self.left(rt, reader, notice, errand),
             Ready::Back(reader) => self.returned(rt, reader),
             Ready::Edit(_edit) => None,
-            Ready::Publish | Ready::PublishOnce | Ready::Lengths | Ready::Tell => None,
+            Ready::Publish | Ready::PublishOrMemory | Ready::Lengths | Ready::Tell => None,
         };
         told.unwrap_or(Told::Lost)
     }

@@ -13,12 +13,16 @@ use std::alloc::Global;
 #[derive(Clone, Copy, Debug)]
 pub(super) enum Step {
     Container(&'static str, &'static str),
+    /// A container whose path has so many names, each `a`.
+    Nested(u64),
     Object(&'static str, &'static str),
     Dacl(&'static str, &'static str),
+    /// A list with the entries of a text so many times.
+    LongDacl(&'static str, &'static str, u64),
     Remove(&'static str),
     Publish,
-    /// A publish that isn't made again where memory is refused.
-    PublishOnce,
+    /// A publish that may be refused memory.
+    PublishOrMemory,
     /// How many edits are published, and how many wait.
     Lengths,
     /// The writer tells of what is published: one more notice.
@@ -39,7 +43,7 @@ pub(super) enum Step {
 pub(super) enum Ready {
     Edit(Edit),
     Publish,
-    PublishOnce,
+    PublishOrMemory,
     Lengths,
     Tell,
     Learn(usize, usize),
@@ -61,7 +65,7 @@ pub(super) fn all_ready(alloc: Global, steps: &[Step]) -> Option<Vec<Ready>> {
 fn read_step(alloc: Global, step: Step) -> Option<Ready> {
     Some(match step {
         Step::Publish => Ready::Publish,
-        Step::PublishOnce => Ready::PublishOnce,
+        Step::PublishOrMemory => Ready::PublishOrMemory,
         Step::Lengths => Ready::Lengths,
         Step::Tell => Ready::Tell,
         Step::Learn(reader, notice) => Ready::Learn(reader, notice),
@@ -76,18 +80,10 @@ fn read_step(alloc: Global, step: Step) -> Option<Ready> {
     })
 }
 
-fn edit(alloc: Global, step: Step) -> Option<Edit> {
+pub(super) fn edit(alloc: Global, step: Step) -> Option<Edit> {
     match step {
-        Step::Container(path, text) => {
-            let path = Path::read(alloc, path).ok()?;
-            let RootSpec { owner, group, dacl } = node(alloc, text)?;
-            Some(Edit::AddContainer {
-                path,
-                owner,
-                group,
-                dacl,
-            })
-        }
+        Step::Container(path, text) => container(alloc, path, text),
+        Step::Nested(names) => container(alloc, nested(alloc, names)?.as_str(), "O:BAG:SYD:"),
         Step::Object(path, text) => {
             let path = Path::read(alloc, path).ok()?;
             let RootSpec { owner, group, dacl } = node(alloc, text)?;
@@ -103,11 +99,35 @@ fn edit(alloc: Global, step: Step) -> Option<Edit> {
             let RootSpec { dacl, .. } = node(alloc, text)?;
             Some(Edit::SetDacl { path, dacl })
         }
+        Step::LongDacl(path, text, times) => {
+            let path = Path::read(alloc, path).ok()?;
+            let RootSpec { dacl, .. } = root(alloc, text, times)?;
+            Some(Edit::SetDacl { path, dacl })
+        }
         Step::Remove(path) => Some(Edit::Remove {
             path: Path::read(alloc, path).ok()?,
         }),
         _ => None,
     }
+}
+
+fn container(alloc: Global, path: &str, text: &str) -> Option<Edit> {
+    let path = Path::read(alloc, path).ok()?;
+    let RootSpec { owner, group, dacl } = node(alloc, text)?;
+    Some(Edit::AddContainer {
+        path,
+        owner,
+        group,
+        dacl,
+    })
+}
+
+fn nested(alloc: Global, names: u64) -> Option<String> {
+    let mut path = String::new(alloc);
+    for _ in 0..names {
+        path.push_str("/a").ok()?;
+    }
+    Some(path)
 }
 
 /// What a text gives a node; its owner is BA and its group SY where it names nobody.

@@ -21,11 +21,11 @@ pub(super) enum Told {
     Shown(Result<(u64, Option<Descriptor>), ShowError>),
     Away,
     Answers(Vec<Result<Answer, Gone>>),
-    /// Memory was refused, and the lengths stayed.
+    /// A publish that may be was refused memory, and the lengths stayed.
     Memory,
     /// Memory was refused, and a length changed. That is always wrong.
     Changed,
-    /// There is no such reader or notice here, or no thread was made.
+    /// There is no such reader or notice here, no thread was made, or memory was refused where it may not be.
     Lost,
 }
 

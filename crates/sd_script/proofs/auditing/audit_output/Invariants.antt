@@ -10,7 +10,7 @@ abbrev pub ghosts-held-J-Naming : goal.ghosts-held-J-Naming
 ghosts-held-J-Naming g a = record { opening = opening_with a.root.now }
 
 abbrev pub ghosts-held-J-Chain : goal.ghosts-held-J-Chain
-ghosts-held-J-Chain g a = record { book = a.history.seen.book; first = a.history.pen.nib.key }
+ghosts-held-J-Chain g a = record { book = a.history.book; first = a.history.first }
 
 abbrev pub invariant-loop-rest : goal.invariant-loop-rest
 invariant-loop-rest g l = (back : List ℕ)

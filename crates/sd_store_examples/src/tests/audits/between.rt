@@ -69,7 +69,7 @@ fn audited_beside_at<J: Naming + Send + Sync, R: Threads + Wait + Sync>(
     queries: &[Query],
     gate: &Between,
 ) -> Option<Vec<Answer>>
-    requires history { (history.seen.book ≡ J.book) × (history.pen.nib.key ≡ J.first) }
+    requires history { (history.book ≡ J.book) × (history.first ≡ J.first) }
     requires opening { opening_of mapping.now root.now ≡ J.opening }
 {
     let (mut writer, mut checkers) = start::<J, R>(rt, alloc, history, mapping, root, 1).ok()?;

@@ -7,4 +7,4 @@ ghosts-audited_at-J-Naming g a = record { opening = opening_of a.mapping.now a.r
 
 -- the history that was just opened
 abbrev pub ghosts-audited_at-J-Chain : goal.ghosts-audited_at-J-Chain
-ghosts-audited_at-J-Chain g a = record { book = a.history.seen.book; first = a.history.pen.nib.key }
+ghosts-audited_at-J-Chain g a = record { book = a.history.book; first = a.history.first }

@@ -7,4 +7,4 @@ ghosts-run_at-J-Naming g a = record { opening = opening_of a.mapping.now a.root.
 
 -- the history that was just opened
 abbrev pub ghosts-run_at-J-Chain : goal.ghosts-run_at-J-Chain
-ghosts-run_at-J-Chain g a = record { book = a.history.seen.book; first = a.history.pen.nib.key }
+ghosts-run_at-J-Chain g a = record { book = a.history.book; first = a.history.first }

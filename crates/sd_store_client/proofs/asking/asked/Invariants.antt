@@ -1,0 +1,5 @@
+use Rattle.std.proofs.Common.{◌≡◌, [], take}
+use Rattle.sd_store_client.proofs.asking.asked.Given as goal
+
+abbrev pub invariant-loop-edit : goal.invariant-loop-edit
+invariant-loop-edit g l = (l.writer.journal ≡ []) × (l.writer.pending ≡ take l.edit-index l.edits)
