@@ -36,8 +36,8 @@ is_none : (text : List ℕ)
     → ((front : List ℕ) (sid : SidValue) → text ≡ front ++ codes "=off" → Spells sid_text front sid → ⊥)
     → (word : Word) → IsWord text word → ⊥
 is_none text security take enabled deny off (Group sid Enabled) h = enabled sid h
-is_none text security take enabled deny off (Group sid DenyOnly) h = deny h.0 sid h.1 h.2
-is_none text security take enabled deny off (Group sid Disabled) h = off h.0 sid h.1 h.2
+is_none text security take enabled deny off (Group sid DenyOnly) h = deny h.1.0 sid h.1.1 h.1.2
+is_none text security take enabled deny off (Group sid Disabled) h = off h.1.0 sid h.1.1 h.1.2
 is_none text security take enabled deny off Security h = security h
 is_none text security take enabled deny off TakeOwnership h = take h
 

@@ -11,11 +11,15 @@ use Rattle.sd_check.specs.declared.token.GroupState.TheVariants.{Enabled, DenyOn
 use Rattle.sd_script.specs.declared.word.Word.{Word}
 use Rattle.sd_script.specs.declared.word.Word.TheVariants.{Group, Security, TakeOwnership}
 
--- the text is a group in this state
+-- the text is no SID
+abbrev pub IsNoSid : List ℕ → Type 0
+IsNoSid text = (sid : SidValue) → Spells sid_text text sid → ⊥
+
+-- the text is a group in this state; it is tried as a SID first
 abbrev pub IsGroup : List ℕ → SidValue → GroupState → Type 0
 IsGroup text sid Enabled = Spells sid_text text sid
-IsGroup text sid DenyOnly = (front : List ℕ) × (text ≡ front ++ codes "=deny") × Spells sid_text front sid
-IsGroup text sid Disabled = (front : List ℕ) × (text ≡ front ++ codes "=off") × Spells sid_text front sid
+IsGroup text sid DenyOnly = IsNoSid text × ((front : List ℕ) × (text ≡ front ++ codes "=deny") × Spells sid_text front sid)
+IsGroup text sid Disabled = IsNoSid text × ((front : List ℕ) × (text ≡ front ++ codes "=off") × Spells sid_text front sid)
 
 -- the text is this word
 abbrev pub IsWord : List ℕ → Word → Type 0
