@@ -8,16 +8,15 @@ use Rattle.sd_script.specs.Lines.{words_of}
 use Rattle.sd_script.specs.declared.asked.Asked.{Asked}
 use Rattle.sd_script.specs.declared.fault.LineFault.TheVariants as faults
 use Rattle.sd_script.specs.declared.fault.Stop.{Stop}
-use Rattle.sd_script.specs.declared.mode.Mode.{Mode}
 use Rattle.sd_script.proofs.Readings.{UnlessMemory-weaker}
 
 -- a line of text whose words are a timely command asks for what the command asks for
-pub line_reads : (mode : Mode) (is_open : Bool) (line text : List ℕ) (words : List (List ℕ)) (command : CommandValue) (r : Result Asked Stop)
+pub line_reads : (is_open : Bool) (line text : List ℕ) (words : List (List ℕ)) (command : CommandValue) (r : Result Asked Stop)
     → text ≡ line → IsUtf8 line → words ≡ words_of text → Some command ≡ command_of words → is_untimely is_open command ≡ false
-    → UnlessMemory (asks mode command) r → UnlessMemory (line_asks mode is_open line) r
-line_reads mode is_open line text words command r same utf8 parted found timely read =
-    UnlessMemory-weaker (asks mode command) (line_asks mode is_open line) r (λ told asked. inl (
+    → UnlessMemory (asks command) r → UnlessMemory (line_asks is_open line) r
+line_reads is_open line text words command r same utf8 parted found timely read =
+    UnlessMemory-weaker (asks command) (line_asks is_open line) r (λ told asked. inl (
       utf8,
-      subst (λ found. asks_where mode is_open found told) (found ∙ ap command_of (parted ∙ ap words_of same))
-          (subst (λ untimely. MatchBool untimely (told ≡ Err faults.Open) (asks mode command told)) (sym timely) asked),
+      subst (λ found. asks_where is_open found told) (found ∙ ap command_of (parted ∙ ap words_of same))
+          (subst (λ untimely. MatchBool untimely (told ≡ Err faults.Open) (asks command told)) (sym timely) asked),
     )) read

@@ -1,8 +1,7 @@
 pub mod Answered
-pub mod Answering
 pub mod Askings
-pub mod Audited
 pub mod Cutting
+pub mod OneOutput
 pub mod Readings
 pub mod Timely
 pub mod Words

@@ -9,7 +9,7 @@ use Rattle.sd_tree.specs.declared.edit.Edit.TheVariants as edits
 use Rattle.sd_share.specs.declared.request.Request.{Request}
 use Rattle.sd_share.specs.declared.request.Request.TheVariants as requests
 use Rattle.sd_script.specs.Argument.{number, path, sid, mask, token, node, dacl}
-use Rattle.sd_script.specs.Fault.{Reading, Just, Faulty, Then}
+use Rattle.sd_script.specs.Fault.{Reading, Just, Then}
 use Rattle.sd_script.specs.Lines.{words_of}
 use Rattle.sd_script.specs.Word.{texts}
 use Rattle.sd_script.specs.declared.asked.Asked.{Asked}
@@ -19,8 +19,6 @@ use Rattle.sd_script.specs.declared.command.Command.TheVariants as lent
 use Rattle.sd_script.specs.declared.command.CommandName.{CommandName}
 use Rattle.sd_script.specs.declared.command.CommandName.TheVariants as names
 use Rattle.sd_script.specs.declared.fault.LineFault.TheVariants as faults
-use Rattle.sd_script.specs.declared.mode.Mode.{Mode}
-use Rattle.sd_script.specs.declared.mode.Mode.TheVariants.{Script, Audit}
 
 -- ---- commands, with their words as they stand
 
@@ -106,11 +104,6 @@ is_untimely is_open command = not is_open
 
 -- ---- what a command asks for, where its words are read from the left
 
--- for how many readers a store is opened
-abbrev pub readers_in : Mode → ℕ → ℕ
-readers_in Script readers = readers
-readers_in (Audit workers) readers = workers
-
 abbrev pub edit : Edit → Reading Asked
 edit e = Just (Asking (requests.Edit e))
 
@@ -127,43 +120,30 @@ check_by reader names asked words user = Then (mask asked) (check_with reader na
 abbrev pub check_of : ℕ → Names → List ℕ → List ℕ → List (List ℕ) → Reading Asked
 check_of reader names user asked words = Then (sid user) (check_by reader names asked words)
 
--- what each command asks for, by its words alone
-abbrev pub asks_by_words : CommandValue → Reading Asked
-asks_by_words (Open readers sddl) = Then (number readers) (λ n. Then (node sddl) (λ root. Just (Opening n root)))
-asks_by_words (AddContainer at sddl) = Then (path at) (λ p. Then (node sddl) (λ n. edit (edits.AddContainer p n.owner n.group n.dacl)))
-asks_by_words (AddObject at sddl) = Then (path at) (λ p. Then (node sddl) (λ n. edit (edits.AddObject p n.owner n.group n.dacl)))
-asks_by_words (SetOwner at owner) = Then (path at) (λ p. Then (sid owner) (λ s. edit (edits.SetOwner p s)))
-asks_by_words (SetGroup at group) = Then (path at) (λ p. Then (sid group) (λ s. edit (edits.SetGroup p s)))
-asks_by_words (SetDacl at sddl) = Then (path at) (λ p. Then (dacl sddl) (λ d. edit (edits.SetDacl p d)))
-asks_by_words (Remove at) = Then (path at) (λ p. edit (edits.Remove p))
-asks_by_words (Protect at) = Then (path at) (λ p. edit (edits.ProtectKeeping p))
-asks_by_words Publish = request requests.Publish
-asks_by_words Tell = request requests.Tell
-asks_by_words (Learn reader length) = Then (number reader) (λ i. Then (number length) (λ n. request (requests.Learn i n)))
-asks_by_words (Check reader at user asked words) =
+-- what each command asks for
+abbrev pub asks : CommandValue → Reading Asked
+asks (Open readers sddl) = Then (number readers) (λ n. Then (node sddl) (λ root. Just (Opening n root)))
+asks (AddContainer at sddl) = Then (path at) (λ p. Then (node sddl) (λ n. edit (edits.AddContainer p n.owner n.group n.dacl)))
+asks (AddObject at sddl) = Then (path at) (λ p. Then (node sddl) (λ n. edit (edits.AddObject p n.owner n.group n.dacl)))
+asks (SetOwner at owner) = Then (path at) (λ p. Then (sid owner) (λ s. edit (edits.SetOwner p s)))
+asks (SetGroup at group) = Then (path at) (λ p. Then (sid group) (λ s. edit (edits.SetGroup p s)))
+asks (SetDacl at sddl) = Then (path at) (λ p. Then (dacl sddl) (λ d. edit (edits.SetDacl p d)))
+asks (Remove at) = Then (path at) (λ p. edit (edits.Remove p))
+asks (Protect at) = Then (path at) (λ p. edit (edits.ProtectKeeping p))
+asks Publish = request requests.Publish
+asks Tell = request requests.Tell
+asks (Learn reader length) = Then (number reader) (λ i. Then (number length) (λ n. request (requests.Learn i n)))
+asks (Check reader at user asked words) =
     Then (number reader) (λ i. Then (path at) (λ p. check_of i p user asked words))
-asks_by_words (Show reader at) = Then (number reader) (λ i. Then (path at) (λ p. request (requests.Show i p)))
-
--- what that is in this mode: an audit opens its store for its own number of readers, and tells, teaches and shows
--- nothing
-abbrev pub in_mode : Mode → Asked → Reading Asked
-in_mode mode (Opening readers root) = Just (Opening (readers_in mode readers) root)
-in_mode Script (Asking r) = request r
-in_mode (Audit workers) (Asking requests.Tell) = Faulty faults.Audit
-in_mode (Audit workers) (Asking (requests.Learn reader length)) = Faulty faults.Audit
-in_mode (Audit workers) (Asking (requests.Show reader names)) = Faulty faults.Audit
-in_mode (Audit workers) (Asking r) = request r
-
-abbrev pub asks : Mode → CommandValue → Reading Asked
-asks mode command = Then (asks_by_words command) (in_mode mode)
+asks (Show reader at) = Then (number reader) (λ i. Then (path at) (λ p. request (requests.Show i p)))
 
 -- ---- what a line asks for
 
-abbrev pub asks_where : Mode → Bool → Option CommandValue → Reading Asked
-asks_where mode is_open None read = read ≡ Err faults.Words
-asks_where mode is_open (Some command) read = MatchBool (is_untimely is_open command) (read ≡ Err faults.Open) (asks mode command read)
+abbrev pub asks_where : Bool → Option CommandValue → Reading Asked
+asks_where is_open None read = read ≡ Err faults.Words
+asks_where is_open (Some command) read = MatchBool (is_untimely is_open command) (read ≡ Err faults.Open) (asks command read)
 
-abbrev pub line_asks : Mode → Bool → List ℕ → Reading Asked
-line_asks mode is_open line read =
-    (IsUtf8 line × asks_where mode is_open (command_of (words_of line)) read)
+abbrev pub line_asks : Bool → List ℕ → Reading Asked
+line_asks is_open line read =
+    (IsUtf8 line × asks_where is_open (command_of (words_of line)) read)
     ⊎ ((IsUtf8 line → ⊥) × (read ≡ Err faults.Utf8))

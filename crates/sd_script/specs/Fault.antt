@@ -2,7 +2,7 @@
 use Rattle.std.specs.Prelude.{◌≡◌, ⊤, ◌⊎◌, ℕ, List, Result, Ok, Err, codes}
 use Rattle.sd_script.specs.Answer.{fault_line, sddl_fault_line}
 use Rattle.sd_script.specs.declared.fault.LineFault.{LineFault}
-use Rattle.sd_script.specs.declared.fault.LineFault.TheVariants.{Utf8, Words, Open, Number, Path, Sid, Sddl, Parts, Mask, Token, Audit}
+use Rattle.sd_script.specs.declared.fault.LineFault.TheVariants.{Utf8, Words, Open, Number, Path, Sid, Sddl, Parts, Mask, Token}
 use Rattle.sd_script.specs.declared.fault.Stop.{Stop}
 use Rattle.sd_script.specs.declared.fault.Stop.TheVariants.{Fault, Memory}
 
@@ -17,7 +17,6 @@ line_of_fault (Sddl fault place) = sddl_fault_line fault place
 line_of_fault Parts = fault_line (codes "parts")
 line_of_fault Mask = fault_line (codes "mask")
 line_of_fault Token = fault_line (codes "token")
-line_of_fault Audit = fault_line (codes "audit")
 
 -- what a part of a line is read as: a value, or the first thing that is wrong with it
 abbrev pub Reading : Type 0 → Type 1
@@ -31,10 +30,6 @@ SomeOr {A = A} P fault (Err told) = ((a : A) → P a → ⊥) × (told ≡ fault
 -- just this value
 abbrev pub Just : {A : Type 0} → A → Reading A
 Just a read = read ≡ Ok a
-
--- just this fault
-abbrev pub Faulty : {A : Type 0} → LineFault → Reading A
-Faulty fault read = read ≡ Err fault
 
 -- first this part, and then what stands behind it
 abbrev pub Then : {A B : Type 0} → Reading A → (A → Reading B) → Reading B

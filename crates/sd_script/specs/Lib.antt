@@ -1,9 +1,8 @@
 pub mod Answer
 pub mod Argument
-pub mod Audit
-pub mod Auditing
 pub mod Command
 pub mod Fault
+pub mod Laws
 pub mod Lines
 pub mod Output
 pub mod Reply

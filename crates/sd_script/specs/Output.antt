@@ -16,7 +16,6 @@ use Rattle.sd_script.specs.Reply.{counted_line, reply_line, start_error_line}
 use Rattle.sd_script.specs.declared.asked.Asked.{Asked}
 use Rattle.sd_script.specs.declared.asked.Asked.TheVariants.{Opening as Opens, Asking}
 use Rattle.sd_script.specs.declared.fault.LineFault.{LineFault}
-use Rattle.sd_script.specs.declared.mode.Mode.{Mode}
 
 -- what stands between two lines: the store, where one is open
 abbrev pub Standing : Type 0
@@ -42,19 +41,19 @@ IsDone (Some old) (Asking request) printed new =
 IsDone None (Asking request) printed new = ⊥
 
 -- a line is answered: by nothing, by what it asks for, or by its fault
-abbrev pub IsAnswered : Mode → Standing → List ℕ → List ℕ → Standing → Type 0
-IsAnswered mode old line printed new = MatchBool (is_silent line)
+abbrev pub IsAnswered : Standing → List ℕ → List ℕ → Standing → Type 0
+IsAnswered old line printed new = MatchBool (is_silent line)
     ((printed ≡ []) × (new ≡ old))
-    (((asked : Asked) × line_asks mode (is_some old) line (Ok asked) × IsDone old asked printed new)
-    ⊎ ((fault : LineFault) × line_asks mode (is_some old) line (Err fault) × (printed ≡ line_of_fault fault) × (new ≡ old)))
+    (((asked : Asked) × line_asks (is_some old) line (Ok asked) × IsDone old asked printed new)
+    ⊎ ((fault : LineFault) × line_asks (is_some old) line (Err fault) × (printed ≡ line_of_fault fault) × (new ≡ old)))
 
 -- one line after the other
-abbrev pub AreAnswered : Mode → Standing → List (List ℕ) → List ℕ → Type 0
-AreAnswered mode old [] printed = printed ≡ []
-AreAnswered mode old (line ∷ lines) printed =
+abbrev pub AreAnswered : Standing → List (List ℕ) → List ℕ → Type 0
+AreAnswered old [] printed = printed ≡ []
+AreAnswered old (line ∷ lines) printed =
     (first : List ℕ) × (between : Standing) × (rest : List ℕ)
-    × IsAnswered mode old line first between × AreAnswered mode between lines rest × (printed ≡ first ++ rest)
+    × IsAnswered old line first between × AreAnswered between lines rest × (printed ≡ first ++ rest)
 
 -- the whole output of a script, before which no store is open
-abbrev pub Prints : Mode → List ℕ → List ℕ → Type 0
-Prints mode text printed = AreAnswered mode None (lines text) printed
+abbrev pub Prints : List ℕ → List ℕ → Type 0
+Prints text printed = AreAnswered None (lines text) printed

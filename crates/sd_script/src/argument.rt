@@ -1,4 +1,4 @@
-//! The words of a line behind its command, each read as what it stands for.
+//! The words of a line after its command, each read as what it stands for.
 ghost use Rattle.std.specs.Prelude.{◌≡◌, IfOk};
 ghost use Rattle.sd_acl.specs.Descriptor.{descriptor_of};
 ghost use Rattle.sd_script.specs.Argument.{number, path as path_of_word, sid, mask, token, node, dacl, node_of, dacl_of, own_dacl};

@@ -1,55 +1,28 @@
 //! What a line asks for, and how its words are read.
 ghost use Rattle.std.specs.Prelude.{◌≡◌};
-ghost use Rattle.sd_script.specs.Command.{in_mode, CommandValue, Open, AddContainer, AddObject, SetOwner, SetGroup, SetDacl, Remove, Protect, Learn, Check, Show, asks, asks_by_words, check_of, command_value};
+ghost use Rattle.sd_script.specs.Command.{CommandValue, Open, AddContainer, AddObject, SetOwner, SetGroup, SetDacl, Remove, Protect, Learn, Check, Show, asks, check_of, command_value};
 ghost use Rattle.sd_script.specs.Fault.{UnlessMemory};
 ghost use Rattle.sd_script.specs.Word.{texts};
 
 use crate::argument::{dacl_in, mask_in, node_in, number_in, path_in, sid_in, token_in};
 use crate::command::Command;
-use crate::fault::{LineFault, Stop};
-use crate::mode::Mode;
+use crate::fault::Stop;
 use sd_share::Request;
 use sd_tree::{Edit, Path, RootSpec};
 use std::alloc::Global;
 
 /// What a line asks for.
 #[derive(Debug, Drop)]
-pub(crate) enum Asked {
+pub enum Asked {
     /// A store for so many readers, with this root.
     Opening { readers: u64, root: RootSpec },
     /// Something of the store that is open.
     Asking(Request),
 }
 
-/// What a command asks for in this mode, or its first argument from the left that isn't read.
-pub(crate) fn asked_by(alloc: Global, mode: Mode, command: Command<'_>) -> Result<Asked, Stop>
-    ensures { UnlessMemory (asks mode (command_value command.entry)) result }
-{
-    let asked = asked_by_words(alloc, command)?;
-    let asked = in_mode(mode, asked)?;
-    Ok(asked)
-}
-
-/// What is asked for, in this mode: an audit tells, teaches and shows nothing.
-fn in_mode(mode: Mode, asked: Asked) -> Result<Asked, LineFault>
-    ensures { in_mode mode asked result }
-{
-    match (mode, asked) {
-        (_, Asked::Opening { readers, root }) => Ok(Asked::Opening {
-            readers: mode.readers(readers),
-            root,
-        }),
-        (
-            Mode::Audit(_),
-            Asked::Asking(Request::Tell | Request::Learn { .. } | Request::Show { .. }),
-        ) => Err(LineFault::Audit),
-        (_, asked) => Ok(asked),
-    }
-}
-
-/// What a command asks for, by its words alone.
-fn asked_by_words(alloc: Global, command: Command<'_>) -> Result<Asked, Stop>
-    ensures { UnlessMemory (asks_by_words (command_value command.entry)) result }
+/// What a command asks for, or its first argument from the left that isn't read.
+pub(crate) fn asked_by(alloc: Global, command: Command<'_>) -> Result<Asked, Stop>
+    ensures { UnlessMemory (asks (command_value command.entry)) result }
 {
     match command {
         Command::Open { readers, sddl } => opening(alloc, readers, sddl),
@@ -75,7 +48,7 @@ fn asked_by_words(alloc: Global, command: Command<'_>) -> Result<Asked, Stop>
 }
 
 fn opening(alloc: Global, readers: &str, sddl: &str) -> Result<Asked, Stop>
-    ensures { UnlessMemory (asks_by_words (Open readers.now sddl.now)) result }
+    ensures { UnlessMemory (asks (Open readers.now sddl.now)) result }
 {
     let readers = number_in(readers)?;
     let root = node_in(alloc, sddl)?;
@@ -83,7 +56,7 @@ fn opening(alloc: Global, readers: &str, sddl: &str) -> Result<Asked, Stop>
 }
 
 fn added_container(alloc: Global, path: &str, sddl: &str) -> Result<Asked, Stop>
-    ensures { UnlessMemory (asks_by_words (AddContainer path.now sddl.now)) result }
+    ensures { UnlessMemory (asks (AddContainer path.now sddl.now)) result }
 {
     let path = path_in(alloc, path)?;
     let RootSpec { owner, group, dacl } = node_in(alloc, sddl)?;
@@ -96,7 +69,7 @@ fn added_container(alloc: Global, path: &str, sddl: &str) -> Result<Asked, Stop>
 }
 
 fn added_object(alloc: Global, path: &str, sddl: &str) -> Result<Asked, Stop>
-    ensures { UnlessMemory (asks_by_words (AddObject path.now sddl.now)) result }
+    ensures { UnlessMemory (asks (AddObject path.now sddl.now)) result }
 {
     let path = path_in(alloc, path)?;
     let RootSpec { owner, group, dacl } = node_in(alloc, sddl)?;
@@ -109,7 +82,7 @@ fn added_object(alloc: Global, path: &str, sddl: &str) -> Result<Asked, Stop>
 }
 
 fn set_owner(alloc: Global, path: &str, sid: &str) -> Result<Asked, Stop>
-    ensures { UnlessMemory (asks_by_words (SetOwner path.now sid.now)) result }
+    ensures { UnlessMemory (asks (SetOwner path.now sid.now)) result }
 {
     let path = path_in(alloc, path)?;
     let owner = sid_in(sid)?;
@@ -117,7 +90,7 @@ fn set_owner(alloc: Global, path: &str, sid: &str) -> Result<Asked, Stop>
 }
 
 fn set_group(alloc: Global, path: &str, sid: &str) -> Result<Asked, Stop>
-    ensures { UnlessMemory (asks_by_words (SetGroup path.now sid.now)) result }
+    ensures { UnlessMemory (asks (SetGroup path.now sid.now)) result }
 {
     let path = path_in(alloc, path)?;
     let group = sid_in(sid)?;
@@ -125,7 +98,7 @@ fn set_group(alloc: Global, path: &str, sid: &str) -> Result<Asked, Stop>
 }
 
 fn set_dacl(alloc: Global, path: &str, sddl: &str) -> Result<Asked, Stop>
-    ensures { UnlessMemory (asks_by_words (SetDacl path.now sddl.now)) result }
+    ensures { UnlessMemory (asks (SetDacl path.now sddl.now)) result }
 {
     let path = path_in(alloc, path)?;
     let dacl = dacl_in(alloc, sddl)?;
@@ -133,21 +106,21 @@ fn set_dacl(alloc: Global, path: &str, sddl: &str) -> Result<Asked, Stop>
 }
 
 fn removed(alloc: Global, path: &str) -> Result<Asked, Stop>
-    ensures { UnlessMemory (asks_by_words (Remove path.now)) result }
+    ensures { UnlessMemory (asks (Remove path.now)) result }
 {
     let path = path_in(alloc, path)?;
     Ok(Asked::Asking(Request::Edit(Edit::Remove { path })))
 }
 
 fn protected(alloc: Global, path: &str) -> Result<Asked, Stop>
-    ensures { UnlessMemory (asks_by_words (Protect path.now)) result }
+    ensures { UnlessMemory (asks (Protect path.now)) result }
 {
     let path = path_in(alloc, path)?;
     Ok(Asked::Asking(Request::Edit(Edit::ProtectKeeping { path })))
 }
 
 fn learned(reader: &str, length: &str) -> Result<Asked, Stop>
-    ensures { UnlessMemory (asks_by_words (Learn reader.now length.now)) result }
+    ensures { UnlessMemory (asks (Learn reader.now length.now)) result }
 {
     let reader = number_in(reader)?;
     let length = number_in(length)?;
@@ -162,7 +135,8 @@ fn checked(
     mask: &str,
     words: &[&str],
 ) -> Result<Asked, Stop>
-    ensures { UnlessMemory (asks_by_words (Check reader.now path.now user.now mask.now (texts words.now))) result }
+    ensures { UnlessMemory
+        (asks (Check reader.now path.now user.now mask.now (texts words.now))) result }
 {
     let reader = number_in(reader)?;
     let path = path_in(alloc, path)?;
@@ -192,7 +166,7 @@ fn checked_for(
 }
 
 fn shown(alloc: Global, reader: &str, path: &str) -> Result<Asked, Stop>
-    ensures { UnlessMemory (asks_by_words (Show reader.now path.now)) result }
+    ensures { UnlessMemory (asks (Show reader.now path.now)) result }
 {
     let reader = number_in(reader)?;
     let path = path_in(alloc, path)?;

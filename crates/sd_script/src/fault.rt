@@ -9,7 +9,7 @@ use std::alloc::{AllocError, AllocFailed, Global};
 
 /// The first thing that is wrong with a line: of the line as a whole, and then of its arguments from the left.
 #[derive(Clone, Copy, Debug, PartialEq, Eq)]
-pub(crate) enum LineFault {
+pub enum LineFault {
     /// The line isn't UTF-8.
     Utf8,
     /// There is no such command, it takes another number of words, or a word is empty.
@@ -30,14 +30,14 @@ pub(crate) enum LineFault {
     Mask,
     /// The word is no group and no privilege.
     Token,
-    /// An audit tells, teaches and shows nothing.
-    Audit,
 }
 
-/// Why a line isn't read: its fault, or want of memory.
+/// Why a line isn't read.
 #[derive(Clone, Copy, Debug, PartialEq, Eq)]
-pub(crate) enum Stop {
+pub enum Stop {
+    /// The line's first fault.
     Fault(LineFault),
+    /// Memory was refused.
     Memory,
 }
 
@@ -65,8 +65,8 @@ impl<T: Drop> From<AllocFailed<T>> for Stop {
     }
 }
 
-/// The line that tells the fault.
-pub(crate) fn line_of_fault(alloc: Global, fault: LineFault) -> Result<String, AllocError>
+/// The line that tells the fault, as `fault words`.
+pub fn line_of_fault(alloc: Global, fault: LineFault) -> Result<String, AllocError>
     ensures { IfOk result (λ text. string_bytes text ≡ line_of_fault fault) }
 {
     match fault {
@@ -80,6 +80,5 @@ pub(crate) fn line_of_fault(alloc: Global, fault: LineFault) -> Result<String, A
         LineFault::Parts => fault_line(alloc, "parts"),
         LineFault::Mask => fault_line(alloc, "mask"),
         LineFault::Token => fault_line(alloc, "token"),
-        LineFault::Audit => fault_line(alloc, "audit"),
     }
 }

@@ -6,33 +6,34 @@
 //!
 //! ```text
 //! let text = b"open 1 O:BAG:SYD:\naddo /a O:BAG:SYD:(A;;FR;;;BU)\npublish\ncheck 0 /a BU 0x1\n";
-//! let printed = script_output(alloc, Mode::Script, text)?;
+//! let printed = script_output(alloc, text)?;
 //! // printed holds "opened 1\nok\npublished 1\nseen 1 granted 0x1\n"
 //! ```
 //!
-//! The lines of verdicts and faults, and the words that make a token, are the command line's too.
+//! What reads a line and what prints a reply is public, for who carries out a script in another way. The lines of verdicts
+//! and faults, and the words that make a token, are the command line's too.
 #![tactic(auto)]
 
 mod answer;
 mod argument;
 mod asked;
-mod audit;
-mod auditing;
-mod closing;
 mod command;
 mod fault;
-mod hearing;
+mod laws;
 mod line;
 mod lines;
-mod mode;
 mod reply;
 mod script;
 mod streams;
 mod word;
 
 pub use answer::{fault_line, sddl_fault_line, verdict_line};
-pub use audit::run_audit;
-pub use mode::Mode;
+pub use asked::Asked;
+pub use laws::texts_have_one_output;
+pub use fault::{LineFault, Stop, line_of_fault};
+pub use line::read_line;
+pub use lines::{first_line, is_silent};
+pub use reply::{counted_line, reply_line, start_error_line};
 pub use script::script_output;
 pub use streams::run;
 pub use word::{TokenError, read_token};

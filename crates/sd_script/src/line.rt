@@ -6,18 +6,12 @@ use crate::asked::{Asked, asked_by};
 use crate::command::command_of;
 use crate::fault::{LineFault, Stop};
 use crate::lines::words_of;
-use crate::mode::Mode;
 use std::alloc::Global;
 use std::str::from_utf8;
 
-/// What a line asks for, where a store is open or none is; or its first fault.
-pub(crate) fn read_line(
-    alloc: Global,
-    mode: Mode,
-    is_open: bool,
-    line: &[u8],
-) -> Result<Asked, Stop>
-    ensures { UnlessMemory (line_asks mode is_open line.now) result }
+/// What a line that isn't silent asks for, where a store is open or none is; or its first fault.
+pub fn read_line(alloc: Global, is_open: bool, line: &[u8]) -> Result<Asked, Stop>
+    ensures { UnlessMemory (line_asks is_open line.now) result }
 {
     let Ok(text) = from_utf8(line) else {
         return Err(Stop::Fault(LineFault::Utf8));
@@ -29,5 +23,5 @@ pub(crate) fn read_line(
     if command.is_untimely(is_open) {
         return Err(Stop::Fault(LineFault::Open));
     }
-    asked_by(alloc, mode, command)
+    asked_by(alloc, command)
 }

@@ -7,8 +7,8 @@ ghost use Rattle.sd_script.specs.Word.{texts};
 
 use std::alloc::{AllocError, Global};
 
-/// The first line of a text, and what stands behind it.
-pub(crate) fn first_line(text: &[u8]) -> (&[u8], &[u8])
+/// The first line of a text, and what stands after it.
+pub fn first_line(text: &[u8]) -> (&[u8], &[u8])
     requires { 0 < length text.now }
     ensures lines { lines text.now ≡ result.0.now ∷ lines result.1.now }
     ensures less { length result.1.now < length text.now }
@@ -43,7 +43,7 @@ fn without_return(line: &[u8]) -> &[u8]
 }
 
 /// Whether a line asks for nothing: it is empty, or begins with `#`.
-pub(crate) fn is_silent(line: &[u8]) -> bool
+pub fn is_silent(line: &[u8]) -> bool
     ensures { result ≡ is_silent line.now }
 {
     match line.first() {

@@ -10,7 +10,7 @@ use sd_tree::{CheckReply, EditRefusal};
 use std::alloc::{AllocError, Global};
 
 /// The line of a reply. Want of memory has none: it is told as an error.
-pub(crate) fn reply_line(alloc: Global, reply: &Reply) -> Result<String, AllocError>
+pub fn reply_line(alloc: Global, reply: &Reply) -> Result<String, AllocError>
     ensures { IfOk result (λ text. reply_line reply.now ≡ Some (string_bytes text)) }
 {
     match reply {
@@ -34,7 +34,7 @@ pub(crate) fn reply_line(alloc: Global, reply: &Reply) -> Result<String, AllocEr
 }
 
 /// The line that tells why a store wasn't opened. Want of memory has none: it is told as an error.
-pub(crate) fn start_error_line(alloc: Global, error: StartError) -> Result<String, AllocError>
+pub fn start_error_line(alloc: Global, error: StartError) -> Result<String, AllocError>
     ensures { IfOk result (λ text. start_error_line error ≡ Some (string_bytes text)) }
 {
     match error {
@@ -44,8 +44,8 @@ pub(crate) fn start_error_line(alloc: Global, error: StartError) -> Result<Strin
     }
 }
 
-/// A word, and a number behind it.
-pub(crate) fn counted_line(alloc: Global, word: &str, number: u64) -> Result<String, AllocError>
+/// The line of a word and a number, as `published 1`.
+pub fn counted_line(alloc: Global, word: &str, number: u64) -> Result<String, AllocError>
     ensures { IfOk result (λ text. string_bytes text ≡ counted_line word.now number) }
 {
     let text = format!(in alloc; "{word} {number}\n")?;
@@ -62,14 +62,14 @@ fn refused_line(alloc: Global, refusal: EditRefusal) -> Result<String, AllocErro
 }
 
 /// By how long a journal, and what it gives to the end of the line.
-pub(crate) fn seen_line(alloc: Global, seen: u64, what: &str) -> Result<String, AllocError>
+fn seen_line(alloc: Global, seen: u64, what: &str) -> Result<String, AllocError>
     ensures { IfOk result (λ text. string_bytes text ≡ seen_line seen what.now) }
 {
     let text = format!(in alloc; "seen {seen} {what}")?;
     Ok(text)
 }
 
-pub(crate) fn check_line(alloc: Global, reply: CheckReply) -> Result<String, AllocError>
+fn check_line(alloc: Global, reply: CheckReply) -> Result<String, AllocError>
     ensures { IfOk result (λ text. string_bytes text ≡ check_line reply) }
 {
     match reply {

@@ -7,7 +7,6 @@ use crate::asked::Asked;
 use crate::fault::{Stop, line_of_fault};
 use crate::line::read_line;
 use crate::lines::{first_line, is_silent};
-use crate::mode::Mode;
 use crate::reply::{counted_line, reply_line, start_error_line};
 use sd_share::{Desk, Request};
 use sd_sid::GenericMapping;
@@ -16,19 +15,18 @@ use std::alloc::{AllocError, Global};
 
 /// The whole output of a script. Each line is answered by one line; an empty line, and one that begins with `#`, by
 /// none. A line that can't be carried out is answered by its first fault, and the script goes on. Fails only where
-/// memory is refused. In the mode of an audit its faults are told, and its checks answered where they stand: the audit,
-/// which keeps them to the end, is `run_audit`.
-pub fn script_output(alloc: Global, mode: Mode, text: &[u8]) -> Result<Vec<u8>, AllocError>
-    ensures { IfOk result (λ printed. Prints mode text.now printed.items) }
+/// memory is refused.
+pub fn script_output(alloc: Global, text: &[u8]) -> Result<Vec<u8>, AllocError>
+    ensures { IfOk result (λ printed. Prints text.now printed.items) }
 {
     let mut desk = None;
     let mut printed = Vec::new(alloc);
     let mut rest = text;
     while !rest.is_empty() {
-        let (line, behind) = first_line(rest);
-        let answer = answer_line(alloc, mode, &mut desk, line)?;
+        let (line, after) = first_line(rest);
+        let answer = answer_line(alloc, &mut desk, line)?;
         printed.extend_from_slice(answer.as_bytes())?;
-        rest = behind;
+        rest = after;
     }
     Ok(printed)
 }
@@ -36,16 +34,15 @@ pub fn script_output(alloc: Global, mode: Mode, text: &[u8]) -> Result<Vec<u8>, 
 /// What a line is answered by. The desk is the store that is open, if one is.
 fn answer_line(
     alloc: Global,
-    mode: Mode,
     desk: &mut Option<Desk>,
     line: &[u8],
 ) -> Result<String, AllocError>
-    ensures { IfOk result (λ text. IsAnswered mode desk.old line.now (string_bytes text) desk.new) }
+    ensures { IfOk result (λ text. IsAnswered desk.old line.now (string_bytes text) desk.new) }
 {
     if is_silent(line) {
         return Ok(String::new(alloc));
     }
-    match read_line(alloc, mode, desk.is_some(), line) {
+    match read_line(alloc, desk.is_some(), line) {
         Ok(Asked::Opening { readers, root }) => open_store(alloc, desk, readers, &root),
         Ok(Asked::Asking(request)) => ask(alloc, desk, &request),
         Err(Stop::Fault(fault)) => line_of_fault(alloc, fault),

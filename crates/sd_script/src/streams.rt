@@ -1,12 +1,11 @@
 //! A script over streams.
 
-ghost use Rattle.std.specs.Prelude.{◌≡◌, ◌||◌, Err, IfErr, OnOk};
+ghost use Rattle.std.specs.Prelude.{◌≡◌, ◌≢◌, ◌||◌, Err, IfErr, OnOk};
 ghost use Rattle.sd_stream.specs.Watched.{inner_of, has_failed};
 ghost use Rattle.sd_stream.specs.Whole.{is_read_error, is_write_error, ReadsPart};
 ghost use Rattle.sd_script.specs.Output.{Prints};
 ghost use Rattle.sd_script.specs.Run.{AppendsOutput, LeavesOutput};
 
-use crate::mode::Mode;
 use crate::script::script_output;
 use sd_stream::{RunError, Watched, read_whole, write_whole};
 use std::alloc::Global;
@@ -23,16 +22,17 @@ pub fn run<R: Read, W: Write>(
     reader: &mut Watched<R>,
     writer: &mut Watched<W>,
 ) -> Result<(), RunError>
-    ensures ok { OnOk result (AppendsOutput (Prints Mode.Script) (R.remaining (inner_of reader.old))
+    ensures ok { OnOk result (AppendsOutput Prints (R.remaining (inner_of reader.old))
         (W.contents (inner_of writer.old)) (W.contents (inner_of writer.new))) }
-    ensures err { IfErr result (LeavesOutput (Prints Mode.Script) (R.remaining (inner_of reader.old))
+    ensures err { IfErr result (LeavesOutput Prints (R.remaining (inner_of reader.old))
         (W.contents (inner_of writer.old)) (W.contents (inner_of writer.new))) }
     ensures too_long { result ≡ Err RunError.TooLong
         → ReadsPart (R.remaining (inner_of reader.old)) (R.remaining (inner_of reader.new)) RunError.TooLong }
+    ensures no_thread { result ≢ Err RunError.Thread }
     ensures read { has_failed reader.new ≡ (has_failed reader.old || is_read_error result) }
     ensures write { has_failed writer.new ≡ (has_failed writer.old || is_write_error result) }
 {
     let text = read_whole(alloc, reader)?;
-    let printed = script_output(alloc, Mode::Script, &text)?;
+    let printed = script_output(alloc, &text)?;
     write_whole(writer, &printed)
 }

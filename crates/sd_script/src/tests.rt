@@ -1,18 +1,16 @@
 //! Whole scripts, each with its whole output.
 
 use crate::{
-    Mode, TokenError, fault_line, read_token, run_audit, script_output, sddl_fault_line,
-    verdict_line,
+    Asked, LineFault, Stop, TokenError, counted_line, fault_line, first_line, is_silent,
+    line_of_fault, read_line, read_token, reply_line, script_output, sddl_fault_line,
+    start_error_line, verdict_line,
 };
 use sd_acl::Verdict;
+use sd_share::{Reply, Request, StartError};
 use sd_sid::Mask;
-use sd_store::{Gate, OpenGate};
-use sd_stream::{RunError, Watched};
 use sd_text::{TextFault, read_sid_text};
-use std::alloc::AllocGlobal;
-use std::sync::Wait;
+use std::alloc::{AllocError, Global};
 use std::test::Fail;
-use std::thread::Threads;
 
 /// Scripts, and what they print.
 static SCRIPTS: [(&str, &str); 9] = [
@@ -62,15 +60,70 @@ static SCRIPTS: [(&str, &str); 9] = [
 #[test]
 fn prints_the_output_of_scripts(rt: HostRuntime) -> Result<(), Fail> {
     for (script, output) in &SCRIPTS {
-        let printed = script_output(rt.alloc(), Mode::Script, script.as_bytes())?;
+        let printed = script_output(rt.alloc(), script.as_bytes())?;
         assert_eq!(rt; printed.as_slice(), output.as_bytes(), "{script}");
+    }
+    Ok(())
+}
+
+/// An object below so many containers, one below the other.
+fn objects_below(alloc: Global, depth: usize) -> Result<String, AllocError> {
+    let mut script = String::from_str(alloc, "open 1 O:BAG:SYD:\n")?;
+    let mut path = String::new(alloc);
+    for _ in 0..depth {
+        path.push_str("/a")?;
+        script.push_str(format!(in alloc; "addc {path} O:BAG:SYD:\n")?.as_str())?;
+    }
+    script.push_str(format!(in alloc; "addo {path}/a O:BAG:SYD:\n")?.as_str())?;
+    Ok(script)
+}
+
+#[test]
+fn refuses_what_lies_too_deep(rt: HostRuntime) -> Result<(), Fail> {
+    for (depth, last) in [(63, "ok\n"), (64, "refused 10 TooDeep\n")] {
+        let script = objects_below(rt.alloc(), depth)?;
+        let mut output = String::from_str(rt.alloc(), "opened 1\n")?;
+        for _ in 0..depth {
+            output.push_str("ok\n")?;
+        }
+        output.push_str(last)?;
+        let printed = script_output(rt.alloc(), script.as_bytes())?;
+        assert_eq!(rt; printed.as_slice(), output.as_bytes(), "{depth}");
+    }
+    Ok(())
+}
+
+/// A script over a root with so many entries of 20 bytes that objects inherit: an object that inherits them, with one more
+/// of its own or none, and the root's descriptor given to it with one entry more.
+fn heirs_of(alloc: Global, count: usize) -> Result<String, AllocError> {
+    let mut entries = String::new(alloc);
+    for _ in 0..count {
+        entries.push_str("(A;OI;FR;;;WD)")?;
+    }
+    format!(in alloc; "open 1 O:BAG:SYD:{entries}\naddo /a O:BAG:SYD:(A;;FR;;;WD)\naddo /b O:BAG:SYD:\ndacl /b D:{entries}(A;;FR;;;WD)\n")
+}
+
+#[test]
+fn refuses_lists_that_are_too_large(rt: HostRuntime) -> Result<(), Fail> {
+    // 8 bytes and 3,276 times 20 are 65,528, and the limit is 65,535.
+    let rows = [
+        (3275, "opened 1\nok\nok\nrefused 9 AclTooLarge\n"),
+        (
+            3276,
+            "opened 1\nrefused 9 AclTooLarge\nok\nfault sddl 8 AclTooLarge at 45877\n",
+        ),
+    ];
+    for (count, output) in rows {
+        let script = heirs_of(rt.alloc(), count)?;
+        let printed = script_output(rt.alloc(), script.as_bytes())?;
+        assert_eq!(rt; printed.as_slice(), output.as_bytes(), "{count}");
     }
     Ok(())
 }
 
 #[test]
 fn lines_that_are_no_text(rt: HostRuntime) -> Result<(), Fail> {
-    let printed = script_output(rt.alloc(), Mode::Script, b"\xFF\n#\xFF\ntell")?;
+    let printed = script_output(rt.alloc(), b"\xFF\n#\xFF\ntell")?;
     assert_eq!(rt; printed.as_slice(), b"fault utf8\nfault open\n".as_slice());
     Ok(())
 }
@@ -101,97 +154,40 @@ fn tokens_of_words(rt: HostRuntime) -> Result<(), Fail> {
     Ok(())
 }
 
-/// An audit that is answered by two workers as by one, and by 64.
-const AUDIT: &str =
-    "open 1 O:BAG:SYD:\naddo /a O:BAG:SYD:(A;;FR;;;BU)\ncheck 0 /a S-1-5-21-1-2-3-1001 FR BU\ncheck 0 /b S-1-5-21-1-2-3-1001 0x1\n";
-
-/// Audits by so many workers, and what they print.
-static AUDITS: [(u64, &str, &str); 9] = [
-    (
-        1,
-        AUDIT,
-        "opened 1\nok\npublished 1\ntold 1\nseen 1 granted 0x120089\nseen 1 nonode\n",
-    ),
-    (
-        2,
-        AUDIT,
-        "opened 2\nok\npublished 1\ntold 1\nseen 1 granted 0x120089\nseen 1 nonode\n",
-    ),
-    (
-        64,
-        AUDIT,
-        "opened 64\nok\npublished 1\ntold 1\nseen 1 granted 0x120089\nseen 1 nonode\n",
-    ),
-    // No store is open at the end.
-    (2, "", ""),
-    (
-        2,
-        "check 0 / WD 0x1\ntell\nopen 1 O:BAG:SYD:(A;ID;FR;;;BU)\npublish\n",
-        "fault open\nfault open\nrefused 7 InheritedEntry\nfault open\n",
-    ),
-    // An audit tells, teaches and shows nothing, and of a line's faults the first is told.
-    (
-        2,
-        "tell\nopen x D:\nopen 99 O:BAG:SYD:\ntell\nlearn x 1\nlearn 0 1\nshow 0 a\nshow 0 /a\ntell 1\ncheck x / WD 0x1\ncheck 7 / WD 0x1\nopen 1 O:BAG:SYD:\n",
-        "fault open\nfault number\nopened 2\nfault audit\nfault number\nfault audit\nfault path\nfault audit\nfault words\nfault number\nfault open\ntold 0\nseen 0 denied 0x1\n",
-    ),
-    // Edits are judged and published as in a script; a refused opening comes before one that is taken.
-    (
-        3,
-        "open 1 O:BAG:SYD:(A;ID;FR;;;BU)\n# and now\nopen 1 O:BAG:SYD:(A;OICI;FA;;;BA)\ncheck 0 /a BA FA\naddc /a O:BAG:SYD:\naddc /a O:BAG:SYD:\npublish\npublish\naddo /a/b O:BAG:SYD:\nremove /a\nowner /a/b\n",
-        "refused 7 InheritedEntry\nopened 3\nok\nrefused 3 Exists\npublished 1\npublished 1\nok\nrefused 5 NotEmpty\nfault words\npublished 2\ntold 2\nseen 2 granted 0x1f01ff\n",
-    ),
-    // Nothing waits at the end.
-    (
-        1,
-        "open 1 O:BAG:SYD:\naddo /a O:BAG:SYD:\npublish\n",
-        "opened 1\nok\npublished 1\ntold 1\n",
-    ),
-    // A number that a store never has.
-    (
-        65,
-        AUDIT,
-        "refused readers\nfault open\nfault open\nfault open\n",
-    ),
-];
-
-/// What an audit answers, and what it writes.
-fn audited<T: Threads + Wait + Sync + AllocGlobal, G: Gate + Sync>(
-    rt: &T,
-    workers: u64,
-    script: &str,
-    gate: &G,
-) -> (Result<(), RunError>, Vec<u8>) {
-    let alloc = rt.alloc();
-    let mut reader = Watched::new(script.as_bytes());
-    let mut writer = Watched::new(Vec::new(alloc));
-    let ended = run_audit(rt, alloc, workers, &mut reader, &mut writer, gate);
-    (ended, writer.into_inner())
+#[test]
+fn lines_one_by_one(rt: HostRuntime) {
+    let (line, after) = first_line(b"tell\r\npublish\n");
+    assert_eq!(rt; line, b"tell".as_slice());
+    assert_eq!(rt; after, b"publish\n".as_slice());
+    assert!(rt; is_silent(b"# tell") && is_silent(b""));
+    assert!(rt; !is_silent(b" "));
+    let asked = read_line(rt.alloc(), true, b"learn 1 2");
+    assert!(rt;
+        matches!(
+            asked,
+            Ok(Asked::Asking(Request::Learn {
+                reader: 1,
+                length: 2
+            }))
+        )
+    );
+    assert!(rt;
+        matches!(
+            read_line(rt.alloc(), false, b"learn 1 2"),
+            Err(Stop::Fault(LineFault::Open))
+        )
+    );
 }
 
 #[test]
-fn prints_the_output_of_audits(rt: HostRuntime) {
-    for (workers, script, output) in &AUDITS {
-        let (ended, printed) = audited(&rt, *workers, script, &OpenGate);
-        assert_eq!(rt; ended, Ok(()), "{script}");
-        assert_eq!(rt; printed.as_slice(), output.as_bytes(), "{script}");
-    }
-}
-
-/// A gate that lets no check through.
-struct Closed;
-
-impl Gate for Closed {
-    fn before(&self, _worker: u64, _k: u64) -> bool {
-        false
-    }
-
-    fn after(&self, _worker: u64, _k: u64) {}
-}
-
-#[test]
-fn tells_of_a_closed_gate(rt: HostRuntime) {
-    let (ended, printed) = audited(&rt, 2, AUDIT, &Closed);
-    assert_eq!(rt; ended, Err(RunError::Thread));
-    assert!(rt; printed.is_empty());
+fn lines_of_replies(rt: HostRuntime) -> Result<(), Fail> {
+    let line = reply_line(rt.alloc(), &Reply::Learned(3))?;
+    assert_eq!(rt; line.as_str(), "learned 3\n");
+    let line = start_error_line(rt.alloc(), StartError::Readers)?;
+    assert_eq!(rt; line.as_str(), "refused readers\n");
+    let line = counted_line(rt.alloc(), "opened", 64)?;
+    assert_eq!(rt; line.as_str(), "opened 64\n");
+    let line = line_of_fault(rt.alloc(), LineFault::Parts)?;
+    assert_eq!(rt; line.as_str(), "fault parts\n");
+    Ok(())
 }

@@ -1,29 +1,26 @@
 //! Why a whole input wasn't read, or a whole output not written.
 
-ghost use Rattle.std.specs.Prelude.{◌≡◌};
-ghost use Rattle.sd_stream.specs.Error.{run_error_number};
+ghost use Rattle.std.specs.Prelude.{◌≡◌, Some};
+ghost use Rattle.std.specs.Fmt.{padded};
+ghost use Rattle.sd_stream.specs.Error.{run_error_number, run_error_name};
 ghost use Rattle.sd_stream.specs.declared.error.RunError.TheVariants.{Memory};
 
 use std::alloc::{AllocError, AllocFailed};
-use thiserror::Error;
+use std::error::Error;
+use std::fmt;
 
-/// Why a run over streams ended early. Its text is what the errors' stream gets.
-#[derive(Clone, Copy, Debug, PartialEq, Eq, Error)]
+/// Why a run over streams ended early.
+#[derive(Clone, Copy, Debug, PartialEq, Eq)]
 pub enum RunError {
     /// The reader failed.
-    #[error("sdstore: read")]
     Read,
     /// The input has more than 16,777,216 bytes.
-    #[error("sdstore: too long")]
     TooLong,
     /// The writer failed.
-    #[error("sdstore: write")]
     Write,
     /// Memory was refused.
-    #[error("sdstore: memory")]
     Memory,
     /// The workers of an audit, or the store that they share, didn't answer.
-    #[error("sdstore: thread")]
     Thread,
 }
 
@@ -40,7 +37,32 @@ impl RunError {
             RunError::Thread => 5,
         }
     }
+
+    /// The error's name, by which it is shown.
+    pub fn name(self) -> &'static str
+        ensures { result.now ≡ run_error_name self }
+    {
+        match self {
+            RunError::Read => "Read",
+            RunError::TooLong => "TooLong",
+            RunError::Write => "Write",
+            RunError::Memory => "Memory",
+            RunError::Thread => "Thread",
+        }
+    }
 }
+
+impl fmt::Display for RunError {
+    ghost output = { λ error. Some (run_error_name error) };
+
+    ghost styled_output = { λ error spec. Some (padded spec (run_error_name error)) };
+
+    fn fmt<W: fmt::Write>(&self, f: &mut fmt::Formatter<W>) -> fmt::Result {
+        f.pad(self.name())
+    }
+}
+
+impl Error for RunError {}
 
 impl From<AllocError> for RunError {
     ghost from_gives = { λ _ error. error ≡ Memory };

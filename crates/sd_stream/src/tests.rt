@@ -191,19 +191,20 @@ fn one_byte(alloc: Global) -> Result<Vec<u8>, RunError> {
 }
 
 #[test]
-fn errors_have_numbers_and_texts(rt: HostRuntime) {
+fn errors_have_numbers_and_names(rt: HostRuntime) {
     let bytes = one_byte(rt.alloc()).expect(&rt, "memory is there");
     assert_eq!(rt; bytes.len(), 1);
     let rows = [
-        (RunError::Read, 1, "sdstore: read"),
-        (RunError::TooLong, 2, "sdstore: too long"),
-        (RunError::Write, 3, "sdstore: write"),
-        (RunError::from(AllocError), 4, "sdstore: memory"),
-        (RunError::Thread, 5, "sdstore: thread"),
+        (RunError::Read, 1, "Read"),
+        (RunError::TooLong, 2, "TooLong"),
+        (RunError::Write, 3, "Write"),
+        (RunError::from(AllocError), 4, "Memory"),
+        (RunError::Thread, 5, "Thread"),
     ];
-    for (error, number, text) in rows {
+    for (error, number, name) in rows {
         assert_eq!(rt; error.number(), number);
-        let printed = error.to_string(rt.alloc()).expect(&rt, "memory is there");
-        assert_eq!(rt; printed.as_str(), text);
+        assert_eq!(rt; error.name(), name);
+        let shown = error.to_string(rt.alloc()).expect(&rt, "memory is there");
+        assert_eq!(rt; shown.as_str(), name);
     }
 }

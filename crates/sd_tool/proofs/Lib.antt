@@ -1,1 +1,2 @@
 pub mod LawProofs
+pub mod Telling

@@ -25,10 +25,9 @@ use Rattle.sd_check.specs.Dacl.{dacl_entries}
 use Rattle.sd_check.specs.Token.{TokenValue}
 use Rattle.sd_script.specs.Answer.{line, verdict_line, fault_line, sddl_fault_line}
 use Rattle.sd_script.specs.Word.{IsToken, IsNoWordIn, texts}
-use Rattle.sd_script.specs.Audit.{PrintsAudit}
 use Rattle.sd_script.specs.Output.{Prints}
 use Rattle.sd_script.specs.Run.{IsOutput}
-use Rattle.sd_script.specs.declared.mode.Mode.TheVariants.{Script}
+use Rattle.sd_script_audit.specs.Audit.{PrintsAudit}
 use Rattle.sd_tool.specs.CommandLine.{InvocationValue, Verdict as AsksVerdict, Print, ToBinary, FromBinary, Script as AsksScript, Audit as AsksAudit, Help, Version}
 use Rattle.sd_tool.specs.declared.answer.Outcome.{Outcome}
 use Rattle.sd_tool.specs.declared.answer.Outcome.TheVariants.{Done, Refused}
@@ -119,7 +118,7 @@ AnswersFromBinary written printed outcome = AnswersDecoded (decode_of written) p
 
 -- the output of the script on the input
 abbrev pub AnswersScript : Option (List ℕ) → List ℕ → Outcome → Type 0
-AnswersScript input printed outcome = IsOutput (Prints Script) input printed × (outcome ≡ Done)
+AnswersScript input printed outcome = IsOutput Prints input printed × (outcome ≡ Done)
 
 -- the output of the audit of the script on the input
 abbrev pub AnswersAudit : ℕ → Option (List ℕ) → List ℕ → Outcome → Type 0

@@ -1,6 +1,7 @@
 -- The one reading of a command line: which words run a command, and which ask for help or for the version. Any other
 -- words aren't read.
 use Rattle.std.specs.Prelude.{◌≡◌, ℕ, List, [], ◌∷◌, ◌+◌, ◌-◌, ◌*◌, nat_le, Bool, true, false, ◌||◌, ◌&&◌, if◌then◌else◌, Option, Some, None, option_map, codes, bytes_eq}
+use Rattle.std.specs.Option.{option_map_or}
 use Rattle.std.specs.Borrow.{Bor}
 use Rattle.std.specs.Char.{is_ascii_digit}
 use Rattle.sd_tool.specs.declared.command_line.CommandName.{CommandName}
@@ -84,13 +85,17 @@ with_command command [] = command_on command []
 with_command command (word ∷ []) = if is_help_flag word.now then Some (Help (Some command)) else command_on command (arguments_in (word ∷ []))
 with_command command (word ∷ next ∷ words) = command_on command (arguments_in (word ∷ next ∷ words))
 
--- a word that is no command, and the words behind it
+-- the help that a word after `help` asks for: on the command that it names, or, as `help` itself, on the program
+abbrev pub help_on : List ℕ → Option InvocationValue
+help_on word = if is_help word then Some (Help None) else option_map (λ command. Help (Some command)) (command_named word)
+
+-- a word that is no command, and the words after it
 abbrev pub without_command : List ℕ → List (Bor (List ℕ)) → Option InvocationValue
 without_command word [] =
     if is_help_flag word || is_help word then Some (Help None)
     else (if is_version_flag word then Some Version
     else None)
-without_command word (next ∷ []) = if is_help word then option_map (λ command. Help (Some command)) (command_named next.now) else None
+without_command word (next ∷ []) = if is_help word then help_on next.now else None
 without_command word (next ∷ other ∷ words) = None
 
 abbrev behind_name : List ℕ → List (Bor (List ℕ)) → Option InvocationValue
@@ -116,3 +121,11 @@ is_script (ToBinary sddl) = false
 is_script (FromBinary hex) = false
 is_script (Help command) = false
 is_script Version = false
+
+-- the words ask for a script or for an audit
+abbrev pub asks_input : List (Bor (List ℕ)) → Bool
+asks_input words = option_map_or is_script (reading words) false
+
+-- the words ask for an audit
+abbrev pub IsAudit : List (Bor (List ℕ)) → Type 0
+IsAudit words = (workers : ℕ) × (reading words ≡ Some (Audit workers))

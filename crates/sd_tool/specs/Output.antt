@@ -1,11 +1,13 @@
 -- What the program leaves in a writer whose bytes are known.
-use Rattle.std.specs.Prelude.{◌≡◌, ℕ, List, Option, Some}
+use Rattle.std.specs.Prelude.{◌≡◌, ℕ, Bool, false, ◌||◌, List, Option, Some, Result, Ok, Err, codes, string_bytes}
 use Rattle.std.specs.Io.KnownBytes.{Appends, Keeps}
 use Rattle.std.specs.Borrow.{Bor}
-use Rattle.sd_stream.specs.Whole.{AppendsBeginning}
+use Rattle.sd_stream.specs.Whole.{AppendsBeginning, ReadsPart, is_read_error, is_write_error}
+use Rattle.sd_stream.specs.declared.error.RunError.{RunError}
 use Rattle.sd_stream.specs.declared.error.RunError.TheVariants.{Read, TooLong, Write, Memory, Thread}
+use Rattle.sd_script.specs.Answer.{line}
 use Rattle.sd_tool.specs.Answer.{Answers}
-use Rattle.sd_tool.specs.CommandLine.{InvocationValue, reading, IsUnread}
+use Rattle.sd_tool.specs.CommandLine.{InvocationValue, reading, IsAudit, IsUnread}
 use Rattle.sd_tool.specs.Status.{outcome_status}
 use Rattle.sd_tool.specs.declared.answer.Outcome.{Outcome}
 use Rattle.sd_tool.specs.declared.failure.Failure.{Failure}
@@ -38,3 +40,34 @@ LeavesAtFailure words input old new (Run TooLong) = Keeps old new
 LeavesAtFailure words input old new (Run Write) = AppendsPartOfAnswer words input old new
 LeavesAtFailure words input old new (Run Memory) = Keeps old new
 LeavesAtFailure words input old new (Run Thread) = Keeps old new
+
+-- what standard error gets of an error
+abbrev pub error_line : RunError → List ℕ
+error_line Read = line (codes "sdstore: read")
+error_line TooLong = line (codes "sdstore: too long")
+error_line Write = line (codes "sdstore: write")
+error_line Memory = line (codes "sdstore: memory")
+error_line Thread = line (codes "sdstore: thread")
+
+abbrev pub failure_text : Failure → List ℕ
+failure_text (Unread reason) = string_bytes reason
+failure_text (Run error) = error_line error
+
+-- whether the answer is that the reader failed, or that the writer did
+abbrev pub blames_reader : {T : Type 0} → Result T Failure → Bool
+blames_reader (Ok x) = false
+blames_reader (Err (Unread reason)) = false
+blames_reader (Err (Run error)) = is_read_error {T = Unit {0}} (Err error)
+
+abbrev pub blames_writer : {T : Type 0} → Result T Failure → Bool
+blames_writer (Ok x) = false
+blames_writer (Err (Unread reason)) = false
+blames_writer (Err (Run error)) = is_write_error {T = Unit {0}} (Err error)
+
+-- an error blames a stream just where that stream failed, TooLong comes only where too much was read, and Thread of an
+-- audit alone; of want of memory no stream tells
+pub record IsDue (words : List (Bor (List ℕ))) (read_before read_after write_before write_after : Bool) (old new : Option (List ℕ)) (error : RunError) : Type 0 where
+  pub read : read_after ≡ (read_before || is_read_error {T = Unit {0}} (Err error))
+  pub write : write_after ≡ (write_before || is_write_error {T = Unit {0}} (Err error))
+  pub too_long : error ≡ TooLong → ReadsPart old new TooLong
+  pub thread : error ≡ Thread → IsAudit words

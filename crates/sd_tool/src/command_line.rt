@@ -1,6 +1,6 @@
 //! The reading of a command line: what its words ask for.
 ghost use Rattle.std.specs.Prelude.{◌≡◌, option_map};
-ghost use Rattle.sd_tool.specs.CommandLine.{arguments_in as arguments_of, command_named, command_on as command_of, count_of, invocation_of, is_help_flag as is_help_flag_of, reading, with_command, without_command, workers_of};
+ghost use Rattle.sd_tool.specs.CommandLine.{arguments_in as arguments_of, command_named, command_on as command_of, count_of, help_on as help_of, invocation_of, is_help_flag as is_help_flag_of, reading, with_command, without_command, workers_of};
 
 /// A command of the program.
 #[derive(Clone, Copy, Debug, PartialEq, Eq)]
@@ -101,13 +101,23 @@ fn read_without_command<'a>(word: &str, words: &[&str]) -> Option<Invocation<'a>
     match words {
         [] if is_help_flag(word) || word == "help" => Some(Invocation::Help { command: None }),
         [] if word == "-V" || word == "--version" => Some(Invocation::Version),
-        [next] if word == "help" => match CommandName::named(next) {
-            Some(command) => Some(Invocation::Help {
-                command: Some(command),
-            }),
-            None => None,
-        },
+        [next] if word == "help" => help_on(next),
         _ => None,
+    }
+}
+
+/// The help that a word after `help` asks for: on the command that it names, or, as `help` itself, on the program.
+fn help_on<'a>(word: &str) -> Option<Invocation<'a>>
+    ensures { option_map invocation_of result ≡ help_of word.now }
+{
+    if word == "help" {
+        return Some(Invocation::Help { command: None });
+    }
+    match CommandName::named(word) {
+        Some(command) => Some(Invocation::Help {
+            command: Some(command),
+        }),
+        None => None,
     }
 }
 

@@ -1,21 +1,19 @@
 //! Why the program ends without an answer.
 ghost use Rattle.std.specs.Prelude.{◌≡◌};
+ghost use Rattle.sd_tool.specs.Output.{error_line, failure_text};
 ghost use Rattle.sd_stream.specs.declared.error.RunError.TheVariants.{Memory};
 ghost use Rattle.sd_tool.specs.Status.{failure_status};
 ghost use Rattle.sd_tool.specs.declared.failure.Failure.TheVariants.{Run};
 
 use sd_stream::RunError;
 use std::alloc::{AllocError, AllocFailed};
-use thiserror::Error;
 
-/// Why there is no answer. Its text is what standard error gets.
-#[derive(Debug, Drop, Error)]
+/// Why there is no answer.
+#[derive(Debug, Drop)]
 pub(crate) enum Failure {
     /// The words aren't a command line, and the text says why.
-    #[error("{0}")]
     Unread(String),
-    /// A stream failed or held too much, or memory was refused.
-    #[error("{0}\n")]
+    /// A stream failed or held too much, memory was refused, or an audit's workers got no answers.
     Run(RunError),
 }
 
@@ -28,6 +26,28 @@ impl Failure {
             Failure::Unread(_) => 2,
             Failure::Run(_) => 3,
         }
+    }
+
+    /// What standard error gets.
+    pub(crate) fn text(&self) -> &str
+        ensures { result.now ≡ failure_text self.now }
+    {
+        match self {
+            Failure::Unread(reason) => reason.as_str(),
+            Failure::Run(error) => line_of_error(*error),
+        }
+    }
+}
+
+fn line_of_error(error: RunError) -> &'static str
+    ensures { result.now ≡ error_line error }
+{
+    match error {
+        RunError::Read => "sdstore: read\n",
+        RunError::TooLong => "sdstore: too long\n",
+        RunError::Write => "sdstore: write\n",
+        RunError::Memory => "sdstore: memory\n",
+        RunError::Thread => "sdstore: thread\n",
     }
 }
 

@@ -17,12 +17,14 @@ mod convert;
 mod failure;
 mod laws;
 mod program;
+mod shown;
 mod usage;
 mod verdict;
 mod version;
 
 pub use laws::{dashes_keep_texts, help_stands_alone};
 pub use program::drive;
-pub use sd_script::{run, run_audit};
+pub use sd_script::run;
+pub use sd_script_audit::run_audit;
 pub use sd_store::{Gate, OpenGate};
 pub use sd_stream::{RunError, Watched};

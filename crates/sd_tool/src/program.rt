@@ -1,25 +1,28 @@
 //! The program over any words and streams: words in, an answer and a status out.
-ghost use Rattle.std.specs.Prelude.{◌≡◌, ◌≤◌, ◌⊎◌, IfErr, IfOk};
+ghost use Rattle.std.specs.Prelude.{◌≡◌, ◌≤◌, ◌⊎◌, ◌||◌, false, Err, IfErr, IfOk};
 ghost use Rattle.std.specs.Io.KnownBytes.{Keeps};
-ghost use Rattle.sd_stream.specs.Watched.{inner_of};
-ghost use Rattle.sd_tool.specs.CommandLine.{IsUnread};
-ghost use Rattle.sd_tool.specs.Output.{AppendsAnswer, AppendsPartOfAnswer, LeavesAtFailure};
+ghost use Rattle.sd_stream.specs.Watched.{has_failed, inner_of};
+ghost use Rattle.sd_stream.specs.Whole.{AppendsBeginning, ReadsPart};
+ghost use Rattle.sd_stream.specs.declared.error.RunError.{RunError as Error};
+ghost use Rattle.sd_tool.specs.CommandLine.{IsAudit, IsUnread, asks_input};
+ghost use Rattle.sd_tool.specs.Output.{AppendsAnswer, AppendsPartOfAnswer, IsDue, LeavesAtFailure, blames_reader, blames_writer, error_line};
 ghost use Rattle.sd_tool.specs.Status.{outcome_status};
 
 use crate::answer::{Answer, Outcome, answer_to};
 use crate::command_line::{Invocation, read_command_line};
 use crate::failure::Failure;
 use crate::usage::refusal;
-use sd_script::{run, run_audit};
+use sd_script::run;
+use sd_script_audit::run_audit;
 use sd_store::OpenGate;
-use sd_stream::{Watched, write_whole};
+use sd_stream::{RunError, Watched, write_whole};
 use std::alloc::Global;
 use std::io::{Read, Write};
 use std::sync::Wait;
 use std::thread::Threads;
 
 /// Does what the program does with these words, of which the first is its name, and with these
-/// streams, and answers the status with which it ends. Only `script` and `audit` read `reader`, and
+/// streams, and answers the status with which it ends. Only `script` and `audit` use `reader`, and
 /// only `audit` starts threads and waits for them.
 ///
 /// - 0: the text was printed, or the right granted, or the script carried out to its end. Help and
@@ -35,12 +38,13 @@ pub fn drive<T: Threads + Wait + Sync, R: Read, W: Write, E: Write>(
     words: &[&str],
     reader: &mut Watched<R>,
     writer: &mut Watched<W>,
-    errors: &mut E,
+    errors: &mut Watched<E>,
 ) -> u8
     ensures statuses { result ≤ 3 }
     ensures answered { result ≤ 1 → AppendsAnswer words.now (R.remaining (inner_of reader.old))
         (W.contents (inner_of writer.old)) (W.contents (inner_of writer.new)) result }
-    ensures quiet { result ≤ 1 → Keeps (E.contents errors.old) (E.contents errors.new) }
+    ensures quiet { result ≤ 1
+        → Keeps (E.contents (inner_of errors.old)) (E.contents (inner_of errors.new)) }
     ensures unread { result ≡ 2 → IsUnread words.now
         × Keeps (W.contents (inner_of writer.old)) (W.contents (inner_of writer.new)) }
     ensures refused { IsUnread words.now → (2 ≤ result)
@@ -49,12 +53,21 @@ pub fn drive<T: Threads + Wait + Sync, R: Read, W: Write, E: Write>(
         → Keeps (W.contents (inner_of writer.old)) (W.contents (inner_of writer.new))
         ⊎ AppendsPartOfAnswer words.now (R.remaining (inner_of reader.old))
         (W.contents (inner_of writer.old)) (W.contents (inner_of writer.new)) }
+    ensures told { result ≡ 3 → (error : Error)
+        × IsDue words.now (has_failed reader.old) (has_failed reader.new)
+        (has_failed writer.old) (has_failed writer.new)
+        (R.remaining (inner_of reader.old)) (R.remaining (inner_of reader.new)) error
+        × AppendsBeginning (E.contents (inner_of errors.old)) (E.contents (inner_of errors.new))
+        (error_line error) }
+    ensures sound { result ≤ 2 → (has_failed reader.new ≡ has_failed reader.old)
+        × (has_failed writer.new ≡ has_failed writer.old) }
+    ensures unused { asks_input words.now ≡ false → reader.new ≡ reader.old }
 {
     match carry_out(rt, alloc, words, reader, writer) {
         Ok(outcome) => outcome.status(),
         Err(failure) => {
             // The status stands, also where the errors can't be written.
-            let _ = write!(errors, "{failure}");
+            let _ = write_whole(errors, failure.text().as_bytes());
             failure.status()
         }
     }
@@ -71,6 +84,12 @@ fn carry_out<T: Threads + Wait + Sync, R: Read, W: Write>(
         (W.contents (inner_of writer.old)) (W.contents (inner_of writer.new)) (outcome_status outcome)) }
     ensures err { IfErr result (LeavesAtFailure words.now (R.remaining (inner_of reader.old))
         (W.contents (inner_of writer.old)) (W.contents (inner_of writer.new))) }
+    ensures read { has_failed reader.new ≡ (has_failed reader.old || blames_reader result) }
+    ensures write { has_failed writer.new ≡ (has_failed writer.old || blames_writer result) }
+    ensures too_long { result ≡ Err (Failure.Run RunError.TooLong)
+        → ReadsPart (R.remaining (inner_of reader.old)) (R.remaining (inner_of reader.new)) RunError.TooLong }
+    ensures thread { result ≡ Err (Failure.Run RunError.Thread) → IsAudit words.now }
+    ensures unused { asks_input words.now ≡ false → reader.new ≡ reader.old }
 {
     let Some(invocation) = read_command_line(words) else {
         return Err(Failure::Unread(refusal(alloc, words)?));

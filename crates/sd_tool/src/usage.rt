@@ -1,6 +1,7 @@
 //! The commands as `clap` describes them: the help texts, and what is told of words that aren't a
 //! command line. Which words are one isn't `clap`'s to say: `command_line` reads them.
 use crate::command_line::CommandName;
+use crate::shown::shown_words;
 use crate::version::VERSION;
 use clap::error::ErrorKind;
 use clap::{Arg, Command, Error};
@@ -12,7 +13,7 @@ Statuses:
   1  an argument's fault was printed, or a verdict other than granted
   2  the words aren't a command line
   3  memory was wanting, the input wasn't read or too long, the output didn't take the answer, or
-     an audit's workers got none
+     an audit's workers got no answers
 
 Example:
   sdstore verdict 'D:(A;;FR;;;WD)' S-1-5-21-1-2-3-1001 0x1 WD";
@@ -70,7 +71,7 @@ Statuses:
      didn't take the answer
 
 Example:
-  printf 'open 1 O:BAG:SYD:\\naddo /a O:BAG:SYD:(A;;FR;;;WD)\\npublish\\ncheck 0 /a BU FR WD\\n' | sdstore script";
+  printf 'open 1 O:BAG:SYD:\\naddo /a O:BAG:SYD:(A;;FR;;;WD)\\npublish\\ncheck 0 /a SY FR WD\\n' | sdstore script";
 
 const AUDIT_NOTES: &str = "\
 Each line is answered as by 'sdstore script', but that
@@ -83,12 +84,12 @@ Statuses:
   0  the audit was carried out to its end, whatever its lines were answered
   2  the words aren't a command line
   3  memory was wanting, the input wasn't read or has more than 16777216 bytes, the output didn't
-     take the answer, or the workers got none
+     take the answer, or the workers got no answers
 
 Example:
-  printf 'open 1 O:BAG:SYD:\\naddo /a O:BAG:SYD:(A;;FR;;;WD)\\ncheck 0 /a BU FR WD\\n' | sdstore audit 4";
+  printf 'open 1 O:BAG:SYD:\\naddo /a O:BAG:SYD:(A;;FR;;;WD)\\ncheck 0 /a SY FR WD\\n' | sdstore audit 4";
 
-const USER: &str = "The user's SID: in full, as S-1-5-21-1-2-3-1001, or an alias, as BU";
+const USER: &str = "The user's SID: in full, as S-1-5-21-1-2-3-1001, or an alias, as SY";
 
 const MASK: &str = "\
 The rights that are asked for, spelled as the rights of an entry: names without a space, as
@@ -130,21 +131,25 @@ pub(crate) fn help(alloc: Global, command: Option<CommandName>) -> Result<String
 }
 
 /// Why the words aren't a command line: by `clap`, where it doesn't take them either.
-pub(crate) fn refusal<'a>(alloc: Global, words: &'a [&'a str]) -> Result<String, AllocError> {
+pub(crate) fn refusal(alloc: Global, words: &[&str]) -> Result<String, AllocError> {
+    let shown = shown_words(alloc, words)?;
+    let words: Vec<&str> = shown.iter().map(|word| word.as_str()).collect(alloc)?;
+    let error = refusal_of(alloc, words.as_slice())?;
+    text_of(alloc, error)
+}
+
+fn refusal_of<'a>(alloc: Global, words: &'a [&'a str]) -> Result<Error, AllocError> {
     let mut sdstore = sdstore(alloc)?;
     match error_on(&mut sdstore, words) {
-        Some(error) if error.use_stderr() => text_of(alloc, error),
-        Some(_shown) => text_of(
-            alloc,
-            sdstore.error(ErrorKind::UnknownArgument, STANDS_ALONE)?,
-        ),
-        None => text_of(
-            alloc,
-            match words {
-                [_, "audit", ..] => sdstore.error(ErrorKind::ValueValidation, WORKERS)?,
-                _ => sdstore.error(ErrorKind::UnknownArgument, LATER_DASHES)?,
-            },
-        ),
+        Some(error) if error.use_stderr() => Ok(error),
+        Some(_shown) => sdstore.error(ErrorKind::UnknownArgument, STANDS_ALONE),
+        None => match words {
+            [_, "audit", ..] => {
+                let mut audit = audit_command(alloc)?;
+                audit.error(ErrorKind::ValueValidation, WORKERS)
+            }
+            _ => sdstore.error(ErrorKind::UnknownArgument, LATER_DASHES),
+        },
     }
 }
 

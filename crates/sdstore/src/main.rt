@@ -40,6 +40,6 @@ fn run<T: Env + AllocGlobal + Threads + Wait + Sync, R: Read + Drop, W: Write + 
         words.as_slice(),
         &mut Watched::new(input),
         &mut Watched::new(output),
-        errors,
+        &mut Watched::new(errors),
     ))
 }

@@ -36,12 +36,12 @@ fn run_over<T: AllocGlobal + Threads + Wait + Sync, R: Read + Drop>(
     let alloc = rt.alloc();
     let mut reader = Watched::new(input);
     let mut writer = Watched::new(Vec::new(alloc));
-    let mut errors = Vec::new(alloc);
+    let mut errors = Watched::new(Vec::new(alloc));
     let status = drive(rt, alloc, words, &mut reader, &mut writer, &mut errors);
     Ended {
         status,
         output: writer.into_inner(),
-        errors,
+        errors: errors.into_inner(),
     }
 }
 

@@ -7,4 +7,4 @@ ask-requires c =
     let line = c.args.line.now in
     let asked = rw (c.in-Ok-Asking.field-0-is) at c.in-Ok-Asking.ensures in
     let standing = rw (c.is_some.ensures) at asked in
-    open_where_asked c.args.mode c.args.desk.now line c.in-Ok-Asking.request standing
+    open_where_asked c.args.desk.now line c.in-Ok-Asking.request standing

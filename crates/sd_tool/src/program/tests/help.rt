@@ -64,6 +64,42 @@ fn refuses_other_words(rt: HostRuntime) -> Result<(), Fail> {
     Ok(())
 }
 
+#[test]
+fn tells_the_usage_of_the_command(rt: HostRuntime) -> Result<(), Fail> {
+    let rows: [(&[&str], &str); 3] = [
+        (&["sdstore", "audit", "0"], "Usage: sdstore audit [--] <N>\n"),
+        (&["sdstore", "audit"], "Usage: sdstore audit [--] <N>\n"),
+        (&["sdstore", "frob"], "Usage: sdstore <COMMAND>\n"),
+    ];
+    for (words, usage) in rows {
+        let ended = run(&rt, words);
+        let text = str::from_utf8(ended.errors.as_slice()).ok().ok_or("text")?;
+        assert!(rt; text.contains(usage), "{words:?}: {text}");
+    }
+    Ok(())
+}
+
+#[test]
+fn shows_control_characters_escaped(rt: HostRuntime) -> Result<(), Fail> {
+    let rows = [
+        ("a\nb", "'a\\u{a}b'"),
+        ("\r", "'\\u{d}'"),
+        ("\u{1b}[2J", "'\\u{1b}[2J'"),
+        ("\0", "'\\u{0}'"),
+        ("\u{7f}", "'\\u{7f}'"),
+        ("\u{85}\u{9b}", "'\\u{85}\\u{9b}'"),
+        ("\u{2028}\u{2029}", "'\\u{2028}\\u{2029}'"),
+        ("\u{e9}", "'\u{e9}'"),
+    ];
+    for (word, shown) in rows {
+        let ended = run(&rt, &["sdstore", word]);
+        assert_eq!(rt; ended.status, 2);
+        let text = str::from_utf8(ended.errors.as_slice()).ok().ok_or("text")?;
+        assert!(rt; text.contains(shown), "{text}");
+    }
+    Ok(())
+}
+
 /// What is printed for words that ask for help or the version.
 fn shown(rt: &(impl Abort + AllocGlobal + Threads + Wait + Sync), words: &[&str]) -> Vec<u8> {
     let ended = run(rt, words);
@@ -75,6 +111,7 @@ fn shown(rt: &(impl Abort + AllocGlobal + Threads + Wait + Sync), words: &[&str]
 #[test]
 fn prints_help_on_each_command(rt: HostRuntime) -> Result<(), Fail> {
     let program = shown(&rt, &["sdstore", "help"]);
+    assert!(rt; shown(&rt, &["sdstore", "help", "help"]).as_slice() == program.as_slice());
     assert!(rt; shown(&rt, &["sdstore", "-h"]).as_slice() == program.as_slice());
     assert!(rt; shown(&rt, &["sdstore", "--help"]).as_slice() == program.as_slice());
     expect_example(&rt, program.as_slice())?;
@@ -159,5 +196,3 @@ fn prints_the_version(rt: HostRuntime) {
         expect(&rt, &["sdstore", flag], lines, 0);
     }
 }
-
-// The line has eleven bytes, so the twelfth call is the flush.

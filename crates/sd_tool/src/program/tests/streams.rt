@@ -63,11 +63,11 @@ fn tells_of_a_writer_that_fails(rt: HostRuntime) {
         for fault in [Fault::Refuses, Fault::IsInterrupted, Fault::TakesNothing] {
             for calls in 0..11 {
                 let mut writer = Watched::new(Failing::after(rt.alloc(), calls, fault));
-                let mut errors = Vec::new(rt.alloc());
+                let mut errors = Watched::new(Vec::new(rt.alloc()));
                 let input = &mut Watched::new(b"tell".as_slice());
                 let status = drive(&rt, rt.alloc(), words, input, &mut writer, &mut errors);
                 assert_eq!(rt; status, 3, "{fault:?} after {calls}");
-                assert_eq!(rt; errors.as_slice(), b"sdstore: write\n".as_slice());
+                assert_eq!(rt; errors.into_inner().as_slice(), b"sdstore: write\n".as_slice());
                 let writer = writer.into_inner();
                 assert_eq!(rt; writer.taken.len() as u64, calls, "{fault:?}");
                 assert!(rt; answer.starts_with(writer.taken.as_slice()));
@@ -76,12 +76,13 @@ fn tells_of_a_writer_that_fails(rt: HostRuntime) {
     }
 }
 
+// The line has eleven bytes, so the twelfth call is the flush.
 #[test]
 fn tells_of_a_flush_that_fails(rt: HostRuntime) {
     let words = ["sdstore", "verdict", "D:", USER, "zz"];
     for (fault, status) in [(Fault::Refuses, 3), (Fault::TakesNothing, 1)] {
         let mut writer = Watched::new(Failing::after(rt.alloc(), 11, fault));
-        let mut errors = Vec::new(rt.alloc());
+        let mut errors = Watched::new(Vec::new(rt.alloc()));
         let input = &mut Watched::new(io::empty());
         let ended = drive(&rt, rt.alloc(), &words, input, &mut writer, &mut errors);
         assert_eq!(rt; ended, status, "{fault:?}");
@@ -92,7 +93,7 @@ fn tells_of_a_flush_that_fails(rt: HostRuntime) {
 
 #[test]
 fn keeps_the_status_where_errors_fail(rt: HostRuntime) {
-    let mut errors = Failing::after(rt.alloc(), 0, Fault::Refuses);
+    let mut errors = Watched::new(Failing::after(rt.alloc(), 0, Fault::Refuses));
     let mut output = Watched::new(Vec::new(rt.alloc()));
     let input = &mut Watched::new(io::empty());
     let words = ["sdstore", "frob"];

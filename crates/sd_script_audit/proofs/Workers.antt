@@ -1,0 +1,259 @@
+-- Audits of one text by two numbers of workers: once a store is open, what is printed is the same.
+use Rattle.std.proofs.Common.{◌≡◌, ◌⊎◌, ℕ, Bool, true, false, List, [], ◌∷◌, ◌++◌, length, Option, Some, None, Ok, Err, inl, inr, refl, sym, ◌∙◌, ap, subst, append_assoc, arith}
+use Rattle.std.specs.Prelude.{MatchBool, codes, is_some}
+use Rattle.std.specs.List.{flat_map}
+use Rattle.std.specs.Str.Lines.{lines}
+use Rattle.sd_tree.specs.declared.edit.Edit.{Edit}
+use Rattle.sd_tree.specs.declared.opening.Opening.{Opening}
+use Rattle.sd_tree.specs.declared.opening.RootSpec.{RootSpec}
+use Rattle.sd_tree.specs.declared.refusal.EditRefusal.{EditRefusal}
+use Rattle.sd_share.specs.Machine.{Machine, due, started}
+use Rattle.sd_share.specs.Starts.{IsReaderCount, IsStartError}
+use Rattle.sd_share.specs.declared.request.Request.{Request}
+use Rattle.sd_share.specs.declared.request.Request.TheVariants as requests
+use Rattle.sd_share.specs.declared.start.StartError.{StartError}
+use Rattle.sd_share.specs.declared.start.StartError.TheVariants as starts
+use Rattle.sd_store.specs.declared.query.Query.{Query}
+use Rattle.sd_script.specs.Command.{line_asks}
+use Rattle.sd_script.specs.Fault.{line_of_fault}
+use Rattle.sd_script.specs.Lines.{is_silent}
+use Rattle.sd_script.specs.Output.{IsDone, IsOpened, opening_with}
+use Rattle.sd_script.specs.Reply.{counted_line, refused_line, start_error_line}
+use Rattle.sd_script.specs.declared.asked.Asked.{Asked}
+use Rattle.sd_script.specs.declared.asked.Asked.TheVariants.{Opening as Opens, Asking}
+use Rattle.sd_script.specs.declared.fault.LineFault.{LineFault}
+use Rattle.sd_script.proofs.OneOutput.{line-one, no_error, edited, outcome, one_step}
+use Rattle.sd_script.proofs.Timely.{line_opens}
+use Rattle.sd_script_audit.specs.Audit.{Progress, IsAnsweredInAudit, IsDoneInAudit, AreAnsweredInAudit, IsEnd, answer_line, last_publish, unopened}
+use Rattle.sd_script_audit.specs.Laws.{DifferInOpening, WorkersShowInTheOpening}
+
+-- ---- machines that differ in their readers alone
+
+-- a machine as an audit sees it, without its readers
+abbrev unread : Machine → Machine
+unread m = record { opening = m.opening; published = m.published; pending = m.pending; floors = [] }
+
+abbrev unread_after : List ℕ × Machine → List ℕ × Machine
+unread_after x = (x.0, unread x.1)
+
+edited_unread : (m : Machine) (e : Edit) (d : Option EditRefusal) → unread_after (edited m e d) ≡ unread_after (edited (unread m) e d)
+edited_unread m e None = refl
+edited_unread m e (Some refusal) = refl
+
+-- one request of two such machines
+same_outcome : (x y : Machine) (r : Request) → unread_after (outcome x r) ≡ unread_after (outcome (unread x) r)
+    → unread_after (outcome y r) ≡ unread_after (outcome (unread y) r) → unread x ≡ unread y → unread_after (outcome x r) ≡ unread_after (outcome y r)
+same_outcome x y r one other alike = one ∙ ap (λ m. unread_after (outcome m r)) alike ∙ sym other
+
+-- ---- stores that differ in their readers alone
+
+-- both are open
+pub record AreAlike (a b : Progress) : Type 0 where
+  pub one : Machine
+  pub other : Machine
+  pub one_is : a.store ≡ Some one
+  pub other_is : b.store ≡ Some other
+  pub alike : unread one ≡ unread other
+  pub queries : a.queries ≡ b.queries
+
+module _ (a b : Progress) (alike : AreAlike a b) where
+  -- a request of both stores
+  step_alike : (r : Request) (p q : List ℕ) (c d : Progress) → ((m : Machine) → unread_after (outcome m r) ≡ unread_after (outcome (unread m) r))
+      → IsDone a.store (Asking r) p c.store × (c.queries ≡ a.queries) → IsDone b.store (Asking r) q d.store × (d.queries ≡ b.queries)
+      → (p ≡ q) × AreAlike c d
+  step_alike r p q c d blind one other =
+      let first = subst (λ s. IsDone s (Asking r) p c.store) alike.one_is one.0 in
+      let second = subst (λ s. IsDone s (Asking r) q d.store) alike.other_is other.0 in
+      let same = ap unread_after (one_step alike.one r first.0 first.1 p first.2 first.3)
+          ∙ same_outcome alike.one alike.other r (blind alike.one) (blind alike.other) alike.alike
+          ∙ sym (ap unread_after (one_step alike.other r second.0 second.1 q second.2 second.3)) in (
+        ap (λ (x : List ℕ × Machine). x.0) same,
+        record {
+          one = first.1;
+          other = second.1;
+          one_is = first.4;
+          other_is = second.4;
+          alike = ap (λ (x : List ℕ × Machine). x.1) same;
+          queries = one.1 ∙ alike.queries ∙ sym other.1;
+        },
+      )
+
+  -- what changes nothing
+  stay_alike : (printed p q : List ℕ) (c d : Progress) → (p ≡ printed) × (c ≡ a) → (q ≡ printed) × (d ≡ b) → (p ≡ q) × AreAlike c d
+  stay_alike printed p q c d one other =
+      (one.0 ∙ sym other.0, subst (λ e. AreAlike c e) (sym other.1) (subst (λ e. AreAlike e b) (sym one.1) alike))
+
+  done_alike : (n m : ℕ) (r : Request) (p q : List ℕ) (c d : Progress)
+      → IsDoneInAudit n a (Asking r) p c → IsDoneInAudit m b (Asking r) q d → (p ≡ q) × AreAlike c d
+  done_alike n m (requests.Edit e) p q c d one other = step_alike (requests.Edit e) p q c d (λ x. edited_unread x e (due x e)) one other
+  done_alike n m requests.Publish p q c d one other = step_alike requests.Publish p q c d (λ x. refl) one other
+  done_alike n m requests.Tell p q c d one other = stay_alike _ p q c d one other
+  done_alike n m (requests.Learn reader len) p q c d one other = stay_alike _ p q c d one other
+  done_alike n m (requests.Show reader path) p q c d one other = stay_alike _ p q c d one other
+  done_alike n m (requests.Check reader path token asked) p q c d one other = (
+    one.0 ∙ sym other.0,
+    record {
+      one = alike.one;
+      other = alike.other;
+      one_is = ap (λ (x : Progress). x.store) one.1 ∙ alike.one_is;
+      other_is = ap (λ (x : Progress). x.store) other.1 ∙ alike.other_is;
+      alike = alike.alike;
+      queries = ap (λ (x : Progress). x.queries) one.1
+      ∙ ap (λ (xs : List Query). xs ++ record { path = path; token = token; asked = asked } ∷ []) alike.queries
+      ∙ sym (ap (λ (x : Progress). x.queries) other.1);
+    },
+  )
+
+-- ---- lines
+
+-- a line that isn't silent is answered
+abbrev Loud : ℕ → Progress → List ℕ → List ℕ → Progress → Type 0
+Loud n a text p c =
+    ((asked : Asked) × line_asks (is_some a.store) text (Ok asked) × IsDoneInAudit n a asked p c)
+    ⊎ ((fault : LineFault) × line_asks (is_some a.store) text (Err fault) × (p ≡ line_of_fault fault) × (c ≡ a))
+
+module _ (n m : ℕ) (text : List ℕ) where
+  asking_alike : (a b : Progress) (asked : Asked) (p q : List ℕ) (c d : Progress) → AreAlike a b → line_asks true text (Ok asked)
+      → IsDoneInAudit n a asked p c → IsDoneInAudit m b asked q d → (p ≡ q) × AreAlike c d
+  asking_alike a b (Opens readers root) p q c d alike asks one other = absurd (let no = line_opens true text (Opens readers root) asks in cc (no))
+  asking_alike a b (Asking r) p q c d alike asks one other = done_alike a b alike n m r p q c d one other
+
+  loud_alike : (a b : Progress) (p q : List ℕ) (c d : Progress) → AreAlike a b → Loud n a text p c → Loud m b text q d → (p ≡ q) × AreAlike c d
+  loud_alike a b p q c d alike (inl one) (inl other) =
+      let first = subst (λ s. line_asks (is_some s) text (Ok one.0)) alike.one_is one.1 in
+      let second = subst (λ s. line_asks (is_some s) text (Ok other.0)) alike.other_is other.1 in
+      let same = line-one true text (Ok one.0) (Ok other.0) first second in
+      let asked : one.0 ≡ other.0 = cc (same) in
+      asking_alike a b other.0 p q c d alike second (subst (λ x. IsDoneInAudit n a x p c) asked one.2) other.2
+  loud_alike a b p q c d alike (inl one) (inr other) = absurd (
+    let first = subst (λ s. line_asks (is_some s) text (Ok one.0)) alike.one_is one.1 in
+    let second = subst (λ s. line_asks (is_some s) text (Err other.0)) alike.other_is other.1 in
+    let no = line-one true text (Ok one.0) (Err other.0) first second in cc (no))
+  loud_alike a b p q c d alike (inr one) (inl other) = absurd (
+    let first = subst (λ s. line_asks (is_some s) text (Err one.0)) alike.one_is one.1 in
+    let second = subst (λ s. line_asks (is_some s) text (Ok other.0)) alike.other_is other.1 in
+    let no = line-one true text (Err one.0) (Ok other.0) first second in cc (no))
+  loud_alike a b p q c d alike (inr one) (inr other) =
+      let first = subst (λ s. line_asks (is_some s) text (Err one.0)) alike.one_is one.1 in
+      let second = subst (λ s. line_asks (is_some s) text (Err other.0)) alike.other_is other.1 in
+      let same = line-one true text (Err one.0) (Err other.0) first second in
+      let fault : one.0 ≡ other.0 = cc (same) in
+      stay_alike a b alike (line_of_fault other.0) p q c d (one.2 ∙ ap line_of_fault fault, one.3) (other.2, other.3)
+
+  by_silence : (silent : Bool) (a b : Progress) (p q : List ℕ) (c d : Progress) → AreAlike a b
+      → MatchBool silent ((p ≡ []) × (c ≡ a)) (Loud n a text p c) → MatchBool silent ((q ≡ []) × (d ≡ b)) (Loud m b text q d) → (p ≡ q) × AreAlike c d
+  by_silence true a b p q c d alike one other = stay_alike a b alike [] p q c d one other
+  by_silence false a b p q c d alike one other = loud_alike a b p q c d alike one other
+
+abbrev end_of : Machine → List Query → List ℕ
+end_of x queries =
+    last_publish x.pending (length (x.published ++ x.pending)) ++ counted_line (codes "told") (length (x.published ++ x.pending))
+    ++ flat_map (answer_line x.opening (x.published ++ x.pending)) queries
+
+-- what is printed from an open store on
+all_alike : (n m : ℕ) (texts : List (List ℕ)) (a b : Progress) (p q : List ℕ) → AreAlike a b
+    → AreAnsweredInAudit n a texts p → AreAnsweredInAudit m b texts q → p ≡ q
+all_alike n m [] a b p q alike one other =
+    let first : p ≡ end_of alike.one a.queries = subst (λ s. IsEnd s a.queries p) alike.one_is one in
+    let second : q ≡ end_of alike.other b.queries = subst (λ s. IsEnd s b.queries q) alike.other_is other in
+    first ∙ ap (λ x. end_of x a.queries) alike.alike ∙ ap (end_of alike.other) alike.queries ∙ sym second
+all_alike n m (text ∷ texts) a b p q alike one other =
+    let first = by_silence n m text (is_silent text) a b one.0 other.0 one.1 other.1 alike one.3 other.3 in
+    let rest = all_alike n m texts one.1 other.1 one.2 other.2 first.1 one.4 other.4 in
+    one.5 ∙ ap (λ xs. xs ++ one.2) first.0 ∙ ap (λ xs. other.0 ++ xs) rest ∙ sym other.5
+
+-- ---- before a store is open
+
+progress_is : (a : Progress) → a.store ≡ None → a.queries ≡ [] → a ≡ unopened
+progress_is a store queries =
+    subst (λ s. a ≡ record { store = s; queries = [] }) store (subst (λ (xs : List Query). a ≡ record { store = a.store; queries = xs }) queries refl)
+
+-- an error with a line, of a number of readers that a store can have
+root_error : (e : StartError) (n : ℕ) (due : Option EditRefusal) (p : List ℕ) → IsReaderCount n → IsStartError e n due → start_error_line e ≡ Some p
+    → (r : EditRefusal) × (due ≡ Some r) × (Some (refused_line r) ≡ Some p)
+root_error starts.Readers n due p count (inl is) text = absurd (omega (arith, is, count.0))
+root_error starts.Readers n due p count (inr is) text = absurd (omega (arith, is, count.1))
+root_error (starts.Root r) n due p count is text = (r, is.1, text)
+root_error starts.Memory n due p count is text = absurd (cc (text))
+root_error starts.Place n due p count is text = absurd is
+
+module _ (n m : ℕ) (some : IsReaderCount n) (others : IsReaderCount m) where
+  -- no store is open afterwards, or both are
+  abbrev Opened : List ℕ → List ℕ → Progress → Progress → Type 0
+  Opened p q c d =
+      ((p ≡ q) × (c ≡ unopened) × (d ≡ unopened))
+      ⊎ ((p ≡ counted_line (codes "opened") n) × (q ≡ counted_line (codes "opened") m) × AreAlike c d)
+
+  opening : (root : RootSpec) (p q : List ℕ) (c d : Progress) → IsOpened n root p c.store × (c.queries ≡ [])
+      → IsOpened m root q d.store × (d.queries ≡ []) → Opened p q c d
+  opening root p q c d (inl one, none) (inl other, nothing) = inr (one.2, other.2, record {
+    one = started (opening_with root) n;
+    other = started (opening_with root) m;
+    one_is = one.3;
+    other_is = other.3;
+    alike = refl;
+    queries = none ∙ sym nothing;
+  })
+  opening root p q c d (inl one, none) (inr other, nothing) = absurd (no_error other.0 m _ q others one.1 other.1 other.2)
+  opening root p q c d (inr one, none) (inl other, nothing) = absurd (no_error one.0 n _ p some other.1 one.1 one.2)
+  opening root p q c d (inr one, none) (inr other, nothing) =
+      let first = root_error one.0 n _ p some one.1 one.2 in
+      let second = root_error other.0 m _ q others other.1 other.2 in
+      let dues = sym first.1 ∙ second.1 in
+      let refusals : first.0 ≡ second.0 = cc (dues) in
+      let texts = sym first.2 ∙ ap (λ r. Some (refused_line r)) refusals ∙ second.2 in
+      let same : p ≡ q = cc (texts) in
+      inl (same, progress_is c one.3 none, progress_is d other.3 nothing)
+
+  module _ (text : List ℕ) where
+    opening_asked : (asked : Asked) (p q : List ℕ) (c d : Progress) → line_asks false text (Ok asked)
+        → IsDoneInAudit n unopened asked p c → IsDoneInAudit m unopened asked q d → Opened p q c d
+    opening_asked (Opens readers root) p q c d asks one other = opening root p q c d one other
+    opening_asked (Asking r) p q c d asks one other = absurd (let no = line_opens false text (Asking r) asks in cc (no))
+
+    loud_unopened : (p q : List ℕ) (c d : Progress) → Loud n unopened text p c → Loud m unopened text q d → Opened p q c d
+    loud_unopened p q c d (inl one) (inl other) =
+        let same = line-one false text (Ok one.0) (Ok other.0) one.1 other.1 in
+        let asked : one.0 ≡ other.0 = cc (same) in
+        opening_asked other.0 p q c d other.1 (subst (λ x. IsDoneInAudit n unopened x p c) asked one.2) other.2
+    loud_unopened p q c d (inl one) (inr other) = absurd (let no = line-one false text (Ok one.0) (Err other.0) one.1 other.1 in cc (no))
+    loud_unopened p q c d (inr one) (inl other) = absurd (let no = line-one false text (Err one.0) (Ok other.0) one.1 other.1 in cc (no))
+    loud_unopened p q c d (inr one) (inr other) =
+        let same = line-one false text (Err one.0) (Err other.0) one.1 other.1 in
+        let fault : one.0 ≡ other.0 = cc (same) in
+        inl (one.2 ∙ ap line_of_fault fault ∙ sym other.2, one.3, other.3)
+
+    unopened_by_silence : (silent : Bool) (p q : List ℕ) (c d : Progress) → MatchBool silent ((p ≡ []) × (c ≡ unopened)) (Loud n unopened text p c)
+        → MatchBool silent ((q ≡ []) × (d ≡ unopened)) (Loud m unopened text q d) → Opened p q c d
+    unopened_by_silence true p q c d one other = inl (one.0 ∙ sym other.0, one.1, other.1)
+    unopened_by_silence false p q c d one other = loud_unopened p q c d one other
+
+  -- a line in front of two outputs
+  after_line : (first p q xs ys : List ℕ) → p ≡ first ++ xs → q ≡ first ++ ys → DifferInOpening n m xs ys → DifferInOpening n m p q
+  after_line first p q xs ys one other (inl same) = inl (one ∙ ap (λ zs. first ++ zs) same ∙ sym other)
+  after_line first p q xs ys one other (inr differ) = inr (
+    first ++ differ.0,
+    differ.1,
+    one ∙ ap (λ zs. first ++ zs) differ.2 ∙ simp append_assoc,
+    other ∙ ap (λ zs. first ++ zs) differ.3 ∙ simp append_assoc,
+  )
+
+  after_opening : (texts : List (List ℕ)) (p q first second xs ys : List ℕ) (c d : Progress) → p ≡ first ++ xs → q ≡ second ++ ys → Opened first second c d
+      → AreAnsweredInAudit n c texts xs → AreAnsweredInAudit m d texts ys
+      → (AreAnsweredInAudit n unopened texts xs → AreAnsweredInAudit m unopened texts ys → DifferInOpening n m xs ys) → DifferInOpening n m p q
+  after_opening texts p q first second xs ys c d one other (inl same) answered answers rest =
+      after_line second p q xs ys (one ∙ ap (λ zs. zs ++ xs) same.0) other
+      (rest (subst (λ e. AreAnsweredInAudit n e texts xs) same.1 answered) (subst (λ e. AreAnsweredInAudit m e texts ys) same.2 answers))
+  after_opening texts p q first second xs ys c d one other (inr opened) answered answers rest =
+      let same = all_alike n m texts c d xs ys opened.2 answered answers in
+      inr ([], ys, one ∙ ap (λ zs. zs ++ xs) opened.0 ∙ ap (λ zs. counted_line (codes "opened") n ++ zs) same, other ∙ ap (λ zs. zs ++ ys) opened.1)
+
+  all_differ : (texts : List (List ℕ)) (p q : List ℕ) → AreAnsweredInAudit n unopened texts p → AreAnsweredInAudit m unopened texts q → DifferInOpening n m p q
+  all_differ [] p q one other = inl (one ∙ sym other)
+  all_differ (text ∷ texts) p q one other =
+      after_opening texts p q one.0 other.0 one.2 other.2 one.1 other.1 one.5 other.5
+      (unopened_by_silence text (is_silent text) one.0 other.0 one.1 other.1 one.3 other.3) one.4 other.4
+      (λ answered answers. all_differ texts one.2 other.2 answered answers)
+
+pub workers_show_in_the_opening : WorkersShowInTheOpening
+workers_show_in_the_opening n m text one other some others prints other_prints = all_differ n m some others (lines text) one other prints other_prints

@@ -1,0 +1,20 @@
+-- Whatever answers the lines that are left, behind what is printed it is the whole output. Which store a call of `open_and_audit`
+-- is about: the one with that root, of the history that it takes.
+use Rattle.std.proofs.Common.{ℕ, List, ◌++◌, length}
+use Rattle.std.specs.Str.Lines.{lines}
+use Rattle.sd_script_audit.specs.Audit.{AreAnsweredInAudit, PrintsAudit, unopened}
+use Rattle.sd_script.specs.Output.{opening_with}
+use Rattle.sd_script_audit.proofs.output.audit_output.Given as goal
+
+abbrev pub ghosts-open_and_audit-J-Naming : goal.ghosts-open_and_audit-J-Naming
+ghosts-open_and_audit-J-Naming g a = record { opening = opening_with a.root.now }
+
+abbrev pub ghosts-open_and_audit-J-Chain : goal.ghosts-open_and_audit-J-Chain
+ghosts-open_and_audit-J-Chain g a = record { book = a.history.book; first = a.history.first }
+
+abbrev pub invariant-loop-rest : goal.invariant-loop-rest
+invariant-loop-rest g l = (back : List ℕ)
+    → AreAnsweredInAudit l.workers unopened (lines l.rest) back → PrintsAudit l.workers l.initial.rest (l.printed.items ++ back)
+
+abbrev pub decreases-loop-rest : goal.decreases-loop-rest
+decreases-loop-rest g l = length l.rest

@@ -1,0 +1,78 @@
+-- The output of an audit: a script whose checks are kept as queries, and answered at the end by all that was published.
+-- By how many workers they are answered is not a word of it, but for the line of an opening.
+use Rattle.std.specs.Prelude.{◌≡◌, ◌⊎◌, ℕ, List, [], ◌∷◌, ◌++◌, length, Some, None, Ok, Err, is_some, MatchBool, codes}
+use Rattle.std.specs.List.{flat_map}
+use Rattle.std.specs.Str.Lines.{lines}
+use Rattle.sd_tree.specs.declared.edit.Edit.{Edit}
+use Rattle.sd_tree.specs.declared.opening.Opening.{Opening}
+use Rattle.sd_share.specs.Machine.{accepted}
+use Rattle.sd_share.specs.declared.request.Request.TheVariants.{Check, Tell, Learn, Show}
+use Rattle.sd_store.specs.Audits.{reply_by}
+use Rattle.sd_store.specs.declared.query.Query.{Query}
+use Rattle.sd_script.specs.Answer.{fault_line}
+use Rattle.sd_script.specs.Command.{line_asks}
+use Rattle.sd_script.specs.Fault.{line_of_fault}
+use Rattle.sd_script.specs.Lines.{is_silent}
+use Rattle.sd_script.specs.Output.{Standing, IsDone, IsOpened}
+use Rattle.sd_script.specs.Reply.{check_line, counted_line, seen_line}
+use Rattle.sd_script.specs.declared.asked.Asked.{Asked}
+use Rattle.sd_script.specs.declared.asked.Asked.TheVariants.{Opening as Opens, Asking}
+use Rattle.sd_script.specs.declared.fault.LineFault.{LineFault}
+
+-- what stands between two lines: the store, where one is open, and the queries so far
+pub record Progress : Type 0 where
+  pub store : Standing
+  pub queries : List Query
+
+-- no store is open, and nothing was asked
+abbrev pub unopened : Progress
+unopened = record { store = None; queries = [] }
+
+-- of what only a script does a fault is told
+abbrev pub IsForScripts : Progress → List ℕ → Progress → Type 0
+IsForScripts old printed new = (printed ≡ fault_line (codes "audit")) × (new ≡ old)
+
+-- what is asked is done as in a script, but that a store is opened for the workers, that a check is kept, and that an
+-- audit tells, teaches and shows nothing
+abbrev pub IsDoneInAudit : ℕ → Progress → Asked → List ℕ → Progress → Type 0
+IsDoneInAudit workers old (Opens readers root) printed new = IsOpened workers root printed new.store × (new.queries ≡ old.queries)
+IsDoneInAudit workers old (Asking (Check reader path token asked)) printed new =
+    (printed ≡ []) × (new ≡ record { store = old.store; queries = old.queries ++ record { path = path; token = token; asked = asked } ∷ [] })
+IsDoneInAudit workers old (Asking Tell) printed new = IsForScripts old printed new
+IsDoneInAudit workers old (Asking (Learn reader len)) printed new = IsForScripts old printed new
+IsDoneInAudit workers old (Asking (Show reader path)) printed new = IsForScripts old printed new
+IsDoneInAudit workers old asked printed new = IsDone old.store asked printed new.store × (new.queries ≡ old.queries)
+
+-- a line is answered: by nothing, by what it asks for, or by its fault
+abbrev pub IsAnsweredInAudit : ℕ → Progress → List ℕ → List ℕ → Progress → Type 0
+IsAnsweredInAudit workers old line printed new = MatchBool (is_silent line)
+    ((printed ≡ []) × (new ≡ old))
+    (((asked : Asked) × line_asks (is_some old.store) line (Ok asked) × IsDoneInAudit workers old asked printed new)
+    ⊎ ((fault : LineFault) × line_asks (is_some old.store) line (Err fault) × (printed ≡ line_of_fault fault) × (new ≡ old)))
+
+-- what a last publish prints, where edits wait
+abbrev pub last_publish : List Edit → ℕ → List ℕ
+last_publish [] len = []
+last_publish (edit ∷ edits) len = counted_line (codes "published") len
+
+-- the answer to a query by a journal
+abbrev pub answer_line : Opening → List Edit → Query → List ℕ
+answer_line opening journal query = seen_line (length journal) (check_line (reply_by opening journal query))
+
+-- behind the last line: where a store is open, all that was accepted is published and told, and answers each query
+abbrev pub IsEnd : Standing → List Query → List ℕ → Type 0
+IsEnd None queries printed = printed ≡ []
+IsEnd (Some m) queries printed =
+    printed ≡ last_publish m.pending (length (accepted m)) ++ counted_line (codes "told") (length (accepted m))
+    ++ flat_map (answer_line m.opening (accepted m)) queries
+
+-- one line after the other, and then the end
+abbrev pub AreAnsweredInAudit : ℕ → Progress → List (List ℕ) → List ℕ → Type 0
+AreAnsweredInAudit workers old [] printed = IsEnd old.store old.queries printed
+AreAnsweredInAudit workers old (line ∷ lines) printed =
+    (first : List ℕ) × (between : Progress) × (rest : List ℕ)
+    × IsAnsweredInAudit workers old line first between × AreAnsweredInAudit workers between lines rest × (printed ≡ first ++ rest)
+
+-- the whole output of an audit by so many workers
+abbrev pub PrintsAudit : ℕ → List ℕ → List ℕ → Type 0
+PrintsAudit workers text printed = AreAnsweredInAudit workers unopened (lines text) printed

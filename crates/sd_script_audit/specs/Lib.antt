@@ -1,0 +1,3 @@
+pub mod Audit
+pub mod Laws
+pub mod Parts

@@ -1,0 +1,120 @@
+//! The lines of an audit after the one that opened its store: their answers, and the queries among them.
+
+ghost use Rattle.std.specs.Prelude.{◌≡◌, ◌++◌, ℕ, List, [], IfOk, OnOk, string_bytes};
+ghost use Rattle.std.specs.Str.Lines.{lines};
+ghost use Rattle.sd_share.specs.Machine.{Steps};
+ghost use Rattle.sd_share.specs.declared.request.Request.TheVariants as asked;
+ghost use Rattle.sd_script_audit.specs.Audit.{AreAnsweredInAudit, IsAnsweredInAudit, IsDoneInAudit};
+ghost use Rattle.sd_script_audit.specs.Parts.{machine_of, progress};
+ghost use Rattle.sd_script.specs.declared.asked.Asked.TheVariants.{Asking};
+
+use sd_script::{
+    Asked, Stop, fault_line, first_line, is_silent, line_of_fault, read_line, reply_line,
+};
+use sd_share::{Reply, Request};
+use sd_store::{EditError, Naming, PublishError, Query, StoreWriter};
+use sd_tree::Edit;
+use std::alloc::{AllocError, Global};
+use std::sync::Wait;
+
+/// Answers the lines, and keeps the queries among them.
+pub(crate) fn collect_queries<J: Naming, T: Wait>(
+    rt: &T,
+    alloc: Global,
+    writer: &mut StoreWriter<J>,
+    text: &[u8],
+    queries: &mut Vec<Query>,
+    printed: &mut Vec<u8>,
+) -> Result<(), AllocError>
+    requires queries { queries.old.items ≡ [] }
+    requires printed { printed.old.items ≡ [] }
+    ensures { (workers : ℕ) → OnOk result ((back : List ℕ)
+        → AreAnsweredInAudit workers (progress J.opening workers writer.new queries.new.items) [] back
+        → AreAnsweredInAudit workers (progress J.opening workers writer.old []) (lines text.now)
+        (printed.new.items ++ back)) }
+{
+    let mut rest = text;
+    while !rest.is_empty() {
+        let (line, after) = first_line(rest);
+        let answer = answer_line(rt, alloc, writer, queries, line)?;
+        printed.extend_from_slice(answer.as_bytes())?;
+        rest = after;
+    }
+    Ok(())
+}
+
+/// What a line is answered by. A check is kept.
+fn answer_line<J: Naming, T: Wait>(
+    rt: &T,
+    alloc: Global,
+    writer: &mut StoreWriter<J>,
+    queries: &mut Vec<Query>,
+    line: &[u8],
+) -> Result<String, AllocError>
+    ensures { (workers : ℕ) → IfOk result (λ text. IsAnsweredInAudit workers
+        (progress J.opening workers writer.old queries.old.items) line.now (string_bytes text)
+        (progress J.opening workers writer.new queries.new.items)) }
+{
+    if is_silent(line) {
+        return Ok(String::new(alloc));
+    }
+    match read_line(alloc, true, line) {
+        Ok(Asked::Asking(request)) => answer_request(rt, alloc, writer, queries, request),
+        Ok(Asked::Opening { .. }) => unreachable!(),
+        Err(Stop::Fault(fault)) => line_of_fault(alloc, fault),
+        Err(Stop::Memory) => Err(AllocError),
+    }
+}
+
+/// What a request is answered by. A check is kept, and what only a script does is a fault.
+fn answer_request<J: Naming, T: Wait>(
+    rt: &T,
+    alloc: Global,
+    writer: &mut StoreWriter<J>,
+    queries: &mut Vec<Query>,
+    request: Request,
+) -> Result<String, AllocError>
+    ensures { (workers : ℕ) → IfOk result (λ text. IsDoneInAudit workers
+        (progress J.opening workers writer.old queries.old.items) (Asking request) (string_bytes text)
+        (progress J.opening workers writer.new queries.new.items)) }
+{
+    match request {
+        Request::Edit(edit) => reply_line(alloc, &edit_reply(writer, &edit)),
+        Request::Publish => reply_line(alloc, &publish_reply(rt, writer)),
+        Request::Check {
+            reader: _,
+            path,
+            token,
+            asked,
+        } => {
+            queries.push(Query { path, token, asked })?;
+            Ok(String::new(alloc))
+        }
+        Request::Tell | Request::Learn { .. } | Request::Show { .. } => {
+            fault_line(alloc, "audit")
+        }
+    }
+}
+
+/// The reply to an edit.
+fn edit_reply<J: Naming>(writer: &mut StoreWriter<J>, edit: &Edit) -> Reply
+    ensures { (readers : ℕ) → Steps (machine_of J.opening readers writer.old) (asked.Edit edit.now) result
+        (machine_of J.opening readers writer.new) }
+{
+    match writer.edit(edit) {
+        Ok(()) => Reply::Edited,
+        Err(EditError::Refused(refusal)) => Reply::Refused(refusal),
+        Err(EditError::Memory) => Reply::Memory,
+    }
+}
+
+/// The reply to a publish.
+fn publish_reply<J: Naming, T: Wait>(rt: &T, writer: &mut StoreWriter<J>) -> Reply
+    ensures { (readers : ℕ) → Steps (machine_of J.opening readers writer.old) asked.Publish result
+        (machine_of J.opening readers writer.new) }
+{
+    match writer.publish(rt) {
+        Ok(length) => Reply::Published(length),
+        Err(PublishError::Memory) => Reply::Memory,
+    }
+}
