@@ -46,7 +46,7 @@ use Rattle.sd_script.specs.declared.asked.Asked.TheVariants.{Opening, Asking}
 use Rattle.sd_script.specs.declared.fault.LineFault.{LineFault}
 use Rattle.sd_script.specs.declared.fault.LineFault.TheVariants as faults
 use Rattle.sd_script.specs.declared.word.Word.{Word}
-use Rattle.sd_script.specs.declared.word.Word.TheVariants.{Group, Security, TakeOwnership}
+use Rattle.sd_script.specs.declared.word.Word.TheVariants.{Group, Restricting, Security, TakeOwnership}
 
 -- ---- readings
 
@@ -105,6 +105,19 @@ no_plus : (rest : List ℕ) (s : SidValue) → Spells sid_text (43 ∷ rest) s �
 unfolding sid_grammar no_alias aliases
 no_plus rest s spelled = ⊎_elim (λ x. cc (x.0)) (λ x. ⊎_elim (λ y. cc (y)) (λ y. ⊎_elim (λ z. z.1) (λ z. ⊎_elim (λ u. u.1) (λ u. u.1) z.1) y.1) x.1) spelled.2
 
+-- a text with the ending of a restricting SID has no other
+not_denied : (text front other : List ℕ) → text ≡ front ++ codes "=restrict" → text ≡ other ++ codes "=deny" → ⊥
+not_denied text front other x y = apart (front ++ codes "=res") other 116 61 (codes "rict") (codes "deny") refl refl (append_assoc front (codes "=res") (codes "trict") ∙ sym x ∙ y)
+
+not_off : (text front other : List ℕ) → text ≡ front ++ codes "=restrict" → text ≡ other ++ codes "=off" → ⊥
+not_off text front other x y = apart (front ++ codes "=rest") other 114 61 (codes "ict") (codes "off") refl refl (append_assoc front (codes "=rest") (codes "rict") ∙ sym x ∙ y)
+
+not_security : (text front : List ℕ) → text ≡ front ++ codes "=restrict" → text ≡ codes "+security" → ⊥
+not_security text front x y = apart front [] 61 43 (codes "restrict") (codes "security") refl refl (sym x ∙ y)
+
+not_take : (text front : List ℕ) → text ≡ front ++ codes "=restrict" → text ≡ codes "+take" → ⊥
+not_take text front x y = apart (front ++ codes "=res") [] 116 43 (codes "rict") (codes "take") refl refl (append_assoc front (codes "=res") (codes "trict") ∙ sym x ∙ y)
+
 word_one : (text : List ℕ) (v w : Word) → IsWord text v → IsWord text w → v ≡ w
 word_one text (Group s Enabled) (Group t Enabled) x y = ap (λ a. Group a Enabled) (one_value sid_text text s t x y)
 word_one text (Group s Enabled) (Group t DenyOnly) x y = absurd (y.0 s x)
@@ -125,6 +138,19 @@ word_one text (Group s Disabled) (Group t Disabled) x y =
     ap (λ a. Group a Disabled) (one_value sid_text y.1.0 s t (subst (λ xs. Spells sid_text xs s) front x.1.2) y.1.2)
 word_one text (Group s Disabled) Security x y = absurd (apart x.1.0 (codes "+secu") 61 114 (codes "off") (codes "ity") refl refl (sym x.1.1 ∙ y))
 word_one text (Group s Disabled) TakeOwnership x y = absurd (apart x.1.0 (codes "+") 61 116 (codes "off") (codes "ake") refl refl (sym x.1.1 ∙ y))
+word_one text (Group s Enabled) (Restricting t) x y = absurd (y.0 s x)
+word_one text (Group s DenyOnly) (Restricting t) x y = absurd (not_denied text y.1.0 x.1.0 y.1.1 x.1.1)
+word_one text (Group s Disabled) (Restricting t) x y = absurd (not_off text y.1.0 x.1.0 y.1.1 x.1.1)
+word_one text (Restricting s) (Group t Enabled) x y = absurd (x.0 t y)
+word_one text (Restricting s) (Group t DenyOnly) x y = absurd (not_denied text x.1.0 y.1.0 x.1.1 y.1.1)
+word_one text (Restricting s) (Group t Disabled) x y = absurd (not_off text x.1.0 y.1.0 x.1.1 y.1.1)
+word_one text (Restricting s) (Restricting t) x y =
+    let front = append_cancel_right x.1.0 y.1.0 (codes "=restrict") (sym x.1.1 ∙ y.1.1) in
+    ap Restricting (one_value sid_text y.1.0 s t (subst (λ xs. Spells sid_text xs s) front x.1.2) y.1.2)
+word_one text (Restricting s) Security x y = absurd (not_security text x.1.0 x.1.1 y)
+word_one text (Restricting s) TakeOwnership x y = absurd (not_take text x.1.0 x.1.1 y)
+word_one text Security (Restricting t) x y = absurd (not_security text y.1.0 y.1.1 x)
+word_one text TakeOwnership (Restricting t) x y = absurd (not_take text y.1.0 y.1.1 x)
 word_one text Security (Group t Enabled) x y = absurd (no_plus (codes "security") t (subst (λ xs. Spells sid_text xs t) x y))
 word_one text Security (Group t DenyOnly) x y = absurd (apart y.1.0 (codes "+sec") 61 117 (codes "deny") (codes "rity") refl refl (sym y.1.1 ∙ x))
 word_one text Security (Group t Disabled) x y = absurd (apart y.1.0 (codes "+secu") 61 114 (codes "off") (codes "ity") refl refl (sym y.1.1 ∙ x))
