@@ -36,7 +36,7 @@ abbrev pub AreAnswers : Opening → List Query → List Edit → List Sight → 
 AreAnswers opening queries journal olds news answers =
     (j : ℕ) (d : Answer) (e : Sight) (q : Query) → j < length answers
     → IsAnswer opening (slice_index_or news (j % length olds) e) (slice_index_or queries j q)
-        (slice_index_or answers j d)
+    (slice_index_or answers j d)
     × (length (longer (slice_index_or olds (j % length olds) e).floor journal) ≤ (slice_index_or answers j d).seen)
     × (length olds ≤ j → (slice_index_or answers (j - length olds) d).seen ≤ (slice_index_or answers j d).seen)
 

@@ -5,7 +5,8 @@ use Rattle.sd_share.specs.declared.request.Answer.{Answer}
 use Rattle.sd_store.specs.declared.error.AuditError.{AuditError}
 use Rattle.sd_store.specs.declared.rule.View.{View}
 
--- a checker: its view in the shared store, its floor, the journal that it has seen, and its part of the last audit
+-- a checker: its view in the shared store; its floor, the journal that it has seen or was told of; and its part of the last
+-- audit, of which no public clause speaks
 pub record Sight : Type 0 where
   pub view : View
   pub floor : List Edit

@@ -39,7 +39,8 @@ pub enum PublishError {
     Memory,
 }
 
-/// The shared store gave nothing to read in that call: it may be so once its writer has ended. Nothing was read.
+/// The shared store gave nothing to read in that call, or a journal shorter than the checker's floor: it may be so once its
+/// writer has ended. What the checker has seen stays.
 #[derive(Clone, Copy, Debug, PartialEq, Eq, Error)]
 #[error("the store is gone")]
 pub struct Gone;
@@ -47,7 +48,7 @@ pub struct Gone;
 /// Why no descriptor was shown.
 #[derive(Clone, Copy, Debug, PartialEq, Eq, Error)]
 pub enum ShowError {
-    /// The shared store gave nothing to read.
+    /// As `Gone`.
     #[error("the store is gone")]
     Gone,
     /// Memory was refused.
@@ -64,7 +65,7 @@ pub enum AuditError {
     /// The gate didn't let a worker go on.
     #[error("the gate was closed")]
     Gate,
-    /// The shared store gave nothing to read.
+    /// A check was told `Gone`.
     #[error("the store is gone")]
     Gone,
 }

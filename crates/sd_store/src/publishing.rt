@@ -15,14 +15,7 @@ use std::alloc::{AllocError, Global};
 use std::sync::Wait;
 
 /// A copy of the edit joins what waits.
-#[tactic(
-    auto,
-    using(
-        crate::proofs::Marking::one_more,
-        crate::proofs::Marking::first_edit,
-        crate::proofs::Marking::edits_push
-    )
-)]
+#[tactic(auto, using(crate::proofs::Marking::one_more, crate::proofs::Marking::first_edit, crate::proofs::Marking::edits_push))]
 pub(crate) fn add<J: Naming>(
     alloc: Global,
     cell: &mut Cell<J>,
@@ -57,15 +50,7 @@ fn open_publish<J: Naming>(cell: &mut Cell<J>) -> Result<(), AllocError>
 }
 
 /// The front joins what waits, for the value that is then published. It stands for the whole journal, so it comes last.
-#[tactic(
-    auto,
-    using(
-        crate::proofs::Marking::one_shown,
-        crate::proofs::Marking::some_shown,
-        crate::proofs::Marking::edits_shown,
-        crate::proofs::Marking::seen_shown
-    )
-)]
+#[tactic(auto, using(crate::proofs::Marking::one_shown, crate::proofs::Marking::some_shown, crate::proofs::Marking::edits_shown, crate::proofs::Marking::seen_shown))]
 fn show<J: Naming>(cell: &mut Cell<J>, front: Front<Edit>) -> Result<(), AllocError>
     requires one { IsOnePublish (drop cell.old.behind cell.old.log.items) }
     requires some { 0 < length (drop cell.old.behind cell.old.log.items) }
@@ -96,11 +81,11 @@ pub(crate) fn publish_all<J: Naming, R: Wait>(
         (view result.0.desk.place) result.0.desk.shown.value (drop result.0.behind result.0.log.items) }
     ensures journal { MatchResult result.1
         (λ _. result.0.desk.shown.value.tree.journal
-            ≡ cell.desk.shown.value.tree.journal ++ edits_of (drop cell.behind cell.log.items))
+        ≡ cell.desk.shown.value.tree.journal ++ edits_of (drop cell.behind cell.log.items))
         (λ _. result.0.desk.shown.value.tree.journal ≡ cell.desk.shown.value.tree.journal) }
     ensures marks { MatchResult result.1
         (λ _. result.0.desk.shown.value.marks.items
-            ≡ cell.desk.shown.value.marks.items ++ length result.0.desk.shown.value.tree.journal ∷ [])
+        ≡ cell.desk.shown.value.marks.items ++ length result.0.desk.shown.value.tree.journal ∷ [])
         (λ _. result.0.desk.shown.value.marks.items ≡ cell.desk.shown.value.marks.items) }
     ensures pending { MatchResult result.1
         (λ _. edits_of (drop result.0.behind result.0.log.items) ≡ [])

@@ -13,10 +13,9 @@ use boxcar::tag::Tag;
 use sd_history::Pencil;
 use sd_tree::{Edit, Tree};
 use std::alloc::Global;
-use std::fmt;
 use std::marker::{Model, PhantomData};
-use std::mem;
 use std::sync::Wait;
+use std::{fmt, mem};
 
 /// The writer of a store. It isn't `Drop`: end it by `end`. Contracts see the published journal, its marks, and the
 /// edits that wait.
@@ -48,7 +47,7 @@ impl<J: Naming> Model for StoreWriter<J> {
 
     ghost invariant = { λ w. MatchOption w.cell ⊥ (λ c.
         IsReady (naming J.opening J.book J.first)
-            (client_of c.desk.place) c.desk.shown.value (drop c.behind c.log.items)
+        (client_of c.desk.place) c.desk.shown.value (drop c.behind c.log.items)
         × (w.draft.opening ≡ J.opening)
         × (w.draft.journal ≡ c.desk.shown.value.tree.journal ++ edits_of (drop c.behind c.log.items))
         × (w.pencil ≡ w.draft.journal)
