@@ -32,7 +32,7 @@ fn refuses_other_words(rt: HostRuntime) -> Result<(), Fail> {
         ),
         (
             &["sdstore", "print", "D:", "--"],
-            "only a first '--' behind the command",
+            "only a first '--' after the command",
         ),
         (
             &["sdstore", "--version", "D:"],
