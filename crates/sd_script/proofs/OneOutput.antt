@@ -1,7 +1,6 @@
 -- A text has one output: a line is read as one thing, and a request has one reply that has a line.
-use Rattle.std.proofs.Common.{◌≡◌, ℕ, ◌+◌, ◌<◌, ◌≤◌, ◌⊎◌, Bool, true, false, List, [], ◌∷◌, ◌++◌, length, get_or, drop, Option, Some, None, Result, Ok, Err, inl, inr, refl, sym, ◌∙◌, ap, subst, arith, ⊎_elim, append_assoc, take, eqb}
+use Rattle.std.proofs.Common.{◌≡◌, ℕ, ◌<◌, ◌≤◌, ◌⊎◌, Bool, true, false, List, [], ◌∷◌, ◌++◌, length, drop, Option, Some, None, Result, Ok, Err, inl, inr, refl, sym, ◌∙◌, ap, subst, arith, ⊎_elim, append_assoc, take, eqb}
 use Rattle.std.specs.Prelude.{MatchBool, codes, is_some, if◌then◌else◌, nat_lt, nat_le, option_map}
-use Rattle.std.specs.Str.{IsUtf8}
 use Rattle.std.specs.Str.Lines.{lines}
 use Rattle.std.proofs.lemmas.Bool.{eqb-false, lt-ltb, le-ltb, le-leb, lt-leb}
 use Rattle.std.proofs.lemmas.List.{append_cancel_right, length-append}
@@ -18,13 +17,13 @@ use Rattle.sd_text.specs.Sid.{sid_text, sid as sid_grammar, no_alias}
 use Rattle.sd_text.proofs.Engine.{one_value, no_fault, one_fault}
 use Rattle.sd_check.specs.declared.token.GroupState.TheVariants.{Enabled, DenyOnly, Disabled}
 use Rattle.sd_tree.specs.Answers.{answer, descriptor_at}
-use Rattle.sd_tree.specs.Journal.{replay, root_refusal}
+use Rattle.sd_tree.specs.Journal.{replay}
 use Rattle.sd_tree.specs.Names.{Names}
 use Rattle.sd_tree.specs.declared.edit.Edit.{Edit}
 use Rattle.sd_tree.specs.declared.edit.Edit.TheVariants as edits
 use Rattle.sd_tree.specs.declared.opening.RootSpec.{RootSpec}
 use Rattle.sd_tree.specs.declared.refusal.EditRefusal.{EditRefusal}
-use Rattle.sd_share.specs.Machine.{Machine, Steps, accepted, due, floor_of, longer, with_edit, with_publish, with_floor, with_look, started}
+use Rattle.sd_share.specs.Machine.{Machine, Steps, accepted, due, floor_of, longer, with_edit, with_publish, with_floor, with_look}
 use Rattle.sd_share.specs.Starts.{IsReaderCount, IsStartError}
 use Rattle.sd_share.specs.declared.request.Reply.{Reply}
 use Rattle.sd_share.specs.declared.request.Reply.TheVariants as replies
@@ -38,7 +37,7 @@ use Rattle.sd_script.specs.Command.{CommandValue, Open, AddContainer, AddObject,
 use Rattle.sd_script.specs.Fault.{Reading, SomeOr, Just, Then, line_of_fault}
 use Rattle.sd_script.specs.Laws.{HasOneOutput}
 use Rattle.sd_script.specs.Lines.{is_silent, words_of}
-use Rattle.sd_script.specs.Output.{Standing, IsOpened, IsDone, IsAnswered, AreAnswered, opening_with}
+use Rattle.sd_script.specs.Output.{Standing, IsOpened, IsDone, IsAnswered, AreAnswered}
 use Rattle.sd_script.specs.Reply.{check_line, counted_line, refused_line, reply_line, seen_line, shown_line, start_error_line}
 use Rattle.sd_script.specs.Word.{AreWords, IsNoWordIn, IsWord, token_of}
 use Rattle.sd_script.specs.declared.asked.Asked.{Asked}

@@ -5,7 +5,7 @@
 //! `Prints` in specs/Output.antt says. The commands are told in docs/SCRIPT.md.
 //!
 //! ```text
-//! let text = b"open 1 O:BAG:SYD:\naddo /a O:BAG:SYD:(A;;FR;;;BU)\npublish\ncheck 0 /a BU 0x1\n";
+//! let text = b"open 1 O:BAG:SYD:\naddo /a O:BAG:SYD:(A;;FR;;;SY)\npublish\ncheck 0 /a SY 0x1\n";
 //! let printed = script_output(alloc, text)?;
 //! // printed holds "opened 1\nok\npublished 1\nseen 1 granted 0x1\n"
 //! ```
@@ -29,8 +29,8 @@ mod word;
 
 pub use answer::{fault_line, sddl_fault_line, verdict_line};
 pub use asked::Asked;
-pub use laws::texts_have_one_output;
 pub use fault::{LineFault, Stop, line_of_fault};
+pub use laws::texts_have_one_output;
 pub use line::read_line;
 pub use lines::{first_line, is_silent};
 pub use reply::{counted_line, reply_line, start_error_line};

@@ -32,11 +32,7 @@ pub fn script_output(alloc: Global, text: &[u8]) -> Result<Vec<u8>, AllocError>
 }
 
 /// What a line is answered by. The desk is the store that is open, if one is.
-fn answer_line(
-    alloc: Global,
-    desk: &mut Option<Desk>,
-    line: &[u8],
-) -> Result<String, AllocError>
+fn answer_line(alloc: Global, desk: &mut Option<Desk>, line: &[u8]) -> Result<String, AllocError>
     ensures { IfOk result (λ text. IsAnswered desk.old line.now (string_bytes text) desk.new) }
 {
     if is_silent(line) {

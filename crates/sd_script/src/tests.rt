@@ -100,7 +100,9 @@ fn heirs_of(alloc: Global, count: usize) -> Result<String, AllocError> {
     for _ in 0..count {
         entries.push_str("(A;OI;FR;;;WD)")?;
     }
-    format!(in alloc; "open 1 O:BAG:SYD:{entries}\naddo /a O:BAG:SYD:(A;;FR;;;WD)\naddo /b O:BAG:SYD:\ndacl /b D:{entries}(A;;FR;;;WD)\n")
+    format!(in alloc;
+        "open 1 O:BAG:SYD:{entries}\naddo /a O:BAG:SYD:(A;;FR;;;WD)\naddo /b O:BAG:SYD:\ndacl /b D:{entries}(A;;FR;;;WD)\n"
+    )
 }
 
 #[test]

@@ -4,7 +4,6 @@ use Rattle.std.specs.Prelude.{MatchBool, codes, is_some}
 use Rattle.std.specs.List.{flat_map}
 use Rattle.std.specs.Str.Lines.{lines}
 use Rattle.sd_tree.specs.declared.edit.Edit.{Edit}
-use Rattle.sd_tree.specs.declared.opening.Opening.{Opening}
 use Rattle.sd_tree.specs.declared.opening.RootSpec.{RootSpec}
 use Rattle.sd_tree.specs.declared.refusal.EditRefusal.{EditRefusal}
 use Rattle.sd_share.specs.Machine.{Machine, due, started}
@@ -24,7 +23,7 @@ use Rattle.sd_script.specs.declared.asked.Asked.TheVariants.{Opening as Opens, A
 use Rattle.sd_script.specs.declared.fault.LineFault.{LineFault}
 use Rattle.sd_script.proofs.OneOutput.{line-one, no_error, edited, outcome, one_step}
 use Rattle.sd_script.proofs.Timely.{line_opens}
-use Rattle.sd_script_audit.specs.Audit.{Progress, IsAnsweredInAudit, IsDoneInAudit, AreAnsweredInAudit, IsEnd, answer_line, last_publish, unopened}
+use Rattle.sd_script_audit.specs.Audit.{Progress, IsDoneInAudit, AreAnsweredInAudit, IsEnd, answer_line, last_publish, unopened}
 use Rattle.sd_script_audit.specs.Laws.{DifferInOpening, WorkersShowInTheOpening}
 
 -- ---- machines that differ in their readers alone
@@ -65,8 +64,8 @@ module _ (a b : Progress) (alike : AreAlike a b) where
       let first = subst (λ s. IsDone s (Asking r) p c.store) alike.one_is one.0 in
       let second = subst (λ s. IsDone s (Asking r) q d.store) alike.other_is other.0 in
       let same = ap unread_after (one_step alike.one r first.0 first.1 p first.2 first.3)
-          ∙ same_outcome alike.one alike.other r (blind alike.one) (blind alike.other) alike.alike
-          ∙ sym (ap unread_after (one_step alike.other r second.0 second.1 q second.2 second.3)) in (
+      ∙ same_outcome alike.one alike.other r (blind alike.one) (blind alike.other) alike.alike
+      ∙ sym (ap unread_after (one_step alike.other r second.0 second.1 q second.2 second.3)) in (
         ap (λ (x : List ℕ × Machine). x.0) same,
         record {
           one = first.1;
@@ -99,8 +98,8 @@ module _ (a b : Progress) (alike : AreAlike a b) where
       other_is = ap (λ (x : Progress). x.store) other.1 ∙ alike.other_is;
       alike = alike.alike;
       queries = ap (λ (x : Progress). x.queries) one.1
-      ∙ ap (λ (xs : List Query). xs ++ record { path = path; token = token; asked = asked } ∷ []) alike.queries
-      ∙ sym (ap (λ (x : Progress). x.queries) other.1);
+          ∙ ap (λ (xs : List Query). xs ++ record { path = path; token = token; asked = asked } ∷ []) alike.queries
+          ∙ sym (ap (λ (x : Progress). x.queries) other.1);
     },
   )
 
@@ -126,13 +125,13 @@ module _ (n m : ℕ) (text : List ℕ) where
       let asked : one.0 ≡ other.0 = cc (same) in
       asking_alike a b other.0 p q c d alike second (subst (λ x. IsDoneInAudit n a x p c) asked one.2) other.2
   loud_alike a b p q c d alike (inl one) (inr other) = absurd (
-    let first = subst (λ s. line_asks (is_some s) text (Ok one.0)) alike.one_is one.1 in
-    let second = subst (λ s. line_asks (is_some s) text (Err other.0)) alike.other_is other.1 in
-    let no = line-one true text (Ok one.0) (Err other.0) first second in cc (no))
+      let first = subst (λ s. line_asks (is_some s) text (Ok one.0)) alike.one_is one.1 in
+      let second = subst (λ s. line_asks (is_some s) text (Err other.0)) alike.other_is other.1 in
+      let no = line-one true text (Ok one.0) (Err other.0) first second in cc (no))
   loud_alike a b p q c d alike (inr one) (inl other) = absurd (
-    let first = subst (λ s. line_asks (is_some s) text (Err one.0)) alike.one_is one.1 in
-    let second = subst (λ s. line_asks (is_some s) text (Ok other.0)) alike.other_is other.1 in
-    let no = line-one true text (Err one.0) (Ok other.0) first second in cc (no))
+      let first = subst (λ s. line_asks (is_some s) text (Err one.0)) alike.one_is one.1 in
+      let second = subst (λ s. line_asks (is_some s) text (Ok other.0)) alike.other_is other.1 in
+      let no = line-one true text (Err one.0) (Ok other.0) first second in cc (no))
   loud_alike a b p q c d alike (inr one) (inr other) =
       let first = subst (λ s. line_asks (is_some s) text (Err one.0)) alike.one_is one.1 in
       let second = subst (λ s. line_asks (is_some s) text (Err other.0)) alike.other_is other.1 in
@@ -186,14 +185,18 @@ module _ (n m : ℕ) (some : IsReaderCount n) (others : IsReaderCount m) where
 
   opening : (root : RootSpec) (p q : List ℕ) (c d : Progress) → IsOpened n root p c.store × (c.queries ≡ [])
       → IsOpened m root q d.store × (d.queries ≡ []) → Opened p q c d
-  opening root p q c d (inl one, none) (inl other, nothing) = inr (one.2, other.2, record {
-    one = started (opening_with root) n;
-    other = started (opening_with root) m;
-    one_is = one.3;
-    other_is = other.3;
-    alike = refl;
-    queries = none ∙ sym nothing;
-  })
+  opening root p q c d (inl one, none) (inl other, nothing) = inr (
+    one.2,
+    other.2,
+    record {
+      one = started (opening_with root) n;
+      other = started (opening_with root) m;
+      one_is = one.3;
+      other_is = other.3;
+      alike = refl;
+      queries = none ∙ sym nothing;
+    },
+  )
   opening root p q c d (inl one, none) (inr other, nothing) = absurd (no_error other.0 m _ q others one.1 other.1 other.2)
   opening root p q c d (inr one, none) (inl other, nothing) = absurd (no_error one.0 n _ p some other.1 one.1 one.2)
   opening root p q c d (inr one, none) (inr other, nothing) =

@@ -127,7 +127,7 @@ fn is_help_flag(word: &str) -> bool
     word == "-h" || word == "--help"
 }
 
-/// The words behind a command, without a first `--`: a way to say that what follows is no flag.
+/// The words after a command, without a first `--`: a way to say that what follows is no flag.
 fn arguments_in<'a>(words: &'a [&'a str]) -> &'a [&'a str]
     ensures { result.now ≡ arguments_of words.entry.now }
 {

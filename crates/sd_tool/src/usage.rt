@@ -19,7 +19,7 @@ Example:
   sdstore verdict 'D:(A;;FR;;;WD)' S-1-5-21-1-2-3-1001 0x1 WD";
 
 const VERDICT_NOTES: &str = "\
-A first '--' behind 'verdict' is dropped, and every word behind it is an argument: write
+A first '--' after 'verdict' is dropped, and every word after it is an argument: write
 'sdstore verdict -- \"$sddl\" ..' where a text comes from outside.
 
 Generic rights are mapped as those of files:
@@ -35,19 +35,19 @@ Example:
   sdstore verdict 'D:(D;;0x2;;;S-1-5-21-1-2-3-1001)(A;;0x1f01ff;;;S-1-5-21-1-2-3-1001)' S-1-5-21-1-2-3-1001 0x1";
 
 const PRINT_NOTES: &str = "\
-A first '--' behind 'print' is dropped.
+A first '--' after 'print' is dropped.
 
 Example:
   sdstore print 'o:s-1-5-18d:(a;;0x1f01ff;;;s-1-1-0)'";
 
 const TO_BINARY_NOTES: &str = "\
-A first '--' behind 'tobin' is dropped.
+A first '--' after 'tobin' is dropped.
 
 Example:
   sdstore tobin O:BA";
 
 const FROM_BINARY_NOTES: &str = "\
-A first '--' behind 'frombin' is dropped.
+A first '--' after 'frombin' is dropped.
 
 Example:
   sdstore frombin 010000801400000000000000000000000000000001020000000000052000000020020000";
@@ -106,7 +106,7 @@ SID=off    a group that counts for nothing
 // What is told of words that `clap` would answer with help or the version.
 const STANDS_ALONE: &str = "\
 help and the version are asked for by '--help', 'help' or '--version' as the only word, \
-by '--help' as the only word behind a command, or by 'help' and a command";
+by '--help' as the only word after a command, or by 'help' and a command";
 
 // What is told of an audit's words that `clap` would take: it knows no numbers.
 const WORKERS: &str =
@@ -114,7 +114,7 @@ const WORKERS: &str =
 
 // What is told of other words that `clap` would take, since it drops a later `--` too.
 const LATER_DASHES: &str =
-    "only a first '--' behind the command is dropped, and any further one is an argument";
+    "only a first '--' after the command is dropped, and any further one is an argument";
 
 /// The help on a command, or on the program.
 pub(crate) fn help(alloc: Global, command: Option<CommandName>) -> Result<String, AllocError> {

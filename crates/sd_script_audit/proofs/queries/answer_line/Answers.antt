@@ -1,4 +1,4 @@
-use Rattle.std.proofs.Common.{◌∙◌, sym, string_bytes, true}
+use Rattle.std.proofs.Common.{◌∙◌, sym, string_bytes}
 use Rattle.sd_script.specs.declared.asked.Asked.TheVariants.{Asking}
 use Rattle.sd_script_audit.proofs.LinesInOrder.{done_answers}
 use Rattle.sd_script_audit.proofs.queries.answer_line.Goals as goal

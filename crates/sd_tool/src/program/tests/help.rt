@@ -32,7 +32,7 @@ fn refuses_other_words(rt: HostRuntime) -> Result<(), Fail> {
         ),
         (
             &["sdstore", "print", "D:", "--"],
-            "only a first '--' behind the command",
+            "only a first '--' after the command",
         ),
         (
             &["sdstore", "--version", "D:"],
@@ -67,7 +67,10 @@ fn refuses_other_words(rt: HostRuntime) -> Result<(), Fail> {
 #[test]
 fn tells_the_usage_of_the_command(rt: HostRuntime) -> Result<(), Fail> {
     let rows: [(&[&str], &str); 3] = [
-        (&["sdstore", "audit", "0"], "Usage: sdstore audit [--] <N>\n"),
+        (
+            &["sdstore", "audit", "0"],
+            "Usage: sdstore audit [--] <N>\n",
+        ),
         (&["sdstore", "audit"], "Usage: sdstore audit [--] <N>\n"),
         (&["sdstore", "frob"], "Usage: sdstore <COMMAND>\n"),
     ];

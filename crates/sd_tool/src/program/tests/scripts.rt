@@ -81,7 +81,7 @@ const SCRIPT: [&str; 2] = ["sdstore", "script"];
 
 const AUDIT: [&str; 3] = ["sdstore", "audit", "2"];
 
-/// A script whose checks are kept to the end by an audit, and what is printed behind the line of its opening.
+/// A script whose checks are kept to the end by an audit, and what is printed after the line of its opening.
 const AUDITED: (&str, &str) = (
     "\
 open 1 O:BAG:SYD:

@@ -67,7 +67,10 @@ fn tells_of_a_writer_that_fails(rt: HostRuntime) {
                 let input = &mut Watched::new(b"tell".as_slice());
                 let status = drive(&rt, rt.alloc(), words, input, &mut writer, &mut errors);
                 assert_eq!(rt; status, 3, "{fault:?} after {calls}");
-                assert_eq!(rt; errors.into_inner().as_slice(), b"sdstore: write\n".as_slice());
+                assert_eq!(rt;
+                    errors.into_inner().as_slice(),
+                    b"sdstore: write\n".as_slice()
+                );
                 let writer = writer.into_inner();
                 assert_eq!(rt; writer.taken.len() as u64, calls, "{fault:?}");
                 assert!(rt; answer.starts_with(writer.taken.as_slice()));
