@@ -10,6 +10,7 @@
 //! ```
 #![tactic(auto)]
 
+mod compared;
 mod error;
 mod lent;
 mod name;
