@@ -15,6 +15,7 @@ mod error;
 mod lent;
 mod name;
 mod path;
+mod print;
 mod read;
 
 pub use error::PathError;
