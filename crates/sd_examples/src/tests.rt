@@ -6,6 +6,7 @@ mod handing_on;
 mod inheriting;
 mod keeping;
 mod limits;
+mod memory;
 mod numbers;
 mod paths;
 mod refusing;
@@ -30,6 +31,7 @@ enum Act {
     Remove,
     Keep,
     Show,
+    Count,
     Check,
 }
 
@@ -65,6 +67,7 @@ fn answer(
     let path = Path::read(alloc, path)?;
     match act {
         Act::Show => shown(alloc, tree, &path),
+        Act::Count => counted(alloc, tree, &path),
         Act::Check => checked(alloc, tree, &path, text),
         Act::Owner | Act::Group => told(alloc, tree, &naming(act, path, text)?),
         Act::Remove => told(alloc, tree, &Edit::Remove { path }),
@@ -143,19 +146,31 @@ fn shown(alloc: Global, tree: &Tree, path: &Path) -> Result<String, Fail> {
     }
 }
 
+/// The number of entries in the DACL of the node, or `nonode`.
+fn counted(alloc: Global, tree: &Tree, path: &Path) -> Result<String, Fail> {
+    match tree.descriptor(path)? {
+        None => Ok(String::from_str(alloc, "nonode")?),
+        Some(descriptor) => match &descriptor.dacl {
+            Dacl::List(list) => Ok(format!(in alloc; "{}", list.entries().len())?),
+            Dacl::Absent | Dacl::Null => Ok(String::from_str(alloc, "no list")?),
+        },
+    }
+}
+
 /// What the user is answered who asks for the mask of a text.
 fn checked(alloc: Global, tree: &Tree, path: &Path, text: &str) -> Result<String, Fail> {
     let mut groups = Vec::new(alloc);
     groups.push((read_sid_text("BU")?, GroupState::Enabled))?;
     let user = read_sid_text("S-1-5-21-1-2-3-1001")?;
     let token = Token::new(user, groups, Privileges::default());
-    let told = match tree.check(path, &token, read_mask(text)?) {
-        CheckReply::NoNode => "nonode",
-        CheckReply::Verdict(Verdict::Granted(_)) => "granted",
-        CheckReply::Verdict(Verdict::Denied { .. }) => "denied",
-        CheckReply::Verdict(_) => "neither",
-    };
-    Ok(String::from_str(alloc, told)?)
+    match tree.check(path, &token, read_mask(text)?) {
+        CheckReply::NoNode => Ok(String::from_str(alloc, "nonode")?),
+        CheckReply::Verdict(Verdict::Granted(_)) => Ok(String::from_str(alloc, "granted")?),
+        CheckReply::Verdict(Verdict::Denied { missing }) => {
+            Ok(format!(in alloc; "denied 0x{:x}", missing.bits())?)
+        }
+        CheckReply::Verdict(_) => Ok(String::from_str(alloc, "neither")?),
+    }
 }
 
 /// A text, and so many times another behind it.

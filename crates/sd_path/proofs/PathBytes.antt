@@ -1,5 +1,5 @@
 -- Paths as they are kept: what is said of names is said of the bytes in which each is ended by a zero byte.
-use Rattle.std.proofs.Common.{◌≡◌, ◌≢◌, ℕ, zero, suc, ◌+◌, ◌-◌, ◌<◌, ◌≤◌, true, false, ◌&&◌, nat_eq, nat_lt, nat_le, nat_cmp, cond, List, [], ◌∷◌, ◌++◌, length, take, get_or, refl, sym, ◌∙◌, ap, subst, arith, length-append, append_assoc}
+use Rattle.std.proofs.Common.{◌≡◌, ◌≢◌, ℕ, zero, suc, ◌+◌, ◌-◌, ◌<◌, ◌≤◌, true, false, ◌&&◌, nat_eq, nat_lt, nat_le, nat_cmp, cond, List, [], ◌∷◌, ◌++◌, length, take, drop, get_or, refl, sym, ◌∙◌, ap, subst, arith, length-append, append_assoc}
 use Rattle.std.specs.Str.{bytes_eq}
 use Rattle.std.specs.List.{list_all, onto_first, starts_with}
 use Rattle.std.specs.Ordering.{ordering_then}
@@ -7,13 +7,14 @@ use Rattle.std.specs.Cmp.Lexicographic.{slice_cmp}
 use Rattle.std.specs.Cmp.Derive.{then_next}
 use Rattle.std.specs.declared.cmp.Ordering.TheVariants.{Less, Equal, Greater}
 use Rattle.std.proofs.Math.Bool.{and_assoc}
-use Rattle.std.proofs.Math.Seq.{take-append_seam, get_or-append_seam, get_or-append_right}
+use Rattle.std.proofs.Math.Seq.{take-append_seam, drop-append_seam, get_or-append_seam, get_or-append_right}
 use Rattle.std.proofs.Math.ListN.{get_or-append}
 use Rattle.std.proofs.lemmas.Bool.{and_parts}
+use Rattle.std.proofs.lemmas.List.{length-take-le}
 use Rattle.std.proofs.lemmas.List.Folds.{list_all-append}
 use Rattle.std.proofs.lemmas.Bool.Decides.{nat_tests}
-use Rattle.sd_path.proofs.Paths.{last_name}
-use Rattle.sd_path.specs.Names.{Names, names_cmp, up, is_within, is_name_byte, is_name, IsPath, ended, names_of, Keeps}
+use Rattle.sd_path.proofs.Paths.{last_name, push-up}
+use Rattle.sd_path.specs.Names.{Names, names_cmp, up, is_root, is_within, is_name_byte, is_name, IsPath, ended, names_of, Keeps}
 
 -- no byte is zero
 abbrev pub HasNoZero : List ℕ → Type 0
@@ -284,3 +285,28 @@ Keeps-up bs front n k e =
 pub names_of-up : (bs front : List ℕ) (n : ℕ) → Keeps bs n → front ≡ ended (up (names_of bs)) → names_of front ≡ up (names_of bs)
 names_of-up bs front n k e =
     ap names_of e ∙ names_of-path (up (names_of bs)) (IsPath-up (names_of bs) k.path)
+
+-- ---- the last name
+
+count_not_root : (names : Names) → length names ≢ 0 → is_root names ≡ false
+count_not_root [] some = absurd (some refl)
+count_not_root (name ∷ names) some = refl
+
+pub last_name-kept : (bs : List ℕ) (n from : ℕ) → Keeps bs n → n ≢ 0 → take from bs ≡ ended (up (names_of bs)) → from ≤ length bs - 1
+    → names_of bs ≡ up (names_of bs) ++ take (length bs - 1 - from) (drop from bs) ∷ []
+last_name-kept bs n from k some front within =
+    let names = names_of bs in
+    let last = last_name names in
+    let not_root : is_root names ≡ false = count_not_root names (λ none. some (sym k.counted ∙ none)) in
+    let parts = push-up names not_root in
+    let bytes : bs ≡ ended (up names) ++ (last ++ 0 ∷ []) = sym k.whole ∙ ap ended (sym parts) ∙ ended-push (up names) last in
+    let size : length (ended (up names)) ≡ from =
+    ap (λ (xs : List ℕ). length xs) (sym front) ∙ length-take-le from bs (omega (arith, within)) in
+    let rest : drop from bs ≡ last ++ 0 ∷ [] =
+    ap (drop from) bytes ∙ ap (λ m. drop m (ended (up names) ++ (last ++ 0 ∷ []))) (sym size) ∙ drop-append_seam (ended (up names)) (last ++ 0 ∷ []) in
+    let whole = ap (λ (xs : List ℕ). length xs) bytes ∙ length-append (ended (up names)) (last ++ 0 ∷ []) in
+    let tail = length-append last (0 ∷ []) in
+    let count : length bs - 1 - from ≡ length last = omega (arith, whole, tail, size) in
+    let is : take (length bs - 1 - from) (drop from bs) ≡ last =
+    ap (λ m. take m (drop from bs)) count ∙ ap (take (length last)) rest ∙ take-append_seam last (0 ∷ []) in
+    sym parts ∙ ap (λ name. up names ++ name ∷ []) (sym is)

@@ -1,5 +1,5 @@
 -- Paths as texts: how their names are found and judged.
-use Rattle.std.proofs.Common.{◌≡◌, ◌≢◌, ℕ, zero, suc, ◌+◌, ◌-◌, ◌<◌, ◌≤◌, true, false, not, ◌||◌, ◌==◌, cond, List, [], ◌∷◌, ◌++◌, length, take, drop, get_or, map, Option, Some, None, Result, Ok, Err, refl, sym, ◌∙◌, ap, arith}
+use Rattle.std.proofs.Common.{◌≡◌, ◌≢◌, ℕ, zero, suc, ◌+◌, ◌-◌, ◌<◌, ◌≤◌, true, false, not, ◌||◌, ◌==◌, cond, List, [], ◌∷◌, ◌++◌, length, take, drop, get_or, map, Option, Some, None, Result, Ok, Err, refl, sym, ◌∙◌, ap, ap₂, arith, append-nil, append_assoc}
 use Rattle.std.specs.List.{list_all, onto_first, before_first, position_or_len, prefix_len}
 use Rattle.std.specs.Option.{option_or}
 use Rattle.std.proofs.lemmas.Bool.Decides.{nat_tests}
@@ -8,8 +8,8 @@ use Rattle.std.proofs.lemmas.List.{length-take-le, get_or-take, take_all}
 use Rattle.std.proofs.lemmas.List.Elements.{All-from_get_or}
 use Rattle.std.proofs.lemmas.List.Folds.{list_all_at}
 use Rattle.std.proofs.lemmas.List.Splits.{slice_split_first, slice_split_none}
-use Rattle.sd_path.specs.Names.{Names, is_root, is_name_byte, is_name, IsPath, ended, names_of, Keeps}
-use Rattle.sd_path.specs.PathText.{between_slashes, name_fault, fault_of, unless, path_of, IsReadAs}
+use Rattle.sd_path.specs.Names.{Names, up, is_root, is_name_byte, is_name, IsPath, ended, names_of, Keeps}
+use Rattle.sd_path.specs.PathText.{slashed, between_slashes, name_fault, fault_of, unless, path_of, IsReadAs}
 use Rattle.sd_path.proofs.PathBytes.{names_of-path, Keeps-ended}
 use Rattle.sd_path.specs.declared.error.PathError.{PathError}
 use Rattle.sd_path.specs.declared.error.PathError.TheVariants.{Syntax, NameTooLong, TooManyNames, Memory}
@@ -294,3 +294,15 @@ read-path text b bs kept e slash some h k =
 pub Keeps-read : (bs kept : List ℕ) (count : ℕ) → fault_of 128 (between_slashes bs) ≡ None → count ≡ length (between_slashes bs)
     → kept ≡ ended (between_slashes bs) → Keeps kept count
 Keeps-read bs kept count h c k = rw (c, k) (Keeps-ended (between_slashes bs) (IsPath-from_fault (between_slashes bs) h))
+
+-- ---- the text of a path
+
+pub slashed-push : (names : Names) (name : List ℕ) → slashed (names ++ name ∷ []) ≡ slashed names ++ (0x2F ∷ name)
+slashed-push [] name = ap (λ bs. 0x2F ∷ bs) (append-nil name)
+slashed-push (n ∷ names) name = ap (λ bs. 0x2F ∷ bs) (ap (λ bs. n ++ bs) (slashed-push names name) ∙ sym (append_assoc n (slashed names) (0x2F ∷ name)))
+
+-- a path is written as what holds it, a slash and its last name
+pub slashed-up : (path above : Names) (name written : List ℕ) → path ≡ up path ++ name ∷ [] → above ≡ up path → written ≡ name
+    → slashed above ++ (0x2F ∷ [] ++ written) ≡ slashed path
+slashed-up path above name written parts is same =
+    ap₂ (λ p bs. slashed p ++ (0x2F ∷ bs)) is same ∙ sym (slashed-push (up path) name) ∙ ap slashed (sym parts)

@@ -35,6 +35,16 @@ path_of (b ∷ bs) =
     else if length bs == 0 then Ok []
     else unless (fault_of 128 (between_slashes bs)) (between_slashes bs)
 
+-- each name led by `/`
+abbrev pub slashed : Names → List ℕ
+slashed [] = []
+slashed (name ∷ names) = 0x2F ∷ (name ++ slashed names)
+
+-- the text of a path
+abbrev pub text_of : Names → List ℕ
+text_of [] = 0x2F ∷ []
+text_of (name ∷ names) = slashed (name ∷ names)
+
 -- the answer is what the text says; memory is wanted only for a path that has a name
 abbrev pub IsReadAs : Result Names PathError → Result Names PathError → Type 0
 IsReadAs said (Ok path) = said ≡ Ok path

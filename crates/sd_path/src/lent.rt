@@ -1,6 +1,6 @@
 //! Paths that are lent, so that a tree is searched without memory.
 
-ghost use Rattle.std.specs.Prelude.{◌≡◌, ◌≤◌, length, take};
+ghost use Rattle.std.specs.Prelude.{◌≡◌, ◌≤◌, ◌-◌, [], ◌∷◌, ◌++◌, length, take, MatchOption};
 ghost use Rattle.sd_path.specs.Names.{names_cmp, up, is_root, is_within, ended, names_of, Keeps};
 
 use std::cmp::Ordering;
@@ -49,6 +49,17 @@ impl<'a> PathRef<'a> {
         }
     }
 
+    /// The bytes of the last name; the root has none.
+    pub fn last_name(&self) -> Option<&'a [u8]>
+        ensures { MatchOption result (self.now ≡ []) (λ name. self.now ≡ up self.now ++ name.now ∷ []) }
+    {
+        if self.count == 0 {
+            return None;
+        }
+        let end = self.bytes.len() - 1;
+        Some(&self.bytes[parent_len(self.bytes)..end])
+    }
+
     /// How the two stand in the order of paths.
     pub fn compare(&self, other: &PathRef) -> Ordering
         ensures { result ≡ names_cmp self.now other.now }
@@ -68,7 +79,7 @@ impl<'a> PathRef<'a> {
 fn parent_len(bytes: &[u8]) -> usize
     requires { Keeps bytes.now (length (names_of bytes.now)) }
     ensures front { take result bytes.now ≡ ended (up (names_of bytes.now)) }
-    ensures within { result ≤ length bytes.now }
+    ensures within { result ≤ length bytes.now - 1 }
 {
     let mut end = bytes.len().saturating_sub(1);
     while end > 0 && bytes[end - 1] != 0 {

@@ -10,10 +10,12 @@
 //! ```
 #![tactic(auto)]
 
+mod compared;
 mod error;
 mod lent;
 mod name;
 mod path;
+mod print;
 mod read;
 
 pub use error::PathError;

@@ -53,7 +53,8 @@ impl Desk {
         readers: u64,
     ) -> Result<Desk, StartError>
         ensures started { IfOk result (λ desk. desk ≡ started (opening_of mapping.now root.now) readers) }
-        ensures accepted { IfOk result (λ _. IsReaderCount readers × (root_refusal (opening_of mapping.now root.now) ≡ None)) }
+        ensures accepted { IfOk result (λ _. IsReaderCount readers ×
+            (root_refusal (opening_of mapping.now root.now) ≡ None)) }
         ensures refused { IfErr result (λ e. IsStartError e readers (root_refusal (opening_of mapping.now root.now))) }
     {
         if readers < 1 || MAX_READERS < readers {

@@ -13,7 +13,8 @@ pub(crate) fn catch_up(published: &Tree, draft: &mut Tree) -> Result<(), AllocEr
     ensures opening { draft.new.opening ≡ draft.old.opening }
     ensures in_line { AreInLine published.now.journal draft.new.journal }
     ensures same { waiting published.now.journal draft.new.journal ≡ waiting published.now.journal draft.old.journal }
-    ensures caught_up { OnOk result (draft.new.journal ≡ published.now.journal ++ waiting published.now.journal draft.old.journal) }
+    ensures caught_up { OnOk result (draft.new.journal ≡ published.now.journal
+        ++ waiting published.now.journal draft.old.journal) }
     ensures lags { OnErr result (waiting published.now.journal draft.old.journal ≡ []) }
 {
     let behind = draft.len();
@@ -33,7 +34,8 @@ fn follow(published: &Tree, draft: &mut Tree, place: u64) -> Result<(), AllocErr
     requires opening { draft.old.opening ≡ published.now.opening }
     requires beginning { draft.old.journal ≡ take place published.now.journal }
     ensures opening { draft.new.opening ≡ draft.old.opening }
-    ensures journal { MatchResult result (λ _. draft.new.journal ≡ take (place + 1) published.now.journal) (λ _. draft.new.journal ≡ draft.old.journal) }
+    ensures journal { MatchResult result (λ _. draft.new.journal ≡ take (place + 1) published.now.journal)
+        (λ _. draft.new.journal ≡ draft.old.journal) }
 {
     match draft.apply(&published.journal()[place as usize]) {
         Ok(()) => Ok(()),

@@ -10,5 +10,6 @@ pub mod Prepared
 pub mod Refusals
 pub mod Sizes
 pub mod Stored
+pub mod View
 pub use Rattle.sd_path.specs.Names
 pub use Rattle.sd_path.specs.PathText

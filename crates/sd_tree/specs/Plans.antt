@@ -83,12 +83,6 @@ IsLargeError g after Memory = Unit {0}
 
 -- ---- a plan that waits to be carried out
 
--- what was prepared: of which tree, and for which edit
-pub record Planned : Type 0 where
-  pub opening : Opening
-  pub journal : List Edit
-  pub edit : Edit
-
 -- the plan is for the edit, which nothing refuses
 pub record IsPlanned (opening : Opening) (journal : List Edit) (edit : Edit) (plan : Plan) : Type 0 where
   pub accepted : refusal opening journal edit ≡ None

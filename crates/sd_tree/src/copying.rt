@@ -9,7 +9,7 @@ use sd_acl::AceList;
 use std::alloc::{AllocError, Global};
 
 /// Equal edits.
-pub(crate) fn copied_edits(alloc: Global, edits: &[Edit]) -> Result<Vec<Edit>, AllocError>
+pub(crate) fn copy_edits(alloc: Global, edits: &[Edit]) -> Result<Vec<Edit>, AllocError>
     ensures { IfOk result (λ copy. copy.items ≡ edits.now) }
 {
     let mut copy = Vec::with_capacity(alloc, edits.len())?;
@@ -20,18 +20,18 @@ pub(crate) fn copied_edits(alloc: Global, edits: &[Edit]) -> Result<Vec<Edit>, A
 }
 
 /// Equal nodes.
-pub(crate) fn copied_nodes(alloc: Global, nodes: &[Box<Node>]) -> Result<Vec<Box<Node>>, AllocError>
+pub(crate) fn copy_nodes(alloc: Global, nodes: &[Box<Node>]) -> Result<Vec<Box<Node>>, AllocError>
     ensures { IfOk result (λ copy. map node_of copy.items ≡ map node_of nodes.now) }
 {
     let mut copy = Vec::with_capacity(alloc, nodes.len())?;
     for node in nodes {
-        copy.push(Box::new(alloc, copied_node(alloc, node)?)?)?;
+        copy.push(Box::new(alloc, copy_node(alloc, node)?)?)?;
     }
     Ok(copy)
 }
 
 /// An equal node.
-fn copied_node(alloc: Global, node: &Node) -> Result<Node, AllocError>
+fn copy_node(alloc: Global, node: &Node) -> Result<Node, AllocError>
     ensures { IfOk result (λ copy. copy ≡ node.now) }
 {
     let path = node.path.copy(alloc)?;
@@ -43,13 +43,13 @@ fn copied_node(alloc: Global, node: &Node) -> Result<Node, AllocError>
     };
     let whole = match &node.whole {
         None => None,
-        Some(list) => Some(copied_list(alloc, list)?),
+        Some(list) => Some(copy_list(alloc, list)?),
     };
     Ok(Node { path, row, whole })
 }
 
 /// An equal list.
-pub(crate) fn copied_list(alloc: Global, list: &AceList) -> Result<AceList, AllocError>
+pub(crate) fn copy_list(alloc: Global, list: &AceList) -> Result<AceList, AllocError>
     ensures { IfOk result (λ copy. copy ≡ list.now) }
 {
     match AceList::new(Vec::from_slice(alloc, list.entries())?) {

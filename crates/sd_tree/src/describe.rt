@@ -4,14 +4,14 @@ ghost use Rattle.std.specs.Prelude.{◌≡◌, IfOk};
 ghost use Rattle.sd_acl.specs.Descriptor.{descriptor_of};
 ghost use Rattle.sd_tree.specs.Descriptors.{is_protected, descriptor_of_row};
 
-use crate::copying::copied_list;
+use crate::copying::copy_list;
 use crate::node::{NodeDacl, Row};
 use sd_acl::{AceList, Dacl, Descriptor};
 use std::alloc::{AllocError, Global};
 
 /// The descriptor of a node with this whole DACL; `None` is a null one. Control bit DI tells that a list was inherited
 /// automatically ([MS-DTYP] 2.4.6).
-pub(crate) fn described(
+pub(crate) fn descriptor_of_node(
     alloc: Global,
     row: &Row,
     whole: &Option<AceList>,
@@ -21,7 +21,7 @@ pub(crate) fn described(
     let (dacl, protected, auto_inherited) = match whole {
         None => (Dacl::Null, false, false),
         Some(list) => (
-            Dacl::List(copied_list(alloc, list)?),
+            Dacl::List(copy_list(alloc, list)?),
             is_protected(&row.dacl),
             true,
         ),

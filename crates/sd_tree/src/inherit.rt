@@ -134,7 +134,8 @@ fn to_object(
     row: &Row,
     entry: &Ace,
 ) -> Result<(), AllocError>
-    ensures { OnOk result (handed.new.items ≡ handed.old.items ++ to_object mapping.now row.now.owner row.now.group entry.now) }
+    ensures { OnOk result (handed.new.items ≡ handed.old.items
+        ++ to_object mapping.now row.now.owner row.now.group entry.now) }
 {
     if objects_inherit(entry) {
         handed.push(effective_copy(mapping, row, entry))?;
@@ -149,7 +150,8 @@ fn to_container(
     row: &Row,
     entry: &Ace,
 ) -> Result<(), AllocError>
-    ensures { OnOk result (handed.new.items ≡ handed.old.items ++ to_container mapping.now row.now.owner row.now.group entry.now) }
+    ensures { OnOk result (handed.new.items ≡ handed.old.items
+        ++ to_container mapping.now row.now.owner row.now.group entry.now) }
 {
     if !containers_inherit(entry) {
         if objects_inherit(entry) && !stops_here(entry) {
@@ -173,7 +175,8 @@ fn pass_on(
     row: &Row,
     entry: &Ace,
 ) -> Result<(), AllocError>
-    ensures { OnOk result (handed.new.items ≡ handed.old.items ++ pass_on mapping.now row.now.kind row.now.owner row.now.group entry.now) }
+    ensures { OnOk result (handed.new.items ≡ handed.old.items
+        ++ pass_on mapping.now row.now.kind row.now.owner row.now.group entry.now) }
 {
     match row.kind {
         NodeKind::Object => to_object(handed, mapping, row, entry),
@@ -188,7 +191,8 @@ fn hand_on(
     row: &Row,
     above: &[Ace],
 ) -> Result<(), AllocError>
-    ensures { OnOk result (handed.new.items ≡ handed.old.items ++ flat_map (pass_on mapping.now row.now.kind row.now.owner row.now.group) above.now) }
+    ensures { OnOk result (handed.new.items ≡ handed.old.items ++ flat_map
+        (pass_on mapping.now row.now.kind row.now.owner row.now.group) above.now) }
 {
     for entry in above {
         pass_on(handed, mapping, row, entry)?;

@@ -8,32 +8,33 @@ ghost use Rattle.sd_tree.specs.Edits.{edited};
 ghost use Rattle.sd_path.specs.Names.{is_root};
 ghost use Rattle.sd_tree.specs.Plans.{IsPlan};
 ghost use Rattle.sd_tree.specs.Refusals.{early_refusal, first_fit, addition_tests, node_tests, room_tests, has_child, refusal_in};
-ghost use Rattle.sd_tree.specs.Stored.{path_of_node, tree_of, AreStanding};
+ghost use Rattle.sd_tree.specs.Stored.{path_of_node};
+ghost use Rattle.sd_tree.specs.View.{IsView, tree_in};
 ghost use Rattle.sd_tree.specs.declared.refusal.EditRefusal.TheVariants.{NotEmpty, IsRoot, TooDeep, NodesFull, JournalFull};
 
 use crate::edit::Edit;
-use crate::given::list_refusal;
+use crate::list_tests::list_refusal;
 use crate::node::{Node, NodeDacl, NodeKind};
 use crate::nodes::{locate, node_at};
-use sd_path::{Path, PathRef};
 use crate::plan::Plan;
 use crate::refusal::{EditRefusal, TreeError};
-use crate::standing::Standing;
+use crate::tree_view::TreeView;
+use sd_path::{Path, PathRef};
 
-/// The most names of a node's path.
+/// The most names of a node's path, a choice of this profile: it bounds how many levels down an edit reaches.
 const MAX_DEPTH: u64 = 64;
 
-/// The most nodes of a tree, the root counted.
+/// The most nodes of a tree, the root counted, a choice of this profile: it bounds how many DACLs one edit builds.
 const MAX_NODES: usize = 0x1_0000;
 
-/// The most edits of a journal.
+/// The most edits of a journal, a choice of this profile: it bounds what a replay and a copy of a tree go through.
 const MAX_EDITS: usize = 0x10_0000;
 
-impl Standing<'_> {
+impl TreeView<'_> {
     /// The kind of the node of a path.
     pub(crate) fn kind_at(&self, path: &PathRef<'_>) -> Option<NodeKind>
-        requires { AreStanding self.now.mapping.now self.now.nodes.now }
-        ensures { result ≡ kind_at (tree_of self.now.nodes.now) path.now }
+        requires { IsView self.now }
+        ensures { result ≡ kind_at (tree_in self.now) path.now }
     {
         match node_at(self.nodes, path) {
             Some(node) => Some(node.row.kind),
@@ -43,8 +44,8 @@ impl Standing<'_> {
 
     /// Why no node may be added at the path with this DACL.
     fn addition_refusal(&self, path: &Path, dacl: &NodeDacl) -> Option<EditRefusal>
-        requires { AreStanding self.now.mapping.now self.now.nodes.now }
-        ensures { result ≡ first_fit (addition_tests (tree_of self.now.nodes.now) path.now dacl.now) }
+        requires { IsView self.now }
+        ensures { result ≡ first_fit (addition_tests (tree_in self.now) path.now dacl.now) }
     {
         let path = path.as_path_ref();
         if !path.is_root() {
@@ -62,8 +63,8 @@ impl Standing<'_> {
 
     /// Why the node of the path can't be changed: none is there.
     fn absence(&self, path: &Path) -> Option<EditRefusal>
-        requires { AreStanding self.now.mapping.now self.now.nodes.now }
-        ensures { result ≡ first_fit (node_tests (tree_of self.now.nodes.now) path.now) }
+        requires { IsView self.now }
+        ensures { result ≡ first_fit (node_tests (tree_in self.now) path.now) }
     {
         match self.kind_at(&path.as_path_ref()) {
             Some(_) => None,
@@ -73,10 +74,10 @@ impl Standing<'_> {
 
     /// Whether a node stands right below the one at a place: then the next in order does.
     fn has_child(&self, path: &PathRef<'_>, at: usize) -> bool
-        requires standing { AreStanding self.now.mapping.now self.now.nodes.now }
+        requires standing { IsView self.now }
         requires within { at < length self.now.nodes.now }
         requires stands { HoldsAt (λ b. path_of_node b ≡ path.now) self.now.nodes.now at }
-        ensures { result ≡ has_child (tree_of self.now.nodes.now) path.now }
+        ensures { result ≡ has_child (tree_in self.now) path.now }
     {
         if at + 1 == self.nodes.len() {
             return false;
@@ -87,8 +88,9 @@ impl Standing<'_> {
 
     /// Why the node of the path can't go.
     fn removal_refusal(&self, path: &Path) -> Option<EditRefusal>
-        requires { AreStanding self.now.mapping.now self.now.nodes.now }
-        ensures { result ≡ first_fit (node_tests (tree_of self.now.nodes.now) path.now ++ (has_child (tree_of self.now.nodes.now) path.now, NotEmpty) ∷ (is_root path.now, IsRoot) ∷ []) }
+        requires { IsView self.now }
+        ensures { result ≡ first_fit (node_tests (tree_in self.now) path.now ++
+            (has_child (tree_in self.now) path.now, NotEmpty) ∷ (is_root path.now, IsRoot) ∷ []) }
     {
         let path = path.as_path_ref();
         match locate(self.nodes, &path) {
@@ -107,8 +109,8 @@ impl Standing<'_> {
 
     /// Why an edit is refused by the tests that take no memory.
     fn early_refusal(&self, edit: &Edit) -> Option<EditRefusal>
-        requires { AreStanding self.now.mapping.now self.now.nodes.now }
-        ensures { result ≡ early_refusal (tree_of self.now.nodes.now) edit.now }
+        requires { IsView self.now }
+        ensures { result ≡ early_refusal (tree_in self.now) edit.now }
     {
         match edit {
             Edit::AddContainer { path, dacl, .. } => self.addition_refusal(path, dacl),
@@ -126,8 +128,9 @@ impl Standing<'_> {
 
     /// Why one more node can't be had at the path.
     fn room_refusal(&self, path: &Path) -> Option<EditRefusal>
-        requires { AreStanding self.now.mapping.now self.now.nodes.now }
-        ensures { result ≡ first_fit ((nat_lt 64 (length path.now), TooDeep) ∷ (nat_le 65536 (len (tree_of self.now.nodes.now)), NodesFull) ∷ []) }
+        requires { IsView self.now }
+        ensures { result ≡ first_fit ((nat_lt 64 (length path.now), TooDeep) ∷
+            (nat_le 65536 (len (tree_in self.now)), NodesFull) ∷ []) }
     {
         if path.as_path_ref().depth() > MAX_DEPTH {
             return Some(EditRefusal::TooDeep);
@@ -140,8 +143,9 @@ impl Standing<'_> {
 
     /// Why an edit is refused by the limits, after so many edits.
     fn limit_refusal(&self, edit: &Edit, edits: usize) -> Option<EditRefusal>
-        requires { AreStanding self.now.mapping.now self.now.nodes.now }
-        ensures { result ≡ first_fit (room_tests (tree_of self.now.nodes.now) edit.now ++ (nat_le 1048576 edits, JournalFull) ∷ []) }
+        requires { IsView self.now }
+        ensures { result ≡ first_fit (room_tests (tree_in self.now) edit.now ++ (nat_le 1048576 edits, JournalFull)
+            ∷ []) }
     {
         let room = match edit {
             Edit::AddContainer { path, .. } => self.room_refusal(path),
@@ -156,11 +160,13 @@ impl Standing<'_> {
     }
 
     /// The plan of an edit after so many edits, or why it is refused.
-    pub(crate) fn planned(&self, edit: &Edit, edits: usize) -> Result<Plan, TreeError>
-        requires { AreStanding self.now.mapping.now self.now.nodes.now }
-        ensures plan { IfOk result (IsPlan self.now.mapping.now (tree_of self.now.nodes.now) (edited self.now.mapping.now (tree_of self.now.nodes.now) edit.now)) }
-        ensures accepted { IfOk result (λ _. refusal_in self.now.mapping.now (tree_of self.now.nodes.now) edits edit.now ≡ None) }
-        ensures refused { IfErr result (λ e. IsError e (refusal_in self.now.mapping.now (tree_of self.now.nodes.now) edits edit.now)) }
+    pub(crate) fn plan_or_refusal(&self, edit: &Edit, edits: usize) -> Result<Plan, TreeError>
+        requires { IsView self.now }
+        ensures plan { IfOk result (IsPlan self.now.mapping.now (tree_in self.now)
+            (edited self.now.mapping.now (tree_in self.now) edit.now)) }
+        ensures accepted { IfOk result (λ _. refusal_in self.now.mapping.now (tree_in self.now) edits edit.now ≡ None) }
+        ensures refused { IfErr result (λ e. IsError e
+            (refusal_in self.now.mapping.now (tree_in self.now) edits edit.now)) }
     {
         if let Some(refusal) = self.early_refusal(edit) {
             return Err(TreeError::Refused(refusal));

@@ -16,19 +16,19 @@
 mod copying;
 mod describe;
 mod edit;
+mod edit_plan;
 mod entries;
-mod given;
 mod inherit;
 mod judging;
 mod keep;
+mod list_tests;
 mod node;
 mod nodes;
 mod opening;
 mod plan;
-mod planning;
 mod refusal;
-mod standing;
 mod tree;
+mod tree_view;
 
 pub use edit::Edit;
 pub use entries::Entries;

@@ -3,8 +3,8 @@
 ghost use Rattle.std.specs.Prelude.{◌≡◌, IfOk};
 
 use crate::entries::Entries;
-use sd_path::Path;
 use sd_acl::AceList;
+use sd_path::Path;
 use sd_sid::Sid;
 use std::alloc::{AllocError, Global};
 

@@ -14,8 +14,11 @@ use std::cmp::Ordering;
 /// Where the node of a path stands, or where it would.
 pub(crate) fn locate(nodes: &[Box<Node>], path: &PathRef<'_>) -> Result<usize, usize>
     requires { IsInOrder nodes.now }
-    ensures found { IfOk result (λ at. (at < length nodes.now) × HoldsAt (λ b. path_of_node b ≡ path.now) nodes.now at) }
-    ensures absent { IfErr result (λ at. (at ≤ length nodes.now) × AllWithin (λ b. names_cmp (path_of_node b) path.now ≡ Less) nodes.now 0 at × AllWithin (λ b. names_cmp (path_of_node b) path.now ≡ Greater) nodes.now at (length nodes.now)) }
+    ensures found { IfOk result (λ at. (at < length nodes.now) × HoldsAt
+        (λ b. path_of_node b ≡ path.now) nodes.now at) }
+    ensures absent { IfErr result (λ at. (at ≤ length nodes.now) × AllWithin
+        (λ b. names_cmp (path_of_node b) path.now ≡ Less) nodes.now 0 at × AllWithin
+        (λ b. names_cmp (path_of_node b) path.now ≡ Greater) nodes.now at (length nodes.now)) }
 {
     nodes.binary_search_by(
         |node: &Box<Node>| -> Ordering

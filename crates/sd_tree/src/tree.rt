@@ -10,22 +10,22 @@ ghost use Rattle.sd_tree.specs.Prepared.{IsPrepared};
 ghost use Rattle.sd_tree.specs.Refusals.{is_early, dacl_size};
 ghost use Rattle.sd_tree.specs.Inheritance.{dacl_of_row};
 ghost use Rattle.sd_tree.specs.Sizes.{IsSizeError};
-ghost use Rattle.sd_tree.specs.Stored.{AreStanding, tree_of};
+ghost use Rattle.sd_tree.specs.View.{IsView, tree_in};
 
-use crate::copying::{copied_edits, copied_nodes};
-use crate::describe::described;
+use crate::copying::{copy_edits, copy_nodes};
+use crate::describe::descriptor_of_node;
 use crate::edit::Edit;
-use crate::given::list_refusal;
 use crate::inherit::dacl_of_row;
+use crate::list_tests::list_refusal;
 use crate::node::{Node, NodeKind, Row};
 use crate::nodes::node_at;
 use crate::opening::{Opening, RootSpec};
-use sd_path::Path;
 use crate::plan::{Plan, carry_out};
 use crate::refusal::{EditRefusal, TreeError};
-use crate::standing::Standing;
+use crate::tree_view::TreeView;
 use sd_acl::{Descriptor, Verdict};
 use sd_check::{DaclRef, Token, check_parts};
+use sd_path::Path;
 use sd_sid::{GenericMapping, Mask};
 use std::alloc::{AllocError, Global};
 use std::marker::Model;
@@ -72,7 +72,8 @@ pub struct Prepared {
 }
 
 impl Model for Prepared {
-    ghost use Rattle.sd_tree.specs.Plans.{Planned, IsPlanned};
+    ghost use Rattle.sd_tree.specs.Plans.{IsPlanned};
+    ghost use Rattle.sd_tree.specs.Prepared.{Planned};
 
     ghost Value = { Planned };
 
@@ -121,7 +122,7 @@ impl Tree {
         ensures accepted { IfOk result (λ _. refusal self.old.opening self.old.journal edit.now ≡ None) }
         ensures refused { IfErr result (λ e. IsError e (refusal self.old.opening self.old.journal edit.now)) }
     {
-        let plan = self.planned(edit)?;
+        let plan = self.plan_or_refusal(edit)?;
         let edit = edit.copy(self.alloc)?;
         self.journal.reserve(1)?;
         self.nodes.reserve(1)?;
@@ -153,7 +154,8 @@ impl Tree {
     /// stays; want of memory only where none is due that is found without it.
     pub fn apply(&mut self, edit: &Edit) -> Result<(), TreeError>
         ensures opening { self.new.opening ≡ self.old.opening }
-        ensures journal { MatchResult result (λ _. self.new.journal ≡ self.old.journal ++ edit.now ∷ []) (λ _. self.new.journal ≡ self.old.journal) }
+        ensures journal { MatchResult result (λ _. self.new.journal ≡ self.old.journal ++ edit.now ∷ [])
+            (λ _. self.new.journal ≡ self.old.journal) }
         ensures accepted { OnOk result (refusal self.old.opening self.old.journal edit.now ≡ None) }
         ensures refused { IfErr result (λ e. IsError e (refusal self.old.opening self.old.journal edit.now)) }
     {
@@ -184,7 +186,7 @@ impl Tree {
     pub fn lookup(&self, path: &Path) -> Option<NodeKind>
         ensures { result ≡ kind_at (replay self.now.opening self.now.journal) path.now }
     {
-        self.standing().kind_at(&path.as_path_ref())
+        self.view().kind_at(&path.as_path_ref())
     }
 
     /// The verdict on a request for the node of a path ([MS-DTYP] 2.5.3.2). Takes no memory.
@@ -212,7 +214,7 @@ impl Tree {
     {
         match node_at(&self.nodes, &path.as_path_ref()) {
             None => Ok(None),
-            Some(node) => Ok(Some(described(self.alloc, &node.row, &node.whole)?)),
+            Some(node) => Ok(Some(descriptor_of_node(self.alloc, &node.row, &node.whole)?)),
         }
     }
 
@@ -222,7 +224,7 @@ impl Tree {
         ensures due { IfOk result (λ due. due ≡ refusal self.now.opening self.now.journal edit.now) }
         ensures memory { IfErr result (λ _. is_early (refusal self.now.opening self.now.journal edit.now) ≡ false) }
     {
-        match self.planned(edit) {
+        match self.plan_or_refusal(edit) {
             Ok(_) => Ok(None),
             Err(TreeError::Refused(refusal)) => Ok(Some(refusal)),
             Err(TreeError::Memory) => Err(AllocError),
@@ -235,8 +237,8 @@ impl Tree {
         ensures journal { IfOk result (λ t. t.journal ≡ self.now.journal) }
     {
         let opening = self.opening.copy(self.alloc)?;
-        let journal = copied_edits(self.alloc, &self.journal)?;
-        let nodes = copied_nodes(self.alloc, &self.nodes)?;
+        let journal = copy_edits(self.alloc, &self.journal)?;
+        let nodes = copy_nodes(self.alloc, &self.nodes)?;
         Ok(Tree {
             alloc: self.alloc,
             opening,
@@ -246,20 +248,20 @@ impl Tree {
     }
 
     /// The plan of an edit, or why it is refused.
-    fn planned(&self, edit: &Edit) -> Result<Plan, TreeError>
+    fn plan_or_refusal(&self, edit: &Edit) -> Result<Plan, TreeError>
         ensures plan { IfOk result (IsPlanned self.now.opening self.now.journal edit.now) }
         ensures refused { IfErr result (λ e. IsError e (refusal self.now.opening self.now.journal edit.now)) }
     {
-        self.standing().planned(edit, self.journal.len())
+        self.view().plan_or_refusal(edit, self.journal.len())
     }
 
     /// The nodes as they stand.
-    fn standing(&self) -> Standing<'_>
-        ensures standing { AreStanding result.mapping.now result.nodes.now }
+    fn view(&self) -> TreeView<'_>
+        ensures standing { IsView result }
         ensures mapping { result.mapping.now ≡ self.now.opening.mapping }
-        ensures tree { tree_of result.nodes.now ≡ replay self.now.opening self.now.journal }
+        ensures tree { tree_in result ≡ replay self.now.opening self.now.journal }
     {
-        Standing {
+        TreeView {
             alloc: self.alloc,
             mapping: &self.opening.mapping,
             nodes: &self.nodes,
@@ -273,7 +275,8 @@ fn root_node(
     mapping: &GenericMapping,
     root: &RootSpec,
 ) -> Result<Box<Node>, TreeError>
-    ensures node { IfOk result (λ b. (b.value.path ≡ []) × (b.value.row ≡ root_row root.now) × (b.value.whole ≡ dacl_of_row mapping.now (root_row root.now) None) × (dacl_size b.value.whole ≤ 65535)) }
+    ensures node { IfOk result (λ b. (b.value.path ≡ []) × (b.value.row ≡ root_row root.now) ×
+        (b.value.whole ≡ dacl_of_row mapping.now (root_row root.now) None) × (dacl_size b.value.whole ≤ 65535)) }
     ensures refused { IfErr result (λ e. IsSizeError e (dacl_of_row mapping.now (root_row root.now) None)) }
 {
     let row = Row {

@@ -59,7 +59,7 @@ pub unmarked_entry_stays : UnmarkedEntryStays
 unmarked_entry_stays g Object owner group e no_object no_container = rw no_object refl
 unmarked_entry_stays g Container owner group e no_object no_container = rw (no_container, no_object) refl
 
-effective_hands_nothing : (g : MappingValue) (kind : NodeKind) (owner group next_owner next_group : SidValue) (e : Ace)
+pub effective_hands_nothing : (g : MappingValue) (kind : NodeKind) (owner group next_owner next_group : SidValue) (e : Ace)
     → pass_on g kind next_owner next_group (effective_copy g owner group e) ≡ []
 effective_hands_nothing g kind owner group next_owner next_group e =
     unmarked_entry_stays g kind next_owner next_group (effective_copy g owner group e)
@@ -72,7 +72,7 @@ only_effective h true false true split effective waiting whole np e = refl
 only_effective h false false true split effective waiting whole np e = refl
 only_effective h object container false split effective waiting whole np e = absurd cc
 
-once : (h : Ace → List Ace) (object : Bool) (effective : Ace) → h effective ≡ [] → flat_map h (cond object (effective ∷ []) []) ≡ []
+pub once : (h : Ace → List Ace) (object : Bool) (effective : Ace) → h effective ≡ [] → flat_map h (cond object (effective ∷ []) []) ≡ []
 once h true effective e = append-nil (h effective) ∙ e
 once h false effective e = refl
 

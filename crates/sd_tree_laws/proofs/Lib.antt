@@ -7,3 +7,5 @@ pub mod Ordered
 pub mod OwnEntries
 pub mod Reach
 pub mod Reordered
+pub mod Steps
+pub mod Trustees

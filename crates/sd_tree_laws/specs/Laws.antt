@@ -1,5 +1,5 @@
 -- What follows from the rules of the tree, as laws over all trees, edits, tokens and requests.
-use Rattle.std.specs.Prelude.{◌≡◌, ℕ, Bool, true, false, ◌||◌, List, [], Option, Some, None, filter}
+use Rattle.std.specs.Prelude.{◌≡◌, ◌≢◌, ℕ, Bool, true, false, ◌||◌, List, [], Option, Some, None, filter}
 use Rattle.std.specs.List.{list_any, flat_map}
 use Rattle.sd_sid.specs.Mask.{holds}
 use Rattle.sd_sid.specs.Mapping.{MappingValue}
@@ -12,9 +12,10 @@ use Rattle.sd_acl.specs.declared.ace.AceKind.{AceKind}
 use Rattle.sd_acl.specs.declared.verdict.Verdict.TheVariants.{Granted}
 use Rattle.sd_check.specs.Token.{TokenValue}
 use Rattle.sd_check.specs.Check.{is_granted}
-use Rattle.sd_path.specs.Names.{Names, is_within}
-use Rattle.sd_tree.specs.Inheritance.{object_inherit, container_inherit, no_propagate, pass_on, handed_on}
+use Rattle.sd_path.specs.Names.{Names, up, is_root, is_within}
+use Rattle.sd_tree.specs.Inheritance.{object_inherit, container_inherit, no_propagate, pass_on, handed_on, dacl_of_row}
 use Rattle.sd_tree.specs.Descriptors.{is_protected}
+use Rattle.sd_tree.specs.Closed.{IsClosed}
 use Rattle.sd_tree.specs.Plain.{PlainTree, row_at, dacl_at}
 use Rattle.sd_tree.specs.Edits.{edited, edited_path}
 use Rattle.sd_tree.specs.Answers.{descriptor_at, reply_in}
@@ -26,7 +27,23 @@ use Rattle.sd_tree.specs.declared.node.NodeKind.TheVariants.{Object}
 use Rattle.sd_tree.specs.declared.opening.Opening.{Opening}
 use Rattle.sd_tree.specs.declared.tree.CheckReply.TheVariants.{Verdict}
 use Rattle.sd_tree.specs.declared.edit.Edit.{Edit}
-use Rattle.sd_tree.specs.declared.edit.Edit.TheVariants.{ProtectKeeping}
+use Rattle.sd_tree.specs.declared.edit.Edit.TheVariants.{SetOwner, SetGroup, ProtectKeeping}
+
+-- ---- from the root down
+
+-- what a node has is its own entries and what its parent's DACL hands on; the root has nothing above it
+abbrev pub DaclIsOfParent : Type 0
+DaclIsOfParent =
+    (g : MappingValue) (t : PlainTree) (path : Names) (row : Row)
+    → row_at t path ≡ Some row → is_root path ≡ false → dacl_at g t path ≡ dacl_of_row g row (dacl_at g t (up path))
+
+abbrev pub RootInheritsNothing : Type 0
+RootInheritsNothing =
+    (g : MappingValue) (t : PlainTree) (row : Row) → row_at t [] ≡ Some row → dacl_at g t [] ≡ dacl_of_row g row None
+
+-- after a lawful journal the root is there, and what holds each node is a container that is there
+abbrev pub LawfulTreesAreClosed : Type 0
+LawfulTreesAreClosed = (opening : Opening) (journal : List Edit) → IsLawful opening journal → IsClosed (replay opening journal)
 
 -- ---- how far an edit reaches
 
@@ -34,6 +51,17 @@ abbrev pub EditStaysBelow : Type 0
 EditStaysBelow =
     (g : MappingValue) (t : PlainTree) (edit : Edit) (path : Names)
     → is_within (edited_path edit) path ≡ false → descriptor_at g (edited g t edit) path ≡ descriptor_at g t path
+
+-- another owner or group changes the DACL of its own node alone: where it took a creator's place it is handed on no further
+abbrev pub OwnerChangesOneNode : Type 0
+OwnerChangesOneNode =
+    (g : MappingValue) (t : PlainTree) (path other : Names) (owner : SidValue)
+    → other ≢ path → dacl_at g (edited g t (SetOwner path owner)) other ≡ dacl_at g t other
+
+abbrev pub GroupChangesOneNode : Type 0
+GroupChangesOneNode =
+    (g : MappingValue) (t : PlainTree) (path other : Names) (group : SidValue)
+    → other ≢ path → dacl_at g (edited g t (SetGroup path group)) other ≡ dacl_at g t other
 
 -- two trees with the same nodes at and below a protected one have the same DACLs there
 abbrev pub ProtectedStandsAlone : Type 0

@@ -1,10 +1,29 @@
 //! What follows from the rules of the tree.
 
-ghost use Rattle.sd_tree_laws.specs.Laws.{EditStaysBelow, ProtectedStandsAlone, UnmarkedEntryStays, NoPropagateGoesOneLevel, NothingWaitsInAnObject, InheritedHasId, OwnHasNoId, WithoutIdIsOwn, EveryListIsCanonical, OrderGrantsNothing, OrderKeepsOwnersLimit, KeepingLetsNobodyIn, KeepingGrantsNoNewRequest};
+ghost use Rattle.sd_tree_laws.specs.Laws.{DaclIsOfParent, RootInheritsNothing, LawfulTreesAreClosed, OwnerChangesOneNode, GroupChangesOneNode, EditStaysBelow, ProtectedStandsAlone, UnmarkedEntryStays, NoPropagateGoesOneLevel, NothingWaitsInAnObject, InheritedHasId, OwnHasNoId, WithoutIdIsOwn, EveryListIsCanonical, OrderGrantsNothing, OrderKeepsOwnersLimit, KeepingLetsNobodyIn, KeepingGrantsNoNewRequest};
+
+/// The DACL of a node is its own entries and what the DACL of its parent hands on, as it stands in the same tree; the
+/// root has nothing above it ([MS-DTYP] 2.5.3.4).
+pub fn dacl_is_of_parent()
+    ensures parent { DaclIsOfParent }
+    ensures root { RootInheritsNothing }
+{}
+
+/// After a lawful journal the root is there and is a container, and so is the parent of each node.
+pub fn lawful_trees_are_closed()
+    ensures { LawfulTreesAreClosed }
+{}
 
 /// An edit changes the descriptor of no node but the edited one and those below it.
 pub fn edit_stays_below()
     ensures { EditStaysBelow }
+{}
+
+/// SetOwner and SetGroup change the DACL of no node but the edited one: what CREATOR OWNER and CREATOR GROUP became in
+/// it goes no further ([MS-DTYP] 2.5.3.4).
+pub fn trustee_stays_in_the_node()
+    ensures owner { OwnerChangesOneNode }
+    ensures group { GroupChangesOneNode }
 {}
 
 /// The DACL of a protected node (control bit PD), and each DACL below it, is the same whatever stands above the

@@ -16,10 +16,12 @@ fn one_entry_more_is_too_large(rt: HostRuntime) -> Result<(), Fail> {
     Ok(())
 }
 
-const SPLIT: [Row; 3] = [
+// A container would have 3,278 entries, two of each.
+const SPLIT: [Row; 4] = [
     (Act::Container, "/c", "D:", "9"),
+    (Act::Count, "/c", "", "nonode"),
     (Act::Object, "/o", "D:", "ok"),
-    (Act::Show, "/c", "", "nonode"),
+    (Act::Count, "/o", "", "1639"),
 ];
 
 #[test]
@@ -29,7 +31,10 @@ fn a_split_entry_counts_twice(rt: HostRuntime) -> Result<(), Fail> {
     Ok(())
 }
 
-const SPLIT_FITS: [Row; 1] = [(Act::Container, "/c", "D:", "ok")];
+const SPLIT_FITS: [Row; 2] = [
+    (Act::Container, "/c", "D:", "ok"),
+    (Act::Count, "/c", "", "3276"),
+];
 
 #[test]
 fn split_entries_fill_a_list(rt: HostRuntime) -> Result<(), Fail> {

@@ -90,6 +90,22 @@ fn a_path_of_128_names_has_no_child(rt: HostRuntime) -> Result<(), Fail> {
     Ok(())
 }
 
+/// Each stands before the next, by their names: as texts `/a!` would stand before `/a/b`.
+const RISING: [&str; 6] = ["/", "/a", "/a/b", "/a!", "/ab", "/b"];
+
+#[test]
+fn paths_rise_by_their_names(rt: HostRuntime) -> Result<(), Fail> {
+    let alloc = rt.alloc();
+    for (low, high) in RISING.iter().zip(&RISING[1..]) {
+        let (low, high) = (Path::read(alloc, low)?, Path::read(alloc, high)?);
+        assert!(rt; low < high && low != high);
+        assert!(rt; high == high.copy(alloc)?);
+    }
+    let (a, b) = (Name::read("a")?, Name::read("b")?);
+    assert!(rt; a < b && a != b && a == Name::read("a")?);
+    Ok(())
+}
+
 #[test]
 fn each_error_has_its_number(rt: HostRuntime) {
     assert_eq!(rt; PathError::Syntax.number(), 1);

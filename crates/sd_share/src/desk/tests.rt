@@ -1,4 +1,4 @@
-//! Two stories of a desk with two readers, and how none starts.
+//! Two stories of a desk with two readers, what it answers without memory, and how none starts.
 
 use super::Desk;
 use crate::request::{Reply, Request};
@@ -51,78 +51,78 @@ fn list(alloc: Global, entries: &[Ace]) -> Result<NodeDacl, AllocError> {
 }
 
 /// The root of the administrators and the system, with these entries.
-fn root(alloc: Global, entries: &[Ace]) -> Result<RootSpec, Fail> {
-    Ok(RootSpec {
-        owner: Sid::new(5, &[32, 544])?,
-        group: Sid::new(5, &[18])?,
-        dacl: list(alloc, entries)?,
+fn root(alloc: Global, entries: &[Ace]) -> Option<RootSpec> {
+    Some(RootSpec {
+        owner: Sid::new(5, &[32, 544]).ok()?,
+        group: Sid::new(5, &[18]).ok()?,
+        dacl: list(alloc, entries).ok()?,
     })
 }
 
-fn started(alloc: Global, entries: &[Ace], readers: u64) -> Result<Desk, Fail> {
+fn started(alloc: Global, entries: &[Ace], readers: u64) -> Option<Desk> {
     let root = root(alloc, entries)?;
-    Ok(Desk::start(alloc, &GenericMapping::file(), &root, readers)?)
+    Desk::start(alloc, &GenericMapping::file(), &root, readers).ok()
 }
 
-fn token(alloc: Global) -> Result<Token, Fail> {
-    let users = Sid::new(5, &[32, 545])?;
-    let groups = vec![in alloc; (users, GroupState::Enabled)]?;
-    let user = Sid::new(5, &[21, 1, 2, 3, 1001])?;
-    Ok(Token::new(user, groups, Privileges::default()))
+fn token(alloc: Global) -> Option<Token> {
+    let users = Sid::new(5, &[32, 545]).ok()?;
+    let groups = Vec::from_slice(alloc, &[(users, GroupState::Enabled)]).ok()?;
+    let user = Sid::new(5, &[21, 1, 2, 3, 1001]).ok()?;
+    Some(Token::new(user, groups, Privileges::default()))
 }
 
-fn edit(alloc: Global, line: Line) -> Result<Edit, Fail> {
-    let users = Sid::new(5, &[32, 545])?;
+fn edit(alloc: Global, line: Line) -> Option<Edit> {
+    let users = Sid::new(5, &[32, 545]).ok()?;
     let RootSpec { owner, group, dacl } = root(alloc, &[])?;
     match line {
-        Line::Container(path) => Ok(Edit::AddContainer {
-            path: Path::read(alloc, path)?,
+        Line::Container(path) => Some(Edit::AddContainer {
+            path: Path::read(alloc, path).ok()?,
             owner,
             group,
             dacl,
         }),
-        Line::Object(path) => Ok(Edit::AddObject {
-            path: Path::read(alloc, path)?,
+        Line::Object(path) => Some(Edit::AddObject {
+            path: Path::read(alloc, path).ok()?,
             owner,
             group,
-            dacl: list(alloc, &[allow(no_flags(), READ, users)])?,
+            dacl: list(alloc, &[allow(no_flags(), READ, users)]).ok()?,
         }),
-        Line::Remove(path) => Ok(Edit::Remove {
-            path: Path::read(alloc, path)?,
+        Line::Remove(path) => Some(Edit::Remove {
+            path: Path::read(alloc, path).ok()?,
         }),
-        Line::Owner(path) => Ok(Edit::SetOwner {
-            path: Path::read(alloc, path)?,
+        Line::Owner(path) => Some(Edit::SetOwner {
+            path: Path::read(alloc, path).ok()?,
             owner: users,
         }),
-        _ => Err("an edit".into()),
+        _ => None,
     }
 }
 
-fn request(alloc: Global, line: Line) -> Result<Request, Fail> {
+fn request(alloc: Global, line: Line) -> Option<Request> {
     match line {
-        Line::Publish => Ok(Request::Publish),
-        Line::Tell => Ok(Request::Tell),
-        Line::Learn(reader, length) => Ok(Request::Learn { reader, length }),
-        Line::Check(reader, path) => Ok(Request::Check {
+        Line::Publish => Some(Request::Publish),
+        Line::Tell => Some(Request::Tell),
+        Line::Learn(reader, length) => Some(Request::Learn { reader, length }),
+        Line::Check(reader, path) => Some(Request::Check {
             reader,
-            path: Path::read(alloc, path)?,
+            path: Path::read(alloc, path).ok()?,
             token: token(alloc)?,
             asked: Mask(0x1),
         }),
-        Line::Show(reader, path) => Ok(Request::Show {
+        Line::Show(reader, path) => Some(Request::Show {
             reader,
-            path: Path::read(alloc, path)?,
+            path: Path::read(alloc, path).ok()?,
         }),
-        edited => Ok(Request::Edit(edit(alloc, edited)?)),
+        edited => Some(Request::Edit(edit(alloc, edited)?)),
     }
 }
 
-fn requests(alloc: Global, lines: &[Line]) -> Result<Vec<Request>, Fail> {
+fn requests(alloc: Global, lines: &[Line]) -> Option<Vec<Request>> {
     let mut requests = Vec::new(alloc);
     for line in lines {
-        requests.push(request(alloc, *line)?)?;
+        requests.push(request(alloc, *line)?).ok()?;
     }
-    Ok(requests)
+    Some(requests)
 }
 
 /// The kind of a reply, its length or number, and what is granted.
@@ -149,7 +149,7 @@ fn outline(reply: &Reply) -> (&'static str, u64, u32) {
 fn steps(rt: HostRuntime) -> Result<(), Fail> {
     let administrators = Sid::new(5, &[32, 544])?;
     let entries = [allow(AceFlags::OI | AceFlags::CI, ALL, administrators)];
-    let mut desk = started(rt.alloc(), &entries, 2)?;
+    let mut desk = started(rt.alloc(), &entries, 2).ok_or("it starts")?;
     let rows = [
         (Line::Object("/a"), ("ok", 0, 0)),
         (Line::Check(0, "/a"), ("nonode", 0, 0)),
@@ -162,7 +162,7 @@ fn steps(rt: HostRuntime) -> Result<(), Fail> {
         (Line::Publish, ("published", 1, 0)),
     ];
     for (line, wanted) in rows {
-        let reply = desk.step(&request(rt.alloc(), line)?);
+        let reply = desk.step(&request(rt.alloc(), line).ok_or("it is asked")?);
         assert_eq!(rt; outline(&reply), wanted);
     }
     assert_eq!(rt; desk.journal().len(), 1);
@@ -184,8 +184,8 @@ fn runs(rt: HostRuntime) -> Result<(), Fail> {
         (Line::Owner("/a/b"), ("ok", 0, 0)),
         (Line::Tell, ("told", 2, 0)),
     ];
-    let requests = requests(rt.alloc(), &rows.map(|(line, _)| line))?;
-    let mut desk = started(rt.alloc(), &[], 2)?;
+    let requests = requests(rt.alloc(), &rows.map(|(line, _)| line)).ok_or("they are asked")?;
+    let mut desk = started(rt.alloc(), &[], 2).ok_or("it starts")?;
     let replies = desk.run(&requests)?;
     assert_eq!(rt; replies.len(), rows.len());
     for (reply, (_, wanted)) in replies.iter().zip(rows) {
@@ -194,15 +194,51 @@ fn runs(rt: HostRuntime) -> Result<(), Fail> {
     Ok(())
 }
 
+/// A desk on which `/a` is seen and `/b` waits, and what is asked of it then.
+fn asked(alloc: Global, lines: &[Line]) -> Option<(Desk, Vec<Request>)> {
+    let mut desk = started(alloc, &[], 1)?;
+    for line in [Line::Object("/a"), Line::Publish, Line::Object("/b")] {
+        if let Reply::Memory = desk.step(&request(alloc, line)?) {
+            return None;
+        }
+    }
+    Some((desk, requests(alloc, lines)?))
+}
+
+/// So it is whichever request for memory is refused (`rt try --test --fail-alloc`): what comes before is done again.
+#[test]
+fn replies_without_memory(rt: HostRuntime) -> Result<(), Fail> {
+    let rows = [
+        (Line::Tell, ("told", 1, 0)),
+        (Line::Publish, ("published", 2, 0)),
+        (Line::Object("/b"), ("refused", 3, 0)),
+        (Line::Check(0, "/b"), ("granted", 2, 0x1)),
+        (Line::Check(0, "/x"), ("nonode", 2, 0)),
+        (Line::Check(1, "/b"), ("noreader", 0, 0)),
+        (Line::Learn(0, 1), ("learned", 2, 0)),
+        (Line::Learn(0, 3), ("nonotice", 0, 0)),
+        (Line::Show(0, "/x"), ("shown", 2, 0)),
+        (Line::Show(1, "/b"), ("noreader", 0, 0)),
+    ];
+    let lines = rows.map(|(line, _)| line);
+    let (mut desk, requests) = asked(rt.alloc(), &lines)
+        .or_else(|| asked(rt.alloc(), &lines))
+        .ok_or("memory was refused twice")?;
+    for (request, (_, wanted)) in requests.iter().zip(rows) {
+        assert_eq!(rt; outline(&desk.step(request)), wanted);
+    }
+    Ok(())
+}
+
 /// The descriptor of `/a`, once it is published below such a root.
-fn shown(alloc: Global, entries: &[Ace]) -> Result<Option<Descriptor>, Fail> {
+fn shown(alloc: Global, entries: &[Ace]) -> Option<Descriptor> {
     let mut desk = started(alloc, entries, 1)?;
     for line in [Line::Object("/a"), Line::Publish] {
         let _ = desk.step(&request(alloc, line)?);
     }
     match desk.step(&request(alloc, Line::Show(0, "/a"))?) {
-        Reply::Shown { descriptor, .. } => Ok(descriptor),
-        _ => Ok(None),
+        Reply::Shown { descriptor, .. } => descriptor,
+        _ => None,
     }
 }
 
@@ -218,7 +254,7 @@ fn shows_what_was_inherited(rt: HostRuntime) -> Result<(), Fail> {
     let administrators = Sid::new(5, &[32, 544])?;
     let users = Sid::new(5, &[32, 545])?;
     let above = [allow(AceFlags::OI | AceFlags::CI, ALL, administrators)];
-    let descriptor = shown(rt.alloc(), &above)?.ok_or("it is shown")?;
+    let descriptor = shown(rt.alloc(), &above).ok_or("it is shown")?;
     let wanted = [
         allow(no_flags(), READ, users),
         allow(AceFlags::ID, ALL, administrators),
@@ -239,7 +275,7 @@ fn refuses_to_start(rt: HostRuntime) -> Result<(), Fail> {
             ..allow(no_flags(), 1, users)
         },
     ];
-    let root = root(rt.alloc(), &disordered)?;
+    let root = root(rt.alloc(), &disordered).ok_or("a root")?;
     let file = GenericMapping::file();
     let rows = [
         (0, StartError::Readers, 1),

@@ -1,7 +1,8 @@
 use Rattle.std.proofs.Common.{◌≡◌, ℕ, ◌<◌, length, sym, ap, subst, ◌∙◌, arith, vec_len, vec_capacity}
 use Rattle.std.specs.FinMap.{len}
 use Rattle.sd_tree.specs.Journal.{TreeValue, replay}
-use Rattle.sd_tree.specs.Plans.{Planned, CanCarryOut}
+use Rattle.sd_tree.specs.Plans.{CanCarryOut}
+use Rattle.sd_tree.specs.Prepared.{Planned}
 use Rattle.sd_tree.proofs.Stands.{planned_alike, can_carry_out, stored_more}
 use Rattle.sd_tree.proofs.tree.Tree.commit.Goals as goal
 

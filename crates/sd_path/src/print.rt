@@ -1,0 +1,39 @@
+//! Paths as texts.
+
+ghost use Rattle.std.specs.Prelude.{Some};
+ghost use Rattle.std.specs.Fmt.{WritesOnOk};
+ghost use Rattle.sd_path.specs.PathText.{slashed, text_of};
+
+use crate::lent::PathRef;
+use crate::path::Path;
+use std::fmt;
+use std::str;
+
+/// Prints the text that is read as the path: `/` for the root, and else each name led by `/`.
+impl fmt::Display for Path {
+    ghost output = { λ path. Some (text_of path) };
+
+    fn fmt<W: fmt::Write>(&self, f: &mut fmt::Formatter<W>) -> fmt::Result {
+        let path = self.as_path_ref();
+        if path.is_root() {
+            f.write_str("/")
+        } else {
+            write_names(&path, f)
+        }
+    }
+}
+
+/// Writes each name, led by `/`.
+fn write_names<W: fmt::Write>(path: &PathRef<'_>, f: &mut fmt::Formatter<W>) -> fmt::Result
+    ensures { WritesOnOk W.Write.write_str_gives f.old result (slashed path.now) f.new }
+{
+    let Some(name) = path.last_name() else {
+        return Ok(());
+    };
+    let Ok(name) = str::from_utf8(name) else {
+        return Err(fmt::Error);
+    };
+    write_names(&path.parent(), f)?;
+    f.write_str("/")?;
+    f.write_str(name)
+}

@@ -1,0 +1,14 @@
+use Rattle.std.proofs.Common.{sym, ap, ◌∙◌, arith}
+use Rattle.sd_path.specs.Names.{is_within}
+use Rattle.sd_tree.specs.declared.node.Node.{Node}
+use Rattle.sd_tree.proofs.Runs.{run_begins, run_ends}
+use Rattle.sd_tree.proofs.tree_view.TreeView.end_below.Goals as goal
+
+pub loop-k-init : goal.loop-k-init
+loop-k-init c = run_begins _ _ _ c.requires.stands
+
+pub returns-then-not-is_within-clause-beyond : goal.returns-then-not-is_within-clause-beyond
+returns-then-not-is_within-clause-beyond c =
+    let path-is = c.as_path_ref.ensures ∙ ap (λ (n : Node). n.path) c.deref-node.ensures in
+    run_ends _ c.requires.standing.kept.order _ _ _ c.requires.stands (omega arith) c.index-self-k.result
+    (sym (c.if-not-is_within.ensures ∙ ap (is_within c.args.path.now) path-is))

@@ -1,0 +1,31 @@
+use Rattle.std.proofs.Common.{◌≡◌, Option, Some, None, sym, ap, ◌∙◌}
+use Rattle.std.proofs.lemmas.Result.{err_from_is_err_and}
+use Rattle.sd_tree.specs.declared.node.Node.{Node}
+use Rattle.sd_tree.proofs.Rows.{row_at-insert_same}
+use Rattle.sd_tree.proofs.Adding.{insertion}
+use Rattle.sd_tree.proofs.Rebuilding.{large_error, row_there}
+use Rattle.sd_tree.proofs.tree_view.TreeView.insertion_plan.Goals as goal
+
+not_both : {X : Type 0} (o : Option X) (x : X) → o ≡ None → o ≡ Some x → ⊥
+not_both o x none some = let e : None ≡ Some x = sym none ∙ some in absurd cc
+
+pub unreachable-requires : goal.unreachable-requires
+unreachable-requires c =
+    let found = c.in-Ok.ensures.found in
+    let there = row_there c.args.self.now.nodes.now c.requires.standing.kept.order c.args.path.now c.in-Ok.field-0 found.0 (λ d. found.1 d ∙ c.as_path_ref.ensures) in
+    not_both _ _ c.requires.addable.free there.1
+
+pub returns-in_err-whole-in-Err-clause-refused : goal.returns-in_err-whole-in-Err-clause-refused
+returns-in_err-whole-in-Err-clause-refused c =
+    let p = err_from_is_err_and c.from_residual.result c.from_residual.ensures.1 in
+    let refused = rw c.as_path_ref-in-Err.ensures at c.in_err-whole-in-Err.ensures.refused in
+    rw (p.1, p.2) (large_error _ _ c.args.path.now c.args.row c.in_err-whole-in-Err.field-0.0 (row_at-insert_same _ _ _) refused)
+
+pub returns-clause-plan : goal.returns-clause-plan
+returns-clause-plan c =
+    let a = rw c.as_path_ref.ensures at c.in-Err.ensures.absent in
+    let w = rw c.as_path_ref-in-Err.ensures at c.in_ok-whole-in-Err.ensures.whole in
+    let n = c.in_ok-node-in-Err.ensures.ok in
+    insertion _ c.args.self.now.nodes.now c.requires.standing c.args.path.now c.args.row c.requires.addable c.in-Err.at a.0 a.1 a.2 c.in_ok-node-in-Err.node
+    (ap (λ (m : Node). m.path) n ∙ c.in_ok-path-in-Err.ensures) (ap (λ (m : Node). m.row) n)
+    (ap (λ (m : Node). m.whole) n ∙ w) (rw n c.in_ok-whole-in-Err.ensures.fits)

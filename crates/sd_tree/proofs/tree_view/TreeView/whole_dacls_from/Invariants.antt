@@ -1,0 +1,7 @@
+use Rattle.std.specs.FinMap.{insert}
+use Rattle.sd_tree.specs.Stored.{tree_of}
+use Rattle.sd_tree.proofs.Rebuilding.{IsRebuilt}
+use Rattle.sd_tree.proofs.tree_view.TreeView.whole_dacls_from.Given as goal
+
+abbrev pub invariant-loop-k : goal.invariant-loop-k
+invariant-loop-k l = IsRebuilt l.self.mapping.now (insert (tree_of l.self.nodes.now) l.path l.row) l.self.nodes.now l.at l.k l.wholes.items

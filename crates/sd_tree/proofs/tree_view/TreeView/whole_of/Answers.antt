@@ -1,0 +1,37 @@
+use Rattle.std.proofs.Common.{◌≡◌, sym, ap, ◌∙◌}
+use Rattle.std.proofs.lemmas.Result.{IfOk-weaker, IfErr-weaker}
+use Rattle.std.specs.FinMap.{insert}
+use Rattle.sd_tree.specs.Inheritance.{dacl_of_row}
+use Rattle.sd_path.specs.Names.{up}
+use Rattle.sd_tree.specs.Plain.{dacl_at}
+use Rattle.sd_tree.specs.Stored.{Boxed, tree_of}
+use Rattle.sd_tree.specs.declared.node.Node.{Node}
+use Rattle.sd_tree.proofs.Wholes.{whole_at_root, whole_below, stored_whole, size_error}
+use Rattle.sd_tree.proofs.tree_view.TreeView.whole_of.Goals as goal
+
+pub returns-then-is_root-clause-whole : goal.returns-then-is_root-clause-whole
+returns-then-is_root-clause-whole c =
+    let same = whole_at_root c.args.self.now.mapping.now (tree_of c.args.self.now.nodes.now) c.args.path.now c.args.row.now (sym c.if-is_root.ensures) in
+    IfOk-weaker c.dacl_of_row.result _ _ (λ whole h. h ∙ same) c.dacl_of_row.ensures.dacl
+
+pub returns-then-is_root-clause-refused : goal.returns-then-is_root-clause-refused
+returns-then-is_root-clause-refused c =
+    let same = whole_at_root c.args.self.now.mapping.now (tree_of c.args.self.now.nodes.now) c.args.path.now c.args.row.now (sym c.if-is_root.ensures) in
+    IfErr-weaker c.dacl_of_row.result _ _ (λ e h. size_error e _ _ same h) c.dacl_of_row.ensures.refused
+
+below_parent : (c : goal.After-dacl_of_row-2) → dacl_of_row c.args.self.now.mapping.now c.args.row.now c.deref-parent.result.now.whole ≡ dacl_at c.args.self.now.mapping.now (insert (tree_of c.args.self.now.nodes.now) c.args.path.now c.args.row.now) c.args.path.now
+below_parent c =
+    let g = c.args.self.now.mapping.now in
+    let bs = c.args.self.now.nodes.now in
+    let above : c.deref-parent.result.now.whole ≡ dacl_at g (tree_of bs) (up c.args.path.now) =
+    ap (λ (n : Node). n.whole) c.deref-parent.ensures
+    ∙ ap (λ (b : Boxed). b.value.whole) (sym c.index-self-place_of.is)
+    ∙ stored_whole g bs c.requires.standing.kept c.parent.result c.place_of.result c.index-self-place_of.result c.place_of.ensures.within c.place_of.ensures.stands c.index-self-place_of.is
+    ∙ ap (dacl_at g (tree_of bs)) c.parent.ensures in
+    ap (dacl_of_row g c.args.row.now) above ∙ whole_below g (tree_of bs) c.args.path.now c.args.row.now (sym c.if-is_root.ensures)
+
+pub returns-clause-whole : goal.returns-clause-whole
+returns-clause-whole c = IfOk-weaker c.dacl_of_row-2.result _ _ (λ whole h. h ∙ below_parent c) c.dacl_of_row-2.ensures.dacl
+
+pub returns-clause-refused : goal.returns-clause-refused
+returns-clause-refused c = IfErr-weaker c.dacl_of_row-2.result _ _ (λ e h. size_error e _ _ (below_parent c) h) c.dacl_of_row-2.ensures.refused

@@ -1,0 +1,113 @@
+//! The nodes of a tree as they stand, for working out an edit.
+
+ghost use Rattle.std.specs.Prelude.{◌≡◌, ◌≤◌, ◌<◌, length, true, false, None, IfOk, IfErr, IsSome};
+ghost use Rattle.std.specs.List.{HoldsAt, AllWithin};
+ghost use Rattle.std.specs.FinMap.{insert};
+ghost use Rattle.sd_path.specs.Names.{is_root, is_within, up};
+ghost use Rattle.sd_tree.specs.Plain.{row_at, dacl_at};
+ghost use Rattle.sd_tree.specs.Refusals.{dacl_size};
+ghost use Rattle.sd_tree.specs.Sizes.{IsSizeError};
+ghost use Rattle.sd_tree.specs.Stored.{path_of_node};
+ghost use Rattle.sd_tree.specs.View.{IsView, tree_in};
+ghost use Rattle.sd_tree.specs.Plans.{IsInsertion, IsRewriting, IsLargeError};
+
+use crate::inherit::dacl_of_row;
+use crate::node::{Node, Row};
+use crate::nodes::locate;
+use crate::plan::Plan;
+use crate::refusal::TreeError;
+use sd_acl::AceList;
+use sd_path::{Path, PathRef};
+use sd_sid::GenericMapping;
+use std::alloc::Global;
+
+/// The nodes of a tree as they stand.
+#[derive(Clone, Copy)]
+pub(crate) struct TreeView<'a> {
+    pub alloc: Global,
+    pub mapping: &'a GenericMapping,
+    pub nodes: &'a [Box<Node>],
+}
+
+impl TreeView<'_> {
+    /// The place of a node that is there.
+    pub(crate) fn place_of(&self, path: &PathRef<'_>) -> usize
+        requires standing { IsView self.now }
+        requires there { IsSome (row_at (tree_in self.now) path.now) }
+        ensures within { result < length self.now.nodes.now }
+        ensures stands { HoldsAt (λ b. path_of_node b ≡ path.now) self.now.nodes.now result }
+    {
+        match locate(self.nodes, path) {
+            Ok(at) => at,
+            Err(_) => unreachable!(),
+        }
+    }
+
+    /// The whole DACL that the node of a path would have with this row.
+    pub(crate) fn whole_of(
+        &self,
+        path: &PathRef<'_>,
+        row: &Row,
+    ) -> Result<Option<AceList>, TreeError>
+        requires standing { IsView self.now }
+        requires parent { is_root path.now ≡ false → IsSome (row_at (tree_in self.now) (up path.now)) }
+        ensures whole { IfOk result (λ whole. whole ≡ dacl_at self.now.mapping.now
+            (insert (tree_in self.now) path.now row.now) path.now) }
+        ensures fits { IfOk result (λ whole. dacl_size whole ≤ 65535) }
+        ensures refused { IfErr result (λ e. IsSizeError e
+            (dacl_at self.now.mapping.now (insert (tree_in self.now) path.now row.now) path.now)) }
+    {
+        if path.is_root() {
+            return dacl_of_row(self.alloc, self.mapping, row, &None);
+        }
+        let parent: &Node = &self.nodes[self.place_of(&path.parent())];
+        dacl_of_row(self.alloc, self.mapping, row, &parent.whole)
+    }
+
+    /// The end of the run of nodes that begins at a place and holds all that stands at or below its path.
+    fn end_below(&self, path: &PathRef<'_>, at: usize) -> usize
+        requires standing { IsView self.now }
+        requires within { at < length self.now.nodes.now }
+        requires stands { HoldsAt (λ b. path_of_node b ≡ path.now) self.now.nodes.now at }
+        ensures place { (at < result) × (result ≤ length self.now.nodes.now) }
+        ensures below { AllWithin (λ b. is_within path.now (path_of_node b) ≡ true) self.now.nodes.now at result }
+        ensures beyond { AllWithin (λ b. is_within path.now (path_of_node b) ≡ false) self.now.nodes.now result
+            (length self.now.nodes.now) }
+    {
+        for k in at + 1..self.nodes.len() {
+            let node: &Node = &self.nodes[k];
+            if !node.path.as_path_ref().is_within(path) {
+                return k;
+            }
+        }
+        self.nodes.len()
+    }
+
+    /// The whole DACLs of the node at a place and of those below it, in their order, once the node has this row.
+    pub(crate) fn whole_dacls_from(
+        &self,
+        path: &PathRef<'_>,
+        at: usize,
+        row: &Row,
+    ) -> Result<Vec<Option<AceList>>, TreeError>
+        requires standing { IsView self.now }
+        requires within { at < length self.now.nodes.now }
+        requires stands { HoldsAt (λ b. path_of_node b ≡ path.now) self.now.nodes.now at }
+        ensures rebuilt { IfOk result (λ wholes. IsRewriting self.now.mapping.now (tree_in self.now)
+            (insert (tree_in self.now) path.now row.now) at row.now wholes.items) }
+        ensures refused { IfErr result (IsLargeError self.now.mapping.now
+            (insert (tree_in self.now) path.now row.now)) }
+    {
+        let end = self.end_below(path, at);
+        let mut wholes = Vec::new(self.alloc);
+        let first = self.whole_of(path, row)?;
+        wholes.push(first)?;
+        for k in at + 1..end {
+            let node: &Node = &self.nodes[k];
+            let parent = self.place_of(&node.path.as_path_ref().parent());
+            let whole = dacl_of_row(self.alloc, self.mapping, &node.row, &wholes[parent - at])?;
+            wholes.push(whole)?;
+        }
+        Ok(wholes)
+    }
+}
