@@ -97,11 +97,12 @@ FR or RCWD, or a number below 2^32, hexadecimal (0x1f01ff), octal (01777) or dec
 
 const WORD: &str = "\
 What the token has beside the user:
-SID        an enabled group
-SID=deny   a group that counts for deny entries only
-SID=off    a group that counts for nothing
-+security  SeSecurityPrivilege
-+take      SeTakeOwnershipPrivilege";
+SID           an enabled group
+SID=deny      a group that counts for deny entries only
+SID=off       a group that counts for nothing
+SID=restrict  a restricting SID, no group: access is asked a second time for these alone
++security     SeSecurityPrivilege
++take         SeTakeOwnershipPrivilege";
 
 // What is told of words that `clap` would answer with help or the version.
 const STANDS_ALONE: &str = "\
