@@ -166,29 +166,34 @@ class Tree:
 class Token:
     user: tuple
     groups: list = field(default_factory=list)
+    restricting: list = field(default_factory=list)
     security: bool = False
     take: bool = False
 
 
 def verdict(owner, dacl, token, asked):
-    """Each bit by itself, by the first effective entry that applies and names it."""
+    """Each bit by itself, by the first effective entry that applies and names it, in each pass that the token has."""
 
-    def applies(kind, sid):
+    def applies(again, kind, sid):
         subject = owner if sid == OWNER_RIGHTS else sid
+        if again:
+            return subject in token.restricting
         states = [state for group, state in token.groups if group == subject]
         return subject == token.user or "" in states or (kind == "D" and "=deny" in states)
 
     effective = [] if dacl is None else [e for e in dacl if not e.flags & IO]
-    owners = applies("A", owner) and not any(e.sid == OWNER_RIGHTS for e in effective)
+    passes = [False, True] if token.restricting else [False]
+    owners = all(applies(again, "A", owner) for again in passes) and not any(e.sid == OWNER_RIGHTS for e in effective)
+
+    def by_entries(again, bit):
+        for e in effective:
+            if mapped(e.mask) >> bit & 1 and applies(again, e.kind, e.sid):
+                return e.kind == "A"
+        return dacl is None
 
     def granted(bit):
-        by_entries = dacl is None
-        for e in effective:
-            if mapped(e.mask) >> bit & 1 and applies(e.kind, e.sid):
-                by_entries = e.kind == "A"
-                break
         return (
-            (bit < RIGHTS and by_entries)
+            (bit < RIGHTS and all(by_entries(again, bit) for again in passes))
             or (bit in (READ_CONTROL, WRITE_DAC) and owners)
             or (bit == WRITE_OWNER and token.take)
             or (bit == SYSTEM_SECURITY and token.security)
