@@ -6,8 +6,7 @@ ghost use Rattle.sd_path.specs.PathText.{slashed, text_of};
 
 use crate::lent::PathRef;
 use crate::path::Path;
-use std::fmt;
-use std::str;
+use std::{fmt, str};
 
 /// Prints the text that is read as the path: `/` for the root, and else each name led by `/`.
 impl fmt::Display for Path {

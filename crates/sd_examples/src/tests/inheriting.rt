@@ -106,7 +106,7 @@ const BELOW_NULL: [Row; 8] = [
         "",
         "O:BAG:SYD:AI(A;;FR;;;BU)(A;ID;FA;;;BA)",
     ),
-    (Act::Check, "/n", "0x1", "denied 0x1"),
+    (Act::Check, "/n", "0x1", "denied"),
 ];
 
 #[test]

@@ -20,8 +20,8 @@ const ORDER: [Row; 8] = [
         "",
         "O:BAG:SYD:PAI(D;;FW;;;BU)(A;;FR;;;BU)",
     ),
-    (Act::Check, "/p/o", "0x20000", "denied 0x20000"),
-    (Act::Check, "/p", "0x1", "denied 0x1"),
+    (Act::Check, "/p/o", "0x20000", "denied"),
+    (Act::Check, "/p", "0x1", "denied"),
 ];
 
 #[test]

@@ -55,9 +55,22 @@ fn edit(alloc: Global, act: Act, path: &str, text: &str) -> Option<Edit> {
         Act::Owner => Some(Edit::SetOwner { path, owner }),
         Act::Keep => Some(Edit::ProtectKeeping { path }),
         Act::Remove => Some(Edit::Remove { path }),
-        Act::Dacl => Some(Edit::SetDacl { path, dacl: list(alloc, text)? }),
-        Act::Container => Some(Edit::AddContainer { path, owner, group, dacl: list(alloc, text)? }),
-        _ => Some(Edit::AddObject { path, owner, group, dacl: list(alloc, text)? }),
+        Act::Dacl => Some(Edit::SetDacl {
+            path,
+            dacl: list(alloc, text)?,
+        }),
+        Act::Container => Some(Edit::AddContainer {
+            path,
+            owner,
+            group,
+            dacl: list(alloc, text)?,
+        }),
+        _ => Some(Edit::AddObject {
+            path,
+            owner,
+            group,
+            dacl: list(alloc, text)?,
+        }),
     }
 }
 
