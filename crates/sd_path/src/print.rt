@@ -1,12 +1,22 @@
-//! Paths as texts.
+//! Names and paths as texts.
 
 ghost use Rattle.std.specs.Prelude.{Some};
 ghost use Rattle.std.specs.Fmt.{WritesOnOk};
 ghost use Rattle.sd_path.specs.PathText.{slashed, text_of};
 
 use crate::lent::PathRef;
+use crate::name::Name;
 use crate::path::Path;
 use std::{fmt, str};
+
+/// Prints the name's text.
+impl fmt::Display for Name<'_> {
+    ghost output = { λ name. Some name };
+
+    fn fmt<W: fmt::Write>(&self, f: &mut fmt::Formatter<W>) -> fmt::Result {
+        f.write_str(self.as_str())
+    }
+}
 
 /// Prints the text that is read as the path: `/` for the root, and else each name led by `/`.
 impl fmt::Display for Path {

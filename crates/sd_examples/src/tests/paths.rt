@@ -90,6 +90,21 @@ fn a_path_of_128_names_has_no_child(rt: HostRuntime) -> Result<(), Fail> {
     Ok(())
 }
 
+/// What a path prints as is the text that it was read from, and is read as the same path.
+#[test]
+fn a_path_prints_as_its_text(rt: HostRuntime) -> Result<(), Fail> {
+    let alloc = rt.alloc();
+    for text in &PATHS {
+        let path = Path::read(alloc, text)?;
+        let shown = format!(in alloc; "{path}")?;
+        assert_eq!(rt; shown.as_str(), *text);
+        assert!(rt; Path::read(alloc, shown.as_str())? == path);
+    }
+    let shown = format!(in alloc; "{}", Name::read("grüße")?)?;
+    assert_eq!(rt; shown.as_str(), "grüße");
+    Ok(())
+}
+
 /// Each stands before the next, by their names: as texts `/a!` would stand before `/a/b`.
 const RISING: [&str; 6] = ["/", "/a", "/a/b", "/a!", "/ab", "/b"];
 
