@@ -9,7 +9,7 @@ ghost use Rattle.sd_check.specs.Token.{applies, applies_again, in_each_pass, is_
 ghost use Rattle.sd_check.specs.Check.{is_listed, is_given, is_granted, answer_of};
 ghost use Rattle.sd_check.specs.Dacl.{entries_of};
 ghost use Rattle.sd_acl.specs.Verdict as rules;
-ghost use Rattle.sd_check.specs.Walk.{applies_in, stands_for_in, mask_that_applies, is_limit};
+ghost use Rattle.sd_check.specs.Walk.{mask_that_applies, is_limit};
 
 use crate::token::Token;
 use sd_acl::{Ace, AceKind, Verdict};
@@ -41,15 +41,6 @@ const MAXIMUM_ALLOWED: Mask = Mask(1 << MAXIMUM_PLACE);
 /// The place of MAXIMUM_ALLOWED.
 const MAXIMUM_PLACE: u32 = 25;
 
-/// A pass over the list ([MS-DTYP] 2.5.3.2).
-#[derive(Clone, Copy)]
-enum Pass {
-    /// For the user and the groups.
-    First,
-    /// For the restricting SIDs alone, where the token has some.
-    Second,
-}
-
 /// Who asks, of what.
 #[derive(Clone, Copy)]
 pub(crate) struct Access<'a> {
@@ -59,7 +50,28 @@ pub(crate) struct Access<'a> {
     pub token: &'a Token,
 }
 
-/// What a pass has settled so far.
+/// Whether an entry of the kind for the SID applies ([MS-DTYP] 2.5.3.1).
+#[inline(always)]
+fn applies_to(token: &Token, owner: &Option<Sid>, kind: AceKind, sid: &Sid) -> bool
+    ensures { result ≡ applies token.now owner.now kind sid.now }
+{
+    match subject_of(owner, sid) {
+        None => false,
+        Some(subject) => token.stands_for(kind, subject),
+    }
+}
+
+/// Whether an entry for the SID applies in the second pass, where its kind has no part in that.
+fn applies_again_to(token: &Token, owner: &Option<Sid>, kind: AceKind, sid: &Sid) -> bool
+    ensures { result ≡ applies_again token.now owner.now kind sid.now }
+{
+    match subject_of(owner, sid) {
+        None => false,
+        Some(subject) => token.is_restricting(subject),
+    }
+}
+
+/// What a pass over the list of a restricted token has settled so far.
 #[derive(Clone, Copy)]
 struct Settled {
     undecided: Mask,
@@ -137,37 +149,28 @@ fn limits_owner(entry: &Ace) -> bool
 }
 
 impl Access<'_> {
-    /// Whether an entry applies in a pass ([MS-DTYP] 2.5.3.1).
-    #[inline]
-    fn applies(&self, pass: Pass, kind: AceKind, sid: &Sid) -> bool
-        ensures { result ≡ applies_in pass self.now.token.now self.now.owner.now kind sid.now }
-    {
-        match subject_of(self.owner, sid) {
-            None => false,
-            Some(subject) => self.stands_for(pass, kind, subject),
-        }
-    }
-
-    /// Whether what an entry of the kind says of the SID is said of the token, in a pass.
-    #[inline]
-    fn stands_for(&self, pass: Pass, kind: AceKind, sid: &Sid) -> bool
-        ensures { result ≡ stands_for_in pass self.now.token.now kind sid.now }
-    {
-        match pass {
-            Pass::First => self.token.stands_for(kind, sid),
-            Pass::Second => self.token.is_restricting(sid),
-        }
-    }
-
-    /// What an entry takes part with in a pass: its mapped mask, or nothing where it is inherit-only or doesn't apply.
-    #[inline]
-    fn mask_that_applies(&self, pass: Pass, entry: &Ace) -> Mask
-        ensures { result ≡ mask_that_applies self.now.mapping.now (applies_in pass self.now.token.now self.now.owner.now) entry.now }
+    /// What an entry takes part with: its mapped mask, or nothing where it is inherit-only or doesn't apply.
+    #[inline(always)]
+    fn mask_that_applies(&self, entry: &Ace) -> Mask
+        ensures { result ≡ mask_that_applies self.now.mapping.now (applies self.now.token.now self.now.owner.now) entry.now }
     {
         if entry.is_inherit_only() {
             return Mask(0);
         }
-        if !self.applies(pass, entry.kind, &entry.sid) {
+        if !applies_to(self.token, self.owner, entry.kind, &entry.sid) {
+            return Mask(0);
+        }
+        self.mapping.map(entry.mask)
+    }
+
+    /// The same in the second pass, that of the restricting SIDs.
+    fn mask_that_applies_again(&self, entry: &Ace) -> Mask
+        ensures { result ≡ mask_that_applies self.now.mapping.now (applies_again self.now.token.now self.now.owner.now) entry.now }
+    {
+        if entry.is_inherit_only() {
+            return Mask(0);
+        }
+        if !applies_again_to(self.token, self.owner, entry.kind, &entry.sid) {
             return Mask(0);
         }
         self.mapping.map(entry.mask)
@@ -175,7 +178,7 @@ impl Access<'_> {
 
     /// Whether one look tells that an entry has no part in the check, in either pass, as most entries of a long list
     /// have none.
-    #[inline]
+    #[inline(always)]
     fn is_silent(&self, entry: &Ace) -> bool
         ensures first { result ≡ true → mask_that_applies self.now.mapping.now (applies self.now.token.now self.now.owner.now) entry.now ≡ 0 }
         ensures second { result ≡ true → mask_that_applies self.now.mapping.now (applies_again self.now.token.now self.now.owner.now) entry.now ≡ 0 }
@@ -193,24 +196,28 @@ impl Access<'_> {
             || (holds owners b && not (limits_owner (Some entries.now))))
             32 }
     {
-        let mut settled = Settled::at_first(wanted);
+        let mut undecided = wanted;
+        let mut allowed = Mask(0);
         let mut kept = owners;
         for entry in entries {
-            if settled.is_over(kept) {
-                return settled.granted(kept);
+            let hanging = kept.minus(allowed);
+            if undecided.union(hanging).is_empty() {
+                return allowed.union(kept);
             }
             if self.is_silent(entry) {
                 continue;
             }
-            let mask = self.mask_that_applies(Pass::First, entry);
-            settled = settled.after(entry.kind, mask);
+            let mask = self.mask_that_applies(entry).common(undecided);
+            undecided = undecided.minus(mask);
+            allowed = allowed.union(mask.when(entry.kind.is_allow()));
             kept = kept.when(!limits_owner(entry));
         }
-        settled.granted(kept)
+        allowed.union(kept)
     }
 
     /// The same for a restricted token: of the bits that are wanted, those that the entries grant in each pass, found in
     /// one walk; and the owner's, unless an entry limits the owner.
+    #[inline(never)]
     fn walk_for_both(&self, entries: &[Ace], wanted: Mask, owners: Mask) -> Mask
         ensures { let applies = applies self.now.token.now self.now.owner.now in
             let applies_again = applies_again self.now.token.now self.now.owner.now in
@@ -231,8 +238,8 @@ impl Access<'_> {
             if self.is_silent(entry) {
                 continue;
             }
-            let mask = self.mask_that_applies(Pass::First, entry);
-            let mask_again = self.mask_that_applies(Pass::Second, entry);
+            let mask = self.mask_that_applies(entry);
+            let mask_again = self.mask_that_applies_again(entry);
             first = first.after(entry.kind, mask);
             second = second.after(entry.kind, mask_again);
             kept = kept.when(!limits_owner(entry));

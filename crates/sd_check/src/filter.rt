@@ -53,7 +53,7 @@ impl Filter {
     }
 
     /// Whether the SID's bit is set.
-    #[inline]
+    #[inline(always)]
     pub(crate) fn may_hold(&self, sid: &Sid) -> bool
         ensures { result ≡ may_hold self.now.words sid.now }
     {
@@ -63,7 +63,7 @@ impl Filter {
 }
 
 /// The place of a SID's bit.
-#[inline]
+#[inline(always)]
 fn place_of(sid: &Sid) -> usize
     ensures place { result ≡ filter_place sid.now }
     ensures small { result < 1024 }

@@ -117,7 +117,7 @@ impl Token {
     }
 
     /// Whether the token may stand for the SID at all, in either pass. Where it can't, no entry of either kind applies.
-    #[inline]
+    #[inline(always)]
     pub(crate) fn may_stand_for(&self, sid: &Sid) -> bool
         ensures first { result ≡ false → (kind : AceKind) → stands_for self.now kind sid.now ≡ false }
         ensures again { result ≡ false → is_restricting self.now sid.now ≡ false }
@@ -134,6 +134,7 @@ impl Token {
     }
 
     /// Whether the SID is a restricting one.
+    #[inline(never)]
     pub(crate) fn is_restricting(&self, sid: &Sid) -> bool
         ensures { result ≡ is_restricting self.now sid.now }
     {
@@ -148,7 +149,7 @@ impl Token {
     }
 
     /// Whether an entry of the kind for the SID applies: the user has the SID, or a group that counts.
-    #[inline]
+    #[inline(always)]
     pub(crate) fn stands_for(&self, kind: AceKind, sid: &Sid) -> bool
         ensures { result ≡ stands_for self.now kind sid.now }
     {

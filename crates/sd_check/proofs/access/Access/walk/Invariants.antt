@@ -8,4 +8,4 @@ use Rattle.sd_check.proofs.access.Access.walk.Given as goal
 abbrev pub invariant-loop-entry : goal.invariant-loop-entry
 invariant-loop-entry l =
     let mask = mask_that_applies l.self.mapping.now (applies l.self.token.now l.self.owner.now) in
-    outcome mask is_limit l.entries l.fn.wanted 0 l.fn.owners ≡ outcome mask is_limit (drop l.entry-index l.entries) l.settled.undecided l.settled.allowed l.kept
+    outcome mask is_limit l.entries l.fn.wanted 0 l.fn.owners ≡ outcome mask is_limit (drop l.entry-index l.entries) l.undecided l.allowed l.kept

@@ -40,9 +40,9 @@ loop-entry-preserved c =
       loop.invariant.1
           ∙ outcome_from mask_again is_limit c.args.entries.now loop.entry-index c.entry-item.result loop.second.undecided loop.second.allowed loop.kept c.loop-entry-test.true c.entry-item.is
           ∙ outcome_step mask_again is_limit c.entry-item.result rest loop.second.undecided loop.second.allowed loop.kept
-          (mask_of (λ b. holds c.mask_that_applies-mask_again.result b && holds loop.second.undecided b) 32)
+          (mask_of (λ b. holds c.mask_that_applies_again-mask_again.result b && holds loop.second.undecided b) 32)
           c.after-second.result.undecided c.after-second.result.allowed c.when-kept.result
-          (ap (λ n. mask_of (λ b. holds n b && holds loop.second.undecided b) 32) c.mask_that_applies-mask_again.ensures)
+          (ap (λ n. mask_of (λ b. holds n b && holds loop.second.undecided b) 32) c.mask_that_applies_again-mask_again.ensures)
           c.after-second.ensures.undecided c.after-second.ensures.allowed keeps,
     )
 
