@@ -6,6 +6,7 @@ mod handing_on;
 mod inheriting;
 mod keeping;
 mod limits;
+mod may_read;
 mod memory;
 mod numbers;
 mod paths;
