@@ -167,13 +167,10 @@ impl Access<'_> {
     fn mask_that_applies_again(&self, entry: &Ace) -> Mask
         ensures { result ≡ mask_that_applies self.now.mapping.now (applies_again self.now.token.now self.now.owner.now) entry.now }
     {
-        if entry.is_inherit_only() {
-            return Mask(0);
-        }
-        if !applies_again_to(self.token, self.owner, entry.kind, &entry.sid) {
-            return Mask(0);
-        }
-        self.mapping.map(entry.mask)
+        let applies = !entry.is_inherit_only()
+            && applies_again_to(self.token, self.owner, entry.kind, &entry.sid);
+        let mask = self.mapping.map(entry.mask);
+        mask.when(applies)
     }
 
     /// Whether one look tells that an entry has no part in the check, in either pass, as most entries of a long list
