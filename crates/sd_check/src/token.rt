@@ -49,9 +49,10 @@ impl Default for Privileges {
 pub struct Token {
     user: Sid,
     groups: Vec<(Sid, GroupState)>,
-    restricting: Vec<Sid>,
     privileges: Privileges,
     filter: Filter,
+    // (last, so that what every check looks at stands close together)
+    restricting: Vec<Sid>,
 }
 
 impl Model for Token {
@@ -104,9 +105,9 @@ impl Token {
         Token {
             user,
             groups,
-            restricting,
             privileges,
             filter,
+            restricting,
         }
     }
 
