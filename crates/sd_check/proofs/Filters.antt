@@ -6,7 +6,7 @@ use Rattle.std.proofs.lemmas.Bool.{cases_eq, cases_Bool, and_parts, or_cases, eq
 use Rattle.std.proofs.lemmas.List.{get_or-set_same, get_or-set_other}
 use Rattle.std.proofs.lemmas.List.Folds.{list_any_more}
 use Rattle.std.proofs.lemmas.Nat.Bits.{bit_at_set_same, bit_at_set_other}
-use Rattle.sd_sid.specs.Sid.{SidValue, same_sid}
+use Rattle.sd_sid.specs.Sid.{SidValue, same_sid, owner_rights}
 use Rattle.sd_sid.proofs.Compared.{same_sid-true}
 use Rattle.sd_acl.specs.declared.ace.AceKind.{AceKind}
 use Rattle.sd_acl.specs.declared.ace.AceKind.TheVariants.{Deny}
@@ -83,6 +83,13 @@ pub not_held : (words : List ℕ) (user : SidValue) (groups : List (SidValue × 
 not_held words user groups kind s filter unset = elim (cases_Bool (same_sid user s || a_group_stands_for groups kind s)) [
   | inl stands ↦ absurd (let clash : true ≡ false = sym (filter kind s stands) ∙ unset in cc)
   | inr nobody ↦ sym nobody
+]
+
+-- nor is it OWNER RIGHTS
+pub not_owner_rights : (words : List ℕ) (s : SidValue) → may_hold words owner_rights ≡ true → may_hold words s ≡ false → same_sid s owner_rights ≡ false
+not_owner_rights words s held unset = elim (cases_Bool (same_sid s owner_rights)) [
+  | inl same ↦ absurd (let clash : true ≡ false = sym held ∙ ap (may_hold words) (sym (same_sid-true s owner_rights same)) ∙ unset in cc)
+  | inr other ↦ other
 ]
 
 -- ---- the restricting SIDs, one by one

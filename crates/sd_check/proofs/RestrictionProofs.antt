@@ -4,16 +4,15 @@ use Rattle.std.specs.List.{list_any}
 use Rattle.std.proofs.lemmas.Bool.{and_parts, and_from, or_cases, or_left, or_right, false≢true}
 use Rattle.std.proofs.Math.Bool.{and-true}
 use Rattle.std.proofs.Math.Dec.{eqb-suc-zero}
-use Rattle.sd_sid.specs.Mask.{holds, mask_of}
+use Rattle.sd_sid.specs.Mask.{holds}
 use Rattle.sd_sid.specs.Mapping.{MappingValue}
 use Rattle.sd_sid.specs.Sid.{SidValue, same_sid}
 use Rattle.sd_sid.proofs.Compared.{same_sid-itself}
 use Rattle.sd_sid.proofs.Masks.{holds_place}
 use Rattle.sd_acl.specs.Verdict.{acl_grants, limits_owner, subject, is_implied, judged, most_of}
 use Rattle.sd_acl.specs.declared.ace.Ace.{Ace}
-use Rattle.sd_acl.specs.declared.ace.AceKind.{AceKind}
 use Rattle.sd_acl.specs.declared.ace.AceKind.TheVariants.{Allow}
-use Rattle.sd_check.specs.Token.{TokenValue, applies, applies_again, stands_for_subject, is_restricted, is_restricting, is_restricting_subject, in_each_pass, is_owner}
+use Rattle.sd_check.specs.Token.{TokenValue, applies, applies_again, stands_for_subject, is_restricted, is_restricting, is_restricting_subject}
 use Rattle.sd_check.specs.Check.{is_granted, is_given, is_listed, most}
 use Rattle.sd_check.specs.Laws.{restricted_to, NobodyRestrictsNothing, RestrictionGrantsNoBit, RestrictionGrantsNoRequest, OrderOfRestrictingSidsIsFree}
 use Rattle.sd_check.proofs.LawProofs.{one_test, still_given}

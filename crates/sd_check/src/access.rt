@@ -57,7 +57,7 @@ fn applies_to(token: &Token, owner: &Option<Sid>, kind: AceKind, sid: &Sid) -> b
 {
     match subject_of(owner, sid) {
         None => false,
-        Some(subject) => token.stands_for(kind, subject),
+        Some(subject) => token.has(kind, subject),
     }
 }
 
@@ -181,7 +181,7 @@ impl Access<'_> {
         ensures second { result ≡ true → mask_that_applies self.now.mapping.now (applies_again self.now.token.now self.now.owner.now) entry.now ≡ 0 }
         ensures limit { result ≡ true → is_limit entry.now ≡ false }
     {
-        !entry.sid.is_owner_rights() && !self.token.may_stand_for(&entry.sid)
+        !self.token.may_matter(&entry.sid)
     }
 
     /// Of the bits that are wanted, those that the entries grant; and the owner's, unless an entry limits the owner.

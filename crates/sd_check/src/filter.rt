@@ -1,7 +1,7 @@
 //! Which SIDs a token may stand for: most entries speak of none of them, and one look tells.
 
 ghost use Rattle.std.specs.Prelude.{◌≡◌, ◌<◌, true};
-ghost use Rattle.sd_sid.specs.Sid.{SidValue};
+ghost use Rattle.sd_sid.specs.Sid.{SidValue, owner_rights};
 ghost use Rattle.sd_check.specs.Filter.{IsFilterOf, HoldsEach, filter_place, may_hold};
 
 use crate::token::GroupState;
@@ -15,11 +15,13 @@ pub(crate) struct Filter {
 }
 
 impl Filter {
-    /// The filter of a user and of the groups that count for anything.
+    /// The filter of a user, of the groups that count for anything, and of OWNER RIGHTS, which an entry may name whoever
+    /// asks.
     pub(crate) fn new(user: &Sid, groups: &[(Sid, GroupState)]) -> Filter
-        ensures { IsFilterOf result.words user.now groups.now }
+        ensures token { IsFilterOf result.words user.now groups.now }
+        ensures owner_rights { may_hold result.words owner_rights ≡ true }
     {
-        let mut filter = Filter { words: [0; 16] }.with(user);
+        let mut filter = Filter::of_owner_rights().with(user);
         'groups: for place in groups {
             let (group, state) = place;
             if state.counts(AceKind::Deny) {
@@ -27,6 +29,15 @@ impl Filter {
             }
         }
         filter
+    }
+
+    /// The filter of OWNER RIGHTS, S-1-3-4 ([MS-DTYP] 2.4.2.4), alone.
+    fn of_owner_rights() -> Filter
+        ensures { may_hold result.words owner_rights ≡ true }
+    {
+        let mut words = [0; 16];
+        words[0] = 1 << 4;
+        Filter { words }
     }
 
     /// The filter with more SIDs.

@@ -1,7 +1,6 @@
 -- Each entry hands on what the rest of the list comes to, from the masks of each pass.
-use Rattle.std.proofs.Common.{◌≡◌, ◌&&◌, not, cond, ◌∙◌, sym, ap, drop, ◌+◌}
+use Rattle.std.proofs.Common.{◌&&◌, not, cond, ◌∙◌, sym, ap, drop, ◌+◌}
 use Rattle.std.proofs.lemmas.List.{drop_all}
-use Rattle.std.proofs.lemmas.Bool.{and_parts}
 use Rattle.sd_sid.specs.Mask.{holds, mask_of}
 use Rattle.sd_check.specs.Token.{applies, applies_again}
 use Rattle.sd_check.specs.Walk.{mask_that_applies, is_limit}

@@ -1,6 +1,5 @@
 -- For each pass: what its masks so far and the rest of the list come to is what the whole list does.
 use Rattle.std.proofs.Common.{◌≡◌, drop}
-use Rattle.sd_acl.specs.declared.ace.Ace.{Ace}
 use Rattle.sd_check.specs.Token.{applies, applies_again}
 use Rattle.sd_check.specs.Walk.{mask_that_applies, is_limit}
 use Rattle.sd_check.proofs.OneWalk.{outcome}

@@ -1,7 +1,7 @@
-use Rattle.std.proofs.Common.{take, subst}
+use Rattle.std.proofs.Common.{subst}
 use Rattle.std.proofs.lemmas.List.{take_all}
 use Rattle.sd_check.specs.Filter.{HoldsEach}
-use Rattle.sd_check.proofs.Filters.{holds_each_of_none, holds_each_of_more}
+use Rattle.sd_check.proofs.Filters.{holds_each_of_more}
 use Rattle.sd_check.proofs.filter.Filter.with_each.Goals as goal
 
 pub sids-preserved : goal.sids-preserved
