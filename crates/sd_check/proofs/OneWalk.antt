@@ -1,5 +1,5 @@
 -- One walk over a list, whichever entries apply: what the masks so far and the rest of the list come to.
-use Rattle.std.proofs.Common.{◌≡◌, ℕ, ◌+◌, ◌<◌, Bool, true, false, not, ◌&&◌, ◌||◌, ◌==◌, cond, List, [], ◌∷◌, length, get_or, drop, Option, Some, refl, sym, ◌∙◌, ap, add-one, find}
+use Rattle.std.proofs.Common.{◌≡◌, ℕ, ◌+◌, ◌<◌, ◌++◌, Bool, true, false, not, ◌&&◌, ◌||◌, ◌==◌, cond, List, [], ◌∷◌, length, get_or, drop, Option, Some, refl, sym, ◌∙◌, ap, add-one, find}
 use Rattle.std.specs.List.{list_any}
 use Rattle.std.proofs.Math.Seq.{drop-cons}
 use Rattle.std.proofs.Math.Bool.{or-true}
@@ -13,14 +13,8 @@ use Rattle.sd_acl.specs.Ace.{is_allow, is_inherit_only}
 use Rattle.sd_acl.specs.Verdict.{decides, first, is_allowed_by, limits_owner}
 use Rattle.sd_acl.specs.declared.ace.Ace.{Ace}
 use Rattle.sd_acl.specs.declared.ace.AceKind.{AceKind}
-use Rattle.sd_check.specs.Walk.{mask_that_applies, is_limit}
+use Rattle.sd_check.specs.Walk.{mask_that_applies, is_limit, outcome}
 use Rattle.sd_check.proofs.Answered.{stands}
-
--- what is granted in the end: what is allowed so far, what is undecided and the rest allows, and what the owner keeps
--- whom the rest doesn't limit. `mask` tells what an entry takes part with, `limits` whether it limits the owner
-pub outcome : (Ace → ℕ) → (Ace → Bool) → List Ace → ℕ → ℕ → ℕ → ℕ
-outcome mask limits es undecided allowed kept =
-    mask_of (λ b. (holds allowed b || (holds undecided b && is_allowed_by (find (λ e. holds (mask e) b) es))) || (holds kept b && not (list_any limits es))) 32
 
 -- ---- an entry
 
@@ -113,14 +107,13 @@ nothing_hangs u a k hanging left is_hanging is_left none b h =
     ∙ sym (stands (λ i. holds u i || holds hanging i) left b h is_left)
     ∙ ap (λ n. holds n b) (eqb-true left 0 none) ∙ ap (λ n. n == 1) (bit_at-zero b)
 
--- then the rest of the list tells nothing
-pub outcome_early : (mask : Ace → ℕ) (limits : Ace → Bool) (es : List Ace) (u a k r : ℕ)
+-- then all that may stand behind comes to the same
+pub outcome_settled : (mask : Ace → ℕ) (limits : Ace → Bool) (es rest : List Ace) (u a k : ℕ)
     → ((b : ℕ) → b < 32 → (holds u b || (holds k b && not (holds a b))) ≡ false)
-    → r ≡ mask_of (λ b. holds a b || holds k b) 32
-    → outcome mask limits es u a k ≡ r
+    → outcome mask limits es u a k ≡ outcome mask limits rest u a k
 unfolding outcome
-outcome_early mask limits es u a k r nothing is =
-    mask_of-alike _ _ 32 (λ b h. bit_early (holds a b) (holds u b) (holds k b) _ _ (nothing b h)) ∙ sym is
+outcome_settled mask limits es rest u a k nothing =
+    mask_of-alike _ _ 32 (λ b h. bit_early (holds a b) (holds u b) (holds k b) _ _ (nothing b h) ∙ sym (bit_early (holds a b) (holds u b) (holds k b) _ _ (nothing b h)))
 
 -- ---- the whole list
 
@@ -138,10 +131,10 @@ outcome_of_list g who es wanted owners =
     (ap (λ n. n == 1) (bit_at-zero b))
     ∙ ap (λ p. (holds wanted b && is_allowed_by (find p es)) || (holds owners b && not (limits_owner (Some es)))) (settles g who b))
 
--- from a place of the list on
-pub outcome_from : (mask : Ace → ℕ) (limits : Ace → Bool) (es : List Ace) (i : ℕ) (e : Ace) (u a k : ℕ) → i < length es → e ≡ get_or es i e
-    → outcome mask limits (drop i es) u a k ≡ outcome mask limits (e ∷ drop (i + 1) es) u a k
-outcome_from mask limits es i e u a k low is = ap (λ rest. outcome mask limits rest u a k) (rw (add-one, drop-cons es i e low, ← is) refl)
+-- from a place of the list on, with more behind it
+pub outcome_onward : (mask : Ace → ℕ) (limits : Ace → Bool) (es rest : List Ace) (i : ℕ) (e : Ace) (u a k : ℕ) → i < length es → e ≡ get_or es i e
+    → outcome mask limits (drop i es ++ rest) u a k ≡ outcome mask limits (e ∷ (drop (i + 1) es ++ rest)) u a k
+outcome_onward mask limits es rest i e u a k low is = rw (add-one, drop-cons es i e low, ← is) refl
 
 -- what two passes over one list allow each, and the owner keeps, they allow together
 each_bit : (wanted first again owners free : Bool)

@@ -1,5 +1,5 @@
 -- The DACL of a check: None where it is absent or null.
-use Rattle.std.specs.Prelude.{Option, Some, None, List}
+use Rattle.std.specs.Prelude.{◌++◌, Option, Some, None, List}
 use Rattle.sd_acl.specs.declared.ace.Ace.{Ace}
 use Rattle.sd_acl.specs.declared.descriptor.Dacl.{Dacl}
 use Rattle.sd_acl.specs.declared.descriptor.Dacl.TheVariants as owned
@@ -10,6 +10,7 @@ abbrev pub entries_of : DaclRef → Option (List Ace)
 entries_of lent.Absent = None
 entries_of lent.Null = None
 entries_of (lent.List es) = Some es.now
+entries_of (lent.Joined front back) = Some (front.now ++ back.now)
 
 abbrev pub dacl_entries : Dacl → Option (List Ace)
 dacl_entries owned.Absent = None

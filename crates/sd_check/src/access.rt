@@ -1,15 +1,12 @@
 //! Which bits a DACL, the owner's rights and the privileges grant.
 
-ghost use Rattle.std.specs.Prelude.{◌≡◌, ◌&&◌, ◌||◌, not, true, false, cond, ℕ, ◌<◌, Some, None};
-ghost use Rattle.sd_acl.specs.Ace.{is_allow};
-ghost use Rattle.std.specs.Option.{option_copied};
+ghost use Rattle.std.specs.Prelude.{◌≡◌, ◌&&◌, ◌||◌, ◌++◌, not, false, Some, None};
 ghost use Rattle.sd_sid.specs.Mask.{holds, mask_of};
-ghost use Rattle.sd_acl.specs.Verdict.{first, is_allowed_by, limits_owner, subject, is_implied, most_of};
-ghost use Rattle.sd_check.specs.Token.{applies, applies_again, in_each_pass, is_owner};
+ghost use Rattle.sd_acl.specs.Verdict.{limits_owner, is_implied, most_of};
+ghost use Rattle.sd_check.specs.Token.{is_owner};
 ghost use Rattle.sd_check.specs.Check.{is_listed, is_given, is_granted, answer_of};
 ghost use Rattle.sd_check.specs.Dacl.{entries_of};
 ghost use Rattle.sd_acl.specs.Verdict as rules;
-ghost use Rattle.sd_check.specs.Walk.{mask_that_applies, is_limit};
 
 use crate::token::Token;
 use sd_acl::{Ace, AceKind, Verdict};
@@ -24,6 +21,8 @@ pub enum DaclRef<'a> {
     Null,
     /// These entries, in this order.
     List(&'a [Ace]),
+    /// These entries, the first part before the second, as one list.
+    Joined(&'a [Ace], &'a [Ace]),
 }
 
 /// READ_CONTROL and WRITE_DAC, which are the owner's.
@@ -50,200 +49,7 @@ pub(crate) struct Access<'a> {
     pub token: &'a Token,
 }
 
-/// Whether an entry of the kind for the SID applies ([MS-DTYP] 2.5.3.1).
-#[inline(always)]
-fn applies_to(token: &Token, owner: &Option<Sid>, kind: AceKind, sid: &Sid) -> bool
-    ensures { result ≡ applies token.now owner.now kind sid.now }
-{
-    match subject_of(owner, sid) {
-        None => false,
-        Some(subject) => token.has(kind, subject),
-    }
-}
-
-/// Whether an entry for the SID applies in the second pass, where its kind has no part in that.
-fn applies_again_to(token: &Token, owner: &Option<Sid>, kind: AceKind, sid: &Sid) -> bool
-    ensures { result ≡ applies_again token.now owner.now kind sid.now }
-{
-    match subject_of(owner, sid) {
-        None => false,
-        Some(subject) => token.is_restricting(subject),
-    }
-}
-
-/// What a pass over the list of a restricted token has settled so far.
-#[derive(Clone, Copy)]
-struct Settled {
-    undecided: Mask,
-    allowed: Mask,
-}
-
-impl Settled {
-    /// Before the first entry: all that is wanted is undecided.
-    fn at_first(wanted: Mask) -> Settled
-        ensures { result ≡ record { undecided = wanted; allowed = 0 } }
-    {
-        Settled {
-            undecided: wanted,
-            allowed: Mask(0),
-        }
-    }
-
-    /// Whether an entry further on can tell nothing: no bit is undecided, nor any that the owner keeps and isn't allowed.
-    #[inline]
-    fn is_over(&self, kept: Mask) -> bool
-        ensures { result ≡ true → (b : ℕ) → b < 32 → (holds self.now.undecided b || (holds kept b && not (holds self.now.allowed b))) ≡ false }
-    {
-        self.undecided.union(kept.minus(self.allowed)).is_empty()
-    }
-
-    /// With what is allowed, what the owner keeps.
-    #[inline]
-    fn granted(&self, kept: Mask) -> Mask
-        ensures { result ≡ mask_of (λ b. holds self.now.allowed b || holds kept b) 32 }
-    {
-        self.allowed.union(kept)
-    }
-
-    /// What is settled after an entry of the kind that takes part with the mask: it decides what was undecided of it.
-    #[inline]
-    fn after(&self, kind: AceKind, mask: Mask) -> Settled
-        ensures undecided { let decided = mask_of (λ b. holds mask b && holds self.now.undecided b) 32 in
-            result.undecided ≡ mask_of (λ b. holds self.now.undecided b && not (holds decided b)) 32 }
-        ensures allowed { let decided = mask_of (λ b. holds mask b && holds self.now.undecided b) 32 in
-            result.allowed ≡ mask_of (λ b. holds self.now.allowed b || holds (cond (is_allow kind) decided 0) b) 32 }
-    {
-        let decided = mask.common(self.undecided);
-        Settled {
-            undecided: self.undecided.minus(decided),
-            allowed: self.allowed.union(decided.when(kind.is_allow())),
-        }
-    }
-}
-
-/// Whether neither pass has anything to learn from an entry further on.
-#[inline]
-fn are_over(first: &Settled, second: &Settled, kept: Mask) -> bool
-    ensures first { result ≡ true → (b : ℕ) → b < 32 → (holds first.now.undecided b || (holds kept b && not (holds first.now.allowed b))) ≡ false }
-    ensures second { result ≡ true → (b : ℕ) → b < 32 → (holds second.now.undecided b || (holds kept b && not (holds second.now.allowed b))) ≡ false }
-{
-    first.is_over(kept) && second.is_over(kept)
-}
-
-/// Whom an entry for the SID speaks of: OWNER RIGHTS is the owner, or nobody where there is none.
-fn subject_of<'a>(owner: &'a Option<Sid>, sid: &'a Sid) -> Option<&'a Sid>
-    ensures { option_copied result ≡ subject owner.now sid.now }
-{
-    if sid.is_owner_rights() {
-        owner.as_ref()
-    } else {
-        Some(sid)
-    }
-}
-
-/// Whether the entry is effective, and limits the owner ([MS-DTYP] 2.5.3.2).
-fn limits_owner(entry: &Ace) -> bool
-    ensures { result ≡ is_limit entry.now }
-{
-    !entry.is_inherit_only() && entry.sid.is_owner_rights()
-}
-
 impl Access<'_> {
-    /// What an entry takes part with: its mapped mask, or nothing where it is inherit-only or doesn't apply.
-    #[inline(always)]
-    fn mask_that_applies(&self, entry: &Ace) -> Mask
-        ensures { result ≡ mask_that_applies self.now.mapping.now (applies self.now.token.now self.now.owner.now) entry.now }
-    {
-        if entry.is_inherit_only() {
-            return Mask(0);
-        }
-        if !applies_to(self.token, self.owner, entry.kind, &entry.sid) {
-            return Mask(0);
-        }
-        self.mapping.map(entry.mask)
-    }
-
-    /// The same in the second pass, that of the restricting SIDs.
-    fn mask_that_applies_again(&self, entry: &Ace) -> Mask
-        ensures { result ≡ mask_that_applies self.now.mapping.now (applies_again self.now.token.now self.now.owner.now) entry.now }
-    {
-        let applies = !entry.is_inherit_only()
-            && applies_again_to(self.token, self.owner, entry.kind, &entry.sid);
-        let mask = self.mapping.map(entry.mask);
-        mask.when(applies)
-    }
-
-    /// Whether one look tells that an entry has no part in the check, in either pass, as most entries of a long list
-    /// have none.
-    #[inline(always)]
-    fn is_silent(&self, entry: &Ace) -> bool
-        ensures first { result ≡ true → mask_that_applies self.now.mapping.now (applies self.now.token.now self.now.owner.now) entry.now ≡ 0 }
-        ensures second { result ≡ true → mask_that_applies self.now.mapping.now (applies_again self.now.token.now self.now.owner.now) entry.now ≡ 0 }
-        ensures limit { result ≡ true → is_limit entry.now ≡ false }
-    {
-        !self.token.may_matter(&entry.sid)
-    }
-
-    /// Of the bits that are wanted, those that the entries grant; and the owner's, unless an entry limits the owner.
-    /// The walk ends as soon as what stands behind can tell nothing of either.
-    fn walk(&self, entries: &[Ace], wanted: Mask, owners: Mask) -> Mask
-        ensures { let applies = applies self.now.token.now self.now.owner.now in
-            result ≡ mask_of
-            (λ b. (holds wanted b && is_allowed_by (first self.now.mapping.now applies entries.now b))
-            || (holds owners b && not (limits_owner (Some entries.now))))
-            32 }
-    {
-        let mut undecided = wanted;
-        let mut allowed = Mask(0);
-        let mut kept = owners;
-        for entry in entries {
-            let hanging = kept.minus(allowed);
-            if undecided.union(hanging).is_empty() {
-                return allowed.union(kept);
-            }
-            if self.is_silent(entry) {
-                continue;
-            }
-            let mask = self.mask_that_applies(entry).common(undecided);
-            undecided = undecided.minus(mask);
-            allowed = allowed.union(mask.when(entry.kind.is_allow()));
-            kept = kept.when(!limits_owner(entry));
-        }
-        allowed.union(kept)
-    }
-
-    /// The same for a restricted token: of the bits that are wanted, those that the entries grant in each pass, found in
-    /// one walk; and the owner's, unless an entry limits the owner.
-    #[inline(never)]
-    fn walk_for_both(&self, entries: &[Ace], wanted: Mask, owners: Mask) -> Mask
-        ensures { let applies = applies self.now.token.now self.now.owner.now in
-            let applies_again = applies_again self.now.token.now self.now.owner.now in
-            result ≡ mask_of
-            (λ b. (holds wanted b
-            && (is_allowed_by (first self.now.mapping.now applies entries.now b)
-            && is_allowed_by (first self.now.mapping.now applies_again entries.now b)))
-            || (holds owners b && not (limits_owner (Some entries.now))))
-            32 }
-    {
-        let mut first = Settled::at_first(wanted);
-        let mut second = Settled::at_first(wanted);
-        let mut kept = owners;
-        for entry in entries {
-            if are_over(&first, &second, kept) {
-                return first.granted(kept).common(second.granted(kept));
-            }
-            if self.is_silent(entry) {
-                continue;
-            }
-            let mask = self.mask_that_applies(entry);
-            let mask_again = self.mask_that_applies_again(entry);
-            first = first.after(entry.kind, mask);
-            second = second.after(entry.kind, mask_again);
-            kept = kept.when(!limits_owner(entry));
-        }
-        first.granted(kept).common(second.granted(kept))
-    }
-
     /// Of the bits that are wanted, those that the DACL grants, and the owner's where it doesn't limit the owner.
     fn granted_by_dacl(&self, wanted: Mask) -> Mask
         ensures { result ≡ mask_of
@@ -255,24 +61,26 @@ impl Access<'_> {
         match self.dacl {
             DaclRef::Absent => wanted.common(OBJECT_RIGHTS),
             DaclRef::Null => wanted.common(OBJECT_RIGHTS),
-            DaclRef::List(entries) => self.granted_by_list(entries, wanted),
+            DaclRef::List(entries) => self.granted_by_list(entries, &[], wanted),
+            DaclRef::Joined(front, back) => self.granted_by_list(front, back, wanted),
         }
     }
 
-    /// The same, of a list.
-    fn granted_by_list(&self, entries: &[Ace], wanted: Mask) -> Mask
+    /// The same, of a list in two parts.
+    #[inline(always)]
+    fn granted_by_list(&self, front: &[Ace], back: &[Ace], wanted: Mask) -> Mask
         ensures { result ≡ mask_of
             (λ b. holds wanted b
-            && (is_listed self.now.owner.now (Some entries.now) self.now.mapping.now self.now.token.now b
-            || is_implied (is_owner self.now.token.now self.now.owner.now && not (limits_owner (Some entries.now))) false false b))
+            && (is_listed self.now.owner.now (Some (front.now ++ back.now)) self.now.mapping.now self.now.token.now b
+            || is_implied (is_owner self.now.token.now self.now.owner.now && not (limits_owner (Some (front.now ++ back.now)))) false false b))
             32 }
     {
         let owners = self.owners_rights(wanted);
         let rights = wanted.common(OBJECT_RIGHTS);
         if self.token.is_restricted() {
-            self.walk_for_both(entries, rights, owners)
+            self.walk_for_both(front, back, rights, owners)
         } else {
-            self.walk(entries, rights, owners)
+            self.walk(front, back, rights, owners)
         }
     }
 
@@ -325,6 +133,7 @@ impl Access<'_> {
             DaclRef::Absent => self.most_without_a_list(),
             DaclRef::Null => self.most_without_a_list(),
             DaclRef::List(_) => granted.common(OBJECT_RIGHTS),
+            DaclRef::Joined(_, _) => granted.common(OBJECT_RIGHTS),
         }
     }
 

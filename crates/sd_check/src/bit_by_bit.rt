@@ -115,11 +115,20 @@ impl Access<'_> {
         Verdict::Granted(Mask(granted))
     }
 
-    /// Whether the walk gives the same answer.
-    fn agrees_on(&self, token: &Token, asked: u32) -> bool {
+    fn walked(&self, list: DaclRef<'_>, token: &Token, asked: u32) -> Verdict {
         let mapping = GenericMapping::file();
-        let list = DaclRef::List(self.entries);
-        check_parts(Some(*self.owner), list, &mapping, token, Mask(asked)) == self.answer(asked)
+        check_parts(Some(*self.owner), list, &mapping, token, Mask(asked))
+    }
+
+    /// Whether the walk gives the same answer, for the whole list and for it in two parts, wherever it is cut.
+    fn agrees_on(&self, token: &Token, asked: u32) -> bool {
+        let answer = self.answer(asked);
+        let mut agree = self.walked(DaclRef::List(self.entries), token, asked) == answer;
+        for place in 0..=self.entries.len() {
+            let (front, back) = self.entries.split_at(place);
+            agree &= self.walked(DaclRef::Joined(front, back), token, asked) == answer;
+        }
+        agree
     }
 
     fn agrees(&self, token: &Token) -> bool {

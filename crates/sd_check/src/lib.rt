@@ -18,6 +18,7 @@ mod filter;
 mod laws;
 mod request;
 mod token;
+mod walk;
 
 pub use access::DaclRef;
 pub use laws::{

@@ -1,7 +1,7 @@
 use Rattle.std.proofs.Common.{◌||◌, ◌&&◌, not, cond, ◌∙◌, ap}
 use Rattle.sd_sid.specs.Mask.{holds, mask_of}
 use Rattle.sd_acl.specs.Ace.{is_allow}
-use Rattle.sd_check.proofs.access.Settled.after.Goals as goal
+use Rattle.sd_check.proofs.walk.Settled.after.Goals as goal
 
 pub returns-clause-undecided : goal.returns-clause-undecided
 returns-clause-undecided c = c.minus.ensures ∙ ap (λ n. mask_of (λ b. holds c.args.self.now.undecided b && not (holds n b)) 32) c.common-decided.ensures
