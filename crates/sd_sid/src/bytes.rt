@@ -1,9 +1,9 @@
 //! SIDs as bytes.
 
-ghost use Rattle.std.specs.Prelude.{◌≡◌, ◌+◌, ◌*◌, ◌<◌, ◌≤◌, ◌^◌, ◌++◌, length, take, vec_len, vec_capacity, IsOk, IfOk, OnOk, OnErr};
+ghost use Rattle.std.specs.Prelude.{All, ◌≡◌, ◌+◌, ◌-◌, ◌*◌, ◌<◌, ◌≤◌, ◌^◌, ◌++◌, length, take, drop, replicate, vec_len, vec_capacity, IsOk, IfOk, OnOk, OnErr};
 ghost use Rattle.std.specs.Int.{w32, to_le_bytes};
 ghost use Rattle.std.specs.List.{flat_map};
-ghost use Rattle.sd_sid.specs.SidBytes.{u32s_at, authority_of, sid_reading, bytes_of_sid, SidsComeBack, SidsStand};
+ghost use Rattle.sd_sid.specs.SidBytes.{u32_at, u32s_at, authority_of, sid_reading, bytes_of_sid, SidsComeBack, SidsStand};
 
 use crate::sid::{MAX_SUBS, Sid, SidError};
 use std::alloc::{AllocError, Global};
@@ -36,12 +36,12 @@ pub fn read_sid(bytes: &[u8]) -> Result<(Sid, u64), SidError>
     if bytes.len() < size {
         return Err(SidError::Short);
     }
-    let subs = subs_of(bytes, count);
-    let sid = Sid::new(authority_in(bytes), &subs[..count]).unwrap();
+    let sid = Sid::of_padded(authority_in(bytes), subs_of(bytes, count), count);
     Ok((sid, size as u64))
 }
 
 /// The six bytes of authority, the most significant first.
+#[inline(always)]
 fn authority_in(bytes: &[u8]) -> u64
     requires { 8 ≤ length bytes.now }
     ensures authority { result ≡ authority_of bytes.now }
@@ -53,17 +53,49 @@ fn authority_in(bytes: &[u8]) -> u64
 }
 
 /// The sub-authorities, four bytes each, the least significant first; zeros behind them.
+#[inline(always)]
 fn subs_of(bytes: &[u8], count: usize) -> [u32; MAX_SUBS]
     requires few { count ≤ 15 }
     requires room { 8 + 4 * count ≤ length bytes.now }
-    ensures { take count result ≡ u32s_at bytes.now 8 count }
+    ensures subs { take count result ≡ u32s_at bytes.now 8 count }
+    ensures padding { drop count result ≡ replicate (15 - count) 0 }
+    ensures words { All (λ sub. sub < 2 ^ 32) result }
 {
+    if count == 5 {
+        return five_subs_of(bytes);
+    }
     let mut subs = [0; MAX_SUBS];
     for k in 0..count {
-        let at = SID_HEADER_BYTES + 4 * k;
-        subs[k] = u32::from_le_bytes([bytes[at], bytes[at + 1], bytes[at + 2], bytes[at + 3]]);
+        subs[k] = sub_at(bytes, SID_HEADER_BYTES + 4 * k);
     }
     subs
+}
+
+/// The same of five, as the SIDs of a domain's accounts have: without the loop, which costs more than all else here.
+#[inline(always)]
+fn five_subs_of(bytes: &[u8]) -> [u32; MAX_SUBS]
+    requires { 28 ≤ length bytes.now }
+    ensures subs { take 5 result ≡ u32s_at bytes.now 8 5 }
+    ensures padding { drop 5 result ≡ replicate 10 0 }
+    ensures words { All (λ sub. sub < 2 ^ 32) result }
+{
+    let first = sub_at(bytes, 8);
+    let second = sub_at(bytes, 12);
+    let third = sub_at(bytes, 16);
+    let fourth = sub_at(bytes, 20);
+    let fifth = sub_at(bytes, 24);
+    [
+        first, second, third, fourth, fifth, 0, 0, 0, 0, 0, 0, 0, 0, 0, 0,
+    ]
+}
+
+/// The sub-authority at a place.
+#[inline(always)]
+fn sub_at(bytes: &[u8], at: usize) -> u32
+    requires { at + 4 ≤ length bytes.now }
+    ensures { result ≡ u32_at bytes.now at }
+{
+    u32::from_le_bytes([bytes[at], bytes[at + 1], bytes[at + 2], bytes[at + 3]])
 }
 
 /// The bytes of a SID ([MS-DTYP] 2.4.2.2).

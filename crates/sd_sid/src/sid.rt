@@ -1,6 +1,7 @@
 //! Security identifiers.
 
-ghost use Rattle.std.specs.Prelude.{◌≡◌, ◌==◌, true, IsTrue, ◌↔◌};
+ghost use Rattle.std.specs.Prelude.{◌≡◌, ◌==◌, ◌<◌, ◌≤◌, ◌-◌, ◌^◌, true, IsTrue, ◌↔◌, take, drop, replicate, length};
+ghost use Rattle.std.specs.List.{All};
 ghost use Rattle.sd_sid.specs.Sid.{SidValue, sid_of, sid_error_number, sid_error_name, same_sid, owner_rights, sid_cmp, IsSid};
 
 use std::error::Error;
@@ -113,6 +114,24 @@ impl Sid {
             subs: padded,
             count: subs.len(),
         })
+    }
+
+    /// The SID of an authority and of sub-authorities that have zeros behind them already.
+    #[inline(always)]
+    pub(crate) fn of_padded(authority: u64, subs: [u32; MAX_SUBS], count: usize) -> Sid
+        requires authority { authority < 2 ^ 48 }
+        requires some { 0 < count }
+        requires few { count ≤ 15 }
+        requires room { length subs ≡ 15 }
+        requires padding { drop count subs ≡ replicate (15 - count) 0 }
+        requires words { All (λ sub. sub < 2 ^ 32) subs }
+        ensures { result ≡ record { authority = authority; subs = take count subs } }
+    {
+        Sid {
+            authority,
+            subs,
+            count,
+        }
     }
 
     /// The identifier authority, below 2^48.

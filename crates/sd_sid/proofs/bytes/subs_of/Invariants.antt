@@ -1,7 +1,11 @@
--- The numbers so far stand at their places.
-use Rattle.std.proofs.Common.{◌≡◌, ℕ, ◌+◌, ◌*◌, ◌<◌, get_or, length}
+-- The numbers so far stand at their places, with zeros behind them.
+use Rattle.std.proofs.Common.{◌≡◌, All, ◌^◌, ℕ, ◌+◌, ◌*◌, ◌<◌, ◌≤◌, get_or, length}
 use Rattle.sd_sid.specs.SidBytes.{u32_at}
 use Rattle.sd_sid.proofs.bytes.subs_of.Given as goal
 
 abbrev pub invariant-loop-k : goal.invariant-loop-k
-invariant-loop-k l = (length l.subs ≡ 15) × ((j : ℕ) → j < l.k → get_or l.subs j 0 ≡ u32_at l.bytes (8 + 4 * j))
+invariant-loop-k l =
+    (length l.subs ≡ 15)
+    × All (λ sub. sub < 2 ^ 32) l.subs
+    × ((j : ℕ) → j < l.k → get_or l.subs j 0 ≡ u32_at l.bytes (8 + 4 * j))
+    × ((j : ℕ) → l.k ≤ j → j < 15 → get_or l.subs j 0 ≡ 0)
