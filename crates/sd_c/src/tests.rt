@@ -3,6 +3,7 @@
 ghost use Rattle.std.specs.Prelude.{◌≡◌};
 
 use super::*;
+use std::alloc::Global;
 use std::test::Fail;
 
 /// The mapping of files.
@@ -87,94 +88,95 @@ fn privileges_decide(rt: HostRuntime) {
     }
 }
 
+/// A user's 28 bytes, the groups' 28, and states, restricting SIDs, privileges and a mapping.
+#[derive(Clone, Copy)]
+struct Arguments<'a> {
+    descriptor: &'a [u8],
+    user: &'a [u8],
+    states: &'a [u32],
+    restricting: &'a [u8],
+    privileges: u32,
+    mapping: Mapping,
+}
+
+/// Arguments that are read.
+const READ: Arguments<'static> = Arguments {
+    descriptor: &DENIED_TO_USERS,
+    user: &USER,
+    states: &[4, 4],
+    restricting: &[],
+    privileges: 0,
+    mapping: FILE,
+};
+
+/// The status, the argument to blame, its fault and the index of the group.
+fn refused(status: u32, argument: u32, fault: u32, place: u64) -> CheckAnswer {
+    CheckAnswer {
+        status,
+        argument,
+        fault,
+        kind: 0,
+        place,
+        mask: 0,
+    }
+}
+
+fn answer_to(alloc: Global, arguments: Arguments<'_>) -> CheckAnswer {
+    hudarin_check(
+        alloc,
+        arguments.descriptor,
+        arguments.user,
+        &GROUPS,
+        arguments.states,
+        arguments.restricting,
+        arguments.privileges,
+        arguments.mapping,
+        1,
+    )
+}
+
 #[test]
-fn arguments_that_are_not_read(rt: HostRuntime) {
-    let beyond = Mapping {
+fn descriptors_users_and_groups_that_are_not_read(rt: HostRuntime) {
+    let descriptor = &[] as &[u8];
+    let user = &USER[..27];
+    let told = answer_to(rt.alloc(), Arguments { descriptor, ..READ });
+    assert_eq!(rt; told, refused(5, 1, 1, 0));
+    let told = answer_to(rt.alloc(), Arguments { user, ..READ });
+    assert_eq!(rt; told, refused(6, 2, 3, 0));
+    for (states, want) in [
+        (&[4u32, 4, 4] as &[u32], refused(6, 3, 3, 2)),
+        (&[4], refused(7, 3, 0, 1)),
+        (&[4, 0x14], refused(8, 4, 0, 1)),
+    ] {
+        let told = answer_to(rt.alloc(), Arguments { states, ..READ });
+        assert_eq!(rt; told, want);
+    }
+}
+
+#[test]
+fn what_follows_the_groups_is_not_read(rt: HostRuntime) {
+    for (restricting, want) in [
+        (&GROUPS[..GROUPS.len() - 1], refused(6, 5, 3, 1)),
+        (&[0], refused(6, 5, 3, 0)),
+    ] {
+        let told = answer_to(
+            rt.alloc(),
+            Arguments {
+                restricting,
+                ..READ
+            },
+        );
+        assert_eq!(rt; told, want);
+    }
+    let privileges = 4;
+    let told = answer_to(rt.alloc(), Arguments { privileges, ..READ });
+    assert_eq!(rt; told, refused(9, 6, 0, 0));
+    let mapping = Mapping {
         read: 0x0020_0000,
         ..FILE
     };
-    let none = &[] as &[u8];
-    let nothing = (none, &USER as &[u8], &[] as &[u32], none, 0, FILE);
-    let groups = (
-        &DENIED_TO_USERS as &[u8],
-        &USER as &[u8],
-        &[4u32] as &[u32],
-        none,
-        0,
-        FILE,
-    );
-    let cut = &GROUPS[..GROUPS.len() - 1];
-    for (row, status, argument, fault, place) in [
-        (nothing, 5, 1, 1, 0),
-        (
-            (&DENIED_TO_USERS, &USER[..27], &[], none, 0, FILE),
-            6,
-            2,
-            3,
-            0,
-        ),
-        (
-            (&DENIED_TO_USERS, &USER, &[4, 4, 4], none, 0, FILE),
-            6,
-            3,
-            3,
-            2,
-        ),
-        (groups, 7, 3, 0, 1),
-        (
-            (&DENIED_TO_USERS, &USER, &[4, 0x14], none, 0, FILE),
-            8,
-            4,
-            0,
-            1,
-        ),
-        ((&DENIED_TO_USERS, &USER, &[4, 4], cut, 4, FILE), 6, 5, 3, 1),
-        (
-            (&DENIED_TO_USERS, &USER, &[4, 4], &[0], 4, FILE),
-            6,
-            5,
-            3,
-            0,
-        ),
-        (
-            (&DENIED_TO_USERS, &USER, &[4, 4], none, 4, FILE),
-            9,
-            6,
-            0,
-            0,
-        ),
-        (
-            (&DENIED_TO_USERS, &USER, &[4, 4], none, 0, beyond),
-            10,
-            7,
-            0,
-            0,
-        ),
-    ] {
-        let (descriptor, user, states, restricting, privileges, mapping) = row;
-        let answer = hudarin_check(
-            rt.alloc(),
-            descriptor,
-            user,
-            &GROUPS,
-            states,
-            restricting,
-            privileges,
-            mapping,
-            1,
-        );
-        assert_eq!(rt;
-            answer,
-            CheckAnswer {
-                status,
-                argument,
-                fault,
-                kind: 0,
-                place,
-                mask: 0
-            }
-        );
-    }
+    let told = answer_to(rt.alloc(), Arguments { mapping, ..READ });
+    assert_eq!(rt; told, refused(10, 7, 0, 0));
 }
 
 /// The users' entry denies in the second pass, where a group's state counts for nothing.

@@ -54,9 +54,11 @@ fn entries_are_given_back(rt: HostRuntime) -> Result<(), Fail> {
     let alloc = rt.alloc();
     let (_, _, dacl) = parts(alloc, "D:(A;;FR;;;BU)(A;;FX;;;WD)")?;
     let copy = dacl.copy(alloc)?;
+    assert_eq!(rt; format!(in alloc; "{copy:?}")?, format!(in alloc; "{dacl:?}")?);
     if let NodeDacl::List { entries, .. } = copy {
-        assert_eq!(rt; entries.as_slice().len(), 2);
-        assert_eq!(rt; entries.into_vec().len(), 2);
+        let shown = format!(in alloc; "{:?}", entries.as_slice())?;
+        assert!(rt; shown.contains("Mask(1179785)") && shown.contains("Mask(1179808)"));
+        assert_eq!(rt; format!(in alloc; "{:?}", entries.into_vec())?, shown);
     } else {
         assert!(rt; false, "it is a list");
     }
