@@ -13,6 +13,7 @@
 //! ```
 #![tactic(auto)]
 
+mod alike;
 mod copying;
 mod describe;
 mod edit;
@@ -27,6 +28,8 @@ mod nodes;
 mod opening;
 mod plan;
 mod refusal;
+mod shared;
+mod siblings;
 mod tree;
 mod tree_view;
 
