@@ -31,12 +31,12 @@ pub(crate) fn copy_nodes(alloc: Global, nodes: &[Box<Node>]) -> Result<Vec<Box<N
     Ok(copy)
 }
 
-/// An equal node, which shares the list.
+/// An equal node, which shares the row and the list.
 fn copy_node(alloc: Global, node: &Node) -> Result<Node, AllocError>
     ensures { IfOk result (λ copy. copy ≡ node.now) }
 {
     let path = node.path.copy(alloc)?;
-    let row = node.row.copy(alloc)?;
+    let row = node.row.share()?;
     let whole = share_dacl(&node.whole)?;
     Ok(Node { path, row, whole })
 }

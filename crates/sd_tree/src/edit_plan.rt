@@ -18,6 +18,7 @@ use crate::node::{Node, NodeDacl, NodeKind, Row, RowChange};
 use crate::nodes::locate;
 use crate::plan::Plan;
 use crate::refusal::TreeError;
+use crate::shared::Shared;
 use crate::tree_view::TreeView;
 use sd_path::Path;
 use sd_sid::Sid;
@@ -36,6 +37,7 @@ impl TreeView<'_> {
             Err(at) => {
                 let whole = self.whole_of(&path.as_path_ref(), at, &row)?;
                 let path = path.copy(self.alloc)?;
+                let row = Shared::new(self.alloc, row)?;
                 let node = Box::new(self.alloc, Node { path, row, whole })?;
                 Ok(Plan::Insert { at, node })
             }
@@ -43,7 +45,7 @@ impl TreeView<'_> {
     }
 
     /// The plan for a node that gets another row, where what it hands on changes with it.
-    fn run_plan(&self, path: &Path, at: usize, row: Row) -> Result<Plan, TreeError>
+    fn run_plan(&self, path: &Path, at: usize, row: Shared<Row>) -> Result<Plan, TreeError>
         requires standing { IsView self.now }
         requires within { at < length self.now.nodes.now }
         requires stands { HoldsAt (λ b. path_of_node b ≡ path.now) self.now.nodes.now at }
@@ -51,12 +53,12 @@ impl TreeView<'_> {
             (insert (tree_in self.now) path.now row)) }
         ensures refused { IfErr result (IsLargeError self.now.mapping.now (insert (tree_in self.now) path.now row)) }
     {
-        let wholes = self.whole_dacls_from(&path.as_path_ref(), at, &row)?;
+        let wholes = self.whole_dacls_from(&path.as_path_ref(), at, row.get())?;
         Ok(Plan::Rewrite { at, row, wholes })
     }
 
     /// The plan for a node that gets another row, where no other node's DACL changes with it.
-    fn one_node_plan(&self, path: &Path, at: usize, row: Row) -> Result<Plan, TreeError>
+    fn one_node_plan(&self, path: &Path, at: usize, row: Shared<Row>) -> Result<Plan, TreeError>
         requires standing { IsView self.now }
         requires within { at < length self.now.nodes.now }
         requires stands { HoldsAt (λ b. path_of_node b ≡ path.now) self.now.nodes.now at }
@@ -66,7 +68,7 @@ impl TreeView<'_> {
             (insert (tree_in self.now) path.now row)) }
         ensures refused { IfErr result (IsLargeError self.now.mapping.now (insert (tree_in self.now) path.now row)) }
     {
-        let whole = self.whole_of(&path.as_path_ref(), at, &row)?;
+        let whole = self.whole_of(&path.as_path_ref(), at, row.get())?;
         let mut wholes = Vec::with_capacity(self.alloc, 1)?;
         wholes.push(whole)?;
         Ok(Plan::Rewrite { at, row, wholes })
@@ -126,7 +128,8 @@ impl TreeView<'_> {
     {
         let (at, old) = self.node_of(path);
         let alone = change.is_of_trustee();
-        let row = old.row.with(self.alloc, change)?;
+        let row = old.row.get().with(self.alloc, change)?;
+        let row = Shared::new(self.alloc, row)?;
         if alone {
             self.one_node_plan(path, at, row)
         } else {
@@ -160,7 +163,7 @@ impl TreeView<'_> {
         match kept_dacl(self.alloc, &old.whole)? {
             Some(dacl) => self.change_plan(path, RowChange::Dacl(dacl)),
             None => {
-                let row = old.row.copy(self.alloc)?;
+                let row = old.row.share()?;
                 self.one_node_plan(path, at, row)
             }
         }

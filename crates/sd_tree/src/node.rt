@@ -4,7 +4,7 @@ ghost use Rattle.std.specs.Prelude.{◌≡◌, IfOk};
 ghost use Rattle.sd_tree.specs.Plans.{changed_row, is_of_trustee};
 
 use crate::entries::Entries;
-use crate::shared::SharedList;
+use crate::shared::{Shared, SharedList};
 use sd_path::Path;
 use sd_sid::Sid;
 use std::alloc::{AllocError, Global};
@@ -72,19 +72,6 @@ impl RowChange {
 }
 
 impl Row {
-    /// An equal one.
-    pub(crate) fn copy(&self, alloc: Global) -> Result<Row, AllocError>
-        ensures { IfOk result (λ row. row ≡ self.now) }
-    {
-        let dacl = self.dacl.copy(alloc)?;
-        Ok(Row {
-            kind: self.kind,
-            owner: self.owner,
-            group: self.group,
-            dacl,
-        })
-    }
-
     /// One that is equal but for the change.
     pub(crate) fn with(&self, alloc: Global, change: RowChange) -> Result<Row, AllocError>
         ensures { IfOk result (λ row. row ≡ changed_row change self.now) }
@@ -123,6 +110,6 @@ impl Row {
 #[derive(Debug, Drop)]
 pub(crate) struct Node {
     pub path: Path,
-    pub row: Row,
+    pub row: Shared<Row>,
     pub whole: Option<SharedList>,
 }

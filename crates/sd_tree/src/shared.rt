@@ -1,4 +1,4 @@
-//! Lists that nodes share.
+//! Values that nodes, journals, plans and trees share.
 
 ghost use Rattle.std.specs.Prelude.{◌≡◌, ◌≤◌, IfOk};
 ghost use Rattle.sd_acl.specs.Ace.{acl_size_of};
@@ -8,45 +8,55 @@ use std::alloc::{AllocError, Global};
 use std::marker::Model;
 use std::sync::Arc;
 
-/// A list that is kept once, whatever nodes, plans and trees have it. Contracts see the list.
+/// A value that is kept once, however many hold it. Contracts see the value.
 #[derive(Debug, Drop)]
-pub(crate) struct SharedList {
-    list: Arc<AceList>,
+pub struct Shared<T> {
+    value: Arc<T>,
 }
 
-impl Model for SharedList {
-    ghost use Rattle.std.specs.Prelude.{List};
+impl<T> Model for Shared<T> {
     ghost use Rattle.std.specs.Arc.{arc_value};
-    ghost use Rattle.sd_acl.specs.declared.ace.Ace.{Ace};
 
-    ghost Value = { List Ace };
+    ghost Value = { T };
 
-    ghost view = { λ s. arc_value s.list };
+    ghost view = { λ s. arc_value s.value };
 }
 
-impl SharedList {
-    /// The list, for its first holder.
-    pub(crate) fn new(alloc: Global, list: AceList) -> Result<SharedList, AllocError>
-        ensures { IfOk result (λ shared. shared ≡ list) }
+impl<T: Drop> Shared<T> {
+    /// The value, for its first holder.
+    pub fn new(alloc: Global, value: T) -> Result<Shared<T>, AllocError>
+        ensures { IfOk result (λ shared. shared ≡ value) }
     {
-        let list = Arc::new(alloc, list)?;
-        Ok(SharedList { list })
+        let value = Arc::new(alloc, value)?;
+        Ok(Shared { value })
     }
 
-    /// The same list, for one holder more.
-    pub(crate) fn share(&self) -> Result<SharedList, AllocError>
+    /// The same value, for one holder more. `AllocError` only where its count of holders is full.
+    pub fn share(&self) -> Result<Shared<T>, AllocError>
         ensures { IfOk result (λ shared. shared ≡ self.now) }
     {
-        let list = Arc::try_clone(&self.list)?;
-        Ok(SharedList { list })
+        let value = Arc::try_clone(&self.value)?;
+        Ok(Shared { value })
     }
 
+    /// The value.
+    pub fn get(&self) -> &T
+        ensures { result.now ≡ self.now }
+    {
+        &self.value
+    }
+}
+
+/// A list of entries that nodes share.
+pub(crate) type SharedList = Shared<AceList>;
+
+impl Shared<AceList> {
     /// The entries, in order.
     pub(crate) fn entries(&self) -> &[Ace]
         ensures entries { result.now ≡ self.now }
         ensures known { acl_size_of self.now ≤ 65535 }
     {
-        self.list.entries()
+        self.get().entries()
     }
 }
 

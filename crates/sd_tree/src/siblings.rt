@@ -32,7 +32,7 @@ impl TreeView<'_> {
     {
         let node: &Node = &self.nodes[at];
         let beside = node.path.as_path_ref();
-        if beside.is_root() || !have_one_dacl(&node.row, row, above) {
+        if beside.is_root() || !have_one_dacl(node.row.get(), row, above) {
             return false;
         }
         beside.parent().compare(&path.parent()) == Ordering::Equal

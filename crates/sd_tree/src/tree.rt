@@ -22,6 +22,7 @@ use crate::nodes::node_at;
 use crate::opening::{Opening, RootSpec};
 use crate::plan::{Plan, carry_out};
 use crate::refusal::{EditRefusal, TreeError};
+use crate::shared::Shared;
 use crate::tree_view::TreeView;
 use sd_acl::{Descriptor, Verdict};
 use sd_check::{DaclRef, Token, check_parts};
@@ -200,7 +201,7 @@ impl Tree {
                     None => DaclRef::Null,
                     Some(list) => DaclRef::List(list.entries()),
                 };
-                let owner = Some(node.row.owner);
+                let owner = Some(node.row.get().owner);
                 CheckReply::Verdict(check_parts(owner, dacl, &self.opening.mapping, token, asked))
             }
         }
@@ -214,7 +215,7 @@ impl Tree {
     {
         match node_at(&self.nodes, &path.as_path_ref()) {
             None => Ok(None),
-            Some(node) => Ok(Some(descriptor_of_node(self.alloc, &node.row, &node.whole)?)),
+            Some(node) => Ok(Some(descriptor_of_node(self.alloc, node.row.get(), &node.whole)?)),
         }
     }
 
@@ -287,5 +288,6 @@ fn root_node(
     };
     let whole = dacl_of_row(alloc, mapping, &row, &None)?;
     let path = Path::root(alloc);
+    let row = Shared::new(alloc, row)?;
     Ok(Box::new(alloc, Node { path, row, whole })?)
 }

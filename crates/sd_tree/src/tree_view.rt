@@ -22,6 +22,7 @@ use crate::shared::{SharedList, share_dacl};
 use sd_path::{Path, PathRef};
 use sd_sid::GenericMapping;
 use std::alloc::Global;
+use std::cmp::Ordering;
 
 /// The nodes of a tree as they stand.
 #[derive(Clone, Copy)]
@@ -43,6 +44,34 @@ impl TreeView<'_> {
             Ok(at) => at,
             Err(_) => unreachable!(),
         }
+    }
+
+    /// Whether the node of a path stands at a place; `true` only where it does.
+    fn stands_at(&self, path: &PathRef<'_>, at: usize) -> bool
+        ensures { result ≡ true → (at < length self.now.nodes.now)
+            × HoldsAt (λ b. path_of_node b ≡ path.now) self.now.nodes.now at }
+    {
+        if at >= self.nodes.len() {
+            return false;
+        }
+        let node: &Node = &self.nodes[at];
+        node.path.as_path_ref().compare(path) == Ordering::Equal
+    }
+
+    /// The place of a node that is there, looked for at two places first.
+    fn place_near(&self, path: &PathRef<'_>, first: usize, second: usize) -> usize
+        requires standing { IsView self.now }
+        requires there { IsSome (row_at (tree_in self.now) path.now) }
+        ensures within { result < length self.now.nodes.now }
+        ensures stands { HoldsAt (λ b. path_of_node b ≡ path.now) self.now.nodes.now result }
+    {
+        if self.stands_at(path, first) {
+            return first;
+        }
+        if self.stands_at(path, second) {
+            return second;
+        }
+        self.place_of(path)
     }
 
     /// The whole DACL that the node of a path would have with this row; the path stands, or would stand, at the place.
@@ -130,14 +159,17 @@ impl TreeView<'_> {
         let mut wholes = Vec::new(self.alloc);
         let first = self.whole_of(path, at, row)?;
         wholes.push(first)?;
+        let mut last_parent = at;
         for k in at + 1..end {
             let node: &Node = &self.nodes[k];
             let below = node.path.as_path_ref();
-            let parent = self.place_of(&below.parent());
+            // Mostly the parent of the node before, or that node.
+            let parent = self.place_near(&below.parent(), last_parent, k - 1);
+            last_parent = parent;
             let whole = self.whole_in_run(
                 &below,
                 (at, k),
-                &node.row,
+                node.row.get(),
                 &wholes[parent - at],
                 &wholes,
             )?;
