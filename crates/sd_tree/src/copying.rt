@@ -5,19 +5,22 @@ ghost use Rattle.sd_tree.specs.Stored.{node_of};
 
 use crate::edit::Edit;
 use crate::node::Node;
-use crate::shared::{SharedList, share_dacl};
+use crate::shared::{Shared, SharedList, share_dacl};
 use sd_acl::AceList;
 use std::alloc::{AllocError, Global};
 
-/// Equal edits.
-pub(crate) fn copy_edits(alloc: Global, edits: &[Edit]) -> Result<Vec<Edit>, AllocError>
-    ensures { IfOk result (λ copy. copy.items ≡ edits.now) }
+/// The same edits, in a vector of their own.
+pub(crate) fn share_edits(
+    alloc: Global,
+    edits: &[Shared<Edit>],
+) -> Result<Vec<Shared<Edit>>, AllocError>
+    ensures { IfOk result (λ shared. shared.items ≡ edits.now) }
 {
-    let mut copy = Vec::with_capacity(alloc, edits.len())?;
+    let mut shared = Vec::with_capacity(alloc, edits.len())?;
     for edit in edits {
-        copy.push(edit.copy(alloc)?)?;
+        shared.push(edit.share()?)?;
     }
-    Ok(copy)
+    Ok(shared)
 }
 
 /// Equal nodes.

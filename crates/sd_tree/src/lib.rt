@@ -39,4 +39,5 @@ pub use node::{NodeDacl, NodeKind};
 pub use opening::{Opening, RootSpec};
 pub use refusal::{EditRefusal, TreeError};
 pub use sd_path::{Name, Path, PathError};
+pub use shared::Shared;
 pub use tree::{CheckReply, Prepared, Tree};

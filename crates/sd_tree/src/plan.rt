@@ -45,7 +45,12 @@ pub(crate) fn carry_out(nodes: &mut Vec<Box<Node>>, plan: Plan)
 }
 
 /// The node at the place gets the row, and with those right behind it its whole DACL anew.
-fn rewrite(nodes: &mut Vec<Box<Node>>, at: usize, row: Shared<Row>, mut wholes: Vec<Option<SharedList>>)
+fn rewrite(
+    nodes: &mut Vec<Box<Node>>,
+    at: usize,
+    row: Shared<Row>,
+    mut wholes: Vec<Option<SharedList>>,
+)
     requires place { at < vec_len nodes.old }
     requires fits { at + vec_len wholes ≤ vec_len nodes.old }
     ensures nodes { IsRewritten at row wholes.items nodes.old.items nodes.new.items }

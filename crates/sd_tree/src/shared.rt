@@ -24,7 +24,7 @@ impl<T> Model for Shared<T> {
 
 impl<T: Drop> Shared<T> {
     /// The value, for its first holder.
-    pub fn new(alloc: Global, value: T) -> Result<Shared<T>, AllocError>
+    pub(crate) fn new(alloc: Global, value: T) -> Result<Shared<T>, AllocError>
         ensures { IfOk result (λ shared. shared ≡ value) }
     {
         let value = Arc::new(alloc, value)?;

@@ -6,6 +6,9 @@ use Rattle.sd_tree.proofs.Rows.{compared_same}
 use Rattle.sd_tree.proofs.tree_view.TreeView.stands_at.Goals as goal
 
 pub returns : goal.returns
-returns c held = (omega arith, λ d.
-    let same = compared_same _ _ c.compare.result c.compare.ensures (sym c.eq.ensures ∙ held) in
-    sym (c.as_path_ref.ensures ∙ ap (λ (n : Node). n.path) c.deref-node.ensures ∙ ap path_of_node (get_or_default c.args.self.now.nodes.now c.args.at c.index-self-at.result d (omega arith))) ∙ same)
+returns c held = (
+  omega arith,
+  λ d.
+      let same = compared_same _ _ c.compare.result c.compare.ensures (sym c.eq.ensures ∙ held) in
+      sym (c.as_path_ref.ensures ∙ ap (λ (n : Node). n.path) c.deref-node.ensures ∙ ap path_of_node (get_or_default c.args.self.now.nodes.now c.args.at c.index-self-at.result d (omega arith))) ∙ same,
+)
