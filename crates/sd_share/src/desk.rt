@@ -13,7 +13,7 @@ use crate::request::{Answer, Reply, Request};
 use crate::start::{MAX_READERS, StartError};
 use sd_check::Token;
 use sd_sid::{GenericMapping, Mask};
-use sd_tree::{Edit, Path, RootSpec, Tree, TreeError};
+use sd_tree::{Edit, Path, RootSpec, Shared, Tree, TreeError};
 use std::alloc::{AllocError, Global};
 use std::marker::Model;
 use std::mem;
@@ -103,7 +103,7 @@ impl Desk {
     }
 
     /// The edits that are seen, in their order.
-    pub fn journal(&self) -> &[Edit]
+    pub fn journal(&self) -> &[Shared<Edit>]
         ensures journal { result.now ≡ self.now.published }
         ensures lawful { IsLawful self.now.opening (accepted self.now) }
     {

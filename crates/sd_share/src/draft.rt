@@ -37,7 +37,7 @@ fn follow(published: &Tree, draft: &mut Tree, place: u64) -> Result<(), AllocErr
     ensures journal { MatchResult result (λ _. draft.new.journal ≡ take (place + 1) published.now.journal)
         (λ _. draft.new.journal ≡ draft.old.journal) }
 {
-    match draft.apply(&published.journal()[place as usize]) {
+    match draft.apply_shared(&published.journal()[place as usize]) {
         Ok(()) => Ok(()),
         Err(TreeError::Refused(_)) => unreachable!(),
         Err(TreeError::Memory) => Err(AllocError),

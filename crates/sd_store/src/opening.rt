@@ -51,7 +51,6 @@ pub fn start<J: Naming, R: Wait>(
     match seated(alloc, &cell, &front, readers) {
         Ok(checkers) => {
             let writer = StoreWriter {
-                alloc,
                 draft,
                 pencil,
                 cell: Some(cell),

@@ -40,11 +40,11 @@ impl Absorb<Operation> for Published {
         match operation {
             Operation::Add { edit, opens: true } => {
                 self.marks.reserve(1)?;
-                self.tree.apply(edit).map_err(|_| AllocError)?;
+                self.tree.apply_shared(edit).map_err(|_| AllocError)?;
                 self.marks.push_reserved(self.tree.len());
             }
             Operation::Add { edit, opens: false } => {
-                self.tree.apply(edit).map_err(|_| AllocError)?;
+                self.tree.apply_shared(edit).map_err(|_| AllocError)?;
                 if let Some(last) = self.marks.last_mut() {
                     *last = self.tree.len();
                 }

@@ -10,17 +10,13 @@ use crate::naming::Naming;
 use crate::operation::Operation;
 use crate::rule::{Cell, Sees};
 use sd_history::Front;
-use sd_tree::Edit;
-use std::alloc::{AllocError, Global};
+use sd_tree::{Edit, Shared};
+use std::alloc::AllocError;
 use std::sync::Wait;
 
-/// A copy of the edit joins what waits.
+/// The edit joins what waits.
 #[tactic(auto, using(crate::proofs::Marking::one_more, crate::proofs::Marking::first_edit, crate::proofs::Marking::edits_push))]
-pub(crate) fn add<J: Naming>(
-    alloc: Global,
-    cell: &mut Cell<J>,
-    edit: &Edit,
-) -> Result<(), AllocError>
+pub(crate) fn add<J: Naming>(cell: &mut Cell<J>, edit: &Shared<Edit>) -> Result<(), AllocError>
     requires one { IsOnePublish (drop cell.old.behind cell.old.log.items) }
     ensures desk { cell.new.desk ≡ cell.old.desk }
     ensures one { IsOnePublish (drop cell.new.behind cell.new.log.items) }
@@ -28,7 +24,7 @@ pub(crate) fn add<J: Naming>(
         let waiting = edits_of (drop cell.new.behind cell.new.log.items) in
         MatchResult result (λ _. waiting ≡ waited ++ edit.now ∷ []) (λ _. waiting ≡ waited) }
 {
-    let edit = edit.copy(alloc)?;
+    let edit = edit.share()?;
     let opens = !cell.has_pending_operations();
     cell.append(Operation::Add { edit, opens })
         .map_err(|_| AllocError)

@@ -12,7 +12,6 @@ use crate::rule::Cell;
 use boxcar::tag::Tag;
 use sd_history::Pencil;
 use sd_tree::{Edit, Tree};
-use std::alloc::Global;
 use std::marker::{Model, PhantomData};
 use std::sync::Wait;
 use std::{fmt, mem};
@@ -20,7 +19,6 @@ use std::{fmt, mem};
 /// The writer of a store. It isn't `Drop`: end it by `end`. Contracts see the published journal, its marks, and the
 /// edits that wait.
 pub struct StoreWriter<J: Naming> {
-    pub(crate) alloc: Global,
     /// The tree with all edits that were accepted.
     pub(crate) draft: Tree,
     /// What writes the history of accepted edits.
@@ -81,7 +79,7 @@ impl<J: Naming> StoreWriter<J> {
         let Some(cell) = &mut self.cell else {
             unreachable!()
         };
-        if add(self.alloc, cell, edit).is_err() {
+        if add(cell, prepared.edit()).is_err() {
             return Err(EditError::Memory);
         }
         self.pencil.write(edit);
@@ -153,7 +151,6 @@ impl<J: Naming> StoreWriter<J> {
     /// check answers `Gone`.
     pub fn end<R: Wait>(self, rt: &R) {
         let StoreWriter {
-            alloc: _,
             draft: _draft,
             pencil: _pencil,
             cell,

@@ -1,12 +1,15 @@
 pub mod Adding
+pub mod Beside
 pub mod CarriedOut
 pub mod Children
 pub mod Closed
 pub mod Dacls
 pub mod Fitting
+pub mod HandedOn
 pub mod Journals
 pub mod Kept
 pub mod Lists
+pub mod OneDacl
 pub mod Places
 pub mod Rebuilding
 pub mod Refused
@@ -16,5 +19,6 @@ pub mod Runs
 pub mod SameNodes
 pub mod Sorted
 pub mod Stands
+pub mod Trustees
 pub mod TwoTests
 pub mod Wholes

@@ -226,7 +226,21 @@ pub row_there : (bs : List Boxed) → IsInOrder bs → (q : Names) (at : ℕ) �
 row_there [] order q at in' stands = absurd (omega arith)
 row_there (b ∷ bs) order q at in' stands = ((get_or (b ∷ bs) at b).value.row, ap (row_at (tree_of (b ∷ bs))) (sym (stands b)) ∙ row_here (b ∷ bs) order at b in')
 
--- the DACL of the next node of the run, below the one that is built already for what holds it
+-- the DACL that is built already for what holds the next node of the run
+pub above_rebuilt : (g : MappingValue) (bs : List Boxed) (order : IsInOrder bs) (q : Names) (at : ℕ) (stands : HoldsAt (λ c. path_of_node c ≡ q) bs at) (row : Row)
+    → (k : ℕ) (b : Boxed) → at < k → k < length bs → is_within q (path_of_node (get_or bs k b)) ≡ true
+    → (wholes : List (Option (List Ace))) → IsRebuilt g (insert (tree_of bs) q row) bs at k wholes
+    → (p : ℕ) → p < length bs → HoldsAt (λ c. path_of_node c ≡ up (path_of_node (get_or bs k b))) bs p
+    → (above : Option (List Ace)) → above ≡ get_or wholes (p - at) above
+    → above ≡ dacl_at g (insert (tree_of bs) q row) (up (path_of_node (get_or bs k b)))
+above_rebuilt g bs order q at stands row k b behind in' inside wholes h p in-p there above is-above =
+    let t' = insert (tree_of bs) q row in
+    let place = parent_place bs order q at stands k b behind in' inside p in-p there in
+    let built = (h.each (p - at) b above (omega (arith, place.0, place.1, h.count))).0 in
+    let same : at + (p - at) ≡ p = omega (arith, place.0) in
+    is-above ∙ built ∙ ap (dacl_at g t') (ap (λ j. path_of_node (get_or bs j b)) same ∙ there b)
+
+-- the DACL of the next node of the run below it
 pub next_rebuilt : (g : MappingValue) (bs : List Boxed) (order : IsInOrder bs) (q : Names) (at : ℕ) (stands : HoldsAt (λ c. path_of_node c ≡ q) bs at) (row : Row)
     → (k : ℕ) (b : Boxed) → at < k → k < length bs → is_within q (path_of_node (get_or bs k b)) ≡ true
     → (wholes : List (Option (List Ace))) → IsRebuilt g (insert (tree_of bs) q row) bs at k wholes
@@ -235,10 +249,5 @@ pub next_rebuilt : (g : MappingValue) (bs : List Boxed) (order : IsInOrder bs) (
     → (above : Option (List Ace)) → above ≡ get_or wholes (p - at) above
     → dacl_of_row g row-k above ≡ dacl_at g (insert (tree_of bs) q row) (path_of_node (get_or bs k b))
 next_rebuilt g bs order q at stands row k b behind in' inside wholes h p in-p there row-k is-row above is-above =
-    let t' = insert (tree_of bs) q row in
-    let place = parent_place bs order q at stands k b behind in' inside p in-p there in
-    let built = (h.each (p - at) b above (omega (arith, place.0, place.1, h.count))).0 in
-    let same : at + (p - at) ≡ p = omega (arith, place.0) in
-    let above_is : above ≡ dacl_at g t' (up (path_of_node (get_or bs k b))) =
-    is-above ∙ built ∙ ap (dacl_at g t') (ap (λ j. path_of_node (get_or bs j b)) same ∙ there b) in
-    ap (λ r. dacl_of_row g r above) is-row ∙ run_whole bs order q at stands k b behind in' inside g row above above_is
+    ap (λ r. dacl_of_row g r above) is-row
+    ∙ run_whole bs order q at stands k b behind in' inside g row above (above_rebuilt g bs order q at stands row k b behind in' inside wholes h p in-p there above is-above)

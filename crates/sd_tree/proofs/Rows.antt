@@ -2,7 +2,8 @@
 use Rattle.std.proofs.Common.{◌≡◌, ◌≢◌, ◌⊎◌, inl, inr, true, false, cond, Option, Some, None, option_map, refl, sym, ◌∙◌, ap, is_eq}
 use Rattle.std.specs.FinMap as map
 use Rattle.std.specs.FinMap.{get-insert, get-remove, get-empty}
-use Rattle.std.specs.Ordering.{eq_by_cmp}
+use Rattle.std.specs.Bool.{◌==◌}
+use Rattle.std.specs.Ordering.{eq_by_cmp, ordering_index}
 use Rattle.std.specs.declared.cmp.Ordering.{Ordering}
 use Rattle.std.specs.declared.cmp.Ordering.TheVariants.{Less, Equal, Greater}
 use Rattle.std.proofs.lemmas.Cmp.{tied_itself}
@@ -25,6 +26,12 @@ tied Greater e = absurd (false≢true e)
 
 pub one_path : (p q : Names) → eq_by_cmp names_cmp p q ≡ true → p ≡ q
 one_path p q e = names_cmp_antisymmetric p q (tied (names_cmp p q) e)
+
+-- as `==` tells of how they compare
+pub compared_same : (p q : Names) (o : Ordering) → o ≡ names_cmp p q → (ordering_index o == 1) ≡ true → p ≡ q
+compared_same p q Less is e = absurd (false≢true e)
+compared_same p q Equal is e = names_cmp_antisymmetric p q (sym is)
+compared_same p q Greater is e = absurd (false≢true e)
 
 pub path_itself : (p : Names) → eq_by_cmp names_cmp p p ≡ true
 path_itself p = ap is_eq (tied_itself names_cmp_total p)

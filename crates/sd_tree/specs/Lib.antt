@@ -8,6 +8,7 @@ pub mod Plain
 pub mod Plans
 pub mod Prepared
 pub mod Refusals
+pub mod Sharing
 pub mod Sizes
 pub mod Stored
 pub mod View

@@ -1,5 +1,5 @@
 -- What an accepted edit does to the nodes. No public contract says so.
-use Rattle.std.specs.Prelude.{◌≡◌, ◌⊎◌, true, ℕ, ◌+◌, ◌<◌, ◌≤◌, List, length, Option, slice_index_or, None}
+use Rattle.std.specs.Prelude.{◌≡◌, ◌≢◌, ◌⊎◌, Bool, true, false, ℕ, ◌+◌, ◌<◌, ◌≤◌, List, length, Option, slice_index_or, None}
 use Rattle.std.specs.List.{AllWithin, insert, remove}
 use Rattle.std.specs.FinMap as finite
 use Rattle.std.specs.declared.cmp.Ordering.TheVariants.{Less, Greater}
@@ -10,6 +10,8 @@ use Rattle.sd_tree.specs.Plain.{PlainTree, dacl_at}
 use Rattle.sd_tree.specs.Refusals.{dacl_size, has_large_dacl}
 use Rattle.sd_tree.specs.Stored.{Boxed, path_of_node, IsWhole}
 use Rattle.sd_tree.specs.declared.node.Row.{Row}
+use Rattle.sd_tree.specs.declared.node.RowChange.{RowChange}
+use Rattle.sd_tree.specs.declared.node.RowChange.TheVariants.{Owner, Group, Dacl}
 use Rattle.sd_tree.specs.Edits.{edited}
 use Rattle.sd_tree.specs.Journal.{replay, refusal}
 use Rattle.sd_tree.specs.declared.opening.Opening.{Opening}
@@ -19,6 +21,24 @@ use Rattle.sd_tree.specs.declared.refusal.TreeError.{TreeError}
 use Rattle.sd_tree.specs.declared.refusal.TreeError.TheVariants.{Refused, Memory}
 use Rattle.sd_tree.specs.declared.refusal.EditRefusal.TheVariants.{AclTooLarge}
 use Rattle.sd_tree.specs.declared.plan.Plan.TheVariants.{Insert, Rewrite, Remove}
+
+-- ---- a node that stays where it is
+
+-- its row after a change
+abbrev pub changed_row : RowChange → Row → Row
+changed_row (Owner owner) row = record row { owner = owner }
+changed_row (Group group) row = record row { group = group }
+changed_row (Dacl dacl) row = record row { dacl = dacl }
+
+-- whether the change is of its owner or its group
+abbrev pub is_of_trustee : RowChange → Bool
+is_of_trustee (Owner owner) = true
+is_of_trustee (Group group) = true
+is_of_trustee (Dacl dacl) = false
+
+-- from the one tree to the other no DACL changes but the path's
+abbrev pub ChangesOneNode : MappingValue → PlainTree → PlainTree → Names → Type 0
+ChangesOneNode g before after path = (other : Names) → other ≢ path → dacl_at g after other ≡ dacl_at g before other
 
 -- ---- the plan for an edit that makes `after` of `before`, by the places of the paths
 

@@ -11,6 +11,11 @@ pub record Planned : Type 0 where
   pub journal : List Edit
   pub edit : Edit
 
+-- room for one more edit and one more node
+pub record HasRoom (t : TreeValue) : Type 0 where
+  pub edit : length t.journal < t.edit_room
+  pub node : finite.len (replay t.opening t.journal) < t.node_room
+
 -- the tree has the opening and the journal that the edit was prepared for, and room for one more edit and one more node
 pub record IsPrepared (t : TreeValue) (p : Planned) : Type 0 where
   pub opening : p.opening ≡ t.opening

@@ -4,19 +4,23 @@ ghost use Rattle.std.specs.Prelude.{◌≡◌, map, IfOk};
 ghost use Rattle.sd_tree.specs.Stored.{node_of};
 
 use crate::edit::Edit;
-use crate::node::{Node, Row};
+use crate::node::Node;
+use crate::shared::{Shared, SharedList, share_dacl};
 use sd_acl::AceList;
 use std::alloc::{AllocError, Global};
 
-/// Equal edits.
-pub(crate) fn copy_edits(alloc: Global, edits: &[Edit]) -> Result<Vec<Edit>, AllocError>
-    ensures { IfOk result (λ copy. copy.items ≡ edits.now) }
+/// The same edits, in a vector of their own.
+pub(crate) fn share_edits(
+    alloc: Global,
+    edits: &[Shared<Edit>],
+) -> Result<Vec<Shared<Edit>>, AllocError>
+    ensures { IfOk result (λ shared. shared.items ≡ edits.now) }
 {
-    let mut copy = Vec::with_capacity(alloc, edits.len())?;
+    let mut shared = Vec::with_capacity(alloc, edits.len())?;
     for edit in edits {
-        copy.push(edit.copy(alloc)?)?;
+        shared.push(edit.share()?)?;
     }
-    Ok(copy)
+    Ok(shared)
 }
 
 /// Equal nodes.
@@ -30,26 +34,18 @@ pub(crate) fn copy_nodes(alloc: Global, nodes: &[Box<Node>]) -> Result<Vec<Box<N
     Ok(copy)
 }
 
-/// An equal node.
+/// An equal node, which shares the row and the list.
 fn copy_node(alloc: Global, node: &Node) -> Result<Node, AllocError>
     ensures { IfOk result (λ copy. copy ≡ node.now) }
 {
     let path = node.path.copy(alloc)?;
-    let row = Row {
-        kind: node.row.kind,
-        owner: node.row.owner,
-        group: node.row.group,
-        dacl: node.row.dacl.copy(alloc)?,
-    };
-    let whole = match &node.whole {
-        None => None,
-        Some(list) => Some(copy_list(alloc, list)?),
-    };
+    let row = node.row.share()?;
+    let whole = share_dacl(&node.whole)?;
     Ok(Node { path, row, whole })
 }
 
 /// An equal list.
-pub(crate) fn copy_list(alloc: Global, list: &AceList) -> Result<AceList, AllocError>
+pub(crate) fn copy_list(alloc: Global, list: &SharedList) -> Result<AceList, AllocError>
     ensures { IfOk result (λ copy. copy ≡ list.now) }
 {
     match AceList::new(Vec::from_slice(alloc, list.entries())?) {

@@ -6,7 +6,8 @@ ghost use Rattle.sd_tree.specs.Descriptors.{is_protected, descriptor_of_row};
 
 use crate::copying::copy_list;
 use crate::node::{NodeDacl, Row};
-use sd_acl::{AceList, Dacl, Descriptor};
+use crate::shared::SharedList;
+use sd_acl::{Dacl, Descriptor};
 use std::alloc::{AllocError, Global};
 
 /// The descriptor of a node with this whole DACL; `None` is a null one. Control bit DI tells that a list was inherited
@@ -14,7 +15,7 @@ use std::alloc::{AllocError, Global};
 pub(crate) fn descriptor_of_node(
     alloc: Global,
     row: &Row,
-    whole: &Option<AceList>,
+    whole: &Option<SharedList>,
 ) -> Result<Descriptor, AllocError>
     ensures { IfOk result (λ descriptor. descriptor_of descriptor ≡ descriptor_of_row row.now whole.now) }
 {

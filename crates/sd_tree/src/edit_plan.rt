@@ -10,14 +10,15 @@ ghost use Rattle.sd_tree.specs.Edits.{changed, edited, keeping};
 ghost use Rattle.sd_tree.specs.Refusals.{early_refusal, has_child};
 ghost use Rattle.sd_tree.specs.Stored.{path_of_node, IsNodeAt};
 ghost use Rattle.sd_tree.specs.View.{IsView, tree_in};
-ghost use Rattle.sd_tree.specs.Plans.{IsPlan, IsLargeError};
+ghost use Rattle.sd_tree.specs.Plans.{IsPlan, IsLargeError, ChangesOneNode, changed_row};
 
 use crate::edit::Edit;
 use crate::keep::kept_dacl;
-use crate::node::{Node, NodeDacl, NodeKind, Row};
+use crate::node::{Node, NodeDacl, NodeKind, Row, RowChange};
 use crate::nodes::locate;
 use crate::plan::Plan;
 use crate::refusal::TreeError;
+use crate::shared::Shared;
 use crate::tree_view::TreeView;
 use sd_path::Path;
 use sd_sid::Sid;
@@ -34,16 +35,17 @@ impl TreeView<'_> {
         match locate(self.nodes, &path.as_path_ref()) {
             Ok(_) => unreachable!(),
             Err(at) => {
-                let whole = self.whole_of(&path.as_path_ref(), &row)?;
+                let whole = self.whole_of(&path.as_path_ref(), at, &row)?;
                 let path = path.copy(self.alloc)?;
+                let row = Shared::new(self.alloc, row)?;
                 let node = Box::new(self.alloc, Node { path, row, whole })?;
                 Ok(Plan::Insert { at, node })
             }
         }
     }
 
-    /// The plan for a node that gets another row.
-    fn rewriting_plan(&self, path: &Path, at: usize, row: Row) -> Result<Plan, TreeError>
+    /// The plan for a node that gets another row, where what it hands on changes with it.
+    fn run_plan(&self, path: &Path, at: usize, row: Shared<Row>) -> Result<Plan, TreeError>
         requires standing { IsView self.now }
         requires within { at < length self.now.nodes.now }
         requires stands { HoldsAt (λ b. path_of_node b ≡ path.now) self.now.nodes.now at }
@@ -51,7 +53,24 @@ impl TreeView<'_> {
             (insert (tree_in self.now) path.now row)) }
         ensures refused { IfErr result (IsLargeError self.now.mapping.now (insert (tree_in self.now) path.now row)) }
     {
-        let wholes = self.whole_dacls_from(&path.as_path_ref(), at, &row)?;
+        let wholes = self.whole_dacls_from(&path.as_path_ref(), at, row.get())?;
+        Ok(Plan::Rewrite { at, row, wholes })
+    }
+
+    /// The plan for a node that gets another row, where no other node's DACL changes with it.
+    fn one_node_plan(&self, path: &Path, at: usize, row: Shared<Row>) -> Result<Plan, TreeError>
+        requires standing { IsView self.now }
+        requires within { at < length self.now.nodes.now }
+        requires stands { HoldsAt (λ b. path_of_node b ≡ path.now) self.now.nodes.now at }
+        requires alone { ChangesOneNode self.now.mapping.now (tree_in self.now)
+            (insert (tree_in self.now) path.now row) path.now }
+        ensures plan { IfOk result (IsPlan self.now.mapping.now (tree_in self.now)
+            (insert (tree_in self.now) path.now row)) }
+        ensures refused { IfErr result (IsLargeError self.now.mapping.now (insert (tree_in self.now) path.now row)) }
+    {
+        let whole = self.whole_of(&path.as_path_ref(), at, row.get())?;
+        let mut wholes = Vec::with_capacity(self.alloc, 1)?;
+        wholes.push(whole)?;
         Ok(Plan::Rewrite { at, row, wholes })
     }
 
@@ -98,64 +117,24 @@ impl TreeView<'_> {
         )
     }
 
-    /// The plan for a node that gets an owner.
-    fn owner_plan(&self, path: &Path, owner: Sid) -> Result<Plan, TreeError>
+    /// The plan for a node that stays where it is. Its owner and its group go no further than the node's own DACL.
+    fn change_plan(&self, path: &Path, change: RowChange) -> Result<Plan, TreeError>
         requires standing { IsView self.now }
         requires there { IsSome (row_at (tree_in self.now) path.now) }
         ensures plan { IfOk result (IsPlan self.now.mapping.now (tree_in self.now)
-            (changed (tree_in self.now) path.now (λ row. record row { owner = owner }))) }
+            (changed (tree_in self.now) path.now (changed_row change))) }
         ensures refused { IfErr result (IsLargeError self.now.mapping.now
-            (changed (tree_in self.now) path.now (λ row. record row { owner = owner }))) }
+            (changed (tree_in self.now) path.now (changed_row change))) }
     {
         let (at, old) = self.node_of(path);
-        let dacl = old.row.dacl.copy(self.alloc)?;
-        let row = Row {
-            kind: old.row.kind,
-            owner,
-            group: old.row.group,
-            dacl,
-        };
-        self.rewriting_plan(path, at, row)
-    }
-
-    /// The plan for a node that gets a group.
-    fn group_plan(&self, path: &Path, group: Sid) -> Result<Plan, TreeError>
-        requires standing { IsView self.now }
-        requires there { IsSome (row_at (tree_in self.now) path.now) }
-        ensures plan { IfOk result (IsPlan self.now.mapping.now (tree_in self.now)
-            (changed (tree_in self.now) path.now (λ row. record row { group = group }))) }
-        ensures refused { IfErr result (IsLargeError self.now.mapping.now
-            (changed (tree_in self.now) path.now (λ row. record row { group = group }))) }
-    {
-        let (at, old) = self.node_of(path);
-        let dacl = old.row.dacl.copy(self.alloc)?;
-        let row = Row {
-            kind: old.row.kind,
-            owner: old.row.owner,
-            group,
-            dacl,
-        };
-        self.rewriting_plan(path, at, row)
-    }
-
-    /// The plan for a node that gets a DACL of its own.
-    fn dacl_plan(&self, path: &Path, dacl: &NodeDacl) -> Result<Plan, TreeError>
-        requires standing { IsView self.now }
-        requires there { IsSome (row_at (tree_in self.now) path.now) }
-        ensures plan { IfOk result (IsPlan self.now.mapping.now (tree_in self.now)
-            (changed (tree_in self.now) path.now (λ row. record row { dacl = dacl.now }))) }
-        ensures refused { IfErr result (IsLargeError self.now.mapping.now
-            (changed (tree_in self.now) path.now (λ row. record row { dacl = dacl.now }))) }
-    {
-        let dacl = dacl.copy(self.alloc)?;
-        let (at, old) = self.node_of(path);
-        let row = Row {
-            kind: old.row.kind,
-            owner: old.row.owner,
-            group: old.row.group,
-            dacl,
-        };
-        self.rewriting_plan(path, at, row)
+        let alone = change.is_of_trustee();
+        let row = old.row.get().with(self.alloc, change)?;
+        let row = Shared::new(self.alloc, row)?;
+        if alone {
+            self.one_node_plan(path, at, row)
+        } else {
+            self.run_plan(path, at, row)
+        }
     }
 
     /// The plan for a node without children that goes.
@@ -181,17 +160,13 @@ impl TreeView<'_> {
             (keeping (dacl_at self.now.mapping.now (tree_in self.now) path.now)))) }
     {
         let (at, old) = self.node_of(path);
-        let dacl = match kept_dacl(self.alloc, &old.whole)? {
-            Some(dacl) => dacl,
-            None => old.row.dacl.copy(self.alloc)?,
-        };
-        let row = Row {
-            kind: old.row.kind,
-            owner: old.row.owner,
-            group: old.row.group,
-            dacl,
-        };
-        self.rewriting_plan(path, at, row)
+        match kept_dacl(self.alloc, &old.whole)? {
+            Some(dacl) => self.change_plan(path, RowChange::Dacl(dacl)),
+            None => {
+                let row = old.row.share()?;
+                self.one_node_plan(path, at, row)
+            }
+        }
     }
 
     /// The plan of an edit that no test without memory refuses.
@@ -216,9 +191,12 @@ impl TreeView<'_> {
                 group,
                 dacl,
             } => self.addition_plan(NodeKind::Object, path, (*owner, *group), dacl),
-            Edit::SetOwner { path, owner } => self.owner_plan(path, *owner),
-            Edit::SetGroup { path, group } => self.group_plan(path, *group),
-            Edit::SetDacl { path, dacl } => self.dacl_plan(path, dacl),
+            Edit::SetOwner { path, owner } => self.change_plan(path, RowChange::Owner(*owner)),
+            Edit::SetGroup { path, group } => self.change_plan(path, RowChange::Group(*group)),
+            Edit::SetDacl { path, dacl } => {
+                let dacl = dacl.copy(self.alloc)?;
+                self.change_plan(path, RowChange::Dacl(dacl))
+            }
             Edit::Remove { path } => Ok(self.removal_plan(path)),
             Edit::ProtectKeeping { path } => self.keeping_plan(path),
         }

@@ -9,6 +9,7 @@ ghost use Rattle.sd_tree.specs.Sizes.{IsSizeError};
 
 use crate::node::{NodeDacl, NodeKind, Row};
 use crate::refusal::{EditRefusal, TreeError};
+use crate::shared::SharedList;
 use bitflags::Flags;
 use sd_acl::{Ace, AceFlags, AceList};
 use sd_sid::{GenericMapping, Sid};
@@ -37,14 +38,14 @@ fn stops_here(entry: &Ace) -> bool
 // ---- the three copies
 
 /// CREATOR OWNER, S-1-3-0 ([MS-DTYP] 2.4.2.4).
-fn is_creator_owner(sid: &Sid) -> bool
+pub(crate) fn is_creator_owner(sid: &Sid) -> bool
     ensures { result ≡ same_sid sid.now creator_owner }
 {
     sid.authority() == 3 && matches!(sid.subs(), [0])
 }
 
 /// CREATOR GROUP, S-1-3-1 ([MS-DTYP] 2.4.2.4).
-fn is_creator_group(sid: &Sid) -> bool
+pub(crate) fn is_creator_group(sid: &Sid) -> bool
     ensures { result ≡ same_sid sid.now creator_group }
 {
     sid.authority() == 3 && matches!(sid.subs(), [1])
@@ -208,8 +209,8 @@ pub(crate) fn dacl_of_row(
     alloc: Global,
     mapping: &GenericMapping,
     row: &Row,
-    above: &Option<AceList>,
-) -> Result<Option<AceList>, TreeError>
+    above: &Option<SharedList>,
+) -> Result<Option<SharedList>, TreeError>
     ensures dacl { IfOk result (λ dacl. dacl ≡ dacl_of_row mapping.now row.now above.now) }
     ensures fits { OnOk result (dacl_size (dacl_of_row mapping.now row.now above.now) ≤ 65535) }
     ensures refused { IfErr result (λ error. IsSizeError error (dacl_of_row mapping.now row.now above.now)) }
@@ -222,7 +223,7 @@ pub(crate) fn dacl_of_row(
         hand_on(&mut whole, mapping, row, list.entries())?;
     }
     match AceList::new(whole) {
-        Ok(list) => Ok(Some(list)),
+        Ok(list) => Ok(Some(SharedList::new(alloc, list)?)),
         Err(_) => Err(TreeError::Refused(EditRefusal::AclTooLarge)),
     }
 }

@@ -6,7 +6,8 @@ ghost use Rattle.sd_tree.specs.declared.node.Row.{Row};
 
 use crate::entries::Entries;
 use crate::node::NodeDacl;
-use sd_acl::{AceList, canonicalize, explicit_of};
+use crate::shared::SharedList;
+use sd_acl::{canonicalize, explicit_of};
 use std::alloc::{AllocError, Global};
 
 /// The DACL that a node with this whole DACL gets as its own when it is protected and keeps what it had inherited:
@@ -14,7 +15,7 @@ use std::alloc::{AllocError, Global};
 /// which stays.
 pub(crate) fn kept_dacl(
     alloc: Global,
-    whole: &Option<AceList>,
+    whole: &Option<SharedList>,
 ) -> Result<Option<NodeDacl>, AllocError>
     ensures kept { IfOk result (λ kept. kept ≡ option_map kept_dacl whole.now) }
     ensures keeping { IfOk result (λ kept. MatchOption kept

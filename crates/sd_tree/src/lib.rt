@@ -13,6 +13,7 @@
 //! ```
 #![tactic(auto)]
 
+mod alike;
 mod copying;
 mod describe;
 mod edit;
@@ -27,6 +28,8 @@ mod nodes;
 mod opening;
 mod plan;
 mod refusal;
+mod shared;
+mod siblings;
 mod tree;
 mod tree_view;
 
@@ -36,4 +39,5 @@ pub use node::{NodeDacl, NodeKind};
 pub use opening::{Opening, RootSpec};
 pub use refusal::{EditRefusal, TreeError};
 pub use sd_path::{Name, Path, PathError};
+pub use shared::Shared;
 pub use tree::{CheckReply, Prepared, Tree};

@@ -1,9 +1,10 @@
 //! What stands at a path.
 
 ghost use Rattle.std.specs.Prelude.{◌≡◌, IfOk};
+ghost use Rattle.sd_tree.specs.Plans.{changed_row, is_of_trustee};
 
 use crate::entries::Entries;
-use sd_acl::AceList;
+use crate::shared::{Shared, SharedList};
 use sd_path::Path;
 use sd_sid::Sid;
 use std::alloc::{AllocError, Global};
@@ -50,10 +51,65 @@ pub(crate) struct Row {
     pub dacl: NodeDacl,
 }
 
+/// What changes of a node that stays where it is.
+#[derive(Debug, Drop)]
+pub(crate) enum RowChange {
+    Owner(Sid),
+    Group(Sid),
+    Dacl(NodeDacl),
+}
+
+impl RowChange {
+    /// Whether it is of the owner or the group, which a node doesn't hand on.
+    pub(crate) fn is_of_trustee(&self) -> bool
+        ensures { result ≡ is_of_trustee self.now }
+    {
+        match self {
+            RowChange::Owner(_) | RowChange::Group(_) => true,
+            RowChange::Dacl(_) => false,
+        }
+    }
+}
+
+impl Row {
+    /// One that is equal but for the change.
+    pub(crate) fn with(&self, alloc: Global, change: RowChange) -> Result<Row, AllocError>
+        ensures { IfOk result (λ row. row ≡ changed_row change self.now) }
+    {
+        let (kind, owner, group) = (self.kind, self.owner, self.group);
+        match change {
+            RowChange::Owner(owner) => {
+                let dacl = self.dacl.copy(alloc)?;
+                Ok(Row {
+                    kind,
+                    owner,
+                    group,
+                    dacl,
+                })
+            }
+            RowChange::Group(group) => {
+                let dacl = self.dacl.copy(alloc)?;
+                Ok(Row {
+                    kind,
+                    owner,
+                    group,
+                    dacl,
+                })
+            }
+            RowChange::Dacl(dacl) => Ok(Row {
+                kind,
+                owner,
+                group,
+                dacl,
+            }),
+        }
+    }
+}
+
 /// A node where it stands, with its whole DACL: its own entries and what it inherits, or None for a null one.
 #[derive(Debug, Drop)]
 pub(crate) struct Node {
     pub path: Path,
-    pub row: Row,
-    pub whole: Option<AceList>,
+    pub row: Shared<Row>,
+    pub whole: Option<SharedList>,
 }

@@ -4,7 +4,7 @@ ghost use Rattle.std.specs.Prelude.{◌≡◌, ◌≤◌, ◌<◌, ◌+◌, vec_
 ghost use Rattle.sd_tree.specs.Plans.{CanCarryOut, IsCarriedOut, IsRewritten};
 
 use crate::node::{Node, Row};
-use sd_acl::AceList;
+use crate::shared::{Shared, SharedList};
 
 /// What an accepted edit does to the nodes.
 #[derive(Debug, Drop)]
@@ -17,8 +17,8 @@ pub(crate) enum Plan {
     /// The node at the place gets the row, and with those right behind it its whole DACL anew.
     Rewrite {
         at: usize,
-        row: Row,
-        wholes: Vec<Option<AceList>>,
+        row: Shared<Row>,
+        wholes: Vec<Option<SharedList>>,
     },
     /// The node at the place goes.
     Remove {
@@ -45,7 +45,12 @@ pub(crate) fn carry_out(nodes: &mut Vec<Box<Node>>, plan: Plan)
 }
 
 /// The node at the place gets the row, and with those right behind it its whole DACL anew.
-fn rewrite(nodes: &mut Vec<Box<Node>>, at: usize, row: Row, mut wholes: Vec<Option<AceList>>)
+fn rewrite(
+    nodes: &mut Vec<Box<Node>>,
+    at: usize,
+    row: Shared<Row>,
+    mut wholes: Vec<Option<SharedList>>,
+)
     requires place { at < vec_len nodes.old }
     requires fits { at + vec_len wholes ≤ vec_len nodes.old }
     ensures nodes { IsRewritten at row wholes.items nodes.old.items nodes.new.items }

@@ -6,13 +6,13 @@ ghost use Rattle.sd_tree.specs.Answers.{answer, kind_at, descriptor_at, IsError}
 ghost use Rattle.sd_tree.specs.Journal.{opening_of, root_row, replay, refusal, root_refusal, IsLawful};
 ghost use Rattle.sd_tree.specs.Plain.{row_at};
 ghost use Rattle.sd_tree.specs.Plans.{IsPlanned};
-ghost use Rattle.sd_tree.specs.Prepared.{IsPrepared};
+ghost use Rattle.sd_tree.specs.Prepared.{HasRoom, IsPrepared};
 ghost use Rattle.sd_tree.specs.Refusals.{is_early, dacl_size};
 ghost use Rattle.sd_tree.specs.Inheritance.{dacl_of_row};
 ghost use Rattle.sd_tree.specs.Sizes.{IsSizeError};
 ghost use Rattle.sd_tree.specs.View.{IsView, tree_in};
 
-use crate::copying::{copy_edits, copy_nodes};
+use crate::copying::{copy_nodes, share_edits};
 use crate::describe::descriptor_of_node;
 use crate::edit::Edit;
 use crate::inherit::dacl_of_row;
@@ -22,6 +22,7 @@ use crate::nodes::node_at;
 use crate::opening::{Opening, RootSpec};
 use crate::plan::{Plan, carry_out};
 use crate::refusal::{EditRefusal, TreeError};
+use crate::shared::Shared;
 use crate::tree_view::TreeView;
 use sd_acl::{Descriptor, Verdict};
 use sd_check::{DaclRef, Token, check_parts};
@@ -46,7 +47,7 @@ pub enum CheckReply {
 pub struct Tree {
     alloc: Global,
     opening: Opening,
-    journal: Vec<Edit>,
+    journal: Vec<Shared<Edit>>,
     nodes: Vec<Box<Node>>,
 }
 
@@ -66,7 +67,7 @@ impl Model for Tree {
 /// was prepared, and which edit it is.
 #[derive(Drop)]
 pub struct Prepared {
-    edit: Edit,
+    edit: Shared<Edit>,
     plan: Plan,
     tree: Snapshot<Tree>,
 }
@@ -80,6 +81,15 @@ impl Model for Prepared {
     ghost view = { λ p. record { opening = p.tree.value.opening; journal = p.tree.value.journal; edit = p.edit } };
 
     ghost invariant = { λ p. IsPlanned p.tree.value.opening p.tree.value.journal p.edit p.plan };
+}
+
+impl Prepared {
+    /// The edit, for what else keeps it.
+    pub fn edit(&self) -> &Shared<Edit>
+        ensures { result.now ≡ self.now.edit }
+    {
+        &self.edit
+    }
 }
 
 impl Tree {
@@ -123,9 +133,8 @@ impl Tree {
         ensures refused { IfErr result (λ e. IsError e (refusal self.old.opening self.old.journal edit.now)) }
     {
         let plan = self.plan_or_refusal(edit)?;
-        let edit = edit.copy(self.alloc)?;
-        self.journal.reserve(1)?;
-        self.nodes.reserve(1)?;
+        let edit = Shared::new(self.alloc, edit.copy(self.alloc)?)?;
+        self.make_room()?;
         Ok(Prepared {
             edit,
             plan,
@@ -164,8 +173,28 @@ impl Tree {
         Ok(())
     }
 
+    /// The same of an edit that another tree has: it is kept once, whatever journals it is in.
+    pub fn apply_shared(&mut self, edit: &Shared<Edit>) -> Result<(), TreeError>
+        ensures opening { self.new.opening ≡ self.old.opening }
+        ensures journal { MatchResult result (λ _. self.new.journal ≡ self.old.journal ++ edit.now ∷ [])
+            (λ _. self.new.journal ≡ self.old.journal) }
+        ensures accepted { OnOk result (refusal self.old.opening self.old.journal edit.now ≡ None) }
+        ensures refused { IfErr result (λ e. IsError e (refusal self.old.opening self.old.journal edit.now)) }
+    {
+        let plan = self.plan_or_refusal(edit.get())?;
+        let edit = edit.share()?;
+        self.make_room()?;
+        let prepared = Prepared {
+            edit,
+            plan,
+            tree: Snapshot::of(self),
+        };
+        self.commit(prepared);
+        Ok(())
+    }
+
     /// The edits that were accepted, in their order.
-    pub fn journal(&self) -> &[Edit]
+    pub fn journal(&self) -> &[Shared<Edit>]
         ensures journal { result.now ≡ self.now.journal }
         ensures accepted { root_refusal self.now.opening ≡ None }
         ensures lawful { IsLawful self.now.opening self.now.journal }
@@ -200,7 +229,7 @@ impl Tree {
                     None => DaclRef::Null,
                     Some(list) => DaclRef::List(list.entries()),
                 };
-                let owner = Some(node.row.owner);
+                let owner = Some(node.row.get().owner);
                 CheckReply::Verdict(check_parts(owner, dacl, &self.opening.mapping, token, asked))
             }
         }
@@ -214,7 +243,7 @@ impl Tree {
     {
         match node_at(&self.nodes, &path.as_path_ref()) {
             None => Ok(None),
-            Some(node) => Ok(Some(descriptor_of_node(self.alloc, &node.row, &node.whole)?)),
+            Some(node) => Ok(Some(descriptor_of_node(self.alloc, node.row.get(), &node.whole)?)),
         }
     }
 
@@ -237,7 +266,7 @@ impl Tree {
         ensures journal { IfOk result (λ t. t.journal ≡ self.now.journal) }
     {
         let opening = self.opening.copy(self.alloc)?;
-        let journal = copy_edits(self.alloc, &self.journal)?;
+        let journal = share_edits(self.alloc, &self.journal)?;
         let nodes = copy_nodes(self.alloc, &self.nodes)?;
         Ok(Tree {
             alloc: self.alloc,
@@ -245,6 +274,17 @@ impl Tree {
             journal,
             nodes,
         })
+    }
+
+    /// Makes room for one more edit and one more node.
+    fn make_room(&mut self) -> Result<(), AllocError>
+        ensures same { (self.new.opening ≡ self.old.opening) × (self.new.journal ≡ self.old.journal) }
+        ensures room { (self.old.edit_room ≤ self.new.edit_room) × (self.old.node_room ≤ self.new.node_room) }
+        ensures made { OnOk result (HasRoom self.new) }
+    {
+        self.journal.reserve(1)?;
+        self.nodes.reserve(1)?;
+        Ok(())
     }
 
     /// The plan of an edit, or why it is refused.
@@ -287,5 +327,6 @@ fn root_node(
     };
     let whole = dacl_of_row(alloc, mapping, &row, &None)?;
     let path = Path::root(alloc);
+    let row = Shared::new(alloc, row)?;
     Ok(Box::new(alloc, Node { path, row, whole })?)
 }

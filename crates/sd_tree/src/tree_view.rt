@@ -1,11 +1,13 @@
 //! The nodes of a tree as they stand, for working out an edit.
 
-ghost use Rattle.std.specs.Prelude.{◌≡◌, ◌≤◌, ◌<◌, length, true, false, None, IfOk, IfErr, IsSome};
+ghost use Rattle.std.specs.Prelude.{◌≡◌, ◌≤◌, ◌<◌, length, true, false, None, IfOk, IfErr, OnOk, IsSome};
 ghost use Rattle.std.specs.List.{HoldsAt, AllWithin};
 ghost use Rattle.std.specs.FinMap.{insert};
 ghost use Rattle.sd_path.specs.Names.{is_root, is_within, up};
+ghost use Rattle.sd_tree.specs.Inheritance.{dacl_of_row};
 ghost use Rattle.sd_tree.specs.Plain.{row_at, dacl_at};
 ghost use Rattle.sd_tree.specs.Refusals.{dacl_size};
+ghost use Rattle.sd_tree.specs.Sharing.{AreMadeFor};
 ghost use Rattle.sd_tree.specs.Sizes.{IsSizeError};
 ghost use Rattle.sd_tree.specs.Stored.{path_of_node};
 ghost use Rattle.sd_tree.specs.View.{IsView, tree_in};
@@ -16,10 +18,11 @@ use crate::node::{Node, Row};
 use crate::nodes::locate;
 use crate::plan::Plan;
 use crate::refusal::TreeError;
-use sd_acl::AceList;
+use crate::shared::{SharedList, share_dacl};
 use sd_path::{Path, PathRef};
 use sd_sid::GenericMapping;
 use std::alloc::Global;
+use std::cmp::Ordering;
 
 /// The nodes of a tree as they stand.
 #[derive(Clone, Copy)]
@@ -43,13 +46,43 @@ impl TreeView<'_> {
         }
     }
 
-    /// The whole DACL that the node of a path would have with this row.
+    /// Whether the node of a path stands at a place; `true` only where it does.
+    fn stands_at(&self, path: &PathRef<'_>, at: usize) -> bool
+        ensures { result ≡ true → (at < length self.now.nodes.now)
+            × HoldsAt (λ b. path_of_node b ≡ path.now) self.now.nodes.now at }
+    {
+        if at >= self.nodes.len() {
+            return false;
+        }
+        let node: &Node = &self.nodes[at];
+        node.path.as_path_ref().compare(path) == Ordering::Equal
+    }
+
+    /// The place of a node that is there, looked for at two places first.
+    fn place_near(&self, path: &PathRef<'_>, first: usize, second: usize) -> usize
+        requires standing { IsView self.now }
+        requires there { IsSome (row_at (tree_in self.now) path.now) }
+        ensures within { result < length self.now.nodes.now }
+        ensures stands { HoldsAt (λ b. path_of_node b ≡ path.now) self.now.nodes.now result }
+    {
+        if self.stands_at(path, first) {
+            return first;
+        }
+        if self.stands_at(path, second) {
+            return second;
+        }
+        self.place_of(path)
+    }
+
+    /// The whole DACL that the node of a path would have with this row; the path stands, or would stand, at the place.
     pub(crate) fn whole_of(
         &self,
         path: &PathRef<'_>,
+        at: usize,
         row: &Row,
-    ) -> Result<Option<AceList>, TreeError>
+    ) -> Result<Option<SharedList>, TreeError>
         requires standing { IsView self.now }
+        requires place { at ≤ length self.now.nodes.now }
         requires parent { is_root path.now ≡ false → IsSome (row_at (tree_in self.now) (up path.now)) }
         ensures whole { IfOk result (λ whole. whole ≡ dacl_at self.now.mapping.now
             (insert (tree_in self.now) path.now row.now) path.now) }
@@ -61,7 +94,31 @@ impl TreeView<'_> {
             return dacl_of_row(self.alloc, self.mapping, row, &None);
         }
         let parent: &Node = &self.nodes[self.place_of(&path.parent())];
-        dacl_of_row(self.alloc, self.mapping, row, &parent.whole)
+        self.whole_beside(path, at, row, &parent.whole)
+    }
+
+    /// The whole DACL below a parent with that one: the node's at the place or a near sibling's, where it is the same.
+    fn whole_beside(
+        &self,
+        path: &PathRef<'_>,
+        at: usize,
+        row: &Row,
+        above: &Option<SharedList>,
+    ) -> Result<Option<SharedList>, TreeError>
+        requires standing { IsView self.now }
+        requires place { at ≤ length self.now.nodes.now }
+        requires above { above.now ≡ dacl_at self.now.mapping.now (tree_in self.now) (up path.now) }
+        ensures dacl { IfOk result (λ dacl. dacl ≡ dacl_of_row self.now.mapping.now row.now above.now) }
+        ensures fits { OnOk result (dacl_size (dacl_of_row self.now.mapping.now row.now above.now) ≤ 65535) }
+        ensures refused { IfErr result (λ e. IsSizeError e (dacl_of_row self.now.mapping.now row.now above.now)) }
+    {
+        match self.sibling_around(path, row, above, at) {
+            Some(k) => {
+                let sibling: &Node = &self.nodes[k];
+                Ok(share_dacl(&sibling.whole)?)
+            }
+            None => dacl_of_row(self.alloc, self.mapping, row, above),
+        }
     }
 
     /// The end of the run of nodes that begins at a place and holds all that stands at or below its path.
@@ -89,7 +146,7 @@ impl TreeView<'_> {
         path: &PathRef<'_>,
         at: usize,
         row: &Row,
-    ) -> Result<Vec<Option<AceList>>, TreeError>
+    ) -> Result<Vec<Option<SharedList>>, TreeError>
         requires standing { IsView self.now }
         requires within { at < length self.now.nodes.now }
         requires stands { HoldsAt (λ b. path_of_node b ≡ path.now) self.now.nodes.now at }
@@ -100,14 +157,50 @@ impl TreeView<'_> {
     {
         let end = self.end_below(path, at);
         let mut wholes = Vec::new(self.alloc);
-        let first = self.whole_of(path, row)?;
+        let first = self.whole_of(path, at, row)?;
         wholes.push(first)?;
+        let mut last_parent = at;
         for k in at + 1..end {
             let node: &Node = &self.nodes[k];
-            let parent = self.place_of(&node.path.as_path_ref().parent());
-            let whole = dacl_of_row(self.alloc, self.mapping, &node.row, &wholes[parent - at])?;
+            let below = node.path.as_path_ref();
+            // Mostly the parent of the node before, or that node.
+            let parent = self.place_near(&below.parent(), last_parent, k - 1);
+            last_parent = parent;
+            let whole = self.whole_in_run(
+                &below,
+                (at, k),
+                node.row.get(),
+                &wholes[parent - at],
+                &wholes,
+            )?;
             wholes.push(whole)?;
         }
         Ok(wholes)
+    }
+
+    /// The whole DACL of a node at the second place, of a run that begins at the first, below a parent with that one: a
+    /// near sibling's that is made already, where it is the same.
+    fn whole_in_run(
+        &self,
+        path: &PathRef<'_>,
+        places: (usize, usize),
+        row: &Row,
+        above: &Option<SharedList>,
+        made: &[Option<SharedList>],
+    ) -> Result<Option<SharedList>, TreeError>
+        requires standing { IsView self.now }
+        requires place { places.1 ≤ length self.now.nodes.now }
+        requires made { AreMadeFor self.now.mapping.now self.now.nodes.now path.now row.now above.now places.0 made.now }
+        ensures dacl { IfOk result (λ dacl. dacl ≡ dacl_of_row self.now.mapping.now row.now above.now) }
+        ensures fits { OnOk result (dacl_size (dacl_of_row self.now.mapping.now row.now above.now) ≤ 65535) }
+        ensures refused { IfErr result (λ e. IsSizeError e (dacl_of_row self.now.mapping.now row.now above.now)) }
+    {
+        let (at, k) = places;
+        if let Some(beside) = self.sibling_with(path, row, above, k) {
+            if at < beside && beside - at < made.len() {
+                return Ok(share_dacl(&made[beside - at])?);
+            }
+        }
+        dacl_of_row(self.alloc, self.mapping, row, above)
     }
 }

@@ -1,27 +1,20 @@
 -- The copies that an entry hands on: their flags and their kind.
-use Rattle.std.proofs.Common.{◌≡◌, ℕ, Bool, true, false, not, ◌&&◌, ◌||◌, cond, List, [], ◌∷◌, Some, None, bit_and, bit_or, refl, ◌∙◌, ap, ap₂, append-nil}
+use Rattle.std.proofs.Common.{◌≡◌, ℕ, Bool, true, false, not, ◌&&◌, cond, List, [], ◌∷◌, Some, None, bit_and, bit_or, refl, ◌∙◌, ap, append-nil}
 use Rattle.std.specs.List.{list_any, flat_map}
-use Rattle.std.proofs.Math.Bool.{and-false}
 use Rattle.std.proofs.lemmas.Bool.{or_from, or_right}
 use Rattle.std.proofs.lemmas.List.Folds.{list_any-append}
 use Rattle.sd_sid.specs.Mask.{holds}
 use Rattle.sd_sid.specs.Mapping.{MappingValue}
 use Rattle.sd_sid.specs.Sid.{SidValue}
-use Rattle.sd_sid.proofs.Masks.{holds-or, holds-and}
 use Rattle.sd_acl.specs.Canonical.{is_explicit}
 use Rattle.sd_acl.specs.declared.ace.Ace.{Ace}
 use Rattle.sd_tree.specs.Inheritance.{object_inherit, container_inherit, no_propagate, effective_copy, waiting_copy, whole_copy, is_split, pass_on}
+use Rattle.sd_tree.proofs.HandedOn.{flag_of, unmarked_stays, effective_off, effective_hands_nothing, once}
 use Rattle.sd_tree_laws.specs.Laws.{UnmarkedEntryStays, NoPropagateGoesOneLevel, speaks_of_children, NothingWaitsInAnObject, InheritedHasId}
 use Rattle.sd_tree.specs.declared.node.NodeKind.{NodeKind}
 use Rattle.sd_tree.specs.declared.node.NodeKind.TheVariants.{Container, Object}
 
 -- ---- flags that are kept, and one that is set
-
-flag_of : (f kept set b : ℕ) → holds (bit_or (bit_and f kept) set) b ≡ ((holds f b && holds kept b) || holds set b)
-flag_of f kept set b = holds-or (bit_and f kept) set b ∙ ap (λ x. x || holds set b) (holds-and f kept b)
-
-pub flag_off : (f kept set b : ℕ) → holds kept b ≡ false → holds set b ≡ false → holds (bit_or (bit_and f kept) set) b ≡ false
-flag_off f kept set b h k = flag_of f kept set b ∙ ap₂ (λ x y. (holds f b && x) || y) h k ∙ ap (λ x. x || false) (and-false (holds f b))
 
 pub flag_on : (f kept set b : ℕ) → holds set b ≡ true → holds (bit_or (bit_and f kept) set) b ≡ true
 flag_on f kept set b k = flag_of f kept set b ∙ or_right (holds f b && holds kept b) (holds set b) k
@@ -52,18 +45,8 @@ no_piece_passes p f (x ∷ xs) h = list_any-append p (f x) (flat_map f xs) ∙ o
 
 -- ---- the laws of one entry
 
-effective_off : (g : MappingValue) (owner group : SidValue) (e : Ace) (b : ℕ) → holds 0xC0 b ≡ false → holds 0x10 b ≡ false → holds (effective_copy g owner group e).flags.0 b ≡ false
-effective_off g owner group e b h k = flag_off e.flags.0 0xC0 0x10 b h k
-
 pub unmarked_entry_stays : UnmarkedEntryStays
-unmarked_entry_stays g Object owner group e no_object no_container = rw no_object refl
-unmarked_entry_stays g Container owner group e no_object no_container = rw (no_container, no_object) refl
-
-pub effective_hands_nothing : (g : MappingValue) (kind : NodeKind) (owner group next_owner next_group : SidValue) (e : Ace)
-    → pass_on g kind next_owner next_group (effective_copy g owner group e) ≡ []
-effective_hands_nothing g kind owner group next_owner next_group e =
-    unmarked_entry_stays g kind next_owner next_group (effective_copy g owner group e)
-    (effective_off g owner group e 0 refl refl) (effective_off g owner group e 1 refl refl)
+unmarked_entry_stays = unmarked_stays
 
 only_effective : (h : Ace → List Ace) (object container stops split : Bool) (effective waiting whole : Ace) → stops ≡ true → h effective ≡ []
     → flat_map h (cond container (cond stops (effective ∷ []) (cond split (effective ∷ waiting ∷ []) (whole ∷ []))) (cond object (cond stops [] (waiting ∷ [])) [])) ≡ []
@@ -71,10 +54,6 @@ only_effective h object true true split effective waiting whole np e = append-ni
 only_effective h true false true split effective waiting whole np e = refl
 only_effective h false false true split effective waiting whole np e = refl
 only_effective h object container false split effective waiting whole np e = absurd cc
-
-pub once : (h : Ace → List Ace) (object : Bool) (effective : Ace) → h effective ≡ [] → flat_map h (cond object (effective ∷ []) []) ≡ []
-once h true effective e = append-nil (h effective) ∙ e
-once h false effective e = refl
 
 pub no_propagate_goes_one_level : NoPropagateGoesOneLevel
 no_propagate_goes_one_level g Object next_kind owner group next_owner next_group e np =

@@ -1,11 +1,8 @@
 -- That a request which a check grants after a node was protected was granted before.
-use Rattle.std.proofs.Common.{◌≡◌, ℕ, Bool, true, false, not, ◌&&◌, ◌==◌, cond, List, Option, Some, None, refl, sym, ◌∙◌, ap, eqb-true, eq-eqb}
-use Rattle.std.proofs.lemmas.Bool.{false≢true}
-use Rattle.std.proofs.lemmas.Nat.Bits.{bit_at-zero}
+use Rattle.std.proofs.Common.{◌≡◌, ℕ, Bool, true, false, cond, List, Option, Some, None, refl, ap}
 use Rattle.sd_sid.specs.Mask.{holds}
 use Rattle.sd_sid.specs.Mapping.{MappingValue}
-use Rattle.sd_sid.proofs.Masks.{holds_place, mask_of-alike}
-use Rattle.sd_acl.specs.Verdict.{judged, missing_of}
+use Rattle.sd_acl.specs.Verdict.{judged}
 use Rattle.sd_acl.specs.declared.ace.Ace.{Ace}
 use Rattle.sd_acl.specs.declared.verdict.Verdict.{Verdict}
 use Rattle.sd_acl.specs.declared.verdict.Verdict.TheVariants.{Granted, Denied, Reserved, EmptyRequest}

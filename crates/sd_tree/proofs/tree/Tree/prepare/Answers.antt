@@ -1,19 +1,14 @@
-use Rattle.std.proofs.Common.{◌<◌, ap, arith}
-use Rattle.std.specs.FinMap.{len}
-use Rattle.sd_tree.specs.Journal.{TreeValue, replay}
-use Rattle.sd_tree.proofs.Stands.{nodes_of_tree}
+use Rattle.std.proofs.Common.{ap, ◌∙◌}
+use Rattle.sd_tree.specs.Journal.{TreeValue}
 use Rattle.sd_tree.proofs.tree.Tree.prepare.Goals as goal
 
 pub returns-clause-prepared : goal.returns-clause-prepared
-returns-clause-prepared c =
-    let count = nodes_of_tree c.self.inside.opening c.self.inside.journal.items c.self.inside.nodes.items c.self.invariant in
-    let room : len (replay c.self.inside.opening c.self.inside.journal.items) < c.reserve-2.new.self.cap =
-    omega (arith, count, c.in_ok-reserve-2.ensures.ok, c.in_ok-reserve-2.ensures.len, c.self.inside.nodes.ok.0) in (
-      record {
-        opening = ap (λ (t : TreeValue). t.opening) c.of.ensures;
-        journal = ap (λ (t : TreeValue). t.journal) c.of.ensures;
-        edit_room = omega (arith, c.in_ok-reserve.ensures.ok, c.reserve.new.self.ok.0);
-        node_room = rw c.in_ok-reserve.ensures.items room;
-      },
-      c.in_ok-edit.ensures,
-    )
+returns-clause-prepared c = (
+  record {
+    opening = ap (λ (t : TreeValue). t.opening) c.of.ensures;
+    journal = ap (λ (t : TreeValue). t.journal) c.of.ensures;
+    edit_room = c.in_ok-make_room.ensures.made.edit;
+    node_room = c.in_ok-make_room.ensures.made.node;
+  },
+  c.in_ok-edit.ensures ∙ c.in_ok-copy.ensures,
+)

@@ -19,7 +19,7 @@ returns-then-is_root-clause-refused c =
     let same = whole_at_root c.args.self.now.mapping.now (tree_of c.args.self.now.nodes.now) c.args.path.now c.args.row.now (sym c.if-is_root.ensures) in
     IfErr-weaker c.dacl_of_row.result _ _ (λ e h. size_error e _ _ same h) c.dacl_of_row.ensures.refused
 
-below_parent : (c : goal.After-dacl_of_row-2) → dacl_of_row c.args.self.now.mapping.now c.args.row.now c.deref-parent.result.now.whole ≡ dacl_at c.args.self.now.mapping.now (insert (tree_of c.args.self.now.nodes.now) c.args.path.now c.args.row.now) c.args.path.now
+below_parent : (c : goal.After-whole_beside) → dacl_of_row c.args.self.now.mapping.now c.args.row.now c.deref-parent.result.now.whole ≡ dacl_at c.args.self.now.mapping.now (insert (tree_of c.args.self.now.nodes.now) c.args.path.now c.args.row.now) c.args.path.now
 below_parent c =
     let g = c.args.self.now.mapping.now in
     let bs = c.args.self.now.nodes.now in
@@ -31,7 +31,7 @@ below_parent c =
     ap (dacl_of_row g c.args.row.now) above ∙ whole_below g (tree_of bs) c.args.path.now c.args.row.now (sym c.if-is_root.ensures)
 
 pub returns-clause-whole : goal.returns-clause-whole
-returns-clause-whole c = IfOk-weaker c.dacl_of_row-2.result _ _ (λ whole h. h ∙ below_parent c) c.dacl_of_row-2.ensures.dacl
+returns-clause-whole c = IfOk-weaker c.whole_beside.result _ _ (λ whole h. h ∙ below_parent c) c.whole_beside.ensures.dacl
 
 pub returns-clause-refused : goal.returns-clause-refused
-returns-clause-refused c = IfErr-weaker c.dacl_of_row-2.result _ _ (λ e h. size_error e _ _ (below_parent c) h) c.dacl_of_row-2.ensures.refused
+returns-clause-refused c = IfErr-weaker c.whole_beside.result _ _ (λ e h. size_error e _ _ (below_parent c) h) c.whole_beside.ensures.refused

@@ -1,0 +1,80 @@
+-- Nodes that have nothing of their own have one DACL below one parent, where nothing tells them apart.
+use Rattle.std.proofs.Common.{◌≡◌, Bool, true, false, ◌||◌, cond, List, [], ◌∷◌, ◌++◌, Option, Some, None, refl, sym, ◌∙◌, ap, ap₂}
+use Rattle.std.specs.List.{list_any, flat_map}
+use Rattle.std.proofs.lemmas.Bool.{false≢true}
+use Rattle.sd_sid.specs.Mapping.{MappingValue}
+use Rattle.sd_sid.specs.Sid.{SidValue, same_sid}
+use Rattle.sd_acl.specs.declared.ace.Ace.{Ace}
+use Rattle.sd_tree.specs.Inheritance.{object_inherit, container_inherit, no_propagate, creator_owner, creator_group, created_by, effective_copy, waiting_copy, whole_copy, is_split, pass_on, handed_on, dacl_under, dacl_of_row}
+use Rattle.sd_tree.specs.Sharing.{names_creator, HaveOneDacl}
+use Rattle.sd_tree.specs.declared.node.NodeKind.{NodeKind}
+use Rattle.sd_tree.specs.declared.node.NodeKind.TheVariants.{Container, Object}
+use Rattle.sd_tree.specs.declared.node.NodeDacl.{NodeDacl}
+use Rattle.sd_tree.specs.declared.node.NodeDacl.TheVariants.{List as Entries}
+use Rattle.sd_tree.specs.declared.node.Row.{Row}
+
+-- a node with nothing of its own
+inherited : (g : MappingValue) (row : Row) (above : Option (List Ace)) → row.dacl ≡ Entries false [] → dacl_of_row g row above ≡ Some ([] ++ handed_on g row above)
+inherited g row above is = ap (λ (d : NodeDacl). dacl_under g row d above) is
+
+one_by_handed : (one other : Row) (above : Option (List Ace)) → one.dacl ≡ Entries false [] → other.dacl ≡ Entries false []
+    → ((g : MappingValue) → handed_on g one above ≡ handed_on g other above) → HaveOneDacl one other above
+one_by_handed one other above is-one is-other same g =
+    inherited g one above is-one ∙ ap (λ xs. Some ([] ++ xs)) (same g) ∙ sym (inherited g other above is-other)
+
+-- ---- below a null DACL
+pub one_below_null : (one other : Row) (above : Option (List Ace)) → one.dacl ≡ Entries false [] → other.dacl ≡ Entries false [] → above ≡ None → HaveOneDacl one other above
+one_below_null one other above is-one is-other none =
+    one_by_handed one other above is-one is-other (λ g. ap (handed_on g one) none ∙ sym (ap (handed_on g other) none))
+
+-- ---- of one kind, owner and group
+pub one_by_trustees : (one other : Row) (above : Option (List Ace)) → one.dacl ≡ Entries false [] → other.dacl ≡ Entries false []
+    → one.kind ≡ other.kind → one.owner ≡ other.owner → one.group ≡ other.group → HaveOneDacl one other above
+one_by_trustees one other None is-one is-other kind owner group = one_by_handed one other None is-one is-other (λ g. refl)
+one_by_trustees one other (Some es) is-one is-other kind owner group =
+    one_by_handed one other (Some es) is-one is-other (λ g. λ i. flat_map (pass_on g (kind i) (owner i) (group i)) es)
+
+-- ---- of one kind, where no entry names a creator
+pass_alike : (g : MappingValue) (kind : NodeKind) (owner group other_owner other_group : SidValue) (e : Ace) → created_by owner group e.sid ≡ created_by other_owner other_group e.sid
+    → pass_on g kind owner group e ≡ pass_on g kind other_owner other_group e
+pass_alike g Object owner group other_owner other_group e same =
+    ap (λ (c : Ace). cond (object_inherit e) (c ∷ []) []) (copies g owner group other_owner other_group e same)
+  where
+    copies : (g : MappingValue) (owner group other_owner other_group : SidValue) (e : Ace) → created_by owner group e.sid ≡ created_by other_owner other_group e.sid
+        → effective_copy g owner group e ≡ effective_copy g other_owner other_group e
+    copies g owner group other_owner other_group e same = ap (λ (s : SidValue). record (effective_copy g owner group e) { sid = s }) same
+pass_alike g Container owner group other_owner other_group e same =
+    ap (λ (c : Ace). cond (container_inherit e) (cond (no_propagate e) (c ∷ []) (cond (is_split e) (c ∷ waiting_copy e ∷ []) (whole_copy e ∷ [])))
+    (cond (object_inherit e) (cond (no_propagate e) [] (waiting_copy e ∷ [])) []))
+    (ap (λ (s : SidValue). record (effective_copy g owner group e) { sid = s }) same)
+
+no_creator : (a b : Bool) → (a || b) ≡ false → (owner group other_owner other_group s : SidValue)
+    → cond a owner (cond b group s) ≡ cond a other_owner (cond b other_group s)
+no_creator true b h owner group other_owner other_group s = absurd cc
+no_creator false true h owner group other_owner other_group s = absurd cc
+no_creator false false h owner group other_owner other_group s = refl
+
+none_named : (e : Ace) (es : List Ace) → list_any names_creator (e ∷ es) ≡ false → (names_creator e ≡ false) × (list_any names_creator es ≡ false)
+none_named e es h = parts (names_creator e) (list_any names_creator es) h
+  where
+    parts : (a b : Bool) → (a || b) ≡ false → (a ≡ false) × (b ≡ false)
+    parts true b h = absurd (false≢true (sym h))
+    parts false b h = (refl, h)
+
+handed_alike : (g : MappingValue) (kind : NodeKind) (owner group other_owner other_group : SidValue) (es : List Ace) → list_any names_creator es ≡ false
+    → flat_map (pass_on g kind owner group) es ≡ flat_map (pass_on g kind other_owner other_group) es
+handed_alike g kind owner group other_owner other_group [] h = refl
+handed_alike g kind owner group other_owner other_group (e ∷ es) h =
+    let parts = none_named e es h in
+    ap₂ (λ xs ys. xs ++ ys)
+    (pass_alike g kind owner group other_owner other_group e (no_creator (same_sid e.sid creator_owner) (same_sid e.sid creator_group) parts.0 owner group other_owner other_group e.sid))
+    (handed_alike g kind owner group other_owner other_group es parts.1)
+
+pub one_without_creators : (one other : Row) (above : Option (List Ace)) (es : List Ace) → one.dacl ≡ Entries false [] → other.dacl ≡ Entries false []
+    → one.kind ≡ other.kind → above ≡ Some es → list_any names_creator es ≡ false → HaveOneDacl one other above
+one_without_creators one other above es is-one is-other kind some none =
+    one_by_handed one other above is-one is-other (λ g.
+    ap (handed_on g one) some
+    ∙ handed_alike g one.kind one.owner one.group other.owner other.group es none
+    ∙ ap (λ k. flat_map (pass_on g k other.owner other.group) es) kind
+    ∙ sym (ap (handed_on g other) some))

@@ -1,0 +1,14 @@
+use Rattle.std.proofs.Common.{◌≡◌, true, ap, sym, ◌∙◌, arith}
+use Rattle.std.proofs.lemmas.List.{get_or_default}
+use Rattle.sd_tree.specs.Stored.{path_of_node}
+use Rattle.sd_tree.specs.declared.node.Node.{Node}
+use Rattle.sd_tree.proofs.Rows.{compared_same}
+use Rattle.sd_tree.proofs.tree_view.TreeView.stands_at.Goals as goal
+
+pub returns : goal.returns
+returns c held = (
+  omega arith,
+  λ d.
+      let same = compared_same _ _ c.compare.result c.compare.ensures (sym c.eq.ensures ∙ held) in
+      sym (c.as_path_ref.ensures ∙ ap (λ (n : Node). n.path) c.deref-node.ensures ∙ ap path_of_node (get_or_default c.args.self.now.nodes.now c.args.at c.index-self-at.result d (omega arith))) ∙ same,
+)

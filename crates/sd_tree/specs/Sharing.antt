@@ -1,0 +1,31 @@
+-- Which nodes have one list. No public contract says so.
+use Rattle.std.specs.Prelude.{◌≡◌, ℕ, ◌-◌, ◌<◌, ◌≤◌, Bool, ◌||◌, false, List, length, slice_index_or, Option}
+use Rattle.sd_sid.specs.Mapping.{MappingValue}
+use Rattle.sd_sid.specs.Sid.{same_sid}
+use Rattle.sd_acl.specs.declared.ace.Ace.{Ace}
+use Rattle.sd_path.specs.Names.{Names, up, is_root}
+use Rattle.sd_tree.specs.Inheritance.{creator_owner, creator_group, dacl_of_row}
+use Rattle.sd_tree.specs.Refusals.{dacl_size}
+use Rattle.sd_tree.specs.Stored.{Boxed, path_of_node}
+use Rattle.sd_tree.specs.declared.node.Row.{Row}
+
+-- the entry is for CREATOR OWNER or CREATOR GROUP
+abbrev pub names_creator : Ace → Bool
+names_creator e = same_sid e.sid creator_owner || same_sid e.sid creator_group
+
+-- below a parent with this DACL nodes with the two rows have one DACL
+abbrev pub HaveOneDacl : Row → Row → Option (List Ace) → Type 0
+HaveOneDacl one other above = (g : MappingValue) → dacl_of_row g one above ≡ dacl_of_row g other above
+
+-- the node at the place stands where the path does, below a parent with this DACL, and would have one DACL with the row
+pub record IsSibling (boxes : List Boxed) (path : Names) (row : Row) (above : Option (List Ace)) (k : ℕ) : Type 0 where
+  pub place : k < length boxes
+  pub below_root : (b : Boxed) → is_root (path_of_node (slice_index_or boxes k b)) ≡ false
+  pub parent : (b : Boxed) → up (path_of_node (slice_index_or boxes k b)) ≡ up path
+  pub alike : (b : Boxed) → HaveOneDacl (slice_index_or boxes k b).value.row row above
+
+-- of the DACLs that are made already, for the nodes from a place on, each sibling's is the row's
+abbrev pub AreMadeFor : MappingValue → List Boxed → Names → Row → Option (List Ace) → ℕ → List (Option (List Ace)) → Type 0
+AreMadeFor g boxes path row above at made =
+    (k : ℕ) (dacl : Option (List Ace)) → IsSibling boxes path row above k → at < k → k - at < length made
+    → (slice_index_or made (k - at) dacl ≡ dacl_of_row g row above) × (dacl_size (slice_index_or made (k - at) dacl) ≤ 65535)

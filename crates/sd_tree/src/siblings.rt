@@ -1,0 +1,102 @@
+//! Nodes that stand beside one, among which its list may be found before it is built.
+
+ghost use Rattle.std.specs.Prelude.{◌≡◌, ◌<◌, ◌≤◌, length, true, false, IfSome};
+ghost use Rattle.sd_path.specs.Names.{is_root};
+ghost use Rattle.sd_tree.specs.Sharing.{IsSibling};
+ghost use Rattle.sd_tree.specs.View.{IsView};
+
+use crate::alike::have_one_dacl;
+use crate::node::{Node, Row};
+use crate::nodes::locate;
+use crate::shared::SharedList;
+use crate::tree_view::TreeView;
+use sd_path::PathRef;
+use std::cmp::Ordering;
+
+/// How many siblings are looked at, the nearest first. A container that holds nodes of both kinds and of several owners
+/// has the next of each kind and owner near.
+const NEAR: usize = 8;
+
+impl TreeView<'_> {
+    /// Whether the node at a place is a sibling of what stands, or would stand, at the path below a parent with that
+    /// DACL, and has one DACL with the row; `true` only where it has.
+    fn is_sibling(
+        &self,
+        path: &PathRef<'_>,
+        row: &Row,
+        above: &Option<SharedList>,
+        at: usize,
+    ) -> bool
+        requires { at < length self.now.nodes.now }
+        ensures { result ≡ true → IsSibling self.now.nodes.now path.now row.now above.now at }
+    {
+        let node: &Node = &self.nodes[at];
+        let beside = node.path.as_path_ref();
+        if beside.is_root() || !have_one_dacl(node.row.get(), row, above) {
+            return false;
+        }
+        beside.parent().compare(&path.parent()) == Ordering::Equal
+    }
+
+    /// The place of the sibling right before a place, if there is one.
+    fn sibling_before(&self, path: &PathRef<'_>, at: usize) -> Option<usize>
+        requires standing { IsView self.now }
+        requires place { at ≤ length self.now.nodes.now }
+        ensures { IfSome result (λ before. before < length self.now.nodes.now) }
+    {
+        let before = at.checked_sub(1)?;
+        let node: &Node = &self.nodes[before];
+        let mut beside = node.path.as_path_ref();
+        if beside.depth() < path.depth() {
+            return None;
+        }
+        if beside.depth() == path.depth() {
+            return Some(before);
+        }
+        // It stands below the sibling.
+        for _ in path.depth()..beside.depth() {
+            beside = beside.parent();
+        }
+        locate(self.nodes, &beside).ok()
+    }
+
+    /// The place of a sibling before a place that has one DACL with the row, if one is found near.
+    pub(crate) fn sibling_with(
+        &self,
+        path: &PathRef<'_>,
+        row: &Row,
+        above: &Option<SharedList>,
+        at: usize,
+    ) -> Option<usize>
+        requires standing { IsView self.now }
+        requires place { at ≤ length self.now.nodes.now }
+        ensures { IfSome result (IsSibling self.now.nodes.now path.now row.now above.now) }
+    {
+        let mut near = at;
+        for _ in 0..NEAR {
+            near = self.sibling_before(path, near)?;
+            if self.is_sibling(path, row, above, near) {
+                return Some(near);
+            }
+        }
+        None
+    }
+
+    /// The same, where the node at the place may be the sibling: what stands at the path, or what comes right behind it.
+    pub(crate) fn sibling_around(
+        &self,
+        path: &PathRef<'_>,
+        row: &Row,
+        above: &Option<SharedList>,
+        at: usize,
+    ) -> Option<usize>
+        requires standing { IsView self.now }
+        requires place { at ≤ length self.now.nodes.now }
+        ensures { IfSome result (IsSibling self.now.nodes.now path.now row.now above.now) }
+    {
+        if at < self.nodes.len() && self.is_sibling(path, row, above, at) {
+            return Some(at);
+        }
+        self.sibling_with(path, row, above, at)
+    }
+}
