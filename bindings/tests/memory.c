@@ -1,6 +1,6 @@
 /*
- * Memory that runs out at each request of each call in turn, and memory that comes back. Linked with -Wl,--wrap=malloc,
- * --wrap=realloc,--wrap=free, so that the library's requests come here.
+ * Memory that runs out at each request of each call in turn, once alone and once with all that come after it, and memory that
+ * comes back. Linked with -Wl,--wrap=malloc,--wrap=realloc,--wrap=free, so that the library's requests come here.
  */
 #include "tally.h"
 
@@ -11,17 +11,18 @@ void *__wrap_malloc(size_t);
 void *__wrap_realloc(void *, size_t);
 void __wrap_free(void *);
 
-/* How many requests are granted before one is refused, and how many blocks are taken. */
-static long granted, taken;
-static int was_refused;
+/* How many requests are granted before one is refused, whether all after it are, and how many blocks are taken. */
+static long granted = -1, taken, refusals;
+static int lasts, was_refused;
 
 static int refuses(void)
 {
-    if (granted-- == 0) {
-        was_refused = 1;
-        return 1;
+    if (granted < 0 || granted-- > 0) {
+        return 0;
     }
-    return 0;
+    granted = lasts ? 0 : -1;
+    was_refused = 1;
+    return 1;
 }
 
 void *__wrap_malloc(size_t size)
@@ -44,89 +45,258 @@ void __wrap_free(void *block)
     __real_free(block);
 }
 
-static const char sddl[] = "O:BAG:SYD:(D;;0x1;;;BU)(A;;FR;;;WD)(A;;FA;;;S-1-5-21-1-2-3-1001)";
+enum call { TO_BYTES, TO_SDDL, CANONICAL, LENGTH, SID_BYTES, SID_TEXT, CHECK, KEEP_SDDL, KEEP_BYTES, KEEP_TOKEN };
+
+/* A call, what it is given, and what it answers: what it writes, NULL where that isn't looked at, and how much; a fault of a
+ * text and its place. Bytes are told in hexadecimal digits, given and written. */
+typedef struct row {
+    enum call call;
+    const char *text;
+    const char *wanted;
+    uint64_t length;
+    uint32_t fault;
+    uint64_t place;
+} row;
+
+#define ROW_1 "O:BAG:SYD:(A;;FA;;;WD)"
+#define FIFTEEN(SUB) SUB SUB SUB SUB SUB SUB SUB SUB SUB SUB SUB SUB SUB SUB SUB
+#define LONGEST_SID "S-1-0xffffffffffff" FIFTEEN("-4294967295")
+#define TOO_LONG_SID "S-1-5" FIFTEEN("-1") "-1"
+#define CHECKED "O:BAG:SYD:(D;;0x1;;;BU)(A;;FR;;;WD)(A;;FA;;;S-1-5-21-1-2-3-1001)"
+
+static const char row_1[] = "010004801400000024000000000000003000000001020000000000052000000020020000010100000000000512000000"
+                            "02001c000100000000001400ff011f00010100000000000100000000";
+static const char lenient[] = "010004800000000000000000000000001400000004002400010000000020180"
+                              "0ff011f00010100000000000100000000deadbeef00000000";
+static const char null_list[] = "0100048000000000000000000000000000000000";
+
+static const row rows[] = {
+    { TO_BYTES, ROW_1, row_1, 76, 0, 0 },
+    { TO_BYTES, "O:DA", NULL, 0, HUDARIN_TEXT_DOMAIN_ALIAS, 2 },
+    { TO_BYTES, "D:(A;;FA;;;WD", NULL, 0, HUDARIN_TEXT_SYNTAX, 13 },
+    { CANONICAL, "o:s-1-0x000000000005-018d:pai(a;idoi;0x0;;;wd)", "O:SYD:PAI(A;OIID;0x0;;;WD)", 26, 0, 0 },
+    { CANONICAL, "D:NO_ACCESS_CONTROLP", "D:PNO_ACCESS_CONTROL", 20, 0, 0 },
+    { CANONICAL, "", "", 0, 0, 0 },
+    { CANONICAL, "D:(OA;;FR;;;WD)", NULL, 0, HUDARIN_TEXT_ENTRY_KIND, 3 },
+    { CANONICAL, "D:S:AI", NULL, 0, HUDARIN_TEXT_HAS_SACL, 2 },
+    { CANONICAL, "D:(A;;0x100000000;;;WD)", NULL, 0, HUDARIN_TEXT_RANGE, 6 },
+    { CANONICAL, "D:(A;;FA;;;QQ)", NULL, 0, HUDARIN_TEXT_UNKNOWN_ALIAS, 11 },
+    { CANONICAL, "D:(A;;FA;x;;WD)", NULL, 0, HUDARIN_TEXT_OBJECT_GUID, 9 },
+    { CANONICAL, "D:(A;;FA;;;WD)(A;;FA;;;QQ)", NULL, 0, HUDARIN_TEXT_UNKNOWN_ALIAS, 23 },
+    { CANONICAL, "G:SYO:BA", NULL, 0, HUDARIN_TEXT_SYNTAX, 4 },
+    { TO_SDDL, row_1, ROW_1, 22, 0, 0 },
+    { TO_SDDL, lenient, "D:(A;;FA;;;WD)", 14, 0, 0 },
+    { TO_SDDL, null_list, "D:NO_ACCESS_CONTROL", 19, 0, 0 },
+    { LENGTH, row_1, NULL, 76, 0, 0 },
+    { SID_BYTES, LONGEST_SID, "010fffffffffffff" FIFTEEN("ffffffff"), 68, 0, 0 },
+    { SID_BYTES, TOO_LONG_SID, NULL, 0, HUDARIN_TEXT_RANGE, 36 },
+    { SID_TEXT, LONGEST_SID, LONGEST_SID, sizeof LONGEST_SID - 1, 0, 0 },
+    { CHECK, CHECKED, NULL, 0, 0, 0 },
+    { KEEP_SDDL, CHECKED, NULL, 0, 0, 0 },
+    { KEEP_SDDL, "O:DA", NULL, 0, HUDARIN_TEXT_DOMAIN_ALIAS, 2 },
+    { KEEP_BYTES, CHECKED, NULL, 0, 0, 0 },
+    { KEEP_TOKEN, CHECKED, NULL, 0, 0, 0 },
+};
+
 static const hudarin_mapping files = HUDARIN_FILE_MAPPING;
 static const uint32_t states[] = { HUDARIN_GROUP_ENABLED, HUDARIN_GROUP_ENABLED };
-static unsigned char bytes[200], user[HUDARIN_SID_BYTES], groups[2 * HUDARIN_SID_BYTES], room[200];
-static size_t length, user_length, groups_length;
-static hudarin_kept kept;
 
-/* The status of each call, by its place here. */
-static uint32_t status_of(int call)
+/* What a call is lent: bytes, and the SIDs of a token. They are the same behind each call. */
+typedef struct loan {
+    unsigned char bytes[400], user[HUDARIN_SID_BYTES], groups[2 * HUDARIN_SID_BYTES];
+    size_t length, user_length, groups_length;
+} loan;
+
+static loan lent;
+static hudarin_kept kept, descriptor, token;
+
+/* What a call answered, wrote and keeps, and the verdict on what it keeps. */
+typedef struct outcome {
+    uint32_t status, fault, kind, mask;
+    uint64_t place, length;
+    unsigned char room[400];
+} outcome;
+
+static void written(outcome *it, hudarin_written answer)
 {
-    switch (call) {
-    case 0: return hudarin_sddl_to_bytes(sddl, sizeof sddl - 1, room, sizeof room).status;
-    case 1: return hudarin_bytes_to_sddl(bytes, length, (char *)room, sizeof room).status;
-    case 2: return hudarin_sddl_canonical(sddl, sizeof sddl - 1, (char *)room, sizeof room).status;
-    case 3: return hudarin_descriptor_length(bytes, length).status;
-    case 4: return hudarin_sid_text_to_bytes("S-1-5-18", 8, room, sizeof room).status;
-    case 5: return hudarin_sid_bytes_to_text(user, user_length, (char *)room, sizeof room).status;
-    case 6:
-        return hudarin_check(bytes, length, user, user_length, groups, groups_length, states, 2, groups, groups_length, 0, files,
-                             1).status;
-    case 7: return hudarin_keep_sddl(sddl, sizeof sddl - 1, &kept).status;
-    case 8: return hudarin_keep_bytes(bytes, length, &kept).status;
-    default: return hudarin_keep_token(user, user_length, groups, groups_length, states, 2, groups, groups_length, 0, &kept).status;
+    it->status = answer.status;
+    it->fault = answer.fault;
+    it->place = answer.place;
+    it->length = answer.length;
+}
+
+static void judged(outcome *it, hudarin_verdict answer)
+{
+    it->status = answer.status;
+    it->kind = answer.kind;
+    it->mask = answer.mask;
+}
+
+static hudarin_verdict keep_token(hudarin_kept *handle)
+{
+    return hudarin_keep_token(lent.user, lent.user_length, lent.groups, lent.groups_length, states, 2, NULL, 0, 0, handle);
+}
+
+static void made(const row *row, outcome *it)
+{
+    size_t text = strlen(row->text), room = sizeof it->room;
+    char *chars = (char *)it->room;
+    memset(it, 0, sizeof *it);
+    memset(it->room, 0x5A, room);
+    switch (row->call) {
+    case TO_BYTES: written(it, hudarin_sddl_to_bytes(row->text, text, it->room, room)); break;
+    case TO_SDDL: written(it, hudarin_bytes_to_sddl(lent.bytes, lent.length, chars, room)); break;
+    case CANONICAL: written(it, hudarin_sddl_canonical(row->text, text, chars, room)); break;
+    case LENGTH: written(it, hudarin_descriptor_length(lent.bytes, lent.length)); break;
+    case SID_BYTES: written(it, hudarin_sid_text_to_bytes(row->text, text, it->room, room)); break;
+    case SID_TEXT: written(it, hudarin_sid_bytes_to_text(lent.bytes, lent.length, chars, room)); break;
+    case CHECK:
+        judged(it, hudarin_check(lent.bytes, lent.length, lent.user, lent.user_length, lent.groups, lent.groups_length, states, 2,
+                                 NULL, 0, 0, files, 0x80000000u));
+        break;
+    case KEEP_SDDL: written(it, hudarin_keep_sddl(row->text, text, &kept)); break;
+    case KEEP_BYTES: written(it, hudarin_keep_bytes(lent.bytes, lent.length, &kept)); break;
+    case KEEP_TOKEN: judged(it, keep_token(&kept)); break;
+    }
+    granted = -1;
+    if (kept.is_there) {
+        int is_token = row->call == KEEP_TOKEN;
+        judged(it, hudarin_check_kept(is_token ? &descriptor : &kept, is_token ? &kept : &token, files, 0x80000000u));
     }
 }
 
-/* Each request of the call is refused in turn, until the call makes no more of them. */
-static void runs_out(int call)
+static int same(const void *one, const void *other, size_t size)
 {
-    long at, requests = 0;
+    return memcmp(one, other, size) == 0;
+}
+
+/* Whether nothing was written or kept. */
+static int left_alone(const outcome *it)
+{
+    size_t at = 0;
+    while (at < sizeof it->room && it->room[at] == 0x5A) {
+        at++;
+    }
+    return at == sizeof it->room && it->length == 0 && it->kind == 0 && it->mask == 0 && !kept.is_there && kept.at == NULL;
+}
+
+/* The bytes that the digits tell; how many there are. */
+static size_t bytes_of(const char *digits, unsigned char *bytes)
+{
+    size_t at, length = strlen(digits) / 2;
+    for (at = 0; at < length; at++) {
+        unsigned byte = 0;
+        HOLDS(sscanf(digits + 2 * at, "%2x", &byte) == 1);
+        bytes[at] = (unsigned char)byte;
+    }
+    return length;
+}
+
+/* Whether the row's text or bytes were written. */
+static int is_wanted(const row *row, const outcome *it)
+{
+    unsigned char bytes[400];
+    if (row->wanted == NULL) {
+        return 1;
+    }
+    if (row->call == TO_BYTES || row->call == SID_BYTES) {
+        return bytes_of(row->wanted, bytes) == it->length && same(it->room, bytes, (size_t)it->length);
+    }
+    return strlen(row->wanted) == it->length && same(it->room, row->wanted, (size_t)it->length);
+}
+
+/* The answer with memory there is that of the row. */
+static void answers(const row *row, const outcome *it)
+{
+    int judges = row->call >= CHECK && row->fault == 0;
+    HOLDS(it->status == (row->fault ? HUDARIN_TEXT : HUDARIN_OK));
+    HOLDS(it->fault == row->fault && it->place == row->place && it->length == row->length);
+    HOLDS(is_wanted(row, it));
+    HOLDS(it->kind == (judges ? HUDARIN_DENIED : 0) && it->mask == (judges ? 1u : 0u));
+}
+
+/* Each request of the row's call is refused in turn, until the call makes no more of them. */
+static void runs_out(const row *row, int is_lasting, const outcome *due)
+{
+    static outcome got, again;
+    const loan before = lent;
+    long at, wanting = 0, blocks = taken;
     int done = 0;
     for (at = 0; !done && at < 1000; at++) {
-        uint32_t status;
-        memset(room, 0x5A, sizeof room);
         granted = at;
+        lasts = is_lasting;
         was_refused = 0;
-        status = status_of(call);
+        made(row, &got);
         done = !was_refused;
-        granted = -1;
-        if (was_refused) {
-            requests++;
+        refusals += was_refused;
+        if (was_refused && got.status == HUDARIN_MEMORY) {
+            wanting++;
+            HOLDS(left_alone(&got) && taken == blocks);
+        } else {
+            /* (a vector that may not grow to twice its room asks for what it needs) */
+            HOLDS(same(&got, due, sizeof got));
         }
-        /* (a request that only gives room back may be refused, and the call goes well) */
-        HOLDS(done ? status == HUDARIN_OK : status == HUDARIN_OK || status == HUDARIN_MEMORY);
-        HOLDS(status == HUDARIN_OK || (room[0] == 0x5A && room[1] == 0x5A && kept.is_there == 0 && kept.at == NULL));
-        HOLDS(status != HUDARIN_MEMORY || taken == 0);
         hudarin_free(&kept);
-        HOLDS(taken == 0);
+        HOLDS(taken == blocks && same(&lent, &before, sizeof lent));
+        made(row, &again);
+        HOLDS(same(&again, due, sizeof again));
+        hudarin_free(&kept);
     }
-    HOLDS(done && requests > 0);
+    HOLDS(done && (wanting > 0 || row->fault != 0 || row->text[0] == 0));
 }
 
-/* With no memory at all these two answer as ever. */
+static void lend(const row *row)
+{
+    size_t digits = strlen(row->text);
+    if (row->call == TO_SDDL || row->call == LENGTH) {
+        lent.length = bytes_of(row->text, lent.bytes);
+    } else if (row->call == SID_TEXT) {
+        lent.length = (size_t)hudarin_sid_text_to_bytes(row->text, digits, lent.bytes, sizeof lent.bytes).length;
+    } else {
+        lent.length = (size_t)hudarin_sddl_to_bytes(CHECKED, sizeof CHECKED - 1, lent.bytes, sizeof lent.bytes).length;
+    }
+}
+
+/* With no memory at all these two answer as ever, time and again. */
 static void takes_none(void)
 {
-    hudarin_kept descriptor = HUDARIN_NOTHING, token = HUDARIN_NOTHING;
-    hudarin_verdict verdict;
-    hudarin_keep_bytes(bytes, length, &descriptor);
-    hudarin_keep_token(user, user_length, groups, groups_length, states, 2, NULL, 0, 0, &token);
+    int turn;
     granted = 0;
+    lasts = 1;
     was_refused = 0;
-    verdict = hudarin_check_kept(&descriptor, &token, files, 0x80000000u);
-    HOLDS(verdict.status == HUDARIN_OK && verdict.kind == HUDARIN_DENIED && verdict.mask == 1);
-    HOLDS(hudarin_mask_from_text("RCSD", 4).mask == 0x30000u);
+    for (turn = 0; turn < 100; turn++) {
+        hudarin_verdict verdict = hudarin_check_kept(&descriptor, &token, files, 0x80000000u);
+        HOLDS(verdict.status == HUDARIN_OK && verdict.kind == HUDARIN_DENIED && verdict.mask == 1);
+        HOLDS(hudarin_mask_from_text("RCSD", 4).mask == 0x30000u);
+    }
     HOLDS(!was_refused);
     granted = -1;
-    hudarin_free(&descriptor);
-    hudarin_free(&token);
-    HOLDS(taken == 0);
 }
 
 int main(void)
 {
-    int call;
-    granted = -1;
-    length = (size_t)hudarin_sddl_to_bytes(sddl, sizeof sddl - 1, bytes, sizeof bytes).length;
-    user_length = (size_t)hudarin_sid_text_to_bytes("S-1-5-21-1-2-3-1001", 19, user, sizeof user).length;
-    groups_length = (size_t)hudarin_sid_text_to_bytes("BU", 2, groups, sizeof groups).length;
-    groups_length += (size_t)hudarin_sid_text_to_bytes("WD", 2, groups + groups_length, HUDARIN_SID_BYTES).length;
-    HOLDS(length > 0 && user_length == 28 && groups_length == 28 && taken == 0);
-    for (call = 0; call < 10; call++) {
-        runs_out(call);
+    size_t at;
+    lent.user_length = (size_t)hudarin_sid_text_to_bytes("S-1-5-21-1-2-3-1001", 19, lent.user, sizeof lent.user).length;
+    lent.groups_length = (size_t)hudarin_sid_text_to_bytes("BU", 2, lent.groups, sizeof lent.groups).length;
+    lent.groups_length +=
+        (size_t)hudarin_sid_text_to_bytes("WD", 2, lent.groups + lent.groups_length, HUDARIN_SID_BYTES).length;
+    HOLDS(lent.user_length == 28 && lent.groups_length == 28 && taken == 0);
+    hudarin_keep_sddl(CHECKED, sizeof CHECKED - 1, &descriptor);
+    keep_token(&token);
+    HOLDS(descriptor.is_there && token.is_there);
+    for (at = 0; at < sizeof rows / sizeof rows[0]; at++) {
+        static outcome due;
+        lend(&rows[at]);
+        made(&rows[at], &due);
+        answers(&rows[at], &due);
+        hudarin_free(&kept);
+        runs_out(&rows[at], 0, &due);
+        runs_out(&rows[at], 1, &due);
     }
     takes_none();
+    hudarin_free(&descriptor);
+    hudarin_free(&token);
+    HOLDS(taken == 0 && refusals > 0);
+    printf("%ld requests for memory were refused\n", refusals);
     return close_tally();
 }

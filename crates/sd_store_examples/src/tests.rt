@@ -6,6 +6,7 @@ mod client;
 mod limits;
 mod memory;
 mod opening;
+mod refusals;
 mod runs;
 mod stage;
 mod step;
@@ -32,9 +33,9 @@ fn of_administrators(readers: u64) -> Setting {
     }
 }
 
-/// What the steps are told, in words: those before the writer ends, and those after it. Nothing where memory was
-/// refused for anything but a publish that may be. Nothing is tried again: a test that goes on without a refused request
-/// makes its whole run again, and one request can't be refused in both.
+/// What the steps are told, in words: those before the writer ends, and those after it. Nothing where memory was refused.
+/// Nothing is tried again: a test that goes on without a refused request makes its whole run again, and one request can't
+/// be refused in both.
 fn words<R: Threads + Wait>(
     rt: &R,
     alloc: Global,

@@ -6,7 +6,9 @@ ghost use Rattle.sd_tree.specs.Journal.{opening_of};
 mod between;
 mod dealt;
 mod gates;
+mod refused;
 
+use super::refusals::Refusal;
 use super::step::{Ready, Step, all_ready, errand, root};
 use super::threads::Errand;
 use sd_history::Opened;
@@ -41,23 +43,31 @@ fn is_set_soon(flag: &AtomicBool) -> bool {
     false
 }
 
-/// What an audit answered, and what each checker has seen then.
+/// What an audit answered, and what each checker has seen then. Where a request for memory was to be refused: whether it was,
+/// and what the same audit answered behind that.
 #[derive(Drop)]
 pub(super) struct Report {
     answers: Result<Vec<Answer>, AuditError>,
     seen: Vec<u64>,
+    was_refused: bool,
+    again: Option<Result<Vec<Answer>, AuditError>>,
 }
 
 impl Report {
     /// Whether each answer is the wanted one, in their order, by the journal of that length.
     fn are(&self, seen: u64, questions: &[Question]) -> bool {
-        let Ok(answers) = &self.answers else {
-            return false;
-        };
-        answers.len() == questions.len()
-            && answers.iter().zip(questions).all(|(answer, question)| answer.seen == seen
-                && answer.reply == question.reply)
+        are(&self.answers, seen, questions)
     }
+}
+
+/// Whether each answer is the wanted one, in their order, by the journal of that length.
+fn are(answers: &Result<Vec<Answer>, AuditError>, seen: u64, questions: &[Question]) -> bool {
+    let Ok(answers) = answers else {
+        return false;
+    };
+    answers.len() == questions.len()
+        && answers.iter().zip(questions).all(|(answer, question)| answer.seen == seen
+            && answer.reply == question.reply)
 }
 
 /// An audit of the questions on a store with these edits published, by so many checkers. Nothing where memory was
@@ -69,6 +79,19 @@ fn audited<G: Gate + Sync, R: Threads + Wait + Sync>(
     questions: &[Question],
     checkers: u64,
     gate: &G,
+) -> Option<Report> {
+    audited_refused(rt, alloc, steps, questions, checkers, gate, None)
+}
+
+/// The same, where the audit is refused a request for memory, and made once more.
+fn audited_refused<G: Gate + Sync, R: Threads + Wait + Sync>(
+    rt: &R,
+    alloc: Global,
+    steps: &[Step],
+    questions: &[Question],
+    checkers: u64,
+    gate: &G,
+    refusal: Option<Refusal>,
 ) -> Option<Report> {
     let root = root(alloc, "O:BAG:SYD:", 1)?;
     let mapping = GenericMapping::file();
@@ -86,6 +109,7 @@ fn audited<G: Gate + Sync, R: Threads + Wait + Sync>(
         &queries,
         gate,
         seen,
+        refusal,
     )
 }
 
@@ -101,6 +125,7 @@ fn audited_at<J: Naming + Send + Sync, G: Gate + Sync, R: Threads + Wait + Sync>
     queries: &[Query],
     gate: &G,
     seen: Vec<u64>,
+    refusal: Option<Refusal>,
 ) -> Option<Report>
     requires history { (history.book ≡ J.book) × (history.first ≡ J.first) }
     requires opening { opening_of mapping.now root.now ≡ J.opening }
@@ -109,22 +134,29 @@ fn audited_at<J: Naming + Send + Sync, G: Gate + Sync, R: Threads + Wait + Sync>
         rt, alloc, history, mapping, root, checkers,
     ).ok()?;
     let told = published(rt, &mut writer, edits);
-    let answers = match told {
-        true => {
-            let mut notice = writer.tell();
-            let answers = asked(rt, alloc, &mut checkers, &mut notice, queries, gate);
-            Some(answers)
-        }
-        false => None,
+    let mut notice = writer.tell();
+    if let Some(refusal) = refusal {
+        refusal.begin(alloc);
+    }
+    let answers = asked(rt, alloc, &mut checkers, &mut notice, queries, gate);
+    let was_refused = refusal.is_some() && Refusal::ended(alloc);
+    let again = match refusal {
+        Some(_) => Some(asked(rt, alloc, &mut checkers, &mut notice, queries, gate)),
+        None => None,
     };
     writer.end(rt);
     let mut seen = seen;
     for checker in &checkers {
         let _ = seen.push(checker.seen());
     }
+    if !told {
+        return None;
+    }
     Some(Report {
-        answers: answers?,
+        answers,
         seen,
+        was_refused,
+        again,
     })
 }
 

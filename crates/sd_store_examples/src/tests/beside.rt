@@ -1,12 +1,14 @@
 //! Readers that check in threads of their own while the writer publishes.
 
+mod sixty_four;
+
 use super::told::Told;
 use super::*;
 use sd_acl::Verdict;
 use sd_share::Answer;
 use sd_sid::Mask;
 use sd_store::Gone;
-use sd_tree::CheckReply;
+use sd_tree::{CheckReply, EditRefusal};
 
 const PUBLISHES: u64 = 20;
 
@@ -59,14 +61,15 @@ fn due(seen: u64) -> CheckReply {
     }
 }
 
-/// Whether each check was answered, by what was then published, and none by less than the one before it.
-fn are_rising(answers: &[Result<Answer, Gone>]) -> bool {
-    let mut floor = 0;
+/// Whether each check was answered, by what was then published, and none by less than the one before it: each by a journal
+/// of a length from the least to the most.
+fn are_rising(answers: &[Result<Answer, Gone>], least: u64, most: u64) -> bool {
+    let mut floor = least;
     for answer in answers {
         let Ok(Answer { seen, reply }) = answer else {
             return false;
         };
-        if *seen < floor || PUBLISHES < *seen || *reply != due(*seen) {
+        if *seen < floor || most < *seen || *reply != due(*seen) {
             return false;
         }
         floor = *seen;
@@ -81,7 +84,7 @@ fn is_right(times: u64, step: Step, told: &Told) -> bool {
         (Step::Object(..) | Step::Dacl(..), Told::Done) => true,
         (Step::Publish, Told::Published(_)) => true,
         (Step::Back(_), Told::Answers(answers)) => {
-            answers.len() as u64 == times && are_rising(answers)
+            answers.len() as u64 == times && are_rising(answers, 0, PUBLISHES)
         }
         (Step::Check(..), Told::Answer(answer)) => {
             *answer

@@ -19,10 +19,11 @@ pub(super) enum Step {
     Dacl(&'static str, &'static str),
     /// A list with the entries of a text so many times.
     LongDacl(&'static str, &'static str, u64),
+    Owner(&'static str, &'static str),
+    Group(&'static str, &'static str),
     Remove(&'static str),
+    Keep(&'static str),
     Publish,
-    /// A publish that may be refused memory.
-    PublishOrMemory,
     /// How many edits are published, and how many wait.
     Lengths,
     /// The writer tells of what is published: one more notice.
@@ -31,6 +32,8 @@ pub(super) enum Step {
     Learn(usize, usize),
     Seen(usize),
     Check(usize, &'static str),
+    /// So many checks.
+    Checks(usize, &'static str, u64),
     Show(usize, &'static str),
     /// A reader goes into a thread of its own, where it learns a notice, if one is named, and checks so many times.
     Away(usize, Option<usize>, &'static str, u64),
@@ -43,12 +46,12 @@ pub(super) enum Step {
 pub(super) enum Ready {
     Edit(Edit),
     Publish,
-    PublishOrMemory,
     Lengths,
     Tell,
     Learn(usize, usize),
     Seen(usize),
     Check(usize, Errand),
+    Checks(usize, Errand),
     Show(usize, Path),
     Away(usize, Option<usize>, Errand),
     Back(usize),
@@ -65,7 +68,6 @@ pub(super) fn all_ready(alloc: Global, steps: &[Step]) -> Option<Vec<Ready>> {
 fn read_step(alloc: Global, step: Step) -> Option<Ready> {
     Some(match step {
         Step::Publish => Ready::Publish,
-        Step::PublishOrMemory => Ready::PublishOrMemory,
         Step::Lengths => Ready::Lengths,
         Step::Tell => Ready::Tell,
         Step::Learn(reader, notice) => Ready::Learn(reader, notice),
@@ -73,6 +75,7 @@ fn read_step(alloc: Global, step: Step) -> Option<Ready> {
         Step::Back(reader) => Ready::Back(reader),
         Step::Show(reader, path) => Ready::Show(reader, Path::read(alloc, path).ok()?),
         Step::Check(reader, path) => Ready::Check(reader, errand(alloc, path, 1)?),
+        Step::Checks(reader, path, times) => Ready::Checks(reader, errand(alloc, path, times)?),
         Step::Away(reader, notice, path, times) => {
             Ready::Away(reader, notice, errand(alloc, path, times)?)
         }
@@ -104,7 +107,18 @@ pub(super) fn edit(alloc: Global, step: Step) -> Option<Edit> {
             let RootSpec { dacl, .. } = root(alloc, text, times)?;
             Some(Edit::SetDacl { path, dacl })
         }
+        Step::Owner(path, text) => Some(Edit::SetOwner {
+            path: Path::read(alloc, path).ok()?,
+            owner: read_sid_text(text).ok()?,
+        }),
+        Step::Group(path, text) => Some(Edit::SetGroup {
+            path: Path::read(alloc, path).ok()?,
+            group: read_sid_text(text).ok()?,
+        }),
         Step::Remove(path) => Some(Edit::Remove {
+            path: Path::read(alloc, path).ok()?,
+        }),
+        Step::Keep(path) => Some(Edit::ProtectKeeping {
             path: Path::read(alloc, path).ok()?,
         }),
         _ => None,

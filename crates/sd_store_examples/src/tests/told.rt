@@ -2,7 +2,7 @@
 
 use sd_acl::{Descriptor, Verdict};
 use sd_share::{Answer, StartError};
-use sd_store::{Gone, ShowError};
+use sd_store::Gone;
 use sd_text::print_sddl;
 use sd_tree::{CheckReply, EditRefusal};
 use std::alloc::{AllocError, Global};
@@ -18,14 +18,14 @@ pub(super) enum Told {
     Notice(u64),
     Seen(u64),
     Answer(Result<Answer, Gone>),
-    Shown(Result<(u64, Option<Descriptor>), ShowError>),
+    Shown(Result<(u64, Option<Descriptor>), Gone>),
     Away,
     Answers(Vec<Result<Answer, Gone>>),
-    /// A publish that may be was refused memory, and the lengths stayed.
+    /// Memory was refused, and the lengths stayed.
     Memory,
-    /// Memory was refused, and a length changed. That is always wrong.
+    /// Memory was refused, and a length changed.
     Changed,
-    /// There is no such reader or notice here, no thread was made, or memory was refused where it may not be.
+    /// There is no such reader or notice here, or no thread was made.
     Lost,
 }
 
@@ -34,7 +34,7 @@ impl Told {
     pub(super) fn is_lost(&self) -> bool {
         matches!(
             self,
-            Told::Lost | Told::NotStarted(StartError::Memory) | Told::Shown(Err(ShowError::Memory))
+            Told::Lost | Told::NotStarted(StartError::Memory) | Told::Memory
         )
     }
 
@@ -98,7 +98,7 @@ fn answers_text(alloc: Global, answers: &[Result<Answer, Gone>]) -> Result<Strin
 
 fn shown_text(
     alloc: Global,
-    shown: &Result<(u64, Option<Descriptor>), ShowError>,
+    shown: &Result<(u64, Option<Descriptor>), Gone>,
 ) -> Result<String, AllocError> {
     match shown {
         Err(error) => format!(in alloc; "{error:?}"),

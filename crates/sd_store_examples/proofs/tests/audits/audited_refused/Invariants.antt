@@ -1,5 +1,5 @@
 use Rattle.sd_tree.specs.Journal.{opening_of}
-use Rattle.sd_store_examples.proofs.tests.audits.audited.Given as goal
+use Rattle.sd_store_examples.proofs.tests.audits.audited_refused.Given as goal
 
 -- the store of the root that was just read
 abbrev pub ghosts-audited_at-J-Naming : goal.ghosts-audited_at-J-Naming

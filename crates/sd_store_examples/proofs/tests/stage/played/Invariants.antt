@@ -1,5 +1,5 @@
 use Rattle.sd_tree.specs.Journal.{opening_of}
-use Rattle.sd_store_examples.proofs.tests.stage.run.Given as goal
+use Rattle.sd_store_examples.proofs.tests.stage.played.Given as goal
 
 -- the store of the root that was just read
 abbrev pub ghosts-run_at-J-Naming : goal.ghosts-run_at-J-Naming

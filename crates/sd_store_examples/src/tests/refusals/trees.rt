@@ -1,0 +1,327 @@
+//! Trees, and edits of each kind.
+
+use super::*;
+use crate::tests::step::{Step, edit, root};
+use sd_acl::Descriptor;
+use sd_sid::GenericMapping;
+use sd_text::print_sddl;
+use sd_tree::{Edit, EditRefusal, Path, RootSpec, Tree, TreeError};
+use std::test::Fail;
+
+const ADMINISTRATORS: &str = "O:BAG:SYD:(A;OICI;FA;;;BA)";
+
+/// The edits that make the tree.
+const CONTAINERS: [Step; 3] = [
+    Step::Container("/a", "O:BAG:SYD:"),
+    Step::Container("/a/b", "O:BAG:SYD:"),
+    Step::Container("/a/b/c", "O:BAG:SYD:"),
+];
+
+/// Its nodes.
+const PATHS: [&str; 4] = ["/", "/a", "/a/b", "/a/b/c"];
+
+/// What is done with an edit.
+#[derive(Clone, Copy, Debug, PartialEq, Eq)]
+enum Way {
+    Judge,
+    Prepare,
+    Apply,
+    Copy,
+}
+
+/// An edit of the tree, a node to look at behind it, and its descriptor then, `none`, or the refusal.
+type Row = (Step, &'static str, &'static str);
+
+const EDITS: [Row; 8] = [
+    (
+        Step::Container("/a/d", "O:BAG:SYD:(A;;FR;;;BU)"),
+        "/a/d",
+        "O:BAG:SYD:AI(A;;FR;;;BU)(A;OICIID;FA;;;BA)",
+    ),
+    (
+        Step::Object("/a/o", "O:BAG:SYD:(A;;FR;;;BU)"),
+        "/a/o",
+        "O:BAG:SYD:AI(A;;FR;;;BU)(A;ID;FA;;;BA)",
+    ),
+    (
+        Step::Owner("/a/b", "BU"),
+        "/a/b",
+        "O:BUG:SYD:AI(A;OICIID;FA;;;BA)",
+    ),
+    (
+        Step::Group("/a/b", "BU"),
+        "/a/b",
+        "O:BAG:BUD:AI(A;OICIID;FA;;;BA)",
+    ),
+    (
+        Step::Dacl("/a", "D:P(A;OI;FR;;;BU)"),
+        "/a/b/c",
+        "O:BAG:SYD:AI(A;OIIOID;FR;;;BU)",
+    ),
+    (Step::Remove("/a/b/c"), "/a/b/c", "none"),
+    (Step::Keep("/a/b"), "/a/b", "O:BAG:SYD:PAI(A;OICI;FA;;;BA)"),
+    // So many entries fit, but not with the one that is inherited.
+    (
+        Step::LongDacl("/a", "D:(A;OICI;FA;;;WD)", 3276),
+        "/a",
+        "refused 9 AclTooLarge",
+    ),
+];
+
+/// Edits that are refused without memory, and why.
+const EARLY: [(Step, EditRefusal); 11] = [
+    (
+        Step::Object("/x/y", "D:(A;;FR;;;BU)(D;;FW;;;BU)"),
+        EditRefusal::NoParent,
+    ),
+    (
+        Step::Container("/o/x", "D:(A;ID;FR;;;BU)"),
+        EditRefusal::ParentIsObject,
+    ),
+    (
+        Step::Container("/a", "D:(A;ID;FR;;;BU)"),
+        EditRefusal::Exists,
+    ),
+    (Step::Dacl("/a/x", "D:(A;ID;FR;;;BU)"), EditRefusal::NoNode),
+    (Step::Owner("/a/x", "BU"), EditRefusal::NoNode),
+    (Step::Keep("/a/x"), EditRefusal::NoNode),
+    (Step::Remove("/a/x"), EditRefusal::NoNode),
+    (Step::Remove("/a"), EditRefusal::NotEmpty),
+    (Step::Remove("/"), EditRefusal::NotEmpty),
+    (
+        Step::Dacl("/a", "D:(A;ID;FR;;;BU)"),
+        EditRefusal::InheritedEntry,
+    ),
+    (
+        Step::Object("/a/x", "D:(A;;FR;;;BU)(D;;FW;;;BU)"),
+        EditRefusal::NotCanonical,
+    ),
+];
+
+/// An edit, and the tree that it is of.
+#[derive(Drop)]
+struct Edited {
+    first: Tree,
+    tree: Tree,
+    edit: Edit,
+    way: Way,
+    shown: Path,
+}
+
+/// What was done with it.
+#[derive(Drop)]
+enum Done {
+    Judged(Result<Option<EditRefusal>, AllocError>),
+    Prepared(Result<(), TreeError>),
+    Applied(Result<(), TreeError>),
+    Copied(Result<Edit, AllocError>),
+}
+
+impl Call for Edited {
+    type Answer = Done;
+
+    fn ready(&mut self, _alloc: Global) -> Result<(), AllocError> {
+        self.tree = self.first.copy()?;
+        Ok(())
+    }
+
+    fn made(&mut self, alloc: Global) -> Done {
+        match self.way {
+            Way::Judge => Done::Judged(self.tree.judge(&self.edit)),
+            Way::Prepare => Done::Prepared(prepared(&mut self.tree, &self.edit)),
+            Way::Apply => Done::Applied(self.tree.apply(&self.edit)),
+            Way::Copy => Done::Copied(self.edit.copy(alloc)),
+        }
+    }
+
+    /// The descriptor where the edit was applied, and else `well`, the refusal, or `changed` where the tree isn't as it
+    /// was.
+    fn told(&mut self, alloc: Global, answer: Done) -> Result<String, AllocError> {
+        if let Done::Applied(Ok(())) = &answer {
+            return shown(alloc, &self.tree, &self.shown);
+        }
+        if text_of(alloc, &self.tree)?.as_str() != text_of(alloc, &self.first)?.as_str() {
+            return String::from_str(alloc, "changed");
+        }
+        match answer {
+            Done::Judged(Ok(Some(refusal)))
+            | Done::Prepared(Err(TreeError::Refused(refusal)))
+            | Done::Applied(Err(TreeError::Refused(refusal))) => {
+                format!(in alloc; "refused {} {}", refusal.number(), refusal.name())
+            }
+            Done::Judged(Ok(None)) | Done::Prepared(Ok(_)) => String::from_str(alloc, "well"),
+            Done::Copied(Ok(copy)) => {
+                let same = debug(alloc, &copy)?.as_str() == debug(alloc, &self.edit)?.as_str();
+                String::from_str(alloc, if same { "well" } else { "another" })
+            }
+            _ => String::from_str(alloc, MEMORY),
+        }
+    }
+}
+
+/// Prepares the edit, and commits nothing.
+fn prepared(tree: &mut Tree, edit: &Edit) -> Result<(), TreeError> {
+    match tree.prepare(edit) {
+        Ok(_) => Ok(()),
+        Err(error) => Err(error),
+    }
+}
+
+fn debug(alloc: Global, edit: &Edit) -> Result<String, AllocError> {
+    format!(in alloc; "{edit:?}")
+}
+
+/// The node's descriptor, or `none`.
+fn shown(alloc: Global, tree: &Tree, path: &Path) -> Result<String, AllocError> {
+    described(alloc, tree.descriptor(path)?)
+}
+
+fn described(alloc: Global, descriptor: Option<Descriptor>) -> Result<String, AllocError> {
+    match descriptor {
+        Some(descriptor) => print_sddl(alloc, &descriptor),
+        None => String::from_str(alloc, "none"),
+    }
+}
+
+/// The journal and the nodes, in words.
+fn text_of(alloc: Global, tree: &Tree) -> Result<String, AllocError> {
+    let mut text = String::new(alloc);
+    for edit in tree.journal() {
+        text.push_str(debug(alloc, edit)?.as_str())?;
+    }
+    for path in PATHS {
+        if let Ok(path) = Path::read(alloc, path) {
+            text.push_str(shown(alloc, tree, &path)?.as_str())?;
+        }
+    }
+    Ok(text)
+}
+
+/// The tree of those containers.
+fn tree(alloc: Global) -> Result<Tree, Fail> {
+    let root = root(alloc, ADMINISTRATORS, 1).ok_or("a root")?;
+    let mut tree = Tree::opening(alloc, &GenericMapping::file(), &root)?;
+    for step in CONTAINERS {
+        tree.apply(&edit(alloc, step).ok_or("an edit")?)?;
+    }
+    Ok(tree)
+}
+
+/// The edit of the tree in each way.
+fn expect_all(rt: &(impl Abort + AllocGlobal), tree: &Tree, row: Row) -> Result<(), Fail> {
+    let alloc = rt.alloc();
+    let (step, path, wanted) = row;
+    for way in [Way::Judge, Way::Prepare, Way::Apply, Way::Copy] {
+        let mut edited = Edited {
+            first: tree.copy()?,
+            tree: tree.copy()?,
+            edit: edit(alloc, step).ok_or("an edit")?,
+            way,
+            shown: Path::read(alloc, path)?,
+        };
+        let is_shown = way == Way::Apply || (way != Way::Copy && wanted.starts_with("refused"));
+        expect(rt, &mut edited, if is_shown { wanted } else { "well" });
+    }
+    Ok(())
+}
+
+#[test]
+fn edits_of_each_kind(rt: HostRuntime) -> Result<(), Fail> {
+    let tree = tree(rt.alloc())?;
+    for row in EDITS {
+        expect_all(&rt, &tree, row)?;
+    }
+    Ok(())
+}
+
+#[test]
+fn edits_too_deep(rt: HostRuntime) -> Result<(), Fail> {
+    let alloc = rt.alloc();
+    let mut tree = tree(alloc)?;
+    for names in 2..=64 {
+        tree.apply(&edit(alloc, Step::Nested(names)).ok_or("an edit")?)?;
+    }
+    expect_all(&rt, &tree, (Step::Nested(65), "/a", "refused 10 TooDeep"))
+}
+
+#[test]
+fn early_refusals_take_no_memory(rt: HostRuntime) -> Result<(), Fail> {
+    let alloc = rt.alloc();
+    let mut tree = tree(alloc)?;
+    let object = edit(alloc, Step::Object("/o", "D:")).ok_or("an edit")?;
+    tree.apply(&object)?;
+    for (step, wanted) in EARLY {
+        let edit = edit(alloc, step).ok_or("an edit")?;
+        Refusal::ALL.begin(alloc);
+        let judged = tree.judge(&edit);
+        let prepared = tree.prepare(&edit).err();
+        let applied = tree.apply(&edit);
+        assert!(rt; !Refusal::ended(alloc), "{step:?}");
+        assert_eq!(rt; judged?, Some(wanted), "{step:?}");
+        assert_eq!(rt; prepared, Some(TreeError::Refused(wanted)), "{step:?}");
+        assert_eq!(rt; applied, Err(TreeError::Refused(wanted)), "{step:?}");
+    }
+    assert_eq!(rt; tree.journal().len(), 4);
+    Ok(())
+}
+
+/// A call that makes a tree of another value, or a descriptor of one of its nodes.
+#[derive(Drop)]
+enum Whole {
+    Opening(RootSpec),
+    Copying(Tree),
+    Describing(Tree, Path),
+}
+
+#[derive(Drop)]
+enum Made {
+    Opened(Result<Tree, TreeError>),
+    Copied(Result<Tree, AllocError>),
+    Described(Result<Option<Descriptor>, AllocError>),
+}
+
+impl Call for Whole {
+    type Answer = Made;
+
+    fn ready(&mut self, _alloc: Global) -> Result<(), AllocError> {
+        Ok(())
+    }
+
+    fn made(&mut self, alloc: Global) -> Made {
+        match self {
+            Whole::Opening(root) => {
+                Made::Opened(Tree::opening(alloc, &GenericMapping::file(), root))
+            }
+            Whole::Copying(tree) => Made::Copied(tree.copy()),
+            Whole::Describing(tree, path) => Made::Described(tree.descriptor(path)),
+        }
+    }
+
+    fn told(&mut self, alloc: Global, answer: Made) -> Result<String, AllocError> {
+        match answer {
+            Made::Opened(Ok(tree)) => shown(alloc, &tree, &Path::root(alloc)),
+            Made::Opened(Err(TreeError::Refused(refusal))) => {
+                String::from_str(alloc, refusal.name())
+            }
+            Made::Copied(Ok(tree)) => text_of(alloc, &tree),
+            Made::Described(Ok(descriptor)) => described(alloc, descriptor),
+            _ => String::from_str(alloc, MEMORY),
+        }
+    }
+}
+
+#[test]
+fn whole_trees(rt: HostRuntime) -> Result<(), Fail> {
+    let alloc = rt.alloc();
+    let opened = "O:BAG:SYD:AI(A;OICI;FA;;;BA)";
+    let given = root(alloc, ADMINISTRATORS, 1).ok_or("a root")?;
+    expect(&rt, &mut Whole::Opening(given), opened);
+    let given = root(alloc, "O:BAG:SYD:(A;;FA;;;WD)", 3277).ok_or("a root")?;
+    expect(&rt, &mut Whole::Opening(given), "AclTooLarge");
+    let text = text_of(alloc, &tree(alloc)?)?;
+    expect(&rt, &mut Whole::Copying(tree(alloc)?), text.as_str());
+    let inherited = "O:BAG:SYD:AI(A;OICIID;FA;;;BA)";
+    let path = Path::read(alloc, "/a/b/c")?;
+    expect(&rt, &mut Whole::Describing(tree(alloc)?, path), inherited);
+    Ok(())
+}
