@@ -15,11 +15,13 @@
 
 mod access;
 mod filter;
+mod grounds;
 mod laws;
 mod request;
 mod token;
 
-pub use access::DaclRef;
+pub use access::{DaclRef, subject_of};
+pub use grounds::{Implied, Pass, implied_to, takes_part};
 pub use laws::{
     enabled_group_takes_nothing, entries_grant_rights_alone, first_entry_decides,
     grants_what_was_asked, maximum_is_each_by_itself, nobody_restricts_nothing,
