@@ -2,5 +2,6 @@ pub mod Token
 pub mod Filter
 pub mod Check
 pub mod Dacl
+pub mod Grounds
 pub mod Walk
 pub mod Laws

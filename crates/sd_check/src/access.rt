@@ -5,7 +5,7 @@ ghost use Rattle.sd_sid.specs.Mask.{holds, mask_of};
 ghost use Rattle.sd_acl.specs.Verdict.{limits_owner, is_implied, most_of};
 ghost use Rattle.sd_check.specs.Token.{is_owner};
 ghost use Rattle.sd_check.specs.Check.{is_listed, is_given, is_granted, answer_of};
-ghost use Rattle.sd_check.specs.Dacl.{entries_of};
+ghost use Rattle.sd_check.specs.Dacl.{lent_entries};
 ghost use Rattle.sd_acl.specs.Verdict as rules;
 
 use crate::token::Token;
@@ -21,7 +21,14 @@ pub enum DaclRef<'a> {
     Null,
     /// These entries, in this order.
     List(&'a [Ace]),
-    /// These entries, the first part before the second, as one list.
+}
+
+/// The same, where a list may also stand in two parts, the first before the second.
+#[derive(Clone, Copy)]
+pub(crate) enum LentDacl<'a> {
+    Absent,
+    Null,
+    List(&'a [Ace]),
     Joined(&'a [Ace], &'a [Ace]),
 }
 
@@ -44,7 +51,7 @@ const MAXIMUM_PLACE: u32 = 25;
 #[derive(Clone, Copy)]
 pub(crate) struct Access<'a> {
     pub owner: &'a Option<Sid>,
-    pub dacl: DaclRef<'a>,
+    pub dacl: LentDacl<'a>,
     pub mapping: &'a GenericMapping,
     pub token: &'a Token,
 }
@@ -54,15 +61,15 @@ impl Access<'_> {
     fn granted_by_dacl(&self, wanted: Mask) -> Mask
         ensures { result ≡ mask_of
             (λ b. holds wanted b
-            && (is_listed self.now.owner.now (entries_of self.now.dacl) self.now.mapping.now self.now.token.now b
-            || is_implied (is_owner self.now.token.now self.now.owner.now && not (limits_owner (entries_of self.now.dacl))) false false b))
+            && (is_listed self.now.owner.now (lent_entries self.now.dacl) self.now.mapping.now self.now.token.now b
+            || is_implied (is_owner self.now.token.now self.now.owner.now && not (limits_owner (lent_entries self.now.dacl))) false false b))
             32 }
     {
         match self.dacl {
-            DaclRef::Absent => wanted.common(OBJECT_RIGHTS),
-            DaclRef::Null => wanted.common(OBJECT_RIGHTS),
-            DaclRef::List(entries) => self.granted_by_list(entries, &[], wanted),
-            DaclRef::Joined(front, back) => self.granted_by_list(front, back, wanted),
+            LentDacl::Absent => wanted.common(OBJECT_RIGHTS),
+            LentDacl::Null => wanted.common(OBJECT_RIGHTS),
+            LentDacl::List(entries) => self.granted_by_list(entries, &[], wanted),
+            LentDacl::Joined(front, back) => self.granted_by_list(front, back, wanted),
         }
     }
 
@@ -119,7 +126,7 @@ impl Access<'_> {
 
     /// Of the bits that are wanted, those that are granted.
     fn granted(&self, wanted: Mask) -> Mask
-        ensures { result ≡ mask_of (λ b. holds wanted b && is_granted self.now.owner.now (entries_of self.now.dacl) self.now.mapping.now self.now.token.now b) 32 }
+        ensures { result ≡ mask_of (λ b. holds wanted b && is_granted self.now.owner.now (lent_entries self.now.dacl) self.now.mapping.now self.now.token.now b) 32 }
     {
         let privileged = wanted.common(self.privileged());
         self.granted_by_dacl(wanted).union(privileged)
@@ -127,13 +134,13 @@ impl Access<'_> {
 
     /// What MAXIMUM_ALLOWED takes in, where `granted` are those of the wanted bits that are granted.
     fn most(&self, granted: Mask) -> Mask
-        ensures { result ≡ most_of self.now.mapping.now (holds granted) (is_given self.now.owner.now (entries_of self.now.dacl) self.now.token.now) (entries_of self.now.dacl) }
+        ensures { result ≡ most_of self.now.mapping.now (holds granted) (is_given self.now.owner.now (lent_entries self.now.dacl) self.now.token.now) (lent_entries self.now.dacl) }
     {
         match self.dacl {
-            DaclRef::Absent => self.most_without_a_list(),
-            DaclRef::Null => self.most_without_a_list(),
-            DaclRef::List(_) => granted.common(OBJECT_RIGHTS),
-            DaclRef::Joined(_, _) => granted.common(OBJECT_RIGHTS),
+            LentDacl::Absent => self.most_without_a_list(),
+            LentDacl::Null => self.most_without_a_list(),
+            LentDacl::List(_) => granted.common(OBJECT_RIGHTS),
+            LentDacl::Joined(_, _) => granted.common(OBJECT_RIGHTS),
         }
     }
 
@@ -147,7 +154,7 @@ impl Access<'_> {
 
     /// The verdict on a request that isn't empty and has no reserved bit.
     pub(crate) fn answer(&self, asked: Mask) -> Verdict
-        ensures { result ≡ answer_of self.now.owner.now (entries_of self.now.dacl) self.now.mapping.now self.now.token.now asked }
+        ensures { result ≡ answer_of self.now.owner.now (lent_entries self.now.dacl) self.now.mapping.now self.now.token.now asked }
     {
         let wanted = self.mapping.map(asked.minus(MAXIMUM_ALLOWED));
         if asked.holds(MAXIMUM_PLACE) {

@@ -1,6 +1,6 @@
 //! The check as its rules are told, each bit by itself and each group looked at: what the one walk is tried against.
 
-use crate::{DaclRef, GroupState, Privileges, Token, Verdict, check_parts};
+use crate::{DaclRef, GroupState, Privileges, Token, Verdict, check_joined, check_parts};
 use bitflags::Flags;
 use sd_acl::{Ace, AceFlags, AceKind};
 use sd_sid::{GenericMapping, Mask, Sid};
@@ -115,18 +115,16 @@ impl Access<'_> {
         Verdict::Granted(Mask(granted))
     }
 
-    fn walked(&self, list: DaclRef<'_>, token: &Token, asked: u32) -> Verdict {
-        let mapping = GenericMapping::file();
-        check_parts(Some(*self.owner), list, &mapping, token, Mask(asked))
-    }
-
     /// Whether the walk gives the same answer, for the whole list and for it in two parts, wherever it is cut.
     fn agrees_on(&self, token: &Token, asked: u32) -> bool {
-        let answer = self.answer(asked);
-        let mut agree = self.walked(DaclRef::List(self.entries), token, asked) == answer;
+        let mapping = GenericMapping::file();
+        let (answer, asked) = (self.answer(asked), Mask(asked));
+        let owner = Some(*self.owner);
+        let list = DaclRef::List(self.entries);
+        let mut agree = check_parts(owner, list, &mapping, token, asked) == answer;
         for place in 0..=self.entries.len() {
             let (front, back) = self.entries.split_at(place);
-            agree &= self.walked(DaclRef::Joined(front, back), token, asked) == answer;
+            agree &= check_joined(owner, front, back, &mapping, token, asked) == answer;
         }
         agree
     }

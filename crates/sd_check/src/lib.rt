@@ -15,20 +15,23 @@
 
 mod access;
 mod filter;
+mod grounds;
 mod laws;
 mod request;
 mod token;
 mod walk;
 
 pub use access::DaclRef;
+pub use grounds::{Implied, Pass, implied_to, takes_part};
 pub use laws::{
     enabled_group_takes_nothing, entries_grant_rights_alone, first_entry_decides,
     grants_what_was_asked, maximum_is_each_by_itself, nobody_restricts_nothing,
     order_of_restricting_sids_is_free, restriction_only_takes_away, silent_entry_changes_nothing,
 };
-pub use request::{check, check_parts};
+pub use request::{check, check_joined, check_parts};
 pub use sd_acl::Verdict;
 pub use token::{GroupState, Privileges, Token};
+pub use walk::subject_of;
 
 #[cfg(test)]
 mod bit_by_bit;

@@ -1,12 +1,12 @@
 //! The answer to a request.
 
-ghost use Rattle.std.specs.Prelude.{◌≡◌};
+ghost use Rattle.std.specs.Prelude.{◌≡◌, ◌++◌, Some};
 ghost use Rattle.sd_check.specs.Check.{verdict};
-ghost use Rattle.sd_check.specs.Dacl.{entries_of, dacl_entries};
+ghost use Rattle.sd_check.specs.Dacl.{entries_of, lent_entries, dacl_entries};
 
-use crate::access::{Access, DaclRef};
+use crate::access::{Access, DaclRef, LentDacl};
 use crate::token::Token;
-use sd_acl::{Dacl, Descriptor, Verdict};
+use sd_acl::{Ace, Dacl, Descriptor, Verdict};
 use sd_sid::{GenericMapping, Mask, Sid};
 
 /// The bits of a request that no check answers.
@@ -22,9 +22,9 @@ pub fn check(
     ensures { result ≡ verdict descriptor.now.owner (dacl_entries descriptor.now.dacl) mapping.now token.now asked }
 {
     let dacl = match &descriptor.dacl {
-        Dacl::Absent => DaclRef::Absent,
-        Dacl::Null => DaclRef::Null,
-        Dacl::List(list) => DaclRef::List(list.entries()),
+        Dacl::Absent => LentDacl::Absent,
+        Dacl::Null => LentDacl::Null,
+        Dacl::List(list) => LentDacl::List(list.entries()),
     };
     judge(&descriptor.owner, dacl, mapping, token, asked)
 }
@@ -39,18 +39,38 @@ pub fn check_parts(
 ) -> Verdict
     ensures { result ≡ verdict owner (entries_of dacl.entry) mapping.now token.now asked }
 {
+    let dacl = match dacl {
+        DaclRef::Absent => LentDacl::Absent,
+        DaclRef::Null => LentDacl::Null,
+        DaclRef::List(entries) => LentDacl::List(entries),
+    };
     judge(&owner, dacl, mapping, token, asked)
+}
+
+/// The same for a list in two parts, as a node's own entries and those that it inherits: the first before the second, and
+/// neither copied.
+pub fn check_joined(
+    owner: Option<Sid>,
+    front: &[Ace],
+    back: &[Ace],
+    mapping: &GenericMapping,
+    token: &Token,
+    asked: Mask,
+) -> Verdict
+    ensures { result ≡ verdict owner (Some (front.now ++ back.now)) mapping.now token.now asked }
+{
+    judge(&owner, LentDacl::Joined(front, back), mapping, token, asked)
 }
 
 /// The same, for an owner that is lent.
 fn judge(
     owner: &Option<Sid>,
-    dacl: DaclRef<'_>,
+    dacl: LentDacl<'_>,
     mapping: &GenericMapping,
     token: &Token,
     asked: Mask,
 ) -> Verdict
-    ensures { result ≡ verdict owner.now (entries_of dacl.entry) mapping.now token.now asked }
+    ensures { result ≡ verdict owner.now (lent_entries dacl.entry) mapping.now token.now asked }
 {
     if asked.is_empty() {
         return Verdict::EmptyRequest;

@@ -1,6 +1,9 @@
 //! One verdict of each kind. The worked examples of docs/CHECK.md are run from their texts, by the command line's tests.
 
-use crate::{DaclRef, GroupState, Privileges, Token, Verdict, check, check_parts};
+use crate::{
+    DaclRef, GroupState, Pass, Privileges, Token, Verdict, check, check_parts, implied_to,
+    subject_of, takes_part,
+};
 use bitflags::Flags;
 use sd_acl::{Ace, AceFlags, AceKind, AceList, Dacl, Descriptor};
 use sd_sid::{GenericMapping, Mask, Sid};
@@ -95,5 +98,23 @@ fn answers_a_restricted_token(rt: HostRuntime) -> Result<(), Fail> {
             "{asked:x}"
         );
     }
+    Ok(())
+}
+
+#[test]
+fn tells_the_grounds(rt: HostRuntime) -> Result<(), Fail> {
+    let user = Sid::new(5, &[21, 1, 2, 3, 1001])?;
+    let restricted = Sid::new(5, &[12])?;
+    let owner_rights = Sid::new(3, &[4])?;
+    let sids = vec![in rt.alloc(); restricted]?;
+    let token = Token::restricted(user, Vec::new(rt.alloc()), sids, Privileges::default());
+    assert!(rt; token.is_restricted());
+    let mine = entry(AceKind::Allow, 0x1, user);
+    let owner = Some(user);
+    assert!(rt; takes_part(&token, &owner, Pass::First, &mine));
+    assert!(rt; !takes_part(&token, &owner, Pass::Second, &mine));
+    let other = Some(restricted);
+    assert_eq!(rt; subject_of(&other, &owner_rights).copied(), other);
+    assert!(rt; !implied_to(&owner, DaclRef::Null, &token).owner);
     Ok(())
 }

@@ -134,7 +134,7 @@ impl Token {
 
     /// Whether restricting SIDs stand in the token.
     #[inline]
-    pub(crate) fn is_restricted(&self) -> bool
+    pub fn is_restricted(&self) -> bool
         ensures { result ≡ is_restricted self.now }
     {
         !self.restricting.is_empty()

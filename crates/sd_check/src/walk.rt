@@ -16,7 +16,7 @@ use sd_sid::{Mask, Sid};
 
 /// Whether an entry of the kind for the SID applies ([MS-DTYP] 2.5.3.1).
 #[inline(always)]
-fn applies_to(token: &Token, owner: &Option<Sid>, kind: AceKind, sid: &Sid) -> bool
+pub(crate) fn applies_to(token: &Token, owner: &Option<Sid>, kind: AceKind, sid: &Sid) -> bool
     ensures { result ≡ applies token.now owner.now kind sid.now }
 {
     match subject_of(owner, sid) {
@@ -26,7 +26,7 @@ fn applies_to(token: &Token, owner: &Option<Sid>, kind: AceKind, sid: &Sid) -> b
 }
 
 /// Whether an entry for the SID applies in the second pass, where its kind has no part in that.
-fn applies_again_to(token: &Token, owner: &Option<Sid>, kind: AceKind, sid: &Sid) -> bool
+pub(crate) fn applies_again_to(token: &Token, owner: &Option<Sid>, kind: AceKind, sid: &Sid) -> bool
     ensures { result ≡ applies_again token.now owner.now kind sid.now }
 {
     match subject_of(owner, sid) {
@@ -102,7 +102,7 @@ fn are_over(first: &Settled, second: &Settled, kept: Mask) -> bool
 }
 
 /// Whom an entry for the SID speaks of: OWNER RIGHTS is the owner, or nobody where there is none.
-fn subject_of<'a>(owner: &'a Option<Sid>, sid: &'a Sid) -> Option<&'a Sid>
+pub fn subject_of<'a>(owner: &'a Option<Sid>, sid: &'a Sid) -> Option<&'a Sid>
     ensures { option_copied result ≡ subject owner.now sid.now }
 {
     if sid.is_owner_rights() {
@@ -113,7 +113,7 @@ fn subject_of<'a>(owner: &'a Option<Sid>, sid: &'a Sid) -> Option<&'a Sid>
 }
 
 /// Whether the entry is effective, and limits the owner ([MS-DTYP] 2.5.3.2).
-fn limits_owner(entry: &Ace) -> bool
+pub(crate) fn limits_owner(entry: &Ace) -> bool
     ensures { result ≡ is_limit entry.now }
 {
     !entry.is_inherit_only() && entry.sid.is_owner_rights()

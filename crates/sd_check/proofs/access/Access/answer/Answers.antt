@@ -4,14 +4,14 @@ use Rattle.std.proofs.lemmas.Bool.{cond-true, cond-false}
 use Rattle.sd_sid.specs.Mapping.{mapped}
 use Rattle.sd_acl.specs.Verdict.{missing_of, joined_with, most_of, plain_verdict, maximum_verdict}
 use Rattle.sd_check.specs.Check.{is_given, is_granted}
-use Rattle.sd_check.specs.Dacl.{entries_of}
+use Rattle.sd_check.specs.Dacl.{lent_entries}
 use Rattle.sd_check.proofs.Answered.{maximum_is, missing_is}
 use Rattle.sd_check.proofs.access.Access.answer.Goals as goal
 
 pub returns-then-holds : goal.returns-then-holds
 returns-then-holds c =
     let access = c.args.self.now in
-    let dacl = entries_of access.dacl in
+    let dacl = lent_entries access.dacl in
     let granted = is_granted access.owner.now dacl access.mapping.now access.token.now in
     let given = is_given access.owner.now dacl access.token.now in
     c.maximum_verdict.ensures
@@ -24,7 +24,7 @@ returns-then-holds c =
 pub returns-else-holds : goal.returns-else-holds
 returns-else-holds c =
     let access = c.args.self.now in
-    let granted = is_granted access.owner.now (entries_of access.dacl) access.mapping.now access.token.now in
+    let granted = is_granted access.owner.now (lent_entries access.dacl) access.mapping.now access.token.now in
     c.plain_verdict.ensures
     ∙ ap (plain_verdict c.map-wanted.result) (missing_is granted c.map-wanted.result c.granted.result c.minus-else-holds.result c.granted.ensures c.minus-else-holds.ensures)
     ∙ ap (λ q. plain_verdict q (missing_of granted q)) (c.map-wanted.ensures ∙ ap (mapped access.mapping.now) c.minus.ensures)

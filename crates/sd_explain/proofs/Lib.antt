@@ -1,0 +1,6 @@
+pub mod Findings
+pub mod Bits
+pub mod Causes
+pub mod Told
+pub mod PartLaws
+pub mod ReasonLaws

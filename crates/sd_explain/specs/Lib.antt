@@ -1,0 +1,3 @@
+pub mod Reasons
+pub mod Parts
+pub mod Laws

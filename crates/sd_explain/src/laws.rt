@@ -1,0 +1,37 @@
+//! What follows from the definitions of reasons and parts. Each law is the contract of a function that does nothing.
+
+ghost use Rattle.sd_explain.specs.Laws.{AllowedNamesFirst, DeniedNamesFirst, NoEntryWhereNone, FirstPassHasSubject, SecondPassHasSubject, NamedCauseIsDue, MaximumCauseIsDue, PartsAreApart, EachBitHasItsPart, PartsHoldTheirCause, ReasonsJoinToRequest, GrantedAreTheParts};
+
+/// The entry that a finding names is the first that settles the bit, at that place of the list; none is named just where
+/// there is none ([MS-DTYP] 2.5.3.2).
+pub fn findings_name_first_entries()
+    ensures allowed { AllowedNamesFirst }
+    ensures denied { DeniedNamesFirst }
+    ensures none { NoEntryWhereNone }
+{}
+
+/// An entry that settles a bit speaks of a SID that the token stands for in that pass: its own, or the owner's where it
+/// is for OWNER RIGHTS, as `subject_of` of `sd_check` tells ([MS-DTYP] 2.5.3.1).
+pub fn findings_have_a_subject()
+    ensures first { FirstPassHasSubject }
+    ensures second { SecondPassHasSubject }
+{}
+
+/// A cause grants its bit just where the check does.
+pub fn causes_are_due()
+    ensures named { NamedCauseIsDue }
+    ensures maximum { MaximumCauseIsDue }
+{}
+
+/// Each bit with a reason is in just one part, with the bits of its cause and no others.
+pub fn parts_are_apart_and_whole()
+    ensures apart { PartsAreApart }
+    ensures each { EachBitHasItsPart }
+    ensures alone { PartsHoldTheirCause }
+{}
+
+/// The parts join to the mapped request, and those that are granted to what is granted.
+pub fn parts_join()
+    ensures request { ReasonsJoinToRequest }
+    ensures granted { GrantedAreTheParts }
+{}

@@ -1,0 +1,26 @@
+//! Why a request is granted or denied: [MS-DTYP] 2.5.3.2, bit by bit.
+//!
+//! `explain` answers what `check_parts` of `sd_check` does, and with it the reason of each bit: the first entry that
+//! settles it, in each pass, or what is granted without an entry. It takes no memory. The rules are told in docs/CHECK.md.
+//!
+//! ```text
+//! let explanation = explain(owner, dacl, &GenericMapping::file(), &token, Mask(0x0012_0116));
+//! explanation.verdict(); // Denied { missing: 0x116 }
+//! explanation.part(1);   // Some(Part { mask: 0x116, cause: Cause::Listed(Finding::Denied(0)) })
+//! ```
+#![tactic(auto)]
+
+mod explanation;
+mod laws;
+mod question;
+mod reason;
+
+pub use explanation::{Explanation, PLACES, Part, explain};
+pub use laws::{
+    causes_are_due, findings_have_a_subject, findings_name_first_entries,
+    parts_are_apart_and_whole, parts_join,
+};
+pub use reason::{Cause, Finding, Reason, Share};
+
+#[cfg(test)]
+mod tests;
