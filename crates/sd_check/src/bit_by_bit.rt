@@ -115,16 +115,22 @@ impl Access<'_> {
         Verdict::Granted(Mask(granted))
     }
 
+    /// The answer of the walk over the list in two parts.
+    fn walked(&self, front: &[Ace], back: &[Ace], token: &Token, asked: u32) -> Verdict {
+        let mapping = GenericMapping::file();
+        check_joined(Some(*self.owner), front, back, &mapping, token, Mask(asked))
+    }
+
     /// Whether the walk gives the same answer, for the whole list and for it in two parts, wherever it is cut.
     fn agrees_on(&self, token: &Token, asked: u32) -> bool {
         let mapping = GenericMapping::file();
-        let (answer, asked) = (self.answer(asked), Mask(asked));
-        let owner = Some(*self.owner);
+        let answer = self.answer(asked);
         let list = DaclRef::List(self.entries);
-        let mut agree = check_parts(owner, list, &mapping, token, asked) == answer;
+        let whole = check_parts(Some(*self.owner), list, &mapping, token, Mask(asked));
+        let mut agree = whole == answer;
         for place in 0..=self.entries.len() {
             let (front, back) = self.entries.split_at(place);
-            agree &= check_joined(owner, front, back, &mapping, token, asked) == answer;
+            agree &= self.walked(front, back, token, asked) == answer;
         }
         agree
     }
