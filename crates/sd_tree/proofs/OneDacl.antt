@@ -6,7 +6,7 @@ use Rattle.sd_sid.specs.Mapping.{MappingValue}
 use Rattle.sd_sid.specs.Sid.{SidValue, same_sid}
 use Rattle.sd_acl.specs.declared.ace.Ace.{Ace}
 use Rattle.sd_tree.specs.Inheritance.{object_inherit, container_inherit, no_propagate, creator_owner, creator_group, created_by, effective_copy, waiting_copy, whole_copy, is_split, pass_on, handed_on, dacl_under, dacl_of_row}
-use Rattle.sd_tree.specs.Sharing.{names_creator, HaveOneDacl}
+use Rattle.sd_tree.specs.Sharing.{names_creator, trustees_matter, AreAlike, HaveOneDacl}
 use Rattle.sd_tree.specs.declared.node.NodeKind.{NodeKind}
 use Rattle.sd_tree.specs.declared.node.NodeKind.TheVariants.{Container, Object}
 use Rattle.sd_tree.specs.declared.node.NodeDacl.{NodeDacl}
@@ -22,13 +22,8 @@ one_by_handed : (one other : Row) (above : Option (List Ace)) → one.dacl ≡ E
 one_by_handed one other above is-one is-other same g =
     inherited g one above is-one ∙ ap (λ xs. Some ([] ++ xs)) (same g) ∙ sym (inherited g other above is-other)
 
--- ---- below a null DACL
-pub one_below_null : (one other : Row) (above : Option (List Ace)) → one.dacl ≡ Entries false [] → other.dacl ≡ Entries false [] → above ≡ None → HaveOneDacl one other above
-one_below_null one other above is-one is-other none =
-    one_by_handed one other above is-one is-other (λ g. ap (handed_on g one) none ∙ sym (ap (handed_on g other) none))
-
 -- ---- of one kind, owner and group
-pub one_by_trustees : (one other : Row) (above : Option (List Ace)) → one.dacl ≡ Entries false [] → other.dacl ≡ Entries false []
+one_by_trustees : (one other : Row) (above : Option (List Ace)) → one.dacl ≡ Entries false [] → other.dacl ≡ Entries false []
     → one.kind ≡ other.kind → one.owner ≡ other.owner → one.group ≡ other.group → HaveOneDacl one other above
 one_by_trustees one other None is-one is-other kind owner group = one_by_handed one other None is-one is-other (λ g. refl)
 one_by_trustees one other (Some es) is-one is-other kind owner group =
@@ -70,11 +65,18 @@ handed_alike g kind owner group other_owner other_group (e ∷ es) h =
     (pass_alike g kind owner group other_owner other_group e (no_creator (same_sid e.sid creator_owner) (same_sid e.sid creator_group) parts.0 owner group other_owner other_group e.sid))
     (handed_alike g kind owner group other_owner other_group es parts.1)
 
-pub one_without_creators : (one other : Row) (above : Option (List Ace)) (es : List Ace) → one.dacl ≡ Entries false [] → other.dacl ≡ Entries false []
-    → one.kind ≡ other.kind → above ≡ Some es → list_any names_creator es ≡ false → HaveOneDacl one other above
-one_without_creators one other above es is-one is-other kind some none =
-    one_by_handed one other above is-one is-other (λ g.
-    ap (handed_on g one) some
-    ∙ handed_alike g one.kind one.owner one.group other.owner other.group es none
-    ∙ ap (λ k. flat_map (pass_on g k other.owner other.group) es) kind
-    ∙ sym (ap (handed_on g other) some))
+one_without_creators : (one other : Row) (above : Option (List Ace)) → one.dacl ≡ Entries false [] → other.dacl ≡ Entries false []
+    → one.kind ≡ other.kind → trustees_matter above ≡ false → HaveOneDacl one other above
+one_without_creators one other None is-one is-other kind none = one_by_handed one other None is-one is-other (λ g. refl)
+one_without_creators one other (Some es) is-one is-other kind none =
+    one_by_handed one other (Some es) is-one is-other (λ g.
+    handed_alike g one.kind one.owner one.group other.owner other.group es none
+    ∙ ap (λ k. flat_map (pass_on g k other.owner other.group) es) kind)
+
+-- ---- what the code asks of two rows
+pub alike_have_one : (one other : Row) (above : Option (List Ace)) (by_trustees : Bool) → AreAlike one other by_trustees
+    → (by_trustees ≡ false → trustees_matter above ≡ false) → HaveOneDacl one other above
+alike_have_one one other above true h none =
+    let same = h.trustees refl in
+    one_by_trustees one other above h.one_inherits h.other_inherits h.kind same.0 same.1
+alike_have_one one other above false h none = one_without_creators one other above h.one_inherits h.other_inherits h.kind (none refl)

@@ -1,5 +1,6 @@
 -- Which nodes have one list. No public contract says so.
-use Rattle.std.specs.Prelude.{◌≡◌, ℕ, ◌-◌, ◌<◌, ◌≤◌, Bool, ◌||◌, false, List, length, slice_index_or, Option}
+use Rattle.std.specs.Prelude.{◌≡◌, ℕ, ◌-◌, ◌<◌, ◌≤◌, Bool, ◌||◌, true, false, List, [], length, slice_index_or, Option, Some, None}
+use Rattle.std.specs.List.{list_any}
 use Rattle.sd_sid.specs.Mapping.{MappingValue}
 use Rattle.sd_sid.specs.Sid.{same_sid}
 use Rattle.sd_acl.specs.declared.ace.Ace.{Ace}
@@ -7,11 +8,25 @@ use Rattle.sd_path.specs.Names.{Names, up, is_root}
 use Rattle.sd_tree.specs.Inheritance.{creator_owner, creator_group, dacl_of_row}
 use Rattle.sd_tree.specs.Refusals.{dacl_size}
 use Rattle.sd_tree.specs.Stored.{Boxed, path_of_node}
+use Rattle.sd_tree.specs.declared.node.NodeDacl.TheVariants.{List as Entries}
 use Rattle.sd_tree.specs.declared.node.Row.{Row}
 
 -- the entry is for CREATOR OWNER or CREATOR GROUP
 abbrev pub names_creator : Ace → Bool
 names_creator e = same_sid e.sid creator_owner || same_sid e.sid creator_group
+
+-- whether a child's owner and group tell in what it inherits of a DACL
+abbrev pub trustees_matter : Option (List Ace) → Bool
+trustees_matter None = false
+trustees_matter (Some entries) = list_any names_creator entries
+
+-- nothing tells two rows apart in what their nodes inherit, but owner and group where these aren't compared; neither has
+-- entries of its own
+pub record AreAlike (one other : Row) (by_trustees : Bool) : Type 0 where
+  pub kind : one.kind ≡ other.kind
+  pub one_inherits : one.dacl ≡ Entries false []
+  pub other_inherits : other.dacl ≡ Entries false []
+  pub trustees : by_trustees ≡ true → (one.owner ≡ other.owner) × (one.group ≡ other.group)
 
 -- below a parent with this DACL nodes with the two rows have one DACL
 abbrev pub HaveOneDacl : Row → Row → Option (List Ace) → Type 0

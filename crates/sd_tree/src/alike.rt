@@ -2,7 +2,7 @@
 
 ghost use Rattle.std.specs.Prelude.{◌≡◌, true, false, []};
 ghost use Rattle.std.specs.List.{list_any};
-ghost use Rattle.sd_tree.specs.Sharing.{names_creator, HaveOneDacl};
+ghost use Rattle.sd_tree.specs.Sharing.{names_creator, trustees_matter, AreAlike};
 
 use crate::inherit::{is_creator_group, is_creator_owner};
 use crate::node::{NodeDacl, Row};
@@ -26,19 +26,23 @@ fn names_creator(entries: &[Ace]) -> bool
     entries.iter().any(|entry| is_creator_owner(&entry.sid) || is_creator_group(&entry.sid))
 }
 
-/// Whether nodes with the two rows have one DACL below a parent with that one; `true` only where they have. Owner and
-/// group matter only where an entry of the parent's names a creator.
-pub(crate) fn have_one_dacl(one: &Row, other: &Row, above: &Option<SharedList>) -> bool
-    ensures { result ≡ true → HaveOneDacl one.now other.now above.now }
+/// Whether a parent's DACL has such an entry: then a child's owner and group tell in what it inherits.
+pub(crate) fn trustees_matter(above: &Option<SharedList>) -> bool
+    ensures { result ≡ trustees_matter above.now }
+{
+    match above {
+        None => false,
+        Some(list) => names_creator(list.entries()),
+    }
+}
+
+/// Whether nothing tells the two rows apart in what nodes inherit; `true` only where nothing does. Owner and group are
+/// compared where the caller says so.
+pub(crate) fn are_alike(one: &Row, other: &Row, by_trustees: bool) -> bool
+    ensures { result ≡ true → AreAlike one.now other.now by_trustees }
 {
     if one.kind != other.kind || !only_inherits(&one.dacl) || !only_inherits(&other.dacl) {
         return false;
     }
-    let Some(list) = above else {
-        return true;
-    };
-    if one.owner.is(&other.owner) && one.group.is(&other.group) {
-        return true;
-    }
-    !names_creator(list.entries())
+    !by_trustees || (one.owner.is(&other.owner) && one.group.is(&other.group))
 }

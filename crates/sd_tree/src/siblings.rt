@@ -2,10 +2,10 @@
 
 ghost use Rattle.std.specs.Prelude.{◌≡◌, ◌<◌, ◌≤◌, length, true, false, IfSome};
 ghost use Rattle.sd_path.specs.Names.{is_root};
-ghost use Rattle.sd_tree.specs.Sharing.{IsSibling};
+ghost use Rattle.sd_tree.specs.Sharing.{trustees_matter, IsSibling};
 ghost use Rattle.sd_tree.specs.View.{IsView};
 
-use crate::alike::have_one_dacl;
+use crate::alike::{are_alike, trustees_matter};
 use crate::node::{Node, Row};
 use crate::nodes::locate;
 use crate::shared::SharedList;
@@ -25,14 +25,16 @@ impl TreeView<'_> {
         path: &PathRef<'_>,
         row: &Row,
         above: &Option<SharedList>,
+        by_trustees: bool,
         at: usize,
     ) -> bool
-        requires { at < length self.now.nodes.now }
+        requires place { at < length self.now.nodes.now }
+        requires trustees { by_trustees ≡ false → trustees_matter above.now ≡ false }
         ensures { result ≡ true → IsSibling self.now.nodes.now path.now row.now above.now at }
     {
         let node: &Node = &self.nodes[at];
         let beside = node.path.as_path_ref();
-        if beside.is_root() || !have_one_dacl(node.row.get(), row, above) {
+        if beside.is_root() || !are_alike(node.row.get(), row, by_trustees) {
             return false;
         }
         beside.parent().compare(&path.parent()) == Ordering::Equal
@@ -61,6 +63,30 @@ impl TreeView<'_> {
     }
 
     /// The place of a sibling before a place that has one DACL with the row, if one is found near.
+    fn sibling_among(
+        &self,
+        path: &PathRef<'_>,
+        row: &Row,
+        above: &Option<SharedList>,
+        by_trustees: bool,
+        at: usize,
+    ) -> Option<usize>
+        requires standing { IsView self.now }
+        requires place { at ≤ length self.now.nodes.now }
+        requires trustees { by_trustees ≡ false → trustees_matter above.now ≡ false }
+        ensures { IfSome result (IsSibling self.now.nodes.now path.now row.now above.now) }
+    {
+        let mut near = at;
+        for _ in 0..NEAR {
+            near = self.sibling_before(path, near)?;
+            if self.is_sibling(path, row, above, by_trustees, near) {
+                return Some(near);
+            }
+        }
+        None
+    }
+
+    /// The same: one of the row's owner and group first, and else any, where owner and group don't matter.
     pub(crate) fn sibling_with(
         &self,
         path: &PathRef<'_>,
@@ -72,14 +98,13 @@ impl TreeView<'_> {
         requires place { at ≤ length self.now.nodes.now }
         ensures { IfSome result (IsSibling self.now.nodes.now path.now row.now above.now) }
     {
-        let mut near = at;
-        for _ in 0..NEAR {
-            near = self.sibling_before(path, near)?;
-            if self.is_sibling(path, row, above, near) {
-                return Some(near);
-            }
+        if let Some(found) = self.sibling_among(path, row, above, true, at) {
+            return Some(found);
         }
-        None
+        if trustees_matter(above) {
+            return None;
+        }
+        self.sibling_among(path, row, above, false, at)
     }
 
     /// The same, where the node at the place may be the sibling: what stands at the path, or what comes right behind it.
@@ -94,7 +119,7 @@ impl TreeView<'_> {
         requires place { at ≤ length self.now.nodes.now }
         ensures { IfSome result (IsSibling self.now.nodes.now path.now row.now above.now) }
     {
-        if at < self.nodes.len() && self.is_sibling(path, row, above, at) {
+        if at < self.nodes.len() && self.is_sibling(path, row, above, true, at) {
             return Some(at);
         }
         self.sibling_with(path, row, above, at)

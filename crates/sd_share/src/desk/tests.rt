@@ -6,7 +6,7 @@ use crate::start::StartError;
 use sd_acl::{Ace, AceFlags, AceKind, Dacl, Descriptor, Verdict};
 use sd_check::{GroupState, Privileges, Token};
 use sd_sid::{GenericMapping, Mask, Sid};
-use sd_tree::{CheckReply, Edit, EditRefusal, Entries, NodeDacl, Path, RootSpec};
+use sd_tree::{CheckReply, Edit, EditRefusal, Entries, NodeDacl, Path, RootSpec, Tree};
 use std::alloc::{AllocError, Global};
 use std::test::Fail;
 
@@ -286,6 +286,25 @@ fn refuses_to_start(rt: HostRuntime) -> Result<(), Fail> {
         let error = Desk::start(rt.alloc(), &file, &root, readers).err();
         assert_eq!(rt; error, Some(wanted), "{readers}");
         assert_eq!(rt; wanted.number(), number, "{readers}");
+    }
+    Ok(())
+}
+
+#[test]
+fn two_trees_share_an_edit(rt: HostRuntime) -> Result<(), Fail> {
+    let administrators = Sid::new(5, &[32, 544])?;
+    let entries = [allow(AceFlags::OI | AceFlags::CI, ALL, administrators)];
+    let root = root(rt.alloc(), &entries).ok_or("a root")?;
+    let mut first = Tree::opening(rt.alloc(), &GenericMapping::file(), &root)?;
+    let mut second = Tree::opening(rt.alloc(), &GenericMapping::file(), &root)?;
+    let edit = edit(rt.alloc(), Line::Object("/a")).ok_or("an edit")?;
+    let prepared = first.prepare(&edit)?;
+    second.apply_shared(prepared.edit())?;
+    first.commit(prepared);
+    assert_eq!(rt; first.len(), 1);
+    assert_eq!(rt; second.len(), 1);
+    for edit in second.journal() {
+        assert!(rt; matches!(edit.get(), Edit::AddObject { .. }));
     }
     Ok(())
 }

@@ -1,4 +1,4 @@
-use Rattle.std.proofs.Common.{◌<◌, ap, arith}
+use Rattle.std.proofs.Common.{◌<◌, arith}
 use Rattle.std.specs.FinMap.{len}
 use Rattle.sd_tree.specs.Journal.{replay}
 use Rattle.sd_tree.proofs.Stands.{nodes_of_tree}
