@@ -1,6 +1,7 @@
 //! The command line over streams in memory: what it prints, where, and with which status.
 
 mod answers;
+mod each_call;
 mod help;
 mod scripts;
 mod streams;

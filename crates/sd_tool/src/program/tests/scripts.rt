@@ -1,7 +1,6 @@
 //! Scripts on standard input.
 
 use super::*;
-use std::io::ErrorKind;
 
 /// A change that reaches three levels down, and each command with faults between them.
 const SCRIPTS: [(&str, &str); 2] = [
@@ -79,8 +78,6 @@ fault words
 
 const SCRIPT: [&str; 2] = ["sdstore", "script"];
 
-const AUDIT: [&str; 3] = ["sdstore", "audit", "2"];
-
 /// A script whose checks are kept to the end by an audit, and what is printed after the line of its opening.
 const AUDITED: (&str, &str) = (
     "\
@@ -126,34 +123,4 @@ fn answers_audits_alike(rt: HostRuntime) -> Result<(), Fail> {
         }
     }
     Ok(())
-}
-
-/// A reader that is interrupted at its first call.
-#[derive(Drop)]
-struct Interrupted;
-
-impl Read for Interrupted {
-    fn read(&mut self, _buf: &mut [u8]) -> io::Result<usize> {
-        Err(io::Error::from(ErrorKind::Interrupted))
-    }
-}
-
-#[test]
-fn tells_of_a_reader_that_fails(rt: HostRuntime) {
-    for words in [SCRIPT.as_slice(), AUDIT.as_slice()] {
-        let ended = run_over(&rt, words, Interrupted);
-        assert_eq!(rt; ended.status, 3);
-        assert!(rt; ended.output.is_empty());
-        assert_eq!(rt; ended.errors.as_slice(), b"sdstore: read\n".as_slice());
-    }
-}
-
-#[test]
-fn tells_of_a_script_that_is_too_long(rt: HostRuntime) {
-    for words in [SCRIPT.as_slice(), AUDIT.as_slice()] {
-        let ended = run_over(&rt, words, io::repeat(b'#'));
-        assert_eq!(rt; ended.status, 3);
-        assert!(rt; ended.output.is_empty());
-        assert_eq!(rt; ended.errors.as_slice(), b"sdstore: too long\n".as_slice());
-    }
 }

@@ -54,27 +54,21 @@ impl Write for Failing {
 
 #[test]
 fn tells_of_a_writer_that_fails(rt: HostRuntime) {
-    let rows: [(&[&str], &[u8]); 3] = [
-        (&["sdstore", "verdict", "D:", USER, "zz"], b"fault mask\n"),
-        (&["sdstore", "script"], b"fault open\n"),
-        (&["sdstore", "audit", "2"], b"fault open\n"),
-    ];
-    for (words, answer) in rows {
-        for fault in [Fault::Refuses, Fault::IsInterrupted, Fault::TakesNothing] {
-            for calls in 0..11 {
-                let mut writer = Watched::new(Failing::after(rt.alloc(), calls, fault));
-                let mut errors = Watched::new(Vec::new(rt.alloc()));
-                let input = &mut Watched::new(b"tell".as_slice());
-                let status = drive(&rt, rt.alloc(), words, input, &mut writer, &mut errors);
-                assert_eq!(rt; status, 3, "{fault:?} after {calls}");
-                assert_eq!(rt;
-                    errors.into_inner().as_slice(),
-                    b"sdstore: write\n".as_slice()
-                );
-                let writer = writer.into_inner();
-                assert_eq!(rt; writer.taken.len() as u64, calls, "{fault:?}");
-                assert!(rt; answer.starts_with(writer.taken.as_slice()));
-            }
+    let words = ["sdstore", "verdict", "D:", USER, "zz"];
+    for fault in [Fault::Refuses, Fault::IsInterrupted, Fault::TakesNothing] {
+        for calls in 0..11 {
+            let mut writer = Watched::new(Failing::after(rt.alloc(), calls, fault));
+            let mut errors = Watched::new(Vec::new(rt.alloc()));
+            let input = &mut Watched::new(io::empty());
+            let status = drive(&rt, rt.alloc(), &words, input, &mut writer, &mut errors);
+            assert_eq!(rt; status, 3, "{fault:?} after {calls}");
+            assert_eq!(rt;
+                errors.into_inner().as_slice(),
+                b"sdstore: write\n".as_slice()
+            );
+            let writer = writer.into_inner();
+            assert_eq!(rt; writer.taken.len() as u64, calls, "{fault:?}");
+            assert!(rt; b"fault mask\n".starts_with(writer.taken.as_slice()));
         }
     }
 }
