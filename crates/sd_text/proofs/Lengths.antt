@@ -56,15 +56,19 @@ subs_length (sub ∷ subs) words =
     let rest = subs_length subs (All-tail (λ n. n < 2 ^ 32) sub subs words) in
     omega (arith, length-append (sub_canon sub) (flat_map sub_canon subs))
 
+pub full_length : (s : SidValue) → IsSid s → length (full_canon s) ≤ 18 + 11 * length s.subs
+unfolding full_canon
+full_length s is =
+    let authority = authority_length s.authority is.authority in
+    let subs = subs_length s.subs is.words in
+    omega (arith, length-append (authority_canon s.authority) (flat_map sub_canon s.subs))
+
 pub sid_length : (s : SidValue) → IsSid s → length (sid_canon s) ≤ 18 + 11 * length s.subs
-unfolding sid_canon full_canon
+unfolding sid_canon
 sid_length s is = by_alias (alias_in aliases s) refl
   where
     by_alias : (found : Option (List ℕ)) → alias_in aliases s ≡ found → length (unwrap_or found (full_canon s)) ≤ 18 + 11 * length s.subs
-    by_alias None e =
-        let authority = authority_length s.authority is.authority in
-        let subs = subs_length s.subs is.words in
-        omega (arith, length-append (authority_canon s.authority) (flat_map sub_canon s.subs))
+    by_alias None e = full_length s is
     by_alias (Some letters) e = let two = alias_is_pair s letters e in omega arith
 
 -- ---- entries

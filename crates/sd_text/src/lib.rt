@@ -30,7 +30,7 @@ pub use laws::{
     printed_texts_come_back, texts_have_a_value_or_a_fault, texts_have_one_fault,
     texts_have_one_value, texts_never_have_both,
 };
-pub use print::{print_sddl, print_sid};
+pub use print::{print_entry, print_full_sid, print_sddl, print_sid};
 pub use rights::read_mask;
 pub use sid::read_sid_text;
 

@@ -60,6 +60,26 @@ pub fn print_sid(alloc: Global, sid: &Sid) -> Result<String, AllocError>
     Ok(text)
 }
 
+/// The SID in full, though it may have an alias ([MS-DTYP] 2.4.2.1). Fails only for want of memory.
+pub fn print_full_sid(alloc: Global, sid: &Sid) -> Result<String, AllocError>
+    ensures { IfOk result (λ text. string_bytes text ≡ full_canon sid.now) }
+{
+    let mut text = String::with_capacity(alloc, sid_room(sid))?;
+    write_full_sid(&mut text, sid);
+    text.shrink_to_fit();
+    Ok(text)
+}
+
+/// An entry as the canonical text of a descriptor has it ([MS-DTYP] 2.5.1.1). Fails only for want of memory.
+pub fn print_entry(alloc: Global, entry: &Ace) -> Result<String, AllocError>
+    ensures { IfOk result (λ text. string_bytes text ≡ entry_canon entry.now) }
+{
+    let mut text = String::with_capacity(alloc, entry_room(entry))?;
+    write_entry(&mut text, entry);
+    text.shrink_to_fit();
+    Ok(text)
+}
+
 /// Room for the text of a descriptor, of which there is none where nothing is to be printed.
 #[tactic(auto, unfolding(crate::specs::Canon::canon))]
 fn sddl_room(d: &Descriptor) -> usize
@@ -82,9 +102,10 @@ fn section_room(head: &str, sid: &Option<Sid>) -> usize
 }
 
 /// Room for a SID: `S-1-`, 14 letters of an authority, and a dash and ten digits for each sub-authority.
-#[tactic(auto, using(crate::proofs::Lengths::sid_length))]
+#[tactic(auto, using(crate::proofs::Lengths::sid_length, crate::proofs::Lengths::full_length))]
 fn sid_room(sid: &Sid) -> usize
     ensures room { length (sid_canon sid.now) ≤ result }
+    ensures full { length (full_canon sid.now) ≤ result }
     ensures size { result ≡ 18 + 11 * length sid.now.subs }
     ensures most { result ≤ 183 }
 {

@@ -28,9 +28,12 @@ use Rattle.sd_script.specs.Word.{IsToken, IsNoWordIn, texts}
 use Rattle.sd_script.specs.Output.{Prints}
 use Rattle.sd_script.specs.Run.{IsOutput}
 use Rattle.sd_script_audit.specs.Audit.{PrintsAudit}
-use Rattle.sd_tool.specs.CommandLine.{InvocationValue, Verdict as AsksVerdict, Print, ToBinary, FromBinary, Script as AsksScript, Audit as AsksAudit, Help, Version}
+use Rattle.sd_tool.specs.CommandLine.{InvocationValue, Verdict as AsksVerdict, Why as AsksWhy, Print, ToBinary, FromBinary, Script as AsksScript, Audit as AsksAudit, Help, Version}
+use Rattle.sd_tool.specs.Why.{why_text}
 use Rattle.sd_tool.specs.declared.answer.Outcome.{Outcome}
 use Rattle.sd_tool.specs.declared.answer.Outcome.TheVariants.{Done, Refused}
+use Rattle.sd_tool.specs.declared.verdict.Form.{Form}
+use Rattle.sd_tool.specs.declared.verdict.Form.TheVariants.{Short, Explained}
 use Rattle.sd_tool.specs.declared.version.TheConstants.{VERSION, KIT}
 
 -- ---- lines
@@ -59,33 +62,39 @@ IsDone expected printed outcome = (printed ≡ expected) × (outcome ≡ Done)
 abbrev pub IsFault : List ℕ → List ℕ → Outcome → Type 0
 IsFault expected printed outcome = (printed ≡ expected) × (outcome ≡ Refused)
 
--- the verdict is printed
-abbrev pub IsVerdict : Verdict → List ℕ → Outcome → Type 0
-IsVerdict answer printed outcome = (printed ≡ verdict_line answer) × (outcome ≡ verdict_outcome answer)
+-- the verdict's line, or with it the reasons
+abbrev pub form_text : Form → DescriptorValue → TokenValue → ℕ → List ℕ
+form_text Short d token asked = verdict_line (verdict d.owner (dacl_entries d.dacl) file_mapping token asked)
+form_text Explained d token asked = why_text d token asked
+
+-- the verdict is printed, in this form
+abbrev pub IsVerdict : Form → DescriptorValue → TokenValue → ℕ → List ℕ → Outcome → Type 0
+IsVerdict form d token asked printed outcome =
+    (printed ≡ form_text form d token asked) × (outcome ≡ verdict_outcome (verdict d.owner (dacl_entries d.dacl) file_mapping token asked))
 
 -- the first fault of a descriptor's text is printed
 abbrev pub AnswersSddlFault : List ℕ → List ℕ → Outcome → Type 0
 AnswersSddlFault written printed outcome = (fault : TextFault) × (place : ℕ) × HasFault sddl written fault place × IsFault (sddl_fault_line fault place) printed outcome
 
 -- the words make a token, for which this is the verdict; or one of them is no word
-abbrev pub AnswersWords : DescriptorValue → SidValue → ℕ → List (Bor (List ℕ)) → List ℕ → Outcome → Type 0
-AnswersWords d user asked words printed outcome =
-    ((token : TokenValue) × IsToken user (texts words) token × IsVerdict (verdict d.owner (dacl_entries d.dacl) file_mapping token asked) printed outcome)
+abbrev pub AnswersWords : Form → DescriptorValue → SidValue → ℕ → List (Bor (List ℕ)) → List ℕ → Outcome → Type 0
+AnswersWords form d user asked words printed outcome =
+    ((token : TokenValue) × IsToken user (texts words) token × IsVerdict form d token asked printed outcome)
     ⊎ (IsNoWordIn (texts words) × IsFault (fault_line (codes "token")) printed outcome)
 
-abbrev pub AnswersMask : DescriptorValue → SidValue → List ℕ → List (Bor (List ℕ)) → List ℕ → Outcome → Type 0
-AnswersMask d user mask words printed outcome =
-    ((asked : ℕ) × Spells mask_text mask asked × AnswersWords d user asked words printed outcome)
+abbrev pub AnswersMask : Form → DescriptorValue → SidValue → List ℕ → List (Bor (List ℕ)) → List ℕ → Outcome → Type 0
+AnswersMask form d user mask words printed outcome =
+    ((asked : ℕ) × Spells mask_text mask asked × AnswersWords form d user asked words printed outcome)
     ⊎ (((asked : ℕ) → Spells mask_text mask asked → ⊥) × IsFault (fault_line (codes "mask")) printed outcome)
 
-abbrev pub AnswersUser : DescriptorValue → List ℕ → List ℕ → List (Bor (List ℕ)) → List ℕ → Outcome → Type 0
-AnswersUser d user mask words printed outcome =
-    ((sid : SidValue) × Spells sid_text user sid × AnswersMask d sid mask words printed outcome)
+abbrev pub AnswersUser : Form → DescriptorValue → List ℕ → List ℕ → List (Bor (List ℕ)) → List ℕ → Outcome → Type 0
+AnswersUser form d user mask words printed outcome =
+    ((sid : SidValue) × Spells sid_text user sid × AnswersMask form d sid mask words printed outcome)
     ⊎ (((sid : SidValue) → Spells sid_text user sid → ⊥) × IsFault (fault_line (codes "sid")) printed outcome)
 
-abbrev pub AnswersVerdict : List ℕ → List ℕ → List ℕ → List (Bor (List ℕ)) → List ℕ → Outcome → Type 0
-AnswersVerdict written user mask words printed outcome =
-    ((d : DescriptorValue) × Spells sddl written d × AnswersUser d user mask words printed outcome)
+abbrev pub AnswersVerdict : Form → List ℕ → List ℕ → List ℕ → List (Bor (List ℕ)) → List ℕ → Outcome → Type 0
+AnswersVerdict form written user mask words printed outcome =
+    ((d : DescriptorValue) × Spells sddl written d × AnswersUser form d user mask words printed outcome)
     ⊎ AnswersSddlFault written printed outcome
 
 -- the canonical text
@@ -126,7 +135,8 @@ AnswersAudit workers input printed outcome = IsOutput (PrintsAudit workers) inpu
 
 -- what is printed for an invocation, with this input where it is known, and what came of it; the help's text is `clap`'s
 abbrev pub Answers : Option (List ℕ) → InvocationValue → List ℕ → Outcome → Type 0
-Answers input (AsksVerdict sddl user mask words) printed outcome = AnswersVerdict sddl user mask words printed outcome
+Answers input (AsksVerdict sddl user mask words) printed outcome = AnswersVerdict Short sddl user mask words printed outcome
+Answers input (AsksWhy sddl user mask words) printed outcome = AnswersVerdict Explained sddl user mask words printed outcome
 Answers input (Print sddl) printed outcome = AnswersPrint sddl printed outcome
 Answers input (ToBinary sddl) printed outcome = AnswersToBinary sddl printed outcome
 Answers input (FromBinary hex) printed outcome = AnswersFromBinary hex printed outcome

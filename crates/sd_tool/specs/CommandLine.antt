@@ -12,6 +12,7 @@ use Rattle.sd_tool.specs.declared.command_line.Invocation.TheVariants as invocat
 -- what a command line asks for: a command with its arguments, help on a command or on the program, or the version
 pub data InvocationValue : Type 0 where
   Verdict : List ℕ → List ℕ → List ℕ → List (Bor (List ℕ)) → InvocationValue
+  Why : List ℕ → List ℕ → List ℕ → List (Bor (List ℕ)) → InvocationValue
   Print : List ℕ → InvocationValue
   ToBinary : List ℕ → InvocationValue
   FromBinary : List ℕ → InvocationValue
@@ -22,6 +23,7 @@ pub data InvocationValue : Type 0 where
 
 abbrev pub invocation_of : Invocation → InvocationValue
 invocation_of (invocations.Verdict sddl user mask words) = Verdict sddl.now user.now mask.now words.now
+invocation_of (invocations.Why sddl user mask words) = Why sddl.now user.now mask.now words.now
 invocation_of (invocations.Print sddl) = Print sddl.now
 invocation_of (invocations.ToBinary sddl) = ToBinary sddl.now
 invocation_of (invocations.FromBinary hex) = FromBinary hex.now
@@ -34,12 +36,13 @@ invocation_of invocations.Version = Version
 abbrev pub command_named : List ℕ → Option CommandName
 command_named word =
     if bytes_eq word (codes "verdict") then Some names.Verdict
+    else (if bytes_eq word (codes "why") then Some names.Why
     else (if bytes_eq word (codes "print") then Some names.Print
     else (if bytes_eq word (codes "tobin") then Some names.ToBinary
     else (if bytes_eq word (codes "frombin") then Some names.FromBinary
     else (if bytes_eq word (codes "script") then Some names.Script
     else (if bytes_eq word (codes "audit") then Some names.Audit
-    else None)))))
+    else None))))))
 
 abbrev pub is_help_flag : List ℕ → Bool
 is_help_flag word = bytes_eq word (codes "-h") || bytes_eq word (codes "--help")
@@ -72,6 +75,7 @@ workers_of (a ∷ b ∷ c ∷ rest) = None
 -- the command with these arguments, where they are as many as it takes
 abbrev pub command_on : CommandName → List (Bor (List ℕ)) → Option InvocationValue
 command_on names.Verdict (sddl ∷ user ∷ mask ∷ words) = Some (Verdict sddl.now user.now mask.now words)
+command_on names.Why (sddl ∷ user ∷ mask ∷ words) = Some (Why sddl.now user.now mask.now words)
 command_on names.Print (sddl ∷ []) = Some (Print sddl.now)
 command_on names.ToBinary (sddl ∷ []) = Some (ToBinary sddl.now)
 command_on names.FromBinary (hex ∷ []) = Some (FromBinary hex.now)
@@ -116,6 +120,7 @@ abbrev pub is_script : InvocationValue → Bool
 is_script Script = true
 is_script (Audit workers) = true
 is_script (Verdict sddl user mask words) = false
+is_script (Why sddl user mask words) = false
 is_script (Print sddl) = false
 is_script (ToBinary sddl) = false
 is_script (FromBinary hex) = false

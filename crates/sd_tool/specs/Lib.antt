@@ -3,3 +3,4 @@ pub mod CommandLine
 pub mod Laws
 pub mod Output
 pub mod Status
+pub mod Why

@@ -9,7 +9,7 @@ use crate::command_line::Invocation;
 use crate::convert::{answer_from_binary, answer_print, answer_to_binary};
 use crate::failure::Failure;
 use crate::usage::help;
-use crate::verdict::answer_verdict;
+use crate::verdict::{Form, answer_verdict};
 use crate::version::version_text;
 use sd_script::{fault_line, sddl_fault_line};
 use sd_stream::RunError;
@@ -56,7 +56,13 @@ pub(crate) fn answer_to(alloc: Global, invocation: Invocation<'_>) -> Result<Ans
             user,
             mask,
             words,
-        } => answer_verdict(alloc, sddl, user, mask, words),
+        } => answer_verdict(alloc, Form::Short, sddl, user, mask, words),
+        Invocation::Why {
+            sddl,
+            user,
+            mask,
+            words,
+        } => answer_verdict(alloc, Form::Explained, sddl, user, mask, words),
         Invocation::Print { sddl } => answer_print(alloc, sddl),
         Invocation::ToBinary { sddl } => answer_to_binary(alloc, sddl),
         Invocation::FromBinary { hex } => answer_from_binary(alloc, hex),

@@ -7,6 +7,8 @@ ghost use Rattle.sd_tool.specs.CommandLine.{arguments_in as arguments_of, comman
 pub(crate) enum CommandName {
     /// `verdict`.
     Verdict,
+    /// `why`.
+    Why,
     /// `print`.
     Print,
     /// `tobin`.
@@ -24,6 +26,13 @@ pub(crate) enum CommandName {
 pub(crate) enum Invocation<'a> {
     /// Whether a descriptor grants a mask to a user, whose groups and privileges the words tell.
     Verdict {
+        sddl: &'a str,
+        user: &'a str,
+        mask: &'a str,
+        words: &'a [&'a str],
+    },
+    /// The same with the reason of each bit.
+    Why {
         sddl: &'a str,
         user: &'a str,
         mask: &'a str,
@@ -61,6 +70,7 @@ impl CommandName {
     {
         match word {
             "verdict" => Some(CommandName::Verdict),
+            "why" => Some(CommandName::Why),
             "print" => Some(CommandName::Print),
             "tobin" => Some(CommandName::ToBinary),
             "frombin" => Some(CommandName::FromBinary),
@@ -142,6 +152,12 @@ fn command_on<'a>(command: CommandName, arguments: &'a [&'a str]) -> Option<Invo
 {
     match (command, arguments) {
         (CommandName::Verdict, [sddl, user, mask, words @ ..]) => Some(Invocation::Verdict {
+            sddl,
+            user,
+            mask,
+            words,
+        }),
+        (CommandName::Why, [sddl, user, mask, words @ ..]) => Some(Invocation::Why {
             sddl,
             user,
             mask,

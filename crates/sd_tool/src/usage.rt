@@ -34,6 +34,24 @@ Statuses:
 Example:
   sdstore verdict 'D:(D;;0x2;;;S-1-5-21-1-2-3-1001)(A;;0x1f01ff;;;S-1-5-21-1-2-3-1001)' S-1-5-21-1-2-3-1001 0x1";
 
+const WHY_NOTES: &str = "\
+A first '--' after 'why' is dropped, and every word after it is an argument.
+
+Prints the verdict as 'sdstore verdict' does, with its status, and a line for each part of the
+request, the bits with one reason together:
+  granted 0x120089 by entry 2 (A;;FR;;;BU) as S-1-5-32-545
+  denied 0x10000 by no entry
+With MAXIMUM_ALLOWED the parts are also those of all rights below 0x200000, granted or denied.
+
+Statuses:
+  0  granted
+  1  another verdict, or an argument's fault
+  2  the words aren't a command line
+  3  memory was wanting, or the output didn't take the answer
+
+Example:
+  sdstore why 'D:(D;;0x2;;;BU)(A;;FR;;;BU)' S-1-5-21-1-2-3-1001 0x10003 BU";
+
 const PRINT_NOTES: &str = "\
 A first '--' after 'print' is dropped.
 
@@ -122,6 +140,7 @@ pub(crate) fn help(alloc: Global, command: Option<CommandName>) -> Result<String
     let mut described = match command {
         None => sdstore(alloc)?,
         Some(CommandName::Verdict) => verdict_command(alloc)?,
+        Some(CommandName::Why) => why_command(alloc)?,
         Some(CommandName::Print) => print_command(alloc)?,
         Some(CommandName::ToBinary) => to_binary_command(alloc)?,
         Some(CommandName::FromBinary) => from_binary_command(alloc)?,
@@ -177,6 +196,7 @@ fn sdstore<'a>(alloc: Global) -> Result<Command<'a>, AllocError> {
         .subcommand_required(true)
         .after_help(NOTES)
         .subcommand(verdict_command(alloc)?)?
+        .subcommand(why_command(alloc)?)?
         .subcommand(print_command(alloc)?)?
         .subcommand(to_binary_command(alloc)?)?
         .subcommand(from_binary_command(alloc)?)?
@@ -185,11 +205,25 @@ fn sdstore<'a>(alloc: Global) -> Result<Command<'a>, AllocError> {
 }
 
 fn verdict_command<'a>(alloc: Global) -> Result<Command<'a>, AllocError> {
-    Command::new(alloc, "verdict")
+    let verdict = Command::new(alloc, "verdict")
         .about("Prints whether a descriptor grants a mask to a user")
         .override_usage("sdstore verdict [--] <SDDL> <USER> <MASK> [WORD]...")
+        .after_help(VERDICT_NOTES);
+    request(alloc, verdict)
+}
+
+fn why_command<'a>(alloc: Global) -> Result<Command<'a>, AllocError> {
+    let why = Command::new(alloc, "why")
+        .about("Prints whether a descriptor grants a mask to a user, and why")
+        .override_usage("sdstore why [--] <SDDL> <USER> <MASK> [WORD]...")
+        .after_help(WHY_NOTES);
+    request(alloc, why)
+}
+
+// The command with the arguments of a request.
+fn request<'a>(alloc: Global, command: Command<'a>) -> Result<Command<'a>, AllocError> {
+    command
         .next_line_help(true)
-        .after_help(VERDICT_NOTES)
         .arg(text(alloc, "SDDL").help("The descriptor in SDDL"))?
         .arg(text(alloc, "USER").help(USER))?
         .arg(text(alloc, "MASK").help(MASK))?

@@ -1,34 +1,45 @@
-//! The answer to `verdict`: whether a descriptor grants a mask to a user.
+//! The answers to `verdict` and to `why`: whether a descriptor grants a mask to a user, and why.
 ghost use Rattle.std.specs.Prelude.{◌≡◌, IfErr, IfOk, string_bytes};
 ghost use Rattle.sd_acl.specs.Descriptor.{descriptor_of};
 ghost use Rattle.sd_check.specs.Check.{verdict as verdict_of};
 ghost use Rattle.sd_check.specs.Dacl.{dacl_entries};
 ghost use Rattle.sd_sid.specs.Mapping.{file_mapping};
-ghost use Rattle.sd_tool.specs.Answer.{AnswersVerdict, AnswersUser, AnswersMask, AnswersWords, verdict_outcome};
+ghost use Rattle.sd_tool.specs.Answer.{AnswersVerdict, AnswersUser, AnswersMask, AnswersWords, form_text, verdict_outcome};
 
 use crate::answer::{Answer, Outcome, fault, sddl_fault};
 use crate::failure::Failure;
+use crate::why::why_text;
 use sd_acl::Descriptor;
-use sd_check::{Verdict, check};
+use sd_check::{Token, Verdict, check};
 use sd_script::{TokenError, read_token, verdict_line};
 use sd_sid::{GenericMapping, Mask, Sid};
 use sd_stream::RunError;
 use sd_text::{TextError, read_mask, read_sddl, read_sid_text};
-use std::alloc::Global;
+use std::alloc::{AllocError, Global};
+
+/// What is told of a verdict.
+#[derive(Clone, Copy, Debug, PartialEq, Eq)]
+pub(crate) enum Form {
+    /// The verdict alone.
+    Short,
+    /// With it the reason of each bit.
+    Explained,
+}
 
 /// The verdict on these texts, or the fault of the first from the left that isn't read.
 pub(crate) fn answer_verdict(
     alloc: Global,
+    form: Form,
     sddl: &str,
     user: &str,
     mask: &str,
     words: &[&str],
 ) -> Result<Answer, Failure>
-    ensures ok { IfOk result (λ answer. AnswersVerdict sddl.now user.now mask.now words.now (string_bytes answer.text) answer.outcome) }
+    ensures ok { IfOk result (λ answer. AnswersVerdict form sddl.now user.now mask.now words.now (string_bytes answer.text) answer.outcome) }
     ensures err { IfErr result (λ failure. failure ≡ Failure.Run RunError.Memory) }
 {
     match read_sddl(alloc, sddl) {
-        Ok(descriptor) => verdict_for_user(alloc, &descriptor, user, mask, words),
+        Ok(descriptor) => verdict_for_user(alloc, form, &descriptor, user, mask, words),
         Err(TextError::Fault { fault, place }) => sddl_fault(alloc, fault, place),
         Err(TextError::Memory) => Err(Failure::Run(RunError::Memory)),
     }
@@ -36,56 +47,78 @@ pub(crate) fn answer_verdict(
 
 fn verdict_for_user(
     alloc: Global,
+    form: Form,
     descriptor: &Descriptor,
     user: &str,
     mask: &str,
     words: &[&str],
 ) -> Result<Answer, Failure>
-    ensures ok { IfOk result (λ answer. AnswersUser (descriptor_of descriptor.now) user.now mask.now words.now (string_bytes answer.text) answer.outcome) }
+    ensures ok { IfOk result (λ answer. AnswersUser form (descriptor_of descriptor.now) user.now mask.now words.now (string_bytes answer.text) answer.outcome) }
     ensures err { IfErr result (λ failure. failure ≡ Failure.Run RunError.Memory) }
 {
     match read_sid_text(user) {
-        Ok(user) => verdict_on_mask(alloc, descriptor, user, mask, words),
+        Ok(user) => verdict_on_mask(alloc, form, descriptor, user, mask, words),
         Err(_) => fault(alloc, "sid"),
     }
 }
 
 fn verdict_on_mask(
     alloc: Global,
+    form: Form,
     descriptor: &Descriptor,
     user: Sid,
     mask: &str,
     words: &[&str],
 ) -> Result<Answer, Failure>
-    ensures ok { IfOk result (λ answer. AnswersMask (descriptor_of descriptor.now) user mask.now words.now (string_bytes answer.text) answer.outcome) }
+    ensures ok { IfOk result (λ answer. AnswersMask form (descriptor_of descriptor.now) user mask.now words.now (string_bytes answer.text) answer.outcome) }
     ensures err { IfErr result (λ failure. failure ≡ Failure.Run RunError.Memory) }
 {
     match read_mask(mask) {
-        Ok(asked) => verdict_with_words(alloc, descriptor, user, asked, words),
+        Ok(asked) => verdict_with_words(alloc, form, descriptor, user, asked, words),
         Err(_) => fault(alloc, "mask"),
     }
 }
 
 fn verdict_with_words(
     alloc: Global,
+    form: Form,
     descriptor: &Descriptor,
     user: Sid,
     asked: Mask,
     words: &[&str],
 ) -> Result<Answer, Failure>
-    ensures ok { IfOk result (λ answer. AnswersWords (descriptor_of descriptor.now) user asked words.now (string_bytes answer.text) answer.outcome) }
+    ensures ok { IfOk result (λ answer. AnswersWords form (descriptor_of descriptor.now) user asked words.now (string_bytes answer.text) answer.outcome) }
     ensures err { IfErr result (λ failure. failure ≡ Failure.Run RunError.Memory) }
 {
     match read_token(alloc, user, words) {
         Ok(token) => {
             let verdict = check(descriptor, &GenericMapping::file(), &token, asked);
             Ok(Answer {
-                text: verdict_line(alloc, verdict)?,
+                text: text_of(alloc, form, descriptor, &token, asked)?,
                 outcome: outcome_of(verdict),
             })
         }
         Err(TokenError::NoWord) => fault(alloc, "token"),
         Err(TokenError::Memory) => Err(Failure::Run(RunError::Memory)),
+    }
+}
+
+/// The verdict's line, or with it the reasons.
+fn text_of(
+    alloc: Global,
+    form: Form,
+    descriptor: &Descriptor,
+    token: &Token,
+    asked: Mask,
+) -> Result<String, AllocError>
+    ensures { IfOk result (λ text. string_bytes text ≡ form_text form (descriptor_of descriptor.now) token.now asked) }
+{
+    match form {
+        Form::Short => {
+            let verdict = check(descriptor, &GenericMapping::file(), token, asked);
+            verdict_line(alloc, verdict)
+        }
+        Form::Explained => why_text(alloc, descriptor, token, asked),
     }
 }
 

@@ -56,7 +56,9 @@ fn expect(
 
 #[test]
 fn both_read_commands(rt: HostRuntime) -> Result<(), AllocError> {
-    let rows: [&[&str]; 36] = [
+    let rows: [&[&str]; 38] = [
+        &["why", "D:", "SY", "0x1"],
+        &["why", "--", "-h", "SY", "0x1", "4", "--help"],
         &["verdict", "D:", "SY", "0x1"],
         &["verdict", "D:", "SY", "0x1", "4"],
         &["verdict", "D:", "SY", "0x1", "4", "5"],
@@ -101,17 +103,20 @@ fn both_read_commands(rt: HostRuntime) -> Result<(), AllocError> {
 
 #[test]
 fn both_read_help_and_version(rt: HostRuntime) -> Result<(), AllocError> {
-    let rows: [&[&str]; 22] = [
+    let rows: [&[&str]; 25] = [
         &["-h"],
         &["--help"],
         &["help"],
         &["help", "help"],
         &["help", "verdict"],
+        &["help", "why"],
         &["help", "print"],
         &["help", "tobin"],
         &["help", "frombin"],
         &["verdict", "-h"],
         &["verdict", "--help"],
+        &["why", "-h"],
+        &["why", "--help"],
         &["print", "-h"],
         &["print", "--help"],
         &["tobin", "-h"],

@@ -54,6 +54,32 @@ fn prints_verdicts_for_tokens(rt: HostRuntime) {
 }
 
 #[test]
+fn prints_reasons(rt: HostRuntime) {
+    let reasons = "denied 0x10002
+granted 0x89 by entry 2 (A;;FR;;;BU) as S-1-5-32-545
+denied 0x2 by entry 1 (D;;FW;;;BU) as S-1-5-32-545
+denied 0x10000 by no entry
+";
+    let sddl = "D:(D;;FW;;;BU)(A;;FR;;;BU)";
+    expect(
+        &rt,
+        &["sdstore", "why", sddl, USER, "0x1008b", "BU"],
+        reasons,
+        1,
+    );
+    let granted = "granted 0x60000\ngranted 0x60000 to the owner\n";
+    let mine = "O:S-1-5-21-1-2-3-1001D:";
+    expect(&rt, &["sdstore", "why", mine, USER, "0x60000"], granted, 0);
+    expect(&rt, &["sdstore", "why", "D:", USER, "0"], "empty\n", 1);
+    expect(
+        &rt,
+        &["sdstore", "why", "D:", "nobody", "0"],
+        "fault sid\n",
+        1,
+    );
+}
+
+#[test]
 fn tells_of_the_first_argument_that_is_not_read(rt: HostRuntime) {
     let rows = [
         (
