@@ -7,7 +7,6 @@ mod inheriting;
 mod keeping;
 mod limits;
 mod may_read;
-mod memory;
 mod numbers;
 mod paths;
 mod refusing;

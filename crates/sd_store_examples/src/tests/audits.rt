@@ -43,8 +43,8 @@ fn is_set_soon(flag: &AtomicBool) -> bool {
     false
 }
 
-/// What an audit answered, and what each checker has seen then. Where a request for memory was to be refused: whether it was,
-/// and what the same audit answered behind that.
+/// What an audit answered, and what each checker has seen then. Where a request for memory was to be refused: whether it
+/// was, and what the same audit answered behind that.
 #[derive(Drop)]
 pub(super) struct Report {
     answers: Result<Vec<Answer>, AuditError>,

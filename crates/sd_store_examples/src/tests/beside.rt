@@ -61,8 +61,8 @@ fn due(seen: u64) -> CheckReply {
     }
 }
 
-/// Whether each check was answered, by what was then published, and none by less than the one before it: each by a journal
-/// of a length from the least to the most.
+/// Whether each check was answered, by what was then published, and none by less than the one before it: each by a
+/// journal of a length from the least to the most.
 fn are_rising(answers: &[Result<Answer, Gone>], least: u64, most: u64) -> bool {
     let mut floor = least;
     for answer in answers {

@@ -1,8 +1,8 @@
 //! Calls that are refused each request for memory in turn.
 //!
-//! `.ci/memory` runs these tests with `.ci/refusing.c` loaded into them, for which requests for more bytes than any memory has
-//! are words: they say which of the requests from there on is to be refused, and ask whether it was. Without it they are
-//! refused like any others of their size, and each call is made as ever.
+//! `.ci/memory` runs these tests with `.ci/refusing.c` loaded into them, for which requests for more bytes than any memory
+//! has are words: they say which of the requests from there on is to be refused, and ask whether it was. Without it they
+//! are refused like any others of their size, and each call is made as ever.
 
 mod desks;
 mod trees;

@@ -21,8 +21,8 @@ const QUESTIONS: [Question; 2] = [
     },
 ];
 
-/// Whether a request was refused. Then the audit wants memory, or goes on with a thread less; behind it the same audit is
-/// answered.
+/// Whether a request was refused. Then the audit wants memory, or goes on with a thread less; behind it the same audit
+/// is answered.
 fn is_refused<R: Abort + AllocGlobal + Threads + Wait + Sync>(
     rt: &R,
     workers: u64,

@@ -12,9 +12,9 @@ const PUBLISHES: u64 = 100;
 /// The checks that a reader makes in its thread, in a round.
 const CHECKS: u64 = 20;
 
-/// In each round the readers go into threads, the writer publishes, they come back, and it tells them what is published;
-/// in the first round it tells every other one alone. Each then checks once more. From the second publish on, an edit that is
-/// refused stands before each one.
+/// In each round the readers go into threads, the writer publishes, they come back, and it tells them what is
+/// published; in the first round it tells every other one alone. Each then checks once more. From the second publish on,
+/// an edit that is refused stands before each one.
 fn steps(alloc: Global) -> Option<Vec<Step>> {
     let mut steps = Vec::new(alloc);
     for round in 0..ROUNDS {

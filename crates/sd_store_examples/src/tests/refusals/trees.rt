@@ -1,11 +1,12 @@
 //! Trees, and edits of each kind.
 
 use super::*;
-use crate::tests::step::{Step, edit, root};
-use sd_acl::Descriptor;
-use sd_sid::GenericMapping;
+use crate::tests::step::{Step, edit, errand, root};
+use crate::tests::threads::Errand;
+use sd_acl::{Descriptor, Verdict};
+use sd_sid::{GenericMapping, Mask};
 use sd_text::print_sddl;
-use sd_tree::{Edit, EditRefusal, Path, RootSpec, Tree, TreeError};
+use sd_tree::{CheckReply, Edit, EditRefusal, NodeKind, Path, RootSpec, Tree, TreeError};
 use std::test::Fail;
 
 const ADMINISTRATORS: &str = "O:BAG:SYD:(A;OICI;FA;;;BA)";
@@ -262,6 +263,26 @@ fn early_refusals_take_no_memory(rt: HostRuntime) -> Result<(), Fail> {
         assert_eq!(rt; applied, Err(TreeError::Refused(wanted)), "{step:?}");
     }
     assert_eq!(rt; tree.journal().len(), 4);
+    Ok(())
+}
+
+#[test]
+fn questions_take_no_memory(rt: HostRuntime) -> Result<(), Fail> {
+    let alloc = rt.alloc();
+    let tree = tree(alloc)?;
+    let Errand { path, token, .. } = errand(alloc, "/a/b", 0).ok_or("an errand")?;
+    let nothing = Path::read(alloc, "/x")?;
+    Refusal::ALL.begin(alloc);
+    let kind = tree.lookup(&path);
+    let reply = tree.check(&path, &token, Mask(0x1));
+    let no_reply = tree.check(&nothing, &token, Mask(0x1));
+    let no_descriptor = tree.descriptor(&nothing);
+    assert!(rt; !Refusal::ended(alloc));
+    let denied = Verdict::Denied { missing: Mask(0x1) };
+    assert_eq!(rt; kind, Some(NodeKind::Container));
+    assert_eq!(rt; reply, CheckReply::Verdict(denied));
+    assert_eq!(rt; no_reply, CheckReply::NoNode);
+    assert!(rt; no_descriptor?.is_none());
     Ok(())
 }
 

@@ -1,5 +1,5 @@
-//! Streams that give and take one byte at a call, and fail at each of their calls in turn; and an input as long as one may
-//! be. So it is of a script and of an audit, and of the commands for them.
+//! Streams that give and take one byte at a call, and fail at each of their calls in turn; and an input as long as one
+//! may be. So it is of a script and of an audit, and of the commands for them.
 
 use super::*;
 use std::io::ErrorKind;
