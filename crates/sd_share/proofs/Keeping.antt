@@ -7,7 +7,6 @@ use Rattle.std.proofs.Math.Seq.{take-length, take-append_seam, drop-append_seam}
 use Rattle.std.proofs.lemmas.Bool.{cases_order}
 use Rattle.std.proofs.lemmas.Simd.{splat_is_map}
 use Rattle.sd_tree.specs.Journal.{TreeValue, IsLawful}
-use Rattle.sd_tree.specs.Prepared.{Planned}
 use Rattle.sd_tree.specs.declared.edit.Edit.{Edit}
 use Rattle.sd_tree.specs.declared.opening.Opening.{Opening}
 use Rattle.sd_share.specs.Kept.{AreInLine, waiting, beginnings, machine_of, IsKept}
@@ -118,7 +117,7 @@ started_is p d ns o readers opening first second zeros =
     rw (opening, floors, pending, first) refl
 
 -- all edits are published: the trees change places, and the draft lags behind
-pub swapped_is : {plans : List Planned} (p d : TreeValue) (ns : List ℕ) → IsKept p d ns plans → length p.journal ≤ length d.journal
+pub swapped_is : (p d : TreeValue) (ns : List ℕ) → IsKept p d ns → length p.journal ≤ length d.journal
     → machine_of d p ns ≡ with_publish (machine_of p d ns)
 swapped_is p d ns kept long =
     let all : p.journal ++ waiting p.journal d.journal ≡ d.journal = ahead p.journal d.journal kept.in_line long in
@@ -132,7 +131,7 @@ pub unswapped_is : (p d : TreeValue) (ns : List ℕ) → length d.journal ≤ le
 unswapped_is p d ns short =
     rw (behind p.journal d.journal short, none_waits p.journal d.journal short) refl
 
-pub swapped_steps : {plans : List Planned} (p d x y : TreeValue) (ns : List ℕ) (told : ℕ) → x ≡ d → y ≡ p → IsKept p d ns plans → length p.journal ≤ length d.journal
+pub swapped_steps : (p d x y : TreeValue) (ns : List ℕ) (told : ℕ) → x ≡ d → y ≡ p → IsKept p d ns → length p.journal ≤ length d.journal
     → told ≡ length x.journal → Steps (machine_of p d ns) Publish (Published told) (machine_of x y ns)
 swapped_steps p d x y ns told first second kept long is = (
   is ∙ ap (λ (t : TreeValue). length t.journal) first ∙ ap length (sym (ahead p.journal d.journal kept.in_line long)),

@@ -1,10 +1,7 @@
--- How a desk keeps the machine: two trees, the plans of the edits that the one lacks, and each floor's length. No public
--- contract says so.
-use Rattle.std.specs.Prelude.{◌≡◌, ℕ, ◌<◌, ◌≤◌, List, [], ◌∷◌, ◌++◌, length, take, drop, map, All}
+-- How a desk keeps the machine: two trees, and each floor's length. No public contract says so.
+use Rattle.std.specs.Prelude.{◌≡◌, ℕ, ◌≤◌, List, length, take, drop, map, All}
 use Rattle.sd_tree.specs.Journal.{TreeValue}
-use Rattle.sd_tree.specs.Prepared.{Planned}
 use Rattle.sd_tree.specs.declared.edit.Edit.{Edit}
-use Rattle.sd_tree.specs.declared.opening.Opening.{Opening}
 use Rattle.sd_share.specs.Machine.{Machine}
 
 -- one of the journals is a beginning of the other
@@ -14,17 +11,6 @@ AreInLine published draft = take (length published) draft ≡ take (length draft
 -- what the draft has beyond the published journal: nothing where it lags behind
 abbrev pub waiting : List Edit → List Edit → List Edit
 waiting published draft = drop (length published) draft
-
--- plans of the edits that the shorter of two journals lacks, in their order, each for the journal right before it
-abbrev pub ArePlanned : Opening → List Edit → List Planned → List Edit → Type 0
-ArePlanned opening short [] long = short ≡ long
-ArePlanned opening short (plan ∷ plans) long =
-    (plan.opening ≡ opening) × (plan.journal ≡ short) × ArePlanned opening (short ++ plan.edit ∷ []) plans long
-
--- where the draft lags behind the plans are of what it lacks, and else of what waits
-pub record IsSupplied (published draft : TreeValue) (plans : List Planned) : Type 0 where
-  pub lags : length draft.journal < length published.journal → ArePlanned published.opening draft.journal plans published.journal
-  pub waits : length published.journal ≤ length draft.journal → ArePlanned published.opening published.journal plans draft.journal
 
 -- the beginnings of the journal with these lengths
 abbrev pub beginnings : List Edit → List ℕ → List (List Edit)
@@ -38,8 +24,7 @@ machine_of published draft floors = record {
   floors = beginnings published.journal floors;
 }
 
-pub record IsKept (published draft : TreeValue) (floors : List ℕ) (plans : List Planned) : Type 0 where
+pub record IsKept (published draft : TreeValue) (floors : List ℕ) : Type 0 where
   pub opening : draft.opening ≡ published.opening
   pub in_line : AreInLine published.journal draft.journal
   pub floors_within : All (λ n. n ≤ length published.journal) floors
-  pub supplied : IsSupplied published draft plans

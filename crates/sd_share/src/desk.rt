@@ -8,14 +8,13 @@ ghost use Rattle.sd_share.specs.Starts.{IsReaderCount, IsStartError};
 #[cfg(test)]
 mod tests;
 
-use crate::draft::{catch_up, take_edit};
+use crate::draft::catch_up;
 use crate::request::{Answer, Reply, Request};
 use crate::start::{MAX_READERS, StartError};
 use sd_check::Token;
 use sd_sid::{GenericMapping, Mask};
-use sd_tree::{Edit, Path, Prepared, RootSpec, Shared, Tree, TreeError};
+use sd_tree::{Edit, Path, RootSpec, Shared, Tree, TreeError};
 use std::alloc::{AllocError, Global};
-use std::collections::VecDeque;
 use std::marker::Model;
 use std::mem;
 
@@ -28,8 +27,6 @@ pub struct Desk {
     published: Tree,
     /// What takes the edits. After a publish it lags behind, until the next edit.
     draft: Tree,
-    /// The edits that the shorter of the two journals lacks, each as it was worked out for the other tree.
-    plans: VecDeque<Prepared>,
     /// For each reader, the length of the journal that it has seen.
     floors: Vec<u64>,
 }
@@ -43,7 +40,7 @@ impl Model for Desk {
 
     ghost view = { λ d. machine_of d.published d.draft d.floors.items };
 
-    ghost invariant = { λ d. IsKept d.published d.draft d.floors.items d.plans.items };
+    ghost invariant = { λ d. IsKept d.published d.draft d.floors.items };
 }
 
 impl Desk {
@@ -67,7 +64,6 @@ impl Desk {
             alloc,
             published: Tree::opening(alloc, mapping, root)?,
             draft: Tree::opening(alloc, mapping, root)?,
-            plans: VecDeque::new(alloc),
             floors: vec![in alloc; 0; readers as usize]?,
         })
     }
@@ -120,8 +116,8 @@ impl Desk {
     fn edit(&mut self, edit: &Edit) -> Reply
         ensures { Steps self.old (Request.Edit edit.now) result self.new }
     {
-        match catch_up(&self.published, &mut self.draft, &mut self.plans) {
-            Ok(()) => match take_edit(&mut self.draft, &mut self.plans, edit) {
+        match catch_up(&self.published, &mut self.draft) {
+            Ok(()) => match self.draft.apply(edit) {
                 Ok(()) => Reply::Edited,
                 Err(TreeError::Refused(refusal)) => Reply::Refused(refusal),
                 Err(TreeError::Memory) => Reply::Memory,

@@ -8,10 +8,7 @@ use Rattle.sd_path.specs.Names.{Names, names_cmp}
 use Rattle.sd_tree.specs.Inheritance.{dacl_of_row}
 use Rattle.sd_tree.specs.Plain.{PlainTree, row_at, dacl_here, dacl_at}
 use Rattle.sd_tree.specs.Edits.{edited}
-use Rattle.std.specs.List.{list_any, AllWithin}
-use Rattle.std.specs.declared.cmp.Ordering.TheVariants.{Less, Greater}
-use Rattle.sd_acl.specs.declared.ace.Ace.{Ace}
-use Rattle.sd_tree.specs.declared.node.Node.{Node}
+use Rattle.std.specs.List.{list_any}
 use Rattle.sd_acl.specs.Canonical.{is_inherited, deny_behind_allow}
 use Rattle.sd_tree.specs.Refusals.{first_fit, list_tests, own_entries, refusal_in, dacl_size, has_large_dacl, is_early}
 use Rattle.sd_tree.specs.Sizes.{IsSizeError}
@@ -19,7 +16,7 @@ use Rattle.sd_tree.specs.Closed.{IsClosed}
 use Rattle.sd_tree.specs.Journal.{opened, root_row, replay, refusal, root_refusal}
 use Rattle.sd_tree.specs.Answers.{IsError}
 use Rattle.sd_tree.specs.Stored.{Boxed, entry_of, tree_of, IsWhole, AreNodes, AreStanding, IsStored}
-use Rattle.sd_tree.specs.Plans.{IsPlan, IsInsertion, IsRewriting, IsRemoval, IsSamePlan, IsPlanned, CanCarryOut, IsCarriedOut}
+use Rattle.sd_tree.specs.Plans.{IsPlan, IsPlanned, CanCarryOut, IsCarriedOut}
 use Rattle.sd_tree.specs.declared.node.Row.{Row}
 use Rattle.sd_tree.specs.declared.edit.Edit.{Edit}
 use Rattle.sd_tree.specs.declared.opening.Opening.{Opening}
@@ -172,32 +169,3 @@ root_error o (Refused r) list h =
     let big : 65535 < dacl_size (dacl_at o.mapping (opened o) []) = rw (opened_dacl o) h.1 in
     root_by_parts o true list (large_found o.mapping (opened o) [] (root_row o.root) (opened_root o) big) ∙ ap Some (sym h.0)
 root_error o Memory list h = ap is_early (root_by_parts o (has_large_dacl o.mapping (opened o)) list refl) ∙ late_root (has_large_dacl o.mapping (opened o))
-
--- a plan that does the same is for the same edit
-same_insertion : (g : MappingValue) (before after : PlainTree) (at place : ℕ) (b d : Boxed) → place ≡ at → d.value ≡ b.value → IsInsertion g before after at b → IsInsertion g before after place d
-same_insertion g before after at place b d same-place same h =
-    let path : d.value.path ≡ b.value.path = ap (λ (n : Node). n.path) same in
-    let whole : d.value.whole ≡ b.value.whole = ap (λ (n : Node). n.whole) same in
-    let P : ℕ → Node → Type 0 = λ k n.
-    (k ≤ length (finite.keys before))
-    × AllWithin (λ p. names_cmp p n.path ≡ Less) (finite.keys before) 0 k
-    × AllWithin (λ p. names_cmp p n.path ≡ Greater) (finite.keys before) k (length (finite.keys before))
-    × (after ≡ finite.insert before n.path n.row)
-    × (n.whole ≡ dacl_at g after n.path)
-    × (dacl_size n.whole ≤ 65535) in
-    let all : P place d.value = subst (λ (k : ℕ). P k d.value) (sym same-place) (subst (λ (n : Node). P at n) (sym same) (h.place, h.below, h.above, h.made, h.whole.is, h.whole.fits)) in
-    record { place = all.0; below = all.1; above = all.2; made = all.3; whole = record { is = all.4; fits = all.5 }; others = h.others }
-
-pub same_planned : (g : MappingValue) (before after : PlainTree) (p q : Plan) → IsSamePlan p q → IsPlan g before after p → IsPlan g before after q
-same_planned g before after (Insert at b) (Insert place d) same h = same_insertion g before after at place b d same.0 same.1 h
-same_planned g before after (Rewrite at row wholes) (Rewrite place other others) same h =
-    subst (λ (k : ℕ). IsRewriting g before after k other others.items) (sym same.0)
-    (subst (λ (r : Row). IsRewriting g before after at r others.items) (sym same.1)
-    (subst (λ (ws : List (Option (List Ace))). IsRewriting g before after at row ws) (sym same.2) h))
-same_planned g before after (Remove at) (Remove place) same h = subst (λ (k : ℕ). IsRemoval g before after k) (sym same) h
-same_planned g before after (Insert at b) (Rewrite place other others) same h = absurd same
-same_planned g before after (Insert at b) (Remove place) same h = absurd same
-same_planned g before after (Rewrite at row wholes) (Insert place d) same h = absurd same
-same_planned g before after (Rewrite at row wholes) (Remove place) same h = absurd same
-same_planned g before after (Remove at) (Insert place d) same h = absurd same
-same_planned g before after (Remove at) (Rewrite place other others) same h = absurd same

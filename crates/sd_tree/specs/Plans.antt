@@ -74,13 +74,6 @@ IsPlan g before after (Insert at node) = IsInsertion g before after at node
 IsPlan g before after (Rewrite at row wholes) = IsRewriting g before after at row wholes.items
 IsPlan g before after (Remove at) = IsRemoval g before after at
 
--- two plans that do the same
-abbrev pub IsSamePlan : Plan → Plan → Type 0
-IsSamePlan (Insert at node) (Insert place other) = (place ≡ at) × (other.value ≡ node.value)
-IsSamePlan (Rewrite at row wholes) (Rewrite place other others) = (place ≡ at) × (other ≡ row) × (others.items ≡ wholes.items)
-IsSamePlan (Remove at) (Remove place) = place ≡ at
-IsSamePlan plan other = ⊥
-
 -- ---- how a plan is carried out
 
 -- the places are within so many nodes, and there is room for one more

@@ -1,12 +1,10 @@
 //! Copies of what a tree keeps.
 
 ghost use Rattle.std.specs.Prelude.{◌≡◌, map, IfOk};
-ghost use Rattle.sd_tree.specs.Plans.{IsSamePlan};
 ghost use Rattle.sd_tree.specs.Stored.{node_of};
 
 use crate::edit::Edit;
 use crate::node::Node;
-use crate::plan::Plan;
 use crate::shared::{Shared, SharedList, share_dacl};
 use sd_acl::AceList;
 use std::alloc::{AllocError, Global};
@@ -44,42 +42,6 @@ fn copy_node(alloc: Global, node: &Node) -> Result<Node, AllocError>
     let row = node.row.share()?;
     let whole = share_dacl(&node.whole)?;
     Ok(Node { path, row, whole })
-}
-
-/// The same DACLs, in a vector of their own.
-fn share_dacls(
-    alloc: Global,
-    dacls: &[Option<SharedList>],
-) -> Result<Vec<Option<SharedList>>, AllocError>
-    ensures { IfOk result (λ shared. shared.items ≡ dacls.now) }
-{
-    let mut shared = Vec::with_capacity(alloc, dacls.len())?;
-    for dacl in dacls {
-        shared.push(share_dacl(dacl)?)?;
-    }
-    Ok(shared)
-}
-
-/// A plan that does the same, with the same rows and lists.
-pub(crate) fn copy_plan(alloc: Global, plan: &Plan) -> Result<Plan, AllocError>
-    ensures { IfOk result (IsSamePlan plan.now) }
-{
-    match plan {
-        Plan::Insert { at, node } => {
-            let node = Box::new(alloc, copy_node(alloc, node)?)?;
-            Ok(Plan::Insert { at: *at, node })
-        }
-        Plan::Rewrite { at, row, wholes } => {
-            let row = row.share()?;
-            let wholes = share_dacls(alloc, wholes)?;
-            Ok(Plan::Rewrite {
-                at: *at,
-                row,
-                wholes,
-            })
-        }
-        Plan::Remove { at } => Ok(Plan::Remove { at: *at }),
-    }
 }
 
 /// An equal list.

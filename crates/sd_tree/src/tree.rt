@@ -12,7 +12,7 @@ ghost use Rattle.sd_tree.specs.Inheritance.{dacl_of_row};
 ghost use Rattle.sd_tree.specs.Sizes.{IsSizeError};
 ghost use Rattle.sd_tree.specs.View.{IsView, tree_in};
 
-use crate::copying::{copy_nodes, copy_plan, share_edits};
+use crate::copying::{copy_nodes, share_edits};
 use crate::describe::descriptor_of_node;
 use crate::edit::Edit;
 use crate::inherit::dacl_of_row;
@@ -89,22 +89,6 @@ impl Prepared {
         ensures { result.now ≡ self.now.edit }
     {
         &self.edit
-    }
-
-    /// The same, to be carried out on another tree of the same opening and journal as this one: rows, lists and the edit
-    /// are kept once.
-    pub fn copy(&self, tree: &Tree) -> Result<Prepared, AllocError>
-        requires opening { self.now.opening ≡ tree.now.opening }
-        requires journal { self.now.journal ≡ tree.now.journal }
-        ensures { IfOk result (λ copy. copy ≡ self.now) }
-    {
-        let edit = self.edit.share()?;
-        let plan = copy_plan(tree.alloc, &self.plan)?;
-        Ok(Prepared {
-            edit,
-            plan,
-            tree: Snapshot::of(tree),
-        })
     }
 }
 
@@ -293,7 +277,7 @@ impl Tree {
     }
 
     /// Makes room for one more edit and one more node, as `commit` wants it.
-    pub fn make_room(&mut self) -> Result<(), AllocError>
+    fn make_room(&mut self) -> Result<(), AllocError>
         ensures same { (self.new.opening ≡ self.old.opening) × (self.new.journal ≡ self.old.journal) }
         ensures room { (self.old.edit_room ≤ self.new.edit_room) × (self.old.node_room ≤ self.new.node_room) }
         ensures made { OnOk result (HasRoom self.new) }
