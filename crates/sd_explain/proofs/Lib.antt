@@ -4,3 +4,4 @@ pub mod Causes
 pub mod Told
 pub mod PartLaws
 pub mod ReasonLaws
+pub mod DeadEntries

@@ -1,3 +1,4 @@
 pub mod Reasons
 pub mod Parts
 pub mod Laws
+pub mod Dead

@@ -10,11 +10,13 @@
 //! ```
 #![tactic(auto)]
 
+mod dead;
 mod explanation;
 mod laws;
 mod question;
 mod reason;
 
+pub use dead::{covers, is_dead};
 pub use explanation::{Explanation, PLACES, Part, explain};
 pub use laws::{
     causes_are_due, findings_have_a_subject, findings_name_first_entries,

@@ -1,6 +1,6 @@
 //! One explanation of each kind. The worked examples of docs/CHECK.md are run from their texts, by the command line.
 
-use crate::{Cause, Explanation, Finding, Part, Share, explain};
+use crate::{Cause, Explanation, Finding, Part, Share, covers, explain, is_dead};
 use bitflags::Flags;
 use sd_acl::{Ace, AceFlags, AceKind};
 use sd_check::{DaclRef, GroupState, Privileges, Token, Verdict};
@@ -97,5 +97,40 @@ fn explains_without_a_list(rt: HostRuntime) -> Result<(), Fail> {
     has_parts(&rt, &explanation, &parts);
     let granted = Mask(0x011F_01FF);
     assert_eq!(rt; explanation.verdict(), Verdict::Granted(granted));
+    Ok(())
+}
+
+/// Whether the last of the entries is dead, by the mapping of files.
+fn last_is_dead(entries: &[Ace]) -> bool {
+    is_dead(
+        entries,
+        entries.len().saturating_sub(1),
+        &GenericMapping::file(),
+    )
+}
+
+#[test]
+fn finds_dead_entries(rt: HostRuntime) -> Result<(), Fail> {
+    let users = Sid::new(5, &[32, 545])?;
+    let owner_rights = Sid::new(3, &[4])?;
+    let everyone = Sid::new(1, &[0])?;
+    let allow = |mask: u32| entry(AceKind::Allow, mask, users);
+    let deny = |mask: u32| entry(AceKind::Deny, mask, users);
+    assert!(rt; covers(&deny(1), &allow(1)) && !covers(&allow(1), &deny(1)));
+    assert!(rt; last_is_dead(&[allow(0x3), allow(0x1)]));
+    assert!(rt; last_is_dead(&[deny(0x3), allow(0x1)]));
+    assert!(rt; last_is_dead(&[deny(0x3), deny(0x1)]));
+    assert!(rt; last_is_dead(&[allow(0x1), deny(0x2), allow(0x3)]));
+    assert!(rt; last_is_dead(&[allow(0x001F_01FF), allow(0x8000_0000)]));
+    assert!(rt; !last_is_dead(&[allow(0x3), deny(0x1)]));
+    assert!(rt; !last_is_dead(&[allow(0x1), allow(0x3)]));
+    assert!(rt; !last_is_dead(&[entry(AceKind::Deny, 0x3, everyone), allow(0x1)]));
+    let mut waiting = allow(0x3);
+    waiting.flags = AceFlags::IO;
+    assert!(rt; !last_is_dead(&[waiting, allow(0x1)]));
+    let limit = entry(AceKind::Allow, 0x1, owner_rights);
+    assert!(rt; last_is_dead(&[limit, limit]) && !last_is_dead(&[limit]));
+    let nothing = entry(AceKind::Allow, 0, owner_rights);
+    assert!(rt; !last_is_dead(&[allow(0x1), nothing]) && last_is_dead(&[limit, nothing]));
     Ok(())
 }
