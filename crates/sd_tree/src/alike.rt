@@ -10,7 +10,7 @@ use crate::shared::SharedList;
 use sd_acl::Ace;
 
 /// Whether the node has what it inherits and nothing else.
-fn only_inherits(dacl: &NodeDacl) -> bool
+pub(crate) fn only_inherits(dacl: &NodeDacl) -> bool
     ensures { result ≡ true → dacl.now ≡ NodeDacl.List false [] }
 {
     match dacl {

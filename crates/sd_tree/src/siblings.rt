@@ -5,7 +5,7 @@ ghost use Rattle.sd_path.specs.Names.{is_root};
 ghost use Rattle.sd_tree.specs.Sharing.{trustees_matter, IsSibling};
 ghost use Rattle.sd_tree.specs.View.{IsView};
 
-use crate::alike::{are_alike, trustees_matter};
+use crate::alike::{are_alike, only_inherits, trustees_matter};
 use crate::node::{Node, Row};
 use crate::nodes::locate;
 use crate::shared::SharedList;
@@ -98,6 +98,9 @@ impl TreeView<'_> {
         requires place { at ≤ length self.now.nodes.now }
         ensures { IfSome result (IsSibling self.now.nodes.now path.now row.now above.now) }
     {
+        if !only_inherits(&row.dacl) {
+            return None;
+        }
         if let Some(found) = self.sibling_among(path, row, above, true, at) {
             return Some(found);
         }
