@@ -233,7 +233,7 @@ static void runs_out(const row *row, int is_lasting, const outcome *due)
             wanting++;
             HOLDS(left_alone(&got) && taken == blocks);
         } else {
-            /* (a vector that may not grow to twice its room asks for what it needs) */
+            /* (a vector that may not grow to twice its room asks for what it needs, and one that gives room back does without) */
             HOLDS(same(&got, due, sizeof got));
         }
         hudarin_free(&kept);

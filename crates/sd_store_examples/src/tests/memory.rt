@@ -70,6 +70,7 @@ fn is_refused<R: Abort + AllocGlobal + Threads + Wait>(
     let Ended { told, was_refused } = ended.expect(rt, "memory is there");
     let words = texts(alloc, &told).expect(rt, "memory is there");
     let is_memory = was_refused && words.get(at).is_some_and(|word| word.as_str() == MEMORY);
+    assert!(rt; is_memory || !(was_refused && refusal.lasts), "{refused:?}");
     let due = due(alloc, at, is_memory).expect(rt, "memory is there");
     assert!(rt;
         are(&words[..due.len().min(words.len())], &due),
@@ -173,8 +174,9 @@ fn a_refused_publish_leaves_all_as_it_was(rt: HostRuntime) {
             let ended = played(&rt, alloc, of_administrators(3), Some(refused), &STEPS, &[]);
             let Ended { told, was_refused } = ended.expect(&rt, "memory is there");
             let words = texts(alloc, &told).expect(&rt, "memory is there");
-            let is_right = are(&words, &PUBLISHED) || (was_refused && are(&words, &REFUSED));
-            assert!(rt; is_right, "{refused:?}");
+            let is_refused = was_refused && are(&words, &REFUSED);
+            let is_published = !(was_refused && lasts) && are(&words, &PUBLISHED);
+            assert!(rt; is_refused || is_published, "{refused:?}");
             if !was_refused {
                 break;
             }
@@ -204,7 +206,8 @@ fn a_start_is_refused_in_turn(rt: HostRuntime) {
             let Ended { told, was_refused } = ended.expect(&rt, "memory is there");
             let words = texts(alloc, &told).expect(&rt, "memory is there");
             let is_refused = was_refused && (are(&words, &["Memory"]) || are(&words, &["Place"]));
-            assert!(rt; is_refused || are(&words, &PUBLISHED), "{refused:?}");
+            let is_started = !(was_refused && lasts) && are(&words, &PUBLISHED);
+            assert!(rt; is_refused || is_started, "{refused:?}");
             if !was_refused {
                 break;
             }

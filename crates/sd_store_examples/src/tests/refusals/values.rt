@@ -107,6 +107,10 @@ impl Call for Value {
         }
     }
 
+    fn gives_back(&self) -> bool {
+        matches!(self, Value::Printing(_) | Value::PrintingSid(_))
+    }
+
     fn told(&mut self, alloc: Global, answer: Answer) -> Result<String, AllocError> {
         match answer {
             Answer::Text(Ok(text)) => Ok(text),
