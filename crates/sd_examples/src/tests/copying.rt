@@ -54,7 +54,10 @@ fn entries_are_given_back(rt: HostRuntime) -> Result<(), Fail> {
     let alloc = rt.alloc();
     let (_, _, dacl) = parts(alloc, "D:(A;;FR;;;BU)(A;;FX;;;WD)")?;
     let copy = dacl.copy(alloc)?;
-    assert_eq!(rt; format!(in alloc; "{copy:?}")?, format!(in alloc; "{dacl:?}")?);
+    assert_eq!(rt;
+        format!(in alloc; "{copy:?}")?,
+        format!(in alloc; "{dacl:?}")?
+    );
     if let NodeDacl::List { entries, .. } = copy {
         let shown = format!(in alloc; "{:?}", entries.as_slice())?;
         assert!(rt; shown.contains("Mask(1179785)") && shown.contains("Mask(1179808)"));
