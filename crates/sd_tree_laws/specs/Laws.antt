@@ -63,6 +63,12 @@ GroupChangesOneNode =
     (g : MappingValue) (t : PlainTree) (path other : Names) (group : SidValue)
     → other ≢ path → dacl_at g (edited g t (SetGroup path group)) other ≡ dacl_at g t other
 
+-- nor does it change one to protect a node whose DACL is null
+abbrev pub KeepingANullChangesNone : Type 0
+KeepingANullChangesNone =
+    (g : MappingValue) (t : PlainTree) (path other : Names)
+    → dacl_at g t path ≡ None → other ≢ path → dacl_at g (edited g t (ProtectKeeping path)) other ≡ dacl_at g t other
+
 -- two trees with the same nodes at and below a protected one have the same DACLs there
 abbrev pub ProtectedStandsAlone : Type 0
 ProtectedStandsAlone =

@@ -1,6 +1,6 @@
 //! What follows from the rules of the tree.
 
-ghost use Rattle.sd_tree_laws.specs.Laws.{DaclIsOfParent, RootInheritsNothing, LawfulTreesAreClosed, OwnerChangesOneNode, GroupChangesOneNode, EditStaysBelow, ProtectedStandsAlone, UnmarkedEntryStays, NoPropagateGoesOneLevel, NothingWaitsInAnObject, InheritedHasId, OwnHasNoId, WithoutIdIsOwn, EveryListIsCanonical, OrderGrantsNothing, OrderKeepsOwnersLimit, KeepingLetsNobodyIn, KeepingGrantsNoNewRequest};
+ghost use Rattle.sd_tree_laws.specs.Laws.{DaclIsOfParent, RootInheritsNothing, LawfulTreesAreClosed, OwnerChangesOneNode, GroupChangesOneNode, KeepingANullChangesNone, EditStaysBelow, ProtectedStandsAlone, UnmarkedEntryStays, NoPropagateGoesOneLevel, NothingWaitsInAnObject, InheritedHasId, OwnHasNoId, WithoutIdIsOwn, EveryListIsCanonical, OrderGrantsNothing, OrderKeepsOwnersLimit, KeepingLetsNobodyIn, KeepingGrantsNoNewRequest};
 
 /// The DACL of a node is its own entries and what the DACL of its parent hands on, as it stands in the same tree; the
 /// root has nothing above it ([MS-DTYP] 2.5.3.4).
@@ -20,10 +20,11 @@ pub fn edit_stays_below()
 {}
 
 /// SetOwner and SetGroup change the DACL of no node but the edited one: what CREATOR OWNER and CREATOR GROUP became in
-/// it goes no further ([MS-DTYP] 2.5.3.4).
+/// it goes no further ([MS-DTYP] 2.5.3.4). Nor does ProtectKeeping of a node whose DACL is null.
 pub fn trustee_stays_in_the_node()
     ensures owner { OwnerChangesOneNode }
     ensures group { GroupChangesOneNode }
+    ensures null { KeepingANullChangesNone }
 {}
 
 /// The DACL of a protected node (control bit PD), and each DACL below it, is the same whatever stands above the
