@@ -6,7 +6,9 @@ use crate::tests::threads::Errand;
 use sd_acl::{Descriptor, Verdict};
 use sd_sid::{GenericMapping, Mask};
 use sd_text::print_sddl;
-use sd_tree::{CheckReply, Edit, EditRefusal, NodeKind, Path, RootSpec, Tree, TreeError};
+use sd_tree::{
+    CheckReply, Edit, EditRefusal, Entries, NodeDacl, NodeKind, Path, RootSpec, Tree, TreeError,
+};
 use std::test::Fail;
 
 const ADMINISTRATORS: &str = "O:BAG:SYD:(A;OICI;FA;;;BA)";
@@ -243,6 +245,49 @@ fn edits_too_deep(rt: HostRuntime) -> Result<(), Fail> {
         tree.apply(&edit(alloc, Step::Nested(names)).ok_or("an edit")?)?;
     }
     expect_all(&rt, &tree, (Step::Nested(65), "/a", "refused 10 TooDeep"))
+}
+
+/// How many objects a tree takes beside the root and the containers.
+const OBJECTS: u64 = 65_532;
+
+/// An object in the root, with an empty list that inherits nothing.
+fn object(alloc: Global, number: u64) -> Result<Edit, Fail> {
+    let RootSpec { owner, group, .. } = root(alloc, ADMINISTRATORS, 1).ok_or("a root")?;
+    let path = format!(in alloc; "/{number}")?;
+    Ok(Edit::AddObject {
+        path: Path::read(alloc, path.as_str())?,
+        owner,
+        group,
+        dacl: NodeDacl::List {
+            protected: true,
+            entries: Entries::new(Vec::new(alloc)),
+        },
+    })
+}
+
+#[test]
+fn a_full_tree_refuses_a_node_or_wants_memory(rt: HostRuntime) -> Result<(), Fail> {
+    let alloc = rt.alloc();
+    let mut tree = tree(alloc)?;
+    for number in 0..OBJECTS {
+        tree.apply(&object(alloc, number)?)?;
+    }
+    let edit = object(alloc, OBJECTS)?;
+    for lasts in [false, true] {
+        for number in 1..MOST {
+            Refusal { number, lasts }.begin(alloc);
+            let applied = tree.apply(&edit);
+            let was_refused = Refusal::ended(alloc);
+            let is_full = applied == Err(TreeError::Refused(EditRefusal::NodesFull));
+            let is_memory = was_refused && applied == Err(TreeError::Memory);
+            assert!(rt; is_full || is_memory, "{number}");
+            assert_eq!(rt; tree.len(), 65_535);
+            if !was_refused {
+                break;
+            }
+        }
+    }
+    Ok(())
 }
 
 #[test]
