@@ -1,7 +1,8 @@
 //! What no clause says: that calls which take memory succeed where it is there, and texts with their values or faults.
 
 use super::*;
-use sd_sid::Sid;
+use sd_acl::{Ace, AceFlags, AceKind};
+use sd_sid::{Mask, Sid};
 use std::alloc::{AllocError, Global};
 use std::test::Fail;
 
@@ -242,5 +243,21 @@ fn long_texts(rt: HostRuntime) -> Result<(), Fail> {
         printed(rt.alloc(), section.as_str())?.as_str(),
         "5 UnknownAlias at 1000021"
     );
+    Ok(())
+}
+
+#[test]
+fn prints_an_entry_and_a_sid_in_full(rt: HostRuntime) -> Result<(), Fail> {
+    let sid = read_sid_text("bu").ok().ok_or("a SID")?;
+    let text = print_full_sid(rt.alloc(), &sid)?;
+    assert_eq!(rt; text.as_str(), "S-1-5-32-545");
+    let entry = Ace {
+        kind: AceKind::Deny,
+        flags: AceFlags::IO,
+        mask: Mask(0x0012_0116),
+        sid,
+    };
+    let text = print_entry(rt.alloc(), &entry)?;
+    assert_eq!(rt; text.as_str(), "(D;IO;FW;;;BU)");
     Ok(())
 }

@@ -5,7 +5,7 @@ use Rattle.std.specs.Borrow.{Bor}
 use Rattle.sd_tool.specs.CommandLine.{InvocationValue, Audit as Audits, arguments_in, command_named, command_on, workers_of}
 use Rattle.sd_tool.specs.Laws.{is_shown, HelpStandsAlone, DashesKeepTexts}
 use Rattle.sd_tool.specs.declared.command_line.CommandName.{CommandName}
-use Rattle.sd_tool.specs.declared.command_line.CommandName.TheVariants.{Verdict, Why, Print, ToBinary, FromBinary, Script, Audit}
+use Rattle.sd_tool.specs.declared.command_line.CommandName.TheVariants.{Verdict, Why, Lint, Print, ToBinary, FromBinary, Script, Audit}
 
 -- an audit is neither help nor the version, whatever its number
 audit_runs : (workers : Option ℕ) → is_shown (option_map Audits workers) ≡ true → ⊥
@@ -22,6 +22,9 @@ command_runs Why [] h = cc
 command_runs Why (a ∷ []) h = cc
 command_runs Why (a ∷ b ∷ []) h = cc
 command_runs Why (a ∷ b ∷ c ∷ rest) h = cc
+command_runs Lint [] h = cc
+command_runs Lint (a ∷ []) h = cc
+command_runs Lint (a ∷ b ∷ rest) h = cc
 command_runs Print [] h = cc
 command_runs Print (a ∷ []) h = cc
 command_runs Print (a ∷ b ∷ rest) h = cc

@@ -1,2 +1,3 @@
 pub mod LawProofs
 pub mod Telling
+pub mod LintLines

@@ -28,7 +28,8 @@ use Rattle.sd_script.specs.Word.{IsToken, IsNoWordIn, texts}
 use Rattle.sd_script.specs.Output.{Prints}
 use Rattle.sd_script.specs.Run.{IsOutput}
 use Rattle.sd_script_audit.specs.Audit.{PrintsAudit}
-use Rattle.sd_tool.specs.CommandLine.{InvocationValue, Verdict as AsksVerdict, Why as AsksWhy, Print, ToBinary, FromBinary, Script as AsksScript, Audit as AsksAudit, Help, Version}
+use Rattle.sd_tool.specs.CommandLine.{InvocationValue, Verdict as AsksVerdict, Why as AsksWhy, Lint, Print, ToBinary, FromBinary, Script as AsksScript, Audit as AsksAudit, Help, Version}
+use Rattle.sd_tool.specs.Lint.{dacl_lines, or_clean, lint_outcome}
 use Rattle.sd_tool.specs.Why.{why_text}
 use Rattle.sd_tool.specs.declared.answer.Outcome.{Outcome}
 use Rattle.sd_tool.specs.declared.answer.Outcome.TheVariants.{Done, Refused}
@@ -97,6 +98,15 @@ AnswersVerdict form written user mask words printed outcome =
     ((d : DescriptorValue) × Spells sddl written d × AnswersUser form d user mask words printed outcome)
     ⊎ AnswersSddlFault written printed outcome
 
+-- the findings are printed, or that there are none
+abbrev pub IsLinted : List ℕ → List ℕ → Outcome → Type 0
+IsLinted lines printed outcome = (printed ≡ or_clean lines) × (outcome ≡ lint_outcome lines)
+
+abbrev pub AnswersLint : List ℕ → List ℕ → Outcome → Type 0
+AnswersLint written printed outcome =
+    ((d : DescriptorValue) × Spells sddl written d × IsLinted (dacl_lines d.dacl) printed outcome)
+    ⊎ AnswersSddlFault written printed outcome
+
 -- the canonical text
 abbrev pub AnswersPrint : List ℕ → List ℕ → Outcome → Type 0
 AnswersPrint written printed outcome =
@@ -137,6 +147,7 @@ AnswersAudit workers input printed outcome = IsOutput (PrintsAudit workers) inpu
 abbrev pub Answers : Option (List ℕ) → InvocationValue → List ℕ → Outcome → Type 0
 Answers input (AsksVerdict sddl user mask words) printed outcome = AnswersVerdict Short sddl user mask words printed outcome
 Answers input (AsksWhy sddl user mask words) printed outcome = AnswersVerdict Explained sddl user mask words printed outcome
+Answers input (Lint sddl) printed outcome = AnswersLint sddl printed outcome
 Answers input (Print sddl) printed outcome = AnswersPrint sddl printed outcome
 Answers input (ToBinary sddl) printed outcome = AnswersToBinary sddl printed outcome
 Answers input (FromBinary hex) printed outcome = AnswersFromBinary hex printed outcome

@@ -13,6 +13,7 @@ use Rattle.sd_tool.specs.declared.command_line.Invocation.TheVariants as invocat
 pub data InvocationValue : Type 0 where
   Verdict : List ℕ → List ℕ → List ℕ → List (Bor (List ℕ)) → InvocationValue
   Why : List ℕ → List ℕ → List ℕ → List (Bor (List ℕ)) → InvocationValue
+  Lint : List ℕ → InvocationValue
   Print : List ℕ → InvocationValue
   ToBinary : List ℕ → InvocationValue
   FromBinary : List ℕ → InvocationValue
@@ -24,6 +25,7 @@ pub data InvocationValue : Type 0 where
 abbrev pub invocation_of : Invocation → InvocationValue
 invocation_of (invocations.Verdict sddl user mask words) = Verdict sddl.now user.now mask.now words.now
 invocation_of (invocations.Why sddl user mask words) = Why sddl.now user.now mask.now words.now
+invocation_of (invocations.Lint sddl) = Lint sddl.now
 invocation_of (invocations.Print sddl) = Print sddl.now
 invocation_of (invocations.ToBinary sddl) = ToBinary sddl.now
 invocation_of (invocations.FromBinary hex) = FromBinary hex.now
@@ -37,12 +39,13 @@ abbrev pub command_named : List ℕ → Option CommandName
 command_named word =
     if bytes_eq word (codes "verdict") then Some names.Verdict
     else (if bytes_eq word (codes "why") then Some names.Why
+    else (if bytes_eq word (codes "lint") then Some names.Lint
     else (if bytes_eq word (codes "print") then Some names.Print
     else (if bytes_eq word (codes "tobin") then Some names.ToBinary
     else (if bytes_eq word (codes "frombin") then Some names.FromBinary
     else (if bytes_eq word (codes "script") then Some names.Script
     else (if bytes_eq word (codes "audit") then Some names.Audit
-    else None))))))
+    else None)))))))
 
 abbrev pub is_help_flag : List ℕ → Bool
 is_help_flag word = bytes_eq word (codes "-h") || bytes_eq word (codes "--help")
@@ -76,6 +79,7 @@ workers_of (a ∷ b ∷ c ∷ rest) = None
 abbrev pub command_on : CommandName → List (Bor (List ℕ)) → Option InvocationValue
 command_on names.Verdict (sddl ∷ user ∷ mask ∷ words) = Some (Verdict sddl.now user.now mask.now words)
 command_on names.Why (sddl ∷ user ∷ mask ∷ words) = Some (Why sddl.now user.now mask.now words)
+command_on names.Lint (sddl ∷ []) = Some (Lint sddl.now)
 command_on names.Print (sddl ∷ []) = Some (Print sddl.now)
 command_on names.ToBinary (sddl ∷ []) = Some (ToBinary sddl.now)
 command_on names.FromBinary (hex ∷ []) = Some (FromBinary hex.now)
@@ -121,6 +125,7 @@ is_script Script = true
 is_script (Audit workers) = true
 is_script (Verdict sddl user mask words) = false
 is_script (Why sddl user mask words) = false
+is_script (Lint sddl) = false
 is_script (Print sddl) = false
 is_script (ToBinary sddl) = false
 is_script (FromBinary hex) = false

@@ -1,7 +1,7 @@
 -- What follows from the reading of a command line.
 use Rattle.std.specs.Prelude.{◌≡◌, ℕ, ◌≤◌, List, ◌∷◌, length, Bool, true, false, Option, Some, None, codes}
 use Rattle.std.specs.Borrow.{Bor}
-use Rattle.sd_tool.specs.CommandLine.{InvocationValue, Verdict, Why, Print, ToBinary, FromBinary, Script, Audit, Help, Version, reading}
+use Rattle.sd_tool.specs.CommandLine.{InvocationValue, Verdict, Why, Lint, Print, ToBinary, FromBinary, Script, Audit, Help, Version, reading}
 
 -- whether what was read is help or the version
 abbrev pub is_shown : Option InvocationValue → Bool
@@ -9,6 +9,7 @@ is_shown (Some (Help command)) = true
 is_shown (Some Version) = true
 is_shown (Some (Verdict sddl user mask words)) = false
 is_shown (Some (Why sddl user mask words)) = false
+is_shown (Some (Lint sddl)) = false
 is_shown (Some (Print sddl)) = false
 is_shown (Some (ToBinary sddl)) = false
 is_shown (Some (FromBinary hex)) = false

@@ -4,3 +4,4 @@ pub mod Laws
 pub mod Output
 pub mod Status
 pub mod Why
+pub mod Lint

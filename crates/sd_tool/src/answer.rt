@@ -8,6 +8,7 @@ ghost use Rattle.sd_tool.specs.Status.{outcome_status};
 use crate::command_line::Invocation;
 use crate::convert::{answer_from_binary, answer_print, answer_to_binary};
 use crate::failure::Failure;
+use crate::lint::answer_lint;
 use crate::usage::help;
 use crate::verdict::{Form, answer_verdict};
 use crate::version::version_text;
@@ -63,6 +64,7 @@ pub(crate) fn answer_to(alloc: Global, invocation: Invocation<'_>) -> Result<Ans
             mask,
             words,
         } => answer_verdict(alloc, Form::Explained, sddl, user, mask, words),
+        Invocation::Lint { sddl } => answer_lint(alloc, sddl),
         Invocation::Print { sddl } => answer_print(alloc, sddl),
         Invocation::ToBinary { sddl } => answer_to_binary(alloc, sddl),
         Invocation::FromBinary { hex } => answer_from_binary(alloc, hex),

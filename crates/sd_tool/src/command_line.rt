@@ -9,6 +9,8 @@ pub(crate) enum CommandName {
     Verdict,
     /// `why`.
     Why,
+    /// `lint`.
+    Lint,
     /// `print`.
     Print,
     /// `tobin`.
@@ -37,6 +39,10 @@ pub(crate) enum Invocation<'a> {
         user: &'a str,
         mask: &'a str,
         words: &'a [&'a str],
+    },
+    /// What is doubtful in a descriptor.
+    Lint {
+        sddl: &'a str,
     },
     /// The canonical text of a descriptor.
     Print {
@@ -71,6 +77,7 @@ impl CommandName {
         match word {
             "verdict" => Some(CommandName::Verdict),
             "why" => Some(CommandName::Why),
+            "lint" => Some(CommandName::Lint),
             "print" => Some(CommandName::Print),
             "tobin" => Some(CommandName::ToBinary),
             "frombin" => Some(CommandName::FromBinary),
@@ -163,6 +170,7 @@ fn command_on<'a>(command: CommandName, arguments: &'a [&'a str]) -> Option<Invo
             mask,
             words,
         }),
+        (CommandName::Lint, [sddl]) => Some(Invocation::Lint { sddl }),
         (CommandName::Print, [sddl]) => Some(Invocation::Print { sddl }),
         (CommandName::ToBinary, [sddl]) => Some(Invocation::ToBinary { sddl }),
         (CommandName::FromBinary, [hex]) => Some(Invocation::FromBinary { hex }),

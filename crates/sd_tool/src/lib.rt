@@ -16,6 +16,7 @@ mod command_line;
 mod convert;
 mod failure;
 mod laws;
+mod lint;
 mod program;
 mod shown;
 mod usage;

@@ -52,6 +52,27 @@ Statuses:
 Example:
   sdstore why 'D:(D;;0x2;;;BU)(A;;FR;;;BU)' S-1-5-21-1-2-3-1001 0x10003 BU";
 
+const LINT_NOTES: &str = "\
+A first '--' after 'lint' is dropped.
+
+Prints a line for each finding, or 'clean':
+  no DACL grants everything, a null DACL grants everything
+  entry N (..) is out of order behind entry M
+  entry N (..) names no right
+  entry N (..) is inherited by nothing
+  entry N (..) repeats entry M
+  entry N (..) decides nothing behind M ..
+  entry N (..) limits the owner
+
+Statuses:
+  0  clean
+  1  a finding, or an argument's fault
+  2  the words aren't a command line
+  3  memory was wanting, or the output didn't take the answer
+
+Example:
+  sdstore lint 'D:(A;;FR;;;BU)(D;;FW;;;BU)(A;;0x1;;;BU)'";
+
 const PRINT_NOTES: &str = "\
 A first '--' after 'print' is dropped.
 
@@ -141,6 +162,7 @@ pub(crate) fn help(alloc: Global, command: Option<CommandName>) -> Result<String
         None => sdstore(alloc)?,
         Some(CommandName::Verdict) => verdict_command(alloc)?,
         Some(CommandName::Why) => why_command(alloc)?,
+        Some(CommandName::Lint) => lint_command(alloc)?,
         Some(CommandName::Print) => print_command(alloc)?,
         Some(CommandName::ToBinary) => to_binary_command(alloc)?,
         Some(CommandName::FromBinary) => from_binary_command(alloc)?,
@@ -197,6 +219,7 @@ fn sdstore<'a>(alloc: Global) -> Result<Command<'a>, AllocError> {
         .after_help(NOTES)
         .subcommand(verdict_command(alloc)?)?
         .subcommand(why_command(alloc)?)?
+        .subcommand(lint_command(alloc)?)?
         .subcommand(print_command(alloc)?)?
         .subcommand(to_binary_command(alloc)?)?
         .subcommand(from_binary_command(alloc)?)?
@@ -228,6 +251,14 @@ fn request<'a>(alloc: Global, command: Command<'a>) -> Result<Command<'a>, Alloc
         .arg(text(alloc, "USER").help(USER))?
         .arg(text(alloc, "MASK").help(MASK))?
         .arg(text(alloc, "WORD").required(false).num_args(0..).help(WORD))
+}
+
+fn lint_command<'a>(alloc: Global) -> Result<Command<'a>, AllocError> {
+    Command::new(alloc, "lint")
+        .about("Prints what is doubtful in a descriptor's DACL")
+        .override_usage("sdstore lint [--] <SDDL>")
+        .after_help(LINT_NOTES)
+        .arg(text(alloc, "SDDL").help("The descriptor in SDDL"))
 }
 
 fn print_command<'a>(alloc: Global) -> Result<Command<'a>, AllocError> {

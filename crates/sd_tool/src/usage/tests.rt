@@ -56,7 +56,9 @@ fn expect(
 
 #[test]
 fn both_read_commands(rt: HostRuntime) -> Result<(), AllocError> {
-    let rows: [&[&str]; 38] = [
+    let rows: [&[&str]; 40] = [
+        &["lint", "D:"],
+        &["lint", "--", "-h"],
         &["why", "D:", "SY", "0x1"],
         &["why", "--", "-h", "SY", "0x1", "4", "--help"],
         &["verdict", "D:", "SY", "0x1"],
@@ -103,13 +105,16 @@ fn both_read_commands(rt: HostRuntime) -> Result<(), AllocError> {
 
 #[test]
 fn both_read_help_and_version(rt: HostRuntime) -> Result<(), AllocError> {
-    let rows: [&[&str]; 25] = [
+    let rows: [&[&str]; 28] = [
         &["-h"],
         &["--help"],
         &["help"],
         &["help", "help"],
         &["help", "verdict"],
         &["help", "why"],
+        &["help", "lint"],
+        &["lint", "-h"],
+        &["lint", "--help"],
         &["help", "print"],
         &["help", "tobin"],
         &["help", "frombin"],

@@ -80,6 +80,22 @@ denied 0x10000 by no entry
 }
 
 #[test]
+fn prints_findings(rt: HostRuntime) {
+    let findings = "entry 2 (D;;FW;;;BU) is out of order behind entry 1
+entry 3 (A;;0x1;;;BU) decides nothing behind 1
+";
+    let rows = [
+        ("D:(A;;FR;;;BU)(D;;FW;;;BU)(A;;0x1;;;BU)", findings, 1),
+        ("D:", "clean\n", 0),
+        ("", "no DACL grants everything\n", 1),
+        ("x", "fault sddl 1 Syntax at 0\n", 1),
+    ];
+    for (sddl, lines, status) in rows {
+        expect(&rt, &["sdstore", "lint", sddl], lines, status);
+    }
+}
+
+#[test]
 fn tells_of_the_first_argument_that_is_not_read(rt: HostRuntime) {
     let rows = [
         (

@@ -1,0 +1,107 @@
+-- What `lint` finds in a descriptor: a line for each finding, entry by entry, or `clean`.
+use Rattle.std.specs.Prelude.{ℕ, zero, suc, ◌+◌, Bool, not, ◌&&◌, ◌||◌, ◌==◌, List, [], ◌∷◌, ◌++◌, length, take, Option, Some, None, slice_get, if◌then◌else◌, position, codes}
+use Rattle.std.specs.Fmt.{decimal}
+use Rattle.sd_sid.specs.Mask.{holds, mask_of}
+use Rattle.sd_sid.specs.Mapping.{file_mapping, mapped}
+use Rattle.sd_sid.specs.Sid.{same_sid, owner_rights}
+use Rattle.sd_acl.specs.Ace.{is_allow, is_inherit_only}
+use Rattle.sd_acl.specs.Canonical.{is_inherited, is_explicit, allows, denies}
+use Rattle.sd_acl.specs.declared.ace.Ace.{Ace}
+use Rattle.sd_acl.specs.declared.ace.AceKind.{AceKind}
+use Rattle.sd_acl.specs.declared.descriptor.Dacl.{Dacl}
+use Rattle.sd_acl.specs.declared.descriptor.Dacl.TheVariants.{Absent, Null, List as Entries}
+use Rattle.sd_text.specs.Canon.{entry_canon}
+use Rattle.sd_explain.specs.Dead.{covers, is_dead}
+use Rattle.sd_script.specs.Answer.{line}
+use Rattle.sd_tool.specs.declared.answer.Outcome.{Outcome}
+use Rattle.sd_tool.specs.declared.answer.Outcome.TheVariants.{Done, Refused}
+
+-- ---- what two entries are to each other
+
+-- the later one stands out of canonical order: an explicit entry behind an inherited one, or an explicit deny behind an
+-- explicit allow
+abbrev pub is_misplaced : Ace → Ace → Bool
+is_misplaced later earlier = is_explicit later && (is_inherited earlier || (allows earlier && denies later))
+
+abbrev pub same_kind : AceKind → AceKind → Bool
+same_kind later earlier = if is_allow later then is_allow earlier else not (is_allow earlier)
+
+-- both say the same
+abbrev pub is_repeated : Ace → Ace → Bool
+is_repeated later earlier =
+    ((same_kind later.kind earlier.kind && later.flags.0 == earlier.flags.0) && later.mask == earlier.mask) && same_sid earlier.sid later.sid
+
+-- ---- what is wrong with one
+
+-- it waits to be inherited, and nothing inherits it: IO without OI or CI
+abbrev pub is_stranded : Ace → Bool
+is_stranded e = (is_inherit_only e && not (holds e.flags.0 0)) && not (holds e.flags.0 1)
+
+-- it is effective and for OWNER RIGHTS, so that the owner's two rights come from entries alone
+abbrev pub limits : Ace → Bool
+limits e = not (is_inherit_only e) && same_sid e.sid owner_rights
+
+-- ---- lines
+
+abbrev pub entry_head : ℕ → Ace → List ℕ
+entry_head place e = codes "entry " ++ decimal (place + 1) ++ codes " " ++ entry_canon e ++ codes " "
+
+-- what is so of an entry, where it is
+abbrev pub where_so : Bool → List ℕ → List ℕ → List ℕ
+where_so test head what = if test then line (head ++ what) else []
+
+-- what an entry is to the first earlier one of which it is so
+abbrev pub where_behind : Option ℕ → List ℕ → List ℕ → List ℕ
+where_behind None head what = []
+where_behind (Some earlier) head what = line (head ++ what ++ decimal (earlier + 1))
+
+-- both name some right
+abbrev pub shares_a_right : Ace → Ace → Bool
+shares_a_right earlier e = not (mask_of (λ b. holds (mapped file_mapping earlier.mask) b && holds (mapped file_mapping e.mask) b) 32 == 0)
+
+-- the number of an entry that covers the later one and shares a right with it, and of all below a place
+abbrev pub covering_number : Ace → ℕ → Option Ace → List ℕ
+covering_number e place None = []
+covering_number e place (Some earlier) = if covers earlier e && shares_a_right earlier e then codes " " ++ decimal (place + 1) else []
+
+unfoldable pub covering_numbers : List Ace → Ace → ℕ → List ℕ
+covering_numbers es e zero = []
+covering_numbers es e (suc k) = covering_numbers es e k ++ covering_number e k (slice_get es k)
+
+-- it names rights, and never decides one
+abbrev pub is_useless : List Ace → ℕ → Ace → Bool
+is_useless es place e = not (e.mask == 0) && is_dead file_mapping es place
+
+-- the findings of an entry
+unfoldable pub entry_lines : List Ace → ℕ → Ace → List ℕ
+entry_lines es place e =
+    where_behind (position (is_misplaced e) (take place es)) (entry_head place e) (codes "is out of order behind entry ")
+    ++ where_so (e.mask == 0) (entry_head place e) (codes "names no right")
+    ++ where_so (is_stranded e) (entry_head place e) (codes "is inherited by nothing")
+    ++ where_behind (position (is_repeated e) (take place es)) (entry_head place e) (codes "repeats entry ")
+    ++ where_so (is_useless es place e) (entry_head place e) (codes "decides nothing behind" ++ covering_numbers es e place)
+    ++ where_so (limits e) (entry_head place e) (codes "limits the owner")
+
+abbrev pub lines_at : List Ace → ℕ → Option Ace → List ℕ
+lines_at es place None = []
+lines_at es place (Some e) = entry_lines es place e
+
+-- those of the entries below a place
+unfoldable pub list_lines : List Ace → ℕ → List ℕ
+list_lines es zero = []
+list_lines es (suc k) = list_lines es k ++ lines_at es k (slice_get es k)
+
+-- those of a DACL
+abbrev pub dacl_lines : Dacl → List ℕ
+dacl_lines Absent = line (codes "no DACL grants everything")
+dacl_lines Null = line (codes "a null DACL grants everything")
+dacl_lines (Entries es) = list_lines es (length es)
+
+-- or that there is none, and whether there is
+abbrev pub or_clean : List ℕ → List ℕ
+or_clean [] = line (codes "clean")
+or_clean (b ∷ bs) = b ∷ bs
+
+abbrev pub lint_outcome : List ℕ → Outcome
+lint_outcome [] = Done
+lint_outcome (b ∷ bs) = Refused
