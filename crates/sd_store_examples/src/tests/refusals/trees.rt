@@ -190,7 +190,7 @@ fn described(alloc: Global, descriptor: Option<Descriptor>) -> Result<String, Al
 fn text_of(alloc: Global, tree: &Tree) -> Result<String, AllocError> {
     let mut text = String::new(alloc);
     for edit in tree.journal() {
-        text.push_str(debug(alloc, edit)?.as_str())?;
+        text.push_str(debug(alloc, edit.get())?.as_str())?;
     }
     for path in PATHS {
         if let Ok(path) = Path::read(alloc, path) {
