@@ -7,6 +7,7 @@ mod inheriting;
 mod keeping;
 mod limits;
 mod may_read;
+mod moving;
 mod numbers;
 mod paths;
 mod refusing;
@@ -30,6 +31,7 @@ enum Act {
     Group,
     Remove,
     Keep,
+    Move,
     Show,
     Count,
     Check,
@@ -72,6 +74,7 @@ fn answer(
         Act::Owner | Act::Group => told(alloc, tree, &naming(act, path, text)?),
         Act::Remove => told(alloc, tree, &Edit::Remove { path }),
         Act::Keep => told(alloc, tree, &Edit::ProtectKeeping { path }),
+        Act::Move => told(alloc, tree, &going(alloc, path, text)?),
         Act::Container | Act::Object | Act::Dacl => {
             told(alloc, tree, &giving(alloc, act, path, text)?)
         }
@@ -85,6 +88,12 @@ fn naming(act: Act, path: Path, text: &str) -> Result<Edit, Fail> {
         Act::Group => Edit::SetGroup { path, group: sid },
         _ => Edit::SetOwner { path, owner: sid },
     })
+}
+
+/// A move to the path of a text.
+fn going(alloc: Global, source: Path, text: &str) -> Result<Edit, Fail> {
+    let target = Path::read(alloc, text)?;
+    Ok(Edit::Move { source, target })
 }
 
 /// An edit that gives a DACL.

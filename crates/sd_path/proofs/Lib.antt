@@ -1,3 +1,4 @@
+pub mod Moved
 pub mod PathBytes
 pub mod PathTexts
 pub mod Paths

@@ -1,5 +1,5 @@
 -- Paths: what holds a path, what it begins with, and the order.
-use Rattle.std.proofs.Common.{◌≡◌, ℕ, true, false, ◌&&◌, List, [], ◌∷◌, ◌++◌, refl, sym, ◌∙◌, ap, ap₂, ◌≢◌}
+use Rattle.std.proofs.Common.{◌≡◌, ℕ, true, false, ◌&&◌, List, [], ◌∷◌, ◌++◌, length, drop, if◌then◌else◌, refl, sym, ◌∙◌, ap, ap₂, ◌≢◌, append_assoc}
 use Rattle.std.specs.Str.{bytes_eq}
 use Rattle.std.specs.Ordering.{nat_cmp, ordering_then}
 use Rattle.std.specs.Cmp.{IsTotalOrder}
@@ -10,7 +10,7 @@ use Rattle.std.specs.declared.cmp.Ordering.TheVariants.{Less, Equal, Greater}
 use Rattle.std.proofs.lemmas.Cmp.{lists_total, nat_list_cmp_total, tied_itself, tied_back}
 use Rattle.std.proofs.lemmas.Bool.{and_parts, and_from, false≢true}
 use Rattle.std.proofs.lemmas.Slice.Eq.{bytes_eq-Decides}
-use Rattle.sd_path.specs.Names.{Names, names_cmp, up, is_root, is_within}
+use Rattle.sd_path.specs.Names.{Names, names_cmp, up, is_root, is_within, moved_path}
 
 -- ---- what holds a path
 
@@ -29,6 +29,12 @@ pub push-up : (path : Names) → is_root path ≡ false → up path ++ last_name
 push-up [] h = absurd (false≢true (sym h))
 push-up (n ∷ []) h = refl
 push-up (n ∷ m ∷ path) h = ap (λ p. n ∷ p) (push-up (m ∷ path) refl)
+
+pub up-append : (top rest : Names) → is_root rest ≡ false → up (top ++ rest) ≡ top ++ up rest
+up-append top rest h =
+    ap (λ names. up (top ++ names)) (sym (push-up rest h))
+    ∙ ap up (sym (append_assoc top (up rest) (last_name rest ∷ [])))
+    ∙ up-push (top ++ up rest) (last_name rest)
 
 pub push_not_root : (path : Names) (name : List ℕ) → is_root (path ++ name ∷ []) ≡ false
 push_not_root [] name = refl
@@ -65,6 +71,20 @@ within_rest (n ∷ top) (m ∷ path) h =
     let parts = and_parts (bytes_eq n m) (is_within top path) h in
     let found = within_rest top path parts.1 in
     (found.0, ap₂ (λ x xs. x ∷ xs) (sym (same_name n m parts.0)) found.1)
+
+drop_top : (top rest : Names) → drop (length top) (top ++ rest) ≡ rest
+drop_top [] rest = refl
+drop_top (n ∷ top) rest = drop_top top rest
+
+-- what stands below the source goes below the target
+pub moved_path-append : (source target rest : Names) → moved_path source target (source ++ rest) ≡ target ++ rest
+moved_path-append source target rest =
+    ap (λ b. if b then target ++ drop (length source) (source ++ rest) else source ++ rest) (within-append source rest)
+    ∙ ap (λ names. target ++ names) (drop_top source rest)
+
+-- and all else stays
+pub moved_path-outside : (source target path : Names) → is_within source path ≡ false → moved_path source target path ≡ path
+moved_path-outside source target path out = ap (λ b. if b then target ++ drop (length source) path else path) out
 
 pub within_trans : (a b c : Names) → is_within a b ≡ true → is_within b c ≡ true → is_within a c ≡ true
 within_trans [] b c h k = refl
@@ -124,6 +144,11 @@ pub up_before : (path : Names) → is_root path ≡ false → names_cmp (up path
 up_before [] h = absurd (false≢true (sym h))
 up_before (n ∷ []) h = refl
 up_before (n ∷ m ∷ path) h = tied_first n n (names_cmp (up (m ∷ path)) (m ∷ path)) refl ∙ up_before (m ∷ path) refl
+
+-- what two paths begin with doesn't tell in their order
+pub names_cmp_prefix : (top a b : Names) → names_cmp (top ++ a) (top ++ b) ≡ names_cmp a b
+names_cmp_prefix [] a b = refl
+names_cmp_prefix (n ∷ top) a b = tied_first n n (names_cmp (top ++ a) (top ++ b)) refl ∙ names_cmp_prefix top a b
 
 between_by : (x y : List ℕ) (first second : Ordering) (rest back : Ordering) (G : Type 0)
     → slice_cmp nat_cmp x y ≡ first → slice_cmp nat_cmp y x ≡ second

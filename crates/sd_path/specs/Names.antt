@@ -1,5 +1,5 @@
 -- Paths: a path is the list of its names from the root down, and a name the list of its bytes.
-use Rattle.std.specs.Prelude.{◌≡◌, ℕ, ◌≤◌, Bool, true, false, not, ◌&&◌, ◌||◌, ◌==◌, nat_lt, nat_le, if◌then◌else◌, List, [], ◌∷◌, ◌++◌, length}
+use Rattle.std.specs.Prelude.{◌≡◌, ℕ, ◌≤◌, Bool, true, false, not, ◌&&◌, ◌||◌, ◌==◌, nat_lt, nat_le, if◌then◌else◌, List, [], ◌∷◌, ◌++◌, length, drop}
 use Rattle.std.specs.List.{list_all, onto_first}
 use Rattle.std.specs.Ordering.{nat_cmp}
 use Rattle.std.specs.Cmp.Lexicographic.{slice_cmp}
@@ -28,6 +28,10 @@ abbrev pub is_within : Names → Names → Bool
 is_within [] path = true
 is_within (name ∷ top) [] = false
 is_within (name ∷ top) (first ∷ path) = bytes_eq name first && is_within top path
+
+-- the path with the target in place of the source that it begins with; one that doesn't begin with that stays
+abbrev pub moved_path : Names → Names → Names → Names
+moved_path source target path = if is_within source path then target ++ drop (length source) path else path
 
 -- no name has `/` or a zero byte
 abbrev pub is_name_byte : ℕ → Bool

@@ -1,6 +1,7 @@
 //! Paths.
 
-ghost use Rattle.std.specs.Prelude.{◌≡◌, [], ◌∷◌, ◌++◌, IfOk};
+ghost use Rattle.std.specs.Prelude.{◌≡◌, ◌≤◌, true, [], ◌∷◌, ◌++◌, length, IfOk};
+ghost use Rattle.sd_path.specs.Names.{is_within, moved_path};
 ghost use Rattle.sd_path.specs.PathText.{IsChildOf};
 
 use crate::error::PathError;
@@ -65,6 +66,26 @@ impl Path {
         })
     }
 
+    /// The path with the target in place of the source that it begins with, where that has no more than 128 names.
+    pub fn moved(
+        &self,
+        alloc: Global,
+        source: &PathRef<'_>,
+        target: &PathRef<'_>,
+    ) -> Result<Path, AllocError>
+        requires within { is_within source.now self.now ≡ true }
+        requires fits { length (moved_path source.now target.now self.now) ≤ 128 }
+        ensures { IfOk result (λ path. path ≡ moved_path source.now target.now self.now) }
+    {
+        let (_, rest) = self.bytes.split_at(source.bytes.len());
+        let bytes = joined(alloc, target.bytes, rest)?;
+        let below = self.count - source.count;
+        Ok(Path {
+            bytes,
+            count: target.count + below,
+        })
+    }
+
     /// An equal path.
     pub fn copy(&self, alloc: Global) -> Result<Path, AllocError>
         ensures { IfOk result (λ path. path ≡ self.now) }
@@ -85,5 +106,15 @@ fn with_name(alloc: Global, above: &[u8], name: &[u8]) -> Result<Vec<u8>, AllocE
     bytes.extend_from_slice(above)?;
     bytes.extend_from_slice(name)?;
     bytes.push(0)?;
+    Ok(bytes)
+}
+
+/// The bytes of two slices, one behind the other.
+fn joined(alloc: Global, front: &[u8], back: &[u8]) -> Result<Vec<u8>, AllocError>
+    ensures { IfOk result (λ bytes. bytes.items ≡ front.now ++ back.now) }
+{
+    let mut bytes = Vec::with_capacity(alloc, front.len() + back.len())?;
+    bytes.extend_from_slice(front)?;
+    bytes.extend_from_slice(back)?;
     Ok(bytes)
 }

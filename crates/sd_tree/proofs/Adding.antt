@@ -1,9 +1,9 @@
 -- One more node, where none stands.
-use Rattle.std.proofs.Common.{◌≡◌, ◌≢◌, ℕ, ◌<◌, ◌≤◌, true, false, List, [], ◌∷◌, ◌++◌, length, get_or, Option, Some, None, IsSome, is_some, Result, IfOk, IfErr, MatchOption, inl, inr, refl, sym, ap, subst, ◌∙◌, arith}
+use Rattle.std.proofs.Common.{◌≡◌, ◌≢◌, ℕ, ◌<◌, ◌≤◌, true, false, List, [], ◌∷◌, ◌++◌, length, get_or, Option, Some, None, IsSome, is_some, Result, IfOk, IfErr, MatchOption, inl, inr, sym, ap, subst, ◌∙◌, arith}
 use Rattle.std.specs.List.{HoldsAt, AllWithin}
 use Rattle.std.specs.FinMap as finite
 use Rattle.std.specs.declared.cmp.Ordering.TheVariants.{Less, Greater}
-use Rattle.std.proofs.lemmas.Bool.{cases_Bool, false≢true}
+use Rattle.std.proofs.lemmas.Bool.{cases_Bool}
 use Rattle.sd_sid.specs.Mapping.{MappingValue}
 use Rattle.sd_acl.specs.declared.ace.Ace.{Ace}
 use Rattle.sd_path.specs.Names.{Names, names_cmp, is_within}
@@ -24,41 +24,8 @@ use Rattle.sd_tree.proofs.Dacls.{dacl_at_outside}
 use Rattle.sd_tree.proofs.Rows.{same_or_other, row_at-insert_other, row_at-remove_other}
 use Rattle.sd_tree.proofs.Kept.{row_here}
 use Rattle.sd_tree.proofs.CarriedOut.{key_at, keys_count}
+use Rattle.sd_tree.proofs.Below.{some_row, within_root, nothing_below}
 use Rattle.sd_tree.proofs.Rebuilding.{parent_there, place_same}
-
-some_row : (o : Option Row) → IsSome o → (row : Row) × (o ≡ Some row)
-some_row None h = absurd (false≢true h)
-some_row (Some row) h = (row, refl)
-
-within_root : (q : Names) → is_within q [] ≡ true → q ≡ []
-within_root [] h = refl
-within_root (n ∷ q) h = absurd (false≢true h)
-
--- what stands on the way to a node is there
-pub tops_there : (t : PlainTree) → IsClosed t → (q path : Names) (row : Row) → row_at t path ≡ Some row → is_within q path ≡ true → IsSome (row_at t q)
-tops_there t closed q path = by_last P first step path
-  where
-    P : Names → Type 0
-    P p = (row : Row) → row_at t p ≡ Some row → is_within q p ≡ true → IsSome (row_at t q)
-
-    first : P []
-    first row there inside = ap (λ p. is_some (row_at t p)) (within_root q inside) ∙ ap is_some there
-
-    step : (p : Names) (name : List ℕ) → P p → P (p ++ name ∷ [])
-    step p name ih row there inside = elim (same_or_other (p ++ name ∷ []) q) [
-      | inl same ↦ ap (λ r. is_some (row_at t r)) (sym same) ∙ ap is_some there
-      | inr other ↦
-          let parent : IsSome (row_at t p) = ap (λ r. is_some (row_at t r)) (sym (up-push p name)) ∙ parent_there t closed (p ++ name ∷ []) row there in
-          let found = some_row (row_at t p) parent in
-          ih found.0 found.1 (ap (is_within q) (sym (up-push p name)) ∙ up_within q (p ++ name ∷ []) inside other)
-    ]
-
--- nothing stands below a free path
-pub nothing_below : (t : PlainTree) → IsClosed t → (q path : Names) (row : Row) → row_at t q ≡ None → row_at t path ≡ Some row → is_within q path ≡ false
-nothing_below t closed q path row free there = elim (cases_Bool (is_within q path)) [
-  | inl inside ↦ absurd (false≢true (ap is_some (sym free) ∙ tops_there t closed q path row there inside))
-  | inr outside ↦ outside
-]
 
 pub insertion : (g : MappingValue) (bs : List Boxed) (standing : AreStanding g bs) (q : Names) (row : Row) → IsAddable (tree_of bs) q
     → (at : ℕ) → at ≤ length bs → AllWithin (λ b. names_cmp (path_of_node b) q ≡ Less) bs 0 at → AllWithin (λ b. names_cmp (path_of_node b) q ≡ Greater) bs at (length bs)

@@ -48,7 +48,7 @@ pub keys_count : (bs : List Boxed) → IsInOrder bs → length (finite.keys (tre
 keys_count bs h = ap length (keys_kept bs h) ∙ length-map bs path_of_node
 
 -- a node that is whole in one tree is so in another that has the same DACL there
-whole_still : (g : MappingValue) (before after : PlainTree) (b : Boxed) → dacl_at g after (path_of_node b) ≡ dacl_at g before (path_of_node b) → IsWhole g before b → IsWhole g after b
+pub whole_still : (g : MappingValue) (before after : PlainTree) (b : Boxed) → dacl_at g after (path_of_node b) ≡ dacl_at g before (path_of_node b) → IsWhole g before b → IsWhole g after b
 whole_still g before after b e w = record { is = w.is ∙ sym e; fits = w.fits }
 
 whole_alike : (g : MappingValue) (t : PlainTree) (b c : Boxed) → path_of_node b ≡ path_of_node c → b.value.whole ≡ c.value.whole → IsWhole g t c → IsWhole g t b

@@ -26,7 +26,7 @@ not_true true h = absurd (false≢true h)
 not_true false h = refl
 
 -- what passes a test somewhere passes it at a place
-place_found : {X : Type 0} (p : X → Bool) (xs : List X) → list_any p xs ≡ true → (k : ℕ) × (k < length xs) × ((d : X) → p (get_or xs k d) ≡ true)
+pub place_found : {X : Type 0} (p : X → Bool) (xs : List X) → list_any p xs ≡ true → (k : ℕ) × (k < length xs) × ((d : X) → p (get_or xs k d) ≡ true)
 place_found p [] h = absurd (false≢true h)
 place_found p (x ∷ xs) h = elim (cases_Bool (p x)) [
   | inl pass ↦ (zero, omega arith, λ d. pass)

@@ -9,19 +9,20 @@ use Rattle.sd_sid.specs.Mapping.{MappingValue}
 use Rattle.sd_acl.specs.declared.ace.Ace.{Ace}
 use Rattle.sd_path.specs.Names.{Names, names_cmp, up, is_root}
 use Rattle.sd_tree.specs.Plain.{PlainTree, row_at, dacl_at}
-use Rattle.sd_tree.specs.Closed.{IsClosed, IsAddable}
+use Rattle.sd_tree.specs.Closed.{IsClosed, IsAddable, IsMovable}
 use Rattle.sd_tree.specs.Edits.{keeping, changed, edited}
 use Rattle.sd_tree.specs.Answers.{kind_at}
 use Rattle.sd_tree.specs.Journal.{opened, root_row, replay, IsLawful}
-use Rattle.sd_tree.specs.Refusals.{early_refusal, early_tests, first_fit, is_object, is_object_kind, has_child, addition_tests}
+use Rattle.sd_tree.specs.Refusals.{early_refusal, early_tests, first_fit, is_object, is_object_kind, has_child, addition_tests, move_tests}
 use Rattle.sd_tree.specs.declared.node.Row.{Row}
 use Rattle.sd_tree.specs.declared.node.NodeKind.{NodeKind}
 use Rattle.sd_tree.specs.declared.node.NodeKind.TheVariants.{Container, Object}
 use Rattle.sd_tree.specs.declared.node.NodeDacl.{NodeDacl}
 use Rattle.sd_tree.specs.declared.edit.Edit.{Edit}
-use Rattle.sd_tree.specs.declared.edit.Edit.TheVariants.{AddContainer, AddObject, SetOwner, SetGroup, SetDacl, Remove, ProtectKeeping}
+use Rattle.sd_tree.specs.declared.edit.Edit.TheVariants.{AddContainer, AddObject, SetOwner, SetGroup, SetDacl, Remove, ProtectKeeping, Move}
 use Rattle.sd_tree.specs.declared.opening.Opening.{Opening}
 use Rattle.sd_tree.proofs.Rows.{one_path, path_itself, same_or_other, row_at-empty, row_at-insert_same, row_at-insert_other, row_at-remove_same, row_at-remove_other, row_at-changed_same, row_at-changed_other}
+use Rattle.sd_tree.proofs.Moved.{closed_moved}
 use Rattle.sd_tree.proofs.Refused.{none_fits, not_refused}
 use Rattle.sd_tree.proofs.Journals.{holds_of_lawful}
 
@@ -119,15 +120,35 @@ not_there : (path : Names) (t : PlainTree) → IsClosed t → row_at t path ≡ 
 not_there [] t closed free = let there = known_row (row_at t []) Container closed.root in absurd (let found = there.1 in cc)
 not_there (n ∷ path) t closed free = refl
 
-pub addable : (t : PlainTree) (path : Names) (dacl : NodeDacl) → IsClosed t → first_fit (addition_tests t path dacl) ≡ None → IsAddable t path
-addable t path dacl closed e =
-    let tests = none_fits (addition_tests t path dacl) e in
-    let free = none_from (row_at t path) tests.1.1.0 in
+addable_by : (t : PlainTree) (path : Names) → IsClosed t → (not (is_root path) && not (is_some (row_at t (up path)))) ≡ false
+    → (not (is_root path) && is_object (row_at t (up path))) ≡ false → is_some (row_at t path) ≡ false → IsAddable t path
+addable_by t path closed parent object there =
+    let free = none_from (row_at t path) there in
     let below = not_there path t closed free in
     record {
       free = free;
-      held = container_from (row_at t (up path)) (one_of (is_root path) _ tests.0 below) (other_of (is_root path) _ tests.1.0 below);
+      held = container_from (row_at t (up path)) (one_of (is_root path) _ parent below) (other_of (is_root path) _ object below);
       below_root = below;
+    }
+
+pub addable : (t : PlainTree) (path : Names) (dacl : NodeDacl) → IsClosed t → first_fit (addition_tests t path dacl) ≡ None → IsAddable t path
+addable t path dacl closed e =
+    let tests = none_fits (addition_tests t path dacl) e in
+    addable_by t path closed tests.0 tests.1.0 tests.1.1.0
+
+not_not : (b : Bool) → not b ≡ false → b ≡ true
+not_not true h = refl
+not_not false h = absurd (false≢true (sym h))
+
+-- and those of a move
+pub movable : (t : PlainTree) (source target : Names) → IsClosed t → first_fit (move_tests t source target) ≡ None → IsMovable t source target
+movable t source target closed e =
+    let tests = none_fits (move_tests t source target) e in
+    record {
+      place = addable_by t target closed tests.0 tests.1.0 tests.1.1.0;
+      there = not_not (is_some (row_at t source)) tests.1.1.1.0;
+      below_root = tests.1.1.1.1.0;
+      apart = tests.1.1.1.1.1.0;
     }
 
 -- ---- a node less
@@ -188,6 +209,7 @@ closed_edited g t (Remove path) fits closed =
     let tests = none_fits (early_tests t (Remove path)) fits in
     closed_removed t path tests.1.1.0 tests.1.0 closed
 closed_edited g t (ProtectKeeping path) fits closed = closed_changed t path _ (kept_when_keeping (dacl_at g t path)) closed
+closed_edited g t (Move source target) fits closed = closed_moved t source target (movable t source target closed fits) closed
 
 -- the tree of each lawful journal
 pub closed_replay : (o : Opening) (journal : List Edit) → IsLawful o journal → IsClosed (replay o journal)

@@ -16,23 +16,24 @@ use Rattle.sd_tree.specs.Plain.{PlainTree, dacl_at}
 use Rattle.sd_tree.specs.Edits.{edited}
 use Rattle.sd_tree.specs.Refusals.{first_fit, early_refusal, refusal_in, room_tests, dacl_size, has_large_dacl}
 use Rattle.sd_tree.specs.Stored.{Boxed, entry_of, tree_of, AreNodes}
-use Rattle.sd_tree.specs.Plans.{IsPlan, IsRewriting}
+use Rattle.sd_tree.specs.Plans.{IsPlan, IsRewriting, run_moved}
 use Rattle.sd_tree.specs.declared.node.Row.{Row}
 use Rattle.sd_tree.specs.declared.edit.Edit.{Edit}
 use Rattle.sd_tree.specs.declared.plan.Plan.{Plan}
-use Rattle.sd_tree.specs.declared.plan.Plan.TheVariants.{Insert, Rewrite, Remove}
+use Rattle.sd_tree.specs.declared.plan.Plan.TheVariants.{Insert, Rewrite, Remove, Move}
 use Rattle.sd_tree.specs.declared.refusal.EditRefusal.{EditRefusal}
 use Rattle.sd_tree.specs.declared.refusal.EditRefusal.TheVariants.{AclTooLarge, JournalFull}
 use Rattle.sd_path.proofs.Paths.{names_cmp_total}
 use Rattle.sd_tree.proofs.Sorted.{put_set}
 use Rattle.sd_tree.proofs.Kept.{entries_kept, a_node}
+use Rattle.sd_tree.proofs.Went.{went}
 use Rattle.sd_tree.proofs.CarriedOut.{key_at, keys_count, inserted, removed}
 
-none_found : {X : Type 0} (p : X → Bool) (xs : List X) → ((k : ℕ) (d : X) → k < length xs → p (get_or xs k d) ≡ false) → list_any p xs ≡ false
+pub none_found : {X : Type 0} (p : X → Bool) (xs : List X) → ((k : ℕ) (d : X) → k < length xs → p (get_or xs k d) ≡ false) → list_any p xs ≡ false
 none_found p [] h = refl
 none_found p (x ∷ xs) h = ap (λ b. b || list_any p xs) (h zero x (omega arith)) ∙ none_found p xs (λ k d lt. h (suc k) d (omega arith))
 
-small_size : (n : ℕ) → n ≤ 65535 → nat_lt 65535 n ≡ false
+pub small_size : (n : ℕ) → n ≤ 65535 → nat_lt 65535 n ≡ false
 small_size n le = grind (arith, nat_tests)
 
 -- nodes that keep their whole DACLs have none that is too large
@@ -96,6 +97,9 @@ no_large_planned g bs kept after (Remove at) h =
     let place : at < length bs = omega (arith, h.place, keys_count bs kept.order) in
     let done = removed g bs kept after at h (a_node bs at place) in
     ap (has_large_dacl g) (sym done.0) ∙ no_large g (remove bs at) done.1
+no_large_planned g bs kept after (Move from to run) h =
+    let done = went g bs kept after from to run.items h in
+    ap (has_large_dacl g) (sym done.0) ∙ no_large g (run_moved from to run.items bs) done.1
 
 -- ---- the refusal, put together
 

@@ -39,7 +39,7 @@ not_before_itself p q same low =
     let tied : names_cmp p q ≡ Equal = ap (names_cmp p) (sym same) ∙ tied_itself names_cmp_total p in
     absurd cc
 
-not_both : (p q : Names) → names_cmp p q ≡ Less → names_cmp q p ≡ Less → ⊥
+pub not_both : (p q : Names) → names_cmp p q ≡ Less → names_cmp q p ≡ Less → ⊥
 not_both p q low high = let turned = greater_from_less names_cmp_total p q low in absurd cc
 
 pub place_before : (bs : List Boxed) → IsInOrder bs → (i j : ℕ) (b : Boxed) → i < length bs → j < length bs
@@ -190,7 +190,7 @@ module _ (g : MappingValue) (bs : List Boxed) (standing : AreStanding g bs) (q :
 
 -- ---- a DACL that takes too many bytes
 
-found_by : {X : Type 0} (p r : X → Bool) → ((x : X) → r x ≡ true → p x ≡ true) → (xs : List X) → list_any r xs ≡ true → list_any p xs ≡ true
+pub found_by : {X : Type 0} (p r : X → Bool) → ((x : X) → r x ≡ true → p x ≡ true) → (xs : List X) → list_any r xs ≡ true → list_any p xs ≡ true
 found_by p r implies [] h = h
 found_by p r implies (x ∷ xs) h = elim (cases_Bool (r x)) [
   | inl yes' ↦ ap (λ b. b || list_any p xs) (implies x yes')

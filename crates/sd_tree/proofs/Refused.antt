@@ -1,5 +1,5 @@
 -- What an edit that isn't refused has passed.
-use Rattle.std.proofs.Common.{◌≡◌, ℕ, Bool, true, false, cond, List, [], ◌∷◌, Option, Some, None, refl}
+use Rattle.std.proofs.Common.{◌≡◌, ℕ, Bool, true, false, cond, List, [], ◌∷◌, ◌++◌, Option, Some, None, refl, ap, ◌∙◌}
 use Rattle.std.specs.List.{AllByRecursion}
 use Rattle.std.specs.Option.{option_or}
 use Rattle.sd_sid.specs.Mapping.{MappingValue}
@@ -25,3 +25,19 @@ neither (Some x) b e = absurd cc
 pub not_refused : (g : MappingValue) (t : PlainTree) (count : ℕ) (e : Edit) → refusal_in g t count e ≡ None
     → (early_refusal t e ≡ None) × (late_refusal g t count e ≡ None)
 not_refused g t count e h = neither (early_refusal t e) (late_refusal g t count e) h
+
+-- tests in two lists, one behind the other
+pub fits_first : (xs ys : List (Bool × EditRefusal)) (refusal : EditRefusal) → first_fit xs ≡ Some refusal → first_fit (xs ++ ys) ≡ Some refusal
+fits_first [] ys refusal e = absurd cc
+fits_first (x ∷ xs) ys refusal e = by_test x.0 e (fits_first xs ys refusal)
+  where
+    by_test : (b : Bool) → cond b (Some x.1) (first_fit xs) ≡ Some refusal → (first_fit xs ≡ Some refusal → first_fit (xs ++ ys) ≡ Some refusal)
+        → cond b (Some x.1) (first_fit (xs ++ ys)) ≡ Some refusal
+    by_test true h later = h
+    by_test false h later = later h
+
+pub fits_later : (xs ys : List (Bool × EditRefusal)) → first_fit xs ≡ None → first_fit (xs ++ ys) ≡ first_fit ys
+fits_later [] ys e = refl
+fits_later (x ∷ xs) ys e =
+    let parts = passed x.0 x.1 (first_fit xs) e in
+    ap (λ b. cond b (Some x.1) (first_fit (xs ++ ys))) parts.0 ∙ fits_later xs ys parts.1

@@ -8,13 +8,10 @@ use Rattle.std.specs.declared.cmp.Ordering.{Ordering}
 use Rattle.std.specs.declared.cmp.Ordering.TheVariants.{Less, Equal, Greater}
 use Rattle.std.proofs.lemmas.Cmp.{tied_itself}
 use Rattle.std.proofs.lemmas.Bool.{cases_Bool, false_from_ne_true, false≢true}
-use Rattle.sd_sid.specs.Mapping.{MappingValue}
 use Rattle.sd_path.specs.Names.{Names, names_cmp}
 use Rattle.sd_tree.specs.Plain.{PlainTree, row_at}
-use Rattle.sd_tree.specs.Edits.{changed_where, changed, edited, edited_path}
+use Rattle.sd_tree.specs.Edits.{changed_where, changed}
 use Rattle.sd_tree.specs.declared.node.Row.{Row}
-use Rattle.sd_tree.specs.declared.edit.Edit.{Edit}
-use Rattle.sd_tree.specs.declared.edit.Edit.TheVariants.{AddContainer, AddObject, SetOwner, SetGroup, SetDacl, Remove, ProtectKeeping}
 use Rattle.sd_path.proofs.Paths.{names_cmp_total, names_cmp_antisymmetric}
 
 -- ---- one path or two
@@ -80,15 +77,3 @@ row_at-changed_same t path change = changed_where_same t path change (row_at t p
 
 pub row_at-changed_other : (t : PlainTree) (path q : Names) (change : Row → Row) → q ≢ path → row_at (changed t path change) q ≡ row_at t q
 row_at-changed_other t path q change other = changed_where_other t path q change (row_at t path) other
-
--- ---- an edit
-
--- an edit leaves each other node as it was
-pub row_at-edited_other : (g : MappingValue) (t : PlainTree) (e : Edit) (q : Names) → q ≢ edited_path e → row_at (edited g t e) q ≡ row_at t q
-row_at-edited_other g t (AddContainer path owner group dacl) q other = row_at-insert_other t path q _ other
-row_at-edited_other g t (AddObject path owner group dacl) q other = row_at-insert_other t path q _ other
-row_at-edited_other g t (SetOwner path owner) q other = row_at-changed_other t path q _ other
-row_at-edited_other g t (SetGroup path group) q other = row_at-changed_other t path q _ other
-row_at-edited_other g t (SetDacl path dacl) q other = row_at-changed_other t path q _ other
-row_at-edited_other g t (Remove path) q other = row_at-remove_other t path q other
-row_at-edited_other g t (ProtectKeeping path) q other = row_at-changed_other t path q _ other

@@ -21,7 +21,7 @@ use Rattle.sd_tree.specs.declared.node.Row.{Row}
 use Rattle.sd_tree.specs.declared.edit.Edit.{Edit}
 use Rattle.sd_tree.specs.declared.opening.Opening.{Opening}
 use Rattle.sd_tree.specs.declared.plan.Plan.{Plan}
-use Rattle.sd_tree.specs.declared.plan.Plan.TheVariants.{Insert, Rewrite, Remove}
+use Rattle.sd_tree.specs.declared.plan.Plan.TheVariants.{Insert, Rewrite, Remove, Move}
 use Rattle.sd_tree.specs.declared.refusal.EditRefusal.{EditRefusal}
 use Rattle.sd_tree.specs.declared.refusal.EditRefusal.TheVariants.{InheritedEntry, NotCanonical, AclTooLarge}
 use Rattle.sd_tree.specs.declared.refusal.TreeError.{TreeError}
@@ -33,6 +33,7 @@ use Rattle.sd_tree.proofs.Journals.{replay-none, replay-push, lawful_none, lawfu
 use Rattle.sd_tree.proofs.Closed.{closed_replay}
 use Rattle.sd_tree.proofs.Kept.{a_node}
 use Rattle.sd_tree.proofs.CarriedOut.{tree_from_entries, order_from_entries, keys_count, inserted, rewritten, removed}
+use Rattle.sd_tree.proofs.Went.{went}
 use Rattle.sd_tree.proofs.Rebuilding.{large_found}
 use Rattle.sd_tree.proofs.Fitting.{no_large}
 
@@ -82,6 +83,7 @@ can_carry : (g : MappingValue) (bs : List Boxed) → AreNodes g bs → (after : 
 can_carry g bs kept after (Insert at b) room h lt = let count = keys_count bs kept.order in (omega (arith, h.place), lt)
 can_carry g bs kept after (Rewrite at row wholes) room h lt = let count = keys_count bs kept.order in (omega (arith, h.place), omega (arith, h.fits))
 can_carry g bs kept after (Remove at) room h lt = let count = keys_count bs kept.order in omega (arith, h.place)
+can_carry g bs kept after (Move from to run) room h lt = let count = keys_count bs kept.order in (omega (arith, h.fits), omega (arith, h.place))
 
 pub nodes_of_tree : (o : Opening) (journal : List Edit) (bs : List Boxed) → IsStored o journal bs → finite.len (replay o journal) ≡ length bs
 nodes_of_tree o journal bs s =
@@ -101,6 +103,8 @@ carried g bs bs' kept after (Rewrite at row wholes) h r =
 carried g bs bs' kept after (Remove at) h is =
     let place : at < length bs = omega (arith, h.place, keys_count bs kept.order) in
     let P : List Boxed → Type 0 = λ cs. (tree_of cs ≡ after) × AreNodes g cs in subst P (sym is) (removed g bs kept after at h (a_node bs at place))
+carried g bs bs' kept after (Move from to run) h is =
+    let P : List Boxed → Type 0 = λ cs. (tree_of cs ≡ after) × AreNodes g cs in subst P (sym is) (went g bs kept after from to run.items h)
 
 -- a tree that an edit joined
 pub stored_more : (o : Opening) (journal : List Edit) (e : Edit) (plan : Plan) (bs bs' : List Boxed) → IsStored o journal bs → IsPlanned o journal e plan → IsCarriedOut plan bs bs' → IsStored o (journal ++ e ∷ []) bs'

@@ -1,14 +1,16 @@
 -- What an accepted edit does to the nodes. No public contract says so.
-use Rattle.std.specs.Prelude.{◌≡◌, ◌≢◌, ◌⊎◌, Bool, true, false, ℕ, ◌+◌, ◌<◌, ◌≤◌, List, length, Option, slice_index_or, None}
+use Rattle.std.specs.Prelude.{◌≡◌, ◌≢◌, ◌⊎◌, Bool, true, false, ℕ, ◌+◌, ◌<◌, ◌≤◌, List, ◌++◌, length, take, drop, map, All, Option, slice_index_or, None, Some}
 use Rattle.std.specs.List.{AllWithin, insert, remove}
 use Rattle.std.specs.FinMap as finite
 use Rattle.std.specs.declared.cmp.Ordering.TheVariants.{Less, Greater}
 use Rattle.sd_sid.specs.Mapping.{MappingValue}
 use Rattle.sd_acl.specs.declared.ace.Ace.{Ace}
-use Rattle.sd_path.specs.Names.{Names, names_cmp}
+use Rattle.sd_path.specs.Names.{Names, names_cmp, is_within, moved_path}
+use Rattle.sd_tree.specs.Inheritance.{dacl_of_row}
 use Rattle.sd_tree.specs.Plain.{PlainTree, dacl_at}
-use Rattle.sd_tree.specs.Refusals.{dacl_size, has_large_dacl}
-use Rattle.sd_tree.specs.Stored.{Boxed, path_of_node, IsWhole}
+use Rattle.sd_tree.specs.Refusals.{dacl_size, has_large_dacl, late_refusal, moves_too_deep}
+use Rattle.sd_tree.specs.Stored.{Boxed, path_of_node, entry_of, IsWhole}
+use Rattle.sd_tree.specs.declared.node.Node.{Node}
 use Rattle.sd_tree.specs.declared.node.Row.{Row}
 use Rattle.sd_tree.specs.declared.node.RowChange.{RowChange}
 use Rattle.sd_tree.specs.declared.node.RowChange.TheVariants.{Owner, Group, Dacl}
@@ -16,11 +18,12 @@ use Rattle.sd_tree.specs.Edits.{edited}
 use Rattle.sd_tree.specs.Journal.{replay, refusal}
 use Rattle.sd_tree.specs.declared.opening.Opening.{Opening}
 use Rattle.sd_tree.specs.declared.edit.Edit.{Edit}
+use Rattle.sd_tree.specs.declared.edit.Edit.TheVariants as edits
 use Rattle.sd_tree.specs.declared.plan.Plan.{Plan}
 use Rattle.sd_tree.specs.declared.refusal.TreeError.{TreeError}
 use Rattle.sd_tree.specs.declared.refusal.TreeError.TheVariants.{Refused, Memory}
-use Rattle.sd_tree.specs.declared.refusal.EditRefusal.TheVariants.{AclTooLarge}
-use Rattle.sd_tree.specs.declared.plan.Plan.TheVariants.{Insert, Rewrite, Remove}
+use Rattle.sd_tree.specs.declared.refusal.EditRefusal.TheVariants.{AclTooLarge, TooDeep}
+use Rattle.sd_tree.specs.declared.plan.Plan.TheVariants.{Insert, Rewrite, Remove, Move}
 
 -- ---- a node that stays where it is
 
@@ -69,10 +72,72 @@ pub record IsRemoval (g : MappingValue) (before after : PlainTree) (at : ℕ) : 
   pub others : (k : ℕ) (path : Names) → k < length (finite.keys before) → (k ≡ at → ⊥)
       → dacl_at g after (slice_index_or (finite.keys before) k path) ≡ dacl_at g before (slice_index_or (finite.keys before) k path)
 
+-- ---- a run of nodes that goes elsewhere
+
+-- all but the run of so many from a place on
+abbrev pub beside_run : {X : Type 0} → ℕ → ℕ → List X → List X
+beside_run from count xs = take from xs ++ drop (from + count) xs
+
+-- the run from the one place on gives way, and this one stands at the other, which is counted among those beside it
+abbrev pub run_moved : {X : Type 0} → ℕ → ℕ → List X → List X → List X
+run_moved from to run xs =
+    take to (beside_run from (length run) xs) ++ (run ++ drop to (beside_run from (length run) xs))
+
+-- the nodes with their new paths and whole DACLs take the place of those from the one place on, and go to the other
+pub record IsMoving (g : MappingValue) (before after : PlainTree) (from to : ℕ) (run : List Boxed) : Type 0 where
+  pub fits : from + length run ≤ length (finite.keys before)
+  pub place : to + length run ≤ length (finite.keys before)
+  pub made : finite.entries after ≡ run_moved from to (map entry_of run) (finite.entries before)
+  pub whole : All (IsWhole g after) run
+  pub others : (k : ℕ) (path : Names) → k < length (finite.keys before) → (k < from) ⊎ (from + length run ≤ k)
+      → dacl_at g after (slice_index_or (finite.keys before) k path) ≡ dacl_at g before (slice_index_or (finite.keys before) k path)
+
+-- these are the nodes from a place on that stand at or below the path, and all of them
+pub record IsRunBelow (bs : List Boxed) (path : Names) (at count : ℕ) : Type 0 where
+  pub fits : at + count ≤ length bs
+  pub some : 0 < count
+  pub below : AllWithin (λ b. is_within path (path_of_node b) ≡ true) bs at (at + count)
+  pub beyond : AllWithin (λ b. is_within path (path_of_node b) ≡ false) bs (at + count) (length bs)
+
+-- the node, moved, with this whole DACL: its path has at most 64 names
+pub record IsMovedNode (source target : Names) (n : Node) (whole : Option (List Ace)) (b : Boxed) : Type 0 where
+  pub path_is : b.value.path ≡ moved_path source target n.path
+  pub row_is : b.value.row ≡ n.row
+  pub whole_is : b.value.whole ≡ whole
+  pub fits : length b.value.path ≤ 64
+
+-- the moved nodes of a run, so many
+pub record IsMovedRun (bs : List Boxed) (source target : Names) (at : ℕ) (wholes : List (Option (List Ace))) (count : ℕ) (run : List Boxed) : Type 0 where
+  pub counted : length run ≡ count
+  pub each : (k : ℕ) (b c : Boxed) (whole : Option (List Ace)) → k < length run
+      → IsMovedNode source target (slice_index_or bs (at + k) b).value (slice_index_or wholes k whole) (slice_index_or run k c)
+
+-- an error told of a move: some path would have more than 64 names, or memory was refused
+abbrev pub IsTooDeep : PlainTree → Names → Names → TreeError → Type 0
+IsTooDeep t source target (Refused refusal) = (refusal ≡ TooDeep) × (moves_too_deep t (edits.Move source target) ≡ true)
+IsTooDeep t source target Memory = Unit {0}
+
+-- a row whose node has this whole DACL wherever it stands
+abbrev pub HasWhole : Option (List Ace) → Row → Type 0
+HasWhole whole row = (g : MappingValue) (above : Option (List Ace)) → dacl_of_row g row above ≡ whole
+
+-- an error told of a moved node: its path would have more than 64 names, or memory was refused
+abbrev pub IsDepthError : Names → Names → Names → TreeError → Type 0
+IsDepthError source target path (Refused refusal) = (refusal ≡ TooDeep) × (64 < length (moved_path source target path))
+IsDepthError source target path Memory = Unit {0}
+
+-- the whole DACLs of a run, as they are once it has moved
+pub record AreMovedWholes (g : MappingValue) (bs : List Boxed) (after : PlainTree) (source target : Names) (at : ℕ) (wholes : List (Option (List Ace))) : Type 0 where
+  pub run : IsRunBelow bs source at (length wholes)
+  pub each : (k : ℕ) (b : Boxed) (whole : Option (List Ace)) → k < length wholes
+      → (slice_index_or wholes k whole ≡ dacl_at g after (moved_path source target (path_of_node (slice_index_or bs (at + k) b))))
+      × (dacl_size (slice_index_or wholes k whole) ≤ 65535)
+
 abbrev pub IsPlan : MappingValue → PlainTree → PlainTree → Plan → Type 0
 IsPlan g before after (Insert at node) = IsInsertion g before after at node
 IsPlan g before after (Rewrite at row wholes) = IsRewriting g before after at row wholes.items
 IsPlan g before after (Remove at) = IsRemoval g before after at
+IsPlan g before after (Move from to run) = IsMoving g before after from to run.items
 
 -- ---- how a plan is carried out
 
@@ -81,6 +146,7 @@ abbrev pub CanCarryOut : ℕ → ℕ → Plan → Type 0
 CanCarryOut count room (Insert at node) = (at ≤ count) × (count < room)
 CanCarryOut count room (Rewrite at row wholes) = (at < count) × (at + length wholes.items ≤ count)
 CanCarryOut count room (Remove at) = at < count
+CanCarryOut count room (Move from to run) = (from + length run.items ≤ count) × (to + length run.items ≤ count)
 
 -- the row of one node and the whole DACLs from it on are new, and all else is as it was
 pub record IsRewritten (at : ℕ) (row : Row) (wholes : List (Option (List Ace))) (old new : List Boxed) : Type 0 where
@@ -95,11 +161,17 @@ abbrev pub IsCarriedOut : Plan → List Boxed → List Boxed → Type 0
 IsCarriedOut (Insert at node) old new = new ≡ insert old at node
 IsCarriedOut (Rewrite at row wholes) old new = IsRewritten at row wholes.items old new
 IsCarriedOut (Remove at) old new = new ≡ remove old at
+IsCarriedOut (Move from to run) old new = new ≡ run_moved from to run.items old
 
 -- an error told of a tree that an edit would make: some node's DACL takes too many bytes, or memory was refused
 abbrev pub IsLargeError : MappingValue → PlainTree → TreeError → Type 0
 IsLargeError g after (Refused refusal) = (refusal ≡ AclTooLarge) × (has_large_dacl g after ≡ true)
 IsLargeError g after Memory = Unit {0}
+
+-- an error told of an edit that no test without memory refuses: the first refusal that fits, or memory was refused
+abbrev pub IsLateError : MappingValue → PlainTree → Edit → TreeError → Type 0
+IsLateError g t edit (Refused refusal) = (count : ℕ) → late_refusal g t count edit ≡ Some refusal
+IsLateError g t edit Memory = Unit {0}
 
 -- ---- a plan that waits to be carried out
 

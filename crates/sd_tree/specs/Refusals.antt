@@ -8,7 +8,7 @@ use Rattle.sd_sid.specs.Mapping.{MappingValue}
 use Rattle.sd_acl.specs.Ace.{acl_size_of}
 use Rattle.sd_acl.specs.Canonical.{is_inherited, deny_behind_allow}
 use Rattle.sd_acl.specs.declared.ace.Ace.{Ace}
-use Rattle.sd_path.specs.Names.{Names, names_cmp, up, is_root}
+use Rattle.sd_path.specs.Names.{Names, names_cmp, up, is_root, is_within, moved_path}
 use Rattle.sd_tree.specs.Plain.{PlainTree, row_at, dacl_at}
 use Rattle.sd_tree.specs.Edits.{edited}
 use Rattle.sd_tree.specs.declared.node.Row.{Row}
@@ -17,9 +17,9 @@ use Rattle.sd_tree.specs.declared.node.NodeKind.TheVariants.{Container, Object}
 use Rattle.sd_tree.specs.declared.node.NodeDacl.{NodeDacl}
 use Rattle.sd_tree.specs.declared.node.NodeDacl.TheVariants as own
 use Rattle.sd_tree.specs.declared.edit.Edit.{Edit}
-use Rattle.sd_tree.specs.declared.edit.Edit.TheVariants.{AddContainer, AddObject, SetOwner, SetGroup, SetDacl, Remove, ProtectKeeping}
+use Rattle.sd_tree.specs.declared.edit.Edit.TheVariants.{AddContainer, AddObject, SetOwner, SetGroup, SetDacl, Remove, ProtectKeeping, Move}
 use Rattle.sd_tree.specs.declared.refusal.EditRefusal.{EditRefusal}
-use Rattle.sd_tree.specs.declared.refusal.EditRefusal.TheVariants.{NoParent, ParentIsObject, Exists, NoNode, NotEmpty, IsRoot, InheritedEntry, NotCanonical, AclTooLarge, TooDeep, NodesFull, JournalFull}
+use Rattle.sd_tree.specs.declared.refusal.EditRefusal.TheVariants.{NoParent, ParentIsObject, Exists, NoNode, NotEmpty, IsRoot, InheritedEntry, NotCanonical, AclTooLarge, TooDeep, NodesFull, JournalFull, IntoItself}
 
 -- the refusal of the first test that fits
 abbrev pub first_fit : List (Bool × EditRefusal) → Option EditRefusal
@@ -52,15 +52,25 @@ is_object (Some row) = is_object_kind row.kind
 abbrev pub has_child : PlainTree → Names → Bool
 has_child t path = list_any (λ child. not (is_root child) && is_eq (names_cmp (up child) path)) (map.keys t)
 
-abbrev pub addition_tests : PlainTree → Names → NodeDacl → List (Bool × EditRefusal)
-addition_tests t path dacl =
+-- a node may come to the path
+abbrev pub place_tests : PlainTree → Names → List (Bool × EditRefusal)
+place_tests t path =
     (not (is_root path) && not (is_some (row_at t (up path))), NoParent)
     ∷ (not (is_root path) && is_object (row_at t (up path)), ParentIsObject)
     ∷ (is_some (row_at t path), Exists)
-    ∷ list_tests dacl
+    ∷ []
+
+abbrev pub addition_tests : PlainTree → Names → NodeDacl → List (Bool × EditRefusal)
+addition_tests t path dacl = place_tests t path ++ list_tests dacl
 
 abbrev pub node_tests : PlainTree → Names → List (Bool × EditRefusal)
 node_tests t path = (not (is_some (row_at t path)), NoNode) ∷ []
+
+-- the target first, then the source, and then whether the target stands below the source
+abbrev pub move_tests : PlainTree → Names → Names → List (Bool × EditRefusal)
+move_tests t source target =
+    place_tests t target
+    ++ (node_tests t source ++ (is_root source, IsRoot) ∷ (is_within source target, IntoItself) ∷ [])
 
 -- the tests that take no memory
 abbrev pub early_tests : PlainTree → Edit → List (Bool × EditRefusal)
@@ -71,6 +81,7 @@ early_tests t (SetGroup path group) = node_tests t path
 early_tests t (SetDacl path dacl) = node_tests t path ++ list_tests dacl
 early_tests t (Remove path) = node_tests t path ++ (has_child t path, NotEmpty) ∷ (is_root path, IsRoot) ∷ []
 early_tests t (ProtectKeeping path) = node_tests t path
+early_tests t (Move source target) = move_tests t source target
 
 -- ---- of the tree after it, and of the limits
 
@@ -82,6 +93,20 @@ dacl_size (Some entries) = acl_size_of entries
 abbrev pub has_large_dacl : MappingValue → PlainTree → Bool
 has_large_dacl g t = list_any (λ path. nat_lt 65535 (dacl_size (dacl_at g t path))) (map.keys t)
 
+-- some node that goes with the source would have a path of more than 64 names
+abbrev pub goes_too_deep : Names → Names → Names → Bool
+goes_too_deep source target path = is_within source path && nat_lt 64 (length (moved_path source target path))
+
+abbrev pub moves_too_deep : PlainTree → Edit → Bool
+moves_too_deep t (AddContainer path owner group dacl) = false
+moves_too_deep t (AddObject path owner group dacl) = false
+moves_too_deep t (SetOwner path owner) = false
+moves_too_deep t (SetGroup path group) = false
+moves_too_deep t (SetDacl path dacl) = false
+moves_too_deep t (Remove path) = false
+moves_too_deep t (ProtectKeeping path) = false
+moves_too_deep t (Move source target) = list_any (goes_too_deep source target) (map.keys t)
+
 -- one more node: its path has at most 64 names, and there are at most 65,536 nodes
 abbrev pub room_tests : PlainTree → Edit → List (Bool × EditRefusal)
 room_tests t (AddContainer path owner group dacl) = (nat_lt 64 (length path), TooDeep) ∷ (nat_le 65536 (map.len t), NodesFull) ∷ []
@@ -91,6 +116,7 @@ room_tests t (SetGroup path group) = []
 room_tests t (SetDacl path dacl) = []
 room_tests t (Remove path) = []
 room_tests t (ProtectKeeping path) = []
+room_tests t (Move source target) = (moves_too_deep t (Move source target), TooDeep) ∷ []
 
 -- the tests that may take memory; a journal has at most 1,048,576 edits
 abbrev pub late_tests : MappingValue → PlainTree → ℕ → Edit → List (Bool × EditRefusal)
@@ -123,6 +149,7 @@ number_of AclTooLarge = 9
 number_of TooDeep = 10
 number_of NodesFull = 11
 number_of JournalFull = 12
+number_of IntoItself = 13
 
 -- and its name
 abbrev pub name_of : EditRefusal → List ℕ
@@ -138,8 +165,24 @@ name_of AclTooLarge = codes "AclTooLarge"
 name_of TooDeep = codes "TooDeep"
 name_of NodesFull = codes "NodesFull"
 name_of JournalFull = codes "JournalFull"
+name_of IntoItself = codes "IntoItself"
 
--- the refusals that are found without memory: 1 to 8
+-- the refusals that are found without memory: 1 to 8 and 13
+abbrev pub is_without_memory : EditRefusal → Bool
+is_without_memory NoParent = true
+is_without_memory ParentIsObject = true
+is_without_memory Exists = true
+is_without_memory NoNode = true
+is_without_memory NotEmpty = true
+is_without_memory IsRoot = true
+is_without_memory InheritedEntry = true
+is_without_memory NotCanonical = true
+is_without_memory AclTooLarge = false
+is_without_memory TooDeep = false
+is_without_memory NodesFull = false
+is_without_memory JournalFull = false
+is_without_memory IntoItself = true
+
 abbrev pub is_early : Option EditRefusal → Bool
 is_early None = false
-is_early (Some refusal) = nat_lt (number_of refusal) 9
+is_early (Some refusal) = is_without_memory refusal

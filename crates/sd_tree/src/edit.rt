@@ -47,6 +47,12 @@ pub enum Edit {
     ProtectKeeping {
         path: Path,
     },
+    /// The node and all below it go to a free path, which may be within the same parent; what they inherit is what the new
+    /// place gives.
+    Move {
+        source: Path,
+        target: Path,
+    },
 }
 
 impl Edit {
@@ -94,6 +100,10 @@ impl Edit {
             }),
             Edit::ProtectKeeping { path } => Ok(Edit::ProtectKeeping {
                 path: path.copy(alloc)?,
+            }),
+            Edit::Move { source, target } => Ok(Edit::Move {
+                source: source.copy(alloc)?,
+                target: target.copy(alloc)?,
             }),
         }
     }

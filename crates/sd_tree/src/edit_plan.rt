@@ -1,16 +1,16 @@
 //! The plan of an edit.
 
-ghost use Rattle.std.specs.Prelude.{◌≡◌, ◌<◌, length, false, None, IsSome, IfOk, IfErr};
+ghost use Rattle.std.specs.Prelude.{◌≡◌, ◌<◌, length, false, None, IsSome, OnOk, IfOk, IfErr};
 ghost use Rattle.std.specs.List.{HoldsAt};
 ghost use Rattle.std.specs.FinMap.{insert, remove};
 ghost use Rattle.sd_path.specs.Names.{is_root};
 ghost use Rattle.sd_tree.specs.Plain.{row_at, dacl_at};
 ghost use Rattle.sd_tree.specs.Closed.{IsAddable};
 ghost use Rattle.sd_tree.specs.Edits.{changed, edited, keeping};
-ghost use Rattle.sd_tree.specs.Refusals.{early_refusal, has_child};
+ghost use Rattle.sd_tree.specs.Refusals.{early_refusal, has_child, moves_too_deep};
 ghost use Rattle.sd_tree.specs.Stored.{path_of_node, IsNodeAt};
 ghost use Rattle.sd_tree.specs.View.{IsView, tree_in};
-ghost use Rattle.sd_tree.specs.Plans.{IsPlan, IsLargeError, ChangesOneNode, changed_row};
+ghost use Rattle.sd_tree.specs.Plans.{IsPlan, IsLargeError, IsLateError, ChangesOneNode, changed_row};
 
 use crate::edit::Edit;
 use crate::keep::kept_dacl;
@@ -175,8 +175,8 @@ impl TreeView<'_> {
         requires accepted { early_refusal (tree_in self.now) edit.now ≡ None }
         ensures plan { IfOk result (IsPlan self.now.mapping.now (tree_in self.now)
             (edited self.now.mapping.now (tree_in self.now) edit.now)) }
-        ensures refused { IfErr result (IsLargeError self.now.mapping.now
-            (edited self.now.mapping.now (tree_in self.now) edit.now)) }
+        ensures shallow { OnOk result (moves_too_deep (tree_in self.now) edit.now ≡ false) }
+        ensures refused { IfErr result (IsLateError self.now.mapping.now (tree_in self.now) edit.now) }
     {
         match edit {
             Edit::AddContainer {
@@ -199,6 +199,7 @@ impl TreeView<'_> {
             }
             Edit::Remove { path } => Ok(self.removal_plan(path)),
             Edit::ProtectKeeping { path } => self.keeping_plan(path),
+            Edit::Move { source, target } => self.moving_plan(source, target),
         }
     }
 }

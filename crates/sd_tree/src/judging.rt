@@ -7,7 +7,7 @@ ghost use Rattle.sd_tree.specs.Answers.{kind_at, IsError};
 ghost use Rattle.sd_tree.specs.Edits.{edited};
 ghost use Rattle.sd_path.specs.Names.{is_root};
 ghost use Rattle.sd_tree.specs.Plans.{IsPlan};
-ghost use Rattle.sd_tree.specs.Refusals.{early_refusal, first_fit, addition_tests, node_tests, room_tests, has_child, refusal_in};
+ghost use Rattle.sd_tree.specs.Refusals.{early_refusal, first_fit, place_tests, addition_tests, move_tests, moves_too_deep, node_tests, room_tests, has_child, refusal_in};
 ghost use Rattle.sd_tree.specs.Stored.{path_of_node};
 ghost use Rattle.sd_tree.specs.View.{IsView, tree_in};
 ghost use Rattle.sd_tree.specs.declared.refusal.EditRefusal.TheVariants.{NotEmpty, IsRoot, TooDeep, NodesFull, JournalFull};
@@ -22,7 +22,7 @@ use crate::tree_view::TreeView;
 use sd_path::{Path, PathRef};
 
 /// The most names of a node's path, a choice of this profile: it bounds how many levels down an edit reaches.
-const MAX_DEPTH: u64 = 64;
+pub(crate) const MAX_DEPTH: u64 = 64;
 
 /// The most nodes of a tree, the root counted, a choice of this profile: it bounds how many DACLs one edit builds.
 const MAX_NODES: usize = 0x1_0000;
@@ -42,10 +42,10 @@ impl TreeView<'_> {
         }
     }
 
-    /// Why no node may be added at the path with this DACL.
-    fn addition_refusal(&self, path: &Path, dacl: &NodeDacl) -> Option<EditRefusal>
+    /// Why no node may come to the path.
+    fn place_refusal(&self, path: &Path) -> Option<EditRefusal>
         requires { IsView self.now }
-        ensures { result ≡ first_fit (addition_tests (tree_in self.now) path.now dacl.now) }
+        ensures { result ≡ first_fit (place_tests (tree_in self.now) path.now) }
     {
         let path = path.as_path_ref();
         if !path.is_root() {
@@ -57,6 +57,17 @@ impl TreeView<'_> {
         }
         match self.kind_at(&path) {
             Some(_) => Some(EditRefusal::Exists),
+            None => None,
+        }
+    }
+
+    /// Why no node may be added at the path with this DACL.
+    fn addition_refusal(&self, path: &Path, dacl: &NodeDacl) -> Option<EditRefusal>
+        requires { IsView self.now }
+        ensures { result ≡ first_fit (addition_tests (tree_in self.now) path.now dacl.now) }
+    {
+        match self.place_refusal(path) {
+            Some(refusal) => Some(refusal),
             None => list_refusal(dacl),
         }
     }
@@ -107,6 +118,27 @@ impl TreeView<'_> {
         }
     }
 
+    /// Why the node of the source can't go to the target.
+    fn move_refusal(&self, source: &Path, target: &Path) -> Option<EditRefusal>
+        requires { IsView self.now }
+        ensures { result ≡ first_fit (move_tests (tree_in self.now) source.now target.now) }
+    {
+        if let Some(refusal) = self.place_refusal(target) {
+            return Some(refusal);
+        }
+        if let Some(refusal) = self.absence(source) {
+            return Some(refusal);
+        }
+        let source = source.as_path_ref();
+        if source.is_root() {
+            return Some(EditRefusal::IsRoot);
+        }
+        if target.as_path_ref().is_within(&source) {
+            return Some(EditRefusal::IntoItself);
+        }
+        None
+    }
+
     /// Why an edit is refused by the tests that take no memory.
     fn early_refusal(&self, edit: &Edit) -> Option<EditRefusal>
         requires { IsView self.now }
@@ -123,6 +155,7 @@ impl TreeView<'_> {
             },
             Edit::Remove { path } => self.removal_refusal(path),
             Edit::ProtectKeeping { path } => self.absence(path),
+            Edit::Move { source, target } => self.move_refusal(source, target),
         }
     }
 
@@ -141,9 +174,10 @@ impl TreeView<'_> {
         None
     }
 
-    /// Why an edit is refused by the limits, after so many edits.
+    /// Why an edit is refused by the limits, after so many edits; a move that goes too deep has no plan.
     fn limit_refusal(&self, edit: &Edit, edits: usize) -> Option<EditRefusal>
-        requires { IsView self.now }
+        requires standing { IsView self.now }
+        requires shallow { moves_too_deep (tree_in self.now) edit.now ≡ false }
         ensures { result ≡ first_fit (room_tests (tree_in self.now) edit.now ++ (nat_le 1048576 edits, JournalFull)
             ∷ []) }
     {

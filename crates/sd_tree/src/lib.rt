@@ -23,6 +23,7 @@ mod inherit;
 mod judging;
 mod keep;
 mod list_tests;
+mod moving;
 mod node;
 mod nodes;
 mod opening;

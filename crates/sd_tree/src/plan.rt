@@ -1,7 +1,8 @@
 //! What an accepted edit does to the nodes of a tree: worked out first, then carried out without memory.
 
-ghost use Rattle.std.specs.Prelude.{◌≡◌, ◌≤◌, ◌<◌, ◌+◌, vec_len, vec_capacity};
-ghost use Rattle.sd_tree.specs.Plans.{CanCarryOut, IsCarriedOut, IsRewritten};
+ghost use Rattle.std.specs.Prelude.{◌≡◌, ◌≤◌, ◌<◌, ◌+◌, ◌++◌, List, length, take, drop, vec_len, vec_capacity};
+ghost use Rattle.sd_tree.specs.Plans.{CanCarryOut, IsCarriedOut, IsRewritten, run_moved};
+ghost use Rattle.sd_tree.specs.Stored.{Boxed};
 
 use crate::node::{Node, Row};
 use crate::shared::{Shared, SharedList};
@@ -24,6 +25,13 @@ pub(crate) enum Plan {
     Remove {
         at: usize,
     },
+    /// The run takes the place of the nodes from the one place on, and goes to the other, which is counted among the
+    /// nodes that stay.
+    Move {
+        from: usize,
+        to: usize,
+        run: Vec<Box<Node>>,
+    },
 }
 
 /// The plan, carried out.
@@ -41,6 +49,7 @@ pub(crate) fn carry_out(nodes: &mut Vec<Box<Node>>, plan: Plan)
         Plan::Remove { at } => {
             let _gone = nodes.remove(at);
         }
+        Plan::Move { from, to, mut run } => move_run(nodes, from, to, &mut run),
     }
 }
 
@@ -62,4 +71,42 @@ fn rewrite(
         let node = &mut nodes[at + wholes.len()];
         node.whole = whole;
     }
+}
+
+/// The run takes the place of the nodes from the one place on, and goes to the other, which is counted among those beside.
+fn move_run(nodes: &mut [Box<Node>], from: usize, to: usize, run: &mut [Box<Node>])
+    requires fits { from + length run.old ≤ length nodes.old }
+    requires place { to + length run.old ≤ length nodes.old }
+    ensures { nodes.new ≡ run_moved from to run.old nodes.old }
+{
+    let count = run.len();
+    write_run(nodes, from, run);
+    if to <= from {
+        turn(nodes, to, from - to, count);
+    } else {
+        turn(nodes, from, count, to - from);
+    }
+}
+
+/// The run takes the place of the nodes from a place on.
+fn write_run(nodes: &mut [Box<Node>], at: usize, run: &mut [Box<Node>])
+    requires { at + length run.old ≤ length nodes.old }
+    ensures { nodes.new ≡ take at nodes.old ++ (run.old ++ drop (at + length run.old) nodes.old) }
+{
+    let (_, behind) = nodes.split_at_mut(at);
+    let (place, _) = behind.split_at_mut(run.len());
+    place.swap_with_slice(run);
+}
+
+/// The nodes from a place on, so many, go behind the next ones.
+fn turn(nodes: &mut [Box<Node>], at: usize, count: usize, next: usize)
+    requires { at + (count + next) ≤ length nodes.old }
+    ensures { (before first second behind : List Boxed)
+        → nodes.old ≡ before ++ (first ++ (second ++ behind))
+        → length before ≡ at → length first ≡ count → length second ≡ next
+        → nodes.new ≡ before ++ (second ++ (first ++ behind)) }
+{
+    let (_, behind) = nodes.split_at_mut(at);
+    let (part, _) = behind.split_at_mut(count + next);
+    part.rotate_left(count);
 }

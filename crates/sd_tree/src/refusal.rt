@@ -6,7 +6,8 @@ ghost use Rattle.sd_tree.specs.Refusals.{number_of, name_of};
 use std::alloc::{AllocError, AllocFailed};
 use thiserror::Error;
 
-/// Why an edit is refused. The first that fits, in this order, is answered.
+/// Why an edit is refused. The first that fits is answered: by their numbers, and of a move by the order that docs/TREE.md
+/// tells.
 #[derive(Clone, Copy, Debug, PartialEq, Eq, Error)]
 pub enum EditRefusal {
     /// The path isn't the root, and nothing stands where its parent would.
@@ -45,10 +46,13 @@ pub enum EditRefusal {
     /// The journal has 1,048,576 edits.
     #[error("the journal has 1048576 edits")]
     JournalFull,
+    /// The node would go below itself. It is judged behind `IsRoot`.
+    #[error("a node can't go below itself")]
+    IntoItself,
 }
 
 impl EditRefusal {
-    /// The refusal's number: its place in the order.
+    /// The refusal's number. docs/TREE.md tells in which order an edit is judged.
     pub fn number(self) -> u8
         ensures { result ≡ number_of self }
     {
@@ -65,6 +69,7 @@ impl EditRefusal {
             EditRefusal::TooDeep => 10,
             EditRefusal::NodesFull => 11,
             EditRefusal::JournalFull => 12,
+            EditRefusal::IntoItself => 13,
         }
     }
 
@@ -85,6 +90,7 @@ impl EditRefusal {
             EditRefusal::TooDeep => "TooDeep",
             EditRefusal::NodesFull => "NodesFull",
             EditRefusal::JournalFull => "JournalFull",
+            EditRefusal::IntoItself => "IntoItself",
         }
     }
 }

@@ -11,7 +11,7 @@ ghost use Rattle.sd_tree.specs.Sharing.{AreMadeFor};
 ghost use Rattle.sd_tree.specs.Sizes.{IsSizeError};
 ghost use Rattle.sd_tree.specs.Stored.{path_of_node};
 ghost use Rattle.sd_tree.specs.View.{IsView, tree_in};
-ghost use Rattle.sd_tree.specs.Plans.{IsInsertion, IsRewriting, IsLargeError};
+ghost use Rattle.sd_tree.specs.Plans.{IsInsertion, IsRewriting, IsLargeError, IsRunBelow};
 
 use crate::inherit::dacl_of_row;
 use crate::node::{Node, Row};
@@ -152,6 +152,7 @@ impl TreeView<'_> {
         requires stands { HoldsAt (λ b. path_of_node b ≡ path.now) self.now.nodes.now at }
         ensures rebuilt { IfOk result (λ wholes. IsRewriting self.now.mapping.now (tree_in self.now)
             (insert (tree_in self.now) path.now row.now) at row.now wholes.items) }
+        ensures run { IfOk result (λ wholes. IsRunBelow self.now.nodes.now path.now at (length wholes.items)) }
         ensures refused { IfErr result (IsLargeError self.now.mapping.now
             (insert (tree_in self.now) path.now row.now)) }
     {

@@ -3,6 +3,7 @@ pub mod ExplicitForm
 pub mod Keeping
 pub mod KeptGrants
 pub mod OrderGrants
+pub mod Moves
 pub mod Ordered
 pub mod OwnEntries
 pub mod Reach

@@ -1,14 +1,18 @@
 -- The entries that a node has of its own, in the tree of a lawful journal: explicit, and in order.
-use Rattle.std.proofs.Common.{◌≡◌, true, false, List, [], ◌∷◌, ◌++◌, Option, Some, None, option_map, filter, refl, sym, ◌∙◌, ap, inl, inr}
+use Rattle.std.proofs.Common.{◌≡◌, ℕ, zero, suc, ◌<◌, Bool, true, false, cond, List, [], ◌∷◌, ◌++◌, length, get_or, map as each, Option, Some, None, option_map, filter, refl, sym, ◌∙◌, ap, subst, inl, inr, arith}
 use Rattle.std.specs.List.{list_any}
 use Rattle.std.specs.FinMap as map
+use Rattle.std.specs.FinMap.{find}
+use Rattle.std.specs.Ordering.{eq_by_cmp}
+use Rattle.std.proofs.lemmas.List.{length-map}
+use Rattle.std.proofs.Math.ListN.{get_or-map as get_or-mapped}
 use Rattle.sd_sid.specs.Mapping.{MappingValue}
 use Rattle.sd_acl.specs.Canonical.{is_inherited, is_explicit, deny_behind_allow, is_canonical, explicit_entries}
 use Rattle.sd_acl.specs.declared.ace.Ace.{Ace}
-use Rattle.sd_path.specs.Names.{Names}
+use Rattle.sd_path.specs.Names.{Names, names_cmp}
 use Rattle.sd_tree.specs.Inheritance.{handed_on, dacl_under}
 use Rattle.sd_tree.specs.Plain.{PlainTree, row_at, dacl_here, dacl_at}
-use Rattle.sd_tree.specs.Edits.{keeping, changed, edited}
+use Rattle.sd_tree.specs.Edits.{keeping, changed, edited, moved_entry, moved}
 use Rattle.sd_tree.specs.Journal.{opened, root_row, replay, root_refusal, IsLawful}
 use Rattle.sd_tree.specs.Refusals.{early_refusal, early_tests, own_entries, list_tests, has_large_dacl}
 use Rattle.sd_tree_laws.specs.Laws.{OwnHasNoId, WithoutIdIsOwn, EveryListIsCanonical}
@@ -18,8 +22,9 @@ use Rattle.sd_tree.specs.declared.node.NodeDacl.TheVariants.{Null, List as Entri
 use Rattle.sd_tree.specs.declared.opening.Opening.{Opening}
 use Rattle.sd_tree.specs.declared.refusal.EditRefusal.TheVariants.{AclTooLarge}
 use Rattle.sd_tree.specs.declared.edit.Edit.{Edit}
-use Rattle.sd_tree.specs.declared.edit.Edit.TheVariants.{AddContainer, AddObject, SetOwner, SetGroup, SetDacl, Remove, ProtectKeeping}
+use Rattle.sd_tree.specs.declared.edit.Edit.TheVariants.{AddContainer, AddObject, SetOwner, SetGroup, SetDacl, Remove, Move, ProtectKeeping}
 use Rattle.sd_tree.proofs.Rows.{same_or_other, row_at-empty, row_at-insert_same, row_at-insert_other, row_at-remove_same, row_at-remove_other, row_at-changed_same, row_at-changed_other}
+use Rattle.sd_tree.proofs.Moved.{entry_there, row_at-moved}
 use Rattle.sd_tree.proofs.Refused.{none_fits, not_refused}
 use Rattle.sd_tree.proofs.Journals.{holds_of_lawful}
 use Rattle.sd_tree.proofs.Dacls.{dacl_over, dacl_at_here}
@@ -68,6 +73,28 @@ sound_keeping : (dacl : Option (List Ace)) (row : Row) → IsSound row.dacl → 
 sound_keeping None row sound = sound
 sound_keeping (Some entries) row sound = record { explicit = kept_explicit entries; ordered = ordered_canonical (explicit_entries entries) }
 
+-- what is found stands at a place
+found_place : (p : Names) (es : List (Names × Row)) (r : Row) → find names_cmp p es ≡ Some r → (k : ℕ) × (k < length es) × ((d : Names × Row) → (get_or es k d).1 ≡ r)
+found_place p [] r e = absurd cc
+found_place p (x ∷ es) r e = by_key (eq_by_cmp names_cmp p x.0) e (found_place p es r)
+  where
+    by_key : (b : Bool) → cond b (Some x.1) (find names_cmp p es) ≡ Some r
+        → (find names_cmp p es ≡ Some r → (k : ℕ) × (k < length es) × ((d : Names × Row) → (get_or es k d).1 ≡ r))
+        → (k : ℕ) × (k < length (x ∷ es)) × ((d : Names × Row) → (get_or (x ∷ es) k d).1 ≡ r)
+    by_key true h later = (zero, omega arith, λ d. inside x.1 r h)
+    by_key false h later = let found = later h in (suc found.0, omega (arith, found.1), found.2)
+
+sound_moved : (t : PlainTree) (source target : Names) → AllSound t → AllSound (moved t source target)
+sound_moved t source target before q r e =
+    let es = map.entries t in
+    let found = found_place q (each (moved_entry source target) es) r (sym (row_at-moved t source target q) ∙ e) in
+    let k = found.0 in
+    let d : Names × Row = ([], r) in
+    let in-k : k < length es = omega (arith, found.1, length-map es (moved_entry source target)) in
+    let same : (get_or es k d).1 ≡ r = sym (ap (λ (x : Names × Row). x.1) (get_or-mapped (moved_entry source target) es k d)) ∙ found.2 (moved_entry source target d) in
+    let P : Row → Type 0 = λ row. IsSound row.dacl in
+    subst P same (before (get_or es k d).0 (get_or es k d).1 (entry_there t k d in-k))
+
 sound_edited : (g : MappingValue) (t : PlainTree) (e : Edit) → early_refusal t e ≡ None → AllSound t → AllSound (edited g t e)
 sound_edited g t (AddContainer path owner group dacl) fits before =
     let tests = none_fits (early_tests t (AddContainer path owner group dacl)) fits in
@@ -83,6 +110,7 @@ sound_edited g t (SetDacl path dacl) fits before =
 sound_edited g t (Remove path) fits before = sound_removed t path before
 sound_edited g t (ProtectKeeping path) fits before =
     sound_changed t path (keeping (dacl_at g t path)) (λ row there. sound_keeping (dacl_at g t path) row (before path row there)) before
+sound_edited g t (Move source target) fits before = sound_moved t source target before
 
 sound_opened : (o : Opening) → root_refusal o ≡ None → AllSound (opened o)
 sound_opened o fits =

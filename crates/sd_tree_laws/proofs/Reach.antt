@@ -1,28 +1,57 @@
 -- How far an edit reaches, and that nothing comes to a protected node from above.
-use Rattle.std.proofs.Common.{◌≡◌, ◌≢◌, true, false, List, ◌∷◌, ◌++◌, Option, option_map, refl, sym, ◌∙◌, ap, ap₂}
-use Rattle.std.proofs.lemmas.Bool.{false≢true}
+use Rattle.std.proofs.Common.{◌≡◌, ◌≢◌, true, false, ◌||◌, List, ◌∷◌, ◌++◌, Option, option_map, refl, sym, ◌∙◌, ap, ap₂}
+use Rattle.std.proofs.lemmas.Bool.{false≢true, or_parts}
 use Rattle.sd_sid.specs.Mapping.{MappingValue}
 use Rattle.sd_acl.specs.declared.ace.Ace.{Ace}
 use Rattle.sd_path.specs.Names.{Names, is_within}
 use Rattle.sd_tree.specs.Inheritance.{dacl_under}
 use Rattle.sd_tree.specs.Descriptors.{is_protected, descriptor_of_row}
-use Rattle.sd_tree.specs.Plain.{dacl_at, dacl_here, dacl_below}
-use Rattle.sd_tree.specs.Edits.{edited, edited_path}
+use Rattle.sd_tree.specs.Plain.{PlainTree, row_at, dacl_at, dacl_here, dacl_below}
+use Rattle.sd_tree.specs.Edits.{edited, touches}
 use Rattle.sd_tree_laws.specs.Laws.{EditStaysBelow, ProtectedStandsAlone}
+use Rattle.sd_tree.specs.declared.edit.Edit.{Edit}
+use Rattle.sd_tree.specs.declared.edit.Edit.TheVariants.{AddContainer, AddObject, SetOwner, SetGroup, SetDacl, Remove, ProtectKeeping, Move}
 use Rattle.sd_tree.specs.declared.node.Row.{Row}
 use Rattle.sd_tree.specs.declared.node.NodeDacl.{NodeDacl}
 use Rattle.sd_tree.specs.declared.node.NodeDacl.TheVariants.{Null, List as Entries}
 use Rattle.sd_path.proofs.Paths.{within_itself, within-append, within_rest}
-use Rattle.sd_tree.proofs.Rows.{row_at-edited_other}
-use Rattle.sd_tree.proofs.Dacls.{dacl_at_here, dacl_over, dacl_at-append, below_alike, dacl_at_outside}
+use Rattle.sd_tree.proofs.Moved.{way_outside, row_at-moved_other}
+use Rattle.sd_tree.proofs.Rows.{row_at-insert_other, row_at-remove_other, row_at-changed_other}
+use Rattle.sd_tree.proofs.Dacls.{dacl_at_here, dacl_over, dacl_at-append, below_alike, dacl_at_alike}
 
 pub outside_is_other : (at path : Names) → is_within at path ≡ false → path ≢ at
 outside_is_other at path outside same = false≢true (sym outside ∙ ap (is_within at) same ∙ within_itself at)
 
+-- an edit leaves each node that it doesn't touch as it was
+row_at-untouched : (g : MappingValue) (t : PlainTree) (e : Edit) (q : Names) → touches e q ≡ false → row_at (edited g t e) q ≡ row_at t q
+row_at-untouched g t (AddContainer path owner group dacl) q out = row_at-insert_other t path q _ (outside_is_other path q out)
+row_at-untouched g t (AddObject path owner group dacl) q out = row_at-insert_other t path q _ (outside_is_other path q out)
+row_at-untouched g t (SetOwner path owner) q out = row_at-changed_other t path q _ (outside_is_other path q out)
+row_at-untouched g t (SetGroup path group) q out = row_at-changed_other t path q _ (outside_is_other path q out)
+row_at-untouched g t (SetDacl path dacl) q out = row_at-changed_other t path q _ (outside_is_other path q out)
+row_at-untouched g t (Remove path) q out = row_at-remove_other t path q (outside_is_other path q out)
+row_at-untouched g t (ProtectKeeping path) q out = row_at-changed_other t path q _ (outside_is_other path q out)
+row_at-untouched g t (Move source target) q out =
+    let parts = or_parts (is_within source q) (is_within target q) out in
+    row_at-moved_other t source target q parts.0 parts.1
+
+-- nor does it touch what is on the way to such a node
+way_untouched : (e : Edit) (q path : Names) → is_within q path ≡ true → touches e path ≡ false → touches e q ≡ false
+way_untouched (AddContainer at owner group dacl) q path way out = way_outside at q path way out
+way_untouched (AddObject at owner group dacl) q path way out = way_outside at q path way out
+way_untouched (SetOwner at owner) q path way out = way_outside at q path way out
+way_untouched (SetGroup at group) q path way out = way_outside at q path way out
+way_untouched (SetDacl at dacl) q path way out = way_outside at q path way out
+way_untouched (Remove at) q path way out = way_outside at q path way out
+way_untouched (ProtectKeeping at) q path way out = way_outside at q path way out
+way_untouched (Move source target) q path way out =
+    let parts = or_parts (is_within source path) (is_within target path) out in
+    (λ i. way_outside source q path way parts.0 i || way_outside target q path way parts.1 i)
+
 pub edit_stays_below : EditStaysBelow
 edit_stays_below g t edit path outside =
-    let same_row = row_at-edited_other g t edit path (outside_is_other (edited_path edit) path outside) in
-    let same_dacl = dacl_at_outside g (edited g t edit) t (edited_path edit) path (λ q other. row_at-edited_other g t edit q other) outside in
+    let same_row = row_at-untouched g t edit path outside in
+    let same_dacl = dacl_at_alike g (edited g t edit) t path (λ q way. row_at-untouched g t edit q (way_untouched edit q path way outside)) in
     ap₂ (λ row dacl. option_map (λ (r : Row). descriptor_of_row r dacl) row) same_row same_dacl
 
 nothing_from_above : (g : MappingValue) (row : Row) (dacl : NodeDacl) (above other : Option (List Ace)) → is_protected dacl ≡ true

@@ -1,5 +1,5 @@
 -- What follows from the rules of the tree, as laws over all trees, edits, tokens and requests.
-use Rattle.std.specs.Prelude.{◌≡◌, ◌≢◌, ℕ, Bool, true, false, ◌||◌, List, [], Option, Some, None, filter}
+use Rattle.std.specs.Prelude.{◌≡◌, ◌≢◌, ℕ, Bool, true, false, ◌||◌, List, [], ◌++◌, Option, Some, None, filter}
 use Rattle.std.specs.List.{list_any, flat_map}
 use Rattle.sd_sid.specs.Mask.{holds}
 use Rattle.sd_sid.specs.Mapping.{MappingValue}
@@ -17,9 +17,9 @@ use Rattle.sd_tree.specs.Inheritance.{object_inherit, container_inherit, no_prop
 use Rattle.sd_tree.specs.Descriptors.{is_protected}
 use Rattle.sd_tree.specs.Closed.{IsClosed}
 use Rattle.sd_tree.specs.Plain.{PlainTree, row_at, dacl_at}
-use Rattle.sd_tree.specs.Edits.{edited, edited_path}
+use Rattle.sd_tree.specs.Edits.{edited, touches}
 use Rattle.sd_tree.specs.Answers.{descriptor_at, reply_in}
-use Rattle.sd_tree.specs.Journal.{replay, root_refusal, IsLawful}
+use Rattle.sd_tree.specs.Journal.{replay, refusal, root_refusal, IsLawful}
 use Rattle.sd_tree.specs.Refusals.{own_entries}
 use Rattle.sd_tree.specs.declared.node.Row.{Row}
 use Rattle.sd_tree.specs.declared.node.NodeKind.{NodeKind}
@@ -27,7 +27,7 @@ use Rattle.sd_tree.specs.declared.node.NodeKind.TheVariants.{Object}
 use Rattle.sd_tree.specs.declared.opening.Opening.{Opening}
 use Rattle.sd_tree.specs.declared.tree.CheckReply.TheVariants.{Verdict}
 use Rattle.sd_tree.specs.declared.edit.Edit.{Edit}
-use Rattle.sd_tree.specs.declared.edit.Edit.TheVariants.{SetOwner, SetGroup, ProtectKeeping}
+use Rattle.sd_tree.specs.declared.edit.Edit.TheVariants.{SetOwner, SetGroup, ProtectKeeping, Move}
 
 -- ---- from the root down
 
@@ -50,7 +50,32 @@ LawfulTreesAreClosed = (opening : Opening) (journal : List Edit) → IsLawful op
 abbrev pub EditStaysBelow : Type 0
 EditStaysBelow =
     (g : MappingValue) (t : PlainTree) (edit : Edit) (path : Names)
-    → is_within (edited_path edit) path ≡ false → descriptor_at g (edited g t edit) path ≡ descriptor_at g t path
+    → touches edit path ≡ false → descriptor_at g (edited g t edit) path ≡ descriptor_at g t path
+
+-- what a move leaves: all that stood at the source and below it stands at the target and below it, each node with its kind,
+-- owner, group and own list; nothing stands at the source or below it; and what is elsewhere has the row and the DACL that it had
+pub record IsCarried (g : MappingValue) (t : PlainTree) (source target : Names) : Type 0 where
+  pub there : (rest : Names) → row_at (edited g t (Move source target)) (target ++ rest) ≡ row_at t (source ++ rest)
+  pub gone : (path : Names) → is_within source path ≡ true → row_at (edited g t (Move source target)) path ≡ None
+  pub others : (path : Names) → is_within source path ≡ false → is_within target path ≡ false
+      → row_at (edited g t (Move source target)) path ≡ row_at t path
+  pub lists : (path : Names) → is_within source path ≡ false → is_within target path ≡ false
+      → dacl_at g (edited g t (Move source target)) path ≡ dacl_at g t path
+
+abbrev pub MoveCarriesTheSubtree : Type 0
+MoveCarriesTheSubtree =
+    (opening : Opening) (journal : List Edit) (source target : Names)
+    → IsLawful opening journal → refusal opening journal (Move source target) ≡ None
+    → IsCarried opening.mapping (replay opening journal) source target
+
+-- a move there and one back, both accepted, leave each node's row and DACL as they were
+abbrev pub MoveBackUndoesIt : Type 0
+MoveBackUndoesIt =
+    (opening : Opening) (journal : List Edit) (source target : Names)
+    → IsLawful opening journal → refusal opening journal (Move source target) ≡ None
+    → (g : MappingValue) (path : Names)
+    → (row_at (edited g (edited g (replay opening journal) (Move source target)) (Move target source)) path ≡ row_at (replay opening journal) path)
+    × (dacl_at g (edited g (edited g (replay opening journal) (Move source target)) (Move target source)) path ≡ dacl_at g (replay opening journal) path)
 
 -- another owner or group changes the DACL of its own node alone: where it took a creator's place it is handed on no further
 abbrev pub OwnerChangesOneNode : Type 0

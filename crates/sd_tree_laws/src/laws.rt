@@ -1,6 +1,6 @@
 //! What follows from the rules of the tree.
 
-ghost use Rattle.sd_tree_laws.specs.Laws.{DaclIsOfParent, RootInheritsNothing, LawfulTreesAreClosed, OwnerChangesOneNode, GroupChangesOneNode, KeepingANullChangesNone, EditStaysBelow, ProtectedStandsAlone, UnmarkedEntryStays, NoPropagateGoesOneLevel, NothingWaitsInAnObject, InheritedHasId, OwnHasNoId, WithoutIdIsOwn, EveryListIsCanonical, OrderGrantsNothing, OrderKeepsOwnersLimit, KeepingLetsNobodyIn, KeepingGrantsNoNewRequest};
+ghost use Rattle.sd_tree_laws.specs.Laws.{DaclIsOfParent, RootInheritsNothing, LawfulTreesAreClosed, OwnerChangesOneNode, GroupChangesOneNode, KeepingANullChangesNone, EditStaysBelow, MoveCarriesTheSubtree, MoveBackUndoesIt, ProtectedStandsAlone, UnmarkedEntryStays, NoPropagateGoesOneLevel, NothingWaitsInAnObject, InheritedHasId, OwnHasNoId, WithoutIdIsOwn, EveryListIsCanonical, OrderGrantsNothing, OrderKeepsOwnersLimit, KeepingLetsNobodyIn, KeepingGrantsNoNewRequest};
 
 /// The DACL of a node is its own entries and what the DACL of its parent hands on, as it stands in the same tree; the
 /// root has nothing above it ([MS-DTYP] 2.5.3.4).
@@ -14,9 +14,22 @@ pub fn lawful_trees_are_closed()
     ensures { LawfulTreesAreClosed }
 {}
 
-/// An edit changes the descriptor of no node but the edited one and those below it.
+/// An edit changes the descriptor of no node but the edited one and those below it; a move, of none but those at and below
+/// its source and its target.
 pub fn edit_stays_below()
     ensures { EditStaysBelow }
+{}
+
+/// After an accepted move the nodes at and below the source stand at and below the target, with their kinds, owners, groups and
+/// own lists; nothing stands at the source or below it; each other node has what it had. What the moved nodes inherit is what
+/// `dacl_is_of_parent` says of the tree that results ([MS-DTYP] 2.5.3.4).
+pub fn move_carries_the_subtree()
+    ensures { MoveCarriesTheSubtree }
+{}
+
+/// A move there and a move back, both accepted, leave the kind, the owner, the group, the own list and the DACL of each node as they were.
+pub fn move_back_undoes_it()
+    ensures { MoveBackUndoesIt }
 {}
 
 /// SetOwner and SetGroup change the DACL of no node but the edited one: what CREATOR OWNER and CREATOR GROUP became in

@@ -3,7 +3,7 @@
 use super::*;
 use sd_tree::{NodeKind, Opening};
 
-const ACTS: [Act; 7] = [
+const ACTS: [Act; 8] = [
     Act::Container,
     Act::Object,
     Act::Dacl,
@@ -11,6 +11,7 @@ const ACTS: [Act; 7] = [
     Act::Group,
     Act::Remove,
     Act::Keep,
+    Act::Move,
 ];
 
 /// The edit of an act, as it is told for debugging.
@@ -20,6 +21,7 @@ fn edit_of(alloc: Global, act: Act) -> Result<Edit, Fail> {
         Act::Owner | Act::Group => naming(act, path, "BU"),
         Act::Remove => Ok(Edit::Remove { path }),
         Act::Keep => Ok(Edit::ProtectKeeping { path }),
+        Act::Move => going(alloc, path, "/c"),
         _ => giving(alloc, act, path, "D:P(A;OICI;FR;;;BU)"),
     }
 }

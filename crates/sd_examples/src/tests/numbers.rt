@@ -2,7 +2,7 @@
 
 use super::*;
 
-const NUMBERS: [(EditRefusal, u8, &str); 12] = [
+const NUMBERS: [(EditRefusal, u8, &str); 13] = [
     (EditRefusal::NoParent, 1, "NoParent"),
     (EditRefusal::ParentIsObject, 2, "ParentIsObject"),
     (EditRefusal::Exists, 3, "Exists"),
@@ -15,6 +15,7 @@ const NUMBERS: [(EditRefusal, u8, &str); 12] = [
     (EditRefusal::TooDeep, 10, "TooDeep"),
     (EditRefusal::NodesFull, 11, "NodesFull"),
     (EditRefusal::JournalFull, 12, "JournalFull"),
+    (EditRefusal::IntoItself, 13, "IntoItself"),
 ];
 
 #[test]

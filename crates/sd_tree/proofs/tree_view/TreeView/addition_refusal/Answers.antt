@@ -1,0 +1,9 @@
+use Rattle.std.proofs.Common.{sym, ◌∙◌}
+use Rattle.sd_tree.specs.Refusals.{place_tests, list_tests}
+use Rattle.sd_tree.specs.Stored.{tree_of}
+use Rattle.sd_tree.proofs.Refused.{fits_first}
+use Rattle.sd_tree.proofs.tree_view.TreeView.addition_refusal.Goals as goal
+
+pub returns-in-Some : goal.returns-in-Some
+returns-in-Some c =
+    sym (fits_first (place_tests (tree_of c.args.self.now.nodes.now) c.args.path.now) (list_tests c.args.dacl.now) c.in-Some.refusal (sym c.place_refusal.ensures ∙ c.in-Some.is))

@@ -1,0 +1,51 @@
+use Rattle.std.proofs.Common.{◌≡◌, Some, sym, ap, ◌∙◌}
+use Rattle.std.proofs.lemmas.Result.{IfErr-weaker, err_from_is_err_and}
+use Rattle.sd_tree.specs.Plain.{row_at}
+use Rattle.sd_tree.specs.Stored.{tree_of}
+use Rattle.sd_tree.specs.declared.node.Node.{Node}
+use Rattle.sd_tree.proofs.Kept.{row_here}
+use Rattle.sd_tree.proofs.MovedWholes.{first_refused, wholes_moved, run_refused, ok_both}
+use Rattle.sd_tree.proofs.tree_view.TreeView.moved_wholes.Goals as goal
+
+pub returns-in_err-first-clause-refused : goal.returns-in_err-first-clause-refused
+returns-in_err-first-clause-refused c =
+    let g = c.args.self.now.mapping.now in
+    let bs = c.args.self.now.nodes.now in
+    let b = c.index-self-from.result in
+    let p = err_from_is_err_and c.from_residual.result c.from_residual.ensures.1 in
+    let is-row : row_at (tree_of bs) c.args.source.now ≡ Some c.get.result.now =
+    ap (row_at (tree_of bs)) (sym (c.requires.stands b)) ∙ row_here bs c.requires.standing.kept.order c.args.from b c.requires.within
+    ∙ ap Some (sym (c.get.ensures ∙ ap (λ (n : Node). n.row) c.deref-node.ensures)) in
+    let refused = rw c.as_path_ref.ensures at c.in_err-first.ensures.refused in
+    rw (p.1, p.2) (first_refused g bs c.requires.standing c.args.source.now c.args.target.now c.requires.movable c.args.from c.requires.within c.requires.stands c.get.result.now is-row c.in_err-first.field-0.0 refused)
+
+pub returns-clause-wholes : goal.returns-clause-wholes
+returns-clause-wholes c =
+    let g = c.args.self.now.mapping.now in
+    let bs = c.args.self.now.nodes.now in
+    let b = c.index-self-from.result in
+    let is-row : row_at (tree_of bs) c.args.source.now ≡ Some c.get.result.now =
+    ap (row_at (tree_of bs)) (sym (c.requires.stands b)) ∙ row_here bs c.requires.standing.kept.order c.args.from b c.requires.within
+    ∙ ap Some (sym (c.get.ensures ∙ ap (λ (n : Node). n.row) c.deref-node.ensures)) in
+    let first = rw c.as_path_ref.ensures at c.in_ok-first.ensures.whole in
+    let rebuilt = rw c.as_path_ref-2.ensures at c.whole_dacls_from.ensures.rebuilt in
+    let run = rw c.as_path_ref-2.ensures at c.whole_dacls_from.ensures.run in
+    ok_both c.whole_dacls_from.result _ _ _
+    (λ wholes one two. wholes_moved g bs c.requires.standing c.args.source.now c.args.target.now c.requires.movable c.args.from c.requires.within c.requires.stands c.get.result.now is-row
+    c.in_ok-first.first first c.in_ok-row.row c.in_ok-row.ensures wholes.items one two)
+    rebuilt run
+
+pub returns-clause-refused : goal.returns-clause-refused
+returns-clause-refused c =
+    let g = c.args.self.now.mapping.now in
+    let bs = c.args.self.now.nodes.now in
+    let b = c.index-self-from.result in
+    let is-row : row_at (tree_of bs) c.args.source.now ≡ Some c.get.result.now =
+    ap (row_at (tree_of bs)) (sym (c.requires.stands b)) ∙ row_here bs c.requires.standing.kept.order c.args.from b c.requires.within
+    ∙ ap Some (sym (c.get.ensures ∙ ap (λ (n : Node). n.row) c.deref-node.ensures)) in
+    let first = rw c.as_path_ref.ensures at c.in_ok-first.ensures.whole in
+    let refused = rw c.as_path_ref-2.ensures at c.whole_dacls_from.ensures.refused in
+    IfErr-weaker c.whole_dacls_from.result _ _
+    (λ e h. run_refused g bs c.requires.standing c.args.source.now c.args.target.now c.requires.movable c.args.from c.requires.within c.requires.stands c.get.result.now is-row
+    c.in_ok-first.first first c.in_ok-row.row c.in_ok-row.ensures e h)
+    refused

@@ -1,0 +1,136 @@
+//! The plan of a move: a node goes elsewhere with all below it.
+
+ghost use Rattle.std.specs.Prelude.{◌≡◌, ◌<◌, ◌≤◌, ◌+◌, length, true, false, OnOk, IfOk, IfErr};
+ghost use Rattle.std.specs.List.{HoldsAt};
+ghost use Rattle.sd_path.specs.Names.{is_within};
+ghost use Rattle.sd_tree.specs.Closed.{IsMovable};
+ghost use Rattle.sd_tree.specs.Edits.{moved};
+ghost use Rattle.sd_tree.specs.Plans.{IsPlan, IsLateError, IsLargeError, IsDepthError, IsMovedNode, IsMovedRun, IsTooDeep, HasWhole, AreMovedWholes};
+ghost use Rattle.sd_tree.specs.Refusals.{moves_too_deep};
+ghost use Rattle.sd_tree.specs.Stored.{path_of_node};
+ghost use Rattle.sd_tree.specs.View.{IsView, tree_in};
+ghost use Rattle.sd_tree.specs.declared.edit.Edit.TheVariants.{Move};
+
+use crate::entries::Entries;
+use crate::judging::MAX_DEPTH;
+use crate::node::{Node, NodeDacl, Row};
+use crate::nodes::locate;
+use crate::plan::Plan;
+use crate::refusal::{EditRefusal, TreeError};
+use crate::shared::{SharedList, share_dacl};
+use crate::tree_view::TreeView;
+use sd_path::{Path, PathRef};
+use std::alloc::{AllocError, Global};
+
+impl TreeView<'_> {
+    /// The plan for a node that goes to a free path with all below it.
+    pub(crate) fn moving_plan(&self, source: &Path, target: &Path) -> Result<Plan, TreeError>
+        requires standing { IsView self.now }
+        requires movable { IsMovable (tree_in self.now) source.now target.now }
+        ensures plan { IfOk result (IsPlan self.now.mapping.now (tree_in self.now)
+            (moved (tree_in self.now) source.now target.now)) }
+        ensures shallow { OnOk result (moves_too_deep (tree_in self.now) (Move source.now target.now) ≡ false) }
+        ensures refused { IfErr result (IsLateError self.now.mapping.now (tree_in self.now) (Move source.now target.now)) }
+    {
+        let from = self.place_of(&source.as_path_ref());
+        match locate(self.nodes, &target.as_path_ref()) {
+            Ok(_) => unreachable!(),
+            Err(at) => {
+                let wholes = self.moved_wholes(source, target, from, at)?;
+                let run = self.moved_nodes(source, target, from, &wholes)?;
+                let to = if at <= from { at } else { at - run.len() };
+                Ok(Plan::Move { from, to, run })
+            }
+        }
+    }
+
+    /// The whole DACLs of the node at a place and of those below it, in their order, once they stand at the target, which
+    /// would stand at the other place.
+    fn moved_wholes(
+        &self,
+        source: &Path,
+        target: &Path,
+        from: usize,
+        at: usize,
+    ) -> Result<Vec<Option<SharedList>>, TreeError>
+        requires standing { IsView self.now }
+        requires movable { IsMovable (tree_in self.now) source.now target.now }
+        requires within { from < length self.now.nodes.now }
+        requires stands { HoldsAt (λ b. path_of_node b ≡ source.now) self.now.nodes.now from }
+        requires place { at ≤ length self.now.nodes.now }
+        ensures wholes { IfOk result (λ wholes. AreMovedWholes self.now.mapping.now self.now.nodes.now
+            (moved (tree_in self.now) source.now target.now) source.now target.now from wholes.items) }
+        ensures refused { IfErr result (IsLargeError self.now.mapping.now
+            (moved (tree_in self.now) source.now target.now)) }
+    {
+        let node: &Node = &self.nodes[from];
+        let first = self.whole_of(&target.as_path_ref(), at, node.row.get())?;
+        // What stands below sees of all above it the node's whole DACL alone.
+        let row = row_with_whole(self.alloc, node.row.get(), &first)?;
+        self.whole_dacls_from(&source.as_path_ref(), from, &row)
+    }
+
+    /// The node at a place and those below it, in their order, with their new paths and these whole DACLs.
+    fn moved_nodes(
+        &self,
+        source: &Path,
+        target: &Path,
+        from: usize,
+        wholes: &[Option<SharedList>],
+    ) -> Result<Vec<Box<Node>>, TreeError>
+        requires standing { IsView self.now }
+        requires wholes { AreMovedWholes self.now.mapping.now self.now.nodes.now
+            (moved (tree_in self.now) source.now target.now) source.now target.now from wholes.now }
+        ensures run { IfOk result (λ run. IsMovedRun self.now.nodes.now source.now target.now from wholes.now (length wholes.now) run.items) }
+        ensures refused { IfErr result (λ e. IsTooDeep (tree_in self.now) source.now target.now e) }
+    {
+        let (source, target) = (source.as_path_ref(), target.as_path_ref());
+        let mut run = Vec::with_capacity(self.alloc, wholes.len())?;
+        for i in 0..wholes.len() {
+            let node: &Node = &self.nodes[from + i];
+            run.push(moved_node(self.alloc, node, &source, &target, &wholes[i])?)?;
+        }
+        Ok(run)
+    }
+}
+
+/// The node where it stands once it has moved, with this whole DACL.
+fn moved_node(
+    alloc: Global,
+    node: &Node,
+    source: &PathRef<'_>,
+    target: &PathRef<'_>,
+    whole: &Option<SharedList>,
+) -> Result<Box<Node>, TreeError>
+    requires { is_within source.now node.now.path ≡ true }
+    ensures node { IfOk result (IsMovedNode source.now target.now node.now whole.now) }
+    ensures refused { IfErr result (IsDepthError source.now target.now node.now.path) }
+{
+    let below = node.path.as_path_ref().depth() - source.depth();
+    if target.depth().saturating_add(below) > MAX_DEPTH {
+        return Err(TreeError::Refused(EditRefusal::TooDeep));
+    }
+    let path = node.path.moved(alloc, source, target)?;
+    let row = node.row.share()?;
+    let whole = share_dacl(whole)?;
+    Ok(Box::new(alloc, Node { path, row, whole })?)
+}
+
+/// The row with this whole DACL as all that the node has.
+fn row_with_whole(alloc: Global, row: &Row, whole: &Option<SharedList>) -> Result<Row, AllocError>
+    ensures { IfOk result (HasWhole whole.now) }
+{
+    let dacl = match whole {
+        None => NodeDacl::Null,
+        Some(list) => NodeDacl::List {
+            protected: true,
+            entries: Entries::new(Vec::from_slice(alloc, list.entries())?),
+        },
+    };
+    Ok(Row {
+        kind: row.kind,
+        owner: row.owner,
+        group: row.group,
+        dacl,
+    })
+}
