@@ -1,22 +1,43 @@
--- The code's table of aliases is that of the grammar.
-use Rattle.std.proofs.Common.{◌≡◌, ℕ, List, Some, subst, None, Ok, refl}
+-- The code's tables of aliases are those of the grammar.
+use Rattle.std.proofs.Common.{◌≡◌, ℕ, List, Option, Some, subst, None, Ok, Err, refl}
+use Rattle.sd_sid.specs.Sid.{SidValue}
 use Rattle.sd_text.specs.declared.alias.WellKnown.{WellKnown}
+use Rattle.sd_text.specs.declared.domain.Domain.{Domain}
+use Rattle.sd_text.specs.declared.fault.TextFault.TheVariants.{DomainAlias}
 use Rattle.sd_text.specs.Grammar.{Grammar, Name, named, one_of}
 use Rattle.sd_text.specs.Finding.{find}
-use Rattle.sd_text.specs.Alias.{aliases}
+use Rattle.sd_text.specs.Alias.{aliases, domain_aliases}
+use Rattle.sd_text.specs.Domain.{account_sid}
 use Rattle.sd_text.specs.Names.{renamed, well_known}
-use Rattle.sd_text.specs.Sid.{no_alias}
+use Rattle.sd_text.specs.Sid.{no_alias, domain_alias}
 use Rattle.sd_text.proofs.Tables.{named_some, named_no}
 
-one_found : {A : Type 0} (names : List (Name A)) (other : Grammar A) (text : List ℕ) (a : A) (rest : List ℕ) → named names text ≡ Some (a, rest) → find (one_of names other) text ≡ Ok (a, rest)
-one_found names other text a rest e = rw e refl
+-- a name of a table, or what stands there in its place, where the table's names stand for something else
+one_found : {A B : Type 0} (f : A → B) (names : List (Name A)) (other : Grammar B) (text : List ℕ) (a : A) (rest : List ℕ) → named names text ≡ Some (a, rest) → find (one_of (renamed f names) other) text ≡ Ok (f a, rest)
+one_found f names other text a rest e = rw (named_some f names text a rest e) refl
 
-other_found : {A : Type 0} (names : List (Name A)) (other : Grammar A) (text : List ℕ) → named names text ≡ None → find (one_of names other) text ≡ find other text
-other_found names other text e = rw e refl
+other_found : {A B : Type 0} (f : A → B) (names : List (Name A)) (other : Grammar B) (text : List ℕ) → named names text ≡ None → find (one_of (renamed f names) other) text ≡ find other text
+other_found f names other text e = rw (named_no f names text e) refl
 
-module _ (names : List (Name WellKnown)) (same : renamed well_known names ≡ aliases) where
-  pub alias_found : (text : List ℕ) (known : WellKnown) (rest : List ℕ) → named names text ≡ Some (known, rest) → find (one_of aliases no_alias) text ≡ Ok (well_known known, rest)
-  alias_found text known rest e = subst (λ table. find (one_of table no_alias) text ≡ Ok (well_known known, rest)) same (one_found (renamed well_known names) no_alias text (well_known known) rest (named_some well_known names text known rest e))
+module _ (names : List (Name WellKnown)) (same : renamed well_known names ≡ aliases) (other : Grammar SidValue) where
+  pub alias_found : (text : List ℕ) (known : WellKnown) (rest : List ℕ) → named names text ≡ Some (known, rest) → find (one_of aliases other) text ≡ Ok (well_known known, rest)
+  alias_found text known rest e = subst (λ table. find (one_of table other) text ≡ Ok (well_known known, rest)) same (one_found well_known names other text known rest e)
 
-  pub no_alias_found : (text : List ℕ) → named names text ≡ None → find (one_of aliases no_alias) text ≡ find no_alias text
-  no_alias_found text e = subst (λ table. find (one_of table no_alias) text ≡ find no_alias text) same (other_found (renamed well_known names) no_alias text (named_no well_known names text e))
+  pub no_alias_found : (text : List ℕ) → named names text ≡ None → find (one_of aliases other) text ≡ find other text
+  no_alias_found text e = subst (λ table. find (one_of table other) text ≡ find other text) same (other_found well_known names other text e)
+
+-- an alias of the domain's
+pub account_found : (domain : Domain) (text : List ℕ) (relative : ℕ) (rest : List ℕ) → named domain_aliases text ≡ Some (relative, rest) → find (domain_alias (Some domain)) text ≡ Ok (account_sid domain relative, rest)
+unfolding domain_alias
+account_found domain text relative rest e = one_found (account_sid domain) domain_aliases no_alias text relative rest e
+
+-- one for which no domain is given
+pub needs_a_domain : (text : List ℕ) (relative : ℕ) (rest : List ℕ) → named domain_aliases text ≡ Some (relative, rest) → find (domain_alias None) text ≡ Err (DomainAlias, text)
+unfolding domain_alias
+needs_a_domain text relative rest e = rw e refl
+
+-- none of them
+pub no_account_found : (domain : Option Domain) (text : List ℕ) → named domain_aliases text ≡ None → find (domain_alias domain) text ≡ find no_alias text
+unfolding domain_alias
+no_account_found None text e = rw e refl
+no_account_found (Some domain) text e = other_found (account_sid domain) domain_aliases no_alias text e

@@ -1,5 +1,5 @@
 -- The printed text of an entry, and of a list of them, is read as they are.
-use Rattle.std.proofs.Common.{◌≡◌, ℕ, ◌+◌, ◌≤◌, List, [], ◌∷◌, ◌++◌, Ok, refl, arith, sym, ◌∙◌, subst, append_assoc}
+use Rattle.std.proofs.Common.{◌≡◌, ℕ, ◌+◌, ◌≤◌, List, [], ◌∷◌, ◌++◌, Option, Ok, refl, arith, sym, ◌∙◌, subst, append_assoc}
 use Rattle.std.specs.Prelude.{codes}
 use Rattle.std.specs.List.{flat_map, AllByRecursion}
 use Rattle.std.proofs.lemmas.Bool.{le-ltb}
@@ -12,6 +12,7 @@ use Rattle.sd_acl.specs.declared.ace.AceKind.{AceKind}
 use Rattle.sd_acl.specs.declared.ace.AceKind.TheVariants.{Allow, Deny}
 use Rattle.sd_text.specs.Finding.{find}
 use Rattle.sd_text.specs.Entry.{kind, guid, entry, entry_end, entries}
+use Rattle.sd_text.specs.declared.domain.Domain.{Domain}
 use Rattle.sd_text.specs.Canon.{kind_canon, flags_canon, rights_canon, sid_canon, entry_canon}
 use Rattle.sd_text.proofs.Entries.{EntriesReach, entries_start, entries_more, entries_end}
 use Rattle.sd_text.proofs.CanonSids.{Stops, sid_read}
@@ -44,28 +45,28 @@ guid_read rest = refl
 stops : (rest : List ℕ) → Stops (41 ∷ rest)
 stops rest = record { no_digit = refl; no_dash = refl }
 
-entry_read : (size : ℕ) (e : Ace) (rest : List ℕ) → IsAce e → HasNamedFlags e → size + ace_size e ≤ 65535 → find (entry size) (body e rest) ≡ Ok (e, rest)
+entry_read : (domain : Option Domain) (size : ℕ) (e : Ace) (rest : List ℕ) → IsAce e → HasNamedFlags e → size + ace_size e ≤ 65535 → find (entry domain size) (body e rest) ≡ Ok (e, rest)
 unfolding entry body
-entry_read size e rest is named_only fits =
+entry_read domain size e rest is named_only fits =
     let trustee = sid_canon e.sid ++ 41 ∷ rest in
     let mask = rights_canon e.mask ++ (59 ∷ 59 ∷ 59 ∷ trustee) in
     let flags = flags_canon e.flags.0 ++ (59 ∷ mask) in
-    rw (kind_read e.kind flags, flags_read e.flags.0 (59 ∷ mask) is.flags named_only refl, rights_read e.mask (59 ∷ 59 ∷ 59 ∷ trustee) is.mask refl refl, guid_read (59 ∷ trustee), guid_read trustee, sid_read e.sid (41 ∷ rest) is.sid (stops rest)) (end_read size e rest fits)
+    rw (kind_read e.kind flags, flags_read e.flags.0 (59 ∷ mask) is.flags named_only refl, rights_read e.mask (59 ∷ 59 ∷ 59 ∷ trustee) is.mask refl refl, guid_read (59 ∷ trustee), guid_read trustee, sid_read domain e.sid (41 ∷ rest) is.sid (stops rest)) (end_read size e rest fits)
 
-entries_again : (es done : List Ace) (start rest : List ℕ) → AllByRecursion IsAce es → AllByRecursion HasNamedFlags es → acl_size_of (done ++ es) ≤ 65535 → EntriesReach entry start done (flat_map entry_canon es ++ rest) → EntriesReach entry start (done ++ es) rest
-entries_again [] done start rest each named_only fits reached = rw (append-nil done) reached
-entries_again (e ∷ es) done start rest each named_only fits reached =
+entries_again : (domain : Option Domain) (es done : List Ace) (start rest : List ℕ) → AllByRecursion IsAce es → AllByRecursion HasNamedFlags es → acl_size_of (done ++ es) ≤ 65535 → EntriesReach (entry domain) start done (flat_map entry_canon es ++ rest) → EntriesReach (entry domain) start (done ++ es) rest
+entries_again domain [] done start rest each named_only fits reached = rw (append-nil done) reached
+entries_again domain (e ∷ es) done start rest each named_only fits reached =
     let after = flat_map entry_canon es ++ rest in
-    let here : EntriesReach entry start done (40 ∷ body e after) = subst (λ text. EntriesReach entry start done text) (append_assoc (entry_canon e) (flat_map entry_canon es) rest ∙ entry_text e after) reached in
+    let here : EntriesReach (entry domain) start done (40 ∷ body e after) = subst (λ text. EntriesReach (entry domain) start done text) (append_assoc (entry_canon e) (flat_map entry_canon es) rest ∙ entry_text e after) reached in
     let parts = sum_by-append ace_size done (e ∷ es) in
     let first = sum_by-cons ace_size e es in
-    let one = entry_read (acl_size_of done) e after each.0 named_only.0 (omega arith) in
-    let more = entries_more entry start done (40 ∷ body e after) e after here refl one in
-    rw (sym (append_assoc done (e ∷ []) es)) (entries_again es (done ++ e ∷ []) start rest each.1 named_only.1 (rw append_assoc fits) more)
+    let one = entry_read domain (acl_size_of done) e after each.0 named_only.0 (omega arith) in
+    let more = entries_more (entry domain) start done (40 ∷ body e after) e after here refl one in
+    rw (sym (append_assoc done (e ∷ []) es)) (entries_again domain es (done ++ e ∷ []) start rest each.1 named_only.1 (rw append_assoc fits) more)
 
-pub entries_read : (es : List Ace) → AllByRecursion IsAce es → AllByRecursion HasNamedFlags es → acl_size_of es ≤ 65535 → find entries (flat_map entry_canon es) ≡ Ok (es, [])
+pub entries_read : (domain : Option Domain) (es : List Ace) → AllByRecursion IsAce es → AllByRecursion HasNamedFlags es → acl_size_of es ≤ 65535 → find (entries domain) (flat_map entry_canon es) ≡ Ok (es, [])
 unfolding entries
-entries_read es each named_only fits =
+entries_read domain es each named_only fits =
     let start = flat_map entry_canon es in
-    let first : EntriesReach entry start [] (start ++ []) = rw (append-nil start) (entries_start entry start) in
-    entries_end entry start es [] (entries_again es [] start [] each named_only fits first) refl
+    let first : EntriesReach (entry domain) start [] (start ++ []) = rw (append-nil start) (entries_start (entry domain) start) in
+    entries_end (entry domain) start es [] (entries_again domain es [] start [] each named_only fits first) refl

@@ -6,6 +6,7 @@ pub mod Engine
 pub mod Loops
 pub mod Sids
 pub mod Entries
+pub mod Audits
 pub mod Tables
 pub mod Aliases
 pub mod Rooms

@@ -24,15 +24,16 @@ aliases =
     ∷ builtin (codes "MU") 558 ∷ builtin (codes "LU") 559 ∷ builtin (codes "IS") 568 ∷ builtin (codes "CY") 569
     ∷ builtin (codes "ER") 573 ∷ builtin (codes "CD") 574 ∷ []
 
--- an alias that stands for no SID without a domain's
-abbrev pub of_a_domain : List ℕ → Name (Unit {0})
-of_a_domain letters = record { letters = letters; stands_for = tt }
+-- a name for an account or a group of a domain, by its relative identifier
+abbrev pub of_a_domain : List ℕ → ℕ → Name ℕ
+of_a_domain letters relative = record { letters = letters; stands_for = relative }
 
 -- those that a domain's SID is wanted for
-abbrev pub domain_aliases : List (Name (Unit {0}))
+abbrev pub domain_aliases : List (Name ℕ)
 domain_aliases =
-    of_a_domain (codes "DA") ∷ of_a_domain (codes "DU") ∷ of_a_domain (codes "DG") ∷ of_a_domain (codes "DC") ∷ of_a_domain (codes "DD") ∷ of_a_domain (codes "CA")
-    ∷ of_a_domain (codes "RS") ∷ of_a_domain (codes "EA") ∷ of_a_domain (codes "SA") ∷ of_a_domain (codes "PA") ∷ of_a_domain (codes "LA") ∷ of_a_domain (codes "LG") ∷ []
+    of_a_domain (codes "DA") 512 ∷ of_a_domain (codes "DU") 513 ∷ of_a_domain (codes "DG") 514 ∷ of_a_domain (codes "DC") 515
+    ∷ of_a_domain (codes "DD") 516 ∷ of_a_domain (codes "CA") 517 ∷ of_a_domain (codes "RS") 553 ∷ of_a_domain (codes "EA") 519
+    ∷ of_a_domain (codes "SA") 518 ∷ of_a_domain (codes "PA") 520 ∷ of_a_domain (codes "LA") 500 ∷ of_a_domain (codes "LG") 501 ∷ []
 
 -- the letters of the table's name for the SID
 unfoldable pub alias_in : List (Name SidValue) → SidValue → Option (List ℕ)

@@ -1,9 +1,10 @@
 -- Entries ([MS-DTYP] 2.5.1.1, ace).
-use Rattle.std.specs.Prelude.{ℕ, ◌+◌, Bool, nat_lt, ◌==◌, ◌&&◌, not, List, [], ◌∷◌, length, drop, map, codes}
+use Rattle.std.specs.Prelude.{ℕ, ◌+◌, Bool, nat_lt, ◌==◌, ◌&&◌, not, List, [], ◌∷◌, length, drop, map, Option, codes}
 use Rattle.sd_acl.specs.Ace.{ace_size, acl_size_of, named_flags}
 use Rattle.sd_acl.specs.declared.ace.Ace.{Ace}
 use Rattle.sd_acl.specs.declared.ace.AceKind.{AceKind}
 use Rattle.sd_acl.specs.declared.ace.AceKind.TheVariants.{Allow, Deny}
+use Rattle.sd_text.specs.declared.domain.Domain.{Domain}
 use Rattle.sd_text.specs.declared.fault.TextFault.TheVariants.{Syntax, EntryKind, ObjectGuid, AclTooLarge}
 use Rattle.sd_text.specs.Grammar.{Grammar, Name, value, refused, choose, word, many, begins, ◌>>=◌}
 use Rattle.sd_text.specs.Rights.{bits, bits_of, rights}
@@ -37,8 +38,8 @@ entry_end size entry = choose (λ text. begins text (codes ")") && nat_lt 65535 
     (word (codes ")") >>= λ u. value entry)
 
 -- an entry behind its `(`, where the list that it joins has a size of so many bytes
-unfoldable pub entry : ℕ → Grammar Ace
-entry size = do
+unfoldable pub entry : Option Domain → ℕ → Grammar Ace
+entry domain size = do
   allows ← kind
   u ← word (codes ";")
   flags ← bits_of flag_names
@@ -47,7 +48,7 @@ entry size = do
   w ← word (codes ";")
   object ← guid
   inherit ← guid
-  trustee ← sid
+  trustee ← sid domain
   entry_end size (record { kind = allows; flags = record { 0 = flags }; mask = mask; sid = trustee })
 
 -- any number of entries, each knowing the size of the list before it
@@ -59,9 +60,9 @@ abbrev pub first_of : (ℕ → Grammar Ace) → Grammar Ace
 first_of entry = word (codes "(") >>= λ u. entry (acl_size_of [])
 
 -- the entries of a DACL
-unfoldable pub entries : Grammar (List Ace)
-entries = entries_of entry
+unfoldable pub entries : Option Domain → Grammar (List Ace)
+entries domain = entries_of (entry domain)
 
 -- the first entry of a DACL
-unfoldable pub first_entry : Grammar Ace
-first_entry = first_of entry
+unfoldable pub first_entry : Option Domain → Grammar Ace
+first_entry domain = first_of (entry domain)

@@ -1,11 +1,13 @@
 -- What holds of every text.
-use Rattle.std.specs.Prelude.{◌≡◌, ℕ, ◌^◌, ◌<◌, ◌⊎◌, List}
+use Rattle.std.specs.Prelude.{◌≡◌, ℕ, ◌^◌, ◌<◌, ◌⊎◌, List, Option, false}
 use Rattle.sd_sid.specs.Sid.{SidValue, IsSid}
 use Rattle.sd_acl.specs.Descriptor.{DescriptorValue, IsDescriptor, HaveNamedFlags}
 use Rattle.sd_text.specs.Canon.{sid_canon, rights_canon, canon}
 use Rattle.sd_text.specs.Rights.{mask_text}
-use Rattle.sd_text.specs.Sddl.{sddl}
-use Rattle.sd_text.specs.Sid.{sid_text}
+use Rattle.sd_text.specs.Sacl.{sddl_without_sacl}
+use Rattle.sd_text.specs.Sddl.{sddl_in}
+use Rattle.sd_text.specs.Sid.{sid_text_in}
+use Rattle.sd_text.specs.declared.domain.Domain.{Domain}
 use Rattle.sd_text.specs.declared.fault.TextFault.{TextFault}
 use Rattle.sd_text.specs.Grammar.{Grammar, Spells, HasFault}
 
@@ -25,14 +27,18 @@ NeverHasBoth {A = A} grammar = (text : List ℕ) (a : A) (fault : TextFault) (pl
 abbrev pub HasOneFault : {A : Type 0} → Grammar A → Type 0
 HasOneFault grammar = (text : List ℕ) (f g : TextFault) (p q : ℕ) → HasFault grammar text f p → HasFault grammar text g q → (f ≡ g) × (p ≡ q)
 
--- the printed text of a descriptor spells it
+-- the printed text of a descriptor spells it, whichever domain is given
 abbrev pub DescriptorsComeBack : Type 0
-DescriptorsComeBack = (d : DescriptorValue) → IsDescriptor d → HaveNamedFlags d.dacl → Spells sddl (canon d) d
+DescriptorsComeBack = (domain : Option Domain) (d : DescriptorValue) → IsDescriptor d → HaveNamedFlags d.dacl → Spells (sddl_in domain) (canon d) d
 
 -- that of a SID spells the SID
 abbrev pub SidsComeBack : Type 0
-SidsComeBack = (sid : SidValue) → IsSid sid → Spells sid_text (sid_canon sid) sid
+SidsComeBack = (domain : Option Domain) (sid : SidValue) → IsSid sid → Spells (sid_text_in domain) (sid_canon sid) sid
 
 -- and that of a mask the mask
 abbrev pub MasksComeBack : Type 0
 MasksComeBack = (mask : ℕ) → mask < 2 ^ 32 → Spells mask_text (rights_canon mask) mask
+
+-- a text without a SACL's section spells the same descriptor where one may be left out
+abbrev pub AreReadAlike : Type 0
+AreReadAlike = (domain : Option Domain) (text : List ℕ) (d : DescriptorValue) → Spells (sddl_in domain) text d → Spells (sddl_without_sacl domain) text (d, false)

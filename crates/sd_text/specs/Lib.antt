@@ -2,11 +2,13 @@ pub mod Grammar
 pub mod Fault
 pub mod Finding
 pub mod Names
+pub mod Domain
 pub mod Alias
 pub mod Sid
 pub mod Rights
 pub mod Entry
 pub mod Sddl
+pub mod Sacl
 pub mod Canon
 pub mod Room
 pub mod Laws

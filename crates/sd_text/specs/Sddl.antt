@@ -8,14 +8,15 @@ use Rattle.sd_text.specs.declared.descriptor.DaclWord.{DaclWord}
 use Rattle.sd_text.specs.declared.descriptor.DaclWord.TheVariants.{Protected, AutoReq, AutoInherited, NoAccessControl}
 use Rattle.sd_text.specs.declared.descriptor.DaclWords.{DaclWords}
 use Rattle.sd_text.specs.declared.descriptor.DaclPart.{DaclPart}
+use Rattle.sd_text.specs.declared.domain.Domain.{Domain}
 use Rattle.sd_text.specs.declared.fault.TextFault.TheVariants.{Syntax, HasSacl}
 use Rattle.sd_text.specs.Grammar.{Grammar, Name, value, refused, choose, word, run, begins, whole, ◌>>=◌}
 use Rattle.sd_text.specs.Sid.{sid}
 use Rattle.sd_text.specs.Entry.{entries, first_entry}
 
 -- a section of one SID, where its head stands
-unfoldable pub sid_section : List ℕ → Grammar (Option SidValue)
-sid_section head = choose (λ text. begins text head) (word head >>= λ u. sid >>= λ trustee. value (Some trustee)) (value None)
+unfoldable pub sid_section : Option Domain → List ℕ → Grammar (Option SidValue)
+sid_section domain head = choose (λ text. begins text head) (word head >>= λ u. sid domain >>= λ trustee. value (Some trustee)) (value None)
 
 -- a word for this
 abbrev pub dacl_word : List ℕ → DaclWord → Name DaclWord
@@ -41,35 +42,45 @@ unfoldable pub words : Grammar DaclWords
 words = run dacl_words with_word no_words
 
 -- behind the words a list, unless there is no access control
-unfoldable pub dacl_behind : DaclWords → Grammar DaclPart
-dacl_behind found = choose (λ text. found.no_access_control) (value (record { dacl = Null; words = found }))
-    (entries >>= λ list. value (record { dacl = Entries list; words = found }))
+unfoldable pub dacl_behind : Option Domain → DaclWords → Grammar DaclPart
+dacl_behind domain found = choose (λ text. found.no_access_control) (value (record { dacl = Null; words = found }))
+    (entries domain >>= λ list. value (record { dacl = Entries list; words = found }))
 
 -- the section of the DACL, where its head stands
-unfoldable pub dacl_section : Grammar DaclPart
-dacl_section = choose (λ text. begins text (codes "D:")) (word (codes "D:") >>= λ u. words >>= λ found. dacl_behind found) (value (record { dacl = Absent; words = no_words }))
+unfoldable pub dacl_section : Option Domain → Grammar DaclPart
+dacl_section domain = choose (λ text. begins text (codes "D:")) (word (codes "D:") >>= λ u. words >>= λ found. dacl_behind domain found) (value (record { dacl = Absent; words = no_words }))
 
 -- no section of a SACL stands there
 unfoldable pub no_sacl : Grammar (Unit {0})
 no_sacl = choose (λ text. begins text (codes "S:")) (refused HasSacl) (value tt)
 
--- the sections of a descriptor
-unfoldable pub sections : Grammar DescriptorValue
-sections = do
-  owner ← sid_section (codes "O:")
-  group ← sid_section (codes "G:")
-  part ← dacl_section
-  u ← no_sacl
+-- the sections of the owner, the group and the DACL
+unfoldable pub parts : Option Domain → Grammar DescriptorValue
+parts domain = do
+  owner ← sid_section domain (codes "O:")
+  group ← sid_section domain (codes "G:")
+  part ← dacl_section domain
   value (record { owner = owner; group = group; dacl = part.dacl; protected = part.words.protected; auto_req = part.words.auto_req; auto_inherited = part.words.auto_inherited })
 
--- the text of a descriptor
+-- the sections of a descriptor
+unfoldable pub sections : Option Domain → Grammar DescriptorValue
+sections domain = do
+  descriptor ← parts domain
+  u ← no_sacl
+  value descriptor
+
+-- the text of a descriptor, where the aliases of domains are those of this one
+abbrev pub sddl_in : Option Domain → Grammar DescriptorValue
+sddl_in domain = whole (sections domain)
+
+-- the text of a descriptor, where no domain is given
 abbrev pub sddl : Grammar DescriptorValue
-sddl = whole sections
+sddl = sddl_in None
 
 -- the section of a DACL as far as the end of its first entry
-unfoldable pub begun_dacl : Grammar Ace
-begun_dacl = word (codes "D:") >>= λ u. words >>= λ found. choose (λ text. found.no_access_control) (refused Syntax) first_entry
+unfoldable pub begun_dacl : Option Domain → Grammar Ace
+begun_dacl domain = word (codes "D:") >>= λ u. words >>= λ found. choose (λ text. found.no_access_control) (refused Syntax) (first_entry domain)
 
 -- the sections as far as there
-unfoldable pub begun_sddl : Grammar Ace
-begun_sddl = sid_section (codes "O:") >>= λ owner. sid_section (codes "G:") >>= λ group. begun_dacl
+unfoldable pub begun_sddl : Option Domain → Grammar Ace
+begun_sddl domain = sid_section domain (codes "O:") >>= λ owner. sid_section domain (codes "G:") >>= λ group. begun_dacl domain

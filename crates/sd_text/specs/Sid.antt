@@ -1,10 +1,13 @@
 -- SIDs as text ([MS-DTYP] 2.4.2.1).
-use Rattle.std.specs.Prelude.{ℕ, ◌^◌, Bool, false, ◌&&◌, is_some, nat_lt, List, [], ◌∷◌, length, drop, codes}
+use Rattle.std.specs.Prelude.{ℕ, ◌^◌, Bool, false, ◌&&◌, is_some, nat_lt, List, [], ◌∷◌, length, drop, Option, Some, None, codes}
 use Rattle.std.specs.Char.{is_ascii_alphabetic}
 use Rattle.sd_sid.specs.Sid.{SidValue}
 use Rattle.sd_text.specs.declared.fault.TextFault.TheVariants.{Syntax, Range, UnknownAlias, DomainAlias}
 use Rattle.sd_text.specs.Grammar.{Grammar, Name, value, refused, choose, word, number, one_of, many, begins, begins_digit, named, whole, ◌>>=◌}
+use Rattle.sd_text.specs.declared.domain.Domain.{Domain}
 use Rattle.sd_text.specs.Alias.{aliases, domain_aliases}
+use Rattle.sd_text.specs.Domain.{account_sid}
+use Rattle.sd_text.specs.Names.{renamed}
 
 -- what leads a sub-authority
 abbrev pub dash : List (Name (Unit {0}))
@@ -31,13 +34,21 @@ begins_letter (c ∷ text) = is_ascii_alphabetic c
 
 -- no alias stands there
 unfoldable pub no_alias : Grammar SidValue
-no_alias = choose (λ text. is_some (named domain_aliases text)) (refused DomainAlias)
-    (choose (λ text. begins_letter text && begins_letter (drop 1 text)) (refused UnknownAlias) (refused Syntax))
+no_alias = choose (λ text. begins_letter text && begins_letter (drop 1 text)) (refused UnknownAlias) (refused Syntax)
+
+-- an alias of the domain's, which stands for no SID where no domain is given
+unfoldable pub domain_alias : Option Domain → Grammar SidValue
+domain_alias None = choose (λ text. is_some (named domain_aliases text)) (refused DomainAlias) no_alias
+domain_alias (Some domain) = one_of (renamed (account_sid domain) domain_aliases) no_alias
 
 -- a SID, in full or by its alias
-unfoldable pub sid : Grammar SidValue
-sid = choose (λ text. begins text (codes "S-1-")) (word (codes "S-1-") >>= λ u. authority >>= λ number. subs_of number) (one_of aliases no_alias)
+unfoldable pub sid : Option Domain → Grammar SidValue
+sid domain = choose (λ text. begins text (codes "S-1-")) (word (codes "S-1-") >>= λ u. authority >>= λ number. subs_of number) (one_of aliases (domain_alias domain))
 
--- the text of a SID
+-- the text of a SID, where the aliases of domains are those of this one
+abbrev pub sid_text_in : Option Domain → Grammar SidValue
+sid_text_in domain = whole (sid domain)
+
+-- the text of a SID, where no domain is given
 abbrev pub sid_text : Grammar SidValue
-sid_text = whole sid
+sid_text = sid_text_in None

@@ -1,15 +1,15 @@
 //! The aliases of SIDs: [MS-DTYP] 2.5.1.1, sid-token.
 
-ghost use Rattle.std.specs.Prelude.{◌≡◌, ◌&&◌, ◌<◌, ◌≤◌, Err, length, drop, option_map, if◌then◌else◌};
-ghost use Rattle.sd_text.specs.Sid.{no_alias, begins_letter};
+ghost use Rattle.std.specs.Prelude.{◌≡◌, ◌<◌, ◌≤◌, Err, length, option_map};
+ghost use Rattle.sd_text.specs.Sid.{no_alias, domain_alias};
 ghost use Rattle.sd_sid.specs.Sid.{same_sid};
-ghost use Rattle.sd_text.specs.Alias.{aliases, alias_in};
+ghost use Rattle.sd_text.specs.Alias.{aliases, domain_aliases, alias_in};
 ghost use Rattle.sd_text.specs.Names.{rows, renamed, well_known};
 ghost use Rattle.sd_text.specs.Grammar.{one_of};
-ghost use Rattle.sd_text.specs.declared.fault.TextFault.TheVariants.{UnknownAlias, Syntax};
 ghost use Rattle.sd_text.specs.Finding.{Gives, find};
 
 use crate::cursor::Cursor;
+use crate::domain::Domain;
 use crate::fault::TextFault;
 use sd_sid::Sid;
 
@@ -74,7 +74,7 @@ impl WellKnown {
 
 /// The SID of these parts.
 #[tactic(auto, using(crate::proofs::Sids::sid_made, crate::proofs::Sids::the_sid))]
-fn made(authority: u8, subs: &[u32]) -> Sid
+pub(crate) fn made(authority: u8, subs: &[u32]) -> Sid
     requires some { 0 < length subs.now }
     requires few { length subs.now ≤ 15 }
     ensures { result ≡ record { authority = authority; subs = subs.now } }
@@ -127,30 +127,51 @@ fn known_aliases() -> &'static [(&'static str, WellKnown)]
     &ALIASES
 }
 
-/// The aliases that only a domain could resolve.
-static DOMAIN_ALIASES: [(&str, ()); 12] = [
-    ("DA", ()),
-    ("DU", ()),
-    ("DG", ()),
-    ("DC", ()),
-    ("DD", ()),
-    ("CA", ()),
-    ("RS", ()),
-    ("EA", ()),
-    ("SA", ()),
-    ("PA", ()),
-    ("LA", ()),
-    ("LG", ()),
+/// The aliases of a domain's accounts and groups, and their relative identifiers ([MS-DTYP] 2.4.2.4).
+static DOMAIN_ALIASES: [(&str, u32); 12] = [
+    ("DA", 512),
+    ("DU", 513),
+    ("DG", 514),
+    ("DC", 515),
+    ("DD", 516),
+    ("CA", 517),
+    ("RS", 553),
+    ("EA", 519),
+    ("SA", 518),
+    ("PA", 520),
+    ("LA", 500),
+    ("LG", 501),
 ];
 
+fn domain_aliases() -> &'static [(&'static str, u32)]
+    ensures { rows result.now ≡ domain_aliases }
+{
+    &DOMAIN_ALIASES
+}
+
 impl Cursor<'_> {
-    /// An alias of the table, or the fault of what stands here.
-    pub(crate) fn alias(&mut self) -> Result<Sid, TextFault>
-        ensures { Gives (λ sid. sid) result self.new.rest.now (find (one_of aliases no_alias) self.old.rest.now) }
+    /// An alias of the table or of the domain's, or the fault of what stands here.
+    pub(crate) fn alias(&mut self, domain: Option<Domain>) -> Result<Sid, TextFault>
+        ensures { Gives (λ sid. sid) result self.new.rest.now (find (one_of aliases (domain_alias domain)) self.old.rest.now) }
     {
         match self.name(known_aliases()) {
             Some(known) => Ok(known.sid()),
-            None => Err(self.no_alias()),
+            None => self.domain_alias(domain),
+        }
+    }
+
+    /// An alias of the domain's, or the fault of what stands here: without a domain there is no SID for any.
+    fn domain_alias(&mut self, domain: Option<Domain>) -> Result<Sid, TextFault>
+        ensures { Gives (λ sid. sid) result self.new.rest.now (find (domain_alias domain) self.old.rest.now) }
+    {
+        let mut ahead = Cursor { rest: self.rest };
+        match (ahead.name(domain_aliases()), domain) {
+            (Some(relative), Some(domain)) => {
+                self.rest = ahead.rest;
+                Ok(domain.account(relative))
+            }
+            (Some(_), None) => Err(TextFault::DomainAlias),
+            (None, _) => Err(self.no_alias()),
         }
     }
 
@@ -158,16 +179,6 @@ impl Cursor<'_> {
     #[tactic(auto, unfolding(crate::specs::Sid::no_alias))]
     fn no_alias(&self) -> TextFault
         ensures { find no_alias self.now.rest.now ≡ Err (result, self.now.rest.now) }
-    {
-        let mut ahead = Cursor { rest: self.rest };
-        match ahead.name(&DOMAIN_ALIASES) {
-            Some(()) => TextFault::DomainAlias,
-            None => self.unknown_alias(),
-        }
-    }
-
-    fn unknown_alias(&self) -> TextFault
-        ensures { result ≡ (if begins_letter self.now.rest.now && begins_letter (drop 1 self.now.rest.now) then UnknownAlias else Syntax) }
     {
         if self.letter_at(0) && self.letter_at(1) {
             TextFault::UnknownAlias

@@ -1,14 +1,15 @@
 //! Security descriptors as text: [MS-DTYP] 2.5.1.1.
 
-ghost use Rattle.std.specs.Prelude.{◌≡◌, Ok, IfOk, IfErr, IsErrOf};
+ghost use Rattle.std.specs.Prelude.{◌≡◌, None, Ok, IfOk, IfErr, IsErrOf};
 ghost use Rattle.sd_acl.specs.Dacl.{IsAbsent};
 ghost use Rattle.sd_acl.specs.Descriptor.{DescriptorValue, descriptor_of};
 ghost use Rattle.sd_text.specs.Grammar.{Spells, BeginsWith};
 ghost use Rattle.sd_text.specs.Fault.{StandsIn};
-ghost use Rattle.sd_text.specs.Sddl.{sid_section, words, no_words, with_word, dacl_section, no_sacl, sections, sddl, begun_dacl, begun_sddl};
+ghost use Rattle.sd_text.specs.Sddl.{sid_section, words, no_words, with_word, dacl_section, no_sacl, parts, sections, sddl, sddl_in, begun_dacl, begun_sddl};
 ghost use Rattle.sd_text.specs.Finding.{Gives, GivesUnlessMemory, find};
 
 use crate::cursor::Cursor;
+use crate::domain::Domain;
 use crate::fault::{Stop, TextError, TextFault};
 use sd_acl::{Dacl, Descriptor};
 use sd_sid::Sid;
@@ -52,10 +53,24 @@ pub fn read_sddl(alloc: Global, text: &str) -> Result<Descriptor, TextError>
     ensures value { IfOk result (λ d. Spells sddl text.now (descriptor_of d)) }
     ensures fault { IfErr result (λ e. StandsIn sddl text.now e) }
     ensures spelled { (d : DescriptorValue) → Spells sddl text.now d → IfErr result (λ e. e ≡ TextError.Memory) }
-    ensures memory { IsErrOf result TextError.Memory → BeginsWith begun_sddl text.now }
+    ensures memory { IsErrOf result TextError.Memory → BeginsWith (begun_sddl None) text.now }
+{
+    read_sddl_in(alloc, None, text)
+}
+
+/// The same, where the aliases of a domain's accounts and groups stand for those of the domain that is given.
+pub fn read_sddl_in(
+    alloc: Global,
+    domain: Option<Domain>,
+    text: &str,
+) -> Result<Descriptor, TextError>
+    ensures value { IfOk result (λ d. Spells (sddl_in domain) text.now (descriptor_of d)) }
+    ensures fault { IfErr result (λ e. StandsIn (sddl_in domain) text.now e) }
+    ensures spelled { (d : DescriptorValue) → Spells (sddl_in domain) text.now d → IfErr result (λ e. e ≡ TextError.Memory) }
+    ensures memory { IsErrOf result TextError.Memory → BeginsWith (begun_sddl domain) text.now }
 {
     let mut cursor = Cursor::new(text);
-    match cursor.descriptor(alloc) {
+    match cursor.descriptor(alloc, domain) {
         Ok(descriptor) => Ok(descriptor),
         Err(Stop::Fault(fault)) => Err(TextError::Fault {
             fault,
@@ -92,23 +107,36 @@ impl DaclWords {
 }
 
 impl Cursor<'_> {
-    fn descriptor(&mut self, alloc: Global) -> Result<Descriptor, Stop>
-        ensures { GivesUnlessMemory descriptor_of result self.new.rest.now (find sddl self.old.rest.now) (find begun_sddl self.old.rest.now) }
+    fn descriptor(&mut self, alloc: Global, domain: Option<Domain>) -> Result<Descriptor, Stop>
+        ensures { GivesUnlessMemory descriptor_of result self.new.rest.now (find (sddl_in domain) self.old.rest.now) (find (begun_sddl domain) self.old.rest.now) }
     {
-        let descriptor = self.sections(alloc)?;
+        let descriptor = self.sections(alloc, domain)?;
         self.end()?;
         Ok(descriptor)
     }
 
     /// The sections of a descriptor, each of which may be left out.
-    #[tactic(auto, unfolding(crate::specs::Sddl::sections, crate::specs::Sddl::begun_sddl))]
-    fn sections(&mut self, alloc: Global) -> Result<Descriptor, Stop>
-        ensures { GivesUnlessMemory descriptor_of result self.new.rest.now (find sections self.old.rest.now) (find begun_sddl self.old.rest.now) }
+    #[tactic(auto, unfolding(crate::specs::Sddl::sections))]
+    fn sections(&mut self, alloc: Global, domain: Option<Domain>) -> Result<Descriptor, Stop>
+        ensures { GivesUnlessMemory descriptor_of result self.new.rest.now (find (sections domain) self.old.rest.now) (find (begun_sddl domain) self.old.rest.now) }
     {
-        let owner = self.sid_section(b"O:")?;
-        let group = self.sid_section(b"G:")?;
-        let DaclPart { dacl, words } = self.dacl_section(alloc)?;
+        let descriptor = self.parts(alloc, domain)?;
         self.no_sacl()?;
+        Ok(descriptor)
+    }
+
+    /// The sections of the owner, the group and the DACL.
+    #[tactic(auto, unfolding(crate::specs::Sddl::parts, crate::specs::Sddl::begun_sddl))]
+    pub(crate) fn parts(
+        &mut self,
+        alloc: Global,
+        domain: Option<Domain>,
+    ) -> Result<Descriptor, Stop>
+        ensures { GivesUnlessMemory descriptor_of result self.new.rest.now (find (parts domain) self.old.rest.now) (find (begun_sddl domain) self.old.rest.now) }
+    {
+        let owner = self.sid_section(domain, b"O:")?;
+        let group = self.sid_section(domain, b"G:")?;
+        let DaclPart { dacl, words } = self.dacl_section(alloc, domain)?;
         Ok(Descriptor {
             owner,
             group,
@@ -121,11 +149,11 @@ impl Cursor<'_> {
 
     /// A section of one SID, where its head stands.
     #[tactic(auto, unfolding(crate::specs::Sddl::sid_section))]
-    fn sid_section(&mut self, head: &[u8]) -> Result<Option<Sid>, TextFault>
-        ensures { Gives (λ sid. sid) result self.new.rest.now (find (sid_section head.now) self.old.rest.now) }
+    fn sid_section(&mut self, domain: Option<Domain>, head: &[u8]) -> Result<Option<Sid>, TextFault>
+        ensures { Gives (λ sid. sid) result self.new.rest.now (find (sid_section domain head.now) self.old.rest.now) }
     {
         if self.eat(head) {
-            Ok(Some(self.sid()?))
+            Ok(Some(self.sid(domain)?))
         } else {
             Ok(None)
         }
@@ -133,8 +161,8 @@ impl Cursor<'_> {
 
     /// The section of the DACL, where its head stands.
     #[tactic(auto, unfolding(crate::specs::Sddl::dacl_section, crate::specs::Sddl::dacl_behind, crate::specs::Sddl::begun_dacl))]
-    fn dacl_section(&mut self, alloc: Global) -> Result<DaclPart, Stop>
-        ensures section { GivesUnlessMemory (λ part. part) result self.new.rest.now (find dacl_section self.old.rest.now) (find begun_dacl self.old.rest.now) }
+    fn dacl_section(&mut self, alloc: Global, domain: Option<Domain>) -> Result<DaclPart, Stop>
+        ensures section { GivesUnlessMemory (λ part. part) result self.new.rest.now (find (dacl_section domain) self.old.rest.now) (find (begun_dacl domain) self.old.rest.now) }
         ensures absent { IfOk result (λ part. IsAbsent part.dacl → part.words ≡ no_words) }
     {
         if !self.eat(b"D:") {
@@ -150,7 +178,7 @@ impl Cursor<'_> {
                 words,
             });
         }
-        let entries = self.entries(alloc)?;
+        let entries = self.entries(alloc, domain)?;
         Ok(DaclPart {
             dacl: Dacl::List(entries),
             words,
@@ -158,7 +186,7 @@ impl Cursor<'_> {
     }
 
     /// A run of words, perhaps none.
-    fn words(&mut self) -> DaclWords
+    pub(crate) fn words(&mut self) -> DaclWords
         ensures { find words self.old.rest.now ≡ Ok (result, self.new.rest.now) }
     {
         let mut words = DaclWords::none();

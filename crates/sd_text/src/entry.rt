@@ -8,6 +8,7 @@ ghost use Rattle.sd_text.specs.Names.{rows};
 ghost use Rattle.sd_text.specs.Finding.{Gives, GivesUnlessMemory, find};
 
 use crate::cursor::Cursor;
+use crate::domain::Domain;
 use crate::fault::{Stop, TextFault};
 use bitflags::Flags;
 use sd_acl::{ACL_HEADER_BYTES, Ace, AceFlags, AceKind, AceList, MAX_ACL_BYTES};
@@ -22,13 +23,13 @@ pub(crate) fn flag_names() -> &'static [(&'static str, u32)]
 
 impl Cursor<'_> {
     /// Any number of entries.
-    pub(crate) fn entries(&mut self, alloc: Global) -> Result<AceList, Stop>
-        ensures { GivesUnlessMemory (λ entries. entries) result self.new.rest.now (find entries self.old.rest.now) (find first_entry self.old.rest.now) }
+    pub(crate) fn entries(&mut self, alloc: Global, domain: Option<Domain>) -> Result<AceList, Stop>
+        ensures { GivesUnlessMemory (λ entries. entries) result self.new.rest.now (find (entries domain) self.old.rest.now) (find (first_entry domain) self.old.rest.now) }
     {
         let mut entries = Vec::new(alloc);
         let mut size = ACL_HEADER_BYTES;
         'entries: while self.eat(b"(") {
-            let entry = self.entry(size)?;
+            let entry = self.entry(domain, size)?;
             size += entry.size();
             entries.push(entry)?;
         }
@@ -37,9 +38,9 @@ impl Cursor<'_> {
 
     /// An entry behind its `(`, where the list has this size so far.
     #[tactic(auto, unfolding(crate::specs::Entry::entry))]
-    fn entry(&mut self, size: u64) -> Result<Ace, TextFault>
+    fn entry(&mut self, domain: Option<Domain>, size: u64) -> Result<Ace, TextFault>
         requires { size ≤ 65535 }
-        ensures entry { Gives (λ entry. entry) result self.new.rest.now (find (entry size) self.old.rest.now) }
+        ensures entry { Gives (λ entry. entry) result self.new.rest.now (find (entry domain size) self.old.rest.now) }
         ensures fits { IfOk result (λ entry. size + ace_size entry ≤ 65535) }
     {
         let kind = self.kind()?;
@@ -50,7 +51,7 @@ impl Cursor<'_> {
         self.word(b";")?;
         self.guid()?;
         self.guid()?;
-        let sid = self.sid()?;
+        let sid = self.sid(domain)?;
         self.entry_end(
             size,
             Ace {
@@ -88,7 +89,7 @@ impl Cursor<'_> {
     }
 
     /// A run of flags, perhaps none.
-    fn flags(&mut self) -> AceFlags
+    pub(crate) fn flags(&mut self) -> AceFlags
         ensures { find (bits_of flag_names) self.old.rest.now ≡ Ok (result.0, self.new.rest.now) }
     {
         AceFlags::from_bits_retain(self.bits_of(flag_names()) as u8)
@@ -96,7 +97,7 @@ impl Cursor<'_> {
 
     /// An empty field of a GUID.
     #[tactic(auto, unfolding(crate::specs::Entry::guid))]
-    fn guid(&mut self) -> Result<(), TextFault>
+    pub(crate) fn guid(&mut self) -> Result<(), TextFault>
         ensures { Gives (λ _. tt) result self.new.rest.now (find guid self.old.rest.now) }
     {
         if self.eat(b";") {

@@ -1,35 +1,42 @@
-//! What holds of every text. Each law is the contract of a function that does nothing.
+//! What holds of every text, whichever domain is given. Each law is the contract of a function that does nothing.
 
-ghost use Rattle.sd_text.specs.Laws.{HasOneValue, HasValueOrFault, NeverHasBoth, HasOneFault, DescriptorsComeBack, SidsComeBack, MasksComeBack};
+ghost use Rattle.std.specs.Prelude.{Option};
+ghost use Rattle.sd_text.specs.Laws.{HasOneValue, HasValueOrFault, NeverHasBoth, HasOneFault, DescriptorsComeBack, SidsComeBack, MasksComeBack, AreReadAlike};
 ghost use Rattle.sd_text.specs.Rights.{mask_text};
-ghost use Rattle.sd_text.specs.Sddl.{sddl};
-ghost use Rattle.sd_text.specs.Sid.{sid_text};
+ghost use Rattle.sd_text.specs.Sacl.{sddl_without_sacl};
+ghost use Rattle.sd_text.specs.Sddl.{sddl_in};
+ghost use Rattle.sd_text.specs.Sid.{sid_text_in};
+ghost use Rattle.sd_text.specs.declared.domain.Domain.{Domain};
 
 /// No text spells two descriptors, two SIDs or two masks.
 pub fn texts_have_one_value()
-    ensures descriptors { HasOneValue sddl }
-    ensures sids { HasOneValue sid_text }
+    ensures descriptors { (domain : Option Domain) → HasOneValue (sddl_in domain) }
+    ensures without_sacl { (domain : Option Domain) → HasOneValue (sddl_without_sacl domain) }
+    ensures sids { (domain : Option Domain) → HasOneValue (sid_text_in domain) }
     ensures masks { HasOneValue mask_text }
 {}
 
 /// Each text spells something or has a fault.
 pub fn texts_have_a_value_or_a_fault()
-    ensures descriptors { HasValueOrFault sddl }
-    ensures sids { HasValueOrFault sid_text }
+    ensures descriptors { (domain : Option Domain) → HasValueOrFault (sddl_in domain) }
+    ensures without_sacl { (domain : Option Domain) → HasValueOrFault (sddl_without_sacl domain) }
+    ensures sids { (domain : Option Domain) → HasValueOrFault (sid_text_in domain) }
     ensures masks { HasValueOrFault mask_text }
 {}
 
 /// A text that spells something has no fault.
 pub fn texts_never_have_both()
-    ensures descriptors { NeverHasBoth sddl }
-    ensures sids { NeverHasBoth sid_text }
+    ensures descriptors { (domain : Option Domain) → NeverHasBoth (sddl_in domain) }
+    ensures without_sacl { (domain : Option Domain) → NeverHasBoth (sddl_without_sacl domain) }
+    ensures sids { (domain : Option Domain) → NeverHasBoth (sid_text_in domain) }
     ensures masks { NeverHasBoth mask_text }
 {}
 
 /// A text has one fault at most, at one place.
 pub fn texts_have_one_fault()
-    ensures descriptors { HasOneFault sddl }
-    ensures sids { HasOneFault sid_text }
+    ensures descriptors { (domain : Option Domain) → HasOneFault (sddl_in domain) }
+    ensures without_sacl { (domain : Option Domain) → HasOneFault (sddl_without_sacl domain) }
+    ensures sids { (domain : Option Domain) → HasOneFault (sid_text_in domain) }
     ensures masks { HasOneFault mask_text }
 {}
 
@@ -39,4 +46,9 @@ pub fn printed_texts_come_back()
     ensures descriptors { DescriptorsComeBack }
     ensures sids { SidsComeBack }
     ensures masks { MasksComeBack }
+{}
+
+/// A text without the section of a SACL is read as the same descriptor where such a section would be left out.
+pub fn texts_without_a_sacl_are_read_alike()
+    ensures { AreReadAlike }
 {}

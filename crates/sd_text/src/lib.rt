@@ -14,6 +14,7 @@
 mod alias;
 mod cursor;
 mod descriptor;
+mod domain;
 mod entry;
 mod fault;
 mod laws;
@@ -21,18 +22,21 @@ mod name;
 mod number;
 mod print;
 mod rights;
+mod sacl;
 mod sid;
 
 pub use alias::alias_of;
-pub use descriptor::read_sddl;
+pub use descriptor::{read_sddl, read_sddl_in};
+pub use domain::Domain;
 pub use fault::{TextError, TextFault};
 pub use laws::{
     printed_texts_come_back, texts_have_a_value_or_a_fault, texts_have_one_fault,
-    texts_have_one_value, texts_never_have_both,
+    texts_have_one_value, texts_never_have_both, texts_without_a_sacl_are_read_alike,
 };
 pub use print::{print_entry, print_full_sid, print_sddl, print_sid};
 pub use rights::read_mask;
-pub use sid::read_sid_text;
+pub use sacl::{WithoutSacl, read_sddl_without_sacl};
+pub use sid::{read_sid_text, read_sid_text_in};
 
 #[cfg(test)]
 mod tests;

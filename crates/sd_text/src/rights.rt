@@ -83,7 +83,7 @@ impl Cursor<'_> {
 
     /// A number: `0x` heads hexadecimal digits, `0` octal ones.
     #[tactic(auto, unfolding(crate::specs::Rights::mask_number))]
-    fn mask_number(&mut self) -> Result<Mask, TextFault>
+    pub(crate) fn mask_number(&mut self) -> Result<Mask, TextFault>
         ensures { Gives (λ mask. mask) result self.new.rest.now (find mask_number self.old.rest.now) }
     {
         let bits = if self.begins(b"0X") {

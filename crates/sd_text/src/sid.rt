@@ -4,10 +4,11 @@ ghost use Rattle.std.specs.Prelude.{◌≡◌, ◌<◌, ◌^◌, Ok, OnOk, IfOk,
 ghost use Rattle.sd_sid.specs.Sid.{SidValue};
 ghost use Rattle.sd_text.specs.Grammar.{Spells};
 ghost use Rattle.sd_text.specs.Fault.{StandsIn};
-ghost use Rattle.sd_text.specs.Sid.{sid_text, sid, authority, sub, subs_of};
+ghost use Rattle.sd_text.specs.Sid.{sid_text, sid_text_in, sid, authority, sub, subs_of};
 ghost use Rattle.sd_text.specs.Finding.{Gives, find};
 
 use crate::cursor::Cursor;
+use crate::domain::Domain;
 use crate::fault::{TextError, TextFault};
 use sd_sid::{AUTHORITY_LIMIT, MAX_SUBS, Sid};
 
@@ -22,8 +23,18 @@ pub fn read_sid_text(text: &str) -> Result<Sid, TextError>
     ensures spelled { (sid : SidValue) → Spells sid_text text.now sid → result ≡ Ok sid }
     ensures no_memory { ¬ IsErrOf result TextError.Memory }
 {
+    read_sid_text_in(None, text)
+}
+
+/// The same, where the aliases of a domain's accounts and groups stand for those of the domain that is given.
+pub fn read_sid_text_in(domain: Option<Domain>, text: &str) -> Result<Sid, TextError>
+    ensures value { IfOk result (λ sid. Spells (sid_text_in domain) text.now sid) }
+    ensures fault { IfErr result (λ e. StandsIn (sid_text_in domain) text.now e) }
+    ensures spelled { (sid : SidValue) → Spells (sid_text_in domain) text.now sid → result ≡ Ok sid }
+    ensures no_memory { ¬ IsErrOf result TextError.Memory }
+{
     let mut cursor = Cursor::new(text);
-    match cursor.sid_text() {
+    match cursor.sid_text(domain) {
         Ok(sid) => Ok(sid),
         Err(fault) => Err(TextError::Fault {
             fault,
@@ -33,21 +44,21 @@ pub fn read_sid_text(text: &str) -> Result<Sid, TextError>
 }
 
 impl Cursor<'_> {
-    fn sid_text(&mut self) -> Result<Sid, TextFault>
-        ensures { Gives (λ sid. sid) result self.new.rest.now (find sid_text self.old.rest.now) }
+    fn sid_text(&mut self, domain: Option<Domain>) -> Result<Sid, TextFault>
+        ensures { Gives (λ sid. sid) result self.new.rest.now (find (sid_text_in domain) self.old.rest.now) }
     {
-        let sid = self.sid()?;
+        let sid = self.sid(domain)?;
         self.end()?;
         Ok(sid)
     }
 
     /// A SID, in full or by its alias.
     #[tactic(auto, unfolding(crate::specs::Sid::sid))]
-    pub(crate) fn sid(&mut self) -> Result<Sid, TextFault>
-        ensures { Gives (λ sid. sid) result self.new.rest.now (find sid self.old.rest.now) }
+    pub(crate) fn sid(&mut self, domain: Option<Domain>) -> Result<Sid, TextFault>
+        ensures { Gives (λ sid. sid) result self.new.rest.now (find (sid domain) self.old.rest.now) }
     {
         if !self.begins(b"S-1-") {
-            return self.alias();
+            return self.alias(domain);
         }
         self.word(b"S-1-")?;
         let authority = self.authority()?;

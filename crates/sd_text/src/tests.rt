@@ -158,6 +158,110 @@ fn sids(rt: HostRuntime) -> Result<(), Fail> {
     Ok(())
 }
 
+/// The aliases of a domain's accounts and groups, in the domain S-1-5-21-7-8-4294967295: [MS-DTYP] 2.4.2.4.
+const ACCOUNTS: [(&str, &str); 16] = [
+    ("LA", "S-1-5-21-7-8-4294967295-500"),
+    ("LG", "S-1-5-21-7-8-4294967295-501"),
+    ("DA", "S-1-5-21-7-8-4294967295-512"),
+    ("du", "S-1-5-21-7-8-4294967295-513"),
+    ("DG", "S-1-5-21-7-8-4294967295-514"),
+    ("DC", "S-1-5-21-7-8-4294967295-515"),
+    ("DD", "S-1-5-21-7-8-4294967295-516"),
+    ("CA", "S-1-5-21-7-8-4294967295-517"),
+    ("SA", "S-1-5-21-7-8-4294967295-518"),
+    ("EA", "S-1-5-21-7-8-4294967295-519"),
+    ("PA", "S-1-5-21-7-8-4294967295-520"),
+    ("RS", "S-1-5-21-7-8-4294967295-553"),
+    ("BA", "BA"),
+    ("S-1-5-21-1-2-3-512", "S-1-5-21-1-2-3-512"),
+    ("DZ", "5 UnknownAlias at 0"),
+    ("DAX", "1 Syntax at 2"),
+];
+
+#[test]
+fn aliases_of_a_domain(rt: HostRuntime) -> Result<(), Fail> {
+    let sid = Sid::new(5, &[21, 7, 8, 0xFFFF_FFFF])?;
+    let domain = Domain::new(&sid).ok_or("a domain")?;
+    assert_eq!(rt; domain.sid(), sid);
+    assert_eq!(rt;
+        domain.account(500),
+        Sid::new(5, &[21, 7, 8, 0xFFFF_FFFF, 500])?
+    );
+    for (text, want) in ACCOUNTS {
+        let said = match read_sid_text_in(Some(domain), text) {
+            Ok(sid) => print_sid(rt.alloc(), &sid)?,
+            Err(e) => shown(rt.alloc(), e)?,
+        };
+        assert_eq!(rt; said.as_str(), want, "of {text}");
+    }
+    let text = "O:DAG:duD:P(A;;FA;;;ea)(D;;FR;;;BU)";
+    let descriptor = read_sddl_in(rt.alloc(), Some(domain), text)?;
+    assert_eq!(rt;
+        print_sddl(rt.alloc(), &descriptor)?.as_str(),
+        "O:S-1-5-21-7-8-4294967295-512G:S-1-5-21-7-8-4294967295-513\
+         D:P(A;;FA;;;S-1-5-21-7-8-4294967295-519)(D;;FR;;;BU)"
+    );
+    Ok(())
+}
+
+#[test]
+fn only_domains_are_domains(rt: HostRuntime) -> Result<(), Fail> {
+    for text in [
+        "S-1-5-21-1-2",
+        "S-1-5-21-1-2-3-4",
+        "S-1-5-22-1-2-3",
+        "S-1-4-21-1-2-3",
+        "S-1-5-21",
+        "BA",
+    ] {
+        assert_eq!(rt; Domain::new(&read_sid_text(text)?), None, "of {text}");
+    }
+    Ok(())
+}
+
+/// Texts with the section of a SACL, and what is read of them where it is left out: [MS-DTYP] 2.5.1.1, sacl.
+const WITH_SACL: [(&str, &str); 15] = [
+    (
+        "O:BAD:(A;;FA;;;WD)s:(AU;SAFA;FA;;;WD)",
+        "O:BAD:(A;;FA;;;WD) left out",
+    ),
+    ("D:S:", "D: left out"),
+    ("S:PAI", " left out"),
+    ("S:NO_ACCESS_CONTROL", " left out"),
+    (
+        "O:SYS:(ML;;NW;;;LW)(ML;;NRNWNX;;;S-1-16-12288)(AU;OICIFA;0x2;;;BU)",
+        "O:SY left out",
+    ),
+    ("D:P", "D:P"),
+    ("", ""),
+    ("D:S:(A;;FA;;;WD)", "3 EntryKind at 5"),
+    ("S:(AUX;SA;FA;;;WD)", "3 EntryKind at 3"),
+    ("S:(OU;SA;FA;;;WD)", "3 EntryKind at 3"),
+    ("D:S:(AU;SAFA;FA;;;QQ)", "5 UnknownAlias at 18"),
+    ("S:(AU;SA;NW;;;WD)", "1 Syntax at 9"),
+    ("S:(AU;SA;FA;;;WD)x", "1 Syntax at 17"),
+    ("S:(AU;SA;FA;;;WD", "1 Syntax at 16"),
+    ("S:D:", "1 Syntax at 2"),
+];
+
+#[test]
+fn texts_with_a_sacl(rt: HostRuntime) -> Result<(), Fail> {
+    for (text, want) in WITH_SACL {
+        let said = match read_sddl_without_sacl(rt.alloc(), None, text) {
+            Ok(read) => {
+                let mut said = print_sddl(rt.alloc(), &read.descriptor)?;
+                if read.left_out {
+                    said.push_str(" left out")?;
+                }
+                said
+            }
+            Err(e) => shown(rt.alloc(), e)?,
+        };
+        assert_eq!(rt; said.as_str(), want, "of {text}");
+    }
+    Ok(())
+}
+
 /// A SID of each number of sub-authorities, which is printed as it is read.
 #[test]
 fn each_number_of_sub_authorities(rt: HostRuntime) -> Result<(), Fail> {

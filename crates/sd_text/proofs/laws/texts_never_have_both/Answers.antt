@@ -1,8 +1,9 @@
 use Rattle.sd_text.specs.Rights.{mask_text}
-use Rattle.sd_text.specs.Sddl.{sddl}
-use Rattle.sd_text.specs.Sid.{sid_text}
+use Rattle.sd_text.specs.Sacl.{sddl_without_sacl}
+use Rattle.sd_text.specs.Sddl.{sddl_in}
+use Rattle.sd_text.specs.Sid.{sid_text_in}
 use Rattle.sd_text.proofs.Engine.{no_fault}
 use Rattle.sd_text.proofs.laws.texts_never_have_both.Goals as goal
 
 pub returns : goal.returns
-returns c = record { descriptors = no_fault sddl; sids = no_fault sid_text; masks = no_fault mask_text }
+returns c = record { without_sacl = λ domain. no_fault (sddl_without_sacl domain); descriptors = λ domain. no_fault (sddl_in domain); sids = λ domain. no_fault (sid_text_in domain); masks = no_fault mask_text }

@@ -1,0 +1,86 @@
+-- The section of a SACL, which is read to be left out ([MS-DTYP] 2.5.1.1, sacl): audit entries and mandatory labels.
+use Rattle.std.specs.Prelude.{ℕ, Bool, true, false, ◌&&◌, not, List, [], ◌∷◌, drop, Option, codes}
+use Rattle.sd_acl.specs.Descriptor.{DescriptorValue}
+use Rattle.sd_text.specs.declared.domain.Domain.{Domain}
+use Rattle.sd_text.specs.declared.descriptor.DaclWords.{DaclWords}
+use Rattle.sd_text.specs.declared.sacl.SaclKind.{SaclKind}
+use Rattle.sd_text.specs.declared.sacl.SaclKind.TheVariants.{Audit, Label}
+use Rattle.sd_text.specs.declared.fault.TextFault.TheVariants.{Syntax, EntryKind}
+use Rattle.sd_text.specs.Grammar.{Grammar, Name, value, refused, choose, word, one_of, many, begins, begins_digit, whole, ◌>>=◌}
+use Rattle.sd_text.specs.Sid.{begins_letter, sid}
+use Rattle.sd_text.specs.Rights.{bits, bits_of, mask_number, rights}
+use Rattle.sd_text.specs.Entry.{opening, flag_names, guid}
+use Rattle.sd_text.specs.Sddl.{words, parts}
+
+-- just this type of two letters stands there
+abbrev pub is_sacl_type : List ℕ → List ℕ → Bool
+is_sacl_type letters text = begins text letters && not (begins_letter (drop 2 text))
+
+-- the type of an entry: an audit, or a mandatory label
+unfoldable pub sacl_kind : Grammar SaclKind
+sacl_kind = choose (is_sacl_type (codes "AU")) (word (codes "AU") >>= λ u. value Audit)
+    (choose (is_sacl_type (codes "ML")) (word (codes "ML") >>= λ u. value Label)
+    (choose begins_letter (refused EntryKind) (refused Syntax)))
+
+-- the names of what a label denies to those below it
+abbrev pub label_rights : List (Name ℕ)
+label_rights = bits (codes "NW") 0x1 ∷ bits (codes "NR") 0x2 ∷ bits (codes "NX") 0x4 ∷ []
+
+-- the rights field
+unfoldable pub sacl_rights : SaclKind → Grammar ℕ
+sacl_rights Audit = rights
+sacl_rights Label = choose (begins_digit 10) mask_number (bits_of label_rights)
+
+-- an alias of a level of integrity
+abbrev pub level : List ℕ → Name (Unit {0})
+level letters = record { letters = letters; stands_for = tt }
+
+-- all of them
+abbrev pub levels : List (Name (Unit {0}))
+levels = level (codes "LW") ∷ level (codes "ME") ∷ level (codes "MP") ∷ level (codes "HI") ∷ level (codes "SI") ∷ []
+
+-- a SID that is left out
+unfoldable pub passed_sid : Option Domain → Grammar (Unit {0})
+passed_sid domain = sid domain >>= λ trustee. value tt
+
+-- whose the entry is
+unfoldable pub sacl_trustee : Option Domain → SaclKind → Grammar (Unit {0})
+sacl_trustee domain Audit = passed_sid domain
+sacl_trustee domain Label = one_of levels (passed_sid domain)
+
+-- an entry behind its `(`
+unfoldable pub sacl_entry : Option Domain → Grammar (Unit {0})
+sacl_entry domain = do
+  kind ← sacl_kind
+  u ← word (codes ";")
+  flags ← bits_of flag_names
+  v ← word (codes ";")
+  mask ← sacl_rights kind
+  w ← word (codes ";")
+  object ← guid
+  inherit ← guid
+  trustee ← sacl_trustee domain kind
+  word (codes ")")
+
+-- any number of them
+unfoldable pub sacl_entries : Option Domain → Grammar (Unit {0})
+sacl_entries domain = many opening (λ before u. sacl_entry domain) >>= λ entries. value tt
+
+-- behind the words the entries, unless there is no access control
+unfoldable pub sacl_behind : Option Domain → DaclWords → Grammar (Unit {0})
+sacl_behind domain found = choose (λ text. found.no_access_control) (value tt) (sacl_entries domain)
+
+-- whether the section stands there
+unfoldable pub sacl_section : Option Domain → Grammar Bool
+sacl_section domain = choose (λ text. begins text (codes "S:")) (word (codes "S:") >>= λ u. words >>= λ found. sacl_behind domain found >>= λ v. value true) (value false)
+
+-- the sections of a descriptor, and whether a SACL's was left out
+unfoldable pub all_sections : Option Domain → Grammar (DescriptorValue × Bool)
+all_sections domain = do
+  descriptor ← parts domain
+  left_out ← sacl_section domain
+  value (descriptor, left_out)
+
+-- the text of a descriptor, perhaps with a SACL's section, which is left out
+abbrev pub sddl_without_sacl : Option Domain → Grammar (DescriptorValue × Bool)
+sddl_without_sacl domain = whole (all_sections domain)

@@ -1,0 +1,190 @@
+//! The section of a SACL, which is read to be left out: [MS-DTYP] 2.5.1.1, sacl.
+
+ghost use Rattle.std.specs.Prelude.{◌≡◌, Bool, IfOk, IfErr, IsErrOf};
+ghost use Rattle.sd_acl.specs.Descriptor.{DescriptorValue, descriptor_of};
+ghost use Rattle.sd_text.specs.Grammar.{Spells, BeginsWith};
+ghost use Rattle.sd_text.specs.Fault.{StandsIn};
+ghost use Rattle.sd_text.specs.Sddl.{begun_sddl};
+ghost use Rattle.sd_text.specs.Sacl.{sacl_section, sacl_entries, sacl_entry, sacl_kind, sacl_rights, sacl_trustee, passed_sid, is_sacl_type, all_sections, sddl_without_sacl};
+ghost use Rattle.sd_text.specs.Finding.{Gives, GivesUnlessMemory, find};
+
+use crate::cursor::Cursor;
+use crate::domain::Domain;
+use crate::fault::{Stop, TextError, TextFault};
+use sd_acl::Descriptor;
+use sd_sid::Mask;
+use std::alloc::Global;
+
+/// The type of an entry of a SACL.
+#[derive(Clone, Copy)]
+pub(crate) enum SaclKind {
+    Audit,
+    Label,
+}
+
+/// The names of what a mandatory label denies to those below it ([MS-DTYP] 2.4.4.13).
+static LABEL_RIGHTS: [(&str, u32); 3] = [("NW", 0x1), ("NR", 0x2), ("NX", 0x4)];
+
+/// The aliases of levels of integrity, S-1-16 and one more sub-authority ([MS-DTYP] 2.4.2.4).
+static LEVELS: [(&str, ()); 5] = [("LW", ()), ("ME", ()), ("MP", ()), ("HI", ()), ("SI", ())];
+
+/// A descriptor that was read, and whether its text had the section of a SACL, which was left out.
+#[derive(Drop)]
+pub struct WithoutSacl {
+    pub descriptor: Descriptor,
+    pub left_out: bool,
+}
+
+/// The descriptor that the text spells, as `read_sddl_in` reads it, but that the section of a SACL may stand at its end
+/// ([MS-DTYP] 2.5.1.1, sacl): audit entries and mandatory labels, or nothing. It is read, left out, and told of.
+pub fn read_sddl_without_sacl(
+    alloc: Global,
+    domain: Option<Domain>,
+    text: &str,
+) -> Result<WithoutSacl, TextError>
+    ensures value { IfOk result (λ r. Spells (sddl_without_sacl domain) text.now (descriptor_of r.descriptor, r.left_out)) }
+    ensures fault { IfErr result (λ e. StandsIn (sddl_without_sacl domain) text.now e) }
+    ensures spelled { (d : DescriptorValue) (left_out : Bool) → Spells (sddl_without_sacl domain) text.now (d, left_out) → IfErr result (λ e. e ≡ TextError.Memory) }
+    ensures memory { IsErrOf result TextError.Memory → BeginsWith (begun_sddl domain) text.now }
+{
+    let mut cursor = Cursor::new(text);
+    match cursor.without_sacl(alloc, domain) {
+        Ok(read) => Ok(read),
+        Err(Stop::Fault(fault)) => Err(TextError::Fault {
+            fault,
+            place: cursor.place(text),
+        }),
+        Err(Stop::Memory) => Err(TextError::Memory),
+    }
+}
+
+impl Cursor<'_> {
+    fn without_sacl(&mut self, alloc: Global, domain: Option<Domain>) -> Result<WithoutSacl, Stop>
+        ensures { GivesUnlessMemory (λ r. (descriptor_of r.descriptor, r.left_out)) result self.new.rest.now (find (sddl_without_sacl domain) self.old.rest.now) (find (begun_sddl domain) self.old.rest.now) }
+    {
+        let read = self.all_sections(alloc, domain)?;
+        self.end()?;
+        Ok(read)
+    }
+
+    /// The sections of a descriptor, that of a SACL too.
+    #[tactic(auto, unfolding(crate::specs::Sacl::all_sections))]
+    fn all_sections(&mut self, alloc: Global, domain: Option<Domain>) -> Result<WithoutSacl, Stop>
+        ensures { GivesUnlessMemory (λ r. (descriptor_of r.descriptor, r.left_out)) result self.new.rest.now (find (all_sections domain) self.old.rest.now) (find (begun_sddl domain) self.old.rest.now) }
+    {
+        let descriptor = self.parts(alloc, domain)?;
+        let left_out = self.sacl_section(domain)?;
+        Ok(WithoutSacl {
+            descriptor,
+            left_out,
+        })
+    }
+
+    /// Whether the section of a SACL stands here; it is left behind then.
+    #[tactic(auto, unfolding(crate::specs::Sacl::sacl_section, crate::specs::Sacl::sacl_behind))]
+    pub(crate) fn sacl_section(&mut self, domain: Option<Domain>) -> Result<bool, TextFault>
+        ensures { Gives (λ stands. stands) result self.new.rest.now (find (sacl_section domain) self.old.rest.now) }
+    {
+        if !self.eat(b"S:") {
+            return Ok(false);
+        }
+        let words = self.words();
+        if words.no_access_control {
+            return Ok(true);
+        }
+        self.sacl_entries(domain)?;
+        Ok(true)
+    }
+
+    /// Any number of entries.
+    fn sacl_entries(&mut self, domain: Option<Domain>) -> Result<(), TextFault>
+        ensures { Gives (λ _. tt) result self.new.rest.now (find (sacl_entries domain) self.old.rest.now) }
+    {
+        'entries: while self.eat(b"(") {
+            self.sacl_entry(domain)?;
+        }
+        Ok(())
+    }
+
+    /// An entry behind its `(`.
+    #[tactic(auto, unfolding(crate::specs::Sacl::sacl_entry))]
+    fn sacl_entry(&mut self, domain: Option<Domain>) -> Result<(), TextFault>
+        ensures { Gives (λ _. tt) result self.new.rest.now (find (sacl_entry domain) self.old.rest.now) }
+    {
+        let kind = self.sacl_kind()?;
+        self.word(b";")?;
+        let _flags = self.flags();
+        self.word(b";")?;
+        let _mask = self.sacl_rights(kind)?;
+        self.word(b";")?;
+        self.guid()?;
+        self.guid()?;
+        self.sacl_trustee(domain, kind)?;
+        self.word(b")")
+    }
+
+    /// The type of an entry: the letters that stand here, all of them.
+    #[tactic(auto, unfolding(crate::specs::Sacl::sacl_kind))]
+    fn sacl_kind(&mut self) -> Result<SaclKind, TextFault>
+        ensures { Gives (λ kind. kind) result self.new.rest.now (find sacl_kind self.old.rest.now) }
+    {
+        if self.is_sacl_type(b"AU") {
+            self.word(b"AU")?;
+            Ok(SaclKind::Audit)
+        } else if self.is_sacl_type(b"ML") {
+            self.word(b"ML")?;
+            Ok(SaclKind::Label)
+        } else if self.letter_at(0) {
+            Err(TextFault::EntryKind)
+        } else {
+            Err(TextFault::Syntax)
+        }
+    }
+
+    /// Whether just these two letters stand here, and no other behind them.
+    fn is_sacl_type(&self, letters: &[u8]) -> bool
+        ensures { result ≡ is_sacl_type letters.now self.now.rest.now }
+    {
+        self.begins(letters) && !self.letter_at(2)
+    }
+
+    /// The rights field: a label has names of its own.
+    #[tactic(auto, unfolding(crate::specs::Sacl::sacl_rights))]
+    fn sacl_rights(&mut self, kind: SaclKind) -> Result<Mask, TextFault>
+        ensures { Gives (λ mask. mask) result self.new.rest.now (find (sacl_rights kind) self.old.rest.now) }
+    {
+        match kind {
+            SaclKind::Audit => self.rights(),
+            SaclKind::Label => {
+                if self.begins_digit(10) {
+                    self.mask_number()
+                } else {
+                    Ok(Mask(self.bits_of(&LABEL_RIGHTS)))
+                }
+            }
+        }
+    }
+
+    /// Whose the entry is: a label's SID has aliases of its own.
+    #[tactic(auto, unfolding(crate::specs::Sacl::sacl_trustee))]
+    fn sacl_trustee(&mut self, domain: Option<Domain>, kind: SaclKind) -> Result<(), TextFault>
+        ensures { Gives (λ _. tt) result self.new.rest.now (find (sacl_trustee domain kind) self.old.rest.now) }
+    {
+        match kind {
+            SaclKind::Audit => self.passed_sid(domain),
+            SaclKind::Label => match self.name(&LEVELS) {
+                Some(()) => Ok(()),
+                None => self.passed_sid(domain),
+            },
+        }
+    }
+
+    /// A SID that is left out.
+    #[tactic(auto, unfolding(crate::specs::Sacl::passed_sid))]
+    fn passed_sid(&mut self, domain: Option<Domain>) -> Result<(), TextFault>
+        ensures { Gives (λ _. tt) result self.new.rest.now (find (passed_sid domain) self.old.rest.now) }
+    {
+        let _sid = self.sid(domain)?;
+        Ok(())
+    }
+}
