@@ -240,6 +240,12 @@ hudarin_verdict hudarin_keep_token(const void *user, size_t user_length,
 /* The verdict on `asked`, for a descriptor and a token that are kept, and stay so. Takes no memory. */
 hudarin_verdict hudarin_check_kept(hudarin_kept *descriptor, hudarin_kept *token, hudarin_mapping mapping, uint32_t asked);
 
+/* The verdict on `asked`, for the self-relative descriptor at the front of the bytes and a token that is kept, and stays so:
+ * what hudarin_keep_bytes and then hudarin_check_kept answer. The token's handle is tested first, then the mapping, then the
+ * bytes. Takes no memory. */
+hudarin_verdict hudarin_check_bytes(const void *descriptor, size_t descriptor_length, hudarin_kept *token,
+                                    hudarin_mapping mapping, uint32_t asked);
+
 /* Frees what the handle keeps, where it keeps something; it is HUDARIN_NOTHING behind that, and may keep again. */
 void hudarin_free(hudarin_kept *handle);
 

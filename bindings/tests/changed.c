@@ -135,7 +135,7 @@ static hudarin_verdict verdict(const unsigned char *bytes, size_t length, uint32
                          restricting(asked, sizeof groups), asked & 3, files, asked);
 }
 
-/* The same by handles: what is kept answers as the bytes do, and is freed again. */
+/* The same by handles, and by bytes with the token's: what is kept answers as the bytes do, and is freed again. */
 static void keeps(const unsigned char *bytes, size_t length, uint32_t asked, hudarin_verdict here)
 {
     static const unsigned char user[] = { 1, 5, 0, 0, 0, 0, 0, 5, 21, 0, 0, 0, 1, 0, 0, 0, 2, 0, 0, 0, 3, 0, 0, 0, 0xe9, 3, 0, 0 };
@@ -152,6 +152,8 @@ static void keeps(const unsigned char *bytes, size_t length, uint32_t asked, hud
     } else {
         HOLDS(there.status == HUDARIN_HANDLE && there.argument == HUDARIN_ARGUMENT_DESCRIPTOR);
     }
+    there = hudarin_check_bytes(bytes, length, &token, files, asked);
+    HOLDS(there.status == here.status && there.fault == here.fault && there.kind == here.kind && there.mask == here.mask);
     hudarin_free(&descriptor);
     hudarin_free(&token);
     HOLDS(descriptor.is_there == 0 && token.is_there == 0);

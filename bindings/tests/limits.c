@@ -352,6 +352,38 @@ static void handles(void)
     hudarin_free(&descriptor);
 }
 
+/* A token that is kept and bytes: the faults of each cut are those of keeping the bytes, and the handles' and the mapping's come
+ * before them. */
+static void over_bytes(void)
+{
+    static const uint32_t enabled = HUDARIN_GROUP_ENABLED;
+    hudarin_mapping wide = { 0, 0, 0, 0x200000 };
+    hudarin_kept descriptor = HUDARIN_NOTHING, token = HUDARIN_NOTHING;
+    hudarin_verdict verdict = hudarin_check_bytes(NULL, 0, &token, wide, 1);
+    size_t cut;
+    HOLDS(is_unread(verdict, HUDARIN_HANDLE, HUDARIN_ARGUMENT_TOKEN, 0, 0));
+    hudarin_keep_token(user, sizeof user, everyone, sizeof everyone, &enabled, 1, NULL, 0, 0, &token);
+    HOLDS(is_unread(hudarin_check_bytes(NULL, 0, &token, wide, 1), HUDARIN_MAPPING, HUDARIN_ARGUMENT_MAPPING, 0, 0));
+    for (cut = 0; cut < sizeof worked; cut++) {
+        hudarin_written kept = hudarin_keep_bytes(lent(worked, cut), cut, &descriptor);
+        verdict = hudarin_check_bytes(lent(worked, cut), cut, &token, files, 0x1);
+        HOLDS(kept.status == HUDARIN_WIRE && is_unread(verdict, HUDARIN_WIRE, HUDARIN_ARGUMENT_DESCRIPTOR, kept.fault, 0));
+        verdict = hudarin_check_bytes(lent(worked, cut), cut, &token, files, 0);
+        HOLDS(is_unread(verdict, HUDARIN_WIRE, HUDARIN_ARGUMENT_DESCRIPTOR, kept.fault, 0));
+    }
+    verdict = hudarin_check_bytes(lent(worked, sizeof worked), sizeof worked, &token, files, 0x80000000u);
+    HOLDS(verdict.status == HUDARIN_OK && verdict.kind == HUDARIN_GRANTED && verdict.mask == 0x00120089u);
+    verdict = hudarin_check_bytes(worked, sizeof worked, &token, files, 0);
+    HOLDS(verdict.status == HUDARIN_OK && verdict.kind == HUDARIN_EMPTY_REQUEST && verdict.mask == 0);
+    verdict = hudarin_check_bytes(worked, sizeof worked, &token, files, 0xffffffffu);
+    HOLDS(verdict.status == HUDARIN_OK && verdict.kind == HUDARIN_RESERVED && verdict.mask == 0x0ce00000u);
+    hudarin_keep_bytes(worked, sizeof worked, &descriptor);
+    verdict = hudarin_check_bytes(worked, sizeof worked, &descriptor, files, 1);
+    HOLDS(is_unread(verdict, HUDARIN_HANDLE, HUDARIN_ARGUMENT_TOKEN, 0, 0) && keeps(&descriptor, 1) && keeps(&token, 1));
+    hudarin_free(&descriptor);
+    hudarin_free(&token);
+}
+
 int main(void)
 {
     in_end = room_end(ROOM);
@@ -365,5 +397,6 @@ int main(void)
     unread();
     restricting();
     handles();
+    over_bytes();
     return close_tally();
 }

@@ -257,15 +257,19 @@ static void lend(const row *row)
     }
 }
 
-/* With no memory at all these two answer as ever, time and again. */
+/* With no memory at all these three answer as ever, time and again. */
 static void takes_none(void)
 {
+    static unsigned char bytes[HUDARIN_DESCRIPTOR_BYTES];
+    size_t length = (size_t)hudarin_sddl_to_bytes(CHECKED, sizeof CHECKED - 1, bytes, sizeof bytes).length;
     int turn;
     granted = 0;
     lasts = 1;
     was_refused = 0;
     for (turn = 0; turn < 100; turn++) {
         hudarin_verdict verdict = hudarin_check_kept(&descriptor, &token, files, 0x80000000u);
+        HOLDS(verdict.status == HUDARIN_OK && verdict.kind == HUDARIN_DENIED && verdict.mask == 1);
+        verdict = hudarin_check_bytes(bytes, length, &token, files, 0x80000000u);
         HOLDS(verdict.status == HUDARIN_OK && verdict.kind == HUDARIN_DENIED && verdict.mask == 1);
         HOLDS(hudarin_mask_from_text("RCSD", 4).mask == 0x30000u);
     }

@@ -5,6 +5,7 @@
 Rows of tables are known by their heads, and lines `$ ./sdstore ..` of console blocks by their command. The last line is
 'N passed, M failed'."""
 
+import ctypes
 import os
 import re
 import shlex
@@ -42,6 +43,30 @@ def fault(reading, kind):
         return None, f"fault {kind}"
 
 
+class Kept(ctypes.Structure):
+    _fields_ = [("at", ctypes.c_void_p), ("is_there", ctypes.c_uint32)]
+
+
+def over_bytes(descriptor, user, groups, mask, privileges, restricting):
+    """The verdict by a token that is kept, straight over the descriptor's bytes."""
+    library, data, token = hudarin._library, bytes(descriptor), Kept()
+    library.hudarin_keep_token.restype = library.hudarin_check_bytes.restype = hudarin._Verdict
+    who, sids = bytes(user), b"".join(bytes(sid) for sid, _ in groups)
+    again = b"".join(bytes(sid) for sid in restricting)
+    states = (ctypes.c_uint32 * len(groups))(*(state for _, state in groups))
+    size = ctypes.c_size_t
+    answer = library.hudarin_keep_token(
+        who, size(len(who)), sids, size(len(sids)), states, size(len(groups)), again, size(len(again)),
+        ctypes.c_uint32(privileges), ctypes.byref(token),
+    )  # fmt: skip
+    if answer.status == 0:
+        answer = library.hudarin_check_bytes(
+            data, size(len(data)), ctypes.byref(token), hudarin._mapping(hudarin.FILES), ctypes.c_uint32(mask)
+        )
+    library.hudarin_free(ctypes.byref(token))
+    return hudarin.Verdict(hudarin.VERDICTS.get(answer.kind, f"status {answer.status}"), answer.mask)
+
+
 def verdict(sddl, user, asked, *words):
     descriptor, refused = fault(lambda: hudarin.Descriptor.from_sddl(sddl), "sddl")
     sid, refused = (None, refused) if refused else fault(lambda: hudarin.Sid.from_text(user), "sid")
@@ -61,7 +86,9 @@ def verdict(sddl, user, asked, *words):
             restricting.append(group)
             continue
         groups.append((group, STATES.get(state, hudarin.ENABLED)))
-    return str(descriptor.check(sid, groups, mask, privileges, restricting=restricting))
+    answer = descriptor.check(sid, groups, mask, privileges, restricting=restricting)
+    over = over_bytes(descriptor, sid, groups, mask, privileges, restricting)
+    return str(answer) if answer == over else f"{answer}, and over the bytes {over}"
 
 
 def answer(command, *words):

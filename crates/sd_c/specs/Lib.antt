@@ -4,3 +4,4 @@ pub mod Written
 pub mod Length
 pub mod Handle
 pub mod Kept
+pub mod OverBytes

@@ -337,6 +337,8 @@ fn what_is_kept_answers_as_what_was_read(rt: HostRuntime) {
         assert_eq!(rt; (answer.status, answer.kind, answer.mask), (0, kind, mask));
         let answer = hudarin_check_kept(rt.alloc(), &mut spelled, &mut token, FILE, asked);
         assert_eq!(rt; (answer.status, answer.kind, answer.mask), (0, kind, mask));
+        let answer = hudarin_check_bytes(rt.alloc(), &DENIED_TO_USERS, &mut token, FILE, asked);
+        assert_eq!(rt; (answer.status, answer.kind, answer.mask), (0, kind, mask));
     }
     hudarin_free(rt.alloc(), &mut read);
     hudarin_free(rt.alloc(), &mut spelled);

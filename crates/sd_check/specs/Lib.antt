@@ -4,4 +4,5 @@ pub mod Check
 pub mod Dacl
 pub mod Grounds
 pub mod Walk
+pub mod Steps
 pub mod Laws

@@ -42,10 +42,10 @@ const WRITE_OWNER: Mask = Mask(0x0008_0000);
 const ACCESS_SYSTEM_SECURITY: Mask = Mask(0x0100_0000);
 
 /// MAXIMUM_ALLOWED: asks for all that is granted.
-const MAXIMUM_ALLOWED: Mask = Mask(1 << MAXIMUM_PLACE);
+pub(crate) const MAXIMUM_ALLOWED: Mask = Mask(1 << MAXIMUM_PLACE);
 
 /// The place of MAXIMUM_ALLOWED.
-const MAXIMUM_PLACE: u32 = 25;
+pub(crate) const MAXIMUM_PLACE: u32 = 25;
 
 /// Who asks, of what.
 #[derive(Clone, Copy)]
@@ -104,7 +104,7 @@ impl Access<'_> {
     }
 
     /// Of the bits that are wanted, the owner's, where the token stands for the owner.
-    fn owners_rights(&self, wanted: Mask) -> Mask
+    pub(crate) fn owners_rights(&self, wanted: Mask) -> Mask
         ensures { result ≡ mask_of (λ b. holds wanted b && is_implied (is_owner self.now.token.now self.now.owner.now) false false b) 32 }
     {
         let owners = wanted.common(OWNERS_RIGHTS);
@@ -115,7 +115,7 @@ impl Access<'_> {
     }
 
     /// What the privileges grant.
-    fn privileged(&self) -> Mask
+    pub(crate) fn privileged(&self) -> Mask
         ensures { result ≡ mask_of (is_implied false self.now.token.now.privileges.take_ownership self.now.token.now.privileges.security) 32 }
     {
         let privileges = self.token.privileges();
@@ -167,7 +167,7 @@ impl Access<'_> {
 }
 
 /// The verdict on a request without MAXIMUM_ALLOWED.
-fn plain_verdict(wanted: Mask, missing: Mask) -> Verdict
+pub(crate) fn plain_verdict(wanted: Mask, missing: Mask) -> Verdict
     ensures { result ≡ rules.plain_verdict wanted missing }
 {
     if wanted.is_empty() {
@@ -180,7 +180,7 @@ fn plain_verdict(wanted: Mask, missing: Mask) -> Verdict
 }
 
 /// The verdict on a request with MAXIMUM_ALLOWED, which stands for all that is granted.
-fn maximum_verdict(missing: Mask, all: Mask) -> Verdict
+pub(crate) fn maximum_verdict(missing: Mask, all: Mask) -> Verdict
     ensures { result ≡ rules.maximum_verdict missing all }
 {
     if !missing.is_empty() {

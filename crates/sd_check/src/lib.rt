@@ -18,6 +18,7 @@ mod filter;
 mod grounds;
 mod laws;
 mod request;
+mod steps;
 mod token;
 mod walk;
 
@@ -30,6 +31,7 @@ pub use laws::{
 };
 pub use request::{check, check_joined, check_parts};
 pub use sd_acl::Verdict;
+pub use steps::{Found, Question};
 pub use token::{GroupState, Privileges, Token};
 pub use walk::subject_of;
 

@@ -10,7 +10,7 @@ use sd_acl::{Ace, Dacl, Descriptor, Verdict};
 use sd_sid::{GenericMapping, Mask, Sid};
 
 /// The bits of a request that no check answers.
-const RESERVED: Mask = Mask(0x0CE0_0000);
+pub(crate) const RESERVED: Mask = Mask(0x0CE0_0000);
 
 /// The verdict on a request, for a descriptor ([MS-DTYP] 2.5.3.2). Takes no memory.
 pub fn check(

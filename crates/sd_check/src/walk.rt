@@ -38,28 +38,68 @@ pub(crate) fn applies_again_to(token: &Token, owner: &Option<Sid>, kind: AceKind
 /// What a walk has come to at a place of the list: the bits that no entry has settled, those that one allowed, and those that
 /// the owner keeps.
 #[derive(Clone, Copy)]
-struct Walked {
-    undecided: Mask,
-    allowed: Mask,
-    kept: Mask,
+pub(crate) struct Walked {
+    pub undecided: Mask,
+    pub allowed: Mask,
+    pub kept: Mask,
 }
 
 /// What a walk for a restricted token has come to: what each pass has settled, and what the owner keeps.
 #[derive(Clone, Copy)]
-struct WalkedTwice {
-    first: Settled,
-    second: Settled,
-    kept: Mask,
+pub(crate) struct WalkedTwice {
+    pub first: Settled,
+    pub second: Settled,
+    pub kept: Mask,
 }
 
 /// What a pass over the list of a restricted token has settled so far.
 #[derive(Clone, Copy)]
-struct Settled {
-    undecided: Mask,
-    allowed: Mask,
+pub(crate) struct Settled {
+    pub undecided: Mask,
+    pub allowed: Mask,
+}
+
+impl WalkedTwice {
+    /// What the first pass has come to.
+    #[inline(always)]
+    pub(crate) fn once(self) -> Walked
+        ensures { (result.undecided ≡ self.first.undecided) × (result.allowed ≡ self.first.allowed) × (result.kept ≡ self.kept) }
+    {
+        Walked {
+            undecided: self.first.undecided,
+            allowed: self.first.allowed,
+            kept: self.kept,
+        }
+    }
+
+    /// The same, where the first pass has come to this.
+    #[inline(always)]
+    pub(crate) fn with(self, once: Walked) -> WalkedTwice
+        ensures { (result.first.undecided ≡ once.undecided) × (result.first.allowed ≡ once.allowed) × (result.kept ≡ once.kept) }
+    {
+        WalkedTwice {
+            first: Settled {
+                undecided: once.undecided,
+                allowed: once.allowed,
+            },
+            second: self.second,
+            kept: once.kept,
+        }
+    }
 }
 
 impl Settled {
+    /// Nothing is settled of these bits.
+    #[inline(always)]
+    pub(crate) fn nothing_of(bits: Mask) -> Settled
+        ensures { (result.undecided ≡ bits) × (result.allowed ≡ 0) }
+    {
+        Settled {
+            undecided: bits,
+            allowed: Mask(0),
+        }
+    }
+
     /// Whether an entry further on can tell nothing: no bit is undecided, nor any that the owner keeps and isn't allowed.
     #[inline]
     fn is_over(&self, kept: Mask) -> bool
@@ -70,7 +110,7 @@ impl Settled {
 
     /// With what is allowed, what the owner keeps.
     #[inline]
-    fn granted(&self, kept: Mask) -> Mask
+    pub(crate) fn granted(&self, kept: Mask) -> Mask
         ensures { result ≡ mask_of (λ b. holds self.now.allowed b || holds kept b) 32 }
     {
         self.allowed.union(kept)
@@ -178,7 +218,7 @@ impl Access<'_> {
     /// The walk, further over these entries. It ends as soon as what stands behind can tell nothing, of a bit or of the
     /// owner.
     #[inline(always)]
-    fn walk_on(&self, entries: &[Ace], before: Walked) -> Walked
+    pub(crate) fn walk_on(&self, entries: &[Ace], before: Walked) -> Walked
         ensures { let mask = mask_that_applies self.now.mapping.now (applies self.now.token.now self.now.owner.now) in
             (rest : List Ace) → outcome mask is_limit (entries.now ++ rest) before.undecided before.allowed before.kept
             ≡ outcome mask is_limit rest result.undecided result.allowed result.kept }
@@ -249,7 +289,7 @@ impl Access<'_> {
     }
 
     /// That walk, further over these entries.
-    fn walk_on_for_both(&self, entries: &[Ace], before: WalkedTwice) -> WalkedTwice
+    pub(crate) fn walk_on_for_both(&self, entries: &[Ace], before: WalkedTwice) -> WalkedTwice
         ensures first { let mask = mask_that_applies self.now.mapping.now (applies self.now.token.now self.now.owner.now) in
             (rest : List Ace) → outcome mask is_limit (entries.now ++ rest) before.first.undecided before.first.allowed before.kept
             ≡ outcome mask is_limit rest result.first.undecided result.first.allowed result.kept }

@@ -17,6 +17,7 @@ pub const SID_HEADER_BYTES: usize = 8;
 /// The SID at the front of the bytes, and its length, 8 and 4 for each sub-authority ([MS-DTYP] 2.4.2.2).
 /// `Short` where there are fewer than 8 bytes; then `Revision` where the first isn't 1, `Count` where the second
 /// isn't 1 to 15, and `Short` where the sub-authorities pass the end. Takes no memory.
+#[inline(always)]
 #[tactic(auto, unfolding(crate::specs::SidBytes::sid_reading))]
 pub fn read_sid(bytes: &[u8]) -> Result<(Sid, u64), SidError>
     ensures read { result ≡ sid_reading bytes.now }

@@ -3,4 +3,5 @@ pub mod Reading
 pub mod Writing
 pub mod Standing
 pub mod Memory
+pub mod Parts
 pub mod Laws

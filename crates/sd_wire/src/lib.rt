@@ -16,13 +16,16 @@ mod header;
 mod laws;
 mod list;
 mod number;
+mod parts;
 #[cfg(test)]
 mod tests;
 mod trustee;
 
 pub use descriptor::{read_descriptor, wire_len, write_descriptor};
+pub use entry::read_entry;
 pub use fault::{WireError, WireFault};
 pub use laws::{
     descriptors_come_back, none_is_held_beside_a_fault, one_is_held, readings_are_held,
     what_is_held_is_read,
 };
+pub use parts::{DaclPlace, EntryPlaces, Parts, read_parts};

@@ -1,15 +1,17 @@
 //! Lists of entries.
 
-ghost use Rattle.std.specs.Prelude.{◌≡◌, ◌+◌, ◌-◌, ◌/◌, ◌<◌, ◌≤◌, ◌++◌, min, length, sum_by, vec_len, vec_capacity, IfOk, IsErrOf};
+ghost use Rattle.std.specs.Prelude.{◌≡◌, ◌+◌, ◌-◌, ◌/◌, ◌<◌, ◌≤◌, ◌++◌, min, length, sum_by, vec_len, vec_capacity, Err, IfErr, IfOk, IsErrOf};
 ghost use Rattle.std.specs.List.{flat_map};
 ghost use Rattle.sd_acl.specs.Ace.{ace_size, acl_size_of};
 ghost use Rattle.sd_wire.specs.Reading.{Gives, entries_read, list_read};
 ghost use Rattle.sd_wire.specs.Memory.{HasEntries};
+ghost use Rattle.sd_wire.specs.Parts.{EntriesBegin};
 ghost use Rattle.sd_wire.specs.Writing.{entry_bytes, list_bytes};
 
 use crate::entry::{MIN_ENTRY_BYTES, push_entry, read_entry};
 use crate::fault::{WireError, WireFault};
 use crate::number::read_u16;
+use crate::parts::EntryPlaces;
 use sd_acl::{ACL_HEADER_BYTES, Ace, AceList, acl_size};
 use std::alloc::Global;
 
@@ -29,17 +31,31 @@ pub(crate) fn read_list(alloc: Global, bytes: &[u8], place: usize) -> Result<Ace
     ensures read { Gives (λ list. list) result (list_read bytes.now place) }
     ensures memory { IsErrOf result WireError.Memory → HasEntries bytes.now place }
 {
+    let EntryPlaces { place, end, count } = find_entries(bytes, place)?;
+    let entries = read_entries(alloc, bytes, place, end, count)?;
+    // AclSize has 16 bits, and the entries lie within it.
+    Ok(AceList::new(entries).unwrap())
+}
+
+/// Where the entries of the list at a place stand, where its header passes its tests.
+#[tactic(auto, unfolding(crate::specs::Reading::list_read))]
+pub(crate) fn find_entries(bytes: &[u8], place: usize) -> Result<EntryPlaces, WireFault>
+    requires { place + 8 ≤ length bytes.now }
+    ensures ok { IfOk result (λ found. EntriesBegin bytes.now place found) }
+    ensures err { IfErr result (λ fault. list_read bytes.now place ≡ Err fault) }
+{
     if !matches!(bytes[place], REVISION | REVISION_DS) {
-        return Err(WireError::Fault(WireFault::AclRevision));
+        return Err(WireFault::AclRevision);
     }
     let size = read_u16(bytes, place + 2) as usize;
     if size < HEADER_BYTES || bytes.len() - place < size {
-        return Err(WireError::Fault(WireFault::AclSize));
+        return Err(WireFault::AclSize);
     }
-    let count = read_u16(bytes, place + 4) as usize;
-    let entries = read_entries(alloc, bytes, place + HEADER_BYTES, place + size, count)?;
-    // AclSize has 16 bits, and the entries lie within it.
-    Ok(AceList::new(entries).unwrap())
+    Ok(EntryPlaces {
+        place: place + HEADER_BYTES,
+        end: place + size,
+        count: read_u16(bytes, place + 4) as usize,
+    })
 }
 
 /// So many entries from a place to an end. Memory is taken once, and for no more of them than there is room for.

@@ -9,6 +9,7 @@ use crate::header::leads_outside;
 use sd_sid::{SID_HEADER_BYTES, Sid, push_sid, read_sid};
 
 /// The SID at a place, which doesn't pass an end.
+#[inline(always)]
 pub(crate) fn read_sid_at(bytes: &[u8], place: usize, end: usize) -> Result<Sid, WireFault>
     requires place { place ≤ end }
     requires end { end ≤ length bytes.now }

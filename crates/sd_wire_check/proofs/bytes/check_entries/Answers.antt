@@ -1,0 +1,35 @@
+-- Each turn reads the next entry and finds with it, or ends with its fault.
+use Rattle.std.proofs.Common.{◌++◌, ◌∷◌, [], Ok, refl, sym, ap}
+use Rattle.std.proofs.lemmas.Result.{err_from_is_err_and}
+use Rattle.sd_wire.specs.Reading.{entries_read}
+use Rattle.sd_wire.proofs.Loop.{goes_on, ends, is_done}
+use Rattle.sd_wire_check.proofs.bytes.check_entries.Goals as goal
+
+pub returns-in_err-entry : goal.returns-in_err-entry
+returns-in_err-entry c =
+    let p = err_from_is_err_and c.from_residual.result c.from_residual.ensures.1 in
+    let bytes = c.args.bytes.now in
+    let places = c.args.entries in
+    let so_far = c.loop.invariant.0 in
+    let fault = ends bytes c.loop.at places.end places.count c.loop.counter so_far.0 c.in_err-entry.field-0.0 (entries_read bytes places.place places.end places.count) c.loop-test.true (sym c.in_err-entry.ensures.read) so_far.1 in
+    rw (p.1, p.2, fault) refl
+
+pub loop-preserved : goal.loop-preserved
+loop-preserved c =
+    let bytes = c.args.bytes.now in
+    let places = c.args.entries in
+    let so_far = c.loop.invariant.0 in (
+      (
+        so_far.0 ++ c.in_ok-entry.entry ∷ [],
+        goes_on bytes c.loop.at places.end places.count c.loop.counter so_far.0 c.in_ok-entry.entry c.in_ok-entry.size (entries_read bytes places.place places.end places.count) c.loop-test.true (sym c.in_ok-entry.ensures.read) so_far.1,
+        c.after-found.ensures so_far.0 so_far.2,
+      ),
+      c.in_ok-entry.ensures.size.1,
+    )
+
+pub returns : goal.returns
+returns c =
+    let places = c.args.entries in
+    let so_far = c.loop.invariant.0 in
+    let all = is_done c.args.bytes.now c.loop.at places.end places.count c.loop.counter so_far.0 (entries_read c.args.bytes.now places.place places.end places.count) c.loop-test.false so_far.1 in
+    rw all (ap (λ v. Ok v) (c.verdict.ensures so_far.0 so_far.2))
