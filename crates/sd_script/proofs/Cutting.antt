@@ -10,7 +10,7 @@ abbrev pub feeds : ℕ → Bool
 feeds b = eqb b 10
 
 -- a part before others is a line
-before_others : (x : List ℕ) (parts : List (List ℕ)) → 0 < length parts → lines_of_parts (x ∷ parts) ≡ strip_carriage_return x ∷ lines_of_parts parts
+pub before_others : (x : List ℕ) (parts : List (List ℕ)) → 0 < length parts → lines_of_parts (x ∷ parts) ≡ strip_carriage_return x ∷ lines_of_parts parts
 before_others x [] some = absurd (omega arith)
 before_others x (y ∷ parts) some = refl
 
@@ -34,7 +34,7 @@ one_part [] whole = refl
 one_part (x ∷ xs) whole = one_more x xs (feeds x) refl (λ h. one_part xs h) whole
 
 -- the last part is a line where it isn't empty
-last_part : (w : List ℕ) → 0 < length w → lines_of_parts (w ∷ []) ≡ w ∷ []
+pub last_part : (w : List ℕ) → 0 < length w → lines_of_parts (w ∷ []) ≡ w ∷ []
 last_part w some = by_test w (eqb (length w) 0) refl some
   where
     by_test : (w : List ℕ) (b : Bool) → eqb (length w) 0 ≡ b → 0 < length w → cond b [] (w ∷ []) ≡ w ∷ []

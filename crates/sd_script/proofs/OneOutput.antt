@@ -13,7 +13,7 @@ use Rattle.sd_text.specs.Canon.{canon}
 use Rattle.sd_text.specs.Grammar.{Spells}
 use Rattle.sd_text.specs.Rights.{mask_text}
 use Rattle.sd_text.specs.Sddl.{sddl}
-use Rattle.sd_text.specs.Sid.{sid_text, sid as sid_grammar, no_alias}
+use Rattle.sd_text.specs.Sid.{sid_text, sid as sid_grammar, domain_alias, no_alias}
 use Rattle.sd_text.proofs.Engine.{one_value, no_fault, one_fault}
 use Rattle.sd_check.specs.declared.token.GroupState.TheVariants.{Enabled, DenyOnly, Disabled}
 use Rattle.sd_tree.specs.Answers.{answer, descriptor_at}
@@ -33,7 +33,7 @@ use Rattle.sd_share.specs.declared.start.StartError.{StartError}
 use Rattle.sd_share.specs.declared.start.StartError.TheVariants as starts
 use Rattle.sd_script.specs.Answer.{line}
 use Rattle.sd_script.specs.Argument.{IsNumber, number, path, sid, mask, token, descriptor, node, node_of, dacl, dacl_of}
-use Rattle.sd_script.specs.Command.{CommandValue, Open, AddContainer, AddObject, SetOwner, SetGroup, SetDacl, Remove, Protect, Publish, Tell, Learn, Check, Show, asks, asks_where, check_by, check_of, check_with, command_of, edit, is_untimely, line_asks, request}
+use Rattle.sd_script.specs.Command.{CommandValue, Open, AddContainer, AddObject, SetOwner, SetGroup, SetDacl, Remove, Protect, Move, Publish, Tell, Learn, Check, Show, asks, asks_where, check_by, check_of, check_with, command_of, edit, is_untimely, line_asks, request}
 use Rattle.sd_script.specs.Fault.{Reading, SomeOr, Just, Then, line_of_fault}
 use Rattle.sd_script.specs.Laws.{HasOneOutput}
 use Rattle.sd_script.specs.Lines.{is_silent, words_of}
@@ -101,7 +101,7 @@ apart xs ys a b us vs long differ same =
 
 -- no SID begins with a plus
 no_plus : (rest : List ℕ) (s : SidValue) → Spells sid_text (43 ∷ rest) s → ⊥
-unfolding sid_grammar no_alias aliases
+unfolding sid_grammar domain_alias no_alias aliases
 no_plus rest s spelled = ⊎_elim (λ x. cc (x.0)) (λ x. ⊎_elim (λ y. cc (y)) (λ y. ⊎_elim (λ z. z.1) (λ z. ⊎_elim (λ u. u.1) (λ u. u.1) z.1) y.1) x.1) spelled.2
 
 -- a text with the ending of a restricting SID has no other
@@ -216,6 +216,7 @@ asks-one (SetGroup at group) = Then-one (path at) (λ p. Then (sid group) (λ s.
 asks-one (SetDacl at text) = Then-one (path at) (λ p. Then (dacl text) (λ d. edit (edits.SetDacl p d))) (path-one at) (λ p. Then-one (dacl text) (λ d. edit (edits.SetDacl p d)) (dacl-one text) (λ d. Just-one _))
 asks-one (Remove at) = Then-one (path at) (λ p. edit (edits.Remove p)) (path-one at) (λ p. Just-one _)
 asks-one (Protect at) = Then-one (path at) (λ p. edit (edits.ProtectKeeping p)) (path-one at) (λ p. Just-one _)
+asks-one (Move source target) = Then-one (path source) (λ from. Then (path target) (λ to. edit (edits.Move from to))) (path-one source) (λ from. Then-one (path target) (λ to. edit (edits.Move from to)) (path-one target) (λ to. Just-one _))
 asks-one Publish = Just-one _
 asks-one Tell = Just-one _
 asks-one (Learn reader len) = Then-one (number reader) (λ i. Then (number len) (λ n. request (requests.Learn i n))) (number-one reader) (λ i. Then-one (number len) (λ n. request (requests.Learn i n)) (number-one len) (λ n. Just-one _))

@@ -2,7 +2,7 @@
 use Rattle.std.proofs.Common.{◌≡◌, ⊎_elim, ℕ, List, Bool, true, false, not, Option, Some, None, Ok, Err, refl, ap, subst, ◌∙◌}
 use Rattle.std.specs.Prelude.{IsSome, MatchBool, is_some, if◌then◌else◌}
 use Rattle.sd_share.specs.declared.request.Request.{Request}
-use Rattle.sd_script.specs.Command.{CommandValue, Open, AddContainer, AddObject, SetOwner, SetGroup, SetDacl, Remove, Protect, Publish, Tell, Learn, Check, Show, asks, asks_where, is_untimely, line_asks, command_of}
+use Rattle.sd_script.specs.Command.{CommandValue, Open, AddContainer, AddObject, SetOwner, SetGroup, SetDacl, Remove, Protect, Move, Publish, Tell, Learn, Check, Show, asks, asks_where, is_untimely, line_asks, command_of}
 use Rattle.sd_script.specs.Fault.{Just, Reading}
 use Rattle.sd_script.specs.Lines.{words_of}
 use Rattle.sd_script.specs.Output.{Standing}
@@ -30,6 +30,7 @@ is_opening (SetGroup path sid) = false
 is_opening (SetDacl path sddl) = false
 is_opening (Remove path) = false
 is_opening (Protect path) = false
+is_opening (Move source target) = false
 is_opening Publish = false
 is_opening Tell = false
 is_opening (Learn reader len) = false
@@ -51,6 +52,7 @@ words_open (SetGroup at group) a is = ⊎_elim (λ w. ⊎_elim (λ x. same_opens
 words_open (SetDacl at sddl) a is = ⊎_elim (λ w. ⊎_elim (λ x. same_opens a _ x.2) (λ x. absurd (cc (x.2))) w.2) (λ w. absurd (cc (w.2))) is
 words_open (Remove at) a is = ⊎_elim (λ w. same_opens a _ w.2) (λ w. absurd (cc (w.2))) is
 words_open (Protect at) a is = ⊎_elim (λ w. same_opens a _ w.2) (λ w. absurd (cc (w.2))) is
+words_open (Move source target) a is = ⊎_elim (λ w. ⊎_elim (λ x. same_opens a _ x.2) (λ x. absurd (cc (x.2))) w.2) (λ w. absurd (cc (w.2))) is
 words_open Publish a is = same_opens a _ is
 words_open Tell a is = same_opens a _ is
 words_open (Learn reader len) a is = ⊎_elim (λ w. ⊎_elim (λ x. same_opens a _ x.2) (λ x. absurd (cc (x.2))) w.2) (λ w. absurd (cc (w.2))) is
@@ -66,6 +68,7 @@ untimely_is is_open (SetGroup path sid) = refl
 untimely_is is_open (SetDacl path sddl) = refl
 untimely_is is_open (Remove path) = refl
 untimely_is is_open (Protect path) = refl
+untimely_is is_open (Move source target) = refl
 untimely_is is_open Publish = refl
 untimely_is is_open Tell = refl
 untimely_is is_open (Learn reader len) = refl

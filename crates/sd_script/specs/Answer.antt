@@ -14,11 +14,15 @@ line text = text ++ 10 ∷ []
 abbrev pub mask_digits : ℕ → List ℕ
 mask_digits mask = codes "0x" ++ digits 16 false mask
 
+-- a verdict, its mask in some spelling
+abbrev pub spelled_verdict_line : (ℕ → List ℕ) → Verdict → List ℕ
+spelled_verdict_line spell (Granted mask) = line (codes "granted " ++ spell mask)
+spelled_verdict_line spell (Denied missing) = line (codes "denied " ++ spell missing)
+spelled_verdict_line spell (Reserved mask) = line (codes "reserved " ++ spell mask)
+spelled_verdict_line spell EmptyRequest = line (codes "empty")
+
 abbrev pub verdict_line : Verdict → List ℕ
-verdict_line (Granted mask) = line (codes "granted " ++ mask_digits mask)
-verdict_line (Denied missing) = line (codes "denied " ++ mask_digits missing)
-verdict_line (Reserved mask) = line (codes "reserved " ++ mask_digits mask)
-verdict_line EmptyRequest = line (codes "empty")
+verdict_line verdict = spelled_verdict_line mask_digits verdict
 
 -- the line for an argument that isn't read
 abbrev pub fault_line : List ℕ → List ℕ

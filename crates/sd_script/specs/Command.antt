@@ -31,6 +31,7 @@ pub data CommandValue : Type 0 where
   SetDacl : List ℕ → List ℕ → CommandValue
   Remove : List ℕ → CommandValue
   Protect : List ℕ → CommandValue
+  Move : List ℕ → List ℕ → CommandValue
   Publish : CommandValue
   Tell : CommandValue
   Learn : List ℕ → List ℕ → CommandValue
@@ -46,6 +47,7 @@ command_value (lent.SetGroup path sid) = SetGroup path.now sid.now
 command_value (lent.SetDacl path sddl) = SetDacl path.now sddl.now
 command_value (lent.Remove path) = Remove path.now
 command_value (lent.Protect path) = Protect path.now
+command_value (lent.Move source target) = Move source.now target.now
 command_value lent.Publish = Publish
 command_value lent.Tell = Tell
 command_value (lent.Learn reader length) = Learn reader.now length.now
@@ -63,6 +65,7 @@ command_named word =
     else if bytes_eq word (codes "dacl") then Some names.SetDacl
     else if bytes_eq word (codes "remove") then Some names.Remove
     else if bytes_eq word (codes "protect") then Some names.Protect
+    else if bytes_eq word (codes "move") then Some names.Move
     else if bytes_eq word (codes "publish") then Some names.Publish
     else if bytes_eq word (codes "tell") then Some names.Tell
     else if bytes_eq word (codes "learn") then Some names.Learn
@@ -80,6 +83,7 @@ command_on names.SetGroup (path ∷ sid ∷ []) = Some (SetGroup path sid)
 command_on names.SetDacl (path ∷ sddl ∷ []) = Some (SetDacl path sddl)
 command_on names.Remove (path ∷ []) = Some (Remove path)
 command_on names.Protect (path ∷ []) = Some (Protect path)
+command_on names.Move (source ∷ target ∷ []) = Some (Move source target)
 command_on names.Publish [] = Some Publish
 command_on names.Tell [] = Some Tell
 command_on names.Learn (reader ∷ length ∷ []) = Some (Learn reader length)
@@ -130,6 +134,7 @@ asks (SetGroup at group) = Then (path at) (λ p. Then (sid group) (λ s. edit (e
 asks (SetDacl at sddl) = Then (path at) (λ p. Then (dacl sddl) (λ d. edit (edits.SetDacl p d)))
 asks (Remove at) = Then (path at) (λ p. edit (edits.Remove p))
 asks (Protect at) = Then (path at) (λ p. edit (edits.ProtectKeeping p))
+asks (Move source target) = Then (path source) (λ from. Then (path target) (λ to. edit (edits.Move from to)))
 asks Publish = request requests.Publish
 asks Tell = request requests.Tell
 asks (Learn reader length) = Then (number reader) (λ i. Then (number length) (λ n. request (requests.Learn i n)))

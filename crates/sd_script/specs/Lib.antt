@@ -8,3 +8,5 @@ pub mod Output
 pub mod Reply
 pub mod Run
 pub mod Word
+pub mod Spelling
+pub mod Why

@@ -1,6 +1,6 @@
 //! What a line asks for, and how its words are read.
 ghost use Rattle.std.specs.Prelude.{◌≡◌};
-ghost use Rattle.sd_script.specs.Command.{CommandValue, Open, AddContainer, AddObject, SetOwner, SetGroup, SetDacl, Remove, Protect, Learn, Check, Show, asks, check_of, command_value};
+ghost use Rattle.sd_script.specs.Command.{CommandValue, Open, AddContainer, AddObject, SetOwner, SetGroup, SetDacl, Remove, Protect, Move, Learn, Check, Show, asks, check_of, command_value};
 ghost use Rattle.sd_script.specs.Fault.{UnlessMemory};
 ghost use Rattle.sd_script.specs.Word.{texts};
 
@@ -33,6 +33,7 @@ pub(crate) fn asked_by(alloc: Global, command: Command<'_>) -> Result<Asked, Sto
         Command::SetDacl { path, sddl } => set_dacl(alloc, path, sddl),
         Command::Remove { path } => removed(alloc, path),
         Command::Protect { path } => protected(alloc, path),
+        Command::Move { source, target } => moved(alloc, source, target),
         Command::Publish => Ok(Asked::Asking(Request::Publish)),
         Command::Tell => Ok(Asked::Asking(Request::Tell)),
         Command::Learn { reader, length } => learned(reader, length),
@@ -117,6 +118,14 @@ fn protected(alloc: Global, path: &str) -> Result<Asked, Stop>
 {
     let path = path_in(alloc, path)?;
     Ok(Asked::Asking(Request::Edit(Edit::ProtectKeeping { path })))
+}
+
+fn moved(alloc: Global, source: &str, target: &str) -> Result<Asked, Stop>
+    ensures { UnlessMemory (asks (Move source.now target.now)) result }
+{
+    let source = path_in(alloc, source)?;
+    let target = path_in(alloc, target)?;
+    Ok(Asked::Asking(Request::Edit(Edit::Move { source, target })))
 }
 
 fn learned(reader: &str, length: &str) -> Result<Asked, Stop>

@@ -1,5 +1,5 @@
 //! The commands of a script, with their words as they stand.
-ghost use Rattle.std.specs.Prelude.{◌≡◌, option_map};
+ghost use Rattle.std.specs.Prelude.{◌≡◌, ◌∷◌, [], option_map};
 ghost use Rattle.std.specs.List.{list_any};
 ghost use Rattle.sd_script.specs.Command.{command_named, command_of, command_on, command_value, is_empty, is_untimely};
 ghost use Rattle.sd_script.specs.Word.{texts};
@@ -15,6 +15,7 @@ pub(crate) enum CommandName {
     SetDacl,
     Remove,
     Protect,
+    Move,
     Publish,
     Tell,
     Learn,
@@ -63,6 +64,11 @@ pub(crate) enum Command<'a> {
     Protect {
         path: &'a str,
     },
+    /// A node goes elsewhere with all below it.
+    Move {
+        source: &'a str,
+        target: &'a str,
+    },
     /// What was edited is published.
     Publish,
     /// How much was published is told.
@@ -100,6 +106,7 @@ impl CommandName {
             "dacl" => Some(CommandName::SetDacl),
             "remove" => Some(CommandName::Remove),
             "protect" => Some(CommandName::Protect),
+            "move" => Some(CommandName::Move),
             "publish" => Some(CommandName::Publish),
             "tell" => Some(CommandName::Tell),
             "learn" => Some(CommandName::Learn),
@@ -147,26 +154,73 @@ fn has_empty(words: &[&str]) -> bool
 fn command_on<'a>(name: CommandName, arguments: &'a [&'a str]) -> Option<Command<'a>>
     ensures { option_map command_value result ≡ command_on name (texts arguments.entry.now) }
 {
-    match (name, arguments) {
-        (CommandName::Open, [readers, sddl]) => Some(Command::Open { readers, sddl }),
-        (CommandName::AddContainer, [path, sddl]) => Some(Command::AddContainer { path, sddl }),
-        (CommandName::AddObject, [path, sddl]) => Some(Command::AddObject { path, sddl }),
-        (CommandName::SetOwner, [path, sid]) => Some(Command::SetOwner { path, sid }),
-        (CommandName::SetGroup, [path, sid]) => Some(Command::SetGroup { path, sid }),
-        (CommandName::SetDacl, [path, sddl]) => Some(Command::SetDacl { path, sddl }),
-        (CommandName::Remove, [path]) => Some(Command::Remove { path }),
-        (CommandName::Protect, [path]) => Some(Command::Protect { path }),
-        (CommandName::Publish, []) => Some(Command::Publish),
-        (CommandName::Tell, []) => Some(Command::Tell),
-        (CommandName::Learn, [reader, length]) => Some(Command::Learn { reader, length }),
-        (CommandName::Check, [reader, path, user, mask, words @ ..]) => Some(Command::Check {
-            reader,
-            path,
-            user,
-            mask,
-            words,
+    match arguments {
+        [] => command_alone(name),
+        [path] => command_on_one(name, path),
+        [first, second] => command_on_two(name, first, second),
+        [reader, path, user, mask, words @ ..] => match name {
+            CommandName::Check => Some(Command::Check {
+                reader,
+                path,
+                user,
+                mask,
+                words,
+            }),
+            _ => None,
+        },
+        _ => None,
+    }
+}
+
+/// The command without an argument.
+fn command_alone<'a>(name: CommandName) -> Option<Command<'a>>
+    ensures { option_map command_value result ≡ command_on name [] }
+{
+    match name {
+        CommandName::Publish => Some(Command::Publish),
+        CommandName::Tell => Some(Command::Tell),
+        _ => None,
+    }
+}
+
+/// The command on one argument.
+fn command_on_one<'a>(name: CommandName, path: &'a str) -> Option<Command<'a>>
+    ensures { option_map command_value result ≡ command_on name (path.now ∷ []) }
+{
+    match name {
+        CommandName::Remove => Some(Command::Remove { path }),
+        CommandName::Protect => Some(Command::Protect { path }),
+        _ => None,
+    }
+}
+
+/// The command on two arguments.
+fn command_on_two<'a>(name: CommandName, first: &'a str, second: &'a str) -> Option<Command<'a>>
+    ensures { option_map command_value result ≡ command_on name (first.now ∷ second.now ∷ []) }
+{
+    let (path, sddl, sid) = (first, second, second);
+    match name {
+        CommandName::Open => Some(Command::Open {
+            readers: first,
+            sddl,
         }),
-        (CommandName::Show, [reader, path]) => Some(Command::Show { reader, path }),
+        CommandName::AddContainer => Some(Command::AddContainer { path, sddl }),
+        CommandName::AddObject => Some(Command::AddObject { path, sddl }),
+        CommandName::SetOwner => Some(Command::SetOwner { path, sid }),
+        CommandName::SetGroup => Some(Command::SetGroup { path, sid }),
+        CommandName::SetDacl => Some(Command::SetDacl { path, sddl }),
+        CommandName::Move => Some(Command::Move {
+            source: first,
+            target: second,
+        }),
+        CommandName::Learn => Some(Command::Learn {
+            reader: first,
+            length: second,
+        }),
+        CommandName::Show => Some(Command::Show {
+            reader: first,
+            path: second,
+        }),
         _ => None,
     }
 }

@@ -24,7 +24,9 @@ mod line;
 mod lines;
 mod reply;
 mod script;
+mod spelling;
 mod streams;
+mod why;
 mod word;
 
 pub use answer::{fault_line, sddl_fault_line, verdict_line};
@@ -32,10 +34,12 @@ pub use asked::Asked;
 pub use fault::{LineFault, Stop, line_of_fault};
 pub use laws::texts_have_one_output;
 pub use line::read_line;
-pub use lines::{first_line, is_silent};
+pub use lines::{first_line, is_silent, line_len};
 pub use reply::{counted_line, reply_line, start_error_line};
-pub use script::script_output;
+pub use script::{answer_line, script_output};
+pub use spelling::{Spelling, spell};
 pub use streams::run;
+pub use why::why_text;
 pub use word::{TokenError, read_token};
 
 #[cfg(test)]

@@ -22,7 +22,7 @@ pub fn first_line(text: &[u8]) -> (&[u8], &[u8])
 }
 
 /// How many bytes stand before the first line feed, or all where there is none.
-fn line_len(text: &[u8]) -> usize
+pub fn line_len(text: &[u8]) -> usize
     ensures place { result ≡ position_or_len (λ b. b == 10) text.now }
     ensures within { result ≤ length text.now }
 {

@@ -31,8 +31,13 @@ pub fn script_output(alloc: Global, text: &[u8]) -> Result<Vec<u8>, AllocError>
     Ok(printed)
 }
 
-/// What a line is answered by. The desk is the store that is open, if one is.
-fn answer_line(alloc: Global, desk: &mut Option<Desk>, line: &[u8]) -> Result<String, AllocError>
+/// What a line, without its end, is answered by: a line, or nothing where it is empty or begins with `#`. The desk is the
+/// store that is open, if one is. Fails only where memory is refused.
+pub fn answer_line(
+    alloc: Global,
+    desk: &mut Option<Desk>,
+    line: &[u8],
+) -> Result<String, AllocError>
     ensures { IfOk result (λ text. IsAnswered desk.old line.now (string_bytes text) desk.new) }
 {
     if is_silent(line) {

@@ -1,14 +1,14 @@
 //! Whole scripts, each with its whole output.
 
 use crate::{
-    Asked, LineFault, Stop, TokenError, counted_line, fault_line, first_line, is_silent,
-    line_of_fault, read_line, read_token, reply_line, script_output, sddl_fault_line,
-    start_error_line, verdict_line,
+    Asked, LineFault, Spelling, Stop, TokenError, counted_line, fault_line, first_line, is_silent,
+    line_of_fault, read_line, read_token, reply_line, script_output, sddl_fault_line, spell,
+    start_error_line, verdict_line, why_text,
 };
 use sd_acl::Verdict;
 use sd_share::{Reply, Request, StartError};
 use sd_sid::Mask;
-use sd_text::{TextFault, read_sid_text};
+use sd_text::{TextFault, read_sddl, read_sid_text};
 use std::alloc::{AllocError, Global};
 use std::test::Fail;
 
@@ -191,5 +191,41 @@ fn lines_of_replies(rt: HostRuntime) -> Result<(), Fail> {
     assert_eq!(rt; line.as_str(), "opened 64\n");
     let line = line_of_fault(rt.alloc(), LineFault::Parts)?;
     assert_eq!(rt; line.as_str(), "fault parts\n");
+    Ok(())
+}
+
+#[test]
+fn masks_by_number_and_by_names(rt: HostRuntime) -> Result<(), AllocError> {
+    let rows = [
+        (0x0016_0089, "0x160089", "FR+WD"),
+        (0x001F_01FF, "0x1f01ff", "FA"),
+        (0x0012_019F, "0x12019f", "FW+FR"),
+        (0x0012_0289, "0x120289", "FR+0x200"),
+        (0xF010_0000, "0xf0100000", "GR+GW+GX+GA+0x100000"),
+        (0x0100_0000, "0x1000000", "0x1000000"),
+        (0, "0x0", "0x0"),
+    ];
+    for (mask, number, names) in rows {
+        let text = spell(rt.alloc(), Spelling::Number, Mask(mask))?;
+        assert_eq!(rt; text.as_str(), number);
+        let text = spell(rt.alloc(), Spelling::Names, Mask(mask))?;
+        assert_eq!(rt; text.as_str(), names);
+    }
+    Ok(())
+}
+
+#[test]
+fn lines_of_reasons(rt: HostRuntime) -> Result<(), Fail> {
+    let descriptor = read_sddl(rt.alloc(), "O:BAD:(A;;0x160089;;;BU)")
+        .ok()
+        .ok_or("SDDL")?;
+    let user = read_sid_text("BU").ok().ok_or("a SID")?;
+    let token = read_token(rt.alloc(), user, &[]).ok().ok_or("a token")?;
+    let asked = Mask(0x0016_0089);
+    let text = why_text(rt.alloc(), Spelling::Names, &descriptor, &token, asked)?;
+    assert_eq!(rt;
+        text.as_str(),
+        "granted FR+WD\ngranted FR+WD by entry 1 (A;;0x160089;;;BU) as S-1-5-32-545\n"
+    );
     Ok(())
 }

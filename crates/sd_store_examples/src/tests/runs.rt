@@ -79,6 +79,28 @@ const THREE_LEVELS: [Row; 10] = [
     ),
 ];
 
+const MOVES: [Row; 19] = [
+    (Step::Dacl("/", "D:(A;OICI;FR;;;BU)"), "ok"),
+    (Step::Container("/a", "O:BAG:SYD:P(A;OICI;FA;;;BA)"), "ok"),
+    (Step::Container("/a/b", "O:BAG:SYD:"), "ok"),
+    (Step::Object("/a/b/c", "O:BAG:SYD:"), "ok"),
+    (Step::Container("/z", "O:BAG:SYD:"), "ok"),
+    (Step::Move("/a/b", "/z/b"), "ok"),
+    (Step::Move("/z", "/z/b/q"), "refused 13 IntoItself"),
+    (Step::Move("/a", "/z"), "refused 3 Exists"),
+    (Step::Move("/", "/q"), "refused 6 IsRoot"),
+    (Step::Move("/a/b", "/q"), "refused 4 NoNode"),
+    (Step::Publish, "published 6"),
+    (Step::Show(0, "/z/b/c"), "seen 6 O:BAG:SYD:AI(A;ID;FR;;;BU)"),
+    (Step::Show(0, "/a/b"), "seen 6 none"),
+    (Step::Check(1, "/z/b/c"), "seen 6 granted 0x1"),
+    (Step::Move("/z/b", "/a/b"), "ok"),
+    (Step::Publish, "published 7"),
+    (Step::Show(0, "/a/b/c"), "seen 7 O:BAG:SYD:AI(A;ID;FA;;;BA)"),
+    (Step::Check(1, "/a/b/c"), "seen 7 denied 0x1"),
+    (Step::Check(1, "/z/b/c"), "seen 7 NoNode"),
+];
+
 const BEFORE_END: [Row; 3] = [
     (Step::Object("/a", USERS), "ok"),
     (Step::Publish, "published 1"),
@@ -92,12 +114,13 @@ const AFTER_END: [Row; 3] = [
 ];
 
 /// Runs by their names: the rows before the writer ends, and those after it.
-const RUNS: [(&str, &[Row], &[Row]); 6] = [
+const RUNS: [(&str, &[Row], &[Row]); 7] = [
     ("worked", &WORKED, &[]),
     ("two notices", &TWO_NOTICES, &[]),
     ("pending", &PENDING, &[]),
     ("nothing", &NOTHING, &[]),
     ("three levels", &THREE_LEVELS, &[]),
+    ("moves", &MOVES, &[]),
     ("ended", &BEFORE_END, &AFTER_END),
 ];
 

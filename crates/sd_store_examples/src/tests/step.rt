@@ -23,6 +23,8 @@ pub(super) enum Step {
     Group(&'static str, &'static str),
     Remove(&'static str),
     Keep(&'static str),
+    /// What stands at the first path goes to the second.
+    Move(&'static str, &'static str),
     Publish,
     /// How many edits are published, and how many wait.
     Lengths,
@@ -120,6 +122,10 @@ pub(super) fn edit(alloc: Global, step: Step) -> Option<Edit> {
         }),
         Step::Keep(path) => Some(Edit::ProtectKeeping {
             path: Path::read(alloc, path).ok()?,
+        }),
+        Step::Move(source, target) => Some(Edit::Move {
+            source: Path::read(alloc, source).ok()?,
+            target: Path::read(alloc, target).ok()?,
         }),
         _ => None,
     }

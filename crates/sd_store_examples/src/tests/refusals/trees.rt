@@ -35,7 +35,7 @@ enum Way {
 /// An edit of the tree, a node to look at behind it, and its descriptor then, `none`, or the refusal.
 type Row = (Step, &'static str, &'static str);
 
-const EDITS: [Row; 8] = [
+const EDITS: [Row; 9] = [
     (
         Step::Container("/a/d", "O:BAG:SYD:(A;;FR;;;BU)"),
         "/a/d",
@@ -63,6 +63,11 @@ const EDITS: [Row; 8] = [
     ),
     (Step::Remove("/a/b/c"), "/a/b/c", "none"),
     (Step::Keep("/a/b"), "/a/b", "O:BAG:SYD:PAI(A;OICI;FA;;;BA)"),
+    (
+        Step::Move("/a/b", "/x"),
+        "/x/c",
+        "O:BAG:SYD:AI(A;OICIID;FA;;;BA)",
+    ),
     // So many entries fit, but not with the one that is inherited.
     (
         Step::LongDacl("/a", "D:(A;OICI;FA;;;WD)", 3276),
@@ -72,7 +77,7 @@ const EDITS: [Row; 8] = [
 ];
 
 /// Edits that are refused without memory, and why.
-const EARLY: [(Step, EditRefusal); 11] = [
+const EARLY: [(Step, EditRefusal); 15] = [
     (
         Step::Object("/x/y", "D:(A;;FR;;;BU)(D;;FW;;;BU)"),
         EditRefusal::NoParent,
@@ -91,6 +96,10 @@ const EARLY: [(Step, EditRefusal); 11] = [
     (Step::Remove("/a/x"), EditRefusal::NoNode),
     (Step::Remove("/a"), EditRefusal::NotEmpty),
     (Step::Remove("/"), EditRefusal::NotEmpty),
+    (Step::Move("/a", "/x/y"), EditRefusal::NoParent),
+    (Step::Move("/x", "/y"), EditRefusal::NoNode),
+    (Step::Move("/", "/y"), EditRefusal::IsRoot),
+    (Step::Move("/a", "/a/b/x"), EditRefusal::IntoItself),
     (
         Step::Dacl("/a", "D:(A;ID;FR;;;BU)"),
         EditRefusal::InheritedEntry,

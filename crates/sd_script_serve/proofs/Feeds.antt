@@ -1,0 +1,53 @@
+-- Lines that are answered as they end.
+use Rattle.std.proofs.Common.{◌≡◌, ℕ, ◌<◌, List, [], ◌∷◌, ◌++◌, length, refl, sym, ◌∙◌, ap, append_assoc, append-nil, inl, inr, None, arith}
+use Rattle.std.specs.List.{slice_split}
+use Rattle.std.specs.Str.Lines.{lines, lines_of_parts, strip_carriage_return}
+use Rattle.std.proofs.lemmas.List.Splits.{slice_split_at, slice_split_none, length-slice_split}
+use Rattle.sd_script.specs.Output.{Standing, IsAnswered, Prints}
+use Rattle.sd_script.proofs.Cutting.{feeds, before_others, last_part}
+use Rattle.sd_script_serve.specs.Serve.{Advances, HasNoFeed, IsEnded}
+
+-- a line that has ended, and those behind it
+pub lines_ended : (line rest : List ℕ) → HasNoFeed line → lines (line ++ 10 ∷ rest) ≡ strip_carriage_return line ∷ lines rest
+lines_ended line rest none =
+    ap lines_of_parts (slice_split_at feeds line 10 rest none refl)
+    ∙ before_others line (slice_split feeds rest) (omega (arith, length-slice_split feeds rest))
+
+-- one that hasn't
+pub lines_last : (line : List ℕ) → HasNoFeed line → 0 < length line → lines line ≡ line ∷ []
+lines_last line none some = ap lines_of_parts (slice_split_none feeds line none) ∙ last_part line some
+
+pub heads : (one other : List ℕ) (ones others : List (List ℕ)) → one ∷ ones ≡ other ∷ others → one ≡ other
+heads one other ones others e = cc
+
+-- nothing is answered by nothing
+pub advances_none : (old : Standing) → Advances old [] [] old
+advances_none old rest back answered = answered
+
+-- one more line is answered
+pub advances_line : (old mid new : Standing) (ended printed line answer first behind : List ℕ)
+    → Advances old ended printed mid → HasNoFeed line → lines (line ++ 10 ∷ []) ≡ first ∷ lines behind
+    → IsAnswered mid first answer new → Advances old (ended ++ (line ++ 10 ∷ [])) (printed ++ answer) new
+advances_line old mid new ended printed line answer first behind so_far none cut is rest back answered =
+    let head : strip_carriage_return line ≡ first = heads _ _ _ _ (sym (lines_ended line [] none) ∙ cut) in
+    rw (append_assoc ended (line ++ 10 ∷ []) rest, append_assoc line (10 ∷ []) rest, append_assoc printed answer back)
+    (so_far (line ++ 10 ∷ rest) (answer ++ back)
+    (rw (lines_ended line rest none, head) (answer, new, back, is, answered, refl)))
+
+-- what two stretches put before what is left, one behind the other
+pub advances_both : (old mid new : Standing) (ended more printed said : List ℕ)
+    → Advances old ended printed mid → Advances mid more said new → Advances old (ended ++ more) (printed ++ said) new
+advances_both old mid new ended more printed said first second rest back answered =
+    rw (append_assoc ended more rest, append_assoc printed said back)
+    (first (more ++ rest) (said ++ back) (second rest back answered))
+
+-- the whole output of what has ended
+pub ended_prints : (ended printed : List ℕ) (new : Standing) → Advances None ended printed new → Prints ended printed
+ended_prints ended printed new so_far = rw (append-nil ended, append-nil printed) at (so_far [] [] refl)
+
+pub ended_line : (ended line : List ℕ) → IsEnded (ended ++ (line ++ 10 ∷ []))
+ended_line ended line = inr (ended ++ line, sym (append_assoc ended line (10 ∷ [])))
+
+pub ended_both : (ended more : List ℕ) → IsEnded ended → IsEnded more → IsEnded (ended ++ more)
+ended_both ended more one (inl none) = rw (none, append-nil ended) one
+ended_both ended more one (inr (front, is)) = inr (ended ++ front, rw is (sym (append_assoc ended front (10 ∷ []))))

@@ -1,0 +1,70 @@
+#!/usr/bin/env python3
+"""Asks `sdstore serve` from Python: a line, its answer, the next line.
+
+    examples/serve/ask.py PROGRAM [CHECKS]
+
+Opens a store, makes some files in it, and asks so many checks one after the other, each with its answer before the next.
+Each answer is compared with what the file's entry says; at the end it prints how many were asked, and their time.
+"""
+
+import subprocess
+import sys
+import time
+
+
+class Server:
+    """A store that another process keeps. Lines are those of a script."""
+
+    def __init__(self, program):
+        self._process = subprocess.Popen([program, "serve"], stdin=subprocess.PIPE, stdout=subprocess.PIPE)
+
+    def ask(self, line):
+        """The answer to one line. ValueError: it isn't one line that is answered. EOFError: the server has ended."""
+        if not line or line[0] == "#" or "\n" in line or line[-1] == "\r":
+            raise ValueError("not one line that is answered: %r" % line)
+        try:
+            self._process.stdin.write(line.encode() + b"\n")
+            self._process.stdin.flush()
+        except BrokenPipeError:
+            raise EOFError("the server has ended") from None
+        answer = self._process.stdout.readline()
+        if not answer.endswith(b"\n"):
+            raise EOFError("the server has ended")
+        return answer[:-1].decode()
+
+    def close(self):
+        """Ends the server, and answers its status."""
+        self._process.stdin.close()
+        self._process.stdout.close()
+        return self._process.wait()
+
+
+def expect(answer, wanted):
+    if answer != wanted:
+        sys.exit("answered %r where %r was wanted" % (answer, wanted))
+
+
+def main(program, checks):
+    files, user = 16, "S-1-5-21-1-2-3-1001"
+    server = Server(program)
+    expect(server.ask("open 1 O:BAG:SYD:"), "opened 1")
+    for number in range(files):
+        expect(server.ask("addo /file%d O:BAG:SYD:(A;;0x%x;;;BU)" % (number, 1 << number)), "ok")
+    expect(server.ask("publish"), "published %d" % files)
+    began = time.monotonic()
+    for turn in range(checks):
+        number, bit = turn % files, turn // files % files
+        verdict = "granted" if number == bit else "denied"
+        answer = server.ask("check 0 /file%d %s 0x%x BU" % (number, user, 1 << bit))
+        expect(answer, "seen %d %s 0x%x" % (files, verdict, 1 << bit))
+    seconds = time.monotonic() - began
+    if server.close() != 0:
+        sys.exit("the server ended badly")
+    print("%d checks, each answered before the next was asked: %.2f s" % (checks, seconds))
+
+
+if __name__ == "__main__":
+    words = sys.argv[1:]
+    if len(words) not in (1, 2) or not all(word.isdecimal() for word in words[1:]):
+        sys.exit(__doc__)
+    main(words[0], int(words[1]) if words[1:] else 10000)

@@ -1,0 +1,25 @@
+# shellcheck shell=bash
+# Asks `sdstore serve` from Bash: source this, then `serve_with PROGRAM`, and `ask LINE` for each line of a script. The
+# answer stands in `answer`. `ask` fails where the line is no question or the program has ended; `end_serving` ends it.
+
+# serve_with PROGRAM: starts it.
+serve_with() {
+    coproc SERVING { exec "$1" serve; }
+}
+
+# ask LINE: sets `answer` to what the line is answered by.
+ask() {
+    answer=
+    # One line alone is a question; a silent one has no answer to wait for.
+    case $1 in
+    '' | '#'* | *$'\n'* | *$'\r') return 2 ;;
+    esac
+    printf '%s\n' "$1" >&"${SERVING[1]}" && IFS= read -r answer <&"${SERVING[0]}"
+}
+
+# end_serving: no more lines come. Answers the program's status.
+end_serving() {
+    local ending=$SERVING_PID
+    exec {SERVING[1]}>&-
+    wait "$ending"
+}
