@@ -1,19 +1,25 @@
 -- The proofs of the laws.
-use Rattle.std.proofs.Common.{◌≡◌, ℕ, List, [], ◌∷◌, true, false, Option, Some, None, refl, arith}
-use Rattle.std.specs.Prelude.{option_map}
+use Rattle.std.proofs.Common.{◌≡◌, ℕ, List, [], ◌∷◌, Bool, true, false, Option, Some, None, refl, arith}
+use Rattle.std.specs.Prelude.{option_map, option_and_then, if◌then◌else◌}
 use Rattle.std.specs.Borrow.{Bor}
-use Rattle.sd_tool.specs.CommandLine.{InvocationValue, Audit as Audits, arguments_in, command_named, command_on, workers_of}
-use Rattle.sd_tool.specs.Laws.{is_shown, HelpStandsAlone, DashesKeepTexts}
+use Rattle.sd_tool.specs.CommandLine.{InvocationValue, CommandLineValue, Audit as Audits, arguments_in, behind_options, command_in, command_named, command_on, run_by, takes, with_options, workers_of}
+use Rattle.sd_tool.specs.Laws.{is_shown, shows, HelpStandsAlone, DashesKeepTexts, DashesKeepTextsOfWhy, OptionKeepsTexts}
+use Rattle.sd_tool.specs.Options.{no_options, options_in}
+use Rattle.sd_tool.specs.declared.options.Options.{Options}
 use Rattle.sd_tool.specs.declared.command_line.CommandName.{CommandName}
-use Rattle.sd_tool.specs.declared.command_line.CommandName.TheVariants.{Verdict, Why, Lint, Print, ToBinary, FromBinary, Script, Audit}
+use Rattle.sd_tool.specs.declared.command_line.CommandName.TheVariants.{Verdict, Why, Lint, Print, ToBinary, FromBinary, Script, Serve, Audit}
+
+abbrev some_shown : Option InvocationValue → Bool
+some_shown None = false
+some_shown (Some invocation) = is_shown invocation
 
 -- an audit is neither help nor the version, whatever its number
-audit_runs : (workers : Option ℕ) → is_shown (option_map Audits workers) ≡ true → ⊥
+audit_runs : (workers : Option ℕ) → some_shown (option_map Audits workers) ≡ true → ⊥
 audit_runs (Some n) h = cc
 audit_runs None h = cc
 
 -- a command with arguments is neither help nor the version
-command_runs : (command : CommandName) (arguments : List (Bor (List ℕ))) → is_shown (command_on command arguments) ≡ true → ⊥
+command_runs : (command : CommandName) (arguments : List (Bor (List ℕ))) → some_shown (command_on command arguments) ≡ true → ⊥
 command_runs Verdict [] h = cc
 command_runs Verdict (a ∷ []) h = cc
 command_runs Verdict (a ∷ b ∷ []) h = cc
@@ -36,16 +42,33 @@ command_runs FromBinary (a ∷ []) h = cc
 command_runs FromBinary (a ∷ b ∷ rest) h = cc
 command_runs Script [] h = cc
 command_runs Script (a ∷ rest) h = cc
+command_runs Serve [] h = cc
+command_runs Serve (a ∷ rest) h = cc
 command_runs Audit [] h = cc
 command_runs Audit (a ∷ []) h = audit_runs (workers_of a.now) h
 command_runs Audit (a ∷ b ∷ rest) h = cc
 
--- nor is what several words behind a first one make
-several_run : (named : Option CommandName) (arguments : List (Bor (List ℕ))) (otherwise : Option InvocationValue)
-    → is_shown otherwise ≡ false
-    → is_shown (elim named [ Some command ↦ command_on command arguments | None ↦ otherwise ]) ≡ true → ⊥
-several_run (Some command) arguments otherwise none h = command_runs command arguments h
-several_run None arguments otherwise none h = cc
+-- nor is what stands behind options
+shown_or_not : (invocation : Option InvocationValue) (options : Options)
+    → (some_shown invocation ≡ true → ⊥) → shows (option_and_then (with_options options) invocation) ≡ true → ⊥
+shown_or_not None options none h = cc
+shown_or_not (Some invocation) options none h = by_test (takes invocation options) h where
+  by_test : (test : Bool) → shows (if test then Some (record { options = options; invocation = invocation }) else None) ≡ true → ⊥
+  by_test true h = none h
+  by_test false h = cc
+
+named_runs : (named : Option CommandName) (arguments : List (Bor (List ℕ)))
+    → some_shown (option_and_then (λ command. command_on command arguments) named) ≡ true → ⊥
+named_runs (Some command) arguments h = command_runs command arguments h
+named_runs None arguments h = cc
+
+words_run : (words : List (Bor (List ℕ))) → some_shown (command_in words) ≡ true → ⊥
+words_run [] h = cc
+words_run (word ∷ words) h = named_runs (command_named word.now) (arguments_in words) h
+
+options_run : (read : Option (Options × List (Bor (List ℕ)))) → shows (option_and_then behind_options read) ≡ true → ⊥
+options_run None h = cc
+options_run (Some (options, words)) h = shown_or_not (command_in words) options (words_run words) h
 
 pub help_stands_alone : HelpStandsAlone
 help_stands_alone [] h = omega arith
@@ -53,7 +76,13 @@ help_stands_alone (name ∷ []) h = omega arith
 help_stands_alone (name ∷ word ∷ []) h = omega arith
 help_stands_alone (name ∷ word ∷ next ∷ []) h = omega arith
 help_stands_alone (name ∷ word ∷ next ∷ other ∷ words) h =
-    absurd (several_run (command_named word.now) (arguments_in (next ∷ other ∷ words)) None refl h)
+    absurd (options_run (options_in no_options (word ∷ next ∷ other ∷ words)) h)
 
 pub dashes_keep_texts : DashesKeepTexts
 dashes_keep_texts name command dashes sddl user mask words verdict dash = rw (verdict, dash) refl
+
+pub dashes_keep_texts_of_why : DashesKeepTextsOfWhy
+dashes_keep_texts_of_why name command dashes sddl user mask words why dash = rw (why, dash) refl
+
+pub option_keeps_texts : OptionKeepsTexts
+option_keeps_texts name option command dashes sddl user mask words names why dash = rw (names, why, dash, why) refl

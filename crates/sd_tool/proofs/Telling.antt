@@ -1,13 +1,13 @@
 -- What is told of a failure.
-use Rattle.std.proofs.Common.{◌≡◌, ℕ, Bool, List, [], Option, Result, Ok, Err, sym, ap, append-nil, arith}
-use Rattle.std.specs.Prelude.{◌||◌, OnOk, OnErr}
-use Rattle.std.specs.Io.KnownBytes.{Appends}
+use Rattle.std.proofs.Common.{◌≡◌, ℕ, Bool, List, [], Option, Result, Ok, Err, sym, ap, append-nil, inl, inr, arith}
+use Rattle.std.specs.Prelude.{◌||◌, ◌⊎◌, OnOk, OnErr}
+use Rattle.std.specs.Io.KnownBytes.{Appends, Keeps}
 use Rattle.std.specs.Borrow.{Bor}
 use Rattle.sd_stream.specs.Whole.{AppendsBeginning, ReadsPart}
 use Rattle.sd_stream.specs.declared.error.RunError.{RunError}
-use Rattle.sd_stream.specs.declared.error.RunError.TheVariants.{TooLong, Thread}
+use Rattle.sd_stream.specs.declared.error.RunError.TheVariants.{Read, TooLong, Write, Memory, Thread}
 use Rattle.sd_tool.specs.CommandLine.{IsAudit}
-use Rattle.sd_tool.specs.Output.{IsDue, blames_reader, blames_writer, error_line, failure_text}
+use Rattle.sd_tool.specs.Output.{AppendsPartOfAnswer, IsDue, LeavesAnswer, LeavesAtFailure, LeavesServed, blames_reader, blames_writer, error_line, failure_text}
 use Rattle.sd_tool.specs.Status.{failure_status}
 use Rattle.sd_tool.specs.declared.answer.Outcome.{Outcome}
 use Rattle.sd_tool.specs.declared.failure.Failure.{Failure}
@@ -41,3 +41,22 @@ told_error (Run error) status words rb ra wb wa old new errors grown text writte
   },
   rw (← line) (begun written errors grown text whole part),
 )
+
+-- where a run ended early nothing was written, or a beginning of the answer, or what was answered line by line
+abbrev Left : List (Bor (List ℕ)) → Option (List ℕ) → Option (List ℕ) → Option (List ℕ) → Option (List ℕ) → Type 0
+Left words input left old new =
+    Keeps old new ⊎ (AppendsPartOfAnswer words input old new ⊎ ((error : RunError) × LeavesServed words input left old new error))
+
+answer_left : (words : List (Bor (List ℕ))) (input left old new : Option (List ℕ)) (error : RunError)
+    → LeavesAnswer words input old new error → Left words input left old new
+answer_left words input left old new Read leaves = inl leaves
+answer_left words input left old new TooLong leaves = inl leaves
+answer_left words input left old new Write leaves = inr (inl leaves)
+answer_left words input left old new Memory leaves = inl leaves
+answer_left words input left old new Thread leaves = inl leaves
+
+pub failure_left : (failure : Failure) (words : List (Bor (List ℕ))) (input left old new : Option (List ℕ))
+    → LeavesAtFailure words input left old new failure → Left words input left old new
+failure_left (Unread reason) words input left old new leaves = inl leaves.1
+failure_left (Run error) words input left old new (inl leaves) = answer_left words input left old new error leaves
+failure_left (Run error) words input left old new (inr served) = inr (inr (error, served))

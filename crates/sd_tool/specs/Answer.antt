@@ -24,15 +24,17 @@ use Rattle.sd_check.specs.Check.{verdict}
 use Rattle.sd_check.specs.Dacl.{dacl_entries}
 use Rattle.sd_check.specs.Token.{TokenValue}
 use Rattle.sd_script.specs.Answer.{line, verdict_line, fault_line, sddl_fault_line}
+use Rattle.sd_script.specs.Why.{why_text}
 use Rattle.sd_script.specs.Word.{IsToken, IsNoWordIn, texts}
 use Rattle.sd_script.specs.Output.{Prints}
 use Rattle.sd_script.specs.Run.{IsOutput}
 use Rattle.sd_script_audit.specs.Audit.{PrintsAudit}
-use Rattle.sd_tool.specs.CommandLine.{InvocationValue, Verdict as AsksVerdict, Why as AsksWhy, Lint, Print, ToBinary, FromBinary, Script as AsksScript, Audit as AsksAudit, Help, Version}
+use Rattle.sd_tool.specs.CommandLine.{CommandLineValue, InvocationValue, Verdict as AsksVerdict, Why as AsksWhy, Lint, Print, ToBinary, FromBinary, Script as AsksScript, Serve as AsksServe, Audit as AsksAudit, Help, Version}
 use Rattle.sd_tool.specs.Lint.{dacl_lines, or_clean, lint_outcome}
-use Rattle.sd_tool.specs.Why.{why_text}
+use Rattle.sd_tool.specs.Options.{spelling_of}
 use Rattle.sd_tool.specs.declared.answer.Outcome.{Outcome}
 use Rattle.sd_tool.specs.declared.answer.Outcome.TheVariants.{Done, Refused}
+use Rattle.sd_tool.specs.declared.options.Options.{Options}
 use Rattle.sd_tool.specs.declared.verdict.Form.{Form}
 use Rattle.sd_tool.specs.declared.verdict.Form.TheVariants.{Short, Explained}
 use Rattle.sd_tool.specs.declared.version.TheConstants.{VERSION, KIT}
@@ -66,7 +68,7 @@ IsFault expected printed outcome = (printed ≡ expected) × (outcome ≡ Refuse
 -- the verdict's line, or with it the reasons
 abbrev pub form_text : Form → DescriptorValue → TokenValue → ℕ → List ℕ
 form_text Short d token asked = verdict_line (verdict d.owner (dacl_entries d.dacl) file_mapping token asked)
-form_text Explained d token asked = why_text d token asked
+form_text (Explained spelling) d token asked = why_text spelling d token asked
 
 -- the verdict is printed, in this form
 abbrev pub IsVerdict : Form → DescriptorValue → TokenValue → ℕ → List ℕ → Outcome → Type 0
@@ -143,15 +145,21 @@ AnswersScript input printed outcome = IsOutput Prints input printed × (outcome 
 abbrev pub AnswersAudit : ℕ → Option (List ℕ) → List ℕ → Outcome → Type 0
 AnswersAudit workers input printed outcome = IsOutput (PrintsAudit workers) input printed × (outcome ≡ Done)
 
--- what is printed for an invocation, with this input where it is known, and what came of it; the help's text is `clap`'s
-abbrev pub Answers : Option (List ℕ) → InvocationValue → List ℕ → Outcome → Type 0
-Answers input (AsksVerdict sddl user mask words) printed outcome = AnswersVerdict Short sddl user mask words printed outcome
-Answers input (AsksWhy sddl user mask words) printed outcome = AnswersVerdict Explained sddl user mask words printed outcome
-Answers input (Lint sddl) printed outcome = AnswersLint sddl printed outcome
-Answers input (Print sddl) printed outcome = AnswersPrint sddl printed outcome
-Answers input (ToBinary sddl) printed outcome = AnswersToBinary sddl printed outcome
-Answers input (FromBinary hex) printed outcome = AnswersFromBinary hex printed outcome
-Answers input AsksScript printed outcome = AnswersScript input printed outcome
-Answers input (AsksAudit workers) printed outcome = AnswersAudit workers input printed outcome
-Answers input (Help command) printed outcome = outcome ≡ Done
-Answers input Version printed outcome = IsDone version_lines printed outcome
+-- what is printed for an invocation with these options, with this input where it is known, and what came of it; the help's
+-- text is `clap`'s
+abbrev pub AnswersInvocation : Option (List ℕ) → Options → InvocationValue → List ℕ → Outcome → Type 0
+AnswersInvocation input options (AsksVerdict sddl user mask words) printed outcome = AnswersVerdict Short sddl user mask words printed outcome
+AnswersInvocation input options (AsksWhy sddl user mask words) printed outcome =
+    AnswersVerdict (Explained (spelling_of options)) sddl user mask words printed outcome
+AnswersInvocation input options (Lint sddl) printed outcome = AnswersLint sddl printed outcome
+AnswersInvocation input options (Print sddl) printed outcome = AnswersPrint sddl printed outcome
+AnswersInvocation input options (ToBinary sddl) printed outcome = AnswersToBinary sddl printed outcome
+AnswersInvocation input options (FromBinary hex) printed outcome = AnswersFromBinary hex printed outcome
+AnswersInvocation input options AsksScript printed outcome = AnswersScript input printed outcome
+AnswersInvocation input options AsksServe printed outcome = AnswersScript input printed outcome
+AnswersInvocation input options (AsksAudit workers) printed outcome = AnswersAudit workers input printed outcome
+AnswersInvocation input options (Help command) printed outcome = outcome ≡ Done
+AnswersInvocation input options Version printed outcome = IsDone version_lines printed outcome
+
+abbrev pub Answers : Option (List ℕ) → CommandLineValue → List ℕ → Outcome → Type 0
+Answers input line printed outcome = AnswersInvocation input line.options line.invocation printed outcome

@@ -1,15 +1,18 @@
--- The one reading of a command line: which words run a command, and which ask for help or for the version. Any other
--- words aren't read.
-use Rattle.std.specs.Prelude.{◌≡◌, ℕ, List, [], ◌∷◌, ◌+◌, ◌-◌, ◌*◌, nat_le, Bool, true, false, ◌||◌, ◌&&◌, if◌then◌else◌, Option, Some, None, option_map, codes, bytes_eq}
+-- The one reading of a command line: which words run a command, with which options, and which ask for help or for the
+-- version. Any other words aren't read.
+use Rattle.std.specs.Prelude.{◌≡◌, ℕ, List, [], ◌∷◌, ◌+◌, ◌-◌, ◌*◌, nat_le, Bool, true, false, ◌||◌, ◌&&◌, if◌then◌else◌, Option, Some, None, option_map, option_and_then, not, codes, bytes_eq}
 use Rattle.std.specs.Option.{option_map_or}
 use Rattle.std.specs.Borrow.{Bor}
 use Rattle.std.specs.Char.{is_ascii_digit}
 use Rattle.sd_tool.specs.declared.command_line.CommandName.{CommandName}
 use Rattle.sd_tool.specs.declared.command_line.CommandName.TheVariants as names
+use Rattle.sd_tool.specs.declared.command_line.CommandLine.{CommandLine}
 use Rattle.sd_tool.specs.declared.command_line.Invocation.{Invocation}
 use Rattle.sd_tool.specs.declared.command_line.Invocation.TheVariants as invocations
+use Rattle.sd_tool.specs.declared.options.Options.{Options}
+use Rattle.sd_tool.specs.Options.{no_options, options_in}
 
--- what a command line asks for: a command with its arguments, help on a command or on the program, or the version
+-- what is asked for: a command with its arguments, help on a command or on the program, or the version
 pub data InvocationValue : Type 0 where
   Verdict : List ℕ → List ℕ → List ℕ → List (Bor (List ℕ)) → InvocationValue
   Why : List ℕ → List ℕ → List ℕ → List (Bor (List ℕ)) → InvocationValue
@@ -18,6 +21,7 @@ pub data InvocationValue : Type 0 where
   ToBinary : List ℕ → InvocationValue
   FromBinary : List ℕ → InvocationValue
   Script : InvocationValue
+  Serve : InvocationValue
   Audit : ℕ → InvocationValue
   Help : Option CommandName → InvocationValue
   Version : InvocationValue
@@ -30,9 +34,18 @@ invocation_of (invocations.Print sddl) = Print sddl.now
 invocation_of (invocations.ToBinary sddl) = ToBinary sddl.now
 invocation_of (invocations.FromBinary hex) = FromBinary hex.now
 invocation_of invocations.Script = Script
+invocation_of invocations.Serve = Serve
 invocation_of (invocations.Audit workers) = Audit workers
 invocation_of (invocations.Help command) = Help command
 invocation_of invocations.Version = Version
+
+-- a command line: what it asks for, with which options
+pub record CommandLineValue : Type 0 where
+  pub options : Options
+  pub invocation : InvocationValue
+
+abbrev pub command_line_of : CommandLine → CommandLineValue
+command_line_of line = record { options = line.options; invocation = invocation_of line.invocation }
 
 -- the command that the word names
 abbrev pub command_named : List ℕ → Option CommandName
@@ -44,8 +57,9 @@ command_named word =
     else (if bytes_eq word (codes "tobin") then Some names.ToBinary
     else (if bytes_eq word (codes "frombin") then Some names.FromBinary
     else (if bytes_eq word (codes "script") then Some names.Script
+    else (if bytes_eq word (codes "serve") then Some names.Serve
     else (if bytes_eq word (codes "audit") then Some names.Audit
-    else None)))))))
+    else None))))))))
 
 abbrev pub is_help_flag : List ℕ → Bool
 is_help_flag word = bytes_eq word (codes "-h") || bytes_eq word (codes "--help")
@@ -84,44 +98,81 @@ command_on names.Print (sddl ∷ []) = Some (Print sddl.now)
 command_on names.ToBinary (sddl ∷ []) = Some (ToBinary sddl.now)
 command_on names.FromBinary (hex ∷ []) = Some (FromBinary hex.now)
 command_on names.Script [] = Some Script
+command_on names.Serve [] = Some Serve
 command_on names.Audit (workers ∷ []) = option_map Audit (workers_of workers.now)
 command_on command arguments = None
 
--- a command and the words behind it, which ask for help where they are one of the two flags alone
-abbrev pub with_command : CommandName → List (Bor (List ℕ)) → Option InvocationValue
-with_command command [] = command_on command []
-with_command command (word ∷ []) = if is_help_flag word.now then Some (Help (Some command)) else command_on command (arguments_in (word ∷ []))
-with_command command (word ∷ next ∷ words) = command_on command (arguments_in (word ∷ next ∷ words))
+-- ---- help and the version
 
 -- the help that a word after `help` asks for: on the command that it names, or, as `help` itself, on the program
 abbrev pub help_on : List ℕ → Option InvocationValue
 help_on word = if is_help word then Some (Help None) else option_map (λ command. Help (Some command)) (command_named word)
 
--- a word that is no command, and the words after it
-abbrev pub without_command : List ℕ → List (Bor (List ℕ)) → Option InvocationValue
-without_command word [] =
-    if is_help_flag word || is_help word then Some (Help None)
-    else (if is_version_flag word then Some Version
-    else None)
-without_command word (next ∷ []) = if is_help word then help_on next.now else None
-without_command word (next ∷ other ∷ words) = None
+-- the help that a flag after a command asks for
+abbrev pub flagged_help : List ℕ → List ℕ → Option InvocationValue
+flagged_help word flag = if is_help_flag flag then option_map (λ command. Help (Some command)) (command_named word) else None
 
-abbrev behind_name : List ℕ → List (Bor (List ℕ)) → Option InvocationValue
-behind_name word words = elim (command_named word) [ Some command ↦ with_command command words | None ↦ without_command word words ]
+-- the help or the version that the words behind the program's name ask for, one or two
+abbrev pub shown_by : List (Bor (List ℕ)) → Option InvocationValue
+shown_by [] = None
+shown_by (word ∷ []) =
+    if is_help_flag word.now || is_help word.now then Some (Help None)
+    else (if is_version_flag word.now then Some Version
+    else None)
+shown_by (word ∷ next ∷ []) = if is_help word.now then help_on next.now else flagged_help word.now next.now
+shown_by (word ∷ next ∷ other ∷ words) = None
+
+-- ---- a command with its options
+
+-- whether each of the options is for what is asked: names of rights are told where a verdict is explained
+abbrev pub takes : InvocationValue → Options → Bool
+takes (Why sddl user mask words) options = true
+takes (Verdict sddl user mask words) options = not options.names
+takes (Lint sddl) options = not options.names
+takes (Print sddl) options = not options.names
+takes (ToBinary sddl) options = not options.names
+takes (FromBinary hex) options = not options.names
+takes Script options = not options.names
+takes Serve options = not options.names
+takes (Audit workers) options = not options.names
+takes (Help command) options = not options.names
+takes Version options = not options.names
+
+abbrev pub with_options : Options → InvocationValue → Option CommandLineValue
+with_options options invocation = if takes invocation options then Some (record { options = options; invocation = invocation }) else None
+
+-- the command that the words begin with, and its arguments
+abbrev pub command_in : List (Bor (List ℕ)) → Option InvocationValue
+command_in [] = None
+command_in (word ∷ words) = option_and_then (λ command. command_on command (arguments_in words)) (command_named word.now)
+
+-- a command that takes the options before it
+abbrev pub behind_options : Options × List (Bor (List ℕ)) → Option CommandLineValue
+behind_options (options, words) = option_and_then (with_options options) (command_in words)
+
+abbrev pub run_by : List (Bor (List ℕ)) → Option CommandLineValue
+run_by words = option_and_then behind_options (options_in no_options words)
+
+-- ---- the reading
+
+-- what the words behind the program's name ask for
+abbrev behind_name : List (Bor (List ℕ)) → Option CommandLineValue
+behind_name words =
+    elim (shown_by words) [ Some shown ↦ Some (record { options = no_options; invocation = shown }) | None ↦ run_by words ]
 
 -- what the words ask for, of which the first is the program's name
-abbrev pub reading : List (Bor (List ℕ)) → Option InvocationValue
+abbrev pub reading : List (Bor (List ℕ)) → Option CommandLineValue
 reading [] = None
-reading (name ∷ []) = None
-reading (name ∷ word ∷ words) = behind_name word.now words
+reading (name ∷ words) = behind_name words
 
 -- the words aren't a command line
 abbrev pub IsUnread : List (Bor (List ℕ)) → Type 0
 IsUnread words = reading words ≡ None
 
--- whether a script is asked for, or its audit: what is answered from the input
+-- whether a script is asked for, at once or line by line, or its audit: what is answered from the input
 abbrev pub is_script : InvocationValue → Bool
 is_script Script = true
+is_script Serve = true
 is_script (Audit workers) = true
 is_script (Verdict sddl user mask words) = false
 is_script (Why sddl user mask words) = false
@@ -132,10 +183,14 @@ is_script (FromBinary hex) = false
 is_script (Help command) = false
 is_script Version = false
 
--- the words ask for a script or for an audit
+-- the words ask for what is answered from the input
 abbrev pub asks_input : List (Bor (List ℕ)) → Bool
-asks_input words = option_map_or is_script (reading words) false
+asks_input words = option_map_or (λ line. is_script line.invocation) (reading words) false
 
 -- the words ask for an audit
 abbrev pub IsAudit : List (Bor (List ℕ)) → Type 0
-IsAudit words = (workers : ℕ) × (reading words ≡ Some (Audit workers))
+IsAudit words = (workers : ℕ) × (option_map (λ line. line.invocation) (reading words) ≡ Some (Audit workers))
+
+-- the words ask for a script that is answered line by line
+abbrev pub IsServe : List (Bor (List ℕ)) → Type 0
+IsServe words = option_map (λ line. line.invocation) (reading words) ≡ Some Serve

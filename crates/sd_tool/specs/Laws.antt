@@ -1,28 +1,47 @@
 -- What follows from the reading of a command line.
 use Rattle.std.specs.Prelude.{◌≡◌, ℕ, ◌≤◌, List, ◌∷◌, length, Bool, true, false, Option, Some, None, codes}
+use Rattle.std.specs.Option.{option_map_or}
 use Rattle.std.specs.Borrow.{Bor}
-use Rattle.sd_tool.specs.CommandLine.{InvocationValue, Verdict, Why, Lint, Print, ToBinary, FromBinary, Script, Audit, Help, Version, reading}
+use Rattle.sd_tool.specs.CommandLine.{InvocationValue, Verdict, Why, Lint, Print, ToBinary, FromBinary, Script, Serve, Audit, Help, Version, CommandLineValue, reading}
+use Rattle.sd_tool.specs.Options.{no_options}
 
 -- whether what was read is help or the version
-abbrev pub is_shown : Option InvocationValue → Bool
-is_shown (Some (Help command)) = true
-is_shown (Some Version) = true
-is_shown (Some (Verdict sddl user mask words)) = false
-is_shown (Some (Why sddl user mask words)) = false
-is_shown (Some (Lint sddl)) = false
-is_shown (Some (Print sddl)) = false
-is_shown (Some (ToBinary sddl)) = false
-is_shown (Some (FromBinary hex)) = false
-is_shown (Some Script) = false
-is_shown (Some (Audit workers)) = false
-is_shown None = false
+abbrev pub is_shown : InvocationValue → Bool
+is_shown (Help command) = true
+is_shown Version = true
+is_shown (Verdict sddl user mask words) = false
+is_shown (Why sddl user mask words) = false
+is_shown (Lint sddl) = false
+is_shown (Print sddl) = false
+is_shown (ToBinary sddl) = false
+is_shown (FromBinary hex) = false
+is_shown Script = false
+is_shown Serve = false
+is_shown (Audit workers) = false
+
+abbrev pub shows : Option CommandLineValue → Bool
+shows read = option_map_or (λ line. is_shown line.invocation) read false
 
 -- help and the version answer two words behind the program's name at most
 abbrev pub HelpStandsAlone : Type 0
-HelpStandsAlone = (words : List (Bor (List ℕ))) → is_shown (reading words) ≡ true → length words ≤ 3
+HelpStandsAlone = (words : List (Bor (List ℕ))) → shows (reading words) ≡ true → length words ≤ 3
 
--- behind `verdict --` each word is the argument of its place, whatever its text
+-- behind `verdict --` and `why --` each word is the argument of its place, whatever its text
 abbrev pub DashesKeepTexts : Type 0
 DashesKeepTexts = (name command dashes sddl user mask : Bor (List ℕ)) (words : List (Bor (List ℕ)))
     → command.now ≡ codes "verdict" → dashes.now ≡ codes "--"
-    → reading (name ∷ command ∷ dashes ∷ sddl ∷ user ∷ mask ∷ words) ≡ Some (Verdict sddl.now user.now mask.now words)
+    → reading (name ∷ command ∷ dashes ∷ sddl ∷ user ∷ mask ∷ words)
+    ≡ Some (record { options = no_options; invocation = Verdict sddl.now user.now mask.now words })
+
+abbrev pub DashesKeepTextsOfWhy : Type 0
+DashesKeepTextsOfWhy = (name command dashes sddl user mask : Bor (List ℕ)) (words : List (Bor (List ℕ)))
+    → command.now ≡ codes "why" → dashes.now ≡ codes "--"
+    → reading (name ∷ command ∷ dashes ∷ sddl ∷ user ∷ mask ∷ words)
+    ≡ Some (record { options = no_options; invocation = Why sddl.now user.now mask.now words })
+
+-- the same with an option before the command
+abbrev pub OptionKeepsTexts : Type 0
+OptionKeepsTexts = (name option command dashes sddl user mask : Bor (List ℕ)) (words : List (Bor (List ℕ)))
+    → option.now ≡ codes "--names" → command.now ≡ codes "why" → dashes.now ≡ codes "--"
+    → reading (name ∷ option ∷ command ∷ dashes ∷ sddl ∷ user ∷ mask ∷ words)
+    ≡ Some (record { options = record { names = true }; invocation = Why sddl.now user.now mask.now words })

@@ -1,7 +1,7 @@
 pub mod Answer
 pub mod CommandLine
 pub mod Laws
+pub mod Options
 pub mod Output
 pub mod Status
-pub mod Why
 pub mod Lint

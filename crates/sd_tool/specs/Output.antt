@@ -1,13 +1,14 @@
 -- What the program leaves in a writer whose bytes are known.
-use Rattle.std.specs.Prelude.{◌≡◌, ℕ, Bool, false, ◌||◌, List, Option, Some, Result, Ok, Err, codes, string_bytes}
+use Rattle.std.specs.Prelude.{◌≡◌, ◌⊎◌, ℕ, Bool, false, ◌||◌, List, Option, Some, Result, Ok, Err, codes, string_bytes}
 use Rattle.std.specs.Io.KnownBytes.{Appends, Keeps}
 use Rattle.std.specs.Borrow.{Bor}
 use Rattle.sd_stream.specs.Whole.{AppendsBeginning, ReadsPart, is_read_error, is_write_error}
 use Rattle.sd_stream.specs.declared.error.RunError.{RunError}
 use Rattle.sd_stream.specs.declared.error.RunError.TheVariants.{Read, TooLong, Write, Memory, Thread}
 use Rattle.sd_script.specs.Answer.{line}
+use Rattle.sd_script_serve.specs.Serve.{LeavesAnswers}
 use Rattle.sd_tool.specs.Answer.{Answers}
-use Rattle.sd_tool.specs.CommandLine.{InvocationValue, reading, IsAudit, IsUnread}
+use Rattle.sd_tool.specs.CommandLine.{CommandLineValue, reading, IsAudit, IsServe, IsUnread}
 use Rattle.sd_tool.specs.Status.{outcome_status}
 use Rattle.sd_tool.specs.declared.answer.Outcome.{Outcome}
 use Rattle.sd_tool.specs.declared.failure.Failure.{Failure}
@@ -15,31 +16,40 @@ use Rattle.sd_tool.specs.declared.failure.Failure.TheVariants.{Unread, Run}
 
 -- known bytes grow by the whole answer to what the words ask for, with this input, which ends with this status
 pub record AppendsAnswer (words : List (Bor (List ℕ))) (input old new : Option (List ℕ)) (status : ℕ) : Type 0 where
-  pub invocation : InvocationValue
+  pub command_line : CommandLineValue
   pub text : List ℕ
   pub outcome : Outcome
-  pub asked : reading words ≡ Some invocation
-  pub answers : Answers input invocation text outcome
+  pub asked : reading words ≡ Some command_line
+  pub answers : Answers input command_line text outcome
   pub ended : status ≡ outcome_status outcome
   pub appended : Appends old new text
 
 -- known bytes grow by a beginning of the answer to what the words ask for
 pub record AppendsPartOfAnswer (words : List (Bor (List ℕ))) (input old new : Option (List ℕ)) : Type 0 where
-  pub invocation : InvocationValue
+  pub command_line : CommandLineValue
   pub text : List ℕ
   pub outcome : Outcome
-  pub asked : reading words ≡ Some invocation
-  pub answers : Answers input invocation text outcome
+  pub asked : reading words ≡ Some command_line
+  pub answers : Answers input command_line text outcome
   pub beginning : AppendsBeginning old new text
 
--- nothing was written before a failure, but for a write's own
-abbrev pub LeavesAtFailure : List (Bor (List ℕ)) → Option (List ℕ) → Option (List ℕ) → Option (List ℕ) → Failure → Type 0
-LeavesAtFailure words input old new (Unread reason) = IsUnread words × Keeps old new
-LeavesAtFailure words input old new (Run Read) = Keeps old new
-LeavesAtFailure words input old new (Run TooLong) = Keeps old new
-LeavesAtFailure words input old new (Run Write) = AppendsPartOfAnswer words input old new
-LeavesAtFailure words input old new (Run Memory) = Keeps old new
-LeavesAtFailure words input old new (Run Thread) = Keeps old new
+-- nothing was written before an error, but for a write's own
+abbrev pub LeavesAnswer : List (Bor (List ℕ)) → Option (List ℕ) → Option (List ℕ) → Option (List ℕ) → RunError → Type 0
+LeavesAnswer words input old new Read = Keeps old new
+LeavesAnswer words input old new TooLong = Keeps old new
+LeavesAnswer words input old new Write = AppendsPartOfAnswer words input old new
+LeavesAnswer words input old new Memory = Keeps old new
+LeavesAnswer words input old new Thread = Keeps old new
+
+-- line by line, what was answered until then
+pub record LeavesServed (words : List (Bor (List ℕ))) (input left old new : Option (List ℕ)) (error : RunError) : Type 0 where
+  pub asked : IsServe words
+  pub answers : LeavesAnswers input left old new error
+
+-- what stands where there is no answer, or not the whole of it
+abbrev pub LeavesAtFailure : List (Bor (List ℕ)) → Option (List ℕ) → Option (List ℕ) → Option (List ℕ) → Option (List ℕ) → Failure → Type 0
+LeavesAtFailure words input left old new (Unread reason) = IsUnread words × Keeps old new
+LeavesAtFailure words input left old new (Run error) = LeavesAnswer words input old new error ⊎ LeavesServed words input left old new error
 
 -- what standard error gets of an error
 abbrev pub error_line : RunError → List ℕ

@@ -2,10 +2,10 @@
 ghost use Rattle.std.specs.Prelude.{◌≡◌, ℕ, List, Option, false, IfErr, IfOk, string_bytes};
 ghost use Rattle.sd_script.specs.Answer.{fault_line as fault_line_of, sddl_fault_line as sddl_fault_line_of};
 ghost use Rattle.sd_tool.specs.Answer.{Answers, IsFault};
-ghost use Rattle.sd_tool.specs.CommandLine.{invocation_of, is_script};
+ghost use Rattle.sd_tool.specs.CommandLine.{command_line_of, invocation_of, is_script};
 ghost use Rattle.sd_tool.specs.Status.{outcome_status};
 
-use crate::command_line::Invocation;
+use crate::command_line::{CommandLine, Invocation};
 use crate::convert::{answer_from_binary, answer_print, answer_to_binary};
 use crate::failure::Failure;
 use crate::lint::answer_lint;
@@ -45,13 +45,13 @@ pub(crate) struct Answer {
     pub(crate) outcome: Outcome,
 }
 
-/// The answer to an invocation that needs no input.
-pub(crate) fn answer_to(alloc: Global, invocation: Invocation<'_>) -> Result<Answer, Failure>
-    requires { is_script (invocation_of invocation) ≡ false }
-    ensures ok { (input : Option (List ℕ)) → IfOk result (λ answer. Answers input (invocation_of invocation.entry) (string_bytes answer.text) answer.outcome) }
+/// The answer to a command line that needs no input.
+pub(crate) fn answer_to(alloc: Global, line: CommandLine<'_>) -> Result<Answer, Failure>
+    requires { is_script (invocation_of line.invocation) ≡ false }
+    ensures ok { (input : Option (List ℕ)) → IfOk result (λ answer. Answers input (command_line_of line.entry) (string_bytes answer.text) answer.outcome) }
     ensures err { IfErr result (λ failure. failure ≡ Failure.Run RunError.Memory) }
 {
-    match invocation {
+    match line.invocation {
         Invocation::Verdict {
             sddl,
             user,
@@ -63,12 +63,15 @@ pub(crate) fn answer_to(alloc: Global, invocation: Invocation<'_>) -> Result<Ans
             user,
             mask,
             words,
-        } => answer_verdict(alloc, Form::Explained, sddl, user, mask, words),
+        } => {
+            let form = Form::Explained(line.options.spelling());
+            answer_verdict(alloc, form, sddl, user, mask, words)
+        }
         Invocation::Lint { sddl } => answer_lint(alloc, sddl),
         Invocation::Print { sddl } => answer_print(alloc, sddl),
         Invocation::ToBinary { sddl } => answer_to_binary(alloc, sddl),
         Invocation::FromBinary { hex } => answer_from_binary(alloc, hex),
-        Invocation::Script | Invocation::Audit { .. } => unreachable!(),
+        Invocation::Script | Invocation::Serve | Invocation::Audit { .. } => unreachable!(),
         Invocation::Help { command } => Ok(Answer {
             text: help(alloc, command)?,
             outcome: Outcome::Done,

@@ -1,6 +1,8 @@
 //! The reading of a command line: what its words ask for.
-ghost use Rattle.std.specs.Prelude.{◌≡◌, option_map};
-ghost use Rattle.sd_tool.specs.CommandLine.{arguments_in as arguments_of, command_named, command_on as command_of, count_of, help_on as help_of, invocation_of, is_help_flag as is_help_flag_of, reading, with_command, without_command, workers_of};
+ghost use Rattle.std.specs.Prelude.{◌≡◌, Some, option_map};
+ghost use Rattle.sd_tool.specs.CommandLine.{Help, arguments_in as arguments_of, command_in as command_at, command_line_of, command_named, command_on as command_of, count_of, help_on as help_of, invocation_of, is_help_flag as is_help_flag_of, reading, run_by as run_of, shown_by as shown_of, takes, workers_of};
+
+use crate::options::{Options, options_in};
 
 /// A command of the program.
 #[derive(Clone, Copy, Debug, PartialEq, Eq)]
@@ -19,11 +21,20 @@ pub(crate) enum CommandName {
     FromBinary,
     /// `script`.
     Script,
+    /// `serve`.
+    Serve,
     /// `audit`.
     Audit,
 }
 
-/// What a command line asks for.
+/// What a command line asks for, and with which options.
+#[derive(Clone, Copy, Debug)]
+pub(crate) struct CommandLine<'a> {
+    pub(crate) options: Options,
+    pub(crate) invocation: Invocation<'a>,
+}
+
+/// What is asked for.
 #[derive(Clone, Copy, Debug)]
 pub(crate) enum Invocation<'a> {
     /// Whether a descriptor grants a mask to a user, whose groups and privileges the words tell.
@@ -58,6 +69,8 @@ pub(crate) enum Invocation<'a> {
     },
     /// The output of the script on standard input.
     Script,
+    /// The same, line by line.
+    Serve,
     /// The output of its audit by so many workers.
     Audit {
         workers: u64,
@@ -82,44 +95,79 @@ impl CommandName {
             "tobin" => Some(CommandName::ToBinary),
             "frombin" => Some(CommandName::FromBinary),
             "script" => Some(CommandName::Script),
+            "serve" => Some(CommandName::Serve),
             "audit" => Some(CommandName::Audit),
             _ => None,
         }
     }
 }
 
+impl Invocation<'_> {
+    /// Whether each of the options is for what is asked.
+    fn takes(self, options: Options) -> bool
+        ensures { result ≡ takes (invocation_of self.entry) options }
+    {
+        match self {
+            Invocation::Why { .. } => true,
+            _ => !options.names,
+        }
+    }
+}
+
 /// What the words ask for, of which the first is the program's name. `None`: they aren't a command line.
-pub(crate) fn read_command_line<'a>(words: &'a [&'a str]) -> Option<Invocation<'a>>
-    ensures { option_map invocation_of result ≡ reading words.entry.now }
+pub(crate) fn read_command_line<'a>(words: &'a [&'a str]) -> Option<CommandLine<'a>>
+    ensures { option_map command_line_of result ≡ reading words.entry.now }
 {
     match words {
-        [_, word, words @ ..] => match CommandName::named(word) {
-            Some(command) => read_with_command(command, words),
-            None => read_without_command(word, words),
+        [] => None,
+        [_, words @ ..] => match shown_by(words) {
+            Some(invocation) => Some(CommandLine {
+                options: Options::none(),
+                invocation,
+            }),
+            None => run_by(words),
         },
+    }
+}
+
+/// The help or the version that the words behind the program's name ask for.
+fn shown_by<'a>(words: &[&str]) -> Option<Invocation<'a>>
+    ensures { option_map invocation_of result ≡ shown_of words.now }
+{
+    match words {
+        [word] if is_help_flag(word) || *word == "help" => Some(Invocation::Help { command: None }),
+        [word] if *word == "-V" || *word == "--version" => Some(Invocation::Version),
+        [word, next] if *word == "help" => help_on(next),
+        [word, flag] if is_help_flag(flag) => help_on_command(word),
         _ => None,
     }
 }
 
-fn read_with_command<'a>(command: CommandName, words: &'a [&'a str]) -> Option<Invocation<'a>>
-    ensures { option_map invocation_of result ≡ with_command command words.entry.now }
+/// A command behind options that it takes.
+fn run_by<'a>(words: &'a [&'a str]) -> Option<CommandLine<'a>>
+    ensures { option_map command_line_of result ≡ run_of words.entry.now }
 {
-    match words {
-        [word] if is_help_flag(word) => Some(Invocation::Help {
-            command: Some(command),
-        }),
-        _ => command_on(command, arguments_in(words)),
+    let (options, words) = options_in(words)?;
+    let invocation = command_in(words)?;
+    if !invocation.takes(options) {
+        return None;
     }
+    Some(CommandLine {
+        options,
+        invocation,
+    })
 }
 
-fn read_without_command<'a>(word: &str, words: &[&str]) -> Option<Invocation<'a>>
-    ensures { option_map invocation_of result ≡ without_command word.now words.now }
+/// The command that the words begin with, and its arguments.
+fn command_in<'a>(words: &'a [&'a str]) -> Option<Invocation<'a>>
+    ensures { option_map invocation_of result ≡ command_at words.entry.now }
 {
     match words {
-        [] if is_help_flag(word) || word == "help" => Some(Invocation::Help { command: None }),
-        [] if word == "-V" || word == "--version" => Some(Invocation::Version),
-        [next] if word == "help" => help_on(next),
-        _ => None,
+        [] => None,
+        [word, words @ ..] => match CommandName::named(word) {
+            Some(command) => command_on(command, arguments_in(words)),
+            None => None,
+        },
     }
 }
 
@@ -130,6 +178,13 @@ fn help_on<'a>(word: &str) -> Option<Invocation<'a>>
     if word == "help" {
         return Some(Invocation::Help { command: None });
     }
+    help_on_command(word)
+}
+
+/// The help on the command that the word names.
+fn help_on_command<'a>(word: &str) -> Option<Invocation<'a>>
+    ensures { option_map invocation_of result ≡ option_map (λ command. Help (Some command)) (command_named word.now) }
+{
     match CommandName::named(word) {
         Some(command) => Some(Invocation::Help {
             command: Some(command),
@@ -175,6 +230,7 @@ fn command_on<'a>(command: CommandName, arguments: &'a [&'a str]) -> Option<Invo
         (CommandName::ToBinary, [sddl]) => Some(Invocation::ToBinary { sddl }),
         (CommandName::FromBinary, [hex]) => Some(Invocation::FromBinary { hex }),
         (CommandName::Script, []) => Some(Invocation::Script),
+        (CommandName::Serve, []) => Some(Invocation::Serve),
         (CommandName::Audit, [workers]) => match workers_in(workers) {
             Some(workers) => Some(Invocation::Audit { workers }),
             None => None,

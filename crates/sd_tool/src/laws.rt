@@ -1,12 +1,14 @@
 //! What follows from the reading of a command line. Each law is the contract of a function that does nothing.
-ghost use Rattle.sd_tool.specs.Laws.{DashesKeepTexts, HelpStandsAlone};
+ghost use Rattle.sd_tool.specs.Laws.{DashesKeepTexts, DashesKeepTextsOfWhy, HelpStandsAlone, OptionKeepsTexts};
 
 /// Help and the version answer two words behind the program's name at most, so no verdict's words ask for them.
 pub fn help_stands_alone()
     ensures { HelpStandsAlone }
 {}
 
-/// Behind `verdict --` each word is the argument of its place, whatever its text.
+/// Behind `verdict --` and `why --` each word is the argument of its place, whatever its text: an option too.
 pub fn dashes_keep_texts()
-    ensures { DashesKeepTexts }
+    ensures verdict { DashesKeepTexts }
+    ensures why { DashesKeepTextsOfWhy }
+    ensures with_option { OptionKeepsTexts }
 {}

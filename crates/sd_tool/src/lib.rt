@@ -17,12 +17,12 @@ mod convert;
 mod failure;
 mod laws;
 mod lint;
+mod options;
 mod program;
 mod shown;
 mod usage;
 mod verdict;
 mod version;
-mod why;
 
 pub use laws::{dashes_keep_texts, help_stands_alone};
 pub use program::drive;

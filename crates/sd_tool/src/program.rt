@@ -5,7 +5,7 @@ ghost use Rattle.sd_stream.specs.Watched.{has_failed, inner_of};
 ghost use Rattle.sd_stream.specs.Whole.{AppendsBeginning, ReadsPart};
 ghost use Rattle.sd_stream.specs.declared.error.RunError.{RunError as Error};
 ghost use Rattle.sd_tool.specs.CommandLine.{IsAudit, IsUnread, asks_input};
-ghost use Rattle.sd_tool.specs.Output.{AppendsAnswer, AppendsPartOfAnswer, IsDue, LeavesAtFailure, blames_reader, blames_writer, error_line};
+ghost use Rattle.sd_tool.specs.Output.{AppendsAnswer, AppendsPartOfAnswer, IsDue, LeavesAtFailure, LeavesServed, blames_reader, blames_writer, error_line};
 ghost use Rattle.sd_tool.specs.Status.{outcome_status};
 
 use crate::answer::{Answer, Outcome, answer_to};
@@ -14,6 +14,7 @@ use crate::failure::Failure;
 use crate::usage::refusal;
 use sd_script::run;
 use sd_script_audit::run_audit;
+use sd_script_serve::serve;
 use sd_store::OpenGate;
 use sd_stream::{RunError, Watched, write_whole};
 use std::alloc::Global;
@@ -22,8 +23,8 @@ use std::sync::Wait;
 use std::thread::Threads;
 
 /// Does what the program does with these words, of which the first is its name, and with these
-/// streams, and answers the status with which it ends. Only `script` and `audit` use `reader`, and
-/// only `audit` starts threads and waits for them.
+/// streams, and answers the status with which it ends. Only `script`, `serve` and `audit` use
+/// `reader`, and only `audit` starts threads and waits for them.
 ///
 /// - 0: the text was printed, or the right granted, or the script carried out to its end. Help and
 ///   the version are such texts.
@@ -51,8 +52,10 @@ pub fn drive<T: Threads + Wait + Sync, R: Read, W: Write, E: Write>(
         × Keeps (W.contents (inner_of writer.old)) (W.contents (inner_of writer.new)) }
     ensures failed { result ≡ 3
         → Keeps (W.contents (inner_of writer.old)) (W.contents (inner_of writer.new))
-        ⊎ AppendsPartOfAnswer words.now (R.remaining (inner_of reader.old))
-        (W.contents (inner_of writer.old)) (W.contents (inner_of writer.new)) }
+        ⊎ (AppendsPartOfAnswer words.now (R.remaining (inner_of reader.old))
+        (W.contents (inner_of writer.old)) (W.contents (inner_of writer.new))
+        ⊎ ((error : Error) × LeavesServed words.now (R.remaining (inner_of reader.old)) (R.remaining (inner_of reader.new))
+        (W.contents (inner_of writer.old)) (W.contents (inner_of writer.new)) error)) }
     ensures told { result ≡ 3 → (error : Error)
         × IsDue words.now (has_failed reader.old) (has_failed reader.new)
         (has_failed writer.old) (has_failed writer.new)
@@ -82,7 +85,7 @@ fn carry_out<T: Threads + Wait + Sync, R: Read, W: Write>(
 ) -> Result<Outcome, Failure>
     ensures ok { IfOk result (λ outcome. AppendsAnswer words.now (R.remaining (inner_of reader.old))
         (W.contents (inner_of writer.old)) (W.contents (inner_of writer.new)) (outcome_status outcome)) }
-    ensures err { IfErr result (LeavesAtFailure words.now (R.remaining (inner_of reader.old))
+    ensures err { IfErr result (LeavesAtFailure words.now (R.remaining (inner_of reader.old)) (R.remaining (inner_of reader.new))
         (W.contents (inner_of writer.old)) (W.contents (inner_of writer.new))) }
     ensures read { has_failed reader.new ≡ (has_failed reader.old || blames_reader result) }
     ensures write { has_failed writer.new ≡ (has_failed writer.old || blames_writer result) }
@@ -91,18 +94,22 @@ fn carry_out<T: Threads + Wait + Sync, R: Read, W: Write>(
     ensures thread { result ≡ Err (Failure.Run RunError.Thread) → IsAudit words.now }
     ensures unused { asks_input words.now ≡ false → reader.new ≡ reader.old }
 {
-    let Some(invocation) = read_command_line(words) else {
+    let Some(line) = read_command_line(words) else {
         return Err(Failure::Unread(refusal(alloc, words)?));
     };
-    if let Invocation::Script = invocation {
+    if let Invocation::Script = line.invocation {
         run(alloc, reader, writer)?;
         return Ok(Outcome::Done);
     }
-    if let Invocation::Audit { workers } = invocation {
+    if let Invocation::Serve = line.invocation {
+        serve(alloc, reader, writer)?;
+        return Ok(Outcome::Done);
+    }
+    if let Invocation::Audit { workers } = line.invocation {
         run_audit(rt, alloc, workers, reader, writer, &OpenGate)?;
         return Ok(Outcome::Done);
     }
-    let Answer { text, outcome } = answer_to(alloc, invocation)?;
+    let Answer { text, outcome } = answer_to(alloc, line)?;
     write_whole(writer, text.as_bytes())?;
     Ok(outcome)
 }

@@ -4,7 +4,7 @@ use crate::command_line::CommandName;
 use crate::shown::shown_words;
 use crate::version::VERSION;
 use clap::error::ErrorKind;
-use clap::{Arg, Command, Error};
+use clap::{Arg, ArgAction, Command, Error};
 use std::alloc::{AllocError, Global};
 
 const NOTES: &str = "\
@@ -35,7 +35,8 @@ Example:
   sdstore verdict 'D:(D;;0x2;;;S-1-5-21-1-2-3-1001)(A;;0x1f01ff;;;S-1-5-21-1-2-3-1001)' S-1-5-21-1-2-3-1001 0x1";
 
 const WHY_NOTES: &str = "\
-A first '--' after 'why' is dropped, and every word after it is an argument.
+A first '--' after 'why' is dropped, and every word after it is an argument. '--names' stands
+before 'why' and nowhere else, and tells rights by their names, as FR+WD in place of 0x160089.
 
 Prints the verdict as 'sdstore verdict' does, with its status, and a line for each part of the
 request, the bits with one reason together:
@@ -98,6 +99,7 @@ Each line is a command, and is answered by a line; an empty line and one that be
   owner PATH SID, group PATH SID       gives the node an owner, a group
   dacl PATH SDDL                       gives the node a DACL of its own
   remove PATH, protect PATH            takes the node away; keeps what it has, protected
+  move PATH PATH                       moves the node, and all below it, to the second path
   publish                              shows the edits so far to the readers
   tell, learn I L                      tells the published length; reader I learns of one
   check I PATH USER MASK [WORD]...     asks, as reader I, whether the user is granted the mask
@@ -111,6 +113,19 @@ Statuses:
 
 Example:
   printf 'open 1 O:BAG:SYD:\\naddo /a O:BAG:SYD:(A;;FR;;;WD)\\npublish\\ncheck 0 /a SY FR WD\\n' | sdstore script";
+
+const SERVE_NOTES: &str = "\
+Each line is answered as by 'sdstore script', when it is read and before the next: a program may
+ask a line, wait for its answer and ask the next. There is no limit on the number of lines.
+
+Statuses:
+  0  the input ended, whatever its lines were answered
+  2  the words aren't a command line
+  3  memory was wanting, the input wasn't read, a line has more than 16777216 bytes, or the output
+     didn't take an answer; the lines before are answered
+
+Example:
+  printf 'open 1 O:BAG:SYD:\\naddo /a O:BAG:SYD:(A;;FR;;;WD)\\npublish\\ncheck 0 /a SY FR WD\\n' | sdstore serve";
 
 const AUDIT_NOTES: &str = "\
 Each line is answered as by 'sdstore script', but that
@@ -143,6 +158,11 @@ SID=restrict  a restricting SID, no group: access is asked a second time for the
 +security     SeSecurityPrivilege
 +take         SeTakeOwnershipPrivilege";
 
+const NAMES: &str = "Before 'why': tells rights by their names, as FR+WD in place of 0x160089";
+
+// What is told of options that `clap` would take with any command.
+const OPTIONS: &str = "the option '--names' is for 'why' alone, and stands before it once";
+
 // What is told of words that `clap` would answer with help or the version.
 const STANDS_ALONE: &str = "\
 help and the version are asked for by '--help', 'help' or '--version' as the only word, \
@@ -167,6 +187,7 @@ pub(crate) fn help(alloc: Global, command: Option<CommandName>) -> Result<String
         Some(CommandName::ToBinary) => to_binary_command(alloc)?,
         Some(CommandName::FromBinary) => from_binary_command(alloc)?,
         Some(CommandName::Script) => script_command(alloc)?,
+        Some(CommandName::Serve) => serve_command(alloc)?,
         Some(CommandName::Audit) => audit_command(alloc)?,
     };
     described.render_help()
@@ -186,6 +207,7 @@ fn refusal_of<'a>(alloc: Global, words: &'a [&'a str]) -> Result<Error, AllocErr
         Some(error) if error.use_stderr() => Ok(error),
         Some(_shown) => sdstore.error(ErrorKind::UnknownArgument, STANDS_ALONE),
         None => match words {
+            [_, "--names", ..] => sdstore.error(ErrorKind::UnknownArgument, OPTIONS),
             [_, "audit", ..] => {
                 let mut audit = audit_command(alloc)?;
                 audit.error(ErrorKind::ValueValidation, WORKERS)
@@ -214,9 +236,10 @@ fn sdstore<'a>(alloc: Global) -> Result<Command<'a>, AllocError> {
     Command::new(alloc, "sdstore")
         .about("Windows security descriptors and access checks by [MS-DTYP]")
         .version(VERSION)
-        .override_usage("sdstore <COMMAND>")
+        .override_usage("sdstore [OPTIONS] <COMMAND>")
         .subcommand_required(true)
         .after_help(NOTES)
+        .arg(flag(alloc, "names").help(NAMES))?
         .subcommand(verdict_command(alloc)?)?
         .subcommand(why_command(alloc)?)?
         .subcommand(lint_command(alloc)?)?
@@ -224,6 +247,7 @@ fn sdstore<'a>(alloc: Global) -> Result<Command<'a>, AllocError> {
         .subcommand(to_binary_command(alloc)?)?
         .subcommand(from_binary_command(alloc)?)?
         .subcommand(script_command(alloc)?)?
+        .subcommand(serve_command(alloc)?)?
         .subcommand(audit_command(alloc)?)
 }
 
@@ -238,7 +262,7 @@ fn verdict_command<'a>(alloc: Global) -> Result<Command<'a>, AllocError> {
 fn why_command<'a>(alloc: Global) -> Result<Command<'a>, AllocError> {
     let why = Command::new(alloc, "why")
         .about("Prints whether a descriptor grants a mask to a user, and why")
-        .override_usage("sdstore why [--] <SDDL> <USER> <MASK> [WORD]...")
+        .override_usage("sdstore [--names] why [--] <SDDL> <USER> <MASK> [WORD]...")
         .after_help(WHY_NOTES);
     request(alloc, why)
 }
@@ -295,12 +319,25 @@ fn script_command<'a>(alloc: Global) -> Result<Command<'a>, AllocError> {
     Ok(script)
 }
 
+fn serve_command<'a>(alloc: Global) -> Result<Command<'a>, AllocError> {
+    let serve = Command::new(alloc, "serve")
+        .about("Answers each line of the script on standard input when it is read")
+        .override_usage("sdstore serve")
+        .after_help(SERVE_NOTES);
+    Ok(serve)
+}
+
 fn audit_command<'a>(alloc: Global) -> Result<Command<'a>, AllocError> {
     Command::new(alloc, "audit")
         .about("Carries out the script on standard input, and answers its checks at the end")
         .override_usage("sdstore audit [--] <N>")
         .after_help(AUDIT_NOTES)
         .arg(text(alloc, "N").help("The number of workers, 1 to 64, in one or two decimal digits"))
+}
+
+// An option without a value, which stands before the command.
+fn flag<'a>(alloc: Global, name: &'a str) -> Arg<'a> {
+    Arg::new(alloc, name).long(name).action(ArgAction::SetTrue)
 }
 
 // An argument that takes each word as it stands.

@@ -8,10 +8,9 @@ ghost use Rattle.sd_tool.specs.Answer.{AnswersVerdict, AnswersUser, AnswersMask,
 
 use crate::answer::{Answer, Outcome, fault, sddl_fault};
 use crate::failure::Failure;
-use crate::why::why_text;
 use sd_acl::Descriptor;
 use sd_check::{Token, Verdict, check};
-use sd_script::{TokenError, read_token, verdict_line};
+use sd_script::{Spelling, TokenError, read_token, verdict_line, why_text};
 use sd_sid::{GenericMapping, Mask, Sid};
 use sd_stream::RunError;
 use sd_text::{TextError, read_mask, read_sddl, read_sid_text};
@@ -22,8 +21,8 @@ use std::alloc::{AllocError, Global};
 pub(crate) enum Form {
     /// The verdict alone.
     Short,
-    /// With it the reason of each bit.
-    Explained,
+    /// With it the reason of each bit, the masks in this spelling.
+    Explained(Spelling),
 }
 
 /// The verdict on these texts, or the fault of the first from the left that isn't read.
@@ -118,7 +117,7 @@ fn text_of(
             let verdict = check(descriptor, &GenericMapping::file(), token, asked);
             verdict_line(alloc, verdict)
         }
-        Form::Explained => why_text(alloc, descriptor, token, asked),
+        Form::Explained(spelling) => why_text(alloc, spelling, descriptor, token, asked),
     }
 }
 

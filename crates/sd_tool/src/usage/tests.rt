@@ -13,11 +13,13 @@ enum Kind {
 }
 
 fn kind_read(words: &[&str]) -> Kind {
-    match read_command_line(words) {
-        None => Kind::Nothing,
-        Some(Invocation::Help { .. }) => Kind::Help,
-        Some(Invocation::Version) => Kind::Version,
-        Some(_) => Kind::Command,
+    let Some(line) = read_command_line(words) else {
+        return Kind::Nothing;
+    };
+    match line.invocation {
+        Invocation::Help { .. } => Kind::Help,
+        Invocation::Version => Kind::Version,
+        _ => Kind::Command,
     }
 }
 
@@ -56,7 +58,13 @@ fn expect(
 
 #[test]
 fn both_read_commands(rt: HostRuntime) -> Result<(), AllocError> {
-    let rows: [&[&str]; 40] = [
+    let rows: [&[&str]; 48] = [
+        &["--names", "why", "D:", "SY", "0x1"],
+        &["--names", "why", "--", "-h", "SY", "0x1", "--names"],
+        &["--names", "why", "--names", "--names", "--names"],
+        &["why", "--names", "SY", "0x1"],
+        &["why", "D:", "SY", "0x1", "--names"],
+        &["verdict", "--names", "--names", "--names"],
         &["lint", "D:"],
         &["lint", "--", "-h"],
         &["why", "D:", "SY", "0x1"],
@@ -96,6 +104,8 @@ fn both_read_commands(rt: HostRuntime) -> Result<(), AllocError> {
         &["frombin", "-01"],
         &["script"],
         &["script", "--"],
+        &["serve"],
+        &["serve", "--"],
         &["audit", "2"],
         &["audit", "64"],
         &["audit", "--", "01"],
@@ -105,7 +115,7 @@ fn both_read_commands(rt: HostRuntime) -> Result<(), AllocError> {
 
 #[test]
 fn both_read_help_and_version(rt: HostRuntime) -> Result<(), AllocError> {
-    let rows: [&[&str]; 28] = [
+    let rows: [&[&str]; 31] = [
         &["-h"],
         &["--help"],
         &["help"],
@@ -131,6 +141,9 @@ fn both_read_help_and_version(rt: HostRuntime) -> Result<(), AllocError> {
         &["help", "script"],
         &["script", "-h"],
         &["script", "--help"],
+        &["help", "serve"],
+        &["serve", "-h"],
+        &["serve", "--help"],
         &["help", "audit"],
         &["audit", "-h"],
         &["audit", "--help"],
@@ -142,7 +155,14 @@ fn both_read_help_and_version(rt: HostRuntime) -> Result<(), AllocError> {
 
 #[test]
 fn both_refuse_other_words(rt: HostRuntime) -> Result<(), AllocError> {
-    let rows: [&[&str]; 45] = [
+    let rows: [&[&str]; 53] = [
+        &["--names"],
+        &["--names", ""],
+        &["--names", "frob"],
+        &["--names", "why", "D:", "SY"],
+        &["--names", "--names", "why", "D:", "SY", "0x1"],
+        &["--names=x", "why", "D:", "SY", "0x1"],
+        &["--name", "why", "D:", "SY", "0x1"],
         &[],
         &[""],
         &["-"],
@@ -151,6 +171,7 @@ fn both_refuse_other_words(rt: HostRuntime) -> Result<(), AllocError> {
         &["Verdict"],
         &["verdict "],
         &["script", "x"],
+        &["serve", "x"],
         &["audit"],
         &["audit", "2", "3"],
         &["-x"],
@@ -240,6 +261,30 @@ fn gives_no_help_beside_other_words(rt: HostRuntime) -> Result<(), AllocError> {
     ];
     expect(&rt, &rows, Kind::Nothing, Kind::Help)?;
     let rows: [&[&str]; 4] = [&["-V", "-V"], &["-VV"], &["-Vh"], &["--version", "x"]];
+    expect(&rt, &rows, Kind::Nothing, Kind::Version)
+}
+
+// An option is for the commands that take it, and help takes none; `clap` takes one before any command.
+#[test]
+fn takes_options_before_their_commands_alone(rt: HostRuntime) -> Result<(), AllocError> {
+    let rows: [&[&str]; 7] = [
+        &["--names", "verdict", "D:", "SY", "0x1"],
+        &["--names", "lint", "D:"],
+        &["--names", "print", "D:"],
+        &["--names", "tobin", "D:"],
+        &["--names", "frombin", "00"],
+        &["--names", "script"],
+        &["--names", "audit", "1"],
+    ];
+    expect(&rt, &rows, Kind::Nothing, Kind::Command)?;
+    let rows: [&[&str]; 4] = [
+        &["--names", "--help"],
+        &["--names", "help"],
+        &["--names", "help", "why"],
+        &["--names", "why", "-h"],
+    ];
+    expect(&rt, &rows, Kind::Nothing, Kind::Help)?;
+    let rows: [&[&str]; 1] = [&["--names", "--version"]];
     expect(&rt, &rows, Kind::Nothing, Kind::Version)
 }
 

@@ -4,4 +4,4 @@ pub returns-in-Verdict-clause-ok : goal.returns-in-Verdict-clause-ok
 returns-in-Verdict-clause-ok c = λ input. rw (c.in-Verdict.is) c.answer_verdict.ensures.ok
 
 pub returns-in-Why-clause-ok : goal.returns-in-Why-clause-ok
-returns-in-Why-clause-ok c = λ input. rw (c.in-Why.is) c.answer_verdict-in-Why.ensures.ok
+returns-in-Why-clause-ok c = λ input. let told = rw (c.spelling.ensures) at c.answer_verdict-in-Why.ensures.ok in rw (c.in-Why.is) told

@@ -2,4 +2,8 @@ use Rattle.sd_tool.proofs.LawProofs as laws
 use Rattle.sd_tool.proofs.laws.dashes_keep_texts.Goals as goal
 
 pub returns : goal.returns
-returns c = laws.dashes_keep_texts
+returns c = record {
+  verdict = laws.dashes_keep_texts;
+  why = laws.dashes_keep_texts_of_why;
+  with_option = laws.option_keeps_texts;
+}

@@ -71,6 +71,12 @@ denied 0x10000 by no entry
     let mine = "O:S-1-5-21-1-2-3-1001D:";
     expect(&rt, &["sdstore", "why", mine, USER, "0x60000"], granted, 0);
     expect(&rt, &["sdstore", "why", "D:", USER, "0"], "empty\n", 1);
+    let named = "granted WD+RC\ngranted WD+RC to the owner\n";
+    let words = ["sdstore", "--names", "why", mine, USER, "0x60000"];
+    expect(&rt, &words, named, 0);
+    let unread = "fault sddl 1 Syntax at 0\n";
+    let words = ["sdstore", "why", "--names", USER, "0x60000"];
+    expect(&rt, &words, unread, 1);
     expect(
         &rt,
         &["sdstore", "why", "D:", "nobody", "0"],

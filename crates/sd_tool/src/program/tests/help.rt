@@ -4,7 +4,15 @@ use super::*;
 
 #[test]
 fn refuses_other_words(rt: HostRuntime) -> Result<(), Fail> {
-    let rows: [(&[&str], &str); 21] = [
+    let rows: [(&[&str], &str); 23] = [
+        (
+            &["sdstore", "--names", "print", "D:"],
+            "the option '--names' is for 'why' alone",
+        ),
+        (
+            &["sdstore", "--names", "why", "--help"],
+            "help and the version are asked for by",
+        ),
         (&[], "requires a subcommand"),
         (&["sdstore"], "requires a subcommand"),
         (&["sdstore", ""], "unrecognized subcommand ''"),
@@ -72,7 +80,7 @@ fn tells_the_usage_of_the_command(rt: HostRuntime) -> Result<(), Fail> {
             "Usage: sdstore audit [--] <N>\n",
         ),
         (&["sdstore", "audit"], "Usage: sdstore audit [--] <N>\n"),
-        (&["sdstore", "frob"], "Usage: sdstore <COMMAND>\n"),
+        (&["sdstore", "frob"], "Usage: sdstore [OPTIONS] <COMMAND>\n"),
     ];
     for (words, usage) in rows {
         let ended = run(&rt, words);
