@@ -23,7 +23,7 @@ RIGHT_NAMES = {
 }
 REFUSALS = [
     "NoParent", "ParentIsObject", "Exists", "NoNode", "NotEmpty", "IsRoot", "InheritedEntry", "NotCanonical",
-    "AclTooLarge", "TooDeep", "NodesFull", "JournalFull",
+    "AclTooLarge", "TooDeep", "NodesFull", "JournalFull", "IntoItself",
 ]
 
 
@@ -108,45 +108,59 @@ class Tree:
         lists = [self.dacl(path) or [] for path in self.nodes]
         return any(8 + sum(16 + 4 * len(e.sid[1]) for e in entries) > 65535 for entries in lists)
 
-    def apply(self, edit, path, given):
-        """Makes the edit, and answers None, or the name of its refusal."""
-        is_addition = edit in ("addc", "addo")
-        if is_addition:
-            if path and path[:-1] not in self.nodes:
-                return "NoParent"
-            if path and not self.nodes[path[:-1]].is_container:
-                return "ParentIsObject"
-            if path in self.nodes:
-                return "Exists"
-        elif path not in self.nodes:
-            return "NoNode"
-        if edit == "remove":
-            if any(other[: len(path)] == path for other in self.nodes if other != path):
-                return "NotEmpty"
-            if not path:
-                return "IsRoot"
-        dacl = given.dacl if is_addition else given if edit == "dacl" else None
-        if refusal := list_refusal(dacl):
+    def place_refusal(self, path):
+        """Why no node may come to stand at the path."""
+        if path and path[:-1] not in self.nodes:
+            return "NoParent"
+        if path and not self.nodes[path[:-1]].is_container:
+            return "ParentIsObject"
+        return "Exists" if path in self.nodes else None
+
+    def early_refusal(self, edit, path, given):
+        """The refusal that follows from the nodes and what is given, without any list that is inherited."""
+        if edit in ("addc", "addo"):
+            return self.place_refusal(path) or list_refusal(given.dacl)
+        if edit == "move" and (refusal := self.place_refusal(given)):
             return refusal
-        after = Tree(dict(self.nodes))
-        if is_addition:
-            after.nodes[path] = given
-        elif edit == "remove":
-            del after.nodes[path]
-        elif edit == "protect":
-            whole = self.dacl(path)
-            if whole is not None:
-                explicit = [replace(e, flags=e.flags & ~ID) for e in whole]
-                ordered = [e for e in explicit if e.kind == "D"] + [e for e in explicit if e.kind == "A"]
-                after.nodes[path] = replace(self.nodes[path], dacl=(True, ordered))
-        else:
+        if path not in self.nodes:
+            return "NoNode"
+        if edit == "remove" and any(other[: len(path)] == path for other in self.nodes if other != path):
+            return "NotEmpty"
+        if edit in ("remove", "move") and not path:
+            return "IsRoot"
+        if edit == "move" and given[: len(path)] == path:
+            return "IntoItself"
+        return list_refusal(given) if edit == "dacl" else None
+
+    def edited(self, edit, path, given):
+        """The nodes after an edit without an early refusal."""
+        if edit in ("addc", "addo"):
+            return self.nodes | {path: given}
+        if edit == "remove":
+            return {other: node for other, node in self.nodes.items() if other != path}
+        if edit == "move":
+            below = len(path)
+            return {given + other[below:] if other[:below] == path else other: node for other, node in self.nodes.items()}
+        if edit != "protect":
             part = {"owner": "owner", "group": "group", "dacl": "dacl"}[edit]
-            after.nodes[path] = replace(self.nodes[path], **{part: given})
+            return self.nodes | {path: replace(self.nodes[path], **{part: given})}
+        whole = self.dacl(path)
+        if whole is None:
+            return self.nodes
+        explicit = [replace(e, flags=e.flags & ~ID) for e in whole]
+        ordered = [e for e in explicit if e.kind == "D"] + [e for e in explicit if e.kind == "A"]
+        return self.nodes | {path: replace(self.nodes[path], dacl=(True, ordered))}
+
+    def apply(self, edit, path, given):
+        """Makes the edit, and answers None, or the name of its refusal. Of a move the target is given."""
+        if refusal := self.early_refusal(edit, path, given):
+            return refusal
+        after = Tree(self.edited(edit, path, given))
         if after.has_large_dacl():
             return "AclTooLarge"
-        if is_addition and len(path) > 64:
+        if any(len(other) > 64 for other in after.nodes):
             return "TooDeep"
-        if is_addition and len(self.nodes) >= 65536:
+        if len(after.nodes) > 65536:
             return "NodesFull"
         self.nodes = after.nodes
         self.length += 1
