@@ -107,6 +107,33 @@ extern "C" {
 /* Nothing was asked for. */
 #define HUDARIN_EMPTY_REQUEST 4u
 
+/* ---- Causes: why bits are granted or denied */
+
+/* The DACL is absent or null: it grants the object's own rights and the standard ones. */
+#define HUDARIN_CAUSE_NO_LIST 1u
+/* The list: `first` tells what the pass of the user and the groups found, `second` that of the restricting SIDs. */
+#define HUDARIN_CAUSE_LIST 2u
+/* READ_CONTROL or WRITE_DAC, granted to the owner. */
+#define HUDARIN_CAUSE_OWNER 3u
+/* WRITE_OWNER, granted by SeTakeOwnershipPrivilege. */
+#define HUDARIN_CAUSE_TAKE_OWNERSHIP 4u
+/* ACCESS_SYSTEM_SECURITY, granted by SeSecurityPrivilege, or denied without it. */
+#define HUDARIN_CAUSE_SECURITY 5u
+#define HUDARIN_CAUSE_NO_SECURITY 6u
+/* MAXIMUM_ALLOWED takes in no more than GENERIC_ALL where there is no list, and this is beyond it. */
+#define HUDARIN_CAUSE_BEYOND_ALL 7u
+/* The bits are reserved. */
+#define HUDARIN_CAUSE_RESERVED 8u
+
+/* ---- What a pass over the list found: 0 where there was no such pass */
+
+/* An allow entry settles the bits. */
+#define HUDARIN_FINDING_ALLOWED 1u
+/* A deny entry settles the bits. */
+#define HUDARIN_FINDING_DENIED 2u
+/* No entry does. */
+#define HUDARIN_FINDING_NO_ENTRY 3u
+
 /* ---- States of a group: the attributes of Windows, of which a caller keeps these two bits. Both at once are refused. */
 
 #define HUDARIN_GROUP_DISABLED 0x0u
@@ -151,6 +178,27 @@ typedef struct hudarin_verdict {
     uint64_t place;    /* the group that isn't read or has no state, or the restricting SID, counted from 0, else 0 */
     uint32_t mask;     /* of the verdict */
 } hudarin_verdict;
+
+/* What a pass over the list found for the bits of a part. */
+typedef struct hudarin_finding {
+    uint64_t entry; /* the first entry that settles them, counted from 0; 0 where there is none */
+    uint32_t kind;  /* HUDARIN_FINDING_.., else 0 */
+} hudarin_finding;
+
+/* Bits with one cause. Where `mask` is 0 there is no part, and all else is 0. */
+typedef struct hudarin_part {
+    uint32_t mask;
+    uint32_t cause;   /* HUDARIN_CAUSE_.. */
+    uint32_t granted; /* 1 where the bits are granted, else 0 */
+    hudarin_finding first;
+    hudarin_finding second; /* of a restricted token */
+} hudarin_part;
+
+/* What an explanation answers. */
+typedef struct hudarin_explanation {
+    hudarin_verdict answer;  /* that of hudarin_check_kept */
+    hudarin_part parts[32];  /* at each place from 0 the part whose least bit that is */
+} hudarin_explanation;
 
 /* What a call answers that writes, or that tells a length. */
 typedef struct hudarin_written {
@@ -245,6 +293,10 @@ hudarin_verdict hudarin_check_kept(hudarin_kept *descriptor, hudarin_kept *token
  * bytes. Takes no memory. */
 hudarin_verdict hudarin_check_bytes(const void *descriptor, size_t descriptor_length, hudarin_kept *token,
                                     hudarin_mapping mapping, uint32_t asked);
+
+/* Why that verdict is what it is: each bit of the mapped request is in one part, with MAXIMUM_ALLOWED each bit of 0x001fffff
+ * too, and the verdict follows from the parts. There are no parts unless the status is HUDARIN_OK. Takes no memory. */
+hudarin_explanation hudarin_explain(hudarin_kept *descriptor, hudarin_kept *token, hudarin_mapping mapping, uint32_t asked);
 
 /* Frees what the handle keeps, where it keeps something; it is HUDARIN_NOTHING behind that, and may keep again. */
 void hudarin_free(hudarin_kept *handle);

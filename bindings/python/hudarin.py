@@ -11,7 +11,8 @@ else the system's. Any number of threads may use this module: its objects never 
 
 import ctypes
 import os
-from typing import NamedTuple
+import re
+from typing import NamedTuple, Optional, Tuple
 
 _SIZE = ctypes.c_size_t
 _U32 = ctypes.c_uint32
@@ -28,9 +29,20 @@ STATUSES = {
     8: "state",
     9: "privileges",
     10: "mapping",
+    11: "handle",
 }
 VERDICTS = {1: "granted", 2: "denied", 3: "reserved", 4: "empty"}
 ARGUMENTS = {1: "descriptor", 2: "user", 3: "groups", 4: "states", 5: "restricting", 6: "privileges", 7: "mapping"}
+
+CAUSES = {
+    1: "without a list",
+    3: "to the owner",
+    4: "by SeTakeOwnershipPrivilege",
+    5: "by SeSecurityPrivilege",
+    6: "without SeSecurityPrivilege",
+    7: "beyond GENERIC_ALL",
+    8: "as reserved",
+}
 
 #: The states of a group.
 DISABLED, ENABLED, DENY_ONLY = 0x0, 0x4, 0x10
@@ -40,6 +52,8 @@ SECURITY, TAKE_OWNERSHIP = 0x1, 0x2
 FILES = (0x120089, 0x120116, 0x1200A0, 0x1F01FF)
 
 _ROOM = 2
+_BY_THE_LIST = 2
+_NO_PASS, _NO_ENTRY = 0, 3
 
 
 class _Mapping(ctypes.Structure):
@@ -55,6 +69,22 @@ class _Verdict(ctypes.Structure):
         ("place", _U64),
         ("mask", _U32),
     ]
+
+
+class _Finding(ctypes.Structure):
+    _fields_ = [("entry", _U64), ("kind", _U32)]
+
+
+class _Part(ctypes.Structure):
+    _fields_ = [("mask", _U32), ("cause", _U32), ("granted", _U32), ("first", _Finding), ("second", _Finding)]
+
+
+class _Explanation(ctypes.Structure):
+    _fields_ = [("answer", _Verdict), ("parts", _Part * 32)]
+
+
+class _Kept(ctypes.Structure):
+    _fields_ = [("at", ctypes.c_void_p), ("is_there", _U32)]
 
 
 class _Written(ctypes.Structure):
@@ -84,8 +114,15 @@ def _load():
     library.hudarin_descriptor_length.restype = _Written
     library.hudarin_mask_from_text.argtypes = given
     library.hudarin_mask_from_text.restype = _Mask
-    library.hudarin_check.argtypes = given * 3 + [ctypes.POINTER(_U32), _SIZE] + given + [_U32, _Mapping, _U32]
+    token = given * 2 + [ctypes.POINTER(_U32), _SIZE] + given + [_U32]
+    kept = ctypes.POINTER(_Kept)
+    library.hudarin_check.argtypes = given + token + [_Mapping, _U32]
     library.hudarin_check.restype = _Verdict
+    library.hudarin_keep_bytes.argtypes, library.hudarin_keep_bytes.restype = given + [kept], _Written
+    library.hudarin_keep_token.argtypes, library.hudarin_keep_token.restype = token + [kept], _Verdict
+    library.hudarin_check_bytes.argtypes, library.hudarin_check_bytes.restype = given + [kept, _Mapping, _U32], _Verdict
+    library.hudarin_explain.argtypes, library.hudarin_explain.restype = [kept, kept, _Mapping, _U32], _Explanation
+    library.hudarin_free.argtypes, library.hudarin_free.restype = [kept], None
     return library
 
 
@@ -144,6 +181,23 @@ def _refuse(answer):
     raise Refused(answer)
 
 
+def _held(answer):
+    """The answer, where its status is OK."""
+    if answer.status != 0:
+        _refuse(answer)
+    return answer
+
+
+def _token(user, groups, privileges, restricting):
+    """What a token is made of, as the library takes it."""
+    pairs = [group if isinstance(group, tuple) else (group, ENABLED) for group in groups]
+    sids = b"".join(_sid(sid, "groups") for sid, _ in pairs)
+    states = (_U32 * len(pairs))(*(_number(state, "states") for _, state in pairs))
+    who = _sid(user, "user")
+    again = b"".join(_sid(sid, "restricting") for sid in restricting)
+    return who, len(who), sids, len(sids), states, len(pairs), again, len(again), _number(privileges, "privileges")
+
+
 def _written(call, given):
     """What the call writes, in a room that is made as large as it wants."""
     length = 256
@@ -160,10 +214,7 @@ def _written(call, given):
 def mask(text):
     """The mask that the text spells: a number, or names of rights."""
     given = _text(text)
-    answer = _library.hudarin_mask_from_text(given, len(given))
-    if answer.status != 0:
-        _refuse(answer)
-    return answer.mask
+    return _held(_library.hudarin_mask_from_text(given, len(given))).mask
 
 
 class Verdict(NamedTuple):
@@ -179,6 +230,50 @@ class Verdict(NamedTuple):
 
     def __str__(self):
         return self.kind if self.kind == "empty" else f"{self.kind} {self.mask:#x}"
+
+
+class Part(NamedTuple):
+    """Bits of a request with one cause, which is ``why`` in words. ``entry`` is the first entry of the list that settles them,
+    counted from 1, and ``restricting_entry`` that of a restricted token's second pass; None where no entry does."""
+
+    is_granted: bool
+    mask: int
+    entry: Optional[int]
+    restricting_entry: Optional[int]
+    why: str
+
+    def __str__(self):
+        return f"{'granted' if self.is_granted else 'denied'} {self.mask:#x} {self.why}"
+
+
+class Explanation(NamedTuple):
+    """A verdict, and the parts that it follows from, in the order of their least bits."""
+
+    verdict: Verdict
+    parts: Tuple[Part, ...]
+
+    def __str__(self):
+        return "\n".join(str(line) for line in (self.verdict, *self.parts))
+
+
+def _entry(finding):
+    return None if finding.kind in (_NO_PASS, _NO_ENTRY) else finding.entry + 1
+
+
+def _found(finding, entries):
+    """What a pass found, in words."""
+    number = _entry(finding)
+    return "by no entry" if number is None else f"by entry {number} {entries[number - 1]}"
+
+
+def _part(part, entries):
+    if part.cause != _BY_THE_LIST:
+        why = CAUSES[part.cause]
+    elif part.second.kind == _NO_PASS:
+        why = _found(part.first, entries)
+    else:
+        why = f"{_found(part.first, entries)}, restricted {_found(part.second, entries)}"
+    return Part(part.granted == 1, part.mask, _entry(part.first), _entry(part.second), why)
 
 
 class Sid:
@@ -221,10 +316,7 @@ class Descriptor:
     def __init__(self, data):
         """The descriptor at the front of the bytes, which are kept up to the end of its last part."""
         given = _data(data)
-        answer = _library.hudarin_descriptor_length(given, len(given))
-        if answer.status != 0:
-            _refuse(answer)
-        self._bytes = given[: answer.length]
+        self._bytes = given[: _held(_library.hudarin_descriptor_length(given, len(given))).length]
 
     @classmethod
     def from_sddl(cls, text):
@@ -248,26 +340,24 @@ class Descriptor:
         No group is added: neither Everyone nor Authenticated Users. With ``restricting`` Sids the list has to grant to the user
         and the groups and, asked again, to these Sids alone. Another number than one of 32 bits is a ValueError, and what
         isn't a number (a bool too) or a Sid a TypeError."""
-        pairs = [group if isinstance(group, tuple) else (group, ENABLED) for group in groups]
-        sids = b"".join(_sid(sid, "groups") for sid, _ in pairs)
-        states = (_U32 * len(pairs))(*(_number(state, "states") for _, state in pairs))
-        who = _sid(user, "user")
-        again = b"".join(_sid(sid, "restricting") for sid in restricting)
-        answer = _library.hudarin_check(
-            self._bytes,
-            len(self._bytes),
-            who,
-            len(who),
-            sids,
-            len(sids),
-            states,
-            len(pairs),
-            again,
-            len(again),
-            _number(privileges, "privileges"),
-            _mapping(mapping),
-            _number(asked, "asked"),
-        )
-        if answer.status != 0:
-            _refuse(answer)
+        token = _token(user, groups, privileges, restricting)
+        answer = _held(_library.hudarin_check(self._bytes, len(self._bytes), *token, _mapping(mapping), _number(asked, "asked")))
         return Verdict(VERDICTS[answer.kind], answer.mask)
+
+    def explain(self, user, groups=(), asked=0, privileges=0, mapping=FILES, restricting=()):
+        """Why ``check`` answers as it does, with the same arguments: an ``Explanation``."""
+        token = _token(user, groups, privileges, restricting)
+        request = _mapping(mapping), _number(asked, "asked")
+        descriptor, who = _Kept(), _Kept()
+        try:
+            _held(_library.hudarin_keep_bytes(self._bytes, len(self._bytes), descriptor))
+            _held(_library.hudarin_keep_token(*token, who))
+            explained = _library.hudarin_explain(descriptor, who, *request)
+        finally:
+            _library.hudarin_free(descriptor)
+            _library.hudarin_free(who)
+        answer = _held(explained.answer)
+        # In a canonical text each entry is what stands between a pair of brackets.
+        entries = re.findall(r"\([^()]*\)", str(self))
+        parts = tuple(_part(part, entries) for part in explained.parts if part.mask != 0)
+        return Explanation(Verdict(VERDICTS[answer.kind], answer.mask), parts)

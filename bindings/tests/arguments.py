@@ -85,6 +85,20 @@ raises("the largest state", Refused, lambda: HELD.check(USER, [(EVERYONE, 0xFFFF
 raises("the largest privileges", Refused, lambda: OPEN.check(USER, asked=0x1, privileges=0xFFFFFFFF))
 raises("the largest mask", Refused, lambda: OPEN.check(USER, asked=0x1, mapping=(0, 0, 0, 0xFFFFFFFF)))
 
+# Reasons: what an explanation is asked of is tested as a check's arguments are, and told as it is worked by hand.
+for number, wanted in NUMBERS:
+    raises(f"explained {number!r}", wanted, lambda: OPEN.explain(USER, asked=number))
+raises("a group without a state", Refused, lambda: OPEN.explain(USER, [(EVERYONE, 0x14)], asked=0x1))
+raises("a mapping beyond a list's rights", Refused, lambda: OPEN.explain(USER, asked=0x1, mapping=(0, 0, 0, 0x200000)))
+gives(
+    "by an entry, and by none",
+    "denied 0x2\ngranted 0x1 by entry 1 (A;;0x1;;;S-1-5-21-1-2-3-1001)\ndenied 0x2 by no entry",
+    lambda: str(OPEN.explain(USER, asked=0x3)),
+)
+gives("entries count from 1", [(True, 0x1, 1, None), (False, 0x2, None, None)], lambda: [x[:4] for x in OPEN.explain(USER, asked=0x3).parts])
+gives("two passes", [(False, 0x1, 1, None)], lambda: [x[:4] for x in HELD.explain(USER, [EVERYONE], asked=0x1, restricting=[USER]).parts])
+gives("an empty request", (("empty", 0), ()), lambda: OPEN.explain(USER))
+
 # Restricting Sids only take away.
 gives("not restricted", "granted 0x1", lambda: str(HELD.check(USER, [EVERYONE], asked=0x1)))
 gives("restricted to the user", "denied 0x1", lambda: str(HELD.check(USER, [EVERYONE], asked=0x1, restricting=[USER])))

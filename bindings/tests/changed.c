@@ -135,6 +135,23 @@ static hudarin_verdict verdict(const unsigned char *bytes, size_t length, uint32
                          restricting(asked, sizeof groups), asked & 3, files, asked);
 }
 
+/* An explanation has the check's answer, no bit in two parts, and what is granted in parts that say so. */
+static void explains(hudarin_kept *descriptor, hudarin_kept *token, uint32_t asked, hudarin_verdict there)
+{
+    hudarin_explanation why = hudarin_explain(descriptor, token, files, asked);
+    uint32_t all = 0, granted = 0;
+    unsigned place;
+    HOLDS(why.answer.status == there.status && why.answer.kind == there.kind && why.answer.mask == there.mask);
+    for (place = 0; place < 32; place++) {
+        const hudarin_part *part = &why.parts[place];
+        HOLDS((part->mask & all) == 0 && (part->mask == 0 || (part->mask & -part->mask) == (uint32_t)1 << place));
+        all |= part->mask;
+        granted |= part->granted ? part->mask : 0;
+    }
+    HOLDS(there.kind != HUDARIN_GRANTED || granted == there.mask);
+    HOLDS(there.status == HUDARIN_OK || all == 0);
+}
+
 /* The same by handles, and by bytes with the token's: what is kept answers as the bytes do, and is freed again. */
 static void keeps(const unsigned char *bytes, size_t length, uint32_t asked, hudarin_verdict here)
 {
@@ -152,6 +169,7 @@ static void keeps(const unsigned char *bytes, size_t length, uint32_t asked, hud
     } else {
         HOLDS(there.status == HUDARIN_HANDLE && there.argument == HUDARIN_ARGUMENT_DESCRIPTOR);
     }
+    explains(&descriptor, &token, asked, there);
     there = hudarin_check_bytes(bytes, length, &token, files, asked);
     HOLDS(there.status == here.status && there.fault == here.fault && there.kind == here.kind && there.mask == here.mask);
     hudarin_free(&descriptor);

@@ -257,7 +257,7 @@ static void lend(const row *row)
     }
 }
 
-/* With no memory at all these three answer as ever, time and again. */
+/* With no memory at all these four answer as ever, time and again. */
 static void takes_none(void)
 {
     static unsigned char bytes[HUDARIN_DESCRIPTOR_BYTES];
@@ -270,6 +270,8 @@ static void takes_none(void)
         hudarin_verdict verdict = hudarin_check_kept(&descriptor, &token, files, 0x80000000u);
         HOLDS(verdict.status == HUDARIN_OK && verdict.kind == HUDARIN_DENIED && verdict.mask == 1);
         verdict = hudarin_check_bytes(bytes, length, &token, files, 0x80000000u);
+        HOLDS(verdict.status == HUDARIN_OK && verdict.kind == HUDARIN_DENIED && verdict.mask == 1);
+        verdict = hudarin_explain(&descriptor, &token, files, 0x80000000u).answer;
         HOLDS(verdict.status == HUDARIN_OK && verdict.kind == HUDARIN_DENIED && verdict.mask == 1);
         HOLDS(hudarin_mask_from_text("RCSD", 4).mask == 0x30000u);
     }

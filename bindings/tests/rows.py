@@ -5,12 +5,12 @@
 Rows of tables are known by their heads, and lines `$ ./sdstore ..` of console blocks by their command. The last line is
 'N passed, M failed'."""
 
-import ctypes
 import os
 import re
 import shlex
 import subprocess
 import sys
+from typing import NamedTuple
 
 sys.path.insert(0, os.path.join(os.path.dirname(os.path.abspath(__file__)), "..", "python"))
 
@@ -43,36 +43,29 @@ def fault(reading, kind):
         return None, f"fault {kind}"
 
 
-class Kept(ctypes.Structure):
-    _fields_ = [("at", ctypes.c_void_p), ("is_there", ctypes.c_uint32)]
-
-
-def over_bytes(descriptor, user, groups, mask, privileges, restricting):
+def over_bytes(descriptor, asked, token):
     """The verdict by a token that is kept, straight over the descriptor's bytes."""
-    library, data, token = hudarin._library, bytes(descriptor), Kept()
-    library.hudarin_keep_token.restype = library.hudarin_check_bytes.restype = hudarin._Verdict
-    who, sids = bytes(user), b"".join(bytes(sid) for sid, _ in groups)
-    again = b"".join(bytes(sid) for sid in restricting)
-    states = (ctypes.c_uint32 * len(groups))(*(state for _, state in groups))
-    size = ctypes.c_size_t
-    answer = library.hudarin_keep_token(
-        who, size(len(who)), sids, size(len(sids)), states, size(len(groups)), again, size(len(again)),
-        ctypes.c_uint32(privileges), ctypes.byref(token),
-    )  # fmt: skip
+    library, data, kept = hudarin._library, bytes(descriptor), hudarin._Kept()
+    answer = library.hudarin_keep_token(*token, kept)
     if answer.status == 0:
-        answer = library.hudarin_check_bytes(
-            data, size(len(data)), ctypes.byref(token), hudarin._mapping(hudarin.FILES), ctypes.c_uint32(mask)
-        )
-    library.hudarin_free(ctypes.byref(token))
+        answer = library.hudarin_check_bytes(data, len(data), kept, hudarin._mapping(hudarin.FILES), asked)
+    library.hudarin_free(kept)
     return hudarin.Verdict(hudarin.VERDICTS.get(answer.kind, f"status {answer.status}"), answer.mask)
 
 
-def verdict(sddl, user, asked, *words):
-    descriptor, refused = fault(lambda: hudarin.Descriptor.from_sddl(sddl), "sddl")
-    sid, refused = (None, refused) if refused else fault(lambda: hudarin.Sid.from_text(user), "sid")
-    mask, refused = (None, refused) if refused else fault(lambda: hudarin.mask(asked), "mask")
-    if refused:
-        return refused
+class Question(NamedTuple):
+    """What `verdict` and `why` are asked of."""
+
+    descriptor: hudarin.Descriptor
+    user: hudarin.Sid
+    asked: int
+    groups: list
+    restricting: list
+    privileges: int
+
+
+def token_words(words):
+    """The groups, the restricting SIDs and the privileges that the words name, or the line that refuses one."""
     groups, restricting, privileges = [], [], 0
     for word in words:
         name, _, state = word.partition("=")
@@ -81,22 +74,48 @@ def verdict(sddl, user, asked, *words):
             continue
         group, refused = fault(lambda: hudarin.Sid.from_text(name), "token")
         if refused or ("=" in word and state not in STATES and state != "restrict"):
-            return "fault token"
+            return None, "fault token"
         if state == "restrict":
             restricting.append(group)
             continue
         groups.append((group, STATES.get(state, hudarin.ENABLED)))
-    answer = descriptor.check(sid, groups, mask, privileges, restricting=restricting)
-    over = over_bytes(descriptor, sid, groups, mask, privileges, restricting)
+    return (groups, restricting, privileges), None
+
+
+def question(sddl, user, asked, *words):
+    """The question, or the line that refuses it."""
+    descriptor, refused = fault(lambda: hudarin.Descriptor.from_sddl(sddl), "sddl")
+    sid, refused = (None, refused) if refused else fault(lambda: hudarin.Sid.from_text(user), "sid")
+    mask, refused = (None, refused) if refused else fault(lambda: hudarin.mask(asked), "mask")
+    token, refused = (None, refused) if refused else token_words(words)
+    return (None, refused) if refused else (Question(descriptor, sid, mask, *token), None)
+
+
+def verdict(*words):
+    asked, refused = question(*words)
+    if refused:
+        return refused
+    answer = asked.descriptor.check(asked.user, asked.groups, asked.asked, asked.privileges, restricting=asked.restricting)
+    token = hudarin._token(asked.user, asked.groups, asked.privileges, asked.restricting)
+    over = over_bytes(asked.descriptor, asked.asked, token)
     return str(answer) if answer == over else f"{answer}, and over the bytes {over}"
 
 
+def why(*words):
+    asked, refused = question(*words)
+    if refused:
+        return refused
+    return str(asked.descriptor.explain(asked.user, asked.groups, asked.asked, asked.privileges, restricting=asked.restricting))
+
+
 def answer(command, *words):
-    """The line that the library's answer would be printed as."""
+    """The lines that the library's answer would be printed as."""
     if words and words[0] == "--":
         words = words[1:]
     if command == "verdict":
         return verdict(*words)
+    if command == "why":
+        return why(*words)
     if command == "frombin":
         if not re.fullmatch("([0-9a-fA-F]{2})*", words[0]):
             return "fault hex"
@@ -110,6 +129,8 @@ def ask(place, *words):
     """The library answers as the program does."""
     global passed
     said = subprocess.run([PROGRAM, *words], stdin=subprocess.DEVNULL, stdout=subprocess.PIPE, check=False).stdout.decode()
+    # Whom an entry applies to, the library doesn't tell.
+    said = re.sub(r"(\)) as S-[0-9x-]*", r"\1", said)
     here = answer(*words) + "\n"
     if here == said:
         passed += 1
@@ -130,10 +151,10 @@ def pairs(cells):
     return [pair for pair in zip(cells[::2], cells[1::2]) if pair[0]]
 
 
-def check_row(place, owner, dacl, words, asked):
+def check_row(place, command, owner, dacl, words, asked):
     full = lambda text: text.replace(";U)", f";{USER})")
     owned = "" if owner == "*none*" else "O:" + (USER if owner == "U" else owner)
-    ask(place, "verdict", f"{owned}G:SY{full(dacl)}", USER, asked, *(re.sub("^U=", f"{USER}=", word) for word in words.split()))
+    ask(place, command, f"{owned}G:SY{full(dacl)}", USER, asked, *(re.sub("^U=", f"{USER}=", word) for word in words.split()))
 
 
 class Table:
@@ -180,9 +201,13 @@ class Table:
             for name, _ in pairs(cells):
                 ask(place, "verdict", "D:", USER, name)
         elif heads == "DACL|Words|Asked|Verdict":
-            check_row(place, "BA", one, cells[1], cells[2])
+            check_row(place, "verdict", "BA", one, cells[1], cells[2])
         elif heads == "Owner|DACL|Words|Asked|Verdict":
-            check_row(place, cells[0], two, cells[2], cells[3])
+            check_row(place, "verdict", cells[0], two, cells[2], cells[3])
+        elif heads == "DACL|Words|Asked|Verdict|Why":
+            check_row(place, "why", "BA", one, cells[1], cells[2])
+        elif heads == "Owner|DACL|Words|Asked|Verdict|Why":
+            check_row(place, "why", cells[0], two, cells[2], cells[3])
         else:
             return False
         return True
@@ -191,7 +216,7 @@ class Table:
 def console(place, line):
     """A line of a console block that asks for an answer, and no more."""
     words = shlex.split(line[2:]) if " | " not in line and '"$' not in line else []
-    if words[:1] == ["./sdstore"] and words[1:2] and words[1] in ("verdict", "print", "tobin", "frombin"):
+    if words[:1] == ["./sdstore"] and words[1:2] and words[1] in ("verdict", "why", "print", "tobin", "frombin"):
         if "help" not in line.replace("-- --help", "") and len(words) > 2:
             ask(place, *words[1:])
 

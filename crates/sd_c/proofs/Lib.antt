@@ -2,3 +2,4 @@ pub mod Loop
 mod RestrictingLoop
 pub mod Front
 pub mod SealSteps
+mod Told

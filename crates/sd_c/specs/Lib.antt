@@ -5,3 +5,4 @@ pub mod Length
 pub mod Handle
 pub mod Kept
 pub mod OverBytes
+pub mod Explaining

@@ -11,6 +11,7 @@
 mod answer;
 mod bytes;
 mod check;
+mod explaining;
 mod handle;
 mod handles;
 mod keeping;
@@ -25,6 +26,7 @@ mod text;
 pub use answer::{CheckAnswer, MaskAnswer, Written};
 pub use bytes::{hudarin_bytes_to_sddl, hudarin_sid_bytes_to_text};
 pub use check::hudarin_check;
+pub use explaining::{Explained, FindingAnswer, PartAnswer, hudarin_explain};
 pub use handle::{Handle, Kept, Seal};
 pub use handles::{hudarin_check_kept, hudarin_free};
 pub use keeping::{hudarin_keep_bytes, hudarin_keep_sddl, hudarin_keep_token};

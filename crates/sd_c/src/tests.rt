@@ -1,5 +1,7 @@
 //! The calls on the worked rows of docs/FORMATS.md and docs/CHECK.md.
 
+mod explaining;
+
 ghost use Rattle.std.specs.Prelude.{◌≡◌};
 
 use super::*;

@@ -2,13 +2,13 @@
 
 ghost use Rattle.std.specs.Prelude.{◌≡◌, ◌<◌, ◌≤◌};
 ghost use Rattle.sd_check.specs.Check.{verdict};
-ghost use Rattle.sd_check.specs.Dacl.{entries_of};
+ghost use Rattle.sd_check.specs.Dacl.{dacl_entries, entries_of};
 ghost use Rattle.sd_explain.specs.Reasons.{reasons_of};
 ghost use Rattle.sd_explain.specs.Parts.{reason_in, is_of_share, bits_of, told_verdict, part_at};
 
 use crate::question::Question;
 use crate::reason::{Cause, Reason, Share};
-use sd_acl::Verdict;
+use sd_acl::{Dacl, Descriptor, Verdict};
 use sd_check::{DaclRef, Token};
 use sd_sid::{GenericMapping, Mask, Sid};
 
@@ -55,6 +55,36 @@ pub fn explain(
         reasons[place as usize] = question.reason(asked, place);
     }
     Explanation { reasons }
+}
+
+/// The same for a descriptor ([MS-DTYP] 2.5.3.2): the verdict is that of `check`.
+pub fn explain_descriptor(
+    descriptor: &Descriptor,
+    mapping: &GenericMapping,
+    token: &Token,
+    asked: Mask,
+) -> Explanation
+    ensures reasons { result.reasons ≡ reasons_of descriptor.now.owner (dacl_entries descriptor.now.dacl) mapping.now token.now asked }
+    ensures verdict { told_verdict (reason_in result.reasons) ≡ verdict descriptor.now.owner (dacl_entries descriptor.now.dacl) mapping.now token.now asked }
+{
+    explain(
+        descriptor.owner,
+        lent(&descriptor.dacl),
+        mapping,
+        token,
+        asked,
+    )
+}
+
+/// The DACL, lent to an explanation.
+fn lent(dacl: &Dacl) -> DaclRef<'_>
+    ensures { entries_of result ≡ dacl_entries dacl.now }
+{
+    match dacl {
+        Dacl::Absent => DaclRef::Absent,
+        Dacl::Null => DaclRef::Null,
+        Dacl::List(list) => DaclRef::List(list.entries()),
+    }
 }
 
 impl Explanation {

@@ -17,7 +17,7 @@ mod question;
 mod reason;
 
 pub use dead::{covers, is_dead};
-pub use explanation::{Explanation, PLACES, Part, explain};
+pub use explanation::{Explanation, PLACES, Part, explain, explain_descriptor};
 pub use laws::{
     causes_are_due, findings_have_a_subject, findings_name_first_entries,
     parts_are_apart_and_whole, parts_join,
