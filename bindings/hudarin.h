@@ -1,8 +1,9 @@
 /*
  * Hudarin: Windows security descriptors, and access checks on them by [MS-DTYP].
  *
- * Threads: any number of threads may make any of these calls at once, but that each handle stays on the thread that first
- * kept something by it: a call that takes a hudarin_kept also changes it, and may be given no handle twice.
+ * Threads: any number of threads may make any of these calls at once, but each handle is one thread's at a time: a call that takes
+ * a hudarin_kept also changes it, and may be given no handle twice. It is handed to another thread as other memory is, by a lock,
+ * a queue or the start of a thread. hudarin_share makes another handle of the same.
  *
  * Rooms: a room that is written lies apart from everything else that its call is given, and nobody else reads or writes
  * it, nor writes what the call reads, before the call returns.
@@ -297,6 +298,10 @@ hudarin_verdict hudarin_check_bytes(const void *descriptor, size_t descriptor_le
 /* Why that verdict is what it is: each bit of the mapped request is in one part, with MAXIMUM_ALLOWED each bit of 0x001fffff
  * too, and the verdict follows from the parts. There are no parts unless the status is HUDARIN_OK. Takes no memory. */
 hudarin_explanation hudarin_explain(hudarin_kept *descriptor, hudarin_kept *token, hudarin_mapping mapping, uint32_t asked);
+
+/* Keeps behind `other` what `handle` keeps, as for another thread: nothing of it is copied, and it is freed with the last of its
+ * handles. HUDARIN_HANDLE where `handle` keeps nothing, or `other` something already. The answer's `length` is 0. */
+hudarin_written hudarin_share(hudarin_kept *handle, hudarin_kept *other);
 
 /* Frees what the handle keeps, where it keeps something; it is HUDARIN_NOTHING behind that, and may keep again. */
 void hudarin_free(hudarin_kept *handle);

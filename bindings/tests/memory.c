@@ -45,7 +45,7 @@ void __wrap_free(void *block)
     __real_free(block);
 }
 
-enum call { TO_BYTES, TO_SDDL, CANONICAL, LENGTH, SID_BYTES, SID_TEXT, CHECK, KEEP_SDDL, KEEP_BYTES, KEEP_TOKEN };
+enum call { TO_BYTES, TO_SDDL, CANONICAL, LENGTH, SID_BYTES, SID_TEXT, CHECK, KEEP_SDDL, KEEP_BYTES, KEEP_TOKEN, SHARE };
 
 /* A call, what it is given, and what it answers: what it writes, NULL where that isn't looked at, and how much; a fault of a
  * text and its place. Bytes are told in hexadecimal digits, given and written. */
@@ -96,6 +96,7 @@ static const row rows[] = {
     { KEEP_SDDL, "O:DA", NULL, 0, HUDARIN_TEXT_DOMAIN_ALIAS, 2 },
     { KEEP_BYTES, CHECKED, NULL, 0, 0, 0 },
     { KEEP_TOKEN, CHECKED, NULL, 0, 0, 0 },
+    { SHARE, CHECKED, NULL, 0, 0, 0 },
 };
 
 static const hudarin_mapping files = HUDARIN_FILE_MAPPING;
@@ -157,6 +158,7 @@ static void made(const row *row, outcome *it)
     case KEEP_SDDL: written(it, hudarin_keep_sddl(row->text, text, &kept)); break;
     case KEEP_BYTES: written(it, hudarin_keep_bytes(lent.bytes, lent.length, &kept)); break;
     case KEEP_TOKEN: judged(it, keep_token(&kept)); break;
+    case SHARE: written(it, hudarin_share(&descriptor, &kept)); break;
     }
     granted = -1;
     if (kept.is_there) {

@@ -65,7 +65,7 @@ both_tt false y s t = absurd s
 
 -- an empty seal says nothing of what it keeps
 pub some_kept : Kept.the_row.Denot
-some_kept = Kinds.Descriptor (record { owner = None; group = None; dacl = Absent; protected = false; auto_req = false; auto_inherited = false; without_a_dacl = λ _. refl })
+some_kept = Kinds.Descriptor (record { ptr = null_ptr; value = record { owner = None; group = None; dacl = Absent; protected = false; auto_req = false; auto_inherited = false; without_a_dacl = λ _. refl } })
 
 not_zero : (n : ℕ) → 0 < n → (n == 0) ≡ false
 not_zero n h = search (rules, nat_tests)

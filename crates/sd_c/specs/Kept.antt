@@ -1,5 +1,6 @@
 -- What the calls over handles answer, and what they leave in the handles.
 use Rattle.std.specs.Prelude.{◌≡◌, ◌⊎◌, ℕ, ◌==◌, List, Result, Ok, Err, if◌then◌else◌}
+use Rattle.std.specs.Arc.{arc_value}
 use Rattle.sd_acl.specs.Descriptor.{DescriptorValue, descriptor_of}
 use Rattle.sd_check.specs.Token.{TokenValue}
 use Rattle.sd_wire.specs.Reading.{descriptor_read}
@@ -23,12 +24,12 @@ abbrev pub is_kept : ℕ → NotRead → Result (Unit {0}) NotRead
 is_kept is_there why = if is_there == 0 then Err why else Ok tt
 
 abbrev pub descriptor_in : Kept → Result DescriptorValue NotRead
-descriptor_in (kinds.Descriptor d) = Ok (descriptor_of d)
+descriptor_in (kinds.Descriptor d) = Ok (descriptor_of (arc_value d))
 descriptor_in (kinds.Token t) = Err DescriptorHandle
 
 abbrev pub token_in : Kept → Result TokenValue NotRead
 token_in (kinds.Descriptor d) = Err TokenHandle
-token_in (kinds.Token t) = Ok t
+token_in (kinds.Token t) = Ok (arc_value t)
 
 -- what two things that are kept ask of a check
 unfoldable pub asked_of : Kept → Kept → Mapping → Result RequestValue NotRead
@@ -74,3 +75,16 @@ KeepsToken read old new answer =
 -- the handle kept something already, and is as it was
 abbrev pub TokenInUse : Handle → Handle → CheckAnswer → Type 0
 TokenInUse old new answer = (old.is_there ≡ 1) × (new ≡ old) × (answer ≡ unread 11 8 0 0)
+
+-- ---- sharing
+
+-- what answers as this does, whatever is asked of it
+abbrev pub IsSame : Kept → Kept → Type 0
+IsSame kept other = (descriptor_in other ≡ descriptor_in kept) × (token_in other ≡ token_in kept)
+
+-- the second handle keeps the same as the first, or is as it was: memory was refused, or one of them didn't serve
+abbrev pub IsShared : Handle → Handle → Handle → Written → Type 0
+IsShared handle old new answer =
+    ((handle.is_there ≡ 1) × (old.is_there ≡ 0) × (new.is_there ≡ 1) × IsSame handle.seal.kept new.seal.kept × (answer ≡ not_written 0 0 0))
+    ⊎ ((new ≡ old) × (answer ≡ not_written 1 0 0))
+    ⊎ (((handle.is_there ≡ 0) ⊎ (old.is_there ≡ 1)) × (new ≡ old) × (answer ≡ not_written 11 0 0))

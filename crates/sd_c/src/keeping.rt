@@ -1,7 +1,7 @@
 //! The calls that keep what they read behind a handle.
 
-ghost use Rattle.std.specs.Prelude.{◌≡◌, ◌⊎◌, IfErr, IfOk};
-ghost use Rattle.sd_acl.specs.Descriptor.{DescriptorValue};
+ghost use Rattle.std.specs.Prelude.{◌≡◌, ◌⊎◌, Ok, IfErr, IfOk};
+ghost use Rattle.sd_acl.specs.Descriptor.{DescriptorValue, descriptor_of as descriptor_value};
 ghost use Rattle.sd_check.specs.Token.{TokenValue};
 ghost use Rattle.sd_text.specs.Grammar.{Spells};
 ghost use Rattle.sd_text.specs.Sddl.{sddl};
@@ -18,8 +18,10 @@ use crate::refusal::Refusal;
 use crate::request::token_of;
 use crate::stop::Stop;
 use crate::text::descriptor_of;
+use sd_acl::Descriptor;
 use sd_wire::{WireError, read_descriptor};
-use std::alloc::Global;
+use std::alloc::{AllocError, Global};
+use std::sync::Arc;
 
 /// Keeps the descriptor that the SDDL text spells ([MS-DTYP] 2.5.1). Refused as `hudarin_sddl_to_bytes` is, or where the
 /// handle keeps something already; then it stays as it was.
@@ -91,10 +93,15 @@ fn kept_text(alloc: Global, text: &[u8]) -> Result<Box<Kept>, Refusal>
     ensures err { IfErr result (λ why. RefusesText sddl text.now why) }
 {
     let descriptor = descriptor_of(alloc, text)?;
-    match Box::new(alloc, Kept::Descriptor(descriptor)) {
-        Ok(kept) => Ok(kept),
-        Err(_) => Err(Refusal::Memory),
-    }
+    Ok(boxed_descriptor(alloc, descriptor)?)
+}
+
+/// The descriptor, for one handle.
+fn boxed_descriptor(alloc: Global, descriptor: Descriptor) -> Result<Box<Kept>, AllocError>
+    ensures { IfOk result (λ kept. descriptor_in kept.value ≡ Ok (descriptor_value descriptor)) }
+{
+    let descriptor = Arc::new(alloc, descriptor)?;
+    Ok(Box::new(alloc, Kept::Descriptor(descriptor))?)
 }
 
 fn kept_bytes(alloc: Global, bytes: &[u8]) -> Result<Box<Kept>, Refusal>
@@ -102,10 +109,7 @@ fn kept_bytes(alloc: Global, bytes: &[u8]) -> Result<Box<Kept>, Refusal>
     ensures err { IfErr result (λ why. RefusesBytes bytes.now why) }
 {
     match read_descriptor(alloc, bytes) {
-        Ok(descriptor) => match Box::new(alloc, Kept::Descriptor(descriptor)) {
-            Ok(kept) => Ok(kept),
-            Err(_) => Err(Refusal::Memory),
-        },
+        Ok(descriptor) => Ok(boxed_descriptor(alloc, descriptor)?),
         Err(WireError::Fault(fault)) => Err(Refusal::Wire(fault)),
         Err(WireError::Memory) => Err(Refusal::Memory),
     }
@@ -123,8 +127,6 @@ fn kept_token(
     ensures err { IfErr result (λ stop. Fails stop (token_read user.now groups.now states.now restricting.now privileges)) }
 {
     let token = token_of(alloc, user, groups, states, restricting, privileges)?;
-    match Box::new(alloc, Kept::Token(token)) {
-        Ok(kept) => Ok(kept),
-        Err(_) => Err(Stop::Memory),
-    }
+    let token = Arc::new(alloc, token)?;
+    Ok(Box::new(alloc, Kept::Token(token))?)
 }

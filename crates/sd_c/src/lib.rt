@@ -20,6 +20,7 @@ mod mapping;
 mod over_bytes;
 mod refusal;
 mod request;
+mod sharing;
 mod stop;
 mod text;
 
@@ -33,6 +34,7 @@ pub use keeping::{hudarin_keep_bytes, hudarin_keep_sddl, hudarin_keep_token};
 pub use length::{front_is_read, hudarin_descriptor_length};
 pub use mapping::Mapping;
 pub use over_bytes::hudarin_check_bytes;
+pub use sharing::hudarin_share;
 pub use text::{
     hudarin_mask_from_text, hudarin_sddl_canonical, hudarin_sddl_to_bytes,
     hudarin_sid_text_to_bytes,

@@ -352,6 +352,31 @@ fn what_is_kept_answers_as_what_was_read(rt: HostRuntime) {
     );
 }
 
+/// Whatever is handed to it may go to another thread.
+fn may_cross<T: Send>(_: &T) {}
+
+#[test]
+fn a_shared_handle_keeps_the_same(rt: HostRuntime) {
+    let (mut first, mut second, mut token) = (nothing(&rt), nothing(&rt), nothing(&rt));
+    let answer = hudarin_share(rt.alloc(), &mut first, &mut second);
+    assert_eq!(rt; (answer.status, second.is_there), (11, 0));
+    let answer = hudarin_keep_bytes(rt.alloc(), &DENIED_TO_USERS, &mut first);
+    assert_eq!(rt; answer.status, 0);
+    let answer = hudarin_share(rt.alloc(), &mut first, &mut second);
+    assert_eq!(rt; (answer.status, second.is_there), (0, 1));
+    let answer = hudarin_share(rt.alloc(), &mut second, &mut first);
+    assert_eq!(rt; answer.status, 11);
+    hudarin_free(rt.alloc(), &mut first);
+    let answer = hudarin_keep_token(rt.alloc(), &USER, &GROUPS, &[0, 4], &[], 0, &mut token);
+    assert_eq!(rt; answer.status, 0);
+    let answer = hudarin_check_kept(rt.alloc(), &mut second, &mut token, FILE, 0x3);
+    assert_eq!(rt; (answer.status, answer.kind, answer.mask), (0, 2, 0x2));
+    if let Some(kept) = second.take(rt.alloc()) {
+        may_cross(&*kept);
+    }
+    hudarin_free(rt.alloc(), &mut token);
+}
+
 #[test]
 fn handles_that_do_not_serve(rt: HostRuntime) {
     let (mut descriptor, mut token) = (nothing(&rt), nothing(&rt));

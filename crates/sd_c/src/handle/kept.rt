@@ -2,10 +2,11 @@
 
 use sd_acl::Descriptor;
 use sd_check::Token;
+use std::sync::Arc;
 
-/// What was read once, to be asked often.
+/// What was read once, to be asked often, by each handle that shares it.
 #[derive(Drop)]
 pub enum Kept {
-    Descriptor(Descriptor),
-    Token(Token),
+    Descriptor(Arc<Descriptor>),
+    Token(Arc<Token>),
 }

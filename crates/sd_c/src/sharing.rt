@@ -1,0 +1,44 @@
+//! Another handle of what a handle keeps.
+
+ghost use Rattle.std.specs.Prelude.{◌≡◌, ◌⊎◌, IfOk};
+ghost use Rattle.sd_c.specs.Kept.{IsShared, IsSame, Stays};
+
+use crate::answer::{HANDLE, MEMORY, OK, Written, not_written};
+use crate::handle::{Handle, Kept};
+use std::alloc::{AllocError, Global};
+use std::sync::Arc;
+
+/// Keeps behind `other` what `handle` keeps, for another thread: nothing of it is copied, and it is freed with the last of its
+/// handles. Refused where `handle` keeps nothing, or `other` something; then both stay as they were.
+#[unsafe(no_mangle)]
+pub extern "C" fn hudarin_share(alloc: Global, handle: &mut Handle, other: &mut Handle) -> Written
+    ensures shared { IsShared handle.old other.old other.new result }
+    ensures stays { Stays handle.old handle.new }
+{
+    if other.is_there == 1 {
+        return not_written(HANDLE, 0, 0);
+    }
+    let Some(kept) = handle.take(alloc) else {
+        return not_written(HANDLE, 0, 0);
+    };
+    let answer = match shared(alloc, &kept) {
+        Ok(second) => {
+            other.put(second);
+            not_written(OK, 0, 0)
+        }
+        Err(AllocError) => not_written(MEMORY, 0, 0),
+    };
+    handle.put(kept);
+    answer
+}
+
+/// The same, for one holder more.
+fn shared(alloc: Global, kept: &Kept) -> Result<Box<Kept>, AllocError>
+    ensures { IfOk result (λ second. IsSame kept.now second.value) }
+{
+    let second = match kept {
+        Kept::Descriptor(descriptor) => Kept::Descriptor(Arc::try_clone(descriptor)?),
+        Kept::Token(token) => Kept::Token(Arc::try_clone(token)?),
+    };
+    Ok(Box::new(alloc, second)?)
+}
