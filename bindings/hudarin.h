@@ -29,6 +29,19 @@
 extern "C" {
 #endif
 
+/* ---- The version that this header is of; hudarin_version tells the library's */
+
+#define HUDARIN_VERSION_MAJOR 0u
+#define HUDARIN_VERSION_MINOR 1u
+#define HUDARIN_VERSION_PATCH 0u
+
+/* An answer that nobody looks at is a mistake, and a compiler that can tell says so. */
+#if defined(__GNUC__)
+#define HUDARIN_ANSWERS __attribute__((warn_unused_result))
+#else
+#define HUDARIN_ANSWERS
+#endif
+
 /* ---- Statuses */
 
 #define HUDARIN_OK 0u
@@ -152,8 +165,9 @@ extern "C" {
 
 /* ---- Rooms that always suffice, in bytes */
 
-/* Of a SID. */
+/* Of a SID, and of its text. */
 #define HUDARIN_SID_BYTES 68u
+#define HUDARIN_SID_TEXT_BYTES 183u
 /* Of a descriptor. */
 #define HUDARIN_DESCRIPTOR_BYTES 65688u
 
@@ -167,8 +181,9 @@ typedef struct hudarin_mapping {
     uint32_t all;
 } hudarin_mapping;
 
-/* The mapping of files, for an initializer. */
+/* The mappings of files and of registry keys, for an initializer: FILE_GENERIC_READ .. FILE_ALL_ACCESS, KEY_READ .. KEY_ALL_ACCESS. */
 #define HUDARIN_FILE_MAPPING { 0x00120089u, 0x00120116u, 0x001200a0u, 0x001f01ffu }
+#define HUDARIN_KEY_MAPPING { 0x00020019u, 0x00020006u, 0x00020019u, 0x000f003fu }
 
 /* What a check answers. */
 typedef struct hudarin_verdict {
@@ -229,6 +244,29 @@ typedef struct hudarin_kept {
 
 #define HUDARIN_NOTHING { NULL, 0u }
 
+/* What a version is made of. */
+typedef struct hudarin_library {
+    uint32_t major; /* another one may change what stands */
+    uint32_t minor; /* another one adds to it */
+    uint32_t patch; /* another one mends it */
+} hudarin_library;
+
+/* The library's version. */
+HUDARIN_ANSWERS hudarin_library hudarin_version(void);
+
+/* Whether all that was asked for is granted. A caller that looks at this alone lets nobody in whom no verdict lets in. */
+static inline int hudarin_is_granted(hudarin_verdict answer)
+{
+    return answer.status == HUDARIN_OK && answer.kind == HUDARIN_GRANTED;
+}
+
+/* The state of a group by the attributes that Windows keeps with it: one that counts for denies alone does whether it is enabled
+ * or not, and of the others the enabled ones count. */
+static inline uint32_t hudarin_group_state(uint32_t attributes)
+{
+    return (attributes & HUDARIN_GROUP_DENY_ONLY) != 0 ? HUDARIN_GROUP_DENY_ONLY : attributes & HUDARIN_GROUP_ENABLED;
+}
+
 /* ---- The check */
 
 /*
@@ -238,70 +276,70 @@ typedef struct hudarin_kept {
  * groups and, asked again, to these SIDs alone. The arguments are read in their order, and the first that isn't read
  * answers. A user is in no group but those that are given: neither in Everyone nor in Authenticated Users.
  */
-hudarin_verdict hudarin_check(const void *descriptor, size_t descriptor_length,
-                              const void *user, size_t user_length,
-                              const void *groups, size_t groups_length,
-                              const uint32_t *states, size_t state_count,
-                              const void *restricting, size_t restricting_length,
-                              uint32_t privileges, hudarin_mapping mapping, uint32_t asked);
+HUDARIN_ANSWERS hudarin_verdict hudarin_check(const void *descriptor, size_t descriptor_length,
+                                              const void *user, size_t user_length,
+                                              const void *groups, size_t groups_length,
+                                              const uint32_t *states, size_t state_count,
+                                              const void *restricting, size_t restricting_length,
+                                              uint32_t privileges, hudarin_mapping mapping, uint32_t asked);
 
 /* ---- Descriptors. A text is UTF-8 without a zero behind it, both as it is given and as it is written. */
 
 /* The self-relative form of the descriptor that the SDDL text spells. */
-hudarin_written hudarin_sddl_to_bytes(const char *text, size_t text_length, void *room, size_t room_length);
+HUDARIN_ANSWERS hudarin_written hudarin_sddl_to_bytes(const char *text, size_t text_length, void *room, size_t room_length);
 
 /* The canonical SDDL text of the descriptor that stands at the front of the bytes. */
-hudarin_written hudarin_bytes_to_sddl(const void *bytes, size_t bytes_length, char *room, size_t room_length);
+HUDARIN_ANSWERS hudarin_written hudarin_bytes_to_sddl(const void *bytes, size_t bytes_length, char *room, size_t room_length);
 
 /* The canonical SDDL text of the descriptor that the SDDL text spells. */
-hudarin_written hudarin_sddl_canonical(const char *text, size_t text_length, char *room, size_t room_length);
+HUDARIN_ANSWERS hudarin_written hudarin_sddl_canonical(const char *text, size_t text_length, char *room, size_t room_length);
 
 /* How many bytes the descriptor takes that stands at the front of the bytes: up to the end of its last part. */
-hudarin_written hudarin_descriptor_length(const void *bytes, size_t bytes_length);
+HUDARIN_ANSWERS hudarin_written hudarin_descriptor_length(const void *bytes, size_t bytes_length);
 
 /* ---- SIDs and masks */
 
 /* The bytes of the SID that the text spells, in full or by an alias of two letters. */
-hudarin_written hudarin_sid_text_to_bytes(const char *text, size_t text_length, void *room, size_t room_length);
+HUDARIN_ANSWERS hudarin_written hudarin_sid_text_to_bytes(const char *text, size_t text_length, void *room, size_t room_length);
 
 /* The text of the SID at the front of the bytes: its alias where it has one, else in full. */
-hudarin_written hudarin_sid_bytes_to_text(const void *bytes, size_t bytes_length, char *room, size_t room_length);
+HUDARIN_ANSWERS hudarin_written hudarin_sid_bytes_to_text(const void *bytes, size_t bytes_length, char *room, size_t room_length);
 
 /* The mask that the text spells: a number, or names of rights. */
-hudarin_mask hudarin_mask_from_text(const char *text, size_t text_length);
+HUDARIN_ANSWERS hudarin_mask hudarin_mask_from_text(const char *text, size_t text_length);
 
 /* ---- Handles, for callers that ask often */
 
 /* Keeps the descriptor that the SDDL text spells. The answer's `length` is 0. */
-hudarin_written hudarin_keep_sddl(const char *text, size_t text_length, hudarin_kept *descriptor);
+HUDARIN_ANSWERS hudarin_written hudarin_keep_sddl(const char *text, size_t text_length, hudarin_kept *descriptor);
 
 /* Keeps the descriptor that stands at the front of the bytes. The answer's `length` is 0. */
-hudarin_written hudarin_keep_bytes(const void *bytes, size_t bytes_length, hudarin_kept *descriptor);
+HUDARIN_ANSWERS hudarin_written hudarin_keep_bytes(const void *bytes, size_t bytes_length, hudarin_kept *descriptor);
 
 /* Keeps the token of a user, groups with their states, restricting SIDs, and privileges, which are read as hudarin_check
  * reads them. With HUDARIN_OK the answer's `kind` and `mask` are 0. */
-hudarin_verdict hudarin_keep_token(const void *user, size_t user_length,
-                                   const void *groups, size_t groups_length,
-                                   const uint32_t *states, size_t state_count,
-                                   const void *restricting, size_t restricting_length,
-                                   uint32_t privileges, hudarin_kept *token);
+HUDARIN_ANSWERS hudarin_verdict hudarin_keep_token(const void *user, size_t user_length,
+                                                   const void *groups, size_t groups_length,
+                                                   const uint32_t *states, size_t state_count,
+                                                   const void *restricting, size_t restricting_length,
+                                                   uint32_t privileges, hudarin_kept *token);
 
 /* The verdict on `asked`, for a descriptor and a token that are kept, and stay so. Takes no memory. */
-hudarin_verdict hudarin_check_kept(hudarin_kept *descriptor, hudarin_kept *token, hudarin_mapping mapping, uint32_t asked);
+HUDARIN_ANSWERS hudarin_verdict hudarin_check_kept(hudarin_kept *descriptor, hudarin_kept *token, hudarin_mapping mapping, uint32_t asked);
 
 /* The verdict on `asked`, for the self-relative descriptor at the front of the bytes and a token that is kept, and stays so:
  * what hudarin_keep_bytes and then hudarin_check_kept answer. The token's handle is tested first, then the mapping, then the
  * bytes. Takes no memory. */
-hudarin_verdict hudarin_check_bytes(const void *descriptor, size_t descriptor_length, hudarin_kept *token,
-                                    hudarin_mapping mapping, uint32_t asked);
+HUDARIN_ANSWERS hudarin_verdict hudarin_check_bytes(const void *descriptor, size_t descriptor_length, hudarin_kept *token,
+                                                    hudarin_mapping mapping, uint32_t asked);
 
 /* Why that verdict is what it is: each bit of the mapped request is in one part, with MAXIMUM_ALLOWED each bit of 0x001fffff
  * too, and the verdict follows from the parts. There are no parts unless the status is HUDARIN_OK. Takes no memory. */
-hudarin_explanation hudarin_explain(hudarin_kept *descriptor, hudarin_kept *token, hudarin_mapping mapping, uint32_t asked);
+HUDARIN_ANSWERS hudarin_explanation hudarin_explain(hudarin_kept *descriptor, hudarin_kept *token, hudarin_mapping mapping, uint32_t asked);
 
 /* Keeps behind `other` what `handle` keeps, as for another thread: nothing of it is copied, and it is freed with the last of its
  * handles. HUDARIN_HANDLE where `handle` keeps nothing, or `other` something already. The answer's `length` is 0. */
-hudarin_written hudarin_share(hudarin_kept *handle, hudarin_kept *other);
+HUDARIN_ANSWERS hudarin_written hudarin_share(hudarin_kept *handle, hudarin_kept *other);
 
 /* Frees what the handle keeps, where it keeps something; it is HUDARIN_NOTHING behind that, and may keep again. */
 void hudarin_free(hudarin_kept *handle);

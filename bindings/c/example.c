@@ -74,7 +74,10 @@ int main(void)
     /* Who asks often reads once, and keeps what was read. */
     answer = hudarin_keep_sddl(sddl, sizeof sddl - 1, &kept);
     printf("kept: status %" PRIu32 "\n", answer.status);
-    hudarin_keep_token(user, user_length, groups, groups_length, states, 2, NULL, 0, 0, &token);
+    hudarin_verdict made = hudarin_keep_token(user, user_length, groups, groups_length, states, 2, NULL, 0, 0, &token);
+    if (made.status != HUDARIN_OK) {
+        show("a token", made);
+    }
     show("read, as kept", hudarin_check_kept(&kept, &token, files, 0x1));
     hudarin_free(&kept);
     show("a handle that was freed", hudarin_check_kept(&kept, &token, files, 0x1));

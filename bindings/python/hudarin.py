@@ -6,13 +6,16 @@
     'granted 0x1'
 
 The shared library is the one that the environment's HUDARIN_LIBRARY names, else that of bindings/build beside this file,
-else the system's. Any number of threads may use this module: its objects never change.
+else the system's. Any number of threads may use this module: its objects never change, but that a Token is closed.
 """
 
 import ctypes
 import os
 import re
+import threading
 from typing import NamedTuple, Optional, Tuple
+
+__version__ = "0.1.0"
 
 _SIZE = ctypes.c_size_t
 _U32 = ctypes.c_uint32
@@ -32,7 +35,16 @@ STATUSES = {
     11: "handle",
 }
 VERDICTS = {1: "granted", 2: "denied", 3: "reserved", 4: "empty"}
-ARGUMENTS = {1: "descriptor", 2: "user", 3: "groups", 4: "states", 5: "restricting", 6: "privileges", 7: "mapping"}
+ARGUMENTS = {
+    1: "descriptor",
+    2: "user",
+    3: "groups",
+    4: "states",
+    5: "restricting",
+    6: "privileges",
+    7: "mapping",
+    8: "token",
+}
 
 CAUSES = {
     1: "without a list",
@@ -48,8 +60,9 @@ CAUSES = {
 DISABLED, ENABLED, DENY_ONLY = 0x0, 0x4, 0x10
 #: The privileges, joined by |.
 SECURITY, TAKE_OWNERSHIP = 0x1, 0x2
-#: The mapping of files: what GENERIC_READ, GENERIC_WRITE, GENERIC_EXECUTE and GENERIC_ALL stand for.
+#: The mappings of files and of registry keys: what GENERIC_READ, GENERIC_WRITE, GENERIC_EXECUTE and GENERIC_ALL stand for.
 FILES = (0x120089, 0x120116, 0x1200A0, 0x1F01FF)
+KEYS = (0x20019, 0x20006, 0x20019, 0xF003F)
 
 _ROOM = 2
 _BY_THE_LIST = 2
@@ -98,7 +111,10 @@ class _Mask(ctypes.Structure):
 def _load():
     beside = os.path.join(os.path.dirname(os.path.abspath(__file__)), "..", "out", "libhudarin.so.1")
     named = os.environ.get("HUDARIN_LIBRARY") or (beside if os.path.exists(beside) else "libhudarin.so.1")
-    library = ctypes.CDLL(named)
+    try:
+        library = ctypes.CDLL(named)
+    except OSError as e:
+        raise ImportError(f"{named}: {e}; it is named by HUDARIN_LIBRARY, else made by bindings/build, else the system's") from e
     given = [ctypes.c_char_p, _SIZE]
     room = [ctypes.c_void_p, _SIZE]
     for name in (
@@ -308,6 +324,32 @@ class Sid:
         return hash(self._bytes)
 
 
+class Token:
+    """A user, groups and privileges, read once for many checks: ``with Token(user, groups) as token: ..``, or until ``close``.
+    Its arguments are those of ``Descriptor.check``. Threads may use one at once, and take turns at it."""
+
+    __slots__ = ("_kept", "_turn")
+
+    def __init__(self, user, groups=(), privileges=0, restricting=()):
+        self._kept, self._turn = _Kept(), threading.Lock()
+        _held(_library.hudarin_keep_token(*_token(user, groups, privileges, restricting), self._kept))
+
+    def close(self):
+        """Frees what is kept; a second time does nothing."""
+        with self._turn:
+            _library.hudarin_free(self._kept)
+
+    def __enter__(self):
+        return self
+
+    def __exit__(self, *_):
+        self.close()
+
+    def __del__(self):
+        if hasattr(self, "_turn"):
+            self.close()
+
+
 class Descriptor:
     """A security descriptor, by its self-relative form."""
 
@@ -335,6 +377,12 @@ class Descriptor:
     def __repr__(self):
         return f"Descriptor.from_sddl({str(self)!r})"
 
+    def __eq__(self, other):
+        return isinstance(other, Descriptor) and self._bytes == other._bytes
+
+    def __hash__(self):
+        return hash(self._bytes)
+
     def check(self, user, groups=(), asked=0, privileges=0, mapping=FILES, restricting=()):
         """The verdict on ``asked`` for a user, a Sid. Each group is a Sid, which is enabled, or a pair of a Sid and its state.
         No group is added: neither Everyone nor Authenticated Users. With ``restricting`` Sids the list has to grant to the user
@@ -343,6 +391,15 @@ class Descriptor:
         token = _token(user, groups, privileges, restricting)
         answer = _held(_library.hudarin_check(self._bytes, len(self._bytes), *token, _mapping(mapping), _number(asked, "asked")))
         return Verdict(VERDICTS[answer.kind], answer.mask)
+
+    def check_by(self, token, asked=0, mapping=FILES):
+        """The verdict on ``asked`` for a ``Token``, straight over the descriptor's bytes. One that was closed is a ``Refused``."""
+        if not isinstance(token, Token):
+            raise TypeError(f"token: a Token is wanted, and {token!r} isn't one")
+        request = _mapping(mapping), _number(asked, "asked")
+        with token._turn:
+            answer = _library.hudarin_check_bytes(self._bytes, len(self._bytes), token._kept, *request)
+        return Verdict(VERDICTS[_held(answer).kind], answer.mask)
 
     def explain(self, user, groups=(), asked=0, privileges=0, mapping=FILES, restricting=()):
         """Why ``check`` answers as it does, with the same arguments: an ``Explanation``."""

@@ -3,10 +3,11 @@
 
 import os
 import sys
+import threading
 
 sys.path.insert(0, os.path.join(os.path.dirname(os.path.abspath(__file__)), "..", "python"))
 
-from hudarin import ENABLED, FILES, Descriptor, Refused, Sid, mask  # noqa: E402
+from hudarin import ENABLED, FILES, KEYS, Descriptor, Refused, Sid, Token, mask  # noqa: E402
 
 USER = Sid.from_text("S-1-5-21-1-2-3-1001")
 EVERYONE = Sid.from_text("WD")
@@ -98,6 +99,41 @@ gives(
 gives("entries count from 1", [(True, 0x1, 1, None), (False, 0x2, None, None)], lambda: [x[:4] for x in OPEN.explain(USER, asked=0x3).parts])
 gives("two passes", [(False, 0x1, 1, None)], lambda: [x[:4] for x in HELD.explain(USER, [EVERYONE], asked=0x1, restricting=[USER]).parts])
 gives("an empty request", (("empty", 0), ()), lambda: OPEN.explain(USER))
+
+# A token that is kept answers as one that is read anew, until it is closed.
+with Token(USER, [EVERYONE]) as token:
+    for asked in (0x1, 0x3, 0x80000000, 0, 0xFFFFFFFF):
+        for one in (OPEN, HELD):
+            gives(f"kept {asked:#x}", one.check(USER, [EVERYONE], asked=asked), lambda: one.check_by(token, asked))
+    for number, wanted in NUMBERS:
+        raises(f"by a token {number!r}", wanted, lambda: HELD.check_by(token, number))
+    raises("a mapping beyond a list's rights, by a token", Refused, lambda: HELD.check_by(token, 1, (0, 0, 0, 0x200000)))
+raises("a token that was closed", Refused, lambda: HELD.check_by(token, 0x1))
+gives("a token that is closed twice", None, token.close)
+raises("no token", TypeError, lambda: HELD.check_by(USER, 0x1))
+raises("a token without a state", Refused, lambda: Token(USER, [(EVERYONE, 0x14)]))
+raises("a token of no Sid", TypeError, lambda: Token("BA"))
+gives("keys are mapped as keys", "granted 0x20019", lambda: str(Descriptor.from_sddl("D:NO_ACCESS_CONTROL").check(USER, asked=0x80000000, mapping=KEYS)))
+gives("equal descriptors", 1, lambda: len({OPEN, Descriptor(bytes(OPEN)), Descriptor(bytes(OPEN) + b"more")}))
+gives("another descriptor", False, lambda: OPEN == HELD or OPEN == bytes(OPEN))
+
+# Threads take turns at a token.
+wrong = []
+with Token(USER, [EVERYONE]) as token:
+    answers = {asked: str(HELD.check(USER, [EVERYONE], asked=asked)) for asked in (0x1, 0x2, 0x3)}
+
+    def turns():
+        for turn in range(3000):
+            asked = 1 + turn % 3
+            if str(HELD.check_by(token, asked)) != answers[asked]:
+                wrong.append(asked)
+
+    threads = [threading.Thread(target=turns) for _ in range(4)]
+    for thread in threads:
+        thread.start()
+    for thread in threads:
+        thread.join()
+gives("threads at one token", [], lambda: wrong)
 
 # Restricting Sids only take away.
 gives("not restricted", "granted 0x1", lambda: str(HELD.check(USER, [EVERYONE], asked=0x1)))

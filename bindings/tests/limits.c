@@ -362,7 +362,8 @@ static void over_bytes(void)
     hudarin_verdict verdict = hudarin_check_bytes(NULL, 0, &token, wide, 1);
     size_t cut;
     HOLDS(is_unread(verdict, HUDARIN_HANDLE, HUDARIN_ARGUMENT_TOKEN, 0, 0));
-    hudarin_keep_token(user, sizeof user, everyone, sizeof everyone, &enabled, 1, NULL, 0, 0, &token);
+    verdict = hudarin_keep_token(user, sizeof user, everyone, sizeof everyone, &enabled, 1, NULL, 0, 0, &token);
+    HOLDS(is_unread(verdict, HUDARIN_OK, 0, 0, 0));
     HOLDS(is_unread(hudarin_check_bytes(NULL, 0, &token, wide, 1), HUDARIN_MAPPING, HUDARIN_ARGUMENT_MAPPING, 0, 0));
     for (cut = 0; cut < sizeof worked; cut++) {
         hudarin_written kept = hudarin_keep_bytes(lent(worked, cut), cut, &descriptor);
@@ -377,7 +378,7 @@ static void over_bytes(void)
     HOLDS(verdict.status == HUDARIN_OK && verdict.kind == HUDARIN_EMPTY_REQUEST && verdict.mask == 0);
     verdict = hudarin_check_bytes(worked, sizeof worked, &token, files, 0xffffffffu);
     HOLDS(verdict.status == HUDARIN_OK && verdict.kind == HUDARIN_RESERVED && verdict.mask == 0x0ce00000u);
-    hudarin_keep_bytes(worked, sizeof worked, &descriptor);
+    HOLDS(hudarin_keep_bytes(worked, sizeof worked, &descriptor).status == HUDARIN_OK);
     verdict = hudarin_check_bytes(worked, sizeof worked, &descriptor, files, 1);
     HOLDS(is_unread(verdict, HUDARIN_HANDLE, HUDARIN_ARGUMENT_TOKEN, 0, 0) && keeps(&descriptor, 1) && keeps(&token, 1));
     hudarin_free(&descriptor);

@@ -289,8 +289,8 @@ int main(void)
     lent.groups_length +=
         (size_t)hudarin_sid_text_to_bytes("WD", 2, lent.groups + lent.groups_length, HUDARIN_SID_BYTES).length;
     HOLDS(lent.user_length == 28 && lent.groups_length == 28 && taken == 0);
-    hudarin_keep_sddl(CHECKED, sizeof CHECKED - 1, &descriptor);
-    keep_token(&token);
+    HOLDS(hudarin_keep_sddl(CHECKED, sizeof CHECKED - 1, &descriptor).status == HUDARIN_OK);
+    HOLDS(keep_token(&token).status == HUDARIN_OK);
     HOLDS(descriptor.is_there && token.is_there);
     for (at = 0; at < sizeof rows / sizeof rows[0]; at++) {
         static outcome due;

@@ -108,9 +108,9 @@ static void refusals(void)
     static const hudarin_mapping wide = { 0, 0, 0, 0x200000 };
     hudarin_kept descriptor = HUDARIN_NOTHING, token = HUDARIN_NOTHING;
     refused(&descriptor, &token, wide, HUDARIN_HANDLE, HUDARIN_ARGUMENT_DESCRIPTOR);
-    hudarin_keep_sddl("D:", 2, &descriptor);
+    HOLDS(hudarin_keep_sddl("D:", 2, &descriptor).status == HUDARIN_OK);
     refused(&descriptor, &token, wide, HUDARIN_HANDLE, HUDARIN_ARGUMENT_TOKEN);
-    hudarin_keep_token(user, sizeof user, NULL, 0, NULL, 0, NULL, 0, 0, &token);
+    HOLDS(hudarin_keep_token(user, sizeof user, NULL, 0, NULL, 0, NULL, 0, 0, &token).status == HUDARIN_OK);
     refused(&token, &descriptor, wide, HUDARIN_HANDLE, HUDARIN_ARGUMENT_DESCRIPTOR);
     refused(&descriptor, &token, wide, HUDARIN_MAPPING, HUDARIN_ARGUMENT_MAPPING);
     hudarin_free(&descriptor);

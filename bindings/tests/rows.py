@@ -43,16 +43,6 @@ def fault(reading, kind):
         return None, f"fault {kind}"
 
 
-def over_bytes(descriptor, asked, token):
-    """The verdict by a token that is kept, straight over the descriptor's bytes."""
-    library, data, kept = hudarin._library, bytes(descriptor), hudarin._Kept()
-    answer = library.hudarin_keep_token(*token, kept)
-    if answer.status == 0:
-        answer = library.hudarin_check_bytes(data, len(data), kept, hudarin._mapping(hudarin.FILES), asked)
-    library.hudarin_free(kept)
-    return hudarin.Verdict(hudarin.VERDICTS.get(answer.kind, f"status {answer.status}"), answer.mask)
-
-
 class Question(NamedTuple):
     """What `verdict` and `why` are asked of."""
 
@@ -96,8 +86,8 @@ def verdict(*words):
     if refused:
         return refused
     answer = asked.descriptor.check(asked.user, asked.groups, asked.asked, asked.privileges, restricting=asked.restricting)
-    token = hudarin._token(asked.user, asked.groups, asked.privileges, asked.restricting)
-    over = over_bytes(asked.descriptor, asked.asked, token)
+    with hudarin.Token(asked.user, asked.groups, asked.privileges, asked.restricting) as token:
+        over = asked.descriptor.check_by(token, asked.asked)
     return str(answer) if answer == over else f"{answer}, and over the bytes {over}"
 
 

@@ -23,6 +23,7 @@ mod request;
 mod sharing;
 mod stop;
 mod text;
+mod version;
 
 pub use answer::{CheckAnswer, MaskAnswer, Written};
 pub use bytes::{hudarin_bytes_to_sddl, hudarin_sid_bytes_to_text};
@@ -39,6 +40,7 @@ pub use text::{
     hudarin_mask_from_text, hudarin_sddl_canonical, hudarin_sddl_to_bytes,
     hudarin_sid_text_to_bytes,
 };
+pub use version::{Version, hudarin_version};
 
 #[cfg(test)]
 mod tests;

@@ -378,6 +378,16 @@ fn a_shared_handle_keeps_the_same(rt: HostRuntime) {
 }
 
 #[test]
+fn the_version_is_told(rt: HostRuntime) {
+    let Version {
+        major,
+        minor,
+        patch,
+    } = hudarin_version();
+    assert_eq!(rt; (major, minor, patch), (0, 1, 0));
+}
+
+#[test]
 fn handles_that_do_not_serve(rt: HostRuntime) {
     let (mut descriptor, mut token) = (nothing(&rt), nothing(&rt));
     let answer = hudarin_check_kept(rt.alloc(), &mut descriptor, &mut token, FILE, 1);

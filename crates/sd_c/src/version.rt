@@ -1,0 +1,24 @@
+//! Which library this is.
+
+ghost use Rattle.std.specs.Prelude.{◌≡◌};
+
+/// A version: another `major` may change what stands, another `minor` adds to it, another `patch` mends it.
+#[repr(C)]
+#[derive(Clone, Copy, Debug, PartialEq, Eq)]
+pub struct Version {
+    pub major: u32,
+    pub minor: u32,
+    pub patch: u32,
+}
+
+/// The version of the library, which a caller may compare with that of the header it was built with.
+#[unsafe(no_mangle)]
+pub extern "C" fn hudarin_version() -> Version
+    ensures { (result.major ≡ 0) × (result.minor ≡ 1) × (result.patch ≡ 0) }
+{
+    Version {
+        major: 0,
+        minor: 1,
+        patch: 0,
+    }
+}
