@@ -7,18 +7,33 @@ Opens a store, makes some files in it, and asks so many checks one after the oth
 Each answer is compared with what the file's entry says; at the end it prints how many were asked, and their time.
 """
 
+import contextlib
 import subprocess
 import sys
 import time
 
 
+def line_of(*words: str) -> str:
+    """The line of these words. ValueError: one of them, as it came from outside, would be no word, or more than one."""
+    for word in words:
+        if not word or any(mark in word for mark in " \n\r"):
+            raise ValueError("not one word: %r" % word)
+    return " ".join(words)
+
+
 class Server:
     """A store that another process keeps. Lines are those of a script."""
 
-    def __init__(self, program):
+    def __init__(self, program: str) -> None:
         self._process = subprocess.Popen([program, "serve"], stdin=subprocess.PIPE, stdout=subprocess.PIPE)
 
-    def ask(self, line):
+    def __enter__(self) -> "Server":
+        return self
+
+    def __exit__(self, *_: object) -> None:
+        self.close()
+
+    def ask(self, line: str) -> str:
         """The answer to one line. ValueError: it isn't one line that is answered. EOFError: the server has ended."""
         if not line or line[0] == "#" or "\n" in line or line[-1] == "\r":
             raise ValueError("not one line that is answered: %r" % line)
@@ -32,19 +47,20 @@ class Server:
             raise EOFError("the server has ended")
         return answer[:-1].decode()
 
-    def close(self):
+    def close(self) -> int:
         """Ends the server, and answers its status."""
-        self._process.stdin.close()
+        with contextlib.suppress(BrokenPipeError):
+            self._process.stdin.close()
         self._process.stdout.close()
         return self._process.wait()
 
 
-def expect(answer, wanted):
+def expect(answer: str, wanted: str) -> None:
     if answer != wanted:
         sys.exit("answered %r where %r was wanted" % (answer, wanted))
 
 
-def main(program, checks):
+def main(program: str, checks: int) -> None:
     files, user = 16, "S-1-5-21-1-2-3-1001"
     server = Server(program)
     expect(server.ask("open 1 O:BAG:SYD:"), "opened 1")
