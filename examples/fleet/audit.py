@@ -1,0 +1,89 @@
+#!/usr/bin/env python3
+"""Audits many descriptors on a cluster of Dask, and compares its answers with those of this one process.
+
+    audit.py [COUNT] [--scheduler ADDRESS] [--workers N]
+
+Without an address the cluster is one of N processes on this machine, which ends with the audit. Each worker calls
+libhudarin. Prints how often each answer came, and a digest of all in order; status 1 where one process has others.
+"""
+
+import argparse
+import hashlib
+import os
+import pathlib
+import sys
+import tempfile
+import time
+from collections import Counter
+from collections.abc import Iterator, Sequence
+from contextlib import contextmanager
+
+from distributed import Client, LocalCluster
+
+TOP = pathlib.Path(__file__).resolve().parent.parent.parent
+sys.path.append(str(TOP / "bindings/python"))
+
+import auditing  # noqa: E402 (they stand on the wrapper of the library)
+import cases  # noqa: E402
+import hudarin  # noqa: E402
+from auditing import Share  # noqa: E402
+
+#: How many cases are a share. The digest is of the shares' digests, so it is the same for any number of workers.
+AT_ONCE = 10_000
+
+
+@contextmanager
+def local_client(workers: int) -> Iterator[Client]:
+    """A cluster of processes on this machine, whose library is the one of bindings/build unless another is named."""
+    os.environ.setdefault("HUDARIN_LIBRARY", str(TOP / "bindings/out/libhudarin.so.1"))
+    with tempfile.TemporaryDirectory(prefix="fleet.") as folder:
+        place = {"dashboard_address": None, "local_directory": folder}
+        with LocalCluster(workers, threads_per_worker=1, processes=True, **place) as cluster, Client(cluster) as client:
+            yield client
+
+
+def by_cluster(client: Client, ranges: Sequence[range]) -> list[Share]:
+    """The shares of the ranges, each by whichever worker is free."""
+    client.wait_for_workers(1)
+    for module in (hudarin, cases, auditing):
+        client.upload_file(module.__file__)
+    return client.gather([client.submit(auditing.share, each.start, each.stop) for each in ranges])
+
+
+def by_this_process(ranges: Sequence[range]) -> list[Share]:
+    return [auditing.share(each.start, each.stop) for each in ranges]
+
+
+def told(shares: Sequence[Share]) -> str:
+    counts = sum((share.counts for share in shares), Counter())
+    digest = hashlib.sha256(b"".join(share.digest for share in shares))
+    return f"{', '.join(f'{count} {kind}' for kind, count in sorted(counts.items()))}; digest {digest.hexdigest()[:16]}"
+
+
+def timed(who: str, work, *arguments) -> list[Share]:
+    """What the work answers; prints what it comes to, and its time."""
+    began = time.monotonic()
+    shares = work(*arguments)
+    print(f"{who}: {told(shares)}; {time.monotonic() - began:.1f} s", flush=True)
+    return shares
+
+
+def main() -> int:
+    parser = argparse.ArgumentParser(description=__doc__.splitlines()[0])
+    parser.add_argument("count", nargs="?", type=int, default=1_000_000, metavar="COUNT")
+    parser.add_argument("--scheduler", metavar="ADDRESS", help="as tcp://HOST:8786")
+    parser.add_argument("--workers", type=int, default=2, metavar="N")
+    arguments = parser.parse_args()
+    ranges = [range(first, min(first + AT_ONCE, arguments.count)) for first in range(0, arguments.count, AT_ONCE)]
+    with Client(arguments.scheduler) if arguments.scheduler else local_client(arguments.workers) as client:
+        fleet = timed("the cluster", by_cluster, client, ranges)
+    one = timed("one process", by_this_process, ranges)
+    for each, mine, theirs in zip(ranges, one, fleet, strict=True):
+        if mine != theirs:
+            print(f"cases {each.start} to {each.stop - 1}: their answers differ")
+            return 1
+    return 0
+
+
+if __name__ == "__main__":
+    sys.exit(main())
