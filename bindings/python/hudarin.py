@@ -13,7 +13,7 @@ import ctypes
 import os
 import re
 import threading
-from typing import NamedTuple, Optional, Tuple
+from typing import Iterable, NamedTuple, Optional, SupportsBytes, Tuple, Union
 
 __version__ = "0.1.0"
 
@@ -46,6 +46,23 @@ ARGUMENTS = {
     8: "token",
 }
 
+#: The faults of a text, of a descriptor's bytes and of a SID's, by their numbers.
+FAULTS = {
+    "sddl": ("Syntax", "HasSacl", "EntryKind", "ObjectGuid", "UnknownAlias", "DomainAlias", "Range", "AclTooLarge"),
+    "wire": (
+        "Short",
+        "Revision",
+        "NotSelfRelative",
+        "HasSacl",
+        "BadOffset",
+        "BadSid",
+        "AclRevision",
+        "AclSize",
+        "EntrySize",
+        "EntryKind",
+    ),
+    "sid": ("Revision", "Count", "Short"),
+}
 CAUSES = {
     1: "without a list",
     3: "to the owner",
@@ -146,15 +163,18 @@ _library = _load()
 
 
 class Refused(ValueError):
-    """A call was refused: ``status`` is a name of STATUSES, ``fault`` the fault's number, ``place`` its byte in a text or the
-    index of a group or of a restricting SID, and ``argument`` the name of a check's argument, or None."""
+    """A call was refused: ``status`` is a name of STATUSES, ``fault`` the fault's number and ``name`` its name, where it has one,
+    ``place`` its byte in a text or the index of a group or of a restricting SID, and ``argument`` the name of a check's argument,
+    or None."""
 
     def __init__(self, answer):
-        self.status = STATUSES[answer.status]
-        self.fault = answer.fault
-        self.place = answer.place
-        self.argument = ARGUMENTS.get(getattr(answer, "argument", 0))
-        super().__init__(f"{self.status} {self.fault} at {self.place}")
+        self.status: str = STATUSES[answer.status]
+        self.fault: int = answer.fault
+        self.name: Optional[str] = FAULTS[self.status][self.fault - 1] if self.fault else None
+        self.place: int = answer.place
+        self.argument: Optional[str] = ARGUMENTS.get(getattr(answer, "argument", 0))
+        words = (self.argument, self.status, self.fault or None, self.name)
+        super().__init__(f"{' '.join(str(word) for word in words if word is not None)} at {self.place}")
 
 
 def _number(value, what):
@@ -227,7 +247,7 @@ def _written(call, given):
         length = answer.length
 
 
-def mask(text):
+def mask(text: str) -> int:
     """The mask that the text spells: a number, or names of rights."""
     given = _text(text)
     return _held(_library.hudarin_mask_from_text(given, len(given))).mask
@@ -240,12 +260,16 @@ class Verdict(NamedTuple):
     mask: int
 
     @property
-    def is_granted(self):
+    def is_granted(self) -> bool:
         """Whether all that was asked for is granted."""
         return self.kind == "granted"
 
-    def __str__(self):
+    def __str__(self) -> str:
         return self.kind if self.kind == "empty" else f"{self.kind} {self.mask:#x}"
+
+
+#: What bytes are taken from.
+Data = Union[bytes, bytearray, memoryview, SupportsBytes]
 
 
 class Part(NamedTuple):
@@ -258,7 +282,7 @@ class Part(NamedTuple):
     restricting_entry: Optional[int]
     why: str
 
-    def __str__(self):
+    def __str__(self) -> str:
         return f"{'granted' if self.is_granted else 'denied'} {self.mask:#x} {self.why}"
 
 
@@ -268,7 +292,7 @@ class Explanation(NamedTuple):
     verdict: Verdict
     parts: Tuple[Part, ...]
 
-    def __str__(self):
+    def __str__(self) -> str:
         return "\n".join(str(line) for line in (self.verdict, *self.parts))
 
 
@@ -297,31 +321,35 @@ class Sid:
 
     __slots__ = ("_bytes",)
 
-    def __init__(self, data):
+    def __init__(self, data: Data) -> None:
         """The SID at the front of the bytes; what stands behind it is left out."""
         self._bytes = _written(_library.hudarin_sid_text_to_bytes, _written(_library.hudarin_sid_bytes_to_text, _data(data)))
 
     @classmethod
-    def from_text(cls, text):
+    def from_text(cls, text: str) -> "Sid":
         """The SID that the text spells, in full or by an alias of two letters."""
         sid = cls.__new__(cls)
         sid._bytes = _written(_library.hudarin_sid_text_to_bytes, _text(text))
         return sid
 
-    def __bytes__(self):
+    def __bytes__(self) -> bytes:
         return self._bytes
 
-    def __str__(self):
+    def __str__(self) -> str:
         return _written(_library.hudarin_sid_bytes_to_text, self._bytes).decode()
 
-    def __repr__(self):
+    def __repr__(self) -> str:
         return f"Sid.from_text({str(self)!r})"
 
-    def __eq__(self, other):
+    def __eq__(self, other: object) -> bool:
         return isinstance(other, Sid) and self._bytes == other._bytes
 
-    def __hash__(self):
+    def __hash__(self) -> int:
         return hash(self._bytes)
+
+
+#: A group that is enabled, or one with its state.
+Group = Union[Sid, Tuple[Sid, int]]
 
 
 class Token:
@@ -330,22 +358,24 @@ class Token:
 
     __slots__ = ("_kept", "_turn")
 
-    def __init__(self, user, groups=(), privileges=0, restricting=()):
+    def __init__(
+        self, user: Sid, groups: Iterable[Group] = (), privileges: int = 0, restricting: Iterable[Sid] = ()
+    ) -> None:
         self._kept, self._turn = _Kept(), threading.Lock()
         _held(_library.hudarin_keep_token(*_token(user, groups, privileges, restricting), self._kept))
 
-    def close(self):
+    def close(self) -> None:
         """Frees what is kept; a second time does nothing."""
         with self._turn:
             _library.hudarin_free(self._kept)
 
-    def __enter__(self):
+    def __enter__(self) -> "Token":
         return self
 
-    def __exit__(self, *_):
+    def __exit__(self, *_: object) -> None:
         self.close()
 
-    def __del__(self):
+    def __del__(self) -> None:
         if hasattr(self, "_turn"):
             self.close()
 
@@ -355,35 +385,43 @@ class Descriptor:
 
     __slots__ = ("_bytes",)
 
-    def __init__(self, data):
+    def __init__(self, data: Data) -> None:
         """The descriptor at the front of the bytes, which are kept up to the end of its last part."""
         given = _data(data)
         self._bytes = given[: _held(_library.hudarin_descriptor_length(given, len(given))).length]
 
     @classmethod
-    def from_sddl(cls, text):
+    def from_sddl(cls, text: str) -> "Descriptor":
         """The descriptor that the SDDL text spells."""
         descriptor = cls.__new__(cls)
         descriptor._bytes = _written(_library.hudarin_sddl_to_bytes, _text(text))
         return descriptor
 
-    def __bytes__(self):
+    def __bytes__(self) -> bytes:
         return self._bytes
 
-    def __str__(self):
+    def __str__(self) -> str:
         """The canonical SDDL text."""
         return _written(_library.hudarin_bytes_to_sddl, self._bytes).decode()
 
-    def __repr__(self):
+    def __repr__(self) -> str:
         return f"Descriptor.from_sddl({str(self)!r})"
 
-    def __eq__(self, other):
+    def __eq__(self, other: object) -> bool:
         return isinstance(other, Descriptor) and self._bytes == other._bytes
 
-    def __hash__(self):
+    def __hash__(self) -> int:
         return hash(self._bytes)
 
-    def check(self, user, groups=(), asked=0, privileges=0, mapping=FILES, restricting=()):
+    def check(
+        self,
+        user: Sid,
+        groups: Iterable[Group] = (),
+        asked: int = 0,
+        privileges: int = 0,
+        mapping: Iterable[int] = FILES,
+        restricting: Iterable[Sid] = (),
+    ) -> Verdict:
         """The verdict on ``asked`` for a user, a Sid. Each group is a Sid, which is enabled, or a pair of a Sid and its state.
         No group is added: neither Everyone nor Authenticated Users. With ``restricting`` Sids the list has to grant to the user
         and the groups and, asked again, to these Sids alone. Another number than one of 32 bits is a ValueError, and what
@@ -392,7 +430,7 @@ class Descriptor:
         answer = _held(_library.hudarin_check(self._bytes, len(self._bytes), *token, _mapping(mapping), _number(asked, "asked")))
         return Verdict(VERDICTS[answer.kind], answer.mask)
 
-    def check_by(self, token, asked=0, mapping=FILES):
+    def check_by(self, token: Token, asked: int = 0, mapping: Iterable[int] = FILES) -> Verdict:
         """The verdict on ``asked`` for a ``Token``, straight over the descriptor's bytes. One that was closed is a ``Refused``."""
         if not isinstance(token, Token):
             raise TypeError(f"token: a Token is wanted, and {token!r} isn't one")
@@ -401,7 +439,15 @@ class Descriptor:
             answer = _library.hudarin_check_bytes(self._bytes, len(self._bytes), token._kept, *request)
         return Verdict(VERDICTS[_held(answer).kind], answer.mask)
 
-    def explain(self, user, groups=(), asked=0, privileges=0, mapping=FILES, restricting=()):
+    def explain(
+        self,
+        user: Sid,
+        groups: Iterable[Group] = (),
+        asked: int = 0,
+        privileges: int = 0,
+        mapping: Iterable[int] = FILES,
+        restricting: Iterable[Sid] = (),
+    ) -> Explanation:
         """Why ``check`` answers as it does, with the same arguments: an ``Explanation``."""
         token = _token(user, groups, privileges, restricting)
         request = _mapping(mapping), _number(asked, "asked")

@@ -86,6 +86,21 @@ raises("the largest state", Refused, lambda: HELD.check(USER, [(EVERYONE, 0xFFFF
 raises("the largest privileges", Refused, lambda: OPEN.check(USER, asked=0x1, privileges=0xFFFFFFFF))
 raises("the largest mask", Refused, lambda: OPEN.check(USER, asked=0x1, mapping=(0, 0, 0, 0xFFFFFFFF)))
 
+# What a refusal tells: the argument and the status, the fault with its name, and where.
+def refusal(call):
+    try:
+        call()
+    except Refused as e:
+        return str(e), e.name
+    return None
+
+
+gives("a fault of a text", ("sddl 6 DomainAlias at 2", "DomainAlias"), lambda: refusal(lambda: Descriptor.from_sddl("O:DA")))
+gives("a fault of bytes", ("wire 1 Short at 0", "Short"), lambda: refusal(lambda: Descriptor(b"")))
+gives("a fault of a SID", ("sid 3 Short at 0", "Short"), lambda: refusal(lambda: Sid(b"\x01\x01")))
+gives("an argument", ("states state at 0", None), lambda: refusal(lambda: HELD.check(USER, [(EVERYONE, 0x14)], asked=0x1)))
+raises("a text that has no bytes", UnicodeEncodeError, lambda: Descriptor.from_sddl("\ud800"))
+
 # Reasons: what an explanation is asked of is tested as a check's arguments are, and told as it is worked by hand.
 for number, wanted in NUMBERS:
     raises(f"explained {number!r}", wanted, lambda: OPEN.explain(USER, asked=number))

@@ -35,11 +35,9 @@ def fault(reading, kind):
         return reading(), None
     except hudarin.Refused as e:
         if kind == "sddl":
-            names = ["", "Syntax", "HasSacl", "EntryKind", "ObjectGuid", "UnknownAlias", "DomainAlias", "Range", "AclTooLarge"]
-            return None, f"fault sddl {e.fault} {names[e.fault]} at {e.place}"
+            return None, f"fault sddl {e.fault} {e.name} at {e.place}"
         if kind == "wire":
-            names = ["", "Short", "Revision", "NotSelfRelative", "HasSacl", "BadOffset", "BadSid", "AclRevision", "AclSize"]
-            return None, f"fault wire {e.fault} {(names + ['EntrySize', 'EntryKind'])[e.fault]}"
+            return None, f"fault wire {e.fault} {e.name}"
         return None, f"fault {kind}"
 
 
