@@ -3,9 +3,8 @@ use Rattle.std.proofs.Common.{◌≡◌, ℕ, List, [], ◌∷◌, Bool, true, f
 use Rattle.std.specs.Prelude.{option_map, option_and_then, if◌then◌else◌}
 use Rattle.std.specs.Borrow.{Bor}
 use Rattle.sd_tool.specs.CommandLine.{InvocationValue, CommandLineValue, Audit as Audits, arguments_in, behind_options, command_in, command_named, command_on, run_by, takes, with_options, workers_of}
-use Rattle.sd_tool.specs.Laws.{is_shown, shows, HelpStandsAlone, DashesKeepTexts, DashesKeepTextsOfWhy, OptionKeepsTexts}
-use Rattle.sd_tool.specs.Options.{no_options, options_in}
-use Rattle.sd_tool.specs.declared.options.Options.{Options}
+use Rattle.sd_tool.specs.Laws.{is_shown, shows, HelpStandsAlone, DashesKeepTexts, DashesKeepTextsOfWhy, OptionsKeepTexts}
+use Rattle.sd_tool.specs.Options.{OptionsValue, no_options, options_in}
 use Rattle.sd_tool.specs.declared.command_line.CommandName.{CommandName}
 use Rattle.sd_tool.specs.declared.command_line.CommandName.TheVariants.{Verdict, Why, Lint, Print, ToBinary, FromBinary, Script, Serve, Audit}
 
@@ -49,7 +48,7 @@ command_runs Audit (a ∷ []) h = audit_runs (workers_of a.now) h
 command_runs Audit (a ∷ b ∷ rest) h = cc
 
 -- nor is what stands behind options
-shown_or_not : (invocation : Option InvocationValue) (options : Options)
+shown_or_not : (invocation : Option InvocationValue) (options : OptionsValue)
     → (some_shown invocation ≡ true → ⊥) → shows (option_and_then (with_options options) invocation) ≡ true → ⊥
 shown_or_not None options none h = cc
 shown_or_not (Some invocation) options none h = by_test (takes invocation options) h where
@@ -66,7 +65,7 @@ words_run : (words : List (Bor (List ℕ))) → some_shown (command_in words) �
 words_run [] h = cc
 words_run (word ∷ words) h = named_runs (command_named word.now) (arguments_in words) h
 
-options_run : (read : Option (Options × List (Bor (List ℕ)))) → shows (option_and_then behind_options read) ≡ true → ⊥
+options_run : (read : Option (OptionsValue × List (Bor (List ℕ)))) → shows (option_and_then behind_options read) ≡ true → ⊥
 options_run None h = cc
 options_run (Some (options, words)) h = shown_or_not (command_in words) options (words_run words) h
 
@@ -84,5 +83,5 @@ dashes_keep_texts name command dashes sddl user mask words verdict dash = rw (ve
 pub dashes_keep_texts_of_why : DashesKeepTextsOfWhy
 dashes_keep_texts_of_why name command dashes sddl user mask words why dash = rw (why, dash) refl
 
-pub option_keeps_texts : OptionKeepsTexts
-option_keeps_texts name option command dashes sddl user mask words names why dash = rw (names, why, dash, why) refl
+pub options_keep_texts : OptionsKeepTexts
+options_keep_texts name option domain sid command dashes sddl user mask words names in_domain why dash = rw (names, in_domain, why, why, dash, why) refl

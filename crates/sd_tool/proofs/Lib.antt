@@ -1,3 +1,5 @@
+pub mod Asked
 pub mod LawProofs
 pub mod Telling
 pub mod LintLines
+pub mod SpelledOut

@@ -1,6 +1,6 @@
 -- The one reading of a command line: which words run a command, with which options, and which ask for help or for the
 -- version. Any other words aren't read.
-use Rattle.std.specs.Prelude.{◌≡◌, ℕ, List, [], ◌∷◌, ◌+◌, ◌-◌, ◌*◌, nat_le, Bool, true, false, ◌||◌, ◌&&◌, if◌then◌else◌, Option, Some, None, option_map, option_and_then, not, codes, bytes_eq}
+use Rattle.std.specs.Prelude.{◌≡◌, ℕ, List, [], ◌∷◌, ◌+◌, ◌-◌, ◌*◌, nat_le, Bool, true, false, ◌||◌, ◌&&◌, if◌then◌else◌, Option, Some, None, option_map, option_and_then, is_none, not, codes, bytes_eq}
 use Rattle.std.specs.Option.{option_map_or}
 use Rattle.std.specs.Borrow.{Bor}
 use Rattle.std.specs.Char.{is_ascii_digit}
@@ -9,8 +9,7 @@ use Rattle.sd_tool.specs.declared.command_line.CommandName.TheVariants as names
 use Rattle.sd_tool.specs.declared.command_line.CommandLine.{CommandLine}
 use Rattle.sd_tool.specs.declared.command_line.Invocation.{Invocation}
 use Rattle.sd_tool.specs.declared.command_line.Invocation.TheVariants as invocations
-use Rattle.sd_tool.specs.declared.options.Options.{Options}
-use Rattle.sd_tool.specs.Options.{no_options, options_in}
+use Rattle.sd_tool.specs.Options.{OptionsValue, no_options, options_in, options_of}
 
 -- what is asked for: a command with its arguments, help on a command or on the program, or the version
 pub data InvocationValue : Type 0 where
@@ -41,11 +40,11 @@ invocation_of invocations.Version = Version
 
 -- a command line: what it asks for, with which options
 pub record CommandLineValue : Type 0 where
-  pub options : Options
+  pub options : OptionsValue
   pub invocation : InvocationValue
 
 abbrev pub command_line_of : CommandLine → CommandLineValue
-command_line_of line = record { options = line.options; invocation = invocation_of line.invocation }
+command_line_of line = record { options = options_of line.options; invocation = invocation_of line.invocation }
 
 -- the command that the word names
 abbrev pub command_named : List ℕ → Option CommandName
@@ -124,21 +123,25 @@ shown_by (word ∷ next ∷ other ∷ words) = None
 
 -- ---- a command with its options
 
--- whether each of the options is for what is asked: names of rights are told where a verdict is explained
-abbrev pub takes : InvocationValue → Options → Bool
-takes (Why sddl user mask words) options = true
-takes (Verdict sddl user mask words) options = not options.names
-takes (Lint sddl) options = not options.names
-takes (Print sddl) options = not options.names
-takes (ToBinary sddl) options = not options.names
-takes (FromBinary hex) options = not options.names
-takes Script options = not options.names
-takes Serve options = not options.names
-takes (Audit workers) options = not options.names
-takes (Help command) options = not options.names
-takes Version options = not options.names
+-- whether rights may be told by their names: where a verdict is explained
+abbrev pub explains : InvocationValue → Bool
+explains (Why sddl user mask words) = true
+explains invocation = false
 
-abbrev pub with_options : Options → InvocationValue → Option CommandLineValue
+-- whether a descriptor's text is read
+abbrev pub reads_text : InvocationValue → Bool
+reads_text (Verdict sddl user mask words) = true
+reads_text (Why sddl user mask words) = true
+reads_text (Lint sddl) = true
+reads_text (Print sddl) = true
+reads_text (ToBinary sddl) = true
+reads_text invocation = false
+
+-- whether each of the options is for what is asked
+abbrev pub takes : InvocationValue → OptionsValue → Bool
+takes invocation options = (explains invocation || not options.names) && (reads_text invocation || is_none options.domain)
+
+abbrev pub with_options : OptionsValue → InvocationValue → Option CommandLineValue
 with_options options invocation = if takes invocation options then Some (record { options = options; invocation = invocation }) else None
 
 -- the command that the words begin with, and its arguments
@@ -147,7 +150,7 @@ command_in [] = None
 command_in (word ∷ words) = option_and_then (λ command. command_on command (arguments_in words)) (command_named word.now)
 
 -- a command that takes the options before it
-abbrev pub behind_options : Options × List (Bor (List ℕ)) → Option CommandLineValue
+abbrev pub behind_options : OptionsValue × List (Bor (List ℕ)) → Option CommandLineValue
 behind_options (options, words) = option_and_then (with_options options) (command_in words)
 
 abbrev pub run_by : List (Bor (List ℕ)) → Option CommandLineValue

@@ -39,9 +39,9 @@ DashesKeepTextsOfWhy = (name command dashes sddl user mask : Bor (List ℕ)) (wo
     → reading (name ∷ command ∷ dashes ∷ sddl ∷ user ∷ mask ∷ words)
     ≡ Some (record { options = no_options; invocation = Why sddl.now user.now mask.now words })
 
--- the same with an option before the command
-abbrev pub OptionKeepsTexts : Type 0
-OptionKeepsTexts = (name option command dashes sddl user mask : Bor (List ℕ)) (words : List (Bor (List ℕ)))
-    → option.now ≡ codes "--names" → command.now ≡ codes "why" → dashes.now ≡ codes "--"
-    → reading (name ∷ option ∷ command ∷ dashes ∷ sddl ∷ user ∷ mask ∷ words)
-    ≡ Some (record { options = record { names = true }; invocation = Why sddl.now user.now mask.now words })
+-- the same with options before the command
+abbrev pub OptionsKeepTexts : Type 0
+OptionsKeepTexts = (name option domain sid command dashes sddl user mask : Bor (List ℕ)) (words : List (Bor (List ℕ)))
+    → option.now ≡ codes "--names" → domain.now ≡ codes "--domain" → command.now ≡ codes "why" → dashes.now ≡ codes "--"
+    → reading (name ∷ option ∷ domain ∷ sid ∷ command ∷ dashes ∷ sddl ∷ user ∷ mask ∷ words)
+    ≡ Some (record { options = record { names = true; domain = Some sid.now }; invocation = Why sddl.now user.now mask.now words })

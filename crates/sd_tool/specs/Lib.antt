@@ -5,3 +5,4 @@ pub mod Options
 pub mod Output
 pub mod Status
 pub mod Lint
+pub mod Words

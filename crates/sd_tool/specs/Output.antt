@@ -20,7 +20,7 @@ pub record AppendsAnswer (words : List (Bor (List ℕ))) (input old new : Option
   pub text : List ℕ
   pub outcome : Outcome
   pub asked : reading words ≡ Some command_line
-  pub answers : Answers input command_line text outcome
+  pub answers : Answers input command_line (record { printed = text; outcome = outcome })
   pub ended : status ≡ outcome_status outcome
   pub appended : Appends old new text
 
@@ -30,7 +30,7 @@ pub record AppendsPartOfAnswer (words : List (Bor (List ℕ))) (input old new : 
   pub text : List ℕ
   pub outcome : Outcome
   pub asked : reading words ≡ Some command_line
-  pub answers : Answers input command_line text outcome
+  pub answers : Answers input command_line (record { printed = text; outcome = outcome })
   pub beginning : AppendsBeginning old new text
 
 -- nothing was written before an error, but for a write's own

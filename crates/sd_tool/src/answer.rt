@@ -1,7 +1,7 @@
 //! The answer to an invocation: what is printed, and whether that is what was asked for.
-ghost use Rattle.std.specs.Prelude.{◌≡◌, ℕ, List, Option, false, IfErr, IfOk, string_bytes};
+ghost use Rattle.std.specs.Prelude.{◌≡◌, ℕ, List, Option, false, IfErr, IfOk};
 ghost use Rattle.sd_script.specs.Answer.{fault_line as fault_line_of, sddl_fault_line as sddl_fault_line_of};
-ghost use Rattle.sd_tool.specs.Answer.{Answers, IsFault};
+ghost use Rattle.sd_tool.specs.Answer.{Answers, AnswersUnder, IsFault, answer_of};
 ghost use Rattle.sd_tool.specs.CommandLine.{command_line_of, invocation_of, is_script};
 ghost use Rattle.sd_tool.specs.Status.{outcome_status};
 
@@ -9,6 +9,7 @@ use crate::command_line::{CommandLine, Invocation};
 use crate::convert::{answer_from_binary, answer_print, answer_to_binary};
 use crate::failure::Failure;
 use crate::lint::answer_lint;
+use crate::options::Settings;
 use crate::usage::help;
 use crate::verdict::{Form, answer_verdict};
 use crate::version::version_text;
@@ -48,28 +49,41 @@ pub(crate) struct Answer {
 /// The answer to a command line that needs no input.
 pub(crate) fn answer_to(alloc: Global, line: CommandLine<'_>) -> Result<Answer, Failure>
     requires { is_script (invocation_of line.invocation) ≡ false }
-    ensures ok { (input : Option (List ℕ)) → IfOk result (λ answer. Answers input (command_line_of line.entry) (string_bytes answer.text) answer.outcome) }
+    ensures ok { (input : Option (List ℕ)) → IfOk result (λ answer. Answers input (command_line_of line.entry) (answer_of answer)) }
     ensures err { IfErr result (λ failure. failure ≡ Failure.Run RunError.Memory) }
 {
-    match line.invocation {
+    match line.options.settings() {
+        Some(settings) => answer_under(alloc, settings, line.invocation),
+        None => fault(alloc, "domain"),
+    }
+}
+
+/// The answer to an invocation that needs no input, where the options say this.
+fn answer_under(
+    alloc: Global,
+    settings: Settings,
+    invocation: Invocation<'_>,
+) -> Result<Answer, Failure>
+    requires { is_script (invocation_of invocation) ≡ false }
+    ensures ok { IfOk result (λ answer. AnswersUnder settings (invocation_of invocation.entry) (answer_of answer)) }
+    ensures err { IfErr result (λ failure. failure ≡ Failure.Run RunError.Memory) }
+{
+    match invocation {
         Invocation::Verdict {
             sddl,
             user,
             mask,
             words,
-        } => answer_verdict(alloc, Form::Short, sddl, user, mask, words),
+        } => answer_verdict(alloc, settings, Form::Short, sddl, user, mask, words),
         Invocation::Why {
             sddl,
             user,
             mask,
             words,
-        } => {
-            let form = Form::Explained(line.options.spelling());
-            answer_verdict(alloc, form, sddl, user, mask, words)
-        }
-        Invocation::Lint { sddl } => answer_lint(alloc, sddl),
-        Invocation::Print { sddl } => answer_print(alloc, sddl),
-        Invocation::ToBinary { sddl } => answer_to_binary(alloc, sddl),
+        } => answer_verdict(alloc, settings, Form::Explained, sddl, user, mask, words),
+        Invocation::Lint { sddl } => answer_lint(alloc, settings, sddl),
+        Invocation::Print { sddl } => answer_print(alloc, settings, sddl),
+        Invocation::ToBinary { sddl } => answer_to_binary(alloc, settings, sddl),
         Invocation::FromBinary { hex } => answer_from_binary(alloc, hex),
         Invocation::Script | Invocation::Serve | Invocation::Audit { .. } => unreachable!(),
         Invocation::Help { command } => Ok(Answer {
@@ -85,7 +99,7 @@ pub(crate) fn answer_to(alloc: Global, line: CommandLine<'_>) -> Result<Answer, 
 
 /// The answer to an argument that isn't read: what it should have been.
 pub(crate) fn fault(alloc: Global, what: &str) -> Result<Answer, Failure>
-    ensures ok { IfOk result (λ answer. IsFault (fault_line_of what.now) (string_bytes answer.text) answer.outcome) }
+    ensures ok { IfOk result (λ answer. IsFault (fault_line_of what.now) (answer_of answer)) }
     ensures err { IfErr result (λ failure. failure ≡ Failure.Run RunError.Memory) }
 {
     Ok(Answer {
@@ -96,7 +110,7 @@ pub(crate) fn fault(alloc: Global, what: &str) -> Result<Answer, Failure>
 
 /// The answer to a descriptor's text with a fault.
 pub(crate) fn sddl_fault(alloc: Global, fault: TextFault, place: u64) -> Result<Answer, Failure>
-    ensures ok { IfOk result (λ answer. IsFault (sddl_fault_line_of fault place) (string_bytes answer.text) answer.outcome) }
+    ensures ok { IfOk result (λ answer. IsFault (sddl_fault_line_of fault place) (answer_of answer)) }
     ensures err { IfErr result (λ failure. failure ≡ Failure.Run RunError.Memory) }
 {
     Ok(Answer {

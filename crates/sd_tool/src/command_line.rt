@@ -1,6 +1,7 @@
 //! The reading of a command line: what its words ask for.
 ghost use Rattle.std.specs.Prelude.{◌≡◌, Some, option_map};
-ghost use Rattle.sd_tool.specs.CommandLine.{Help, arguments_in as arguments_of, command_in as command_at, command_line_of, command_named, command_on as command_of, count_of, help_on as help_of, invocation_of, is_help_flag as is_help_flag_of, reading, run_by as run_of, shown_by as shown_of, takes, workers_of};
+ghost use Rattle.sd_tool.specs.CommandLine.{Help, arguments_in as arguments_of, command_in as command_at, command_line_of, command_named, command_on as command_of, count_of, explains as explains_of, help_on as help_of, invocation_of, is_help_flag as is_help_flag_of, reading, reads_text as reads_text_of, run_by as run_of, shown_by as shown_of, takes, workers_of};
+ghost use Rattle.sd_tool.specs.Options.{options_of};
 
 use crate::options::{Options, options_in};
 
@@ -30,7 +31,7 @@ pub(crate) enum CommandName {
 /// What a command line asks for, and with which options.
 #[derive(Clone, Copy, Debug)]
 pub(crate) struct CommandLine<'a> {
-    pub(crate) options: Options,
+    pub(crate) options: Options<'a>,
     pub(crate) invocation: Invocation<'a>,
 }
 
@@ -104,13 +105,31 @@ impl CommandName {
 
 impl Invocation<'_> {
     /// Whether each of the options is for what is asked.
-    fn takes(self, options: Options) -> bool
-        ensures { result ≡ takes (invocation_of self.entry) options }
+    fn takes(self, options: Options<'_>) -> bool
+        ensures { result ≡ takes (invocation_of self.entry) (options_of options.entry) }
     {
-        match self {
-            Invocation::Why { .. } => true,
-            _ => !options.names,
-        }
+        (self.explains() || !options.names) && (self.reads_text() || options.domain.is_none())
+    }
+
+    /// Whether rights may be told by their names.
+    fn explains(self) -> bool
+        ensures { result ≡ explains_of (invocation_of self.entry) }
+    {
+        matches!(self, Invocation::Why { .. })
+    }
+
+    /// Whether a descriptor's text is read.
+    fn reads_text(self) -> bool
+        ensures { result ≡ reads_text_of (invocation_of self.entry) }
+    {
+        matches!(
+            self,
+            Invocation::Verdict { .. }
+                | Invocation::Why { .. }
+                | Invocation::Lint { .. }
+                | Invocation::Print { .. }
+                | Invocation::ToBinary { .. }
+        )
     }
 }
 

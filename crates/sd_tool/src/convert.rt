@@ -1,22 +1,23 @@
 //! The answers to `print`, `tobin` and `frombin`: a descriptor in another form.
 ghost use Rattle.std.specs.Prelude.{◌≡◌, IfErr, IfOk, string_bytes};
 ghost use Rattle.sd_script.specs.Answer.{line};
-ghost use Rattle.sd_tool.specs.Answer.{AnswersPrint, AnswersToBinary, AnswersFromBinary, AnswersBytes, IsDone, IsFault, wire_fault_line};
+ghost use Rattle.sd_tool.specs.Answer.{AnswersPrint, AnswersToBinary, AnswersFromBinary, AnswersBytes, IsDone, IsFault, answer_of, wire_fault_line};
 
 use crate::answer::{Answer, Outcome, fault, sddl_fault};
 use crate::failure::Failure;
+use crate::options::Settings;
 use hex::FromHexError;
 use sd_stream::RunError;
-use sd_text::{TextError, print_sddl, read_sddl};
+use sd_text::{TextError, print_sddl, read_sddl_in};
 use sd_wire::{WireError, WireFault, read_descriptor, write_descriptor};
 use std::alloc::Global;
 
 /// The canonical text of a descriptor's text.
-pub(crate) fn answer_print(alloc: Global, sddl: &str) -> Result<Answer, Failure>
-    ensures ok { IfOk result (λ answer. AnswersPrint sddl.now (string_bytes answer.text) answer.outcome) }
+pub(crate) fn answer_print(alloc: Global, settings: Settings, sddl: &str) -> Result<Answer, Failure>
+    ensures ok { IfOk result (λ answer. AnswersPrint settings sddl.now (answer_of answer)) }
     ensures err { IfErr result (λ failure. failure ≡ Failure.Run RunError.Memory) }
 {
-    match read_sddl(alloc, sddl) {
+    match read_sddl_in(alloc, settings.domain, sddl) {
         Ok(descriptor) => printed(print_sddl(alloc, &descriptor)?),
         Err(TextError::Fault { fault, place }) => sddl_fault(alloc, fault, place),
         Err(TextError::Memory) => Err(Failure::Run(RunError::Memory)),
@@ -24,11 +25,15 @@ pub(crate) fn answer_print(alloc: Global, sddl: &str) -> Result<Answer, Failure>
 }
 
 /// The self-relative form of a descriptor's text, in hexadecimal.
-pub(crate) fn answer_to_binary(alloc: Global, sddl: &str) -> Result<Answer, Failure>
-    ensures ok { IfOk result (λ answer. AnswersToBinary sddl.now (string_bytes answer.text) answer.outcome) }
+pub(crate) fn answer_to_binary(
+    alloc: Global,
+    settings: Settings,
+    sddl: &str,
+) -> Result<Answer, Failure>
+    ensures ok { IfOk result (λ answer. AnswersToBinary settings sddl.now (answer_of answer)) }
     ensures err { IfErr result (λ failure. failure ≡ Failure.Run RunError.Memory) }
 {
-    match read_sddl(alloc, sddl) {
+    match read_sddl_in(alloc, settings.domain, sddl) {
         Ok(descriptor) => {
             let bytes = write_descriptor(alloc, &descriptor)?;
             printed(hex::encode(alloc, bytes.as_slice())?)
@@ -40,7 +45,7 @@ pub(crate) fn answer_to_binary(alloc: Global, sddl: &str) -> Result<Answer, Fail
 
 /// The canonical text of the self-relative form in hexadecimal.
 pub(crate) fn answer_from_binary(alloc: Global, hex: &str) -> Result<Answer, Failure>
-    ensures ok { IfOk result (λ answer. AnswersFromBinary hex.now (string_bytes answer.text) answer.outcome) }
+    ensures ok { IfOk result (λ answer. AnswersFromBinary hex.now (answer_of answer)) }
     ensures err { IfErr result (λ failure. failure ≡ Failure.Run RunError.Memory) }
 {
     match hex::decode(alloc, hex) {
@@ -51,7 +56,7 @@ pub(crate) fn answer_from_binary(alloc: Global, hex: &str) -> Result<Answer, Fai
 }
 
 fn answer_bytes(alloc: Global, bytes: &[u8]) -> Result<Answer, Failure>
-    ensures ok { IfOk result (λ answer. AnswersBytes bytes.now (string_bytes answer.text) answer.outcome) }
+    ensures ok { IfOk result (λ answer. AnswersBytes bytes.now (answer_of answer)) }
     ensures err { IfErr result (λ failure. failure ≡ Failure.Run RunError.Memory) }
 {
     match read_descriptor(alloc, bytes) {
@@ -63,7 +68,7 @@ fn answer_bytes(alloc: Global, bytes: &[u8]) -> Result<Answer, Failure>
 
 /// The answer that is a line of this text.
 fn printed(mut text: String) -> Result<Answer, Failure>
-    ensures ok { IfOk result (λ answer. IsDone (line (string_bytes text)) (string_bytes answer.text) answer.outcome) }
+    ensures ok { IfOk result (λ answer. IsDone (line (string_bytes text)) (answer_of answer)) }
     ensures err { IfErr result (λ failure. failure ≡ Failure.Run RunError.Memory) }
 {
     text.push_str("\n")?;
@@ -75,7 +80,7 @@ fn printed(mut text: String) -> Result<Answer, Failure>
 
 /// The answer to bytes that hold no descriptor.
 fn wire_fault(alloc: Global, fault: WireFault) -> Result<Answer, Failure>
-    ensures ok { IfOk result (λ answer. IsFault (wire_fault_line fault) (string_bytes answer.text) answer.outcome) }
+    ensures ok { IfOk result (λ answer. IsFault (wire_fault_line fault) (answer_of answer)) }
     ensures err { IfErr result (λ failure. failure ≡ Failure.Run RunError.Memory) }
 {
     let number = fault.number();

@@ -1,5 +1,5 @@
 //! What follows from the reading of a command line. Each law is the contract of a function that does nothing.
-ghost use Rattle.sd_tool.specs.Laws.{DashesKeepTexts, DashesKeepTextsOfWhy, HelpStandsAlone, OptionKeepsTexts};
+ghost use Rattle.sd_tool.specs.Laws.{DashesKeepTexts, DashesKeepTextsOfWhy, HelpStandsAlone, OptionsKeepTexts};
 
 /// Help and the version answer two words behind the program's name at most, so no verdict's words ask for them.
 pub fn help_stands_alone()
@@ -10,5 +10,5 @@ pub fn help_stands_alone()
 pub fn dashes_keep_texts()
     ensures verdict { DashesKeepTexts }
     ensures why { DashesKeepTextsOfWhy }
-    ensures with_option { OptionKeepsTexts }
+    ensures with_options { OptionsKeepTexts }
 {}

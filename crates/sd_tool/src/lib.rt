@@ -23,6 +23,7 @@ mod shown;
 mod usage;
 mod verdict;
 mod version;
+mod words;
 
 pub use laws::{dashes_keep_texts, help_stands_alone};
 pub use program::drive;

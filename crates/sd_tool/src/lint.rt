@@ -1,25 +1,26 @@
 //! The answer to `lint`: what stands in a descriptor that its author may not have meant.
 ghost use Rattle.std.specs.Prelude.{◌≡◌, ◌<◌, ◌≤◌, ◌^◌, ◌++◌, IfErr, IfOk, IfSome, OnOk, codes, length, position, string_bytes};
 ghost use Rattle.sd_sid.specs.Mask.{holds};
-ghost use Rattle.sd_tool.specs.Answer.{AnswersLint, IsLinted};
+ghost use Rattle.sd_tool.specs.Answer.{AnswersLint, IsLinted, answer_of};
 ghost use Rattle.sd_tool.specs.Lint.{is_misplaced as is_misplaced_of, same_kind as same_kind_of, is_repeated as is_repeated_of, is_stranded as is_stranded_of, limits as limits_of, entry_head as entry_head_of, where_so, where_behind, shares_a_right as shares_a_right_of, covering_number as covering_number_of, covering_numbers as covering_numbers_of, is_useless as is_useless_of, entry_lines as entry_lines_of, list_lines as list_lines_of, dacl_lines as dacl_lines_of};
 
 use crate::answer::{Answer, Outcome, sddl_fault};
 use crate::failure::Failure;
+use crate::options::Settings;
 use bitflags::Flags;
 use sd_acl::{Ace, AceFlags, AceKind, Dacl};
 use sd_explain::{covers, is_dead};
 use sd_sid::GenericMapping;
 use sd_stream::RunError;
-use sd_text::{TextError, print_entry, read_sddl};
+use sd_text::{TextError, print_entry, read_sddl_in};
 use std::alloc::{AllocError, Global};
 
 /// The findings in a descriptor's text, or `clean`.
-pub(crate) fn answer_lint(alloc: Global, sddl: &str) -> Result<Answer, Failure>
-    ensures ok { IfOk result (λ answer. AnswersLint sddl.now (string_bytes answer.text) answer.outcome) }
+pub(crate) fn answer_lint(alloc: Global, settings: Settings, sddl: &str) -> Result<Answer, Failure>
+    ensures ok { IfOk result (λ answer. AnswersLint settings sddl.now (answer_of answer)) }
     ensures err { IfErr result (λ failure. failure ≡ Failure.Run RunError.Memory) }
 {
-    match read_sddl(alloc, sddl) {
+    match read_sddl_in(alloc, settings.domain, sddl) {
         Ok(descriptor) => found(alloc, dacl_lines(alloc, &descriptor.dacl)?),
         Err(TextError::Fault { fault, place }) => sddl_fault(alloc, fault, place),
         Err(TextError::Memory) => Err(Failure::Run(RunError::Memory)),
@@ -28,7 +29,7 @@ pub(crate) fn answer_lint(alloc: Global, sddl: &str) -> Result<Answer, Failure>
 
 /// The findings, or that there are none.
 fn found(alloc: Global, lines: String) -> Result<Answer, Failure>
-    ensures ok { IfOk result (λ answer. IsLinted (string_bytes lines) (string_bytes answer.text) answer.outcome) }
+    ensures ok { IfOk result (λ answer. IsLinted (string_bytes lines) (answer_of answer)) }
     ensures err { IfErr result (λ failure. failure ≡ Failure.Run RunError.Memory) }
 {
     if lines.is_empty() {

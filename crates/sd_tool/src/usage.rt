@@ -20,7 +20,8 @@ Example:
 
 const VERDICT_NOTES: &str = "\
 A first '--' after 'verdict' is dropped, and every word after it is an argument: write
-'sdstore verdict -- \"$sddl\" ..' where a text comes from outside.
+'sdstore verdict -- \"$sddl\" ..' where a text comes from outside. Options stand before 'verdict':
+'sdstore help' tells them.
 
 Generic rights are mapped as those of files:
   GR 0x120089  GW 0x120116  GX 0x1200a0  GA 0x1f01ff
@@ -35,8 +36,8 @@ Example:
   sdstore verdict 'D:(D;;0x2;;;S-1-5-21-1-2-3-1001)(A;;0x1f01ff;;;S-1-5-21-1-2-3-1001)' S-1-5-21-1-2-3-1001 0x1";
 
 const WHY_NOTES: &str = "\
-A first '--' after 'why' is dropped, and every word after it is an argument. '--names' stands
-before 'why' and nowhere else, and tells rights by their names, as FR+WD in place of 0x160089.
+A first '--' after 'why' is dropped, and every word after it is an argument. Options stand before
+'why' and nowhere else: 'sdstore help' tells them.
 
 Prints the verdict as 'sdstore verdict' does, with its status, and a line for each part of the
 request, the bits with one reason together:
@@ -54,7 +55,7 @@ Example:
   sdstore why 'D:(D;;0x2;;;BU)(A;;FR;;;BU)' S-1-5-21-1-2-3-1001 0x10003 BU";
 
 const LINT_NOTES: &str = "\
-A first '--' after 'lint' is dropped.
+A first '--' after 'lint' is dropped. Options stand before 'lint': 'sdstore help' tells them.
 
 Prints a line for each finding, or 'clean':
   no DACL grants everything, a null DACL grants everything
@@ -75,13 +76,13 @@ Example:
   sdstore lint 'D:(A;;FR;;;BU)(D;;FW;;;BU)(A;;0x1;;;BU)'";
 
 const PRINT_NOTES: &str = "\
-A first '--' after 'print' is dropped.
+A first '--' after 'print' is dropped. Options stand before 'print': 'sdstore help' tells them.
 
 Example:
   sdstore print 'o:s-1-5-18d:(a;;0x1f01ff;;;s-1-1-0)'";
 
 const TO_BINARY_NOTES: &str = "\
-A first '--' after 'tobin' is dropped.
+A first '--' after 'tobin' is dropped. Options stand before 'tobin': 'sdstore help' tells them.
 
 Example:
   sdstore tobin O:BA";
@@ -160,8 +161,14 @@ SID=restrict  a restricting SID, no group: access is asked a second time for the
 
 const NAMES: &str = "Before 'why': tells rights by their names, as FR+WD in place of 0x160089";
 
-// What is told of options that `clap` would take with any command.
-const OPTIONS: &str = "the option '--names' is for 'why' alone, and stands before it once";
+const DOMAIN: &str = "\
+Before a command that reads SDDL: the aliases of a domain's accounts and groups, as DA, are read as
+SIDs of the domain with this SID, S-1-5-21 and three more numbers, as S-1-5-21-1-2-3";
+
+// What is told of options that `clap` would take with any command, or with a `=` before the value.
+const OPTIONS: &str = "\
+an option stands before the command, once, and its value is the next word: '--names' is for 'why' \
+alone, and '--domain' for 'verdict', 'why', 'lint', 'print' and 'tobin'";
 
 // What is told of words that `clap` would answer with help or the version.
 const STANDS_ALONE: &str = "\
@@ -207,7 +214,9 @@ fn refusal_of<'a>(alloc: Global, words: &'a [&'a str]) -> Result<Error, AllocErr
         Some(error) if error.use_stderr() => Ok(error),
         Some(_shown) => sdstore.error(ErrorKind::UnknownArgument, STANDS_ALONE),
         None => match words {
-            [_, "--names", ..] => sdstore.error(ErrorKind::UnknownArgument, OPTIONS),
+            [_, word, ..] if word.starts_with("--") => {
+                sdstore.error(ErrorKind::UnknownArgument, OPTIONS)
+            }
             [_, "audit", ..] => {
                 let mut audit = audit_command(alloc)?;
                 audit.error(ErrorKind::ValueValidation, WORKERS)
@@ -240,6 +249,7 @@ fn sdstore<'a>(alloc: Global) -> Result<Command<'a>, AllocError> {
         .subcommand_required(true)
         .after_help(NOTES)
         .arg(flag(alloc, "names").help(NAMES))?
+        .arg(setting(alloc, "domain", "SID").help(DOMAIN))?
         .subcommand(verdict_command(alloc)?)?
         .subcommand(why_command(alloc)?)?
         .subcommand(lint_command(alloc)?)?
@@ -254,7 +264,7 @@ fn sdstore<'a>(alloc: Global) -> Result<Command<'a>, AllocError> {
 fn verdict_command<'a>(alloc: Global) -> Result<Command<'a>, AllocError> {
     let verdict = Command::new(alloc, "verdict")
         .about("Prints whether a descriptor grants a mask to a user")
-        .override_usage("sdstore verdict [--] <SDDL> <USER> <MASK> [WORD]...")
+        .override_usage("sdstore [OPTIONS] verdict [--] <SDDL> <USER> <MASK> [WORD]...")
         .after_help(VERDICT_NOTES);
     request(alloc, verdict)
 }
@@ -262,7 +272,7 @@ fn verdict_command<'a>(alloc: Global) -> Result<Command<'a>, AllocError> {
 fn why_command<'a>(alloc: Global) -> Result<Command<'a>, AllocError> {
     let why = Command::new(alloc, "why")
         .about("Prints whether a descriptor grants a mask to a user, and why")
-        .override_usage("sdstore [--names] why [--] <SDDL> <USER> <MASK> [WORD]...")
+        .override_usage("sdstore [OPTIONS] why [--] <SDDL> <USER> <MASK> [WORD]...")
         .after_help(WHY_NOTES);
     request(alloc, why)
 }
@@ -280,7 +290,7 @@ fn request<'a>(alloc: Global, command: Command<'a>) -> Result<Command<'a>, Alloc
 fn lint_command<'a>(alloc: Global) -> Result<Command<'a>, AllocError> {
     Command::new(alloc, "lint")
         .about("Prints what is doubtful in a descriptor's DACL")
-        .override_usage("sdstore lint [--] <SDDL>")
+        .override_usage("sdstore [OPTIONS] lint [--] <SDDL>")
         .after_help(LINT_NOTES)
         .arg(text(alloc, "SDDL").help("The descriptor in SDDL"))
 }
@@ -288,7 +298,7 @@ fn lint_command<'a>(alloc: Global) -> Result<Command<'a>, AllocError> {
 fn print_command<'a>(alloc: Global) -> Result<Command<'a>, AllocError> {
     Command::new(alloc, "print")
         .about("Prints a descriptor in canonical SDDL")
-        .override_usage("sdstore print [--] <SDDL>")
+        .override_usage("sdstore [OPTIONS] print [--] <SDDL>")
         .after_help(PRINT_NOTES)
         .arg(text(alloc, "SDDL").help("The descriptor in SDDL"))
 }
@@ -296,7 +306,7 @@ fn print_command<'a>(alloc: Global) -> Result<Command<'a>, AllocError> {
 fn to_binary_command<'a>(alloc: Global) -> Result<Command<'a>, AllocError> {
     Command::new(alloc, "tobin")
         .about("Prints a descriptor in self-relative form, in hexadecimal")
-        .override_usage("sdstore tobin [--] <SDDL>")
+        .override_usage("sdstore [OPTIONS] tobin [--] <SDDL>")
         .after_help(TO_BINARY_NOTES)
         .arg(text(alloc, "SDDL").help("The descriptor in SDDL"))
 }
@@ -338,6 +348,14 @@ fn audit_command<'a>(alloc: Global) -> Result<Command<'a>, AllocError> {
 // An option without a value, which stands before the command.
 fn flag<'a>(alloc: Global, name: &'a str) -> Arg<'a> {
     Arg::new(alloc, name).long(name).action(ArgAction::SetTrue)
+}
+
+// An option with a value, which stands before the command.
+fn setting<'a>(alloc: Global, name: &'a str, value: &'a str) -> Arg<'a> {
+    Arg::new(alloc, name)
+        .long(name)
+        .value_name(value)
+        .allow_hyphen_values(true)
 }
 
 // An argument that takes each word as it stands.

@@ -4,16 +4,18 @@ ghost use Rattle.sd_acl.specs.Descriptor.{descriptor_of};
 ghost use Rattle.sd_check.specs.Check.{verdict as verdict_of};
 ghost use Rattle.sd_check.specs.Dacl.{dacl_entries};
 ghost use Rattle.sd_sid.specs.Mapping.{file_mapping};
-ghost use Rattle.sd_tool.specs.Answer.{AnswersVerdict, AnswersUser, AnswersMask, AnswersWords, form_text, verdict_outcome};
+ghost use Rattle.sd_tool.specs.Answer.{AnswersVerdict, AnswersUser, AnswersMask, AnswersWords, answer_of, form_text, verdict_outcome};
 
 use crate::answer::{Answer, Outcome, fault, sddl_fault};
 use crate::failure::Failure;
+use crate::options::Settings;
+use crate::words::token_in;
 use sd_acl::Descriptor;
 use sd_check::{Token, Verdict, check};
-use sd_script::{Spelling, TokenError, read_token, verdict_line, why_text};
+use sd_script::{TokenError, verdict_line, why_text};
 use sd_sid::{GenericMapping, Mask, Sid};
 use sd_stream::RunError;
-use sd_text::{TextError, read_mask, read_sddl, read_sid_text};
+use sd_text::{TextError, read_mask, read_sddl_in, read_sid_text_in};
 use std::alloc::{AllocError, Global};
 
 /// What is told of a verdict.
@@ -21,24 +23,25 @@ use std::alloc::{AllocError, Global};
 pub(crate) enum Form {
     /// The verdict alone.
     Short,
-    /// With it the reason of each bit, the masks in this spelling.
-    Explained(Spelling),
+    /// With it the reason of each bit.
+    Explained,
 }
 
 /// The verdict on these texts, or the fault of the first from the left that isn't read.
 pub(crate) fn answer_verdict(
     alloc: Global,
+    settings: Settings,
     form: Form,
     sddl: &str,
     user: &str,
     mask: &str,
     words: &[&str],
 ) -> Result<Answer, Failure>
-    ensures ok { IfOk result (λ answer. AnswersVerdict form sddl.now user.now mask.now words.now (string_bytes answer.text) answer.outcome) }
+    ensures ok { IfOk result (λ answer. AnswersVerdict settings form sddl.now user.now mask.now words.now (answer_of answer)) }
     ensures err { IfErr result (λ failure. failure ≡ Failure.Run RunError.Memory) }
 {
-    match read_sddl(alloc, sddl) {
-        Ok(descriptor) => verdict_for_user(alloc, form, &descriptor, user, mask, words),
+    match read_sddl_in(alloc, settings.domain, sddl) {
+        Ok(descriptor) => verdict_for_user(alloc, settings, form, &descriptor, user, mask, words),
         Err(TextError::Fault { fault, place }) => sddl_fault(alloc, fault, place),
         Err(TextError::Memory) => Err(Failure::Run(RunError::Memory)),
     }
@@ -46,54 +49,57 @@ pub(crate) fn answer_verdict(
 
 fn verdict_for_user(
     alloc: Global,
+    settings: Settings,
     form: Form,
     descriptor: &Descriptor,
     user: &str,
     mask: &str,
     words: &[&str],
 ) -> Result<Answer, Failure>
-    ensures ok { IfOk result (λ answer. AnswersUser form (descriptor_of descriptor.now) user.now mask.now words.now (string_bytes answer.text) answer.outcome) }
+    ensures ok { IfOk result (λ answer. AnswersUser settings form (descriptor_of descriptor.now) user.now mask.now words.now (answer_of answer)) }
     ensures err { IfErr result (λ failure. failure ≡ Failure.Run RunError.Memory) }
 {
-    match read_sid_text(user) {
-        Ok(user) => verdict_on_mask(alloc, form, descriptor, user, mask, words),
+    match read_sid_text_in(settings.domain, user) {
+        Ok(user) => verdict_on_mask(alloc, settings, form, descriptor, user, mask, words),
         Err(_) => fault(alloc, "sid"),
     }
 }
 
 fn verdict_on_mask(
     alloc: Global,
+    settings: Settings,
     form: Form,
     descriptor: &Descriptor,
     user: Sid,
     mask: &str,
     words: &[&str],
 ) -> Result<Answer, Failure>
-    ensures ok { IfOk result (λ answer. AnswersMask form (descriptor_of descriptor.now) user mask.now words.now (string_bytes answer.text) answer.outcome) }
+    ensures ok { IfOk result (λ answer. AnswersMask settings form (descriptor_of descriptor.now) user mask.now words.now (answer_of answer)) }
     ensures err { IfErr result (λ failure. failure ≡ Failure.Run RunError.Memory) }
 {
     match read_mask(mask) {
-        Ok(asked) => verdict_with_words(alloc, form, descriptor, user, asked, words),
+        Ok(asked) => verdict_with_words(alloc, settings, form, descriptor, user, asked, words),
         Err(_) => fault(alloc, "mask"),
     }
 }
 
 fn verdict_with_words(
     alloc: Global,
+    settings: Settings,
     form: Form,
     descriptor: &Descriptor,
     user: Sid,
     asked: Mask,
     words: &[&str],
 ) -> Result<Answer, Failure>
-    ensures ok { IfOk result (λ answer. AnswersWords form (descriptor_of descriptor.now) user asked words.now (string_bytes answer.text) answer.outcome) }
+    ensures ok { IfOk result (λ answer. AnswersWords settings form (descriptor_of descriptor.now) user asked words.now (answer_of answer)) }
     ensures err { IfErr result (λ failure. failure ≡ Failure.Run RunError.Memory) }
 {
-    match read_token(alloc, user, words) {
+    match token_in(alloc, settings.domain, user, words) {
         Ok(token) => {
             let verdict = check(descriptor, &GenericMapping::file(), &token, asked);
             Ok(Answer {
-                text: text_of(alloc, form, descriptor, &token, asked)?,
+                text: text_of(alloc, settings, form, descriptor, &token, asked)?,
                 outcome: outcome_of(verdict),
             })
         }
@@ -105,19 +111,20 @@ fn verdict_with_words(
 /// The verdict's line, or with it the reasons.
 fn text_of(
     alloc: Global,
+    settings: Settings,
     form: Form,
     descriptor: &Descriptor,
     token: &Token,
     asked: Mask,
 ) -> Result<String, AllocError>
-    ensures { IfOk result (λ text. string_bytes text ≡ form_text form (descriptor_of descriptor.now) token.now asked) }
+    ensures { IfOk result (λ text. string_bytes text ≡ form_text settings form (descriptor_of descriptor.now) token.now asked) }
 {
     match form {
         Form::Short => {
             let verdict = check(descriptor, &GenericMapping::file(), token, asked);
             verdict_line(alloc, verdict)
         }
-        Form::Explained(spelling) => why_text(alloc, spelling, descriptor, token, asked),
+        Form::Explained => why_text(alloc, settings.spelling, descriptor, token, asked),
     }
 }
 

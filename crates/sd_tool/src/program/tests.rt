@@ -58,3 +58,19 @@ fn expect(
     assert_eq!(rt; ended.status, status, "{words:?}");
     assert!(rt; ended.errors.is_empty(), "{words:?}");
 }
+
+/// The same behind `--domain`.
+fn expect_in<'a>(
+    rt: &(impl Abort + AllocGlobal + Threads + Wait + Sync),
+    domain: &'a str,
+    behind: &'a [&'a str],
+    line: &str,
+    status: u8,
+) {
+    let mut words: Vec<&'a str> = Vec::new(rt.alloc());
+    for word in ["sdstore", "--domain", domain] {
+        assert!(rt; words.push(word).is_ok());
+    }
+    assert!(rt; words.extend_from_slice(behind).is_ok());
+    expect(rt, words.as_slice(), line, status);
+}

@@ -58,10 +58,16 @@ fn expect(
 
 #[test]
 fn both_read_commands(rt: HostRuntime) -> Result<(), AllocError> {
-    let rows: [&[&str]; 48] = [
+    let rows: [&[&str]; 54] = [
         &["--names", "why", "D:", "SY", "0x1"],
         &["--names", "why", "--", "-h", "SY", "0x1", "--names"],
         &["--names", "why", "--names", "--names", "--names"],
+        &["--domain", "S-1-5-21-1-2-3", "verdict", "D:", "DA", "0x1"],
+        &["--domain", "", "print", "D:"],
+        &["--domain", "--names", "--names", "why", "D:", "SY", "0x1"],
+        &["--names", "--domain", "-h", "why", "--", "-h", "SY", "0x1"],
+        &["--domain", "--domain", "lint", "--domain"],
+        &["tobin", "--domain"],
         &["why", "--names", "SY", "0x1"],
         &["why", "D:", "SY", "0x1", "--names"],
         &["verdict", "--names", "--names", "--names"],
@@ -155,7 +161,7 @@ fn both_read_help_and_version(rt: HostRuntime) -> Result<(), AllocError> {
 
 #[test]
 fn both_refuse_other_words(rt: HostRuntime) -> Result<(), AllocError> {
-    let rows: [&[&str]; 53] = [
+    let rows: [&[&str]; 58] = [
         &["--names"],
         &["--names", ""],
         &["--names", "frob"],
@@ -163,6 +169,11 @@ fn both_refuse_other_words(rt: HostRuntime) -> Result<(), AllocError> {
         &["--names", "--names", "why", "D:", "SY", "0x1"],
         &["--names=x", "why", "D:", "SY", "0x1"],
         &["--name", "why", "D:", "SY", "0x1"],
+        &["--domain"],
+        &["--domain", "x"],
+        &["--domain", "print", "D:"],
+        &["--domain", "x", "--domain", "y", "print", "D:"],
+        &["--domain", "x", "print"],
         &[],
         &[""],
         &["-"],
@@ -216,7 +227,8 @@ fn both_refuse_other_words(rt: HostRuntime) -> Result<(), AllocError> {
 // A help flag among several words is an argument, and `clap` shows help.
 #[test]
 fn takes_help_flags_as_arguments(rt: HostRuntime) -> Result<(), AllocError> {
-    let rows: [&[&str]; 8] = [
+    let rows: [&[&str]; 9] = [
+        &["--domain", "x", "print", "-h"],
         &["verdict", "-h", "SY", "0x1"],
         &["verdict", "--help", "SY", "0x1"],
         &["verdict", "D:", "-h", "0x1"],
@@ -267,7 +279,13 @@ fn gives_no_help_beside_other_words(rt: HostRuntime) -> Result<(), AllocError> {
 // An option is for the commands that take it, and help takes none; `clap` takes one before any command.
 #[test]
 fn takes_options_before_their_commands_alone(rt: HostRuntime) -> Result<(), AllocError> {
-    let rows: [&[&str]; 7] = [
+    let rows: [&[&str]; 13] = [
+        &["--domain", "x", "frombin", "00"],
+        &["--domain", "x", "script"],
+        &["--domain", "x", "serve"],
+        &["--domain", "x", "audit", "1"],
+        &["--domain=x", "print", "D:"],
+        &["--domain", "x", "--names", "print", "D:"],
         &["--names", "verdict", "D:", "SY", "0x1"],
         &["--names", "lint", "D:"],
         &["--names", "print", "D:"],
@@ -277,7 +295,8 @@ fn takes_options_before_their_commands_alone(rt: HostRuntime) -> Result<(), Allo
         &["--names", "audit", "1"],
     ];
     expect(&rt, &rows, Kind::Nothing, Kind::Command)?;
-    let rows: [&[&str]; 4] = [
+    let rows: [&[&str]; 5] = [
+        &["--domain", "x", "--help"],
         &["--names", "--help"],
         &["--names", "help"],
         &["--names", "help", "why"],

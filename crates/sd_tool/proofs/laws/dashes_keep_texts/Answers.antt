@@ -5,5 +5,5 @@ pub returns : goal.returns
 returns c = record {
   verdict = laws.dashes_keep_texts;
   why = laws.dashes_keep_texts_of_why;
-  with_option = laws.option_keeps_texts;
+  with_options = laws.options_keep_texts;
 }

@@ -143,6 +143,70 @@ fn tells_of_the_first_argument_that_is_not_read(rt: HostRuntime) {
     }
 }
 
+// [MS-DTYP] 2.4.2.4: Domain Admins is 512 of its domain, Domain Users 513.
+#[test]
+fn reads_the_aliases_of_a_domain(rt: HostRuntime) {
+    let admins = "S-1-5-21-1-2-3-512";
+    let rows: [(&[&str], &str, u8); 11] = [
+        (&["print", "O:DA"], "O:S-1-5-21-1-2-3-512\n", 0),
+        (&["lint", "D:(A;;FR;;;DA)"], "clean\n", 0),
+        (
+            &["tobin", "G:DU"],
+            "010000800000000014000000000000000000000001050000000000051500000001000000020000000300000001020000\n",
+            0,
+        ),
+        (
+            &["verdict", "D:(A;;0x1;;;DA)", admins, "0x1"],
+            "granted 0x1\n",
+            0,
+        ),
+        (
+            &["verdict", "D:(A;;0x1;;;DA)", "DA", "0x1"],
+            "granted 0x1\n",
+            0,
+        ),
+        (
+            &["verdict", "D:(A;;0x1;;;DA)", "SY", "0x1", "da"],
+            "granted 0x1\n",
+            0,
+        ),
+        (
+            &["verdict", "D:(D;;0x1;;;DA)", "SY", "0x1", "DA=deny"],
+            "denied 0x1\n",
+            1,
+        ),
+        (
+            &["verdict", "D:(A;;0x1;;;DA)", "SY", "0x1", "DA=off"],
+            "denied 0x1\n",
+            1,
+        ),
+        (
+            &["verdict", "D:(A;;0x1;;;DA)", "DA", "0x1", "DU=restrict"],
+            "denied 0x1\n",
+            1,
+        ),
+        (
+            &["verdict", "D:(A;;0x1;;;DA)", "SY", "0x1", "DA=no"],
+            "fault token\n",
+            1,
+        ),
+        (&["print", "O:QQ"], "fault sddl 5 UnknownAlias at 2\n", 1),
+    ];
+    for (behind, line, status) in rows {
+        expect_in(&rt, "S-1-5-21-1-2-3", behind, line, status);
+    }
+    for no_domain in [
+        "",
+        "DA",
+        "SY",
+        "S-1-5-21-1-2",
+        "S-1-5-21-1-2-3-512",
+        "S-1-5-22-1-2-3",
+    ] {
+        expect_in(&rt, no_domain, &["print", "x"], "fault domain\n", 1);
+    }
+}
+
 #[test]
 fn prints_canonical_texts(rt: HostRuntime) {
     let rows = [

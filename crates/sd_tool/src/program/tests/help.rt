@@ -2,67 +2,77 @@
 
 use super::*;
 
+/// Words that aren't a command line, and what is told of them.
+const REFUSED: [(&[&str], &str); 25] = [
+    (
+        &["sdstore", "--names", "print", "D:"],
+        "'--names' is for 'why' alone",
+    ),
+    (
+        &["sdstore", "--domain", "S-1-5-21-1-2-3", "frombin", "00"],
+        "'--domain' for 'verdict', 'why', 'lint', 'print' and 'tobin'",
+    ),
+    (
+        &["sdstore", "--domain=S-1-5-21-1-2-3", "print", "D:"],
+        "its value is the next word",
+    ),
+    (
+        &["sdstore", "--names", "why", "--help"],
+        "help and the version are asked for by",
+    ),
+    (&[], "requires a subcommand"),
+    (&["sdstore"], "requires a subcommand"),
+    (&["sdstore", ""], "unrecognized subcommand ''"),
+    (&["sdstore", "frob"], "unrecognized subcommand 'frob'"),
+    (&["sdstore", "--frob"], "unexpected argument '--frob'"),
+    (
+        &["sdstore", "--", "print", "D:"],
+        "unexpected argument 'print'",
+    ),
+    (
+        &["sdstore", "help", "frob"],
+        "unrecognized subcommand 'frob'",
+    ),
+    (
+        &["sdstore", "verdict", "D:", USER],
+        "not provided:\n  <MASK>\n",
+    ),
+    (
+        &["sdstore", "verdict", "--", USER, "0x1"],
+        "not provided:\n  <MASK>\n",
+    ),
+    (
+        &["sdstore", "print", "D:", "O:"],
+        "unexpected argument 'O:'",
+    ),
+    (
+        &["sdstore", "print", "D:", "--"],
+        "only a first '--' after the command",
+    ),
+    (
+        &["sdstore", "--version", "D:"],
+        "help and the version are asked for by",
+    ),
+    (
+        &["sdstore", "verdict", "--help", USER],
+        "help and the version are asked for by",
+    ),
+    (&["sdstore", "audit"], "not provided:\n  <N>\n"),
+    (&["sdstore", "audit", "1", "2"], "unexpected argument '2'"),
+    (&["sdstore", "audit", "0"], "number of workers: 1 to 64"),
+    (&["sdstore", "audit", "65"], "number of workers: 1 to 64"),
+    (&["sdstore", "audit", "-1"], "number of workers: 1 to 64"),
+    (&["sdstore", "audit", "+1"], "number of workers: 1 to 64"),
+    (&["sdstore", "audit", "two"], "number of workers: 1 to 64"),
+    (
+        &["sdstore", "audit", "18446744073709551616"],
+        "number of workers: 1 to 64",
+    ),
+];
+
 #[test]
 fn refuses_other_words(rt: HostRuntime) -> Result<(), Fail> {
-    let rows: [(&[&str], &str); 23] = [
-        (
-            &["sdstore", "--names", "print", "D:"],
-            "the option '--names' is for 'why' alone",
-        ),
-        (
-            &["sdstore", "--names", "why", "--help"],
-            "help and the version are asked for by",
-        ),
-        (&[], "requires a subcommand"),
-        (&["sdstore"], "requires a subcommand"),
-        (&["sdstore", ""], "unrecognized subcommand ''"),
-        (&["sdstore", "frob"], "unrecognized subcommand 'frob'"),
-        (&["sdstore", "--frob"], "unexpected argument '--frob'"),
-        (
-            &["sdstore", "--", "print", "D:"],
-            "unexpected argument 'print'",
-        ),
-        (
-            &["sdstore", "help", "frob"],
-            "unrecognized subcommand 'frob'",
-        ),
-        (
-            &["sdstore", "verdict", "D:", USER],
-            "not provided:\n  <MASK>\n",
-        ),
-        (
-            &["sdstore", "verdict", "--", USER, "0x1"],
-            "not provided:\n  <MASK>\n",
-        ),
-        (
-            &["sdstore", "print", "D:", "O:"],
-            "unexpected argument 'O:'",
-        ),
-        (
-            &["sdstore", "print", "D:", "--"],
-            "only a first '--' after the command",
-        ),
-        (
-            &["sdstore", "--version", "D:"],
-            "help and the version are asked for by",
-        ),
-        (
-            &["sdstore", "verdict", "--help", USER],
-            "help and the version are asked for by",
-        ),
-        (&["sdstore", "audit"], "not provided:\n  <N>\n"),
-        (&["sdstore", "audit", "1", "2"], "unexpected argument '2'"),
-        (&["sdstore", "audit", "0"], "number of workers: 1 to 64"),
-        (&["sdstore", "audit", "65"], "number of workers: 1 to 64"),
-        (&["sdstore", "audit", "-1"], "number of workers: 1 to 64"),
-        (&["sdstore", "audit", "+1"], "number of workers: 1 to 64"),
-        (&["sdstore", "audit", "two"], "number of workers: 1 to 64"),
-        (
-            &["sdstore", "audit", "18446744073709551616"],
-            "number of workers: 1 to 64",
-        ),
-    ];
-    for (words, reason) in rows {
+    for (words, reason) in REFUSED {
         let ended = run(&rt, words);
         assert_eq!(rt; ended.status, 2, "{words:?}");
         assert!(rt; ended.output.is_empty(), "{words:?}");
@@ -130,8 +140,9 @@ fn prints_help_on_each_command(rt: HostRuntime) -> Result<(), Fail> {
         let help = shown(&rt, &["sdstore", "help", command]);
         assert!(rt; shown(&rt, &["sdstore", command, "-h"]).as_slice() == help.as_slice());
         assert!(rt; shown(&rt, &["sdstore", command, "--help"]).as_slice() == help.as_slice());
-        let usage = format!(in rt.alloc(); "Usage: sdstore {command} [--] <")?;
+        let usage = format!(in rt.alloc(); "{command} [--] <")?;
         let text = str::from_utf8(help.as_slice()).ok().ok_or("text")?;
+        assert!(rt; text.contains("Usage: sdstore "), "{text}");
         assert!(rt; text.contains(usage.as_str()), "{text}");
         expect_example(&rt, help.as_slice())?;
     }

@@ -1,0 +1,77 @@
+//! The words that make a token where a domain is given.
+ghost use Rattle.std.specs.Prelude.{◌≡◌, ◌≤◌, Err, IfOk, drop, length, map, string_bytes, take};
+ghost use Rattle.std.specs.Str.{IsCharBoundary};
+ghost use Rattle.sd_script.specs.Word.{texts};
+ghost use Rattle.sd_tool.specs.Words.{AreSpelledOut, HasNoWordIn, IsSpelledOut, IsTokenIn, sid_length as sid_length_of};
+
+use sd_check::Token;
+use sd_script::{TokenError, read_token};
+use sd_sid::Sid;
+use sd_text::{Domain, print_sid, read_sid_text_in};
+use std::alloc::{AllocError, Global};
+
+/// The token of a user and of these words, in which the aliases of domains are those of the one that is given.
+pub(crate) fn token_in(
+    alloc: Global,
+    domain: Option<Domain>,
+    user: Sid,
+    words: &[&str],
+) -> Result<Token, TokenError>
+    ensures token { IfOk result (IsTokenIn domain user (texts words.now)) }
+    ensures no_word { result ≡ Err TokenError.NoWord → HasNoWordIn domain (texts words.now) }
+{
+    let Some(domain) = domain else {
+        return read_token(alloc, user, words);
+    };
+    let fulls = spelled_out(alloc, domain, words)?;
+    let lent = lent_texts(alloc, &fulls)?;
+    read_token(alloc, user, &lent)
+}
+
+/// The words, each with its SID as it is printed.
+fn spelled_out(alloc: Global, domain: Domain, words: &[&str]) -> Result<Vec<String>, AllocError>
+    ensures { IfOk result (λ fulls. AreSpelledOut domain (texts words.now) (map string_bytes fulls.items)) }
+{
+    let mut fulls = Vec::new(alloc);
+    for word in words {
+        fulls.push(spelled_out_word(alloc, domain, word)?)?;
+    }
+    Ok(fulls)
+}
+
+fn spelled_out_word(alloc: Global, domain: Domain, word: &str) -> Result<String, AllocError>
+    ensures { IfOk result (λ full. IsSpelledOut domain word.now (string_bytes full)) }
+{
+    let (sid, ending) = word.split_at(sid_length(word));
+    match read_sid_text_in(Some(domain), sid) {
+        Ok(sid) => {
+            let mut full = print_sid(alloc, &sid)?;
+            full.push_str(ending)?;
+            Ok(full)
+        }
+        Err(_) => String::from_str(alloc, word),
+    }
+}
+
+/// How long the SID of a word is: as far as the first `=`, or all of it.
+fn sid_length(word: &str) -> usize
+    ensures length { result ≡ sid_length_of word.now }
+    ensures within { result ≤ length word.now }
+    ensures boundary { IsCharBoundary word.now result }
+{
+    match word.find('=') {
+        Some(place) => place,
+        None => word.len(),
+    }
+}
+
+/// The texts, lent.
+fn lent_texts<'a>(alloc: Global, fulls: &'a [String]) -> Result<Vec<&'a str>, AllocError>
+    ensures { IfOk result (λ lent. texts lent.items ≡ map string_bytes fulls.now) }
+{
+    let mut lent = Vec::new(alloc);
+    for full in fulls {
+        lent.push(full.as_str())?;
+    }
+    Ok(lent)
+}
