@@ -1,7 +1,9 @@
 pub mod Answered
 pub mod Askings
+pub mod Beginnings
 pub mod Cutting
 pub mod OneOutput
+pub mod OneReading
 pub mod Readings
 pub mod RightNames
 pub mod Timely

@@ -1,13 +1,12 @@
 -- What a line can ask for: an opening where no store is open, and something of a store where one is.
-use Rattle.std.proofs.Common.{◌≡◌, ⊎_elim, ℕ, List, Bool, true, false, not, Option, Some, None, Ok, Err, refl, ap, subst, ◌∙◌}
+use Rattle.std.proofs.Common.{◌≡◌, ⊎_elim, ℕ, List, Bool, true, false, not, Option, Some, None, Ok, Err, refl, sym, ap, subst, ◌∙◌}
 use Rattle.std.specs.Prelude.{IsSome, MatchBool, is_some, if◌then◌else◌}
-use Rattle.sd_share.specs.declared.request.Request.{Request}
-use Rattle.sd_script.specs.Command.{CommandValue, Open, AddContainer, AddObject, SetOwner, SetGroup, SetDacl, Remove, Protect, Move, Publish, Tell, Learn, Check, Show, asks, asks_where, is_untimely, line_asks, command_of}
+use Rattle.sd_script.specs.Command.{CommandValue, Open, AddContainer, AddObject, SetOwner, SetGroup, SetDacl, Remove, Protect, Move, Publish, Tell, Learn, Check, Why, Show, asks, asks_where, is_untimely, line_asks, command_of}
 use Rattle.sd_script.specs.Fault.{Just, Reading}
 use Rattle.sd_script.specs.Lines.{words_of}
 use Rattle.sd_script.specs.Output.{Standing}
 use Rattle.sd_script.specs.declared.asked.Asked.{Asked}
-use Rattle.sd_script.specs.declared.asked.Asked.TheVariants.{Opening, Asking}
+use Rattle.sd_script.specs.declared.asked.Asked.TheVariants.{Opening, Asking, Explaining}
 use Rattle.sd_script.specs.declared.fault.LineFault.TheVariants as faults
 
 -- ---- what holds of all that a reading gives
@@ -17,9 +16,10 @@ Gives {A = A} P reading = (a : A) → reading (Ok a) → P a
 
 -- ---- openings
 
-abbrev opens : Asked → Bool
+abbrev pub opens : Asked → Bool
 opens (Opening readers root) = true
 opens (Asking r) = false
+opens (Explaining reader path token asked) = false
 
 abbrev is_opening : CommandValue → Bool
 is_opening (Open readers sddl) = true
@@ -35,6 +35,7 @@ is_opening Publish = false
 is_opening Tell = false
 is_opening (Learn reader len) = false
 is_opening (Check reader path user mask words) = false
+is_opening (Why reader path user mask words) = false
 is_opening (Show reader path) = false
 
 abbrev Opens : Bool → Asked → Type 0
@@ -56,7 +57,8 @@ words_open (Move source target) a is = ⊎_elim (λ w. ⊎_elim (λ x. same_open
 words_open Publish a is = same_opens a _ is
 words_open Tell a is = same_opens a _ is
 words_open (Learn reader len) a is = ⊎_elim (λ w. ⊎_elim (λ x. same_opens a _ x.2) (λ x. absurd (cc (x.2))) w.2) (λ w. absurd (cc (w.2))) is
-words_open (Check reader at user asked words) a is = ⊎_elim (λ w. ⊎_elim (λ x. ⊎_elim (λ y. ⊎_elim (λ z. ⊎_elim (λ u. same_opens a _ u.2) (λ u. absurd (cc (u.2))) z.2) (λ z. absurd (cc (z.2))) y.2) (λ y. absurd (cc (y.2))) x.2) (λ x. absurd (cc (x.2))) w.2) (λ w. absurd (cc (w.2))) is
+words_open (Check reader at user asked words) a is = ⊎_elim (λ w. ⊎_elim (λ x. ⊎_elim (λ y. same_opens a _ y.2) (λ y. absurd (cc (y.2))) x.2) (λ x. absurd (cc (x.2))) w.2) (λ w. absurd (cc (w.2))) is
+words_open (Why reader at user asked words) a is = ⊎_elim (λ w. ⊎_elim (λ x. ⊎_elim (λ y. same_opens a _ y.2) (λ y. absurd (cc (y.2))) x.2) (λ x. absurd (cc (x.2))) w.2) (λ w. absurd (cc (w.2))) is
 words_open (Show reader at) a is = ⊎_elim (λ w. ⊎_elim (λ x. same_opens a _ x.2) (λ x. absurd (cc (x.2))) w.2) (λ w. absurd (cc (w.2))) is
 
 untimely_is : (is_open : Bool) (command : CommandValue) → is_untimely is_open command ≡ (if is_opening command then is_open else not is_open)
@@ -73,6 +75,7 @@ untimely_is is_open Publish = refl
 untimely_is is_open Tell = refl
 untimely_is is_open (Learn reader len) = refl
 untimely_is is_open (Check reader path user mask words) = refl
+untimely_is is_open (Why reader path user mask words) = refl
 untimely_is is_open (Show reader path) = refl
 
 by_test : (is_open is : Bool) (command : CommandValue) (b : Asked) → is_opening command ≡ is
@@ -92,6 +95,6 @@ pub line_opens : (is_open : Bool) (line : List ℕ) → Gives (Opens (not is_ope
 line_opens is_open line b h = ⊎_elim (λ x. where_open is_open (command_of (words_of line)) b x.1) (λ x. absurd (cc (x.1))) h
 
 -- where a line asks something of a store, one is open
-pub open_where_asked : (old : Standing) (line : List ℕ) (r : Request) → line_asks (is_some old) line (Ok (Asking r)) → IsSome old
-open_where_asked (Some machine) line r h = refl
-open_where_asked None line r h = absurd (let same = line_opens false line (Asking r) h in cc (same))
+pub open_where_asked : (old : Standing) (line : List ℕ) (asked : Asked) → opens asked ≡ false → line_asks (is_some old) line (Ok asked) → IsSome old
+open_where_asked (Some machine) line asked of_store h = refl
+open_where_asked None line asked of_store h = absurd (let same = sym of_store ∙ line_opens false line asked h in cc (same))

@@ -13,7 +13,8 @@ use Rattle.sd_script.specs.Fault.{Reading, Just, Then}
 use Rattle.sd_script.specs.Lines.{words_of}
 use Rattle.sd_script.specs.Word.{texts}
 use Rattle.sd_script.specs.declared.asked.Asked.{Asked}
-use Rattle.sd_script.specs.declared.asked.Asked.TheVariants.{Opening, Asking}
+use Rattle.sd_script.specs.declared.asked.Asked.TheVariants.{Opening, Asking, Explaining}
+use Rattle.sd_script.specs.declared.asked.Question.{Question}
 use Rattle.sd_script.specs.declared.command.Command.{Command}
 use Rattle.sd_script.specs.declared.command.Command.TheVariants as lent
 use Rattle.sd_script.specs.declared.command.CommandName.{CommandName}
@@ -36,6 +37,7 @@ pub data CommandValue : Type 0 where
   Tell : CommandValue
   Learn : List ℕ → List ℕ → CommandValue
   Check : List ℕ → List ℕ → List ℕ → List ℕ → List (List ℕ) → CommandValue
+  Why : List ℕ → List ℕ → List ℕ → List ℕ → List (List ℕ) → CommandValue
   Show : List ℕ → List ℕ → CommandValue
 
 abbrev pub command_value : Command → CommandValue
@@ -52,6 +54,7 @@ command_value lent.Publish = Publish
 command_value lent.Tell = Tell
 command_value (lent.Learn reader length) = Learn reader.now length.now
 command_value (lent.Check reader path user mask words) = Check reader.now path.now user.now mask.now (texts words.now)
+command_value (lent.Why reader path user mask words) = Why reader.now path.now user.now mask.now (texts words.now)
 command_value (lent.Show reader path) = Show reader.now path.now
 
 -- the command that the word names
@@ -70,6 +73,7 @@ command_named word =
     else if bytes_eq word (codes "tell") then Some names.Tell
     else if bytes_eq word (codes "learn") then Some names.Learn
     else if bytes_eq word (codes "check") then Some names.Check
+    else if bytes_eq word (codes "why") then Some names.Why
     else if bytes_eq word (codes "show") then Some names.Show
     else None
 
@@ -88,6 +92,7 @@ command_on names.Publish [] = Some Publish
 command_on names.Tell [] = Some Tell
 command_on names.Learn (reader ∷ length ∷ []) = Some (Learn reader length)
 command_on names.Check (reader ∷ path ∷ user ∷ mask ∷ words) = Some (Check reader path user mask words)
+command_on names.Why (reader ∷ path ∷ user ∷ mask ∷ words) = Some (Why reader path user mask words)
 command_on names.Show (reader ∷ path ∷ []) = Some (Show reader path)
 command_on name arguments = None
 
@@ -114,15 +119,19 @@ edit e = Just (Asking (requests.Edit e))
 abbrev pub request : Request → Reading Asked
 request r = Just (Asking r)
 
--- a check: the user, what is asked, and the user's groups and privileges
-abbrev pub check_with : ℕ → Names → List (List ℕ) → SidValue → ℕ → Reading Asked
-check_with reader names words user asked = Then (token user words) (λ t. request (requests.Check reader names t asked))
+-- a question: the user, what is asked, and the user's groups and privileges
+abbrev pub question_with : List (List ℕ) → SidValue → ℕ → Reading Question
+question_with words user asked = Then (token user words) (λ t. Just (record { token = t; asked = asked }))
 
-abbrev pub check_by : ℕ → Names → List ℕ → List (List ℕ) → SidValue → Reading Asked
-check_by reader names asked words user = Then (mask asked) (check_with reader names words user)
+abbrev pub question_by : List ℕ → List (List ℕ) → SidValue → Reading Question
+question_by asked words user = Then (mask asked) (question_with words user)
 
-abbrev pub check_of : ℕ → Names → List ℕ → List ℕ → List (List ℕ) → Reading Asked
-check_of reader names user asked words = Then (sid user) (check_by reader names asked words)
+abbrev pub question : List ℕ → List ℕ → List (List ℕ) → Reading Question
+question user asked words = Then (sid user) (question_by asked words)
+
+-- such a question to a reader, of a path
+abbrev pub posed : (ℕ → Names → Question → Asked) → List ℕ → List ℕ → Reading Question → Reading Asked
+posed make reader at asking = Then (number reader) (λ i. Then (path at) (λ p. Then asking (λ q. Just (make i p q))))
 
 -- what each command asks for
 abbrev pub asks : CommandValue → Reading Asked
@@ -139,7 +148,9 @@ asks Publish = request requests.Publish
 asks Tell = request requests.Tell
 asks (Learn reader length) = Then (number reader) (λ i. Then (number length) (λ n. request (requests.Learn i n)))
 asks (Check reader at user asked words) =
-    Then (number reader) (λ i. Then (path at) (λ p. check_of i p user asked words))
+    posed (λ i p q. Asking (requests.Check i p q.token q.asked)) reader at (question user asked words)
+asks (Why reader at user asked words) =
+    posed (λ i p q. Explaining i p q.token q.asked) reader at (question user asked words)
 asks (Show reader at) = Then (number reader) (λ i. Then (path at) (λ p. request (requests.Show i p)))
 
 -- ---- what a line asks for

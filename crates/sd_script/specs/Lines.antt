@@ -1,7 +1,7 @@
 -- The words of a line, and lines that ask for nothing. The lines of a text are those of std's `lines`: each but the last
 -- is ended by a line feed, of which a carriage return right before it is a part.
-use Rattle.std.specs.Prelude.{ℕ, Bool, true, ◌==◌, List, [], ◌∷◌}
-use Rattle.std.specs.List.{slice_split}
+use Rattle.std.specs.Prelude.{ℕ, Bool, true, ◌==◌, nat_eq, ◌||◌, List, [], ◌∷◌, codes, bytes_eq}
+use Rattle.std.specs.List.{slice_split, starts_with}
 
 -- the line is empty, or begins with `#`
 abbrev pub is_silent : List ℕ → Bool
@@ -11,3 +11,7 @@ is_silent (b ∷ bs) = b == 0x23
 -- the words, parted by single spaces
 abbrev pub words_of : List ℕ → List (List ℕ)
 words_of line = slice_split (λ b. b == 0x20) line
+
+-- its first word is `why`
+abbrev pub asks_why : List ℕ → Bool
+asks_why line = bytes_eq line (codes "why") || starts_with nat_eq line (codes "why ")

@@ -1,5 +1,5 @@
 -- The output of a script.
-use Rattle.std.specs.Prelude.{◌≡◌, ◌⊎◌, ℕ, List, [], ◌∷◌, ◌++◌, Option, Some, None, Ok, Err, is_some, MatchBool, codes}
+use Rattle.std.specs.Prelude.{◌≡◌, ◌⊎◌, ℕ, List, [], ◌∷◌, ◌++◌, Option, Some, None, Ok, Err, is_some, MatchBool, if◌then◌else◌, codes}
 use Rattle.std.specs.Str.Lines.{lines}
 use Rattle.sd_sid.specs.Mapping.{file_mapping}
 use Rattle.sd_tree.specs.Journal.{opening_of, root_refusal}
@@ -8,13 +8,15 @@ use Rattle.sd_tree.specs.declared.opening.RootSpec.{RootSpec}
 use Rattle.sd_share.specs.Machine.{Machine, Steps, started}
 use Rattle.sd_share.specs.Starts.{IsReaderCount, IsStartError}
 use Rattle.sd_share.specs.declared.request.Reply.{Reply}
+use Rattle.sd_share.specs.declared.request.Request.TheVariants.{Show}
 use Rattle.sd_share.specs.declared.start.StartError.{StartError}
 use Rattle.sd_script.specs.Command.{line_asks}
 use Rattle.sd_script.specs.Fault.{line_of_fault}
-use Rattle.sd_script.specs.Lines.{is_silent}
+use Rattle.sd_script.specs.Lines.{asks_why, is_silent}
 use Rattle.sd_script.specs.Reply.{counted_line, reply_line, start_error_line}
+use Rattle.sd_script.specs.Why.{explained_reply}
 use Rattle.sd_script.specs.declared.asked.Asked.{Asked}
-use Rattle.sd_script.specs.declared.asked.Asked.TheVariants.{Opening as Opens, Asking}
+use Rattle.sd_script.specs.declared.asked.Asked.TheVariants.{Opening as Opens, Asking, Explaining}
 use Rattle.sd_script.specs.declared.fault.LineFault.{LineFault}
 
 -- what stands between two lines: the store, where one is open
@@ -39,13 +41,26 @@ IsDone old (Opens readers root) printed new = IsOpened readers root printed new
 IsDone (Some old) (Asking request) printed new =
     (reply : Reply) × (machine : Machine) × Steps old request reply machine × (reply_line reply ≡ Some printed) × (new ≡ Some machine)
 IsDone None (Asking request) printed new = ⊥
+IsDone (Some old) (Explaining reader path token asked) printed new =
+    (reply : Reply) × (machine : Machine) × Steps old (Show reader path) reply machine
+    × (explained_reply token asked reply ≡ Some printed) × (new ≡ Some machine)
+IsDone None (Explaining reader path token asked) printed new = ⊥
 
--- a line is answered: by nothing, by what it asks for, or by its fault
+-- a line that isn't silent is told what it asks for, or its fault
+abbrev pub IsTold : Standing → List ℕ → List ℕ → Standing → Type 0
+IsTold old line told new =
+    ((asked : Asked) × line_asks (is_some old) line (Ok asked) × IsDone old asked told new)
+    ⊎ ((fault : LineFault) × line_asks (is_some old) line (Err fault) × (told ≡ line_of_fault fault) × (new ≡ old))
+
+-- behind what a line is told: whether it is told several lines or a fault, an empty line ends the answer to `why`
+abbrev pub closing_of : List ℕ → List ℕ
+closing_of line = if asks_why line then 10 ∷ [] else []
+
+-- a line is answered: by nothing, or by what it is told
 abbrev pub IsAnswered : Standing → List ℕ → List ℕ → Standing → Type 0
 IsAnswered old line printed new = MatchBool (is_silent line)
     ((printed ≡ []) × (new ≡ old))
-    (((asked : Asked) × line_asks (is_some old) line (Ok asked) × IsDone old asked printed new)
-    ⊎ ((fault : LineFault) × line_asks (is_some old) line (Err fault) × (printed ≡ line_of_fault fault) × (new ≡ old)))
+    ((told : List ℕ) × IsTold old line told new × (printed ≡ told ++ closing_of line))
 
 -- one line after the other
 abbrev pub AreAnswered : Standing → List (List ℕ) → List ℕ → Type 0

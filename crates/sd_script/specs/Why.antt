@@ -3,9 +3,10 @@ use Rattle.std.specs.Prelude.{ℕ, zero, suc, ◌+◌, List, [], ◌++◌, Optio
 use Rattle.std.specs.Fmt.{decimal}
 use Rattle.sd_sid.specs.Sid.{SidValue}
 use Rattle.sd_sid.specs.Mapping.{file_mapping}
-use Rattle.sd_acl.specs.Descriptor.{DescriptorValue}
+use Rattle.sd_acl.specs.Descriptor.{DescriptorValue, descriptor_of}
 use Rattle.sd_acl.specs.Verdict.{subject}
 use Rattle.sd_acl.specs.declared.ace.Ace.{Ace}
+use Rattle.sd_acl.specs.declared.descriptor.Descriptor.{Descriptor}
 use Rattle.sd_text.specs.Canon.{full_canon, entry_canon}
 use Rattle.sd_check.specs.Check.{verdict}
 use Rattle.sd_check.specs.Dacl.{dacl_entries}
@@ -18,9 +19,13 @@ use Rattle.sd_explain.specs.declared.reason.Finding.TheVariants.{Allowed, Denied
 use Rattle.sd_explain.specs.declared.reason.Cause.{Cause}
 use Rattle.sd_explain.specs.declared.reason.Cause.TheVariants.{NoList, Listed, Restricted, Owner, TakeOwnership, Security, NoSecurity, BeyondAll, Reserved}
 use Rattle.sd_explain.specs.declared.reason.Reason.{Reason}
+use Rattle.sd_share.specs.declared.request.Reply.{Reply}
+use Rattle.sd_share.specs.declared.request.Reply.TheVariants.{Shown}
 use Rattle.sd_script.specs.Answer.{line, spelled_verdict_line}
+use Rattle.sd_script.specs.Reply.{reply_line, seen_line}
 use Rattle.sd_script.specs.Spelling.{spelled}
 use Rattle.sd_script.specs.declared.spelling.Spelling.{Spelling}
+use Rattle.sd_script.specs.declared.spelling.Spelling.TheVariants.{Number}
 
 -- the SID that the token stands for, in full
 abbrev pub subject_text : Option SidValue → List ℕ
@@ -76,3 +81,15 @@ abbrev pub why_text : Spelling → DescriptorValue → TokenValue → ℕ → Li
 why_text spelling d t asked =
     spelled_verdict_line (spelled spelling) (verdict d.owner (dacl_entries d.dacl) file_mapping t asked)
     ++ part_lines spelling d.owner (listed (dacl_entries d.dacl)) (reason_in (reasons_of d.owner (dacl_entries d.dacl) file_mapping t asked)) 32
+
+-- ---- in a script
+
+-- of the node of a path, where there is one
+abbrev pub node_why_text : TokenValue → ℕ → Option Descriptor → List ℕ
+node_why_text t asked None = line (codes "nonode")
+node_why_text t asked (Some d) = why_text Number (descriptor_of d) t asked
+
+-- of the reply to a reader who asks for the descriptor of the node
+abbrev pub explained_reply : TokenValue → ℕ → Reply → Option (List ℕ)
+explained_reply t asked (Shown seen d) = Some (seen_line seen (node_why_text t asked d))
+explained_reply t asked reply = reply_line reply

@@ -1,13 +1,15 @@
 //! What a line asks for, and how its words are read.
 ghost use Rattle.std.specs.Prelude.{◌≡◌};
-ghost use Rattle.sd_script.specs.Command.{CommandValue, Open, AddContainer, AddObject, SetOwner, SetGroup, SetDacl, Remove, Protect, Move, Learn, Check, Show, asks, check_of, command_value};
+ghost use Rattle.sd_script.specs.Command.{CommandValue, Open, AddContainer, AddObject, SetOwner, SetGroup, SetDacl, Remove, Protect, Move, Learn, Check, Why, Show, asks, question, command_value};
 ghost use Rattle.sd_script.specs.Fault.{UnlessMemory};
 ghost use Rattle.sd_script.specs.Word.{texts};
 
 use crate::argument::{dacl_in, mask_in, node_in, number_in, path_in, sid_in, token_in};
 use crate::command::Command;
 use crate::fault::Stop;
+use sd_check::Token;
 use sd_share::Request;
+use sd_sid::Mask;
 use sd_tree::{Edit, Path, RootSpec};
 use std::alloc::Global;
 
@@ -15,9 +17,26 @@ use std::alloc::Global;
 #[derive(Debug, Drop)]
 pub enum Asked {
     /// A store for so many readers, with this root.
-    Opening { readers: u64, root: RootSpec },
+    Opening {
+        readers: u64,
+        root: RootSpec,
+    },
     /// Something of the store that is open.
     Asking(Request),
+    /// Of the store that is open, why it answers a reader's check as it does ([MS-DTYP] 2.5.3.2).
+    Explaining {
+        reader: u64,
+        path: Path,
+        token: Token,
+        asked: Mask,
+    },
+}
+
+/// A token, and what is asked for it.
+#[derive(Debug, Drop)]
+pub(crate) struct Question {
+    token: Token,
+    asked: Mask,
 }
 
 /// What a command asks for, or its first argument from the left that isn't read.
@@ -44,6 +63,13 @@ pub(crate) fn asked_by(alloc: Global, command: Command<'_>) -> Result<Asked, Sto
             mask,
             words,
         } => checked(alloc, reader, path, user, mask, words),
+        Command::Why {
+            reader,
+            path,
+            user,
+            mask,
+            words,
+        } => explained(alloc, reader, path, user, mask, words),
         Command::Show { reader, path } => shown(alloc, reader, path),
     }
 }
@@ -149,29 +175,45 @@ fn checked(
 {
     let reader = number_in(reader)?;
     let path = path_in(alloc, path)?;
-    checked_for(alloc, reader, path, user, mask, words)
-}
-
-/// A check by a reader of a path.
-fn checked_for(
-    alloc: Global,
-    reader: u64,
-    path: Path,
-    user: &str,
-    mask: &str,
-    words: &[&str],
-) -> Result<Asked, Stop>
-    ensures { UnlessMemory (check_of reader path user.now mask.now (texts words.now)) result }
-{
-    let user = sid_in(user)?;
-    let asked = mask_in(mask)?;
-    let token = token_in(alloc, user, words)?;
+    let Question { token, asked } = question_in(alloc, user, mask, words)?;
     Ok(Asked::Asking(Request::Check {
         reader,
         path,
         token,
         asked,
     }))
+}
+
+fn explained(
+    alloc: Global,
+    reader: &str,
+    path: &str,
+    user: &str,
+    mask: &str,
+    words: &[&str],
+) -> Result<Asked, Stop>
+    ensures { UnlessMemory
+        (asks (Why reader.now path.now user.now mask.now (texts words.now))) result }
+{
+    let reader = number_in(reader)?;
+    let path = path_in(alloc, path)?;
+    let Question { token, asked } = question_in(alloc, user, mask, words)?;
+    Ok(Asked::Explaining {
+        reader,
+        path,
+        token,
+        asked,
+    })
+}
+
+/// A user with its words, and what is asked for it.
+fn question_in(alloc: Global, user: &str, mask: &str, words: &[&str]) -> Result<Question, Stop>
+    ensures { UnlessMemory (question user.now mask.now (texts words.now)) result }
+{
+    let user = sid_in(user)?;
+    let asked = mask_in(mask)?;
+    let token = token_in(alloc, user, words)?;
+    Ok(Question { token, asked })
 }
 
 fn shown(alloc: Global, reader: &str, path: &str) -> Result<Asked, Stop>

@@ -20,6 +20,7 @@ pub(crate) enum CommandName {
     Tell,
     Learn,
     Check,
+    Why,
     Show,
 }
 
@@ -86,6 +87,14 @@ pub(crate) enum Command<'a> {
         mask: &'a str,
         words: &'a [&'a str],
     },
+    /// A reader asks why such a check is answered as it is.
+    Why {
+        reader: &'a str,
+        path: &'a str,
+        user: &'a str,
+        mask: &'a str,
+        words: &'a [&'a str],
+    },
     /// A reader asks for a node's descriptor.
     Show {
         reader: &'a str,
@@ -111,6 +120,7 @@ impl CommandName {
             "tell" => Some(CommandName::Tell),
             "learn" => Some(CommandName::Learn),
             "check" => Some(CommandName::Check),
+            "why" => Some(CommandName::Why),
             "show" => Some(CommandName::Show),
             _ => None,
         }
@@ -158,16 +168,9 @@ fn command_on<'a>(name: CommandName, arguments: &'a [&'a str]) -> Option<Command
         [] => command_alone(name),
         [path] => command_on_one(name, path),
         [first, second] => command_on_two(name, first, second),
-        [reader, path, user, mask, words @ ..] => match name {
-            CommandName::Check => Some(Command::Check {
-                reader,
-                path,
-                user,
-                mask,
-                words,
-            }),
-            _ => None,
-        },
+        [reader, path, user, mask, words @ ..] => {
+            command_on_question(name, reader, path, user, mask, words)
+        }
         _ => None,
     }
 }
@@ -220,6 +223,37 @@ fn command_on_two<'a>(name: CommandName, first: &'a str, second: &'a str) -> Opt
         CommandName::Show => Some(Command::Show {
             reader: first,
             path: second,
+        }),
+        _ => None,
+    }
+}
+
+/// The command on a reader, a path and a question.
+fn command_on_question<'a>(
+    name: CommandName,
+    reader: &'a str,
+    path: &'a str,
+    user: &'a str,
+    mask: &'a str,
+    words: &'a [&'a str],
+) -> Option<Command<'a>>
+    ensures { option_map command_value result
+        ≡ command_on name (reader.now ∷ path.now ∷ user.now ∷ mask.now ∷ texts words.entry.now) }
+{
+    match name {
+        CommandName::Check => Some(Command::Check {
+            reader,
+            path,
+            user,
+            mask,
+            words,
+        }),
+        CommandName::Why => Some(Command::Why {
+            reader,
+            path,
+            user,
+            mask,
+            words,
         }),
         _ => None,
     }

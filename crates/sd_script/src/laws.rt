@@ -1,7 +1,12 @@
-//! What follows from the output of a script. The law is the contract of a function that does nothing.
-ghost use Rattle.sd_script.specs.Laws.{HasOneOutput};
+//! What follows from the output of a script. A law is the contract of a function that does nothing.
+ghost use Rattle.sd_script.specs.Laws.{BeginsAsCheck, HasOneOutput};
 
 /// A text has one output.
 pub fn texts_have_one_output()
     ensures { HasOneOutput }
+{}
+
+/// What `why` tells begins with what `check` tells of the same question, and leaves the same store.
+pub fn why_begins_as_check()
+    ensures { BeginsAsCheck }
 {}

@@ -1,7 +1,7 @@
 //! Scripts: lines of text that build a tree of securable nodes, edit it, publish and ask.
 //!
-//! Each line is a command with its words, and is answered by one line: by what a store replies, or by the first
-//! thing that is wrong with it. `script_output` takes a whole text and gives the whole output, which is what
+//! Each line is a command with its words, and is answered by one line, and `why` by several: by what a store replies, or by the
+//! first thing that is wrong with it. `script_output` takes a whole text and gives the whole output, which is what
 //! `Prints` in specs/Output.antt says. The commands are told in docs/SCRIPT.md.
 //!
 //! ```text
@@ -32,7 +32,7 @@ mod word;
 pub use answer::{fault_line, sddl_fault_line, verdict_line};
 pub use asked::Asked;
 pub use fault::{LineFault, Stop, line_of_fault};
-pub use laws::texts_have_one_output;
+pub use laws::{texts_have_one_output, why_begins_as_check};
 pub use line::read_line;
 pub use lines::{first_line, is_silent, line_len};
 pub use reply::{counted_line, reply_line, start_error_line};

@@ -2,7 +2,7 @@
 ghost use Rattle.std.specs.Prelude.{◌≡◌, ◌<◌, ◌∷◌, ◌==◌, ◌≤◌, length, IfOk};
 ghost use Rattle.std.specs.List.{position_or_len};
 ghost use Rattle.std.specs.Str.Lines.{lines, strip_carriage_return};
-ghost use Rattle.sd_script.specs.Lines.{is_silent, words_of};
+ghost use Rattle.sd_script.specs.Lines.{asks_why, is_silent, words_of};
 ghost use Rattle.sd_script.specs.Word.{texts};
 
 use std::alloc::{AllocError, Global};
@@ -50,6 +50,13 @@ pub fn is_silent(line: &[u8]) -> bool
         None => true,
         Some(first) => *first == b'#',
     }
+}
+
+/// Whether the line's first word is `why`.
+pub(crate) fn asks_why(line: &[u8]) -> bool
+    ensures { result ≡ asks_why line.now }
+{
+    line == b"why".as_slice() || line.starts_with(b"why ")
 }
 
 /// The words of a line, parted by single spaces.

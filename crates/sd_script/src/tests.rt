@@ -13,7 +13,7 @@ use std::alloc::{AllocError, Global};
 use std::test::Fail;
 
 /// Scripts, and what they print.
-static SCRIPTS: [(&str, &str); 9] = [
+static SCRIPTS: [(&str, &str); 11] = [
     ("", ""),
     // A store, from its opening on; the last line isn't ended.
     (
@@ -49,6 +49,16 @@ static SCRIPTS: [(&str, &str); 9] = [
     (
         "open 1 O:BAG:SYD:\nowner / \nowner  / BA\ntell 1\nPUBLISH\ncheck 0 a WD\nopen x D:\nlearn 0 +1\nlearn 0 18446744073709551615\nlearn 0 18446744073709551616\ncheck x a QQ ZZ WD=\ncheck 0 a QQ ZZ WD=\ncheck 0 / QQ ZZ WD=\ncheck 0 / WD ZZ WD=\ncheck 0 / WD 0x1 WD WD=\ndacl / O:BAD:\ndacl / D:(A;;FA;;;QQ)\ntell\n",
         "opened 1\nfault words\nfault words\nfault words\nfault words\nfault words\nfault open\nfault number\nnonotice\nfault number\nfault number\nfault path\nfault sid\nfault mask\nfault token\nfault parts\nfault sddl 5 UnknownAlias at 11\ntold 0\n",
+    ),
+    // Why a check is answered so: its line, the reasons, and an empty line; the reader has seen what it was answered by.
+    (
+        "open 1 O:BAG:SYD:(A;OICI;GA;;;SY)\naddo /a O:BAG:SYD:(D;;FW;;;BU)(A;;FR;;;BU)\naddo /n O:WDG:SYD:NO_ACCESS_CONTROL\nwhy 0 /a WD 0x1\npublish\nlearn 0 0\nwhy 0 /a WD 0x12019F BU\nlearn 0 0\nwhy 0 /a SY 0x1000003 BU=deny\nwhy 0 /a WD 0x1 BU WD=restrict\nwhy 0 /n WD 0x03000000 +security\nwhy 0 /n WD 0\nwhy 0 /n WD 0x00200001\nwhy 0 /a BA 0x90000 +take\nwhy 0 /a BA 0x60000\ntell\n",
+        "opened 1\nok\nok\nseen 0 nonode\n\npublished 2\nlearned 0\nseen 2 denied 0x120116\ngranted 0x89 by entry 2 (A;;FR;;;BU) as S-1-5-32-545\ndenied 0x120116 by entry 1 (D;;FW;;;BU) as S-1-5-32-545\n\nlearned 2\nseen 2 denied 0x1000002\ngranted 0x1 by entry 3 (A;ID;FA;;;SY) as S-1-5-18\ndenied 0x2 by entry 1 (D;;FW;;;BU) as S-1-5-32-545\ndenied 0x1000000 without SeSecurityPrivilege\n\nseen 2 denied 0x1\ndenied 0x1 by entry 2 (A;;FR;;;BU) as S-1-5-32-545, restricted by no entry\n\nseen 2 granted 0x11f01ff\ngranted 0x1f01ff without a list\ndenied 0xfe00 beyond GENERIC_ALL\ngranted 0x1000000 by SeSecurityPrivilege\n\nseen 2 empty\n\nseen 2 reserved 0x200000\ndenied 0x200000 as reserved\n\nseen 2 denied 0x10000\ndenied 0x10000 by no entry\ngranted 0x80000 by SeTakeOwnershipPrivilege\n\nseen 2 granted 0x60000\ngranted 0x60000 to the owner\n\ntold 2\n",
+    ),
+    // An empty line ends each answer to `why`, also a fault, and no other.
+    (
+        "why 0 / WD 0x1\nopen 1 O:BAG:SYD:\nwhy\r\nwhy 0 / WD\nwhy 0 / WD  0x1\nwhy x a QQ ZZ WD=\nwhy 0 a QQ ZZ WD=\nwhy 0 / QQ ZZ WD=\nwhy 0 / WD ZZ WD=\nwhy 0 / WD 0x1 WD=\nwhy 1 / WD 0x1\n why\nWHY\nwhyever\n# why\nwhy\r",
+        "fault open\n\nopened 1\nfault words\n\nfault words\n\nfault words\n\nfault number\n\nfault path\n\nfault sid\n\nfault mask\n\nfault token\n\nnoreader\n\nfault words\nfault words\nfault words\nfault words\n",
     ),
     // One carriage return before a line feed is dropped, and only there; some lines ask for nothing.
     (

@@ -1,17 +1,19 @@
 //! The lines that tell why a request is answered as it is: the verdict, and the reason of each bit.
-ghost use Rattle.std.specs.Prelude.{◌≡◌, ◌++◌, IfOk, OnOk, slice_get, string_bytes};
+ghost use Rattle.std.specs.Prelude.{◌≡◌, ◌++◌, Some, IfOk, OnOk, slice_get, string_bytes};
 ghost use Rattle.sd_acl.specs.Verdict.{subject};
 ghost use Rattle.sd_acl.specs.Descriptor.{descriptor_of};
 ghost use Rattle.sd_check.specs.Dacl.{dacl_entries, entries_of};
 ghost use Rattle.sd_explain.specs.Parts.{reason_in};
 ghost use Rattle.sd_script.specs.Answer.{line, spelled_verdict_line as spelled_verdict_line_of};
 ghost use Rattle.sd_script.specs.Spelling.{spelled};
-ghost use Rattle.sd_script.specs.Why.{subject_text as subject_text_of, entry_text as entry_text_of, finding_text as finding_text_of, cause_text as cause_text_of, verb_of, part_line as part_line_of, line_at as line_at_of, part_lines, listed, why_text as why_text_of};
+ghost use Rattle.sd_script.specs.Why.{subject_text as subject_text_of, entry_text as entry_text_of, finding_text as finding_text_of, cause_text as cause_text_of, verb_of, part_line as part_line_of, line_at as line_at_of, part_lines, listed, why_text as why_text_of, node_why_text as node_why_text_of, explained_reply as explained_reply_of};
 
+use crate::reply::{reply_line, seen_line};
 use crate::spelling::{Spelling, spell};
 use sd_acl::{Ace, Dacl, Descriptor, Verdict};
 use sd_check::{DaclRef, Token, subject_of};
 use sd_explain::{Cause, Explanation, Finding, PLACES, Part, explain};
+use sd_share::Reply;
 use sd_sid::{GenericMapping, Mask, Sid};
 use sd_text::{print_entry, print_full_sid};
 use std::alloc::{AllocError, Global};
@@ -43,6 +45,40 @@ pub fn why_text(
     let mut text = spelled_verdict_line(alloc, spelling, explanation.verdict())?;
     list.push_parts(alloc, &mut text, &explanation)?;
     Ok(text)
+}
+
+/// The lines for a reader who asked for the descriptor of a node, and was replied so: by how long a journal, and the
+/// explanation or `nonode`; or the line of another reply.
+pub(crate) fn explained_reply(
+    alloc: Global,
+    token: &Token,
+    asked: Mask,
+    reply: &Reply,
+) -> Result<String, AllocError>
+    ensures { IfOk result (λ text. explained_reply_of token.now asked reply.now ≡ Some (string_bytes text)) }
+{
+    match reply {
+        Reply::Shown { seen, descriptor } => {
+            let lines = node_why_text(alloc, token, asked, descriptor)?;
+            seen_line(alloc, *seen, &lines)
+        }
+        _ => reply_line(alloc, reply),
+    }
+}
+
+/// The lines of an explanation by the descriptor of a node, where there is one.
+fn node_why_text(
+    alloc: Global,
+    token: &Token,
+    asked: Mask,
+    descriptor: &Option<Descriptor>,
+) -> Result<String, AllocError>
+    ensures { IfOk result (λ text. string_bytes text ≡ node_why_text_of token.now asked descriptor.now) }
+{
+    match descriptor {
+        None => String::from_str(alloc, "nonode\n"),
+        Some(descriptor) => why_text(alloc, Spelling::Number, descriptor, token, asked),
+    }
 }
 
 fn spelled_verdict_line(

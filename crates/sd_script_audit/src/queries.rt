@@ -1,11 +1,12 @@
 //! The lines of an audit after the one that opened its store: their answers, and the queries among them.
 
-ghost use Rattle.std.specs.Prelude.{◌≡◌, ◌++◌, ℕ, List, [], IfOk, OnOk, string_bytes};
+ghost use Rattle.std.specs.Prelude.{◌≡◌, ◌++◌, ℕ, List, [], IfOk, OnOk, codes, string_bytes};
 ghost use Rattle.std.specs.Str.Lines.{lines};
 ghost use Rattle.sd_share.specs.Machine.{Steps};
 ghost use Rattle.sd_share.specs.declared.request.Request.TheVariants as asked;
 ghost use Rattle.sd_script_audit.specs.Audit.{AreAnsweredInAudit, IsAnsweredInAudit, IsDoneInAudit};
 ghost use Rattle.sd_script_audit.specs.Parts.{machine_of, progress};
+ghost use Rattle.sd_script.specs.Answer.{fault_line as fault_line_of};
 ghost use Rattle.sd_script.specs.declared.asked.Asked.TheVariants.{Asking};
 
 use sd_script::{
@@ -60,6 +61,7 @@ fn answer_line<J: Naming, T: Wait>(
     }
     match read_line(alloc, true, line) {
         Ok(Asked::Asking(request)) => answer_request(rt, alloc, writer, queries, request),
+        Ok(Asked::Explaining { .. }) => only_in_scripts(alloc),
         Ok(Asked::Opening { .. }) => unreachable!(),
         Err(Stop::Fault(fault)) => line_of_fault(alloc, fault),
         Err(Stop::Memory) => Err(AllocError),
@@ -90,10 +92,15 @@ fn answer_request<J: Naming, T: Wait>(
             queries.push(Query { path, token, asked })?;
             Ok(String::new(alloc))
         }
-        Request::Tell | Request::Learn { .. } | Request::Show { .. } => {
-            fault_line(alloc, "audit")
-        }
+        Request::Tell | Request::Learn { .. } | Request::Show { .. } => only_in_scripts(alloc),
     }
+}
+
+/// What is told of a command that only a script carries out.
+fn only_in_scripts(alloc: Global) -> Result<String, AllocError>
+    ensures { IfOk result (λ text. string_bytes text ≡ fault_line_of (codes "audit")) }
+{
+    fault_line(alloc, "audit")
 }
 
 /// The reply to an edit.

@@ -37,11 +37,11 @@ static AUDITS: [(u64, &str, &str); 9] = [
         "check 0 / WD 0x1\ntell\nopen 1 O:BAG:SYD:(A;ID;FR;;;BU)\npublish\n",
         "fault open\nfault open\nrefused 7 InheritedEntry\nfault open\n",
     ),
-    // An audit tells, teaches and shows nothing, and of a line's faults the first is told.
+    // An audit tells, teaches, shows and explains nothing, and of a line's faults the first is told.
     (
         2,
-        "tell\nopen x D:\nopen 99 O:BAG:SYD:\ntell\nlearn x 1\nlearn 0 1\nshow 0 a\nshow 0 /a\ntell 1\ncheck x / WD 0x1\ncheck 7 / WD 0x1\nopen 1 O:BAG:SYD:\n",
-        "fault open\nfault number\nopened 2\nfault audit\nfault number\nfault audit\nfault path\nfault audit\nfault words\nfault number\nfault open\ntold 0\nseen 0 denied 0x1\n",
+        "tell\nopen x D:\nopen 99 O:BAG:SYD:\ntell\nlearn x 1\nlearn 0 1\nshow 0 a\nshow 0 /a\nwhy 0 a WD 0x1\nwhy 0 / WD 0x1\ntell 1\ncheck x / WD 0x1\ncheck 7 / WD 0x1\nopen 1 O:BAG:SYD:\n",
+        "fault open\nfault number\nopened 2\nfault audit\nfault number\nfault audit\nfault path\nfault audit\nfault path\nfault audit\nfault words\nfault number\nfault open\ntold 0\nseen 0 denied 0x1\n",
     ),
     // Edits are judged and published as in a script; a refused opening comes before one that is taken.
     (

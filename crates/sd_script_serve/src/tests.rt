@@ -6,8 +6,9 @@ use std::io;
 use std::io::{ErrorKind, Read, Write};
 use std::process::Abort;
 
-/// The lines of a script, and what each is answered by. One has a carriage return, one isn't answered, the last isn't ended.
-const LINES: [(&[u8], &[u8]); 8] = [
+/// The lines of a script, and what each is answered by. One has a carriage return, one isn't answered, two are answered by
+/// several lines, the last isn't ended.
+const LINES: [(&[u8], &[u8]); 10] = [
     (b"open 2 O:BAG:SYD:(A;OICI;FA;;;BA)\n", b"opened 2\n"),
     (b"# an object\n", b""),
     (b"addo /a O:BAG:SYD:(A;;FR;;;BU)\r\n", b"ok\n"),
@@ -21,6 +22,11 @@ const LINES: [(&[u8], &[u8]); 8] = [
         b"check 0 /a S-1-5-21-1-2-3-1001 0x1 BU\n",
         b"seen 1 granted 0x1\n",
     ),
+    (
+        b"why 0 /a S-1-5-21-1-2-3-1001 0x1 BU\n",
+        b"seen 1 granted 0x1\ngranted 0x1 by entry 1 (A;;FR;;;BU) as S-1-5-32-545\n\n",
+    ),
+    (b"why 0 /a\n", b"fault words\n\n"),
     (b"learn 0 1", b"learned 1\n"),
 ];
 

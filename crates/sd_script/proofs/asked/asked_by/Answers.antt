@@ -20,3 +20,6 @@ returns-in-SetDacl c = rw (c.in-SetDacl.is) c.set_dacl.ensures
 
 pub returns-in-Check : goal.returns-in-Check
 returns-in-Check c = rw (c.in-Check.is) c.checked.ensures
+
+pub returns-in-Why : goal.returns-in-Why
+returns-in-Why c = rw (c.in-Why.is) c.explained.ensures

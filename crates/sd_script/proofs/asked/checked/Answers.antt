@@ -1,13 +1,22 @@
 -- The words are read one behind the other.
-use Rattle.sd_script.specs.Argument.{number, path}
-use Rattle.sd_script.specs.Command.{check_of}
-use Rattle.sd_script.specs.Fault.{Then}
+use Rattle.std.proofs.lemmas.Result.{err_from_is_err_and}
+use Rattle.sd_share.specs.declared.request.Request.TheVariants as requests
+use Rattle.sd_script.specs.declared.asked.Asked.TheVariants.{Asking}
+use Rattle.sd_script.specs.Command.{question}
 use Rattle.sd_script.specs.Word.{texts}
-use Rattle.sd_script.proofs.Readings.{Then-value}
+use Rattle.sd_script.proofs.Askings.{question_read, question_stopped}
 use Rattle.sd_script.proofs.asked.checked.Goals as goal
+
+pub returns-in_err-token : goal.returns-in_err-token
+returns-in_err-token c =
+    let p = err_from_is_err_and c.from_residual-in_err-token.result c.from_residual-in_err-token.ensures.1 in
+    rw (p.1, p.2) (
+    question_stopped (λ i p q. Asking (requests.Check i p q.token q.asked)) c.args.reader.now c.args.path.now
+    (question c.args.user.now c.args.mask.now (texts c.args.words.now))
+    c.in_ok-reader.reader c.in_ok-path.path c.in_err-token.field-0.0 c.in_ok-reader.ensures c.in_ok-path.ensures c.in_err-token.ensures)
 
 pub returns : goal.returns
 returns c =
-    let words = texts c.args.words.now in
-    Then-value (number c.args.reader.now) (λ i. Then (path c.args.path.now) (λ p. check_of i p c.args.user.now c.args.mask.now words)) c.in_ok-reader.reader _ c.in_ok-reader.ensures
-    (Then-value (path c.args.path.now) (λ p. check_of c.in_ok-reader.reader p c.args.user.now c.args.mask.now words) c.in_ok-path.path _ c.in_ok-path.ensures c.checked_for.ensures)
+    question_read (λ i p q. Asking (requests.Check i p q.token q.asked)) c.args.reader.now c.args.path.now
+    (question c.args.user.now c.args.mask.now (texts c.args.words.now))
+    c.in_ok-reader.reader c.in_ok-path.path c.in_ok-token.field-0 c.in_ok-reader.ensures c.in_ok-path.ensures c.in_ok-token.ensures
