@@ -228,3 +228,61 @@ def verdict(owner, dacl, token, asked):
     else:
         most = sum(1 << bit for bit in range(RIGHTS) if granted(bit))
     return "granted " + hex(wanted | most) if wanted | most else "denied " + hex(MAXIMUM_ALLOWED)
+
+
+def full_text(sid):
+    return "S-1-%d-%s" % (sid[0], "-".join(map(str, sid[1])))
+
+
+def applies(owner, token, again, e):
+    subject = owner if e.sid == OWNER_RIGHTS else e.sid
+    if e.flags & IO or subject is None:
+        return False
+    if again:
+        return subject in token.restricting
+    states = [state for group, state in token.groups if group == subject]
+    return subject == token.user or "" in states or (e.kind == "D" and "=deny" in states)
+
+
+def by_entry(owner, dacl, token, again, bit):
+    """Whether the pass allows the bit, and by which entry."""
+    for number, e in enumerate(dacl, 1):
+        if mapped(e.mask) >> bit & 1 and applies(owner, token, again, e):
+            subject = owner if e.sid == OWNER_RIGHTS else e.sid
+            return e.kind == "A", "by entry %d %s as %s" % (number, entry_text(e), full_text(subject))
+    return False, "by no entry"
+
+
+def reason(owner, dacl, token, named, bit):
+    """Whether the bit is granted, and why."""
+    if bit >= RIGHTS:
+        return (True, "by SeSecurityPrivilege") if token.security and bit == SYSTEM_SECURITY else (False, "without SeSecurityPrivilege")
+    if dacl is None:
+        found = (True, "without a list") if named or 0x1F01FF >> bit & 1 else (False, "beyond GENERIC_ALL")
+    else:
+        passes = [by_entry(owner, dacl, token, again, bit) for again in ([False, True] if token.restricting else [False])]
+        found = all(allowed for allowed, _ in passes), ", restricted ".join(text for _, text in passes)
+    if not found[0]:
+        mine = Entry("A", 0, 0, owner)
+        limited = any(e.sid == OWNER_RIGHTS and not e.flags & IO for e in dacl or [])
+        owns = owner is not None and all(applies(owner, token, again, mine) for again in ([False, True] if token.restricting else [False]))
+        if bit in (READ_CONTROL, WRITE_DAC) and owns and not limited:
+            return True, "to the owner"
+        if bit == WRITE_OWNER and token.take:
+            return True, "by SeTakeOwnershipPrivilege"
+    return found
+
+
+def why_lines(owner, dacl, token, asked):
+    """What `why` prints: the verdict, and a line for each reason."""
+    parts = {}
+    if asked & RESERVED:
+        parts[False, "as reserved"] = asked & RESERVED
+    else:
+        wanted = mapped(asked & ~MAXIMUM_ALLOWED)
+        for bit in range(32):
+            if wanted >> bit & 1 or (asked & MAXIMUM_ALLOWED and bit < RIGHTS):
+                why = reason(owner, dacl, token, wanted >> bit & 1, bit)
+                parts[why] = parts.get(why, 0) | 1 << bit
+    told = ["%s %s %s" % ("granted" if granted else "denied", hex(bits), text) for (granted, text), bits in parts.items()]
+    return [verdict(owner, dacl, token, asked)] + told
