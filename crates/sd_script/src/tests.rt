@@ -135,8 +135,11 @@ fn refuses_lists_that_are_too_large(rt: HostRuntime) -> Result<(), Fail> {
 
 #[test]
 fn lines_that_are_no_text(rt: HostRuntime) -> Result<(), Fail> {
-    let printed = script_output(rt.alloc(), b"\xFF\n#\xFF\ntell")?;
-    assert_eq!(rt; printed.as_slice(), b"fault utf8\nfault open\n".as_slice());
+    let printed = script_output(rt.alloc(), b"\xFF\n#\xFF\nwhy \xFF\ntell")?;
+    assert_eq!(rt;
+        printed.as_slice(),
+        b"fault utf8\nfault utf8\n\nfault open\n".as_slice()
+    );
     Ok(())
 }
 

@@ -94,7 +94,8 @@ Example:
   sdstore frombin 010000801400000000000000000000000000000001020000000000052000000020020000";
 
 const SCRIPT_NOTES: &str = "\
-Each line is a command, and is answered by a line; an empty line and one that begins with '#' aren't:
+Each line is a command, and is answered by a line; an empty line and one that begins with '#' aren't.
+'why' is answered by several lines, the last of which is empty:
   open N SDDL                          opens the store: a root, and N readers
   addc PATH SDDL, addo PATH SDDL       adds a container, an object
   owner PATH SID, group PATH SID       gives the node an owner, a group
@@ -104,6 +105,7 @@ Each line is a command, and is answered by a line; an empty line and one that be
   publish                              shows the edits so far to the readers
   tell, learn I L                      tells the published length; reader I learns of one
   check I PATH USER MASK [WORD]...     asks, as reader I, whether the user is granted the mask
+  why I PATH USER MASK [WORD]...       asks why such a check is answered as it is
   show I PATH                          asks, as reader I, for the node's descriptor
 
 Statuses:
@@ -132,7 +134,7 @@ const AUDIT_NOTES: &str = "\
 Each line is answered as by 'sdstore script', but that
   open N SDDL                          opens the store for as many readers as there are workers
   check I PATH USER MASK [WORD]...     is kept, whatever its reader, and answered at the end
-  tell, learn I L, show I PATH         are faults
+  tell, learn I L, why .., show I PATH are faults
 At the end all edits are published, and each check is answered by them, in order.
 
 Statuses:
