@@ -2,7 +2,7 @@
 ghost use Rattle.std.specs.Prelude.{◌≡◌, ◌++◌, Some, IfOk, OnOk, slice_get, string_bytes};
 ghost use Rattle.sd_acl.specs.Verdict.{subject};
 ghost use Rattle.sd_acl.specs.Descriptor.{descriptor_of};
-ghost use Rattle.sd_check.specs.Dacl.{dacl_entries, entries_of};
+ghost use Rattle.sd_check.specs.Dacl.{dacl_entries};
 ghost use Rattle.sd_explain.specs.Parts.{reason_in};
 ghost use Rattle.sd_script.specs.Answer.{line, spelled_verdict_line as spelled_verdict_line_of};
 ghost use Rattle.sd_script.specs.Spelling.{spelled};
@@ -11,8 +11,8 @@ ghost use Rattle.sd_script.specs.Why.{subject_text as subject_text_of, entry_tex
 use crate::reply::{reply_line, seen_line};
 use crate::spelling::{Spelling, spell};
 use sd_acl::{Ace, Dacl, Descriptor, Verdict};
-use sd_check::{DaclRef, Token, subject_of};
-use sd_explain::{Cause, Explanation, Finding, PLACES, Part, explain};
+use sd_check::{Token, subject_of};
+use sd_explain::{Cause, Explanation, Finding, PLACES, Part, explain_descriptor};
 use sd_share::Reply;
 use sd_sid::{GenericMapping, Mask, Sid};
 use sd_text::{print_entry, print_full_sid};
@@ -29,14 +29,7 @@ pub fn why_text(
 ) -> Result<String, AllocError>
     ensures { IfOk result (λ text. string_bytes text ≡ why_text_of spelling (descriptor_of descriptor.now) token.now asked) }
 {
-    let dacl = lent(&descriptor.dacl);
-    let explanation = explain(
-        descriptor.owner,
-        dacl,
-        &GenericMapping::file(),
-        token,
-        asked,
-    );
+    let explanation = explain_descriptor(descriptor, &GenericMapping::file(), token, asked);
     let list = Listed {
         spelling,
         owner: &descriptor.owner,
@@ -109,17 +102,6 @@ fn spelled_line(
     let mask = mask.as_str();
     let text = format!(in alloc; "{head}{mask}\n")?;
     Ok(text)
-}
-
-/// The DACL, lent to an explanation.
-fn lent(dacl: &Dacl) -> DaclRef<'_>
-    ensures { entries_of result ≡ dacl_entries dacl.now }
-{
-    match dacl {
-        Dacl::Absent => DaclRef::Absent,
-        Dacl::Null => DaclRef::Null,
-        Dacl::List(list) => DaclRef::List(list.entries()),
-    }
 }
 
 /// The entries of the DACL, where it has a list.

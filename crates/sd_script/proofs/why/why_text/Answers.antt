@@ -18,13 +18,11 @@ returns c =
     let asked = c.args.asked in
     let spelling = c.args.spelling in
     c.in_ok-push_parts.ensures
-    ∙ ap (λ text. text ++ part_lines spelling owner c.entries_in.result.now (reason_in c.explain-explanation.result.reasons) 32)
+    ∙ ap (λ text. text ++ part_lines spelling owner c.entries_in.result.now (reason_in c.explain_descriptor-explanation.result.reasons) 32)
     (c.in_ok-text.ensures
-    ∙ ap (spelled_verdict_line (spelled spelling)) (c.verdict.ensures ∙ c.explain-explanation.ensures.verdict
-    ∙ ap (λ es. verdict owner es c.file.result token asked) c.lent-dacl.ensures
+    ∙ ap (spelled_verdict_line (spelled spelling)) (c.verdict.ensures ∙ c.explain_descriptor-explanation.ensures.verdict
     ∙ ap (λ g. verdict owner dacl g token asked) c.file.ensures))
-    ∙ ap (λ es. spelled_verdict_line (spelled spelling) (verdict owner dacl file_mapping token asked) ++ part_lines spelling owner es (reason_in c.explain-explanation.result.reasons) 32) c.entries_in.ensures
+    ∙ ap (λ es. spelled_verdict_line (spelled spelling) (verdict owner dacl file_mapping token asked) ++ part_lines spelling owner es (reason_in c.explain_descriptor-explanation.result.reasons) 32) c.entries_in.ensures
     ∙ ap (λ reasons. spelled_verdict_line (spelled spelling) (verdict owner dacl file_mapping token asked) ++ part_lines spelling owner (listed dacl) (reason_in reasons) 32)
-    (c.explain-explanation.ensures.reasons
-    ∙ ap (λ es. reasons_of owner es c.file.result token asked) c.lent-dacl.ensures
+    (c.explain_descriptor-explanation.ensures.reasons
     ∙ ap (λ g. reasons_of owner dacl g token asked) c.file.ensures)
