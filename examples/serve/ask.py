@@ -34,7 +34,8 @@ class Server:
         self.close()
 
     def ask(self, line: str) -> str:
-        """The answer to one line. ValueError: it isn't one line that is answered. EOFError: the server has ended."""
+        """The answer to one line: one line, or to `why` several. ValueError: it isn't one line that is answered. EOFError: the server
+        has ended."""
         if not line or line[0] == "#" or "\n" in line or line[-1] == "\r":
             raise ValueError("not one line that is answered: %r" % line)
         try:
@@ -42,10 +43,17 @@ class Server:
             self._process.stdin.flush()
         except BrokenPipeError:
             raise EOFError("the server has ended") from None
-        answer = self._process.stdout.readline()
-        if not answer.endswith(b"\n"):
+        lines = [self._line()]
+        if line.split(" ", 1)[0] == "why":
+            lines += iter(self._line, "")
+        return "\n".join(lines)
+
+    def _line(self) -> str:
+        """The next line that comes."""
+        line = self._process.stdout.readline()
+        if not line.endswith(b"\n"):
             raise EOFError("the server has ended")
-        return answer[:-1].decode()
+        return line[:-1].decode()
 
     def close(self) -> int:
         """Ends the server, and answers its status."""
