@@ -157,16 +157,26 @@ module _ (g : MappingValue) (t : PlainTree) (closed : IsClosed t) (source target
       ∙ ap (dacl_of_row g row) (dacl_at-moved_other g t source target (up target) up_out (up_outside target can.place.below_root))
       ∙ whole_below g t target row can.place.below_root
 
-  -- below the target, by a tree in which the source has what the target will have
+  -- below the target, by a tree in which the source has what the target will have, and the same nodes below it
+  module _ (u : PlainTree) (same : (name : List ℕ) (below : Names) → row_at t (source ++ name ∷ below) ≡ row_at u (source ++ name ∷ below))
+      (top : dacl_at g (moved t source target) target ≡ dacl_at g u source) where
+    pub dacl_at-moved_by : (rest : Names) → dacl_at g (moved t source target) (target ++ rest) ≡ dacl_at g u (source ++ rest)
+    dacl_at-moved_by rest =
+        let t' = moved t source target in
+        dacl_at-append g t' target rest
+        ∙ below_shift g t' u target source (dacl_at g t' target) (dacl_at g u source) rest top
+        (λ name below. row_at-moved_there t closed source target can.place.free (name ∷ below) ∙ same name below)
+        ∙ sym (dacl_at-append g u source rest)
+
   pub dacl_at-moved_there : (row : Row) → dacl_at g (moved t source target) target ≡ dacl_at g (finite.insert t source row) source
       → (rest : Names) → dacl_at g (moved t source target) (target ++ rest) ≡ dacl_at g (finite.insert t source row) (source ++ rest)
-  dacl_at-moved_there row top rest =
-      let t' = moved t source target in
-      let u = finite.insert t source row in
-      dacl_at-append g t' target rest
-      ∙ below_shift g t' u target source (dacl_at g t' target) (dacl_at g u source) rest top
-      (λ name below. row_at-moved_there t closed source target can.place.free (name ∷ below) ∙ sym (row_at-insert_other t source (source ++ name ∷ below) row (longer source name below)))
-      ∙ sym (dacl_at-append g u source rest)
+  dacl_at-moved_there row top =
+      dacl_at-moved_by (finite.insert t source row)
+      (λ name below. sym (row_at-insert_other t source (source ++ name ∷ below) row (longer source name below))) top
+
+  pub dacl_at-moved_same : dacl_at g (moved t source target) target ≡ dacl_at g t source
+      → (rest : Names) → dacl_at g (moved t source target) (target ++ rest) ≡ dacl_at g t (source ++ rest)
+  dacl_at-moved_same = dacl_at-moved_by t (λ name below. refl)
 
 -- ---- no gaps
 

@@ -32,7 +32,7 @@ use Rattle.sd_tree.proofs.Children.{place_found}
 use Rattle.sd_tree.proofs.Dacls.{dacl_at_up, dacl_at_outside}
 use Rattle.sd_tree.proofs.Fitting.{no_large, none_found}
 use Rattle.sd_tree.proofs.Kept.{row_here, a_node}
-use Rattle.sd_tree.proofs.Moved.{entry_there, row_at-moved_there, row_at-moved_gone, row_at-moved_other, dacl_at-moved_top, dacl_at-moved_there, dacl_at-moved_other}
+use Rattle.sd_tree.proofs.Moved.{entry_there, row_at-moved_there, row_at-moved_gone, row_at-moved_other, dacl_at-moved_top, dacl_at-moved_there, dacl_at-moved_same, dacl_at-moved_other}
 use Rattle.sd_tree.proofs.Planned.{out_source, back_low, back_high, forth_low, forth_high, not_within, moving}
 use Rattle.sd_tree.proofs.Rebuilding.{large_found, large_error, found_by}
 use Rattle.sd_tree.proofs.Rows.{one_path, row_at-insert_same, row_at-insert_other}
@@ -98,6 +98,32 @@ module _ (g : MappingValue) (bs : List Boxed) (standing : AreStanding g bs) (sou
     first_refused e h =
         large_error g (moved (tree_of bs) source target) target row e there_after
         (size_error e _ _ (sym (dacl_at-moved_top g (tree_of bs) standing.closed source target can row is-row)) h)
+
+    -- ---- those below it, where the first has what it had
+
+    module _ (d : Boxed) (same : (get_or bs from d).value.whole ≡ dacl_at g (finite.insert (tree_of bs) target row) target) where
+      top_stays : dacl_at g (moved (tree_of bs) source target) target ≡ dacl_at g (tree_of bs) source
+      top_stays =
+          dacl_at-moved_top g (tree_of bs) standing.closed source target can row is-row ∙ sym same
+          ∙ (standing.kept.whole from d in').is ∙ ap (dacl_at g (tree_of bs)) (stands d)
+
+      pub wholes_stay : (wholes : List (Option (List Ace)))
+          → ((k : ℕ) (b : Boxed) (w : Option (List Ace)) → k < length wholes → get_or wholes k w ≡ (get_or bs (from + k) b).value.whole)
+          → IsRunBelow bs source from (length wholes) → AreMovedWholes g bs (moved (tree_of bs) source target) source target from wholes
+      wholes_stay wholes h r = record {
+        run = r;
+        each = λ k b w lt.
+            let fits = r.fits in
+            let is = h k b w lt in
+            let kept = standing.kept.whole (from + k) b (omega (arith, fits)) in
+            let found = within_rest source (path_of_node (get_or bs (from + k) b)) (r.below (from + k) b (omega arith) (omega arith)) in
+            let P : Option (List Ace) → Type 0 = λ x. dacl_size x ≤ 65535 in (
+              is ∙ kept.is ∙ ap (dacl_at g (tree_of bs)) found.1
+                  ∙ sym (dacl_at-moved_same g (tree_of bs) standing.closed source target can top_stays found.0)
+                  ∙ ap (dacl_at g (moved (tree_of bs) source target)) (sym (ap (moved_path source target) found.1 ∙ moved_path-append source target found.0)),
+              subst P (sym is) kept.fits,
+            );
+      }
 
     -- ---- those below it, by a row that has what the first will have
 

@@ -1,9 +1,10 @@
 -- The run of nodes that stand at or below a path.
-use Rattle.std.proofs.Common.{◌≡◌, ℕ, ◌+◌, ◌<◌, true, false, List, length, get_or, inl, inr, sym, ap, ◌∙◌, arith}
+use Rattle.std.proofs.Common.{◌≡◌, ℕ, ◌+◌, ◌<◌, true, false, List, Option, length, get_or, inl, inr, sym, ap, ◌∙◌, arith}
 use Rattle.std.proofs.lemmas.List.{get_or_default}
 use Rattle.std.specs.List.{HoldsAt, AllWithin}
 use Rattle.std.specs.declared.cmp.Ordering.TheVariants.{Less}
 use Rattle.std.proofs.lemmas.Bool.{cases_Bool, cases_lt, false≢true}
+use Rattle.sd_acl.specs.declared.ace.Ace.{Ace}
 use Rattle.sd_path.specs.Names.{Names, names_cmp, is_within}
 use Rattle.sd_tree.specs.Stored.{Boxed, path_of_node, IsInOrder}
 use Rattle.sd_path.proofs.Paths.{within_itself, within_between}
@@ -31,3 +32,8 @@ run_ends bs order q at end stands lt b out k d low high = elim (cases_Bool (is_w
   ]
   | inr outside ↦ outside
 ]
+
+-- the whole DACLs of the first nodes of a run, as they stand
+pub record AreKept (bs : List Boxed) (at k : ℕ) (wholes : List (Option (List Ace))) : Type 0 where
+  pub count : at + length wholes ≡ k
+  pub each : (j : ℕ) (b : Boxed) (whole : Option (List Ace)) → j < length wholes → get_or wholes j whole ≡ (get_or bs (at + j) b).value.whole

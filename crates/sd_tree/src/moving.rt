@@ -1,13 +1,14 @@
 //! The plan of a move: a node goes elsewhere with all below it.
 
-ghost use Rattle.std.specs.Prelude.{◌≡◌, ◌<◌, ◌≤◌, ◌+◌, length, true, false, OnOk, IfOk, IfErr};
+ghost use Rattle.std.specs.Prelude.{◌≡◌, ◌<◌, ◌≤◌, ◌+◌, ℕ, List, Option, length, slice_index_or, true, false, OnOk, IfOk, IfErr};
 ghost use Rattle.std.specs.List.{HoldsAt};
+ghost use Rattle.sd_acl.specs.declared.ace.Ace.{Ace};
 ghost use Rattle.sd_path.specs.Names.{is_within};
 ghost use Rattle.sd_tree.specs.Closed.{IsMovable};
 ghost use Rattle.sd_tree.specs.Edits.{moved};
-ghost use Rattle.sd_tree.specs.Plans.{IsPlan, IsLateError, IsLargeError, IsDepthError, IsMovedNode, IsMovedRun, IsTooDeep, HasWhole, AreMovedWholes};
+ghost use Rattle.sd_tree.specs.Plans.{IsPlan, IsLateError, IsLargeError, IsDepthError, IsMovedNode, IsMovedRun, IsRunBelow, IsTooDeep, HasWhole, AreMovedWholes};
 ghost use Rattle.sd_tree.specs.Refusals.{moves_too_deep};
-ghost use Rattle.sd_tree.specs.Stored.{path_of_node};
+ghost use Rattle.sd_tree.specs.Stored.{Boxed, path_of_node};
 ghost use Rattle.sd_tree.specs.View.{IsView, tree_in};
 ghost use Rattle.sd_tree.specs.declared.edit.Edit.TheVariants.{Move};
 
@@ -19,6 +20,7 @@ use crate::plan::Plan;
 use crate::refusal::{EditRefusal, TreeError};
 use crate::shared::{SharedList, share_dacl};
 use crate::tree_view::TreeView;
+use sd_acl::Ace;
 use sd_path::{Path, PathRef};
 use std::alloc::{AllocError, Global};
 
@@ -65,9 +67,35 @@ impl TreeView<'_> {
     {
         let node: &Node = &self.nodes[from];
         let first = self.whole_of(&target.as_path_ref(), at, node.row.get())?;
-        // What stands below sees of all above it the node's whole DACL alone.
+        // What stands below sees of all above it the node's whole DACL alone: where that stays, as it mostly does when a
+        // node is renamed, theirs stay too.
+        if are_one_dacl(&first, &node.whole) {
+            return Ok(self.kept_wholes(&source.as_path_ref(), from)?);
+        }
         let row = row_with_whole(self.alloc, node.row.get(), &first)?;
         self.whole_dacls_from(&source.as_path_ref(), from, &row)
+    }
+
+    /// The whole DACLs of the node at a place and of those below it, in their order, as they stand.
+    fn kept_wholes(
+        &self,
+        path: &PathRef<'_>,
+        at: usize,
+    ) -> Result<Vec<Option<SharedList>>, AllocError>
+        requires standing { IsView self.now }
+        requires within { at < length self.now.nodes.now }
+        requires stands { HoldsAt (λ b. path_of_node b ≡ path.now) self.now.nodes.now at }
+        ensures kept { IfOk result (λ wholes. (k : ℕ) (b : Boxed) (whole : Option (List Ace)) → k < length wholes.items
+            → slice_index_or wholes.items k whole ≡ (slice_index_or self.now.nodes.now (at + k) b).value.whole) }
+        ensures run { IfOk result (λ wholes. IsRunBelow self.now.nodes.now path.now at (length wholes.items)) }
+    {
+        let end = self.end_below(path, at);
+        let mut wholes = Vec::with_capacity(self.alloc, end - at)?;
+        for k in at..end {
+            let node: &Node = &self.nodes[k];
+            wholes.push(share_dacl(&node.whole)?)?;
+        }
+        Ok(wholes)
     }
 
     /// The node at a place and those below it, in their order, with their new paths and these whole DACLs.
@@ -133,4 +161,40 @@ fn row_with_whole(alloc: Global, row: &Row, whole: &Option<SharedList>) -> Resul
         group: row.group,
         dacl,
     })
+}
+
+/// Whether both are one DACL, entry by entry; `true` only where they are.
+fn are_one_dacl(one: &Option<SharedList>, other: &Option<SharedList>) -> bool
+    ensures { result ≡ true → one.now ≡ other.now }
+{
+    match (one, other) {
+        (None, None) => true,
+        (Some(one), Some(other)) => are_one_list(one.entries(), other.entries()),
+        _ => false,
+    }
+}
+
+/// Whether both lists have the same entries in one order; `true` only where they have.
+fn are_one_list(one: &[Ace], other: &[Ace]) -> bool
+    ensures { result ≡ true → one.now ≡ other.now }
+{
+    if one.len() != other.len() {
+        return false;
+    }
+    for i in 0..one.len() {
+        if !are_one_entry(&one[i], &other[i]) {
+            return false;
+        }
+    }
+    true
+}
+
+/// Whether both entries are one; `true` only where they are.
+fn are_one_entry(one: &Ace, other: &Ace) -> bool
+    ensures { result ≡ true → one.now ≡ other.now }
+{
+    one.kind == other.kind
+        && one.flags == other.flags
+        && one.mask == other.mask
+        && one.sid.is(&other.sid)
 }

@@ -122,7 +122,7 @@ impl TreeView<'_> {
     }
 
     /// The end of the run of nodes that begins at a place and holds all that stands at or below its path.
-    fn end_below(&self, path: &PathRef<'_>, at: usize) -> usize
+    pub(crate) fn end_below(&self, path: &PathRef<'_>, at: usize) -> usize
         requires standing { IsView self.now }
         requires within { at < length self.now.nodes.now }
         requires stands { HoldsAt (λ b. path_of_node b ≡ path.now) self.now.nodes.now at }
