@@ -1,5 +1,5 @@
 //! The words that make a token where a domain is given.
-ghost use Rattle.std.specs.Prelude.{◌≡◌, ◌≤◌, Err, IfOk, drop, length, map, string_bytes, take};
+ghost use Rattle.std.specs.Prelude.{◌≡◌, ◌≤◌, Err, IfOk, length, map, string_bytes};
 ghost use Rattle.std.specs.Str.{IsCharBoundary};
 ghost use Rattle.sd_script.specs.Word.{texts};
 ghost use Rattle.sd_tool.specs.Words.{AreSpelledOut, HasNoWordIn, IsSpelledOut, IsTokenIn, sid_length as sid_length_of};
