@@ -1,36 +1,57 @@
 -- What a sibling has is what a node beside it would have.
-use Rattle.std.proofs.Common.{◌≡◌, ℕ, ◌+◌, ◌-◌, ◌<◌, ◌≤◌, true, List, [], ◌∷◌, length, get_or, ◌⊎◌, Option, inl, inr, sym, ap, subst, ◌∙◌, arith}
+use Rattle.std.proofs.Common.{◌≡◌, ℕ, ◌+◌, ◌-◌, ◌<◌, ◌≤◌, true, List, [], ◌∷◌, length, get_or, ◌⊎◌, Option, Some, inl, inr, sym, ap, ◌∙◌, arith}
 use Rattle.std.specs.List.{HoldsAt, AllWithin}
 use Rattle.std.specs.FinMap.{insert}
 use Rattle.sd_sid.specs.Mapping.{MappingValue}
 use Rattle.sd_acl.specs.declared.ace.Ace.{Ace}
 use Rattle.sd_path.specs.Names.{Names, up, is_within}
-use Rattle.sd_tree.specs.Inheritance.{dacl_of_row}
+use Rattle.sd_tree.specs.Inheritance.{handed_on, dacl_of_row}
 use Rattle.sd_tree.specs.Plain.{dacl_here, dacl_at}
 use Rattle.sd_tree.specs.Plans.{IsRewriting, ChangesOneNode}
 use Rattle.sd_tree.specs.Refusals.{dacl_size}
-use Rattle.sd_tree.specs.Sharing.{IsSibling, AreMadeFor}
+use Rattle.sd_tree.specs.Sharing.{IsSibling, AreMadeFor, InheritOne}
 use Rattle.sd_tree.specs.Stored.{Boxed, path_of_node, IsInOrder, tree_of, AreStanding}
+use Rattle.sd_tree.specs.Whole.{behind_own}
+use Rattle.sd_tree.specs.declared.node.Node.{Node}
 use Rattle.sd_tree.specs.declared.node.Row.{Row}
 use Rattle.sd_tree.proofs.CarriedOut.{key_at, keys_count}
 use Rattle.sd_tree.proofs.Dacls.{dacl_at_up}
 use Rattle.sd_tree.proofs.Kept.{row_here, a_node}
+use Rattle.sd_tree.proofs.OneDacl.{inheriting_dacl}
 use Rattle.sd_tree.proofs.Rebuilding.{IsRebuilt, rebuilt_first, run_whole, place_same}
+
+behind_sibling : (g : MappingValue) (beside row : Row) (above : Option (List Ace)) → InheritOne beside row above
+    → dacl_of_row g beside above ≡ Some (behind_own beside (handed_on g row above))
+behind_sibling g beside row above h =
+    inheriting_dacl g beside above h.one_inherits ∙ ap (λ xs. Some (behind_own beside xs)) (h.same g)
 
 -- of the nodes as they stand
 pub sibling_whole : (g : MappingValue) (bs : List Boxed) → AreStanding g bs → (path : Names) (row : Row) (above : Option (List Ace)) (k : ℕ)
     → above ≡ dacl_at g (tree_of bs) (up path) → IsSibling bs path row above k
-    → (b : Boxed) → ((get_or bs k b).value.whole ≡ dacl_of_row g row above) × (dacl_size (dacl_of_row g row above) ≤ 65535)
+    → (b : Boxed) → (get_or bs k b).value.whole ≡ Some (behind_own (get_or bs k b).value.row (handed_on g row above))
 sibling_whole g bs standing path row above k is-above sibling b =
     let t = tree_of bs in
     let there = path_of_node (get_or bs k b) in
     let kept = standing.kept.whole k b sibling.place in
     let held : dacl_at g t (up there) ≡ above = ap (dacl_at g t) (sibling.parent b) ∙ sym is-above in
-    let same : (get_or bs k b).value.whole ≡ dacl_of_row g row above =
     kept.is ∙ dacl_at_up g t there (sibling.below_root b)
     ∙ ap (λ o. dacl_here g o (dacl_at g t (up there))) (row_here bs standing.kept.order k b sibling.place)
-    ∙ ap (dacl_of_row g (get_or bs k b).value.row) held ∙ sibling.alike b g in
-    (same, subst (λ (w : Option (List Ace)). dacl_size w ≤ 65535) same kept.fits)
+    ∙ ap (dacl_of_row g (get_or bs k b).value.row) held ∙ behind_sibling g (get_or bs k b).value.row row above (sibling.alike b)
+
+-- a row below the same parent has its own entries before what its sibling inherits
+pub row_beside : (g : MappingValue) (beside row : Row) (above : Option (List Ace)) → InheritOne beside row above → (inherited : List Ace)
+    → inherited ≡ handed_on g row above → Some (behind_own row inherited) ≡ dacl_of_row g row above
+row_beside g beside row above h inherited is =
+    ap (λ xs. Some (behind_own row xs)) is ∙ sym (inheriting_dacl g row above h.other_inherits)
+
+pub dacl_beside : (g : MappingValue) (bs : List Boxed) → AreStanding g bs → (path : Names) (row : Row) (above : Option (List Ace)) (k : ℕ)
+    → above ≡ dacl_at g (tree_of bs) (up path) → IsSibling bs path row above k → (b : Boxed) (n : Node) → n ≡ (get_or bs k b).value
+    → (beside : Row) → beside ≡ n.row → (inherited : List Ace) → ((rest : List Ace) → n.whole ≡ Some (behind_own beside rest) → inherited ≡ rest)
+    → Some (behind_own row inherited) ≡ dacl_of_row g row above
+dacl_beside g bs standing path row above k is-above sibling b n is beside of inherited told =
+    let own = of ∙ ap (λ (m : Node). m.row) is in
+    let kept = ap (λ (m : Node). m.whole) is ∙ sibling_whole g bs standing path row above k is-above sibling b in
+    row_beside g _ row above (sibling.alike b) inherited (told _ (kept ∙ ap (λ r. Some (behind_own r (handed_on g row above))) (sym own)))
 
 -- of the DACLs that are built already, from a node on down the run of those below it
 pub siblings_made : (g : MappingValue) (bs : List Boxed) (order : IsInOrder bs) (q : Names) (at end : ℕ) → HoldsAt (λ c. path_of_node c ≡ q) bs at
@@ -38,14 +59,14 @@ pub siblings_made : (g : MappingValue) (bs : List Boxed) (order : IsInOrder bs) 
     → IsRebuilt g (insert (tree_of bs) q q-row) bs at k wholes
     → (path : Names) (row : Row) (above : Option (List Ace)) → above ≡ dacl_at g (insert (tree_of bs) q q-row) (up path)
     → AreMadeFor g bs path row above at wholes
-siblings_made g bs order q at end stands inside q-row k le wholes h path row above is-above j dacl sibling behind lt =
+siblings_made g bs order q at end stands inside q-row k le wholes h path row above is-above j b dacl sibling behind lt =
     let t = insert (tree_of bs) q q-row in
-    let b = a_node bs j sibling.place in
     let built = h.each (j - at) b dacl lt in
     let here : at + (j - at) ≡ j = omega arith in
     let whole = run_whole bs order q at stands j b behind sibling.place (inside j b (omega arith) (omega (arith, h.count, here))) g q-row above
     (is-above ∙ ap (dacl_at g t) (sym (sibling.parent b))) in
-    (built.0 ∙ ap (λ i. dacl_at g t (path_of_node (get_or bs i b))) here ∙ sym whole ∙ sibling.alike b g, built.1)
+    built.0 ∙ ap (λ i. dacl_at g t (path_of_node (get_or bs i b))) here ∙ sym whole
+    ∙ behind_sibling g (get_or bs j b).value.row row above (sibling.alike b)
 
 -- a node whose row changes no other node's DACL
 pub one_rewriting : (g : MappingValue) (bs : List Boxed) (standing : AreStanding g bs) (q : Names) (at : ℕ) (in' : at < length bs) → HoldsAt (λ c. path_of_node c ≡ q) bs at

@@ -6,10 +6,12 @@ pub mod Children
 pub mod Closed
 pub mod Dacls
 pub mod Fitting
+pub mod Given
 pub mod Going
 pub mod HandedOn
 pub mod Journals
 pub mod Kept
+pub mod Listed
 pub mod Lists
 pub mod Moved
 pub mod MovedWholes

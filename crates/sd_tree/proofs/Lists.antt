@@ -1,7 +1,13 @@
--- Lists from their last element.
-use Rattle.std.proofs.Common.{List, [], ◌∷◌, ◌++◌}
+-- Lists from their last element, and in two parts.
+use Rattle.std.proofs.Common.{◌≡◌, List, [], ◌∷◌, ◌++◌, length, drop, sym, ap, ◌∙◌}
+use Rattle.std.proofs.Math.Seq.{drop-append_seam}
 
 -- what holds of the empty list, and of each list with one more element behind, holds of all
 pub by_last : {X : Type 0} (P : List X → Type 0) → P [] → ((xs : List X) (x : X) → P xs → P (xs ++ x ∷ [])) → (xs : List X) → P xs
 by_last P none push [] = none
 by_last P none push (x ∷ xs) = by_last (λ ys. P (x ∷ ys)) (push [] x none) (λ ys y h. push (x ∷ ys) y h) xs
+
+-- behind first parts of one length stands the same
+pub same_behind : {X : Type 0} (xs ys a b : List X) → length xs ≡ length ys → xs ++ a ≡ ys ++ b → a ≡ b
+same_behind xs ys a b same e =
+    sym (drop-append_seam xs a) ∙ ap (drop (length xs)) e ∙ ap (λ n. drop n (ys ++ b)) same ∙ drop-append_seam ys b

@@ -1,5 +1,5 @@
 -- The whole DACLs of a run that moves, and what is refused of it.
-use Rattle.std.proofs.Common.{◌≡◌, ◌≢◌, ◌⊎◌, ℕ, ◌+◌, ◌-◌, ◌<◌, ◌≤◌, Bool, true, false, ◌&&◌, nat_lt, List, [], ◌∷◌, ◌++◌, length, get_or, Option, Some, None, is_some, Result, Ok, Err, IfOk, inl, inr, refl, sym, ap, subst, ◌∙◌, arith, append-nil}
+use Rattle.std.proofs.Common.{◌≡◌, ◌≢◌, ◌⊎◌, ℕ, ◌+◌, ◌-◌, ◌<◌, ◌≤◌, Bool, true, false, ◌&&◌, nat_lt, List, [], ◌∷◌, ◌++◌, length, get_or, Option, Some, None, is_some, inl, inr, refl, sym, ap, subst, ◌∙◌, arith, append-nil}
 use Rattle.std.specs.List.{HoldsAt, AllWithin, list_any}
 use Rattle.std.proofs.lemmas.Bool.{cases_Bool, cases_lt, false≢true, and_from}
 use Rattle.std.proofs.lemmas.Bool.Decides.{nat_tests}
@@ -131,12 +131,27 @@ module _ (g : MappingValue) (bs : List Boxed) (standing : AreStanding g bs) (sou
       abbrev pub under : PlainTree
       under = finite.insert (tree_of bs) source as-if
 
+      under_first : dacl_at g under source ≡ first
+      under_first =
+          dacl_at_up g under source can.below_root
+          ∙ ap (λ r. dacl_here g r (dacl_at g under (up source))) (row_at-insert_same (tree_of bs) source as-if)
+          ∙ has g (dacl_at g under (up source))
+
+      -- the first that is built for that row
+      pub first_built : (wholes : List (Option (List Ace))) → IsRewriting g (tree_of bs) under from as-if wholes → IsRunBelow bs source from (length wholes)
+          → (w : Option (List Ace)) → get_or wholes 0 w ≡ first
+      first_built wholes h r w =
+          let order = standing.kept.order in
+          let b = a_node bs from in' in
+          let place : from + 0 ≡ from = omega arith in
+          let there = key_at bs order from source b in' ∙ stands b in
+          (h.below 0 source w r.some).0 ∙ ap (λ i. dacl_at g under (get_or (finite.keys (tree_of bs)) i source)) place
+          ∙ ap (dacl_at g under) there ∙ under_first
+
       top : dacl_at g (moved (tree_of bs) source target) target ≡ dacl_at g under source
       top =
           dacl_at-moved_top g (tree_of bs) standing.closed source target can row is-row ∙ sym first-is
-          ∙ sym (dacl_at_up g under source can.below_root
-          ∙ ap (λ r. dacl_here g r (dacl_at g under (up source))) (row_at-insert_same (tree_of bs) source as-if)
-          ∙ has g (dacl_at g under (up source)))
+          ∙ sym under_first
 
       below : (rest : Names) → dacl_at g (moved (tree_of bs) source target) (target ++ rest) ≡ dacl_at g under (source ++ rest)
       below = dacl_at-moved_there g (tree_of bs) standing.closed source target can as-if top
@@ -338,10 +353,6 @@ too_deep_found bs g standing source target k b lt inside (Refused r) h =
     deep_is : (n : ℕ) → 64 < n → nat_lt 64 n ≡ true
     deep_is n lt = grind (arith, nat_tests)
 too_deep_found bs g standing source target k b lt inside Memory h = tt
-
-pub ok_both : {X E : Type 0} (r : Result X E) (P Q S : X → Type 0) → ((x : X) → P x → Q x → S x) → IfOk r P → IfOk r Q → IfOk r S
-ok_both (Ok x) P Q S f p q = f x p q
-ok_both (Err e) P Q S f p q = tt
 
 -- ---- errors told of an edit
 

@@ -1,4 +1,4 @@
--- Nodes that have nothing of their own have one DACL below one parent, where nothing tells them apart.
+-- Nodes that inherit do so alike below one parent, where nothing tells them apart.
 use Rattle.std.proofs.Common.{◌≡◌, Bool, true, false, ◌||◌, cond, List, [], ◌∷◌, ◌++◌, Option, Some, None, refl, sym, ◌∙◌, ap, ap₂}
 use Rattle.std.specs.List.{list_any, flat_map}
 use Rattle.std.proofs.lemmas.Bool.{false≢true}
@@ -6,28 +6,31 @@ use Rattle.sd_sid.specs.Mapping.{MappingValue}
 use Rattle.sd_sid.specs.Sid.{SidValue, same_sid}
 use Rattle.sd_acl.specs.declared.ace.Ace.{Ace}
 use Rattle.sd_tree.specs.Inheritance.{object_inherit, container_inherit, no_propagate, creator_owner, creator_group, created_by, effective_copy, waiting_copy, whole_copy, is_split, pass_on, handed_on, dacl_under, dacl_of_row}
-use Rattle.sd_tree.specs.Sharing.{names_creator, trustees_matter, AreAlike, HaveOneDacl}
+use Rattle.sd_tree.specs.Refusals.{own_entries}
+use Rattle.sd_tree.specs.Sharing.{names_creator, trustees_matter, AreAlike, InheritOne}
+use Rattle.sd_tree.specs.Whole.{behind_own, inherits}
 use Rattle.sd_tree.specs.declared.node.NodeKind.{NodeKind}
 use Rattle.sd_tree.specs.declared.node.NodeKind.TheVariants.{Container, Object}
 use Rattle.sd_tree.specs.declared.node.NodeDacl.{NodeDacl}
-use Rattle.sd_tree.specs.declared.node.NodeDacl.TheVariants.{List as Entries}
+use Rattle.sd_tree.specs.declared.node.NodeDacl.TheVariants.{Null, List as Entries}
 use Rattle.sd_tree.specs.declared.node.Row.{Row}
 
--- a node with nothing of its own
-inherited : (g : MappingValue) (row : Row) (above : Option (List Ace)) → row.dacl ≡ Entries false [] → dacl_of_row g row above ≡ Some ([] ++ handed_on g row above)
-inherited g row above is = ap (λ (d : NodeDacl). dacl_under g row d above) is
-
-one_by_handed : (one other : Row) (above : Option (List Ace)) → one.dacl ≡ Entries false [] → other.dacl ≡ Entries false []
-    → ((g : MappingValue) → handed_on g one above ≡ handed_on g other above) → HaveOneDacl one other above
-one_by_handed one other above is-one is-other same g =
-    inherited g one above is-one ∙ ap (λ xs. Some ([] ++ xs)) (same g) ∙ sym (inherited g other above is-other)
+-- a node that inherits has its own entries, and behind them what is handed on to it
+pub inheriting_dacl : (g : MappingValue) (row : Row) (above : Option (List Ace)) → inherits row.dacl ≡ true
+    → dacl_of_row g row above ≡ Some (behind_own row (handed_on g row above))
+inheriting_dacl g row above h = parts g row row.dacl above h
+  where
+    parts : (g : MappingValue) (row : Row) (d : NodeDacl) (above : Option (List Ace)) → inherits d ≡ true
+        → dacl_under g row d above ≡ Some (own_entries d ++ handed_on g row above)
+    parts g row Null above h = absurd (false≢true h)
+    parts g row (Entries true own) above h = absurd (false≢true h)
+    parts g row (Entries false own) above h = refl
 
 -- ---- of one kind, owner and group
-one_by_trustees : (one other : Row) (above : Option (List Ace)) → one.dacl ≡ Entries false [] → other.dacl ≡ Entries false []
-    → one.kind ≡ other.kind → one.owner ≡ other.owner → one.group ≡ other.group → HaveOneDacl one other above
-one_by_trustees one other None is-one is-other kind owner group = one_by_handed one other None is-one is-other (λ g. refl)
-one_by_trustees one other (Some es) is-one is-other kind owner group =
-    one_by_handed one other (Some es) is-one is-other (λ g. λ i. flat_map (pass_on g (kind i) (owner i) (group i)) es)
+one_by_trustees : (one other : Row) (above : Option (List Ace))
+    → one.kind ≡ other.kind → one.owner ≡ other.owner → one.group ≡ other.group → (g : MappingValue) → handed_on g one above ≡ handed_on g other above
+one_by_trustees one other None kind owner group g = refl
+one_by_trustees one other (Some es) kind owner group g = λ i. flat_map (pass_on g (kind i) (owner i) (group i)) es
 
 -- ---- of one kind, where no entry names a creator
 pass_alike : (g : MappingValue) (kind : NodeKind) (owner group other_owner other_group : SidValue) (e : Ace) → created_by owner group e.sid ≡ created_by other_owner other_group e.sid
@@ -65,18 +68,23 @@ handed_alike g kind owner group other_owner other_group (e ∷ es) h =
     (pass_alike g kind owner group other_owner other_group e (no_creator (same_sid e.sid creator_owner) (same_sid e.sid creator_group) parts.0 owner group other_owner other_group e.sid))
     (handed_alike g kind owner group other_owner other_group es parts.1)
 
-one_without_creators : (one other : Row) (above : Option (List Ace)) → one.dacl ≡ Entries false [] → other.dacl ≡ Entries false []
-    → one.kind ≡ other.kind → trustees_matter above ≡ false → HaveOneDacl one other above
-one_without_creators one other None is-one is-other kind none = one_by_handed one other None is-one is-other (λ g. refl)
-one_without_creators one other (Some es) is-one is-other kind none =
-    one_by_handed one other (Some es) is-one is-other (λ g.
+one_without_creators : (one other : Row) (above : Option (List Ace))
+    → one.kind ≡ other.kind → trustees_matter above ≡ false → (g : MappingValue) → handed_on g one above ≡ handed_on g other above
+one_without_creators one other None kind none g = refl
+one_without_creators one other (Some es) kind none g =
     handed_alike g one.kind one.owner one.group other.owner other.group es none
-    ∙ ap (λ k. flat_map (pass_on g k other.owner other.group) es) kind)
+    ∙ ap (λ k. flat_map (pass_on g k other.owner other.group) es) kind
 
 -- ---- what the code asks of two rows
-pub alike_have_one : (one other : Row) (above : Option (List Ace)) (by_trustees : Bool) → AreAlike one other by_trustees
-    → (by_trustees ≡ false → trustees_matter above ≡ false) → HaveOneDacl one other above
-alike_have_one one other above true h none =
-    let same = h.trustees refl in
-    one_by_trustees one other above h.one_inherits h.other_inherits h.kind same.0 same.1
-alike_have_one one other above false h none = one_without_creators one other above h.one_inherits h.other_inherits h.kind (none refl)
+pub alike_inherit_one : (one other : Row) (above : Option (List Ace)) (by_trustees : Bool) → AreAlike one other by_trustees
+    → (by_trustees ≡ false → trustees_matter above ≡ false) → InheritOne one other above
+alike_inherit_one one other above by_trustees h none = record {
+  one_inherits = h.one_inherits;
+  other_inherits = h.other_inherits;
+  same = same by_trustees h none;
+}
+  where
+    same : (by_trustees : Bool) → AreAlike one other by_trustees → (by_trustees ≡ false → trustees_matter above ≡ false)
+        → (g : MappingValue) → handed_on g one above ≡ handed_on g other above
+    same true h none = let same = h.trustees refl in one_by_trustees one other above h.kind same.0 same.1
+    same false h none = one_without_creators one other above h.kind (none refl)

@@ -7,7 +7,7 @@ use Rattle.sd_check.specs.Token.{TokenValue}
 use Rattle.sd_check.specs.Check.{verdict}
 use Rattle.sd_path.specs.Names.{Names}
 use Rattle.sd_tree.specs.Plain.{PlainTree, row_at, dacl_at}
-use Rattle.sd_tree.specs.Descriptors.{descriptor_of_row}
+use Rattle.sd_tree.specs.Descriptors.{descriptor_of_row, own_descriptor_of_row}
 use Rattle.sd_tree.specs.Journal.{replay}
 use Rattle.sd_tree.specs.Refusals.{is_early}
 use Rattle.sd_tree.specs.declared.node.Row.{Row}
@@ -27,6 +27,10 @@ kind_at t path = option_map (λ (row : Row). row.kind) (row_at t path)
 -- the descriptor of the node at a path, if there is one
 abbrev pub descriptor_at : MappingValue → PlainTree → Names → Option DescriptorValue
 descriptor_at g t path = option_map (λ (row : Row). descriptor_of_row row (dacl_at g t path)) (row_at t path)
+
+-- its kind, and its descriptor without what it inherits
+abbrev pub given_at : PlainTree → Names → Option (NodeKind × DescriptorValue)
+given_at t path = option_map (λ (row : Row). (row.kind, own_descriptor_of_row row)) (row_at t path)
 
 -- the reply to a check: the verdict for the node's owner and DACL
 abbrev pub reply_for : MappingValue → Option (List Ace) → TokenValue → ℕ → Option Row → CheckReply

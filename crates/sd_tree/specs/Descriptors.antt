@@ -2,6 +2,7 @@
 use Rattle.std.specs.Prelude.{Bool, true, false, Option, Some, None, List}
 use Rattle.sd_acl.specs.declared.ace.Ace.{Ace}
 use Rattle.sd_acl.specs.Descriptor.{DescriptorValue}
+use Rattle.sd_acl.specs.declared.descriptor.Dacl.{Dacl}
 use Rattle.sd_acl.specs.declared.descriptor.Dacl.TheVariants.{Null, List as Entries}
 use Rattle.sd_tree.specs.declared.node.NodeDacl.{NodeDacl}
 use Rattle.sd_tree.specs.declared.node.NodeDacl.TheVariants as own
@@ -29,4 +30,20 @@ descriptor_of_row row (Some entries) = record {
   protected = is_protected row.dacl;
   auto_req = false;
   auto_inherited = true;
+}
+
+-- the DACL that is given to a node, as that of a descriptor
+abbrev pub own_list : NodeDacl → Dacl
+own_list own.Null = Null
+own_list (own.List protected entries) = Entries entries
+
+-- what was given to a node: its descriptor without what it inherits
+abbrev pub own_descriptor_of_row : Row → DescriptorValue
+own_descriptor_of_row row = record {
+  owner = Some row.owner;
+  group = Some row.group;
+  dacl = own_list row.dacl;
+  protected = is_protected row.dacl;
+  auto_req = false;
+  auto_inherited = false;
 }

@@ -4,6 +4,7 @@ pub mod Descriptors
 pub mod Edits
 pub mod Inheritance
 pub mod Journal
+pub mod Listing
 pub mod Plain
 pub mod Plans
 pub mod Prepared
@@ -12,5 +13,6 @@ pub mod Sharing
 pub mod Sizes
 pub mod Stored
 pub mod View
+pub mod Whole
 pub use Rattle.sd_path.specs.Names
 pub use Rattle.sd_path.specs.PathText

@@ -1,14 +1,13 @@
--- Which nodes have one list. No public contract says so.
-use Rattle.std.specs.Prelude.{◌≡◌, ℕ, ◌-◌, ◌<◌, ◌≤◌, Bool, ◌||◌, true, false, List, [], length, slice_index_or, Option, Some, None}
+-- Which nodes inherit the same. No public contract says so.
+use Rattle.std.specs.Prelude.{◌≡◌, ℕ, ◌-◌, ◌<◌, Bool, ◌||◌, true, false, List, length, slice_index_or, Option, Some, None}
 use Rattle.std.specs.List.{list_any}
 use Rattle.sd_sid.specs.Mapping.{MappingValue}
 use Rattle.sd_sid.specs.Sid.{same_sid}
 use Rattle.sd_acl.specs.declared.ace.Ace.{Ace}
 use Rattle.sd_path.specs.Names.{Names, up, is_root}
-use Rattle.sd_tree.specs.Inheritance.{creator_owner, creator_group, dacl_of_row}
-use Rattle.sd_tree.specs.Refusals.{dacl_size}
+use Rattle.sd_tree.specs.Inheritance.{creator_owner, creator_group, handed_on}
 use Rattle.sd_tree.specs.Stored.{Boxed, path_of_node}
-use Rattle.sd_tree.specs.declared.node.NodeDacl.TheVariants.{List as Entries}
+use Rattle.sd_tree.specs.Whole.{behind_own, inherits}
 use Rattle.sd_tree.specs.declared.node.Row.{Row}
 
 -- the entry is for CREATOR OWNER or CREATOR GROUP
@@ -20,27 +19,29 @@ abbrev pub trustees_matter : Option (List Ace) → Bool
 trustees_matter None = false
 trustees_matter (Some entries) = list_any names_creator entries
 
--- nothing tells two rows apart in what their nodes inherit, but owner and group where these aren't compared; neither has
--- entries of its own
+-- nothing tells two rows apart in what their nodes inherit, but owner and group where these aren't compared
 pub record AreAlike (one other : Row) (by_trustees : Bool) : Type 0 where
   pub kind : one.kind ≡ other.kind
-  pub one_inherits : one.dacl ≡ Entries false []
-  pub other_inherits : other.dacl ≡ Entries false []
+  pub one_inherits : inherits one.dacl ≡ true
+  pub other_inherits : inherits other.dacl ≡ true
   pub trustees : by_trustees ≡ true → (one.owner ≡ other.owner) × (one.group ≡ other.group)
 
--- below a parent with this DACL nodes with the two rows have one DACL
-abbrev pub HaveOneDacl : Row → Row → Option (List Ace) → Type 0
-HaveOneDacl one other above = (g : MappingValue) → dacl_of_row g one above ≡ dacl_of_row g other above
+-- below a parent with this DACL nodes with the two rows inherit the same
+pub record InheritOne (one other : Row) (above : Option (List Ace)) : Type 0 where
+  pub one_inherits : inherits one.dacl ≡ true
+  pub other_inherits : inherits other.dacl ≡ true
+  pub same : (g : MappingValue) → handed_on g one above ≡ handed_on g other above
 
--- the node at the place stands where the path does, below a parent with this DACL, and would have one DACL with the row
+-- the node at the place stands where the path does, below a parent with this DACL, and inherits what the row would
 pub record IsSibling (boxes : List Boxed) (path : Names) (row : Row) (above : Option (List Ace)) (k : ℕ) : Type 0 where
   pub place : k < length boxes
   pub below_root : (b : Boxed) → is_root (path_of_node (slice_index_or boxes k b)) ≡ false
   pub parent : (b : Boxed) → up (path_of_node (slice_index_or boxes k b)) ≡ up path
-  pub alike : (b : Boxed) → HaveOneDacl (slice_index_or boxes k b).value.row row above
+  pub alike : (b : Boxed) → InheritOne (slice_index_or boxes k b).value.row row above
 
--- of the DACLs that are made already, for the nodes from a place on, each sibling's is the row's
+-- of the DACLs that are made already, for the nodes from a place on, each sibling's has behind its own entries what the row
+-- inherits
 abbrev pub AreMadeFor : MappingValue → List Boxed → Names → Row → Option (List Ace) → ℕ → List (Option (List Ace)) → Type 0
 AreMadeFor g boxes path row above at made =
-    (k : ℕ) (dacl : Option (List Ace)) → IsSibling boxes path row above k → at < k → k - at < length made
-    → (slice_index_or made (k - at) dacl ≡ dacl_of_row g row above) × (dacl_size (slice_index_or made (k - at) dacl) ≤ 65535)
+    (k : ℕ) (b : Boxed) (dacl : Option (List Ace)) → IsSibling boxes path row above k → at < k → k - at < length made
+    → slice_index_or made (k - at) dacl ≡ Some (behind_own (slice_index_or boxes k b).value.row (handed_on g row above))

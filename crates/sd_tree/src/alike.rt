@@ -1,21 +1,22 @@
-//! Whether two nodes below one parent have one DACL ([MS-DTYP] 2.5.3.4).
+//! Whether two nodes below one parent inherit the same ([MS-DTYP] 2.5.3.4).
 
-ghost use Rattle.std.specs.Prelude.{◌≡◌, true, false, []};
+ghost use Rattle.std.specs.Prelude.{◌≡◌, true, false};
 ghost use Rattle.std.specs.List.{list_any};
 ghost use Rattle.sd_tree.specs.Sharing.{names_creator, trustees_matter, AreAlike};
+ghost use Rattle.sd_tree.specs.Whole.{inherits};
 
 use crate::inherit::{is_creator_group, is_creator_owner};
 use crate::node::{NodeDacl, Row};
-use crate::shared::SharedList;
+use crate::whole::WholeList;
 use sd_acl::Ace;
 
-/// Whether the node has what it inherits and nothing else.
-pub(crate) fn only_inherits(dacl: &NodeDacl) -> bool
-    ensures { result ≡ true → dacl.now ≡ NodeDacl.List false [] }
+/// Whether a node with this DACL inherits: it is neither null nor protected.
+pub(crate) fn inherits(dacl: &NodeDacl) -> bool
+    ensures { result ≡ inherits dacl.now }
 {
     match dacl {
         NodeDacl::Null => false,
-        NodeDacl::List { protected, entries } => !*protected && entries.as_slice().is_empty(),
+        NodeDacl::List { protected, .. } => !*protected,
     }
 }
 
@@ -27,21 +28,24 @@ fn names_creator(entries: &[Ace]) -> bool
 }
 
 /// Whether a parent's DACL has such an entry: then a child's owner and group tell in what it inherits.
-pub(crate) fn trustees_matter(above: &Option<SharedList>) -> bool
+pub(crate) fn trustees_matter(above: &Option<WholeList>) -> bool
     ensures { result ≡ trustees_matter above.now }
 {
     match above {
         None => false,
-        Some(list) => names_creator(list.entries()),
+        Some(list) => {
+            let (own, inherited) = list.parts();
+            names_creator(own) || names_creator(inherited)
+        }
     }
 }
 
-/// Whether nothing tells the two rows apart in what nodes inherit; `true` only where nothing does. Owner and group are
-/// compared where the caller says so.
+/// Whether both rows inherit, and nothing tells them apart in what they do; `true` only where nothing does. Owner and
+/// group are compared where the caller says so.
 pub(crate) fn are_alike(one: &Row, other: &Row, by_trustees: bool) -> bool
     ensures { result ≡ true → AreAlike one.now other.now by_trustees }
 {
-    if one.kind != other.kind || !only_inherits(&one.dacl) || !only_inherits(&other.dacl) {
+    if one.kind != other.kind || !inherits(&one.dacl) || !inherits(&other.dacl) {
         return false;
     }
     !by_trustees || (one.owner.is(&other.owner) && one.group.is(&other.group))

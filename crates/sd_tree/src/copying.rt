@@ -5,8 +5,8 @@ ghost use Rattle.sd_tree.specs.Stored.{node_of};
 
 use crate::edit::Edit;
 use crate::node::Node;
-use crate::shared::{Shared, SharedList, share_dacl};
-use sd_acl::AceList;
+use crate::shared::Shared;
+use crate::whole::share_dacl;
 use std::alloc::{AllocError, Global};
 
 /// The same edits, in a vector of their own.
@@ -42,14 +42,4 @@ fn copy_node(alloc: Global, node: &Node) -> Result<Node, AllocError>
     let row = node.row.share()?;
     let whole = share_dacl(&node.whole)?;
     Ok(Node { path, row, whole })
-}
-
-/// An equal list.
-pub(crate) fn copy_list(alloc: Global, list: &SharedList) -> Result<AceList, AllocError>
-    ensures { IfOk result (λ copy. copy ≡ list.now) }
-{
-    match AceList::new(Vec::from_slice(alloc, list.entries())?) {
-        Ok(copy) => Ok(copy),
-        Err(_) => unreachable!(),
-    }
 }

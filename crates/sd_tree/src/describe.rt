@@ -1,13 +1,14 @@
 //! The descriptor of a node ([MS-DTYP] 2.4.6).
 
-ghost use Rattle.std.specs.Prelude.{◌≡◌, IfOk};
+ghost use Rattle.std.specs.Prelude.{◌≡◌, ◌≤◌, IfOk};
+ghost use Rattle.sd_acl.specs.Ace.{acl_size_of};
 ghost use Rattle.sd_acl.specs.Descriptor.{descriptor_of};
-ghost use Rattle.sd_tree.specs.Descriptors.{is_protected, descriptor_of_row};
+ghost use Rattle.sd_tree.specs.Descriptors.{is_protected, descriptor_of_row, own_descriptor_of_row, own_list};
+ghost use Rattle.sd_tree.specs.Refusals.{own_entries};
 
-use crate::copying::copy_list;
 use crate::node::{NodeDacl, Row};
-use crate::shared::SharedList;
-use sd_acl::{Dacl, Descriptor};
+use crate::whole::WholeList;
+use sd_acl::{AceList, Dacl, Descriptor};
 use std::alloc::{AllocError, Global};
 
 /// The descriptor of a node with this whole DACL; `None` is a null one. Control bit DI tells that a list was inherited
@@ -15,14 +16,14 @@ use std::alloc::{AllocError, Global};
 pub(crate) fn descriptor_of_node(
     alloc: Global,
     row: &Row,
-    whole: &Option<SharedList>,
+    whole: &Option<WholeList>,
 ) -> Result<Descriptor, AllocError>
     ensures { IfOk result (λ descriptor. descriptor_of descriptor ≡ descriptor_of_row row.now whole.now) }
 {
     let (dacl, protected, auto_inherited) = match whole {
         None => (Dacl::Null, false, false),
         Some(list) => (
-            Dacl::List(copy_list(alloc, list)?),
+            Dacl::List(list.to_ace_list(alloc)?),
             is_protected(&row.dacl),
             true,
         ),
@@ -35,6 +36,36 @@ pub(crate) fn descriptor_of_node(
         auto_req: false,
         auto_inherited,
     })
+}
+
+/// The descriptor that was given to a node: without what it inherits.
+pub(crate) fn own_descriptor_of_row(alloc: Global, row: &Row) -> Result<Descriptor, AllocError>
+    requires { acl_size_of (own_entries row.now.dacl) ≤ 65535 }
+    ensures { IfOk result (λ descriptor. descriptor_of descriptor ≡ own_descriptor_of_row row.now) }
+{
+    Ok(Descriptor {
+        owner: Some(row.owner),
+        group: Some(row.group),
+        dacl: own_list(alloc, &row.dacl)?,
+        protected: is_protected(&row.dacl),
+        auto_req: false,
+        auto_inherited: false,
+    })
+}
+
+fn own_list(alloc: Global, dacl: &NodeDacl) -> Result<Dacl, AllocError>
+    requires { acl_size_of (own_entries dacl.now) ≤ 65535 }
+    ensures { IfOk result (λ list. list ≡ own_list dacl.now) }
+{
+    match dacl {
+        NodeDacl::Null => Ok(Dacl::Null),
+        NodeDacl::List { entries, .. } => {
+            match AceList::new(Vec::from_slice(alloc, entries.as_slice())?) {
+                Ok(list) => Ok(Dacl::List(list)),
+                Err(_) => unreachable!(),
+            }
+        }
+    }
 }
 
 /// Control bit PD.

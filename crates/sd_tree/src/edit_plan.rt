@@ -35,9 +35,9 @@ impl TreeView<'_> {
         match locate(self.nodes, &path.as_path_ref()) {
             Ok(_) => unreachable!(),
             Err(at) => {
+                let row = Shared::new(self.alloc, row)?;
                 let whole = self.whole_of(&path.as_path_ref(), at, &row)?;
                 let path = path.copy(self.alloc)?;
-                let row = Shared::new(self.alloc, row)?;
                 let node = Box::new(self.alloc, Node { path, row, whole })?;
                 Ok(Plan::Insert { at, node })
             }
@@ -53,7 +53,7 @@ impl TreeView<'_> {
             (insert (tree_in self.now) path.now row)) }
         ensures refused { IfErr result (IsLargeError self.now.mapping.now (insert (tree_in self.now) path.now row)) }
     {
-        let wholes = self.whole_dacls_from(&path.as_path_ref(), at, row.get())?;
+        let wholes = self.whole_dacls_from(&path.as_path_ref(), at, &row)?;
         Ok(Plan::Rewrite { at, row, wholes })
     }
 
@@ -68,7 +68,7 @@ impl TreeView<'_> {
             (insert (tree_in self.now) path.now row)) }
         ensures refused { IfErr result (IsLargeError self.now.mapping.now (insert (tree_in self.now) path.now row)) }
     {
-        let whole = self.whole_of(&path.as_path_ref(), at, row.get())?;
+        let whole = self.whole_of(&path.as_path_ref(), at, &row)?;
         let mut wholes = Vec::with_capacity(self.alloc, 1)?;
         wholes.push(whole)?;
         Ok(Plan::Rewrite { at, row, wholes })

@@ -3,15 +3,16 @@
 ghost use Rattle.std.specs.Prelude.{◌≡◌, ◌++◌, ◌≤◌, OnOk, IfOk, IfErr};
 ghost use Rattle.std.specs.List.{flat_map};
 ghost use Rattle.sd_sid.specs.Sid.{same_sid};
-ghost use Rattle.sd_tree.specs.Inheritance.{object_inherit, container_inherit, no_propagate, creator_owner, creator_group, created_by, effective_copy, waiting_copy, whole_copy, is_split, to_object, to_container, pass_on, dacl_of_row};
+ghost use Rattle.sd_tree.specs.Inheritance.{object_inherit, container_inherit, no_propagate, creator_owner, creator_group, created_by, effective_copy, waiting_copy, whole_copy, is_split, to_object, to_container, pass_on, handed_on, dacl_of_row};
 ghost use Rattle.sd_tree.specs.Refusals.{dacl_size};
 ghost use Rattle.sd_tree.specs.Sizes.{IsSizeError};
 
 use crate::node::{NodeDacl, NodeKind, Row};
-use crate::refusal::{EditRefusal, TreeError};
-use crate::shared::SharedList;
+use crate::refusal::TreeError;
+use crate::shared::Shared;
+use crate::whole::{Inherited, WholeList};
 use bitflags::Flags;
-use sd_acl::{Ace, AceFlags, AceList};
+use sd_acl::{Ace, AceFlags};
 use sd_sid::{GenericMapping, Sid};
 use std::alloc::{AllocError, Global};
 
@@ -203,27 +204,44 @@ fn hand_on(
 
 // ---- the DACL of a node
 
+/// What a parent with that DACL hands on to the node.
+fn handed_on(
+    alloc: Global,
+    mapping: &GenericMapping,
+    row: &Row,
+    above: &Option<WholeList>,
+) -> Result<Inherited, AllocError>
+    ensures { IfOk result (λ handed. handed ≡ handed_on mapping.now row.now above.now) }
+{
+    let Some(list) = above else {
+        return Ok(Inherited::none());
+    };
+    let (own, inherited) = list.parts();
+    let mut handed = Vec::new(alloc);
+    hand_on(&mut handed, mapping, row, own)?;
+    hand_on(&mut handed, mapping, row, inherited)?;
+    Inherited::new(alloc, handed)
+}
+
 /// The whole DACL of a node below a parent with that DACL: its own entries, and what it inherits unless it is protected;
 /// `None` is a null one. `AclTooLarge` where it would take more than 65,535 bytes ([MS-DTYP] 2.4.5).
 pub(crate) fn dacl_of_row(
     alloc: Global,
     mapping: &GenericMapping,
-    row: &Row,
-    above: &Option<SharedList>,
-) -> Result<Option<SharedList>, TreeError>
+    row: &Shared<Row>,
+    above: &Option<WholeList>,
+) -> Result<Option<WholeList>, TreeError>
     ensures dacl { IfOk result (λ dacl. dacl ≡ dacl_of_row mapping.now row.now above.now) }
     ensures fits { OnOk result (dacl_size (dacl_of_row mapping.now row.now above.now) ≤ 65535) }
     ensures refused { IfErr result (λ error. IsSizeError error (dacl_of_row mapping.now row.now above.now)) }
 {
-    let NodeDacl::List { protected, entries } = &row.dacl else {
+    let NodeDacl::List { protected, .. } = &row.get().dacl else {
         return Ok(None);
     };
-    let mut whole = Vec::from_slice(alloc, entries.as_slice())?;
-    if let (false, Some(list)) = (*protected, above) {
-        hand_on(&mut whole, mapping, row, list.entries())?;
-    }
-    match AceList::new(whole) {
-        Ok(list) => Ok(Some(SharedList::new(alloc, list)?)),
-        Err(_) => Err(TreeError::Refused(EditRefusal::AclTooLarge)),
-    }
+    let inherited = if *protected {
+        Inherited::none()
+    } else {
+        handed_on(alloc, mapping, row.get(), above)?
+    };
+    Ok(Some(WholeList::new(row, inherited)?))
 }

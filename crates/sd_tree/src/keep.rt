@@ -6,7 +6,7 @@ ghost use Rattle.sd_tree.specs.declared.node.Row.{Row};
 
 use crate::entries::Entries;
 use crate::node::NodeDacl;
-use crate::shared::SharedList;
+use crate::whole::WholeList;
 use sd_acl::{canonicalize, explicit_of};
 use std::alloc::{AllocError, Global};
 
@@ -15,7 +15,7 @@ use std::alloc::{AllocError, Global};
 /// which stays.
 pub(crate) fn kept_dacl(
     alloc: Global,
-    whole: &Option<SharedList>,
+    whole: &Option<WholeList>,
 ) -> Result<Option<NodeDacl>, AllocError>
     ensures kept { IfOk result (λ kept. kept ≡ option_map kept_dacl whole.now) }
     ensures keeping { IfOk result (λ kept. MatchOption kept
@@ -25,7 +25,7 @@ pub(crate) fn kept_dacl(
     let Some(list) = whole else {
         return Ok(None);
     };
-    let explicit = explicit_of(alloc, list.entries())?;
+    let explicit = explicit_of(alloc, &list.joined(alloc)?)?;
     let ordered = canonicalize(alloc, &explicit)?;
     Ok(Some(NodeDacl::List {
         protected: true,

@@ -18,8 +18,9 @@ use crate::node::{Node, NodeDacl, Row};
 use crate::nodes::locate;
 use crate::plan::Plan;
 use crate::refusal::{EditRefusal, TreeError};
-use crate::shared::{SharedList, share_dacl};
+use crate::shared::Shared;
 use crate::tree_view::TreeView;
+use crate::whole::{WholeList, share_dacl};
 use sd_acl::Ace;
 use sd_path::{Path, PathRef};
 use std::alloc::{AllocError, Global};
@@ -54,7 +55,7 @@ impl TreeView<'_> {
         target: &Path,
         from: usize,
         at: usize,
-    ) -> Result<Vec<Option<SharedList>>, TreeError>
+    ) -> Result<Vec<Option<WholeList>>, TreeError>
         requires standing { IsView self.now }
         requires movable { IsMovable (tree_in self.now) source.now target.now }
         requires within { from < length self.now.nodes.now }
@@ -66,14 +67,15 @@ impl TreeView<'_> {
             (moved (tree_in self.now) source.now target.now)) }
     {
         let node: &Node = &self.nodes[from];
-        let first = self.whole_of(&target.as_path_ref(), at, node.row.get())?;
+        let first = self.whole_of(&target.as_path_ref(), at, &node.row)?;
         // What stands below sees of all above it the node's whole DACL alone: where that stays, as it mostly does when a
         // node is renamed, theirs stay too.
         if are_one_dacl(&first, &node.whole) {
             return Ok(self.kept_wholes(&source.as_path_ref(), from)?);
         }
         let row = row_with_whole(self.alloc, node.row.get(), &first)?;
-        self.whole_dacls_from(&source.as_path_ref(), from, &row)
+        let wholes = self.whole_dacls_from(&source.as_path_ref(), from, &row)?;
+        Ok(with_first(wholes, first))
     }
 
     /// The whole DACLs of the node at a place and of those below it, in their order, as they stand.
@@ -81,7 +83,7 @@ impl TreeView<'_> {
         &self,
         path: &PathRef<'_>,
         at: usize,
-    ) -> Result<Vec<Option<SharedList>>, AllocError>
+    ) -> Result<Vec<Option<WholeList>>, AllocError>
         requires standing { IsView self.now }
         requires within { at < length self.now.nodes.now }
         requires stands { HoldsAt (λ b. path_of_node b ≡ path.now) self.now.nodes.now at }
@@ -104,7 +106,7 @@ impl TreeView<'_> {
         source: &Path,
         target: &Path,
         from: usize,
-        wholes: &[Option<SharedList>],
+        wholes: &[Option<WholeList>],
     ) -> Result<Vec<Box<Node>>, TreeError>
         requires standing { IsView self.now }
         requires wholes { AreMovedWholes self.now.mapping.now self.now.nodes.now
@@ -128,7 +130,7 @@ fn moved_node(
     node: &Node,
     source: &PathRef<'_>,
     target: &PathRef<'_>,
-    whole: &Option<SharedList>,
+    whole: &Option<WholeList>,
 ) -> Result<Box<Node>, TreeError>
     requires { is_within source.now node.now.path ≡ true }
     ensures node { IfOk result (IsMovedNode source.now target.now node.now whole.now) }
@@ -144,32 +146,53 @@ fn moved_node(
     Ok(Box::new(alloc, Node { path, row, whole })?)
 }
 
+/// The same whole DACLs, of which this is the first: its own entries stand in the node's row.
+fn with_first(
+    mut wholes: Vec<Option<WholeList>>,
+    first: Option<WholeList>,
+) -> Vec<Option<WholeList>>
+    requires some { 0 < length wholes.items }
+    requires first { (whole : Option (List Ace)) → slice_index_or wholes.items 0 whole ≡ first }
+    ensures { result.items ≡ wholes.items }
+{
+    wholes[0] = first;
+    wholes
+}
+
 /// The row with this whole DACL as all that the node has.
-fn row_with_whole(alloc: Global, row: &Row, whole: &Option<SharedList>) -> Result<Row, AllocError>
+fn row_with_whole(
+    alloc: Global,
+    row: &Row,
+    whole: &Option<WholeList>,
+) -> Result<Shared<Row>, AllocError>
     ensures { IfOk result (HasWhole whole.now) }
 {
     let dacl = match whole {
         None => NodeDacl::Null,
         Some(list) => NodeDacl::List {
             protected: true,
-            entries: Entries::new(Vec::from_slice(alloc, list.entries())?),
+            entries: Entries::new(list.joined(alloc)?),
         },
     };
-    Ok(Row {
+    let with_whole = Row {
         kind: row.kind,
         owner: row.owner,
         group: row.group,
         dacl,
-    })
+    };
+    Shared::new(alloc, with_whole)
 }
 
-/// Whether both are one DACL, entry by entry; `true` only where they are.
-fn are_one_dacl(one: &Option<SharedList>, other: &Option<SharedList>) -> bool
+/// Whether both are one DACL, entry by entry, own ones and inherited ones; `true` only where they are.
+fn are_one_dacl(one: &Option<WholeList>, other: &Option<WholeList>) -> bool
     ensures { result ≡ true → one.now ≡ other.now }
 {
     match (one, other) {
         (None, None) => true,
-        (Some(one), Some(other)) => are_one_list(one.entries(), other.entries()),
+        (Some(one), Some(other)) => {
+            let (one, other) = (one.parts(), other.parts());
+            are_one_list(one.0, other.0) && are_one_list(one.1, other.1)
+        }
         _ => false,
     }
 }

@@ -2,9 +2,12 @@
 
 ghost use Rattle.std.specs.Prelude.{◌≡◌, IfOk};
 ghost use Rattle.sd_tree.specs.Plans.{changed_row, is_of_trustee};
+ghost use Rattle.sd_tree.specs.Refusals.{own_entries};
 
 use crate::entries::Entries;
-use crate::shared::{Shared, SharedList};
+use crate::shared::Shared;
+use crate::whole::WholeList;
+use sd_acl::Ace;
 use sd_path::Path;
 use sd_sid::Sid;
 use std::alloc::{AllocError, Global};
@@ -72,6 +75,16 @@ impl RowChange {
 }
 
 impl Row {
+    /// The node's own entries: none where its DACL is a null one.
+    pub(crate) fn own_entries(&self) -> &[Ace]
+        ensures { result.now ≡ own_entries self.now.dacl }
+    {
+        match &self.dacl {
+            NodeDacl::Null => &[],
+            NodeDacl::List { entries, .. } => entries.as_slice(),
+        }
+    }
+
     /// One that is equal but for the change.
     pub(crate) fn with(&self, alloc: Global, change: RowChange) -> Result<Row, AllocError>
         ensures { IfOk result (λ row. row ≡ changed_row change self.now) }
@@ -111,5 +124,5 @@ impl Row {
 pub(crate) struct Node {
     pub path: Path,
     pub row: Shared<Row>,
-    pub whole: Option<SharedList>,
+    pub whole: Option<WholeList>,
 }

@@ -5,7 +5,8 @@ ghost use Rattle.sd_tree.specs.Plans.{CanCarryOut, IsCarriedOut, IsRewritten, ru
 ghost use Rattle.sd_tree.specs.Stored.{Boxed};
 
 use crate::node::{Node, Row};
-use crate::shared::{Shared, SharedList};
+use crate::shared::Shared;
+use crate::whole::WholeList;
 
 /// What an accepted edit does to the nodes.
 #[derive(Debug, Drop)]
@@ -19,7 +20,7 @@ pub(crate) enum Plan {
     Rewrite {
         at: usize,
         row: Shared<Row>,
-        wholes: Vec<Option<SharedList>>,
+        wholes: Vec<Option<WholeList>>,
     },
     /// The node at the place goes.
     Remove {
@@ -58,7 +59,7 @@ fn rewrite(
     nodes: &mut Vec<Box<Node>>,
     at: usize,
     row: Shared<Row>,
-    mut wholes: Vec<Option<SharedList>>,
+    mut wholes: Vec<Option<WholeList>>,
 )
     requires place { at < vec_len nodes.old }
     requires fits { at + vec_len wholes ≤ vec_len nodes.old }

@@ -1,9 +1,7 @@
 //! Values that nodes, journals, plans and trees share.
 
-ghost use Rattle.std.specs.Prelude.{◌≡◌, ◌≤◌, IfOk};
-ghost use Rattle.sd_acl.specs.Ace.{acl_size_of};
+ghost use Rattle.std.specs.Prelude.{◌≡◌, IfOk};
 
-use sd_acl::{Ace, AceList};
 use std::alloc::{AllocError, Global};
 use std::marker::Model;
 use std::sync::Arc;
@@ -44,28 +42,5 @@ impl<T: Drop> Shared<T> {
         ensures { result.now ≡ self.now }
     {
         &self.value
-    }
-}
-
-/// A list of entries that nodes share.
-pub(crate) type SharedList = Shared<AceList>;
-
-impl Shared<AceList> {
-    /// The entries, in order.
-    pub(crate) fn entries(&self) -> &[Ace]
-        ensures entries { result.now ≡ self.now }
-        ensures known { acl_size_of self.now ≤ 65535 }
-    {
-        self.get().entries()
-    }
-}
-
-/// The same DACL, for one holder more; `None` is a null one.
-pub(crate) fn share_dacl(dacl: &Option<SharedList>) -> Result<Option<SharedList>, AllocError>
-    ensures { IfOk result (λ shared. shared ≡ dacl.now) }
-{
-    match dacl {
-        None => Ok(None),
-        Some(list) => Ok(Some(list.share()?)),
     }
 }

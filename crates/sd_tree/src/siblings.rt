@@ -1,15 +1,15 @@
-//! Nodes that stand beside one, among which its list may be found before it is built.
+//! Nodes that stand beside one, among which what it inherits may be found before it is built.
 
 ghost use Rattle.std.specs.Prelude.{◌≡◌, ◌<◌, ◌≤◌, length, true, false, IfSome};
 ghost use Rattle.sd_path.specs.Names.{is_root};
 ghost use Rattle.sd_tree.specs.Sharing.{trustees_matter, IsSibling};
 ghost use Rattle.sd_tree.specs.View.{IsView};
 
-use crate::alike::{are_alike, only_inherits, trustees_matter};
+use crate::alike::{are_alike, inherits, trustees_matter};
 use crate::node::{Node, Row};
 use crate::nodes::locate;
-use crate::shared::SharedList;
 use crate::tree_view::TreeView;
+use crate::whole::WholeList;
 use sd_path::PathRef;
 use std::cmp::Ordering;
 
@@ -19,12 +19,12 @@ const NEAR: usize = 8;
 
 impl TreeView<'_> {
     /// Whether the node at a place is a sibling of what stands, or would stand, at the path below a parent with that
-    /// DACL, and has one DACL with the row; `true` only where it has.
+    /// DACL, and inherits what the row does; `true` only where it does.
     fn is_sibling(
         &self,
         path: &PathRef<'_>,
         row: &Row,
-        above: &Option<SharedList>,
+        above: &Option<WholeList>,
         by_trustees: bool,
         at: usize,
     ) -> bool
@@ -62,12 +62,12 @@ impl TreeView<'_> {
         locate(self.nodes, &beside).ok()
     }
 
-    /// The place of a sibling before a place that has one DACL with the row, if one is found near.
+    /// The place of a sibling before a place that inherits what the row does, if one is found near.
     fn sibling_among(
         &self,
         path: &PathRef<'_>,
         row: &Row,
-        above: &Option<SharedList>,
+        above: &Option<WholeList>,
         by_trustees: bool,
         at: usize,
     ) -> Option<usize>
@@ -91,14 +91,14 @@ impl TreeView<'_> {
         &self,
         path: &PathRef<'_>,
         row: &Row,
-        above: &Option<SharedList>,
+        above: &Option<WholeList>,
         at: usize,
     ) -> Option<usize>
         requires standing { IsView self.now }
         requires place { at ≤ length self.now.nodes.now }
         ensures { IfSome result (IsSibling self.now.nodes.now path.now row.now above.now) }
     {
-        if !only_inherits(&row.dacl) {
+        if !inherits(&row.dacl) {
             return None;
         }
         if let Some(found) = self.sibling_among(path, row, above, true, at) {
@@ -115,7 +115,7 @@ impl TreeView<'_> {
         &self,
         path: &PathRef<'_>,
         row: &Row,
-        above: &Option<SharedList>,
+        above: &Option<WholeList>,
         at: usize,
     ) -> Option<usize>
         requires standing { IsView self.now }

@@ -25,7 +25,7 @@ use crate::refusal::{EditRefusal, TreeError};
 use crate::shared::Shared;
 use crate::tree_view::TreeView;
 use sd_acl::{Descriptor, Verdict};
-use sd_check::{DaclRef, Token, check_parts};
+use sd_check::{DaclRef, Token, check_joined, check_parts};
 use sd_path::Path;
 use sd_sid::{GenericMapping, Mask};
 use std::alloc::{AllocError, Global};
@@ -225,12 +225,15 @@ impl Tree {
         match node_at(&self.nodes, &path.as_path_ref()) {
             None => CheckReply::NoNode,
             Some(node) => {
-                let dacl = match &node.whole {
-                    None => DaclRef::Null,
-                    Some(list) => DaclRef::List(list.entries()),
-                };
                 let owner = Some(node.row.get().owner);
-                CheckReply::Verdict(check_parts(owner, dacl, &self.opening.mapping, token, asked))
+                let mapping = &self.opening.mapping;
+                CheckReply::Verdict(match &node.whole {
+                    None => check_parts(owner, DaclRef::Null, mapping, token, asked),
+                    Some(list) => {
+                        let (own, inherited) = list.parts();
+                        check_joined(owner, own, inherited, mapping, token, asked)
+                    }
+                })
             }
         }
     }
@@ -296,7 +299,7 @@ impl Tree {
     }
 
     /// The nodes as they stand.
-    fn view(&self) -> TreeView<'_>
+    pub(crate) fn view(&self) -> TreeView<'_>
         ensures standing { IsView result }
         ensures mapping { result.mapping.now ≡ self.now.opening.mapping }
         ensures tree { tree_in result ≡ replay self.now.opening self.now.journal }
@@ -325,8 +328,8 @@ fn root_node(
         group: root.group,
         dacl: root.dacl.copy(alloc)?,
     };
+    let row = Shared::new(alloc, row)?;
     let whole = dacl_of_row(alloc, mapping, &row, &None)?;
     let path = Path::root(alloc);
-    let row = Shared::new(alloc, row)?;
     Ok(Box::new(alloc, Node { path, row, whole })?)
 }

@@ -18,7 +18,8 @@ use crate::node::{Node, Row};
 use crate::nodes::locate;
 use crate::plan::Plan;
 use crate::refusal::TreeError;
-use crate::shared::{SharedList, share_dacl};
+use crate::shared::Shared;
+use crate::whole::{WholeList, inherited_in};
 use sd_path::{Path, PathRef};
 use sd_sid::GenericMapping;
 use std::alloc::Global;
@@ -79,8 +80,8 @@ impl TreeView<'_> {
         &self,
         path: &PathRef<'_>,
         at: usize,
-        row: &Row,
-    ) -> Result<Option<SharedList>, TreeError>
+        row: &Shared<Row>,
+    ) -> Result<Option<WholeList>, TreeError>
         requires standing { IsView self.now }
         requires place { at ≤ length self.now.nodes.now }
         requires parent { is_root path.now ≡ false → IsSome (row_at (tree_in self.now) (up path.now)) }
@@ -97,14 +98,15 @@ impl TreeView<'_> {
         self.whole_beside(path, at, row, &parent.whole)
     }
 
-    /// The whole DACL below a parent with that one: the node's at the place or a near sibling's, where it is the same.
+    /// The whole DACL below a parent with that one. What is inherited is the node's at the place or a near sibling's, where
+    /// it is the same.
     fn whole_beside(
         &self,
         path: &PathRef<'_>,
         at: usize,
-        row: &Row,
-        above: &Option<SharedList>,
-    ) -> Result<Option<SharedList>, TreeError>
+        row: &Shared<Row>,
+        above: &Option<WholeList>,
+    ) -> Result<Option<WholeList>, TreeError>
         requires standing { IsView self.now }
         requires place { at ≤ length self.now.nodes.now }
         requires above { above.now ≡ dacl_at self.now.mapping.now (tree_in self.now) (up path.now) }
@@ -112,13 +114,13 @@ impl TreeView<'_> {
         ensures fits { OnOk result (dacl_size (dacl_of_row self.now.mapping.now row.now above.now) ≤ 65535) }
         ensures refused { IfErr result (λ e. IsSizeError e (dacl_of_row self.now.mapping.now row.now above.now)) }
     {
-        match self.sibling_around(path, row, above, at) {
-            Some(k) => {
-                let sibling: &Node = &self.nodes[k];
-                Ok(share_dacl(&sibling.whole)?)
+        if let Some(k) = self.sibling_around(path, row.get(), above, at) {
+            let sibling: &Node = &self.nodes[k];
+            if let Some(inherited) = inherited_in(sibling.row.get(), &sibling.whole) {
+                return Ok(Some(WholeList::new(row, inherited.share()?)?));
             }
-            None => dacl_of_row(self.alloc, self.mapping, row, above),
         }
+        dacl_of_row(self.alloc, self.mapping, row, above)
     }
 
     /// The end of the run of nodes that begins at a place and holds all that stands at or below its path.
@@ -145,8 +147,8 @@ impl TreeView<'_> {
         &self,
         path: &PathRef<'_>,
         at: usize,
-        row: &Row,
-    ) -> Result<Vec<Option<SharedList>>, TreeError>
+        row: &Shared<Row>,
+    ) -> Result<Vec<Option<WholeList>>, TreeError>
         requires standing { IsView self.now }
         requires within { at < length self.now.nodes.now }
         requires stands { HoldsAt (λ b. path_of_node b ≡ path.now) self.now.nodes.now at }
@@ -170,7 +172,7 @@ impl TreeView<'_> {
             let whole = self.whole_in_run(
                 &below,
                 (at, k),
-                node.row.get(),
+                &node.row,
                 &wholes[parent - at],
                 &wholes,
             )?;
@@ -179,16 +181,16 @@ impl TreeView<'_> {
         Ok(wholes)
     }
 
-    /// The whole DACL of a node at the second place, of a run that begins at the first, below a parent with that one: a
-    /// near sibling's that is made already, where it is the same.
+    /// The whole DACL of a node at the second place, of a run that begins at the first, below a parent with that one. What
+    /// is inherited is that of a near sibling whose list is made already, where it is the same.
     fn whole_in_run(
         &self,
         path: &PathRef<'_>,
         places: (usize, usize),
-        row: &Row,
-        above: &Option<SharedList>,
-        made: &[Option<SharedList>],
-    ) -> Result<Option<SharedList>, TreeError>
+        row: &Shared<Row>,
+        above: &Option<WholeList>,
+        made: &[Option<WholeList>],
+    ) -> Result<Option<WholeList>, TreeError>
         requires standing { IsView self.now }
         requires place { places.1 ≤ length self.now.nodes.now }
         requires made { AreMadeFor self.now.mapping.now self.now.nodes.now path.now row.now above.now places.0 made.now }
@@ -197,9 +199,12 @@ impl TreeView<'_> {
         ensures refused { IfErr result (λ e. IsSizeError e (dacl_of_row self.now.mapping.now row.now above.now)) }
     {
         let (at, k) = places;
-        if let Some(beside) = self.sibling_with(path, row, above, k) {
+        if let Some(beside) = self.sibling_with(path, row.get(), above, k) {
             if at < beside && beside - at < made.len() {
-                return Ok(share_dacl(&made[beside - at])?);
+                let sibling: &Node = &self.nodes[beside];
+                if let Some(inherited) = inherited_in(sibling.row.get(), &made[beside - at]) {
+                    return Ok(Some(WholeList::new(row, inherited.share()?)?));
+                }
             }
         }
         dacl_of_row(self.alloc, self.mapping, row, above)

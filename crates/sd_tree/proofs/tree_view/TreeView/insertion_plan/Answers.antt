@@ -17,14 +17,14 @@ unreachable-requires c =
 
 pub returns-in_err-whole-in-Err-clause-refused : goal.returns-in_err-whole-in-Err-clause-refused
 returns-in_err-whole-in-Err-clause-refused c =
-    let p = err_from_is_err_and c.from_residual.result c.from_residual.ensures.1 in
-    let refused = rw c.as_path_ref-in-Err.ensures at c.in_err-whole-in-Err.ensures.refused in
+    let p = err_from_is_err_and c.from_residual-in_err-whole-in-Err.result c.from_residual-in_err-whole-in-Err.ensures.1 in
+    let refused = rw (c.as_path_ref-in-Err.ensures, c.in_ok-row-in-Err.ensures) at c.in_err-whole-in-Err.ensures.refused in
     rw (p.1, p.2) (large_error _ _ c.args.path.now c.args.row c.in_err-whole-in-Err.field-0.0 (row_at-insert_same _ _ _) refused)
 
 pub returns-clause-plan : goal.returns-clause-plan
 returns-clause-plan c =
     let a = rw c.as_path_ref.ensures at c.in-Err.ensures.absent in
-    let w = rw c.as_path_ref-in-Err.ensures at c.in_ok-whole-in-Err.ensures.whole in
+    let w = rw (c.as_path_ref-in-Err.ensures, c.in_ok-row-in-Err.ensures) at c.in_ok-whole-in-Err.ensures.whole in
     let n = c.in_ok-node-in-Err.ensures.ok in
     insertion _ c.args.self.now.nodes.now c.requires.standing c.args.path.now c.args.row c.requires.addable c.in-Err.at a.0 a.1 a.2 c.in_ok-node-in-Err.node
     (ap (λ (m : Node). m.path) n ∙ c.in_ok-path-in-Err.ensures) (ap (λ (m : Node). m.row) n ∙ c.in_ok-row-in-Err.ensures)

@@ -1,11 +1,11 @@
 use Rattle.std.proofs.Common.{◌≡◌, subst, sym, ap, ◌∙◌, get_or, rules}
 use Rattle.std.proofs.lemmas.List.{get_or_default}
 use Rattle.sd_path.specs.Names.{up, is_root}
-use Rattle.sd_tree.specs.Sharing.{HaveOneDacl}
+use Rattle.sd_tree.specs.Sharing.{InheritOne}
 use Rattle.sd_tree.specs.Stored.{Boxed, path_of_node}
 use Rattle.sd_tree.specs.declared.node.Node.{Node}
 use Rattle.sd_tree.specs.declared.node.Row.{Row}
-use Rattle.sd_tree.proofs.OneDacl.{alike_have_one}
+use Rattle.sd_tree.proofs.OneDacl.{alike_inherit_one}
 use Rattle.sd_tree.proofs.Rows.{compared_same}
 use Rattle.sd_tree.proofs.tree_view.TreeView.is_sibling.Goals as goal
 
@@ -23,6 +23,6 @@ returns c held = record {
       let same = compared_same c.parent.result c.parent-2.result c.compare.result c.compare.ensures (sym c.eq.ensures ∙ held) in
       ap up (sym (path_is c b)) ∙ sym c.parent.ensures ∙ same ∙ c.parent-2.ensures;
   alike = λ b.
-      let P : Row → Type 0 = λ row. HaveOneDacl row c.args.row.now c.args.above.now in
-      subst P (c.get.ensures ∙ ap (λ (n : Node). n.row) (node_is c b)) (alike_have_one _ _ c.args.above.now c.args.by_trustees (c.are_alike.ensures (search rules)) c.requires.trustees);
+      let P : Row → Type 0 = λ row. InheritOne row c.args.row.now c.args.above.now in
+      subst P (c.get.ensures ∙ ap (λ (n : Node). n.row) (node_is c b)) (alike_inherit_one _ _ c.args.above.now c.args.by_trustees (c.are_alike.ensures (search rules)) c.requires.trustees);
 }

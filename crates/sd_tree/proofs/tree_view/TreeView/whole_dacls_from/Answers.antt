@@ -59,7 +59,7 @@ returns-in_err-whole-clause-refused c =
     let parent_is : c.parent.result ≡ up (path_of_node (get_or bs k b)) = c.parent.ensures ∙ ap up (c.as_path_ref-below.ensures ∙ ap (λ (n : Node). n.path) c.deref-node.ensures) in
     let next = next_rebuilt g bs order q c.args.at c.requires.stands c.args.row.now k b (omega arith) in' inside c.loop-k.wholes.items c.loop-k.invariant
     c.place_near-parent.result c.place_near-parent.ensures.within (λ d. c.place_near-parent.ensures.stands d ∙ parent_is)
-    c.get.result.now (c.get.ensures ∙ ap (λ (n : Node). n.row) c.deref-node.ensures) c.index.result.now c.index.ensures in
+    c.deref-node.result.now.row (ap (λ (n : Node). n.row) c.deref-node.ensures) c.index.result.now c.index.ensures in
     let other = run_other bs order q c.args.at c.requires.stands k b (omega arith) in' inside in
     let found = row_at-insert_other (tree_of bs) q (path_of_node (get_or bs k b)) c.args.row.now other ∙ row_here bs order k b in' in
     let p = err_from_is_err_and c.from_residual-in_err-whole.result c.from_residual-in_err-whole.ensures.1 in
@@ -78,7 +78,7 @@ loop-k-preserved c =
     let parent_is : c.parent.result ≡ up (path_of_node (get_or bs k b)) = c.parent.ensures ∙ ap up (c.as_path_ref-below.ensures ∙ ap (λ (n : Node). n.path) c.deref-node.ensures) in
     let next = next_rebuilt g bs order q c.args.at c.requires.stands c.args.row.now k b (omega arith) in' inside c.loop-k.wholes.items c.loop-k.invariant
     c.place_near-parent.result c.place_near-parent.ensures.within (λ d. c.place_near-parent.ensures.stands d ∙ parent_is)
-    c.get.result.now (c.get.ensures ∙ ap (λ (n : Node). n.row) c.deref-node.ensures) c.index.result.now c.index.ensures in
+    c.deref-node.result.now.row (ap (λ (n : Node). n.row) c.deref-node.ensures) c.index.result.now c.index.ensures in
     rw c.in_ok-push-2.ensures.items (rebuilt_more g _ bs c.args.at k c.loop-k.wholes.items b _ c.loop-k.invariant in' (c.in_ok-whole.ensures.dacl ∙ next) (rw c.in_ok-whole.ensures.dacl c.in_ok-whole.ensures.fits))
 
 pub returns-clause-rebuilt : goal.returns-clause-rebuilt
@@ -102,5 +102,5 @@ whole_in_run-requires-clause-made c =
     let above = above_rebuilt g bs order q c.args.at c.requires.stands c.args.row.now k b (omega arith) in' inside c.loop-k.wholes.items c.loop-k.invariant
     c.place_near-parent.result c.place_near-parent.ensures.within (λ d. c.place_near-parent.ensures.stands d ∙ parent_is) c.index.result.now c.index.ensures in
     rw c.deref.ensures.value (siblings_made g bs order q c.args.at c.end_below-end.result c.requires.stands c.end_below-end.ensures.below c.args.row.now k (omega arith)
-    c.loop-k.wholes.items c.loop-k.invariant c.as_path_ref-below.result c.get.result.now c.index.result.now
+    c.loop-k.wholes.items c.loop-k.invariant c.as_path_ref-below.result c.deref-node.result.now.row c.index.result.now
     (above ∙ ap (dacl_at g (insert (tree_of bs) q c.args.row.now)) (ap up (sym path_is))))
