@@ -1,0 +1,5 @@
+pub mod AnsweredAlike
+pub mod Bounded
+pub mod Fronts
+pub mod Renewing
+pub mod Steps

@@ -1,0 +1,52 @@
+-- The shortest opening and journal of a tree: its root, and one addition for each other node, in the order of the paths.
+use Rattle.std.specs.Prelude.{◌≡◌, ◌≢◌, ℕ, List, [], map, drop, Some, None, option_map}
+use Rattle.std.specs.FinMap.{entries}
+use Rattle.sd_path.specs.Names.{Names}
+use Rattle.sd_check.specs.Token.{TokenValue}
+use Rattle.sd_tree.specs.Plain.{PlainTree, row_at}
+use Rattle.sd_tree.specs.Answers.{kind_at, descriptor_at, answer}
+use Rattle.sd_tree.specs.Journal.{replay, refusal, root_refusal, IsLawful}
+use Rattle.sd_tree.specs.declared.node.Row.{Row}
+use Rattle.sd_tree.specs.declared.node.NodeKind.{NodeKind}
+use Rattle.sd_tree.specs.declared.node.NodeKind.TheVariants.{Container, Object}
+use Rattle.sd_tree.specs.declared.opening.Opening.{Opening}
+use Rattle.sd_tree.specs.declared.opening.RootSpec.{RootSpec}
+use Rattle.sd_tree.specs.declared.edit.Edit.{Edit}
+use Rattle.sd_tree.specs.declared.edit.Edit.TheVariants.{AddContainer, AddObject}
+use Rattle.sd_tree.specs.declared.refusal.EditRefusal.TheVariants.{JournalFull}
+
+-- the edit that adds a node
+abbrev pub addition_of : NodeKind → Names → Row → Edit
+addition_of Container path row = AddContainer path row.owner row.group row.dacl
+addition_of Object path row = AddObject path row.owner row.group row.dacl
+
+abbrev pub addition : Names × Row → Edit
+addition entry = addition_of entry.1.kind entry.0 entry.1
+
+abbrev pub spec_of : Row → RootSpec
+spec_of row = record { owner = row.owner; group = row.group; dacl = row.dacl }
+
+-- the root, and the edits that add all that stands below it: the first entry is the root's, and a path stands before those below it
+pub record IsShortest (t : PlainTree) (root : RootSpec) (edits : List Edit) : Type 0 where
+  pub root_is : Some root ≡ option_map spec_of (row_at t [])
+  pub edits_are : edits ≡ map addition (drop 1 (entries t))
+
+-- an opening that is accepted, and edits that are accepted one after the other, which make this tree
+pub record Makes (opening : Opening) (edits : List Edit) (t : PlainTree) : Type 0 where
+  pub accepted : root_refusal opening ≡ None
+  pub lawful : IsLawful opening edits
+  pub made : replay opening edits ≡ t
+
+-- two openings and journals that no caller can tell apart but by the room that their journals have left
+pub record AnswerAlike (o : Opening) (journal : List Edit) (o' : Opening) (journal' : List Edit) : Type 0 where
+  pub answers : (path : Names) (token : TokenValue) (asked : ℕ) → answer o' journal' path token asked ≡ answer o journal path token asked
+  pub descriptors : (path : Names) → descriptor_at o'.mapping (replay o' journal') path ≡ descriptor_at o.mapping (replay o journal) path
+  pub kinds : (path : Names) → kind_at (replay o' journal') path ≡ kind_at (replay o journal) path
+  pub refusals : (edit : Edit) → refusal o journal edit ≢ Some JournalFull → refusal o' journal' edit ≢ Some JournalFull
+      → refusal o' journal' edit ≡ refusal o journal edit
+
+-- of one mapping, and of journals that make one tree
+abbrev pub SameTreeAnswersAlike : Type 0
+SameTreeAnswersAlike =
+    (o o' : Opening) (journal journal' : List Edit) → o'.mapping ≡ o.mapping → replay o' journal' ≡ replay o journal
+    → AnswerAlike o journal o' journal'
