@@ -1,5 +1,5 @@
 -- The code's tables of aliases are those of the grammar.
-use Rattle.std.proofs.Common.{◌≡◌, ℕ, List, Option, Some, subst, None, Ok, Err, refl}
+use Rattle.std.proofs.Common.{◌≡◌, ℕ, true, List, Option, Some, subst, None, Ok, Err, refl, ap, sym, ◌∙◌}
 use Rattle.sd_sid.specs.Sid.{SidValue}
 use Rattle.sd_text.specs.declared.alias.WellKnown.{WellKnown}
 use Rattle.sd_text.specs.declared.domain.Domain.{Domain}
@@ -10,6 +10,8 @@ use Rattle.sd_text.specs.Alias.{aliases, domain_aliases}
 use Rattle.sd_text.specs.Domain.{account_sid}
 use Rattle.sd_text.specs.Names.{renamed, well_known}
 use Rattle.sd_text.specs.Sid.{no_alias, domain_alias}
+use Rattle.sd_text.specs.Places.{are_placed}
+use Rattle.sd_text.proofs.Placed.{placed_renamed}
 use Rattle.sd_text.proofs.Tables.{named_some, named_no}
 
 -- a name of a table, or what stands there in its place, where the table's names stand for something else
@@ -41,3 +43,7 @@ pub no_account_found : (domain : Option Domain) (text : List ℕ) → named doma
 unfolding domain_alias
 no_account_found None text e = rw e refl
 no_account_found (Some domain) text e = other_found (account_sid domain) domain_aliases no_alias text e
+
+-- the places of the aliases are those of the code's rows
+pub known_placed : (places : List ℕ) (names : List (Name WellKnown)) → renamed well_known names ≡ aliases → are_placed places 0 aliases ≡ true → are_placed places 0 names ≡ true
+known_placed places names same placed = sym (placed_renamed well_known places 0 names) ∙ ap (are_placed places 0) same ∙ placed

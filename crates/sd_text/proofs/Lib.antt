@@ -7,6 +7,7 @@ pub mod Loops
 pub mod Sids
 pub mod Entries
 pub mod Audits
+pub mod Placed
 pub mod Tables
 pub mod Aliases
 pub mod Rooms

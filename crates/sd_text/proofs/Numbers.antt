@@ -1,8 +1,10 @@
 -- The digits of a number, from the last one on.
-use Rattle.std.proofs.Common.{◌≡◌, ℕ, zero, suc, ◌+◌, ◌-◌, ◌/◌, ◌%◌, ◌<◌, ◌≤◌, Bool, true, false, cond, List, [], ◌∷◌, length, drop, take, refl, arith, set, Result, Ok, Err}
+use Rattle.std.proofs.Common.{◌≡◌, ℕ, zero, suc, ◌+◌, ◌-◌, ◌/◌, ◌%◌, ◌<◌, ◌≤◌, Bool, true, false, cond, List, [], ◌∷◌, length, drop, take, refl, arith, set, Result, Ok, Err, ◌^◌, ◌++◌, append_assoc}
 use Rattle.std.specs.Prelude.{nat_lt, ◌==◌, MatchResult, IsOk}
 use Rattle.std.specs.Str.{IsAscii, IsUtf8}
-use Rattle.std.specs.Fmt.{digits, digits_onto, digit_glyph}
+use Rattle.std.specs.Fmt.{digits, decimal, digits_onto, digit_glyph}
+use Rattle.std.proofs.lemmas.Fmt.{decimal_digit, decimal_step}
+use Rattle.sd_text.specs.Room.{two_digits}
 use Rattle.std.proofs.lemmas.Bool.{ne_eqb}
 use Rattle.std.proofs.lemmas.List.{drop-set, drop_all, take_all, length-drop}
 use Rattle.std.proofs.lemmas.Str.{IsUtf8-from_ascii}
@@ -61,3 +63,18 @@ text_read (Err e) Is bytes At cases utf8 = absurd (cases.0 utf8)
 -- the bytes from a place on
 pub from_there : (bytes : List ℕ) (start : ℕ) → take (length bytes - start) (drop start bytes) ≡ drop start bytes
 from_there bytes start = take_all (length bytes - start) (drop start bytes) (omega (arith, length-drop start bytes))
+
+-- ---- decimal digits, two at a time from the last ones on
+
+pub one_digit : (n : ℕ) → n < 10 → decimal n ≡ (48 + n) ∷ []
+one_digit n small = decimal_digit n small
+
+pub one_pair : (n : ℕ) → 10 ≤ n → n < 100 → decimal n ≡ two_digits n
+one_pair n some small = rw (decimal_step n some (omega arith), decimal_digit (n / 10) (omega arith)) refl
+
+pub another_pair : (n : ℕ) → 100 ≤ n → n < 2 ^ 32 → decimal n ≡ decimal (n / 100) ++ two_digits (n % 100)
+another_pair n some small =
+    let front : n / 10 / 10 ≡ n / 100 = omega arith in
+    let tens : n / 10 % 10 ≡ n % 100 / 10 = omega arith in
+    let ones : n % 10 ≡ n % 100 % 10 = omega arith in
+    rw (decimal_step n (omega arith) (omega arith), decimal_step (n / 10) (omega arith) (omega arith), append_assoc, front, tens, ones) refl

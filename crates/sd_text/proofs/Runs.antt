@@ -1,11 +1,12 @@
 -- The run of digits that a text begins with.
-use Rattle.std.proofs.Common.{◌≡◌, ℕ, zero, suc, ◌+◌, ◌*◌, ◌<◌, ◌≤◌, inl, inr, true, false, List, [], ◌∷◌, ◌++◌, length, drop, take, get_or, refl, arith, ap, sym}
+use Rattle.std.proofs.Common.{◌≡◌, ℕ, zero, suc, ◌+◌, ◌*◌, ◌<◌, ◌≤◌, inl, inr, true, false, List, [], ◌∷◌, ◌++◌, length, drop, take, get_or, refl, arith, ap, sym, ◌^◌, lit<}
 use Rattle.std.specs.Prelude.{nat_lt}
 use Rattle.std.specs.Char.{digit_value}
-use Rattle.std.specs.Str.Parse.{AllDigits, IsNumeral}
+use Rattle.std.specs.Str.Parse.{AllDigits, IsNumeral, digits_value}
+use Rattle.std.proofs.lemmas.Int.Digits.{digits_value-lt}
 use Rattle.std.proofs.lemmas.Bool.{ltb-false, lt-ltb, le-ltb}
-use Rattle.std.proofs.lemmas.List.{take-append-drop}
-use Rattle.std.proofs.Math.Nat.{mul-le-mul_left}
+use Rattle.std.proofs.lemmas.List.{take-append-drop, take_all, length-take-le}
+use Rattle.std.proofs.Math.Nat.{mul-le-mul_left, pow-le-pow_left, pow-le-pow_right}
 use Rattle.std.proofs.Math.Seq.{take-append_seam, drop-append_seam}
 use borrow.Author.Tests.{ltb-true}
 use Rattle.sd_text.specs.Grammar.{begins_digit, Run}
@@ -80,3 +81,29 @@ capped_stay limit value n radix d some le capped =
     let from = capped.above le in
     let grows = mul-le-mul_left n some in
     record { below = λ lt. absurd (omega arith); above = λ _. omega arith }
+
+-- ---- runs that no limit cuts short
+
+-- a number of fewer than fifteen digits, and one more digit, have 64 bits
+pub short_fits : (radix i : ℕ) (text : List ℕ) (value d : ℕ) → radix ≤ 16 → 2 ≤ radix → i < length text → length text ≤ 15 → AllDigits radix (take i text) → value ≡ digits_value radix (take i text) → d < radix → value * radix + d < 2 ^ 64
+short_fits radix i text value d high low within short digits is below =
+    let counted : length (take i text) ≡ i = length-take-le i text (omega arith) in
+    let small : digits_value radix (take i text) < radix ^ i = rw counted at (digits_value-lt radix (take i text) digits) in
+    let bases : radix ^ i ≤ 16 ^ i = pow-le-pow_left high i in
+    let few : i ≤ 14 = omega arith in
+    let powers : 16 ^ i ≤ 16 ^ 14 = pow-le-pow_right (lit< tt) few in
+    let grows : value * radix ≤ value * 16 = mul-le-mul_left value high in
+    omega arith
+
+-- the run that ends before a place is that of the front alone
+pub front_run : (radix k : ℕ) (text : List ℕ) → digits_len radix (take k text) < k → digits_len radix (take k text) ≡ digits_len radix text
+front_run radix zero text lt = absurd (omega arith)
+front_run radix (suc k) [] lt = refl
+front_run radix (suc k) (c ∷ text) lt =
+    elim (went (nat_lt (digit_value c) radix)) [
+      | inl h ↦ rw h (ap suc (front_run radix k text (let more = rw h at lt in omega arith)))
+      | inr h ↦ rw h refl
+    ]
+
+pub front_whole : (radix k : ℕ) (text : List ℕ) → length text ≤ k → digits_len radix (take k text) ≡ digits_len radix text
+front_whole radix k text le = rw (take_all k text le) refl

@@ -1,5 +1,5 @@
 -- Reading the sub-authorities of a SID.
-use Rattle.std.proofs.Common.{◌≡◌, ℕ, true, false, List, [], ◌∷◌, ◌++◌, length, drop, Ok, Err, Result, zero, suc, refl, arith, ◌<◌, ◌≤◌, ◌^◌}
+use Rattle.std.proofs.Common.{◌≡◌, ℕ, true, false, List, [], ◌∷◌, ◌++◌, length, drop, Ok, Err, Result, zero, suc, refl, arith, ◌<◌, ◌≤◌, ◌^◌, take, get_or}
 use Rattle.std.specs.Prelude.{codes}
 use Rattle.std.proofs.lemmas.Bool.{lt-ltb, le-ltb, ne_eqb}
 use Rattle.sd_sid.specs.Sid.{SidValue, sid_of}
@@ -51,3 +51,12 @@ the_sid s authority subs e = cc
 pub at_least_one : (count : ℕ) (rest : List ℕ) → (count ≡ 0 → begins rest (codes "-") ≡ true) → begins rest (codes "-") ≡ false → 0 < count
 at_least_one zero rest some ends = absurd (let stands = some refl in cc)
 at_least_one (suc count) rest some ends = omega arith
+
+-- the first five of fifteen
+pub front_of_five : (subs : List ℕ) → length subs ≡ 15 → take 5 subs ≡ get_or subs 0 0 ∷ get_or subs 1 0 ∷ get_or subs 2 0 ∷ get_or subs 3 0 ∷ get_or subs 4 0 ∷ []
+front_of_five [] room = absurd (omega arith)
+front_of_five (a ∷ []) room = absurd (omega arith)
+front_of_five (a ∷ b ∷ []) room = absurd (omega arith)
+front_of_five (a ∷ b ∷ c ∷ []) room = absurd (omega arith)
+front_of_five (a ∷ b ∷ c ∷ d ∷ []) room = absurd (omega arith)
+front_of_five (a ∷ b ∷ c ∷ d ∷ e ∷ subs) room = refl

@@ -10,10 +10,9 @@ use Rattle.sd_text.specs.Finding.{find}
 use Rattle.sd_text.specs.Rights.{bits_of}
 use Rattle.sd_sid.specs.Sid.{SidValue, same_sid}
 use Rattle.sd_sid.proofs.Compared.{same_sid-true}
-use Rattle.sd_text.specs.declared.alias.WellKnown.{WellKnown}
 use Rattle.sd_text.specs.Alias.{alias_in}
 use Rattle.sd_text.specs.Canon.{name_in}
-use Rattle.sd_text.specs.Names.{Row, rows, renamed, well_known}
+use Rattle.sd_text.specs.Names.{Row, rows, renamed}
 use Rattle.sd_text.proofs.Parts.{chosen, name_is, found_name, found_is, part_ok}
 use Rattle.sd_text.proofs.Engine.{find_spells}
 use Rattle.sd_text.proofs.Loops.{Reaches, reaches_start, reaches_more, reaches_end}
@@ -30,13 +29,6 @@ unfolding name_in
 name_at [] i r mask lt is = absurd (omega arith)
 name_at (q ∷ rs) zero r mask lt is = rw is refl
 name_at (q ∷ rs) (suc i) r mask lt is = rw add-one (let h = name_at rs i r mask (omega arith) is in rw add-one at h)
-
--- and of the table of aliases, looked up by the SID
-pub alias_at : (rs : List (Row WellKnown)) (i : ℕ) (r : Row WellKnown) (sid : SidValue) → i < length rs → r ≡ get_or rs i r → alias_in (renamed well_known (rows (drop i rs))) sid ≡ cond (same_sid (well_known r.1) sid) (Some r.0.now) (alias_in (renamed well_known (rows (drop (i + 1) rs))) sid)
-unfolding alias_in
-alias_at [] i r sid lt is = absurd (omega arith)
-alias_at (q ∷ rs) zero r sid lt is = rw is refl
-alias_at (q ∷ rs) (suc i) r sid lt is = rw add-one (let h = alias_at rs i r sid (omega arith) is in rw add-one at h)
 
 -- ---- a run of names, whose meanings are put together one by one
 

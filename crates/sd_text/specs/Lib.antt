@@ -2,6 +2,7 @@ pub mod Grammar
 pub mod Fault
 pub mod Finding
 pub mod Names
+pub mod Places
 pub mod Domain
 pub mod Alias
 pub mod Sid

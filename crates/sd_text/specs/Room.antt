@@ -1,5 +1,5 @@
 -- Printing into room that was taken for the whole text.
-use Rattle.std.specs.Prelude.{◌≡◌, ℕ, ◌+◌, ◌≤◌, List, ◌++◌, length, String, string_bytes, string_len, string_capacity}
+use Rattle.std.specs.Prelude.{◌≡◌, ℕ, ◌+◌, ◌/◌, ◌%◌, ◌≤◌, List, [], ◌∷◌, ◌++◌, length, String, string_bytes, string_len, string_capacity}
 
 module _ {Z : Type 0} where
   -- there is room for the letters
@@ -11,3 +11,7 @@ module _ {Z : Type 0} where
     pub text : string_bytes new ≡ string_bytes old ++ letters
     pub len : string_len new ≡ string_len old + length letters
     pub room : string_capacity old ≤ string_capacity new
+
+-- a number below 100 in two digits
+abbrev pub two_digits : ℕ → List ℕ
+two_digits n = (48 + n / 10) ∷ (48 + n % 10) ∷ []

@@ -1,16 +1,18 @@
 //! The aliases of SIDs: [MS-DTYP] 2.5.1.1, sid-token.
 
-ghost use Rattle.std.specs.Prelude.{◌≡◌, ◌<◌, ◌≤◌, Err, length, option_map};
+ghost use Rattle.std.specs.Prelude.{◌≡◌, ◌<◌, ◌≤◌, ◌^◌, true, Err, length, option_map};
 ghost use Rattle.sd_text.specs.Sid.{no_alias, domain_alias};
 ghost use Rattle.sd_sid.specs.Sid.{same_sid};
 ghost use Rattle.sd_text.specs.Alias.{aliases, domain_aliases, alias_in};
 ghost use Rattle.sd_text.specs.Names.{rows, renamed, well_known};
+ghost use Rattle.sd_text.specs.Places.{are_placed, sids_are_placed};
 ghost use Rattle.sd_text.specs.Grammar.{one_of};
 ghost use Rattle.sd_text.specs.Finding.{Gives, find};
 
 use crate::cursor::Cursor;
 use crate::domain::Domain;
 use crate::fault::TextFault;
+use crate::places::{ALIAS_PLACES, Places, SID_PLACES, SidPlaces, sid_slot};
 use sd_sid::Sid;
 
 /// A well-known SID ([MS-DTYP] 2.4.2.4).
@@ -34,17 +36,17 @@ pub fn alias_of(sid: &Sid) -> Option<[u8; 2]>
     }
 }
 
-/// The letters of the SID's alias.
-#[tactic(auto, using(crate::proofs::Tables::alias_at), unfolding(crate::specs::Alias::alias_in))]
+/// The letters of the SID's alias, which the one row alone can have that its number tells of.
 pub(crate) fn alias_text(sid: &Sid) -> Option<&'static str>
     ensures { option_map (λ letters. letters.now) result ≡ alias_in aliases sid.now }
 {
-    for (letters, known) in known_aliases() {
-        if known.is(sid) {
-            return Some(letters);
-        }
+    let aliases = known_aliases();
+    let place = usize::from(sid_places()[sid_slot(sid)]);
+    if place >= aliases.len() {
+        return None;
     }
-    None
+    let (letters, known) = &aliases[place];
+    if known.is(sid) { Some(letters) } else { None }
 }
 
 impl WellKnown {
@@ -65,7 +67,7 @@ impl WellKnown {
         ensures { result ≡ well_known self }
     {
         match self {
-            WellKnown::One(authority, sub) => made(authority, &[sub]),
+            WellKnown::One(authority, sub) => made(u64::from(authority), &[sub]),
             WellKnown::Builtin(account) => made(5, &[32, account]),
             WellKnown::AllPackages => made(15, &[2, 1]),
         }
@@ -74,12 +76,14 @@ impl WellKnown {
 
 /// The SID of these parts.
 #[tactic(auto, using(crate::proofs::Sids::sid_made, crate::proofs::Sids::the_sid))]
-pub(crate) fn made(authority: u8, subs: &[u32]) -> Sid
+#[inline(always)]
+pub(crate) fn made(authority: u64, subs: &[u32]) -> Sid
+    requires authority { authority < 2 ^ 48 }
     requires some { 0 < length subs.now }
     requires few { length subs.now ≤ 15 }
     ensures { result ≡ record { authority = authority; subs = subs.now } }
 {
-    Sid::new(u64::from(authority), subs).unwrap()
+    Sid::new(authority, subs).unwrap()
 }
 
 /// The aliases, and the SIDs that they stand for.
@@ -127,6 +131,20 @@ fn known_aliases() -> &'static [(&'static str, WellKnown)]
     &ALIASES
 }
 
+#[tactic(auto, unfolding(crate::specs::Alias::aliases))]
+fn sid_places() -> &'static SidPlaces
+    ensures { sids_are_placed result.now 0 aliases ≡ true }
+{
+    &SID_PLACES
+}
+
+#[tactic(auto, unfolding(crate::specs::Alias::aliases))]
+fn alias_places() -> &'static Places
+    ensures { are_placed result.now 0 aliases ≡ true }
+{
+    &ALIAS_PLACES
+}
+
 /// The aliases of a domain's accounts and groups, and their relative identifiers ([MS-DTYP] 2.4.2.4).
 static DOMAIN_ALIASES: [(&str, u32); 12] = [
     ("DA", 512),
@@ -154,7 +172,7 @@ impl Cursor<'_> {
     pub(crate) fn alias(&mut self, domain: Option<Domain>) -> Result<Sid, TextFault>
         ensures { Gives (λ sid. sid) result self.new.rest.now (find (one_of aliases (domain_alias domain)) self.old.rest.now) }
     {
-        match self.name(known_aliases()) {
+        match self.name_of_two(known_aliases(), alias_places()) {
             Some(known) => Ok(known.sid()),
             None => self.domain_alias(domain),
         }

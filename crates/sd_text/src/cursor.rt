@@ -1,6 +1,7 @@
 //! The text from a place on. What stands there is read and left behind; at a fault the cursor stops at its byte.
 
 ghost use Rattle.std.specs.Prelude.{◌≡◌, ◌+◌, ◌≤◌, ◌^◌, ◌<◌, ℕ, length, take, drop, IsTrue, if◌then◌else◌};
+ghost use Rattle.std.specs.Char.{eq_ignore_ascii_case};
 ghost use Rattle.std.specs.Str.Parse.{digits_value};
 ghost use Rattle.sd_text.specs.Grammar.{begins, begins_digit, word, number, end};
 ghost use Rattle.sd_text.specs.Sid.{begins_letter};
@@ -95,6 +96,7 @@ impl<'a> Cursor<'a> {
     }
 
     /// A head of so many bytes and all digits behind it: a number below the limit.
+    #[inline(always)]
     pub(crate) fn number(&mut self, head: usize, radix: u32, limit: u64) -> Result<u64, TextFault>
         requires within { head ≤ length self.old.rest.now }
         requires low { 2 ≤ radix }
@@ -103,11 +105,11 @@ impl<'a> Cursor<'a> {
         ensures { Gives (λ n. n) result self.new.rest.now (find (number head radix limit) self.old.rest.now) }
     {
         let (_, digits) = self.rest.split_at(head);
-        if !begins_digit(digits, radix) {
+        let (value, len) = run_of(digits, radix, limit);
+        if len == 0 {
             self.rest = digits;
             return Err(TextFault::Syntax);
         }
-        let (value, len) = run_of(digits, radix, limit);
         if value >= limit {
             return Err(TextFault::Range);
         }
@@ -127,11 +129,20 @@ fn begins(text: &[u8], letters: &[u8]) -> bool
         return false;
     }
     for (i, letter) in letters.iter().enumerate() {
-        if !text[i].eq_ignore_ascii_case(letter) {
+        if !is_letter(text[i], *letter) {
             return false;
         }
     }
     true
+}
+
+/// Whether a byte is this letter, of either case. Only for speed the two are compared as they stand first, and no case is
+/// looked for where the letter has none.
+#[inline(always)]
+fn is_letter(byte: u8, letter: u8) -> bool
+    ensures { result ≡ eq_ignore_ascii_case byte letter }
+{
+    byte == letter || (letter.is_ascii_alphabetic() && byte.eq_ignore_ascii_case(&letter))
 }
 
 /// Whether the text begins with a digit.
@@ -150,7 +161,50 @@ fn begins_digit(text: &[u8], radix: u32) -> bool
 }
 
 /// What the digits that the text begins with amount to, or a number from the limit on, and how many there are.
+#[inline(always)]
 fn run_of(text: &[u8], radix: u32, limit: u64) -> (u64, usize)
+    requires low { 2 ≤ radix }
+    requires high { radix ≤ 16 }
+    requires room { limit ≤ 2 ^ 48 }
+    ensures len { result.1 ≡ digits_len radix text.now }
+    ensures within { result.1 ≤ length text.now }
+    ensures value { IsCapped limit result.0 (digits_value radix (take result.1 text.now)) }
+{
+    let (front, _) = text.split_at(text.len().min(SHORT_RUN));
+    let (value, len) = short_run_of(front, radix);
+    if len < SHORT_RUN {
+        (value, len)
+    } else {
+        long_run_of(text, radix, limit)
+    }
+}
+
+/// So many digits pass no number of 64 bits, in whichever radix up to 16.
+const SHORT_RUN: usize = 15;
+
+/// The same of a text of so many bytes at most. Only for speed: no digit waits for a look at the limit.
+#[inline(always)]
+fn short_run_of(text: &[u8], radix: u32) -> (u64, usize)
+    requires low { 2 ≤ radix }
+    requires high { radix ≤ 16 }
+    requires short { length text.now ≤ 15 }
+    ensures len { result.1 ≡ digits_len radix text.now }
+    ensures within { result.1 ≤ length text.now }
+    ensures value { result.0 ≡ digits_value radix (take result.1 text.now) }
+{
+    let mut value: u64 = 0;
+    for (i, c) in text.iter().enumerate() {
+        let Some(digit) = char::from(*c).to_digit(radix) else {
+            return (value, i);
+        };
+        value = value * u64::from(radix) + u64::from(digit);
+    }
+    (value, text.len())
+}
+
+/// The same of a run of any length: from the limit on no digit counts.
+#[cold]
+fn long_run_of(text: &[u8], radix: u32, limit: u64) -> (u64, usize)
     requires low { 2 ≤ radix }
     requires high { radix ≤ 16 }
     requires room { limit ≤ 2 ^ 48 }

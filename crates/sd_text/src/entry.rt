@@ -10,6 +10,7 @@ ghost use Rattle.sd_text.specs.Finding.{Gives, GivesUnlessMemory, find};
 use crate::cursor::Cursor;
 use crate::domain::Domain;
 use crate::fault::{Stop, TextFault};
+use crate::places::FLAG_PLACES;
 use bitflags::Flags;
 use sd_acl::{ACL_HEADER_BYTES, Ace, AceFlags, AceKind, AceList, MAX_ACL_BYTES};
 use std::alloc::Global;
@@ -92,7 +93,7 @@ impl Cursor<'_> {
     pub(crate) fn flags(&mut self) -> AceFlags
         ensures { find (bits_of flag_names) self.old.rest.now ≡ Ok (result.0, self.new.rest.now) }
     {
-        AceFlags::from_bits_retain(self.bits_of(flag_names()) as u8)
+        AceFlags::from_bits_retain(self.bits_of(flag_names(), &FLAG_PLACES) as u8)
     }
 
     /// An empty field of a GUID.
@@ -116,7 +117,7 @@ impl Cursor<'_> {
         ensures entry { Gives (λ entry. entry) result self.new.rest.now (find (entry_end size entry) self.old.rest.now) }
         ensures fits { IfOk result (λ entry. size + ace_size entry ≤ 65535) }
     {
-        if self.begins(b")") && size + entry.size() > MAX_ACL_BYTES {
+        if size + entry.size() > MAX_ACL_BYTES && self.begins(b")") {
             return Err(TextFault::AclTooLarge);
         }
         self.word(b")")?;

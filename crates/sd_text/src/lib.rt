@@ -20,6 +20,7 @@ mod fault;
 mod laws;
 mod name;
 mod number;
+mod places;
 mod print;
 mod rights;
 mod sacl;

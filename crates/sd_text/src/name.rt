@@ -1,12 +1,14 @@
 //! The names of a table that stand in a text. A row of a table is a name and what it stands for.
 
-ghost use Rattle.std.specs.Prelude.{◌≡◌, IfNone, IfSome, Some, None, Ok, fold};
+ghost use Rattle.std.specs.Prelude.{◌≡◌, IfNone, IfSome, Some, None, Ok, fold, true};
 ghost use Rattle.sd_text.specs.Grammar.{named};
 ghost use Rattle.sd_text.specs.Rights.{bits_of};
 ghost use Rattle.sd_text.specs.Names.{rows};
+ghost use Rattle.sd_text.specs.Places.{are_placed};
 ghost use Rattle.sd_text.specs.Finding.{find};
 
 use crate::cursor::Cursor;
+use crate::places::{Places, slot};
 
 impl Cursor<'_> {
     /// What the first name of the table that stands here stands for; it is left behind then.
@@ -22,13 +24,35 @@ impl Cursor<'_> {
         None
     }
 
-    /// A run of names, perhaps none, whose bits are joined.
-    pub(crate) fn bits_of(&mut self, names: &[(&str, u32)]) -> u32
+    /// The same of names of two letters, of which the one alone is looked at that can stand here.
+    pub(crate) fn name_of_two<T: Copy>(&mut self, names: &[(&str, T)], places: &Places) -> Option<T>
+        requires { are_placed places.now 0 (rows names.now) ≡ true }
+        ensures none { IfNone result ((named (rows names.now) self.old.rest.now ≡ None) × (self.new.rest.now ≡ self.old.rest.now)) }
+        ensures some { IfSome result (λ x. named (rows names.now) self.old.rest.now ≡ Some (x, self.new.rest.now)) }
+    {
+        if self.rest.len() < 2 {
+            return None;
+        }
+        let place = usize::from(places[slot(self.rest[0], self.rest[1])]);
+        if place >= names.len() {
+            return None;
+        }
+        let (letters, meaning) = &names[place];
+        if self.eat(letters.as_bytes()) {
+            Some(*meaning)
+        } else {
+            None
+        }
+    }
+
+    /// A run of names of two letters, perhaps none, whose bits are joined.
+    pub(crate) fn bits_of(&mut self, names: &[(&str, u32)], places: &Places) -> u32
+        requires { are_placed places.now 0 (rows names.now) ≡ true }
         ensures { find (bits_of (rows names.now)) self.old.rest.now ≡ Ok (result, self.new.rest.now) }
     {
         let mut bits = 0;
         'names: loop {
-            match self.name(names) {
+            match self.name_of_two(names, places) {
                 Some(more) => bits |= more,
                 None => return bits,
             }

@@ -1,7 +1,8 @@
 //! Numbers as digits, in memory that is there.
 
-ghost use Rattle.std.specs.Prelude.{◌≡◌, ◌≤◌, ◌<◌, drop, false};
-ghost use Rattle.std.specs.Fmt.{digits, digit_glyph};
+ghost use Rattle.std.specs.Prelude.{◌≡◌, ◌+◌, ◌≤◌, ◌<◌, [], ◌∷◌, drop, false};
+ghost use Rattle.std.specs.Fmt.{digits, decimal, digit_glyph};
+ghost use Rattle.sd_text.specs.Room.{HasRoom, IsPrinted, two_digits};
 
 use std::str::from_utf8;
 
@@ -48,4 +49,37 @@ fn glyph(digit: u8) -> u8
     } else {
         b'a' + (digit - 10)
     }
+}
+
+/// Adds the number in decimal, for which there is room: what is in front of its last two digits, and then these. Only for
+/// speed: `digits` would do, but for the copies that it takes.
+pub(crate) fn push_decimal(out: &mut String, number: u32)
+    requires { HasRoom out.old (decimal number) }
+    ensures { IsPrinted out.old out.new (decimal number) }
+{
+    if number < 10 {
+        return push_digit(out, number as u8);
+    }
+    if number < 100 {
+        return push_pair(out, number as u8);
+    }
+    push_decimal(out, number / 100);
+    push_pair(out, (number % 100) as u8)
+}
+
+fn push_pair(out: &mut String, pair: u8)
+    requires pair { pair < 100 }
+    requires room { HasRoom out.old (two_digits pair) }
+    ensures { IsPrinted out.old out.new (two_digits pair) }
+{
+    push_digit(out, pair / 10);
+    push_digit(out, pair % 10);
+}
+
+fn push_digit(out: &mut String, digit: u8)
+    requires digit { digit < 10 }
+    requires room { HasRoom out.old ((48 + digit) ∷ []) }
+    ensures { IsPrinted out.old out.new ((48 + digit) ∷ []) }
+{
+    out.push(char::from(b'0' + digit)).unwrap();
 }

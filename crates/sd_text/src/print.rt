@@ -10,7 +10,7 @@ ghost use Rattle.sd_text.specs.Canon.{authority_canon, sub_canon, full_canon, si
 
 use crate::alias::alias_text;
 use crate::entry::flag_names;
-use crate::number::{MAX_DIGITS, digits};
+use crate::number::{MAX_DIGITS, digits, push_decimal};
 use bitflags::Flags;
 use sd_acl::{Ace, AceFlags, AceKind, Dacl, Descriptor};
 use sd_sid::{Mask, Sid};
@@ -38,6 +38,9 @@ static PRINTED_RIGHTS: [(&str, u32); 15] = [
 /// An authority below this is printed in decimal ([MS-DTYP] 2.4.2.1).
 const DECIMAL_LIMIT: u64 = 0x1_0000_0000;
 
+/// So many bytes stay with a text though none of its letters needs them.
+const LITTLE_ROOM: usize = 256;
+
 /// The canonical text of a descriptor ([MS-DTYP] 2.5.1). Fails only for want of memory. What it prints,
 /// `read_sddl` reads as the same descriptor, where no entry has a flag outside the seven named ones.
 pub fn print_sddl(alloc: Global, descriptor: &Descriptor) -> Result<String, AllocError>
@@ -46,7 +49,7 @@ pub fn print_sddl(alloc: Global, descriptor: &Descriptor) -> Result<String, Allo
 {
     let mut text = String::with_capacity(alloc, sddl_room(descriptor))?;
     write_sddl(&mut text, descriptor);
-    text.shrink_to_fit();
+    give_back_room(&mut text);
     Ok(text)
 }
 
@@ -56,7 +59,7 @@ pub fn print_sid(alloc: Global, sid: &Sid) -> Result<String, AllocError>
 {
     let mut text = String::with_capacity(alloc, sid_room(sid))?;
     write_sid(&mut text, sid);
-    text.shrink_to_fit();
+    give_back_room(&mut text);
     Ok(text)
 }
 
@@ -66,7 +69,7 @@ pub fn print_full_sid(alloc: Global, sid: &Sid) -> Result<String, AllocError>
 {
     let mut text = String::with_capacity(alloc, sid_room(sid))?;
     write_full_sid(&mut text, sid);
-    text.shrink_to_fit();
+    give_back_room(&mut text);
     Ok(text)
 }
 
@@ -76,8 +79,17 @@ pub fn print_entry(alloc: Global, entry: &Ace) -> Result<String, AllocError>
 {
     let mut text = String::with_capacity(alloc, entry_room(entry))?;
     write_entry(&mut text, entry);
-    text.shrink_to_fit();
+    give_back_room(&mut text);
     Ok(text)
+}
+
+/// Gives back the room that nothing was printed into. Only for speed a little stays: a small text costs less than its move.
+fn give_back_room(text: &mut String)
+    ensures { string_bytes text.new ≡ string_bytes text.old }
+{
+    if text.capacity().saturating_sub(text.len()) > LITTLE_ROOM {
+        text.shrink_to_fit();
+    }
 }
 
 /// Room for the text of a descriptor, of which there is none where nothing is to be printed.
@@ -205,10 +217,10 @@ fn write_authority(out: &mut String, authority: u64)
     requires { HasRoom out.old (authority_canon authority) }
     ensures { IsPrinted out.old out.new (authority_canon authority) }
 {
-    let mut bytes = [0; MAX_DIGITS];
     if authority < DECIMAL_LIMIT {
-        return push(out, digits(authority, 10, &mut bytes));
+        return push_decimal(out, authority as u32);
     }
+    let mut bytes = [0; MAX_DIGITS];
     let letters = digits(authority, 16, &mut bytes);
     push(out, "0x");
     write_zeros(out, 12usize.saturating_sub(letters.len()));
@@ -229,9 +241,8 @@ fn write_sub(out: &mut String, sub: u32)
     requires { HasRoom out.old (sub_canon sub) }
     ensures { IsPrinted out.old out.new (sub_canon sub) }
 {
-    let mut bytes = [0; MAX_DIGITS];
     push(out, "-");
-    push(out, digits(u64::from(sub), 10, &mut bytes));
+    push_decimal(out, sub);
 }
 
 #[tactic(auto, unfolding(crate::specs::Canon::words_canon))]
@@ -298,6 +309,9 @@ fn write_flags(out: &mut String, flags: AceFlags)
     ensures { IsPrinted out.old out.new (flags_canon flags.0) }
 {
     let bits = u32::from(flags.bits());
+    if bits == 0 {
+        return;
+    }
     for (letters, flag) in flag_names() {
         write_where(out, bits & flag != 0, letters);
     }

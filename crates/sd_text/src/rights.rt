@@ -8,6 +8,7 @@ ghost use Rattle.sd_text.specs.Finding.{Gives, find};
 
 use crate::cursor::Cursor;
 use crate::fault::{TextError, TextFault};
+use crate::places::RIGHT_PLACES;
 use sd_sid::Mask;
 
 /// A mask is below this: it has 32 bits ([MS-DTYP] 2.4.3).
@@ -77,7 +78,7 @@ impl Cursor<'_> {
         if self.begins_digit(10) {
             self.mask_number()
         } else {
-            Ok(Mask(self.bits_of(&RIGHTS)))
+            Ok(Mask(self.bits_of(&RIGHTS, &RIGHT_PLACES)))
         }
     }
 

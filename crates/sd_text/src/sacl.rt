@@ -11,6 +11,7 @@ ghost use Rattle.sd_text.specs.Finding.{Gives, GivesUnlessMemory, find};
 use crate::cursor::Cursor;
 use crate::domain::Domain;
 use crate::fault::{Stop, TextError, TextFault};
+use crate::places::LABEL_PLACES;
 use sd_acl::Descriptor;
 use sd_sid::Mask;
 use std::alloc::Global;
@@ -159,7 +160,7 @@ impl Cursor<'_> {
                 if self.begins_digit(10) {
                     self.mask_number()
                 } else {
-                    Ok(Mask(self.bits_of(&LABEL_RIGHTS)))
+                    Ok(Mask(self.bits_of(&LABEL_RIGHTS, &LABEL_PLACES)))
                 }
             }
         }

@@ -1,12 +1,13 @@
 //! SIDs as text: [MS-DTYP] 2.4.2.1.
 
-ghost use Rattle.std.specs.Prelude.{◌≡◌, ◌<◌, ◌^◌, Ok, OnOk, IfOk, IfErr, IsErrOf};
+ghost use Rattle.std.specs.Prelude.{◌≡◌, ◌<◌, ◌≤◌, ◌^◌, length, take, Ok, OnOk, IfOk, IfErr, IsErrOf};
 ghost use Rattle.sd_sid.specs.Sid.{SidValue};
 ghost use Rattle.sd_text.specs.Grammar.{Spells};
 ghost use Rattle.sd_text.specs.Fault.{StandsIn};
 ghost use Rattle.sd_text.specs.Sid.{sid_text, sid_text_in, sid, authority, sub, subs_of};
 ghost use Rattle.sd_text.specs.Finding.{Gives, find};
 
+use crate::alias::made;
 use crate::cursor::Cursor;
 use crate::domain::Domain;
 use crate::fault::{TextError, TextFault};
@@ -57,10 +58,9 @@ impl Cursor<'_> {
     pub(crate) fn sid(&mut self, domain: Option<Domain>) -> Result<Sid, TextFault>
         ensures { Gives (λ sid. sid) result self.new.rest.now (find (sid domain) self.old.rest.now) }
     {
-        if !self.begins(b"S-1-") {
+        if !self.eat(b"S-1-") {
             return self.alias(domain);
         }
-        self.word(b"S-1-")?;
         let authority = self.authority()?;
         self.subs_of(authority)
     }
@@ -93,7 +93,7 @@ impl Cursor<'_> {
             subs[count] = self.sub(count)?;
             count += 1;
         }
-        Ok(Sid::new(authority, &subs[..count]).unwrap())
+        Ok(sid_of_front(authority, &subs, count))
     }
 
     /// A sub-authority, where so many stand before it. Behind fifteen of them no digit may stand.
@@ -110,4 +110,19 @@ impl Cursor<'_> {
             Err(TextFault::Syntax)
         }
     }
+}
+
+/// The SID of an authority and the first so many sub-authorities. Five, as the accounts of a domain have, go by themselves:
+/// only for speed, since a copy of a known length takes no call.
+#[inline(always)]
+fn sid_of_front(authority: u64, subs: &[u32; MAX_SUBS], count: usize) -> Sid
+    requires authority { authority < 2 ^ 48 }
+    requires some { 0 < count }
+    requires few { count ≤ 15 }
+    ensures { result ≡ record { authority = authority; subs = take count subs.now } }
+{
+    if count == 5 {
+        return made(authority, &[subs[0], subs[1], subs[2], subs[3], subs[4]]);
+    }
+    made(authority, &subs[..count])
 }

@@ -1,27 +1,16 @@
-use Rattle.std.proofs.Common.{◌≡◌, ◌<◌, length, take, get_or, arith, sym}
-use Rattle.std.specs.Str.Parse.{digits_value}
-use Rattle.std.specs.Char.{digit_value}
-use Rattle.std.proofs.lemmas.Int.Digits.{digits_more, digits_value_more}
-use Rattle.sd_text.proofs.Runs.{digits_stop, digits_whole, capped_push, capped_stay}
+use Rattle.std.proofs.Common.{◌≡◌, length, take, arith, inl, inr, ◌∙◌, ap}
+use Rattle.std.proofs.lemmas.Bool.{cases_lt}
+use Rattle.sd_text.specs.Finding.{digits_len}
+use Rattle.sd_text.proofs.Runs.{front_run, front_whole}
 use Rattle.sd_text.proofs.cursor.run_of.Goals as goal
-use Rattle.sd_text.proofs.cursor.run_of.Goals.{then-value-limit, else-value-limit}
 
-pub returns-in_default-clause-len : goal.returns-in_default-clause-len
-returns-in_default-clause-len c = digits_stop c.args.radix c.args.text.now c.loop-i.i (omega arith) c.loop-i.invariant.digits (let h = c.in_default.ensures.value in rw (sym c.from.ensures) (omega (arith, h)))
-
-pub loop-i-preserved : goal.loop-i-preserved
-loop-i-preserved c =
+pub returns-then-len-lt-SHORT_RUN-clause-len : goal.returns-then-len-lt-SHORT_RUN-clause-len
+returns-then-len-lt-SHORT_RUN-clause-len c =
     let text = c.args.text.now in
-    let is : c.in-Some.digit ≡ digit_value (get_or text c.loop-i.i 0) = rw (sym c.from.ensures) c.in-Some.ensures.value.1 in
-    let below : digit_value (get_or text c.loop-i.i 0) < c.args.radix = rw (sym c.from.ensures) c.in-Some.ensures.value.0 in
-    record {
-      digits = digits_more c.args.radix text c.loop-i.i (omega arith) c.loop-i.invariant.digits below;
-      value = rw (digits_value_more c.args.radix text c.loop-i.i (omega arith), sym is)
-          (elim c.if-value-limit.branch [
-            | then-value-limit w ↦ rw w.value-is (let h = capped_push c.args.limit c.loop-i.value (digits_value c.args.radix (take c.loop-i.i text)) c.args.radix c.in-Some.digit (omega arith) c.loop-i.invariant.value in rw (w.from-then-value-limit.ensures, w.from-then-value-limit-2.ensures) h)
-            | else-value-limit w ↦ rw w.value-is (capped_stay c.args.limit c.loop-i.value (digits_value c.args.radix (take c.loop-i.i text)) c.args.radix c.in-Some.digit (omega arith) (omega arith) c.loop-i.invariant.value)
-          ]);
-    }
-
-pub returns-clause-len : goal.returns-clause-len
-returns-clause-len c = digits_whole c.args.radix c.args.text.now (let same : c.loop-i.i ≡ length c.args.text.now = omega arith in let h = c.loop-i.invariant.digits in rw same at h)
+    let front : c.short_run_of-value.result.1 ≡ digits_len c.args.radix (take c.min.result text) = c.short_run_of-value.ensures.len ∙ ap (digits_len c.args.radix) c.split_at.ensures.front in
+    elim (cases_lt c.min.result (length text)) [
+      | inl h ↦
+          let fifteen : c.min.result ≡ 15 = omega (arith, c.min.ensures) in
+          front ∙ front_run c.args.radix c.min.result text (omega arith)
+      | inr h ↦ front ∙ front_whole c.args.radix c.min.result text h
+    ]

@@ -6,10 +6,10 @@ use Rattle.sd_text.proofs.Tables.{run_more, run_end}
 use Rattle.sd_text.proofs.cursor.Cursor.bits_of.Goals as goal
 
 pub names-smaller : goal.names-smaller
-names-smaller c = named_takes (rows c.args.names.now) c.names.self.rest.now c.in-Some.more c.name.new.self.rest.now c.in-Some.ensures.some
+names-smaller c = named_takes (rows c.args.names.now) c.names.self.rest.now c.in-Some.more c.name_of_two.new.self.rest.now c.in-Some.ensures.some
 
 pub names-preserved : goal.names-preserved
-names-preserved c = run_more (rows c.args.names.now) bit_or 0 c.args.self.now.rest.now c.names.bits c.names.self.rest.now c.in-Some.more c.name.new.self.rest.now c.names.invariant c.in-Some.ensures.some
+names-preserved c = run_more (rows c.args.names.now) bit_or 0 c.args.self.now.rest.now c.names.bits c.names.self.rest.now c.in-Some.more c.name_of_two.new.self.rest.now c.names.invariant c.in-Some.ensures.some
 
 pub returns-in-None : goal.returns-in-None
 unfolding bits_of

@@ -1,8 +1,8 @@
-use Rattle.std.proofs.Common.{rules, ◌≡◌, ◌<◌, ◌+◌, length, take, arith, sym, ◌∙◌, refl}
+use Rattle.std.proofs.Common.{rules, ◌≡◌, ◌<◌, ◌+◌, length, take, arith, sym, refl}
 use Rattle.std.proofs.lemmas.Result.{err_from_is_err_and}
 use Rattle.std.proofs.lemmas.List.{length-take-le}
 use Rattle.std.proofs.lemmas.Grind.{take-set_at}
-use Rattle.sd_text.proofs.Sids.{subs_more, subs_end, subs_fault, sub_takes, sid_made, the_sid, at_least_one}
+use Rattle.sd_text.proofs.Sids.{subs_more, subs_end, subs_fault, sub_takes, at_least_one}
 use Rattle.sd_text.proofs.cursor.Cursor.subs_of.Goals as goal
 
 pub returns-in_err-subs : goal.returns-in_err-subs
@@ -28,12 +28,10 @@ subs-preserved c =
       some = λ none. absurd (omega arith);
     }
 
+pub sid_of_front-requires-clause-some : goal.sid_of_front-requires-clause-some
+sid_of_front-requires-clause-some c = at_least_one c.subs.count c.subs.self.rest.now c.subs.invariant.some (sym c.subs-test.ensures.stood)
+
 pub returns : goal.returns
 returns c =
-    let subs = take c.subs.count c.subs.subs in
-    let counted : length subs ≡ c.subs.count = length-take-le c.subs.count c.subs.subs (omega arith) in
-    let ends = sym c.subs-test.ensures.stood in
-    let some = at_least_one c.subs.count c.subs.self.rest.now c.subs.invariant.some ends in
-    let made = sid_made c.args.authority subs c.requires (omega arith) (omega arith) in
-    rw (the_sid c.unwrap.result c.args.authority subs (sym c.unwrap.ensures ∙ c.new.ensures ∙ made), c.subs-test.ensures.rest)
-    (subs_end c.args.authority c.args.self.now.rest.now subs c.subs.self.rest.now (sym c.if-not-begins.ensures.value) c.subs.invariant.reached ends)
+    rw (c.sid_of_front.ensures, c.subs-test.ensures.rest)
+    (subs_end c.args.authority c.args.self.now.rest.now (take c.subs.count c.subs.subs) c.subs.self.rest.now (sym c.if-not-begins.ensures.value) c.subs.invariant.reached (sym c.subs-test.ensures.stood))

@@ -1,0 +1,7 @@
+use Rattle.std.proofs.Common.{◌≡◌, take}
+use Rattle.std.specs.Str.Parse.{AllDigits, digits_value}
+use Rattle.sd_text.proofs.cursor.short_run_of.Given as goal
+
+-- what has been read are digits, and this is their value
+abbrev pub invariant-loop-i : goal.invariant-loop-i
+invariant-loop-i l = record { digits : AllDigits l.radix (take l.i l.text); value : l.value ≡ digits_value l.radix (take l.i l.text) }
