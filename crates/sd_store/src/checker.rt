@@ -1,6 +1,6 @@
 //! The readers of a store.
 
-ghost use Rattle.std.specs.Prelude.{◌≡◌, ◌<◌, length, OnOk, OnErr, IfOk, IfErr, option_map};
+ghost use Rattle.std.specs.Prelude.{◌≡◌, ◌<◌, ◌⊎◌, length, map, OnOk, OnErr, IfOk, IfErr, option_map, vec_capacity};
 ghost use mathlib.Core.List.{IsPrefix};
 ghost use Rattle.sd_acl.specs.Descriptor.{descriptor_of};
 ghost use Rattle.sd_history.specs.Chains.{items_from};
@@ -9,11 +9,14 @@ ghost use Rattle.sd_tree.specs.Journal.{replay, IsLawful};
 ghost use Rattle.sd_share.specs.Machine.{longer};
 ghost use Rattle.sd_store.specs.Marks.{last_of};
 ghost use Rattle.sd_store.specs.Sights.{IsGone};
+ghost use Rattle.sd_store.specs.Together.{AreNone, answer_by};
 ghost use Rattle.sd_store.specs.declared.error.ShowError.TheVariants as show;
 
+use crate::answers::Answers;
 use crate::error::{AuditError, Gone, ShowError};
 use crate::naming::Naming;
 use crate::notice::Notice;
+use crate::query::Query;
 use crate::rule::{Seat, Sees};
 use sd_acl::Descriptor;
 use sd_check::Token;
@@ -144,6 +147,60 @@ impl<J: Naming> Checker<J> {
                     |_| ShowError::Gone,
                 )?;
                 Ok((seen, descriptor))
+            }
+        }
+    }
+
+    /// Several questions at one moment: the verdict on each query ([MS-DTYP] 2.5.3.2) and the descriptor of each path
+    /// ([MS-DTYP] 2.4.6), all by the one journal that is published at one moment of this call, whose length is told. It
+    /// enters the shared store once, as `check` does, and waits for nobody. Room for the answers to queries and then for
+    /// the descriptors is made before that; then each descriptor takes memory for its list, in the order of the paths.
+    /// `Gone` and `Memory` leave what the reader has seen, and no answers.
+    pub fn check_all(
+        &mut self,
+        queries: &[Query],
+        paths: &[Path],
+        answers: &mut Answers,
+    ) -> Result<u64, ShowError>
+        ensures floor { OnOk result (self.new.floor ≡ self.new.view.journal) }
+        ensures extends { OnOk result (IsPrefix self.old.floor self.new.floor) }
+        ensures views { OnOk result (IsPrefix self.old.view.journal self.new.view.journal
+            × IsPrefix self.old.view.marks self.new.view.marks) }
+        ensures lawful { OnOk result (IsLawful J.opening self.new.floor) }
+        ensures seen { IfOk result (λ seen. (seen ≡ length self.new.floor)
+            × (seen ≡ last_of self.new.view.marks)) }
+        ensures checks { OnOk result (answers.new.checks.items
+            ≡ map (answer_by J.opening self.new.floor) queries.now) }
+        ensures descriptors { OnOk result (map (option_map descriptor_of) answers.new.descriptors.items
+            ≡ map (descriptor_at J.opening.mapping (replay J.opening self.new.floor)) paths.now) }
+        ensures failed { OnErr result ((self.new.floor ≡ self.old.floor) × AreNone answers.new) }
+        ensures gone { IfErr result (λ e. e ≡ show.Gone → IsGone self.old self.new) }
+        ensures memory { IfErr result (λ e. e ≡ show.Memory
+            → (vec_capacity answers.old.checks < length queries.now) ⊎ (0 < length paths.now)) }
+    {
+        if answers.make_room(queries.len(), paths.len()).is_err() {
+            return Err(ShowError::Memory);
+        }
+        let Some(seat) = self.seat.take() else {
+            unreachable!()
+        };
+        match seat.enter_as::<Sees<J>>() {
+            Err(seat) => {
+                self.seat = Some(seat);
+                Err(ShowError::Gone)
+            }
+            Ok(reading) => {
+                let published = reading.get();
+                let seen = published.tree.len();
+                let filled = answers.fill(&published.tree, queries, paths);
+                let front = published.front.again();
+                self.seat = Some(reading.leave());
+                filled.map_err(|_| ShowError::Memory)?;
+                if raise::<J>(&mut self.front, &mut self.seen, front, seen).is_err() {
+                    answers.clear();
+                    return Err(ShowError::Gone);
+                }
+                Ok(seen)
             }
         }
     }

@@ -45,7 +45,7 @@ pub enum PublishError {
 #[error("the store is gone")]
 pub struct Gone;
 
-/// Why no descriptor was shown.
+/// Why no descriptor was shown, or none of several questions answered.
 #[derive(Clone, Copy, Debug, PartialEq, Eq, Error)]
 pub enum ShowError {
     /// As `Gone`.

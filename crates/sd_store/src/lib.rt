@@ -18,6 +18,7 @@
 //! `crates/sd_store_client` is such a client, proved.
 #![tactic(auto)]
 
+mod answers;
 mod auditing;
 mod checker;
 mod drawing;
@@ -34,6 +35,7 @@ mod query;
 mod rule;
 mod writer;
 
+pub use answers::Answers;
 pub use auditing::audit;
 pub use checker::Checker;
 pub use error::{AuditError, EditError, Gone, PublishError, ShowError};

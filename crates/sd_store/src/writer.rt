@@ -133,6 +133,15 @@ impl<J: Naming> StoreWriter<J> {
         }
     }
 
+    /// The tree of the published journal and the edits that wait, to be asked: `judge` tells what an edit would be
+    /// refused for, without making it.
+    pub fn draft(&self) -> &Tree
+        ensures opening { result.now.opening ≡ J.opening }
+        ensures journal { result.now.journal ≡ self.now.journal ++ self.now.pending }
+    {
+        &self.draft
+    }
+
     /// The length of the published journal.
     pub fn published_len(&self) -> u64
         ensures { result ≡ length self.now.journal }

@@ -1,0 +1,16 @@
+-- Several questions at one moment.
+use Rattle.std.specs.Prelude.{◌≡◌, List, [], length}
+use Rattle.sd_tree.specs.declared.edit.Edit.{Edit}
+use Rattle.sd_tree.specs.declared.opening.Opening.{Opening}
+use Rattle.sd_share.specs.declared.request.Answer.{Answer}
+use Rattle.sd_store.specs.Audits.{reply_by}
+use Rattle.sd_store.specs.declared.answers.Answers.{Answers}
+use Rattle.sd_store.specs.declared.query.Query.{Query}
+
+-- the answer to a query by a journal: the reply, and the journal's length
+abbrev pub answer_by : Opening → List Edit → Query → Answer
+answer_by opening journal query = record { seen = length journal; reply = reply_by opening journal query }
+
+-- no answers are there
+abbrev pub AreNone : Answers → Type 0
+AreNone answers = (answers.checks.items ≡ []) × (answers.descriptors.items ≡ [])
