@@ -3,6 +3,7 @@ use Rattle.std.proofs.Common.{◌≡◌, ℕ, ◌<◌, ◌≤◌, Bool, true, fa
 use Rattle.std.specs.Prelude.{MatchBool, codes, is_some, if◌then◌else◌, nat_lt, nat_le, option_map}
 use Rattle.std.specs.Str.Lines.{lines}
 use Rattle.std.proofs.lemmas.Bool.{lt-ltb, le-ltb, le-leb, lt-leb}
+use Rattle.sd_sid.specs.Mapping.{file_mapping}
 use Rattle.sd_acl.specs.Descriptor.{DescriptorValue, descriptor_of}
 use Rattle.sd_acl.specs.declared.descriptor.Descriptor.{Descriptor}
 use Rattle.sd_text.specs.Canon.{canon}
@@ -106,7 +107,7 @@ one_step old r reply new printed is text = absurd is
 
 -- what is told of why, and the machine then
 abbrev pub reasons : TokenValue → ℕ → Option DescriptorValue → List ℕ
-reasons t asked (Some d) = why_text Number d t asked
+reasons t asked (Some d) = why_text file_mapping Number d t asked
 reasons t asked None = line (codes "nonode")
 
 abbrev pub explained : Machine → ℕ → Names → TokenValue → ℕ → List ℕ × Machine

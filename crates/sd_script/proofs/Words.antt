@@ -15,7 +15,7 @@ use Rattle.sd_text.proofs.Engine.{no_fault}
 use Rattle.sd_text.specs.declared.fault.TextError.{TextError}
 use Rattle.sd_text.specs.declared.fault.TextError.TheVariants.{Fault, Memory}
 use Rattle.sd_check.specs.declared.token.GroupState.TheVariants.{Enabled, DenyOnly, Disabled}
-use Rattle.sd_script.specs.Word.{IsWord, AreWords, IsNoWordIn, texts}
+use Rattle.sd_script.specs.Word.{IsWord, AreWords, IsFirstNoWord, IsNoWordIn, texts}
 use Rattle.sd_script.specs.declared.word.Word.{Word}
 use Rattle.sd_script.specs.declared.word.Word.TheVariants.{Group, Restricting, Security, TakeOwnership}
 
@@ -68,6 +68,14 @@ pub no_word_at : (lent : List (Bor (List ℕ))) (i : ℕ) (d : Bor (List ℕ)) �
 no_word_at [] i d low none = absurd (omega arith)
 no_word_at (text ∷ lent) zero d low none = inl none
 no_word_at (text ∷ lent) (suc i) d low none = inr (no_word_at lent i d (omega arith) none)
+
+-- and those before it are words
+pub first_no_word_at : (lent : List (Bor (List ℕ))) (i : ℕ) (d : Bor (List ℕ)) (words : List Word) → i < length lent
+    → AreWords (texts (take i lent)) words → ((word : Word) → IsWord (get_or lent i d).now word → ⊥) → IsFirstNoWord (texts lent) i
+first_no_word_at [] i d words low are none = absurd (omega arith)
+first_no_word_at (text ∷ lent) zero d words low are none = none
+first_no_word_at (text ∷ lent) (suc i) d [] low are none = absurd are
+first_no_word_at (text ∷ lent) (suc i) d (word ∷ words) low are none = ((word, are.0), first_no_word_at lent i d words (omega arith) are.1 none)
 
 pub AreWords-more : (lent : List (Bor (List ℕ))) (i : ℕ) (d : Bor (List ℕ)) (words new : List Word) (word : Word) → i < length lent
     → AreWords (texts (take i lent)) words → IsWord (get_or lent i d).now word → new ≡ words ++ word ∷ [] → AreWords (texts (take (i + 1) lent)) new

@@ -2,7 +2,7 @@
 use Rattle.std.specs.Prelude.{ℕ, zero, suc, ◌+◌, List, [], ◌++◌, Option, Some, None, slice_get, if◌then◌else◌, codes}
 use Rattle.std.specs.Fmt.{decimal}
 use Rattle.sd_sid.specs.Sid.{SidValue}
-use Rattle.sd_sid.specs.Mapping.{file_mapping}
+use Rattle.sd_sid.specs.Mapping.{MappingValue, file_mapping}
 use Rattle.sd_acl.specs.Descriptor.{DescriptorValue, descriptor_of}
 use Rattle.sd_acl.specs.Verdict.{subject}
 use Rattle.sd_acl.specs.declared.ace.Ace.{Ace}
@@ -77,17 +77,17 @@ abbrev pub listed : Option (List Ace) → List Ace
 listed None = []
 listed (Some es) = es
 
-abbrev pub why_text : Spelling → DescriptorValue → TokenValue → ℕ → List ℕ
-why_text spelling d t asked =
-    spelled_verdict_line (spelled spelling) (verdict d.owner (dacl_entries d.dacl) file_mapping t asked)
-    ++ part_lines spelling d.owner (listed (dacl_entries d.dacl)) (reason_in (reasons_of d.owner (dacl_entries d.dacl) file_mapping t asked)) 32
+abbrev pub why_text : MappingValue → Spelling → DescriptorValue → TokenValue → ℕ → List ℕ
+why_text g spelling d t asked =
+    spelled_verdict_line (spelled spelling) (verdict d.owner (dacl_entries d.dacl) g t asked)
+    ++ part_lines spelling d.owner (listed (dacl_entries d.dacl)) (reason_in (reasons_of d.owner (dacl_entries d.dacl) g t asked)) 32
 
 -- ---- in a script
 
--- of the node of a path, where there is one
+-- of the node of a path, where there is one, by the mapping of files
 abbrev pub node_why_text : TokenValue → ℕ → Option Descriptor → List ℕ
 node_why_text t asked None = line (codes "nonode")
-node_why_text t asked (Some d) = why_text Number (descriptor_of d) t asked
+node_why_text t asked (Some d) = why_text file_mapping Number (descriptor_of d) t asked
 
 -- of the reply to a reader who asks for the descriptor of the node
 abbrev pub explained_reply : TokenValue → ℕ → Reply → Option (List ℕ)

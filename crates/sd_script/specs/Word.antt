@@ -1,5 +1,5 @@
 -- The words that make a token: a user's groups, restricting SIDs and privileges.
-use Rattle.std.specs.Prelude.{◌≡◌, ℕ, Bool, true, false, ⊤, ◌⊎◌, List, [], ◌∷◌, ◌++◌, map, codes}
+use Rattle.std.specs.Prelude.{◌≡◌, ℕ, zero, suc, Bool, true, false, ⊤, ◌⊎◌, List, [], ◌∷◌, ◌++◌, map, codes}
 use Rattle.std.specs.List.{list_any, flat_map}
 use Rattle.std.specs.Borrow.{Bor}
 use Rattle.sd_sid.specs.Sid.{SidValue}
@@ -43,6 +43,12 @@ AreWords (text ∷ texts) (word ∷ words) = IsWord text word × AreWords texts 
 abbrev pub IsNoWordIn : List (List ℕ) → Type 0
 IsNoWordIn [] = ⊥
 IsNoWordIn (text ∷ texts) = ((word : Word) → IsWord text word → ⊥) ⊎ IsNoWordIn texts
+
+-- the text at the place is no word, and those before it are words
+abbrev pub IsFirstNoWord : List (List ℕ) → ℕ → Type 0
+IsFirstNoWord [] place = ⊥
+IsFirstNoWord (text ∷ texts) zero = (word : Word) → IsWord text word → ⊥
+IsFirstNoWord (text ∷ texts) (suc place) = ((word : Word) × IsWord text word) × IsFirstNoWord texts place
 
 -- the group that a word adds
 abbrev pub group_of : Word → List (SidValue × GroupState)

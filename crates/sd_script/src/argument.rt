@@ -64,7 +64,7 @@ pub(crate) fn token_in(alloc: Global, user: Sid, words: &[&str]) -> Result<Token
 {
     match read_token(alloc, user, words) {
         Ok(token) => Ok(token),
-        Err(TokenError::NoWord) => Err(Stop::Fault(LineFault::Token)),
+        Err(TokenError::NoWord { .. }) => Err(Stop::Fault(LineFault::Token)),
         Err(TokenError::Memory) => Err(Stop::Memory),
     }
 }

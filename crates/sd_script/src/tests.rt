@@ -7,7 +7,7 @@ use crate::{
 };
 use sd_acl::Verdict;
 use sd_share::{Reply, Request, StartError};
-use sd_sid::Mask;
+use sd_sid::{GenericMapping, Mask};
 use sd_text::{TextFault, read_sddl, read_sid_text};
 use std::alloc::{AllocError, Global};
 use std::test::Fail;
@@ -163,7 +163,7 @@ fn tokens_of_words(rt: HostRuntime) -> Result<(), Fail> {
     assert!(rt;
         matches!(
             read_token(rt.alloc(), user, &words),
-            Err(TokenError::NoWord)
+            Err(TokenError::NoWord { place: 1 })
         )
     );
     Ok(())
@@ -235,7 +235,14 @@ fn lines_of_reasons(rt: HostRuntime) -> Result<(), Fail> {
     let user = read_sid_text("BU").ok().ok_or("a SID")?;
     let token = read_token(rt.alloc(), user, &[]).ok().ok_or("a token")?;
     let asked = Mask(0x0016_0089);
-    let text = why_text(rt.alloc(), Spelling::Names, &descriptor, &token, asked)?;
+    let text = why_text(
+        rt.alloc(),
+        &GenericMapping::file(),
+        Spelling::Names,
+        &descriptor,
+        &token,
+        asked,
+    )?;
     assert_eq!(rt;
         text.as_str(),
         "granted FR+WD\ngranted FR+WD by entry 1 (A;;0x160089;;;BU) as S-1-5-32-545\n"

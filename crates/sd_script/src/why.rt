@@ -19,17 +19,18 @@ use sd_text::{print_entry, print_full_sid};
 use std::alloc::{AllocError, Global};
 
 /// The lines of an explanation: the verdict's, and one for each part, as `denied 0x2 by entry 1 (D;;0x2;;;BU) as
-/// S-1-5-32-545` ([MS-DTYP] 2.5.3.2). The mapping is that of files.
+/// S-1-5-32-545` ([MS-DTYP] 2.5.3.2).
 pub fn why_text(
     alloc: Global,
+    mapping: &GenericMapping,
     spelling: Spelling,
     descriptor: &Descriptor,
     token: &Token,
     asked: Mask,
 ) -> Result<String, AllocError>
-    ensures { IfOk result (λ text. string_bytes text ≡ why_text_of spelling (descriptor_of descriptor.now) token.now asked) }
+    ensures { IfOk result (λ text. string_bytes text ≡ why_text_of mapping.now spelling (descriptor_of descriptor.now) token.now asked) }
 {
-    let explanation = explain_descriptor(descriptor, &GenericMapping::file(), token, asked);
+    let explanation = explain_descriptor(descriptor, mapping, token, asked);
     let list = Listed {
         spelling,
         owner: &descriptor.owner,
@@ -70,7 +71,10 @@ fn node_why_text(
 {
     match descriptor {
         None => String::from_str(alloc, "nonode\n"),
-        Some(descriptor) => why_text(alloc, Spelling::Number, descriptor, token, asked),
+        Some(descriptor) => {
+            let files = GenericMapping::file();
+            why_text(alloc, &files, Spelling::Number, descriptor, token, asked)
+        }
     }
 }
 

@@ -5,7 +5,7 @@ ghost use Rattle.sd_text.specs.Sid.{sid_text};
 ghost use Rattle.sd_sid.specs.Sid.{SidValue};
 ghost use Rattle.sd_script.specs.declared.word.Word.{Word as WordValue};
 ghost use Rattle.sd_script.specs.declared.word.TokenError.TheVariants.{Memory};
-ghost use Rattle.sd_script.specs.Word.{IsWord, AreWords, IsNoWordIn, IsToken, groups_of, restricting_of, is_security, is_take_ownership, texts as texts_of, token_of};
+ghost use Rattle.sd_script.specs.Word.{IsWord, AreWords, IsFirstNoWord, IsNoWordIn, IsToken, groups_of, restricting_of, is_security, is_take_ownership, texts as texts_of, token_of};
 ghost use Rattle.std.specs.List.{list_any};
 
 use sd_check::{GroupState, Privileges, Token};
@@ -50,9 +50,9 @@ impl Word {
 /// Why there is no token.
 #[derive(Clone, Copy, Debug, PartialEq, Eq, Error)]
 pub enum TokenError {
-    /// One of the texts is no such word.
-    #[error("a word is no group, no restricting SID and no privilege")]
-    NoWord,
+    /// The text at the place is no such word, and those before it are; counted from 0.
+    #[error("word {place} is no group, no restricting SID and no privilege")]
+    NoWord { place: usize },
     /// Memory was refused.
     #[error("memory was refused")]
     Memory,
@@ -130,10 +130,11 @@ fn read_group(text: &str) -> Option<Word>
 
 /// The token of a user and of these words ([MS-DTYP] 2.5.2): each is a group, `SID`, `SID=deny` (it counts for denies
 /// alone) or `SID=off` (it counts for nothing), a restricting SID, `SID=restrict`, or a privilege, `+security` or `+take`.
-/// `NoWord` where one is none of these.
+/// `NoWord` tells the first that is none of these.
 pub fn read_token(alloc: Global, user: Sid, texts: &[&str]) -> Result<Token, TokenError>
     ensures token { IfOk result (λ token. IsToken user (texts_of texts.now) token) }
-    ensures no_word { result ≡ Err TokenError.NoWord → IsNoWordIn (texts_of texts.now) }
+    ensures no_word { (place : ℕ) → result ≡ Err (TokenError.NoWord place) → IsNoWordIn (texts_of texts.now) }
+    ensures first { (place : ℕ) → result ≡ Err (TokenError.NoWord place) → IsFirstNoWord (texts_of texts.now) place }
 {
     let words = read_words(alloc, texts)?;
     Ok(token_of(alloc, user, &words)?)
@@ -142,13 +143,14 @@ pub fn read_token(alloc: Global, user: Sid, texts: &[&str]) -> Result<Token, Tok
 /// The words that the texts are, in order.
 fn read_words(alloc: Global, texts: &[&str]) -> Result<Vec<Word>, TokenError>
     ensures words { IfOk result (λ words. AreWords (texts_of texts.now) words.items) }
-    ensures no_word { result ≡ Err TokenError.NoWord → IsNoWordIn (texts_of texts.now) }
+    ensures no_word { (place : ℕ) → result ≡ Err (TokenError.NoWord place) → IsNoWordIn (texts_of texts.now) }
+    ensures first { (place : ℕ) → result ≡ Err (TokenError.NoWord place) → IsFirstNoWord (texts_of texts.now) place }
 {
     let mut words = Vec::new(alloc);
-    for text in texts {
-        match read_word(text) {
+    for place in 0..texts.len() {
+        match read_word(texts[place]) {
             Some(word) => words.push(word)?,
-            None => return Err(TokenError::NoWord),
+            None => return Err(TokenError::NoWord { place }),
         }
     }
     Ok(words)

@@ -1,10 +1,8 @@
 -- The verdict that the reasons tell is the check's, and the parts are those of the descriptor's own DACL.
 use Rattle.std.proofs.Common.{◌++◌, ◌∙◌, ap}
-use Rattle.sd_sid.specs.Mapping.{file_mapping}
 use Rattle.sd_check.specs.Check.{verdict}
 use Rattle.sd_check.specs.Dacl.{dacl_entries}
 use Rattle.sd_explain.specs.Parts.{reason_in}
-use Rattle.sd_explain.specs.Reasons.{reasons_of}
 use Rattle.sd_script.specs.Answer.{spelled_verdict_line}
 use Rattle.sd_script.specs.Spelling.{spelled}
 use Rattle.sd_script.specs.Why.{listed, part_lines}
@@ -17,12 +15,11 @@ returns c =
     let token = c.args.token.now in
     let asked = c.args.asked in
     let spelling = c.args.spelling in
+    let mapping = c.args.mapping.now in
     c.in_ok-push_parts.ensures
     ∙ ap (λ text. text ++ part_lines spelling owner c.entries_in.result.now (reason_in c.explain_descriptor-explanation.result.reasons) 32)
     (c.in_ok-text.ensures
-    ∙ ap (spelled_verdict_line (spelled spelling)) (c.verdict.ensures ∙ c.explain_descriptor-explanation.ensures.verdict
-    ∙ ap (λ g. verdict owner dacl g token asked) c.file.ensures))
-    ∙ ap (λ es. spelled_verdict_line (spelled spelling) (verdict owner dacl file_mapping token asked) ++ part_lines spelling owner es (reason_in c.explain_descriptor-explanation.result.reasons) 32) c.entries_in.ensures
-    ∙ ap (λ reasons. spelled_verdict_line (spelled spelling) (verdict owner dacl file_mapping token asked) ++ part_lines spelling owner (listed dacl) (reason_in reasons) 32)
-    (c.explain_descriptor-explanation.ensures.reasons
-    ∙ ap (λ g. reasons_of owner dacl g token asked) c.file.ensures)
+    ∙ ap (spelled_verdict_line (spelled spelling)) (c.verdict.ensures ∙ c.explain_descriptor-explanation.ensures.verdict))
+    ∙ ap (λ es. spelled_verdict_line (spelled spelling) (verdict owner dacl mapping token asked) ++ part_lines spelling owner es (reason_in c.explain_descriptor-explanation.result.reasons) 32) c.entries_in.ensures
+    ∙ ap (λ reasons. spelled_verdict_line (spelled spelling) (verdict owner dacl mapping token asked) ++ part_lines spelling owner (listed dacl) (reason_in reasons) 32)
+    c.explain_descriptor-explanation.ensures.reasons

@@ -3,5 +3,5 @@ use Rattle.std.proofs.Common.{take}
 use Rattle.sd_script.specs.Word.{AreWords, texts}
 use Rattle.sd_script.proofs.word.read_words.Given as goal
 
-abbrev pub invariant-loop-text : goal.invariant-loop-text
-invariant-loop-text l = AreWords (texts (take l.text-index l.texts)) l.words.items
+abbrev pub invariant-loop-place : goal.invariant-loop-place
+invariant-loop-place l = AreWords (texts (take l.place l.texts)) l.words.items
