@@ -1,7 +1,7 @@
 -- What needs no input is answered by its arguments alone.
 use Rattle.std.proofs.Common.{◌≡◌, ℕ, List, Option, false}
 use Rattle.sd_tool.specs.Answer.{AnswerValue, AnswersArguments, AnswersInvocation}
-use Rattle.sd_tool.specs.CommandLine.{InvocationValue, Verdict, Why, Lint, Print, ToBinary, FromBinary, Script, Serve, Audit, Help, Version, is_script}
+use Rattle.sd_tool.specs.CommandLine.{InvocationValue, Verdict, Why, Lint, Print, ToBinary, FromBinary, Script, Serve, Audit, Each, Help, Version, is_script}
 use Rattle.sd_tool.specs.Options.{OptionsValue}
 
 pub answered : (input : Option (List ℕ)) (options : OptionsValue) (invocation : InvocationValue) (answer : AnswerValue)
@@ -11,9 +11,10 @@ answered input options (Why sddl user mask words) answer h is = is
 answered input options (Lint sddl) answer h is = is
 answered input options (Print sddl) answer h is = is
 answered input options (ToBinary sddl) answer h is = is
-answered input options (FromBinary hex) answer h is = is
+answered input options (FromBinary bytes) answer h is = is
 answered input options (Help command) answer h is = is
 answered input options Version answer h is = is
 answered input options Script answer h is = cc
 answered input options Serve answer h is = cc
 answered input options (Audit workers) answer h is = cc
+answered input options (Each ending request) answer h is = cc

@@ -2,11 +2,14 @@
 use Rattle.std.proofs.Common.{◌≡◌, ℕ, List, [], ◌∷◌, Bool, true, false, Option, Some, None, refl, arith}
 use Rattle.std.specs.Prelude.{option_map, option_and_then, if◌then◌else◌}
 use Rattle.std.specs.Borrow.{Bor}
-use Rattle.sd_tool.specs.CommandLine.{InvocationValue, CommandLineValue, Audit as Audits, arguments_in, behind_options, command_in, command_named, command_on, run_by, takes, with_options, workers_of}
-use Rattle.sd_tool.specs.Laws.{is_shown, shows, HelpStandsAlone, DashesKeepTexts, DashesKeepTextsOfWhy, OptionsKeepTexts}
+use Rattle.sd_tool.specs.CommandLine.{InvocationValue, RequestValue, Audit as Audits, Each as AsksEach, arguments_in, asked_by, each_in, request_in, behind_options, command_in, command_named, command_on, takes, with_options, workers_of}
+use Rattle.sd_tool.specs.Laws.{is_shown, shows, EachAsksTheCommand, HelpStandsAlone, DashesKeepTexts, DashesKeepTextsOfWhy, OptionsKeepTexts}
 use Rattle.sd_tool.specs.Options.{OptionsValue, no_options, options_in}
+use Rattle.std.specs.Prelude.{bytes_eq, codes}
+use Rattle.sd_each.specs.declared.ending.Ending.{Ending}
+use Rattle.sd_each.specs.declared.ending.Ending.TheVariants.{Feed, Zero}
 use Rattle.sd_tool.specs.declared.command_line.CommandName.{CommandName}
-use Rattle.sd_tool.specs.declared.command_line.CommandName.TheVariants.{Verdict, Why, Lint, Print, ToBinary, FromBinary, Script, Serve, Audit}
+use Rattle.sd_tool.specs.declared.command_line.CommandName.TheVariants.{Verdict, Why, Lint, Print, ToBinary, FromBinary, Script, Serve, Audit, Each}
 
 abbrev some_shown : Option InvocationValue → Bool
 some_shown None = false
@@ -16,6 +19,15 @@ some_shown (Some invocation) = is_shown invocation
 audit_runs : (workers : Option ℕ) → some_shown (option_map Audits workers) ≡ true → ⊥
 audit_runs (Some n) h = cc
 audit_runs None h = cc
+
+-- nor is a question of each line
+request_runs : (ending : Ending) (request : Option RequestValue) → some_shown (option_map (AsksEach ending) request) ≡ true → ⊥
+request_runs ending (Some request) h = cc
+request_runs ending None h = cc
+
+ending_runs : (zero : Bool) (words behind : List (Bor (List ℕ))) → some_shown (if zero then each_in Zero words else each_in Feed behind) ≡ true → ⊥
+ending_runs true words behind h = request_runs Zero (request_in words) h
+ending_runs false words behind h = request_runs Feed (request_in behind) h
 
 -- a command with arguments is neither help nor the version
 command_runs : (command : CommandName) (arguments : List (Bor (List ℕ))) → some_shown (command_on command arguments) ≡ true → ⊥
@@ -46,12 +58,14 @@ command_runs Serve (a ∷ rest) h = cc
 command_runs Audit [] h = cc
 command_runs Audit (a ∷ []) h = audit_runs (workers_of a.now) h
 command_runs Audit (a ∷ b ∷ rest) h = cc
+command_runs Each [] h = cc
+command_runs Each (a ∷ rest) h = ending_runs (bytes_eq a.now (codes "-0")) rest (a ∷ rest) h
 
 -- nor is what stands behind options
 shown_or_not : (invocation : Option InvocationValue) (options : OptionsValue)
     → (some_shown invocation ≡ true → ⊥) → shows (option_and_then (with_options options) invocation) ≡ true → ⊥
 shown_or_not None options none h = cc
-shown_or_not (Some invocation) options none h = by_test (takes invocation options) h where
+shown_or_not (Some invocation) options none h = by_test (takes (asked_by invocation) options) h where
   by_test : (test : Bool) → shows (if test then Some (record { options = options; invocation = invocation }) else None) ≡ true → ⊥
   by_test true h = none h
   by_test false h = cc
@@ -85,3 +99,23 @@ dashes_keep_texts_of_why name command dashes sddl user mask words why dash = rw 
 
 pub options_keep_texts : OptionsKeepTexts
 options_keep_texts name option domain sid command dashes sddl user mask words names in_domain why dash = rw (names, in_domain, why, why, dash, why) refl
+
+pub each_asks_the_command : EachAsksTheCommand
+each_asks_the_command Verdict line [] request is = cc
+each_asks_the_command Verdict line (a ∷ []) request is = cc
+each_asks_the_command Verdict line (a ∷ b ∷ rest) request is = cc
+each_asks_the_command Why line [] request is = cc
+each_asks_the_command Why line (a ∷ []) request is = cc
+each_asks_the_command Why line (a ∷ b ∷ rest) request is = cc
+each_asks_the_command Lint line [] request is = cc
+each_asks_the_command Lint line (a ∷ rest) request is = cc
+each_asks_the_command Print line [] request is = cc
+each_asks_the_command Print line (a ∷ rest) request is = cc
+each_asks_the_command ToBinary line [] request is = cc
+each_asks_the_command ToBinary line (a ∷ rest) request is = cc
+each_asks_the_command FromBinary line [] request is = cc
+each_asks_the_command FromBinary line (a ∷ rest) request is = cc
+each_asks_the_command Script line arguments request is = cc
+each_asks_the_command Serve line arguments request is = cc
+each_asks_the_command Audit line arguments request is = cc
+each_asks_the_command Each line arguments request is = cc

@@ -1,5 +1,8 @@
+pub mod Commas
 pub mod Asked
 pub mod LawProofs
 pub mod Telling
+pub mod Texts
 pub mod LintLines
 pub mod SpelledOut
+pub mod EachLines

@@ -1,24 +1,25 @@
 -- What the program prints as an answer, and whether it did what was asked for. The arguments are read from left to
 -- right, and the first that isn't read is told as a fault.
-use Rattle.std.specs.Prelude.{◌≡◌, ◌⊎◌, ℕ, List, ◌++◌, Option, Result, Ok, Err, codes, string_bytes}
+use Rattle.std.specs.Prelude.{◌≡◌, ◌⊎◌, ℕ, Bool, true, false, MatchBool, List, [], ◌++◌, Option, Some, None, IfSome, Result, Ok, Err, codes, string_bytes}
 use Rattle.std.specs.Borrow.{Bor}
-use Rattle.std.specs.Fmt.{decimal}
-use Rattle.hex.specs.Hex.{encode_lower, decode_of}
-use Rattle.hex.specs.declared.FromHexError.{FromHexError}
+use Rattle.std.specs.Io.KnownBytes.{Appends}
+use Rattle.std.specs.Str.{IsUtf8}
+use Rattle.hex.specs.Hex.{encode_lower}
 use Rattle.sd_sid.specs.Sid.{SidValue}
-use Rattle.sd_sid.specs.Mapping.{file_mapping}
 use Rattle.sd_acl.specs.Descriptor.{DescriptorValue}
 use Rattle.sd_acl.specs.declared.verdict.Verdict.{Verdict}
 use Rattle.sd_acl.specs.declared.verdict.Verdict.TheVariants.{Granted, Denied, Reserved, EmptyRequest}
-use Rattle.sd_text.specs.Grammar.{Spells, HasFault}
+use Rattle.sd_text.specs.Grammar.{Grammar, Spells, HasFault}
+use Rattle.sd_text.specs.Sacl.{sddl_without_sacl}
 use Rattle.sd_text.specs.Sddl.{sddl_in}
 use Rattle.sd_text.specs.Sid.{sid_text_in}
 use Rattle.sd_text.specs.Rights.{mask_text}
 use Rattle.sd_text.specs.Canon.{canon}
+use Rattle.sd_text.specs.declared.fault.TextError.{TextError}
+use Rattle.sd_text.specs.declared.fault.TextError.TheVariants.{Fault, Memory}
 use Rattle.sd_text.specs.declared.fault.TextFault.{TextFault}
 use Rattle.sd_wire.specs.Reading.{descriptor_read}
 use Rattle.sd_wire.specs.Writing.{wire_of}
-use Rattle.sd_wire.specs.Fault.{wire_fault_number, wire_fault_name}
 use Rattle.sd_wire.specs.declared.fault.WireFault.{WireFault}
 use Rattle.sd_check.specs.Check.{verdict}
 use Rattle.sd_check.specs.Dacl.{dacl_entries}
@@ -29,13 +30,20 @@ use Rattle.sd_script.specs.Word.{texts}
 use Rattle.sd_script.specs.Output.{Prints}
 use Rattle.sd_script.specs.Run.{IsOutput}
 use Rattle.sd_script_audit.specs.Audit.{PrintsAudit}
-use Rattle.sd_tool.specs.CommandLine.{CommandLineValue, InvocationValue, Verdict as AsksVerdict, Why as AsksWhy, Lint, Print, ToBinary, FromBinary, Script as AsksScript, Serve as AsksServe, Audit as AsksAudit, Help, Version}
+use Rattle.sd_each.specs.Answers.{AreAnswered}
+use Rattle.sd_each.specs.Lines.{lines_of}
+use Rattle.sd_each.specs.declared.ending.Ending.{Ending}
+use Rattle.sd_tool.specs.Bytes.{bytes_read, form_name, has_sacl, without_sacl}
+use Rattle.sd_tool.specs.CommandLine.{CommandLineValue, InvocationValue, Verdict as AsksVerdict, Why as AsksWhy, Lint, Print, ToBinary, FromBinary, Script as AsksScript, Serve as AsksServe, Audit as AsksAudit, Each as AsksEach, Help, Version, RequestValue, WhyOfLine, LintOfLine, of_line}
 use Rattle.sd_tool.specs.Lint.{dacl_lines, or_clean, lint_outcome}
-use Rattle.sd_tool.specs.Options.{OptionsValue, AreSettings, GivesNoDomain}
-use Rattle.sd_tool.specs.Words.{IsTokenIn, HasNoWordIn}
+use Rattle.sd_tool.specs.Options.{OptionsValue, AreSettings, HasBadValue}
+use Rattle.sd_tool.specs.Told.{fault_text, sacl_note, told_line, wire_fault_text, word_argument, word_at, IsSidReason, IsWordReason}
+use Rattle.sd_tool.specs.Words.{IsTokenIn, IsFirstNoWordIn}
 use Rattle.sd_tool.specs.declared.answer.Answer.{Answer}
 use Rattle.sd_tool.specs.declared.answer.Outcome.{Outcome}
 use Rattle.sd_tool.specs.declared.answer.Outcome.TheVariants.{Done, Refused}
+use Rattle.sd_tool.specs.declared.options.BadValue.{BadValue}
+use Rattle.sd_tool.specs.declared.options.BadValue.TheVariants.{NoDomain, NoMapping}
 use Rattle.sd_tool.specs.declared.options.Settings.{Settings}
 use Rattle.sd_tool.specs.declared.verdict.Form.{Form}
 use Rattle.sd_tool.specs.declared.verdict.Form.TheVariants.{Short, Explained}
@@ -51,7 +59,7 @@ verdict_outcome EmptyRequest = Refused
 
 -- the line for bytes that hold no descriptor
 abbrev pub wire_fault_line : WireFault → List ℕ
-wire_fault_line fault = line (codes "fault wire " ++ decimal (wire_fault_number fault) ++ codes " " ++ wire_fault_name fault)
+wire_fault_line fault = line (codes "fault wire " ++ wire_fault_text fault)
 
 -- the name and the version, and the line of the toolchain that proved the program
 abbrev pub version_lines : List ℕ
@@ -59,103 +67,152 @@ version_lines = line (codes "sdstore " ++ VERSION.now) ++ line KIT.now
 
 -- ---- answers
 
--- what is printed, and what came of it
+-- what is printed, what standard error is told beside it, and what came of it
 pub record AnswerValue : Type 0 where
   pub printed : List ℕ
+  pub told : List ℕ
   pub outcome : Outcome
 
 abbrev pub answer_of : Answer → AnswerValue
-answer_of answer = record { printed = string_bytes answer.text; outcome = answer.outcome }
+answer_of answer = record { printed = string_bytes answer.text; told = string_bytes answer.told; outcome = answer.outcome }
 
 -- this text is printed, and what was asked for was done
 abbrev pub IsDone : List ℕ → AnswerValue → Type 0
-IsDone expected answer = (answer.printed ≡ expected) × (answer.outcome ≡ Done)
+IsDone expected answer = (answer.printed ≡ expected) × (answer.told ≡ []) × (answer.outcome ≡ Done)
 
--- this line of a fault is printed
-abbrev pub IsFault : List ℕ → AnswerValue → Type 0
-IsFault expected answer = (answer.printed ≡ expected) × (answer.outcome ≡ Refused)
+-- this line of a fault is printed, and this is told of it
+abbrev pub IsFault : List ℕ → List ℕ → AnswerValue → Type 0
+IsFault expected told answer = (answer.printed ≡ expected) × (answer.told ≡ told) × (answer.outcome ≡ Refused)
 
--- the first fault of a descriptor's text is printed
+-- an argument's text has this first fault
+abbrev pub IsTextFault : {A : Type 0} → Grammar A → List ℕ → List ℕ → List ℕ → AnswerValue → Type 0
+IsTextFault grammar text expected argument answer =
+    (fault : TextFault) × (place : ℕ) × HasFault grammar text fault place × IsFault expected (told_line argument (fault_text fault place)) answer
+
+-- ---- a descriptor's text
+
+-- the text is this descriptor's; whether the section of a SACL was left out
+abbrev pub IsRead : Settings → List ℕ → DescriptorValue → Bool → Type 0
+IsRead settings written d left_out = MatchBool settings.without_sacl
+    (Spells (sddl_without_sacl settings.domain) written (d, left_out))
+    (Spells (sddl_in settings.domain) written d × (left_out ≡ false))
+
+-- the first fault of the text
+abbrev pub IsUnreadAt : Settings → List ℕ → TextFault → ℕ → Type 0
+IsUnreadAt settings written fault place = MatchBool settings.without_sacl
+    (HasFault (sddl_without_sacl settings.domain) written fault place)
+    (HasFault (sddl_in settings.domain) written fault place)
+
+abbrev pub IsUnread : Settings → List ℕ → TextError → Type 0
+IsUnread settings written (Fault fault place) = IsUnreadAt settings written fault place
+IsUnread settings written Memory = Unit {0}
+
+-- the fault is printed
 abbrev pub AnswersSddlFault : Settings → List ℕ → AnswerValue → Type 0
 AnswersSddlFault settings written answer =
-    (fault : TextFault) × (place : ℕ) × HasFault (sddl_in settings.domain) written fault place × IsFault (sddl_fault_line fault place) answer
+    (fault : TextFault) × (place : ℕ) × IsUnreadAt settings written fault place
+    × IsFault (sddl_fault_line fault place) (told_line (codes "SDDL") (fault_text fault place)) answer
+
+-- what is answered otherwise, and where a SACL was left out, that is told first
+abbrev pub Noting : List ℕ → Bool → (AnswerValue → Type 0) → AnswerValue → Type 0
+Noting argument left_out Answers answer =
+    (inner : AnswerValue) × Answers inner × (answer ≡ record inner { told = sacl_note argument left_out ++ inner.told })
+
+-- what is answered of the descriptor that the text is, or the text's fault
+abbrev pub AnswersOfText : Settings → List ℕ → (DescriptorValue → AnswerValue → Type 0) → AnswerValue → Type 0
+AnswersOfText settings written Answers answer =
+    ((d : DescriptorValue) × (left_out : Bool) × IsRead settings written d left_out × Noting (codes "SDDL") left_out (Answers d) answer)
+    ⊎ AnswersSddlFault settings written answer
+
+-- ---- verdicts
 
 -- the verdict's line, or with it the reasons
 abbrev pub form_text : Settings → Form → DescriptorValue → TokenValue → ℕ → List ℕ
-form_text settings Short d token asked = verdict_line (verdict d.owner (dacl_entries d.dacl) file_mapping token asked)
-form_text settings Explained d token asked = why_text settings.spelling d token asked
+form_text settings Short d token asked = verdict_line (verdict d.owner (dacl_entries d.dacl) settings.mapping token asked)
+form_text settings Explained d token asked = why_text settings.mapping settings.spelling d token asked
 
 -- the verdict is printed, in this form
 abbrev pub IsVerdict : Settings → Form → DescriptorValue → TokenValue → ℕ → AnswerValue → Type 0
 IsVerdict settings form d token asked answer =
     (answer.printed ≡ form_text settings form d token asked)
-    × (answer.outcome ≡ verdict_outcome (verdict d.owner (dacl_entries d.dacl) file_mapping token asked))
+    × (answer.told ≡ [])
+    × (answer.outcome ≡ verdict_outcome (verdict d.owner (dacl_entries d.dacl) settings.mapping token asked))
+
+-- the first of the words that is none, and why
+abbrev pub IsWordFault : Settings → List (List ℕ) → AnswerValue → Type 0
+IsWordFault settings words answer =
+    (place : ℕ) × IsFirstNoWordIn settings.domain words place
+    × (reason : List ℕ) × IsWordReason settings.domain (word_at words place) reason
+    × IsFault (fault_line (codes "token")) (told_line (word_argument place (word_at words place)) reason) answer
 
 -- the words make a token, for which this is the verdict; or one of them is no word
 abbrev pub AnswersWords : Settings → Form → DescriptorValue → SidValue → ℕ → List (Bor (List ℕ)) → AnswerValue → Type 0
 AnswersWords settings form d user asked words answer =
     ((token : TokenValue) × IsTokenIn settings.domain user (texts words) token × IsVerdict settings form d token asked answer)
-    ⊎ (HasNoWordIn settings.domain (texts words) × IsFault (fault_line (codes "token")) answer)
+    ⊎ IsWordFault settings (texts words) answer
 
 abbrev pub AnswersMask : Settings → Form → DescriptorValue → SidValue → List ℕ → List (Bor (List ℕ)) → AnswerValue → Type 0
 AnswersMask settings form d user mask words answer =
     ((asked : ℕ) × Spells mask_text mask asked × AnswersWords settings form d user asked words answer)
-    ⊎ (((asked : ℕ) → Spells mask_text mask asked → ⊥) × IsFault (fault_line (codes "mask")) answer)
+    ⊎ IsTextFault mask_text mask (fault_line (codes "mask")) (codes "MASK") answer
 
-abbrev pub AnswersUser : Settings → Form → DescriptorValue → List ℕ → List ℕ → List (Bor (List ℕ)) → AnswerValue → Type 0
-AnswersUser settings form d user mask words answer =
+abbrev pub AnswersUser : Settings → Form → List ℕ → List ℕ → List (Bor (List ℕ)) → DescriptorValue → AnswerValue → Type 0
+AnswersUser settings form user mask words d answer =
     ((sid : SidValue) × Spells (sid_text_in settings.domain) user sid × AnswersMask settings form d sid mask words answer)
-    ⊎ (((sid : SidValue) → Spells (sid_text_in settings.domain) user sid → ⊥) × IsFault (fault_line (codes "sid")) answer)
+    ⊎ IsTextFault (sid_text_in settings.domain) user (fault_line (codes "sid")) (codes "USER") answer
 
 abbrev pub AnswersVerdict : Settings → Form → List ℕ → List ℕ → List ℕ → List (Bor (List ℕ)) → AnswerValue → Type 0
-AnswersVerdict settings form written user mask words answer =
-    ((d : DescriptorValue) × Spells (sddl_in settings.domain) written d × AnswersUser settings form d user mask words answer)
-    ⊎ AnswersSddlFault settings written answer
+AnswersVerdict settings form written user mask words answer = AnswersOfText settings written (AnswersUser settings form user mask words) answer
+
+-- ---- findings
 
 -- the findings are printed, or that there are none
 abbrev pub IsLinted : List ℕ → AnswerValue → Type 0
-IsLinted lines answer = (answer.printed ≡ or_clean lines) × (answer.outcome ≡ lint_outcome lines)
+IsLinted lines answer = (answer.printed ≡ or_clean lines) × (answer.told ≡ []) × (answer.outcome ≡ lint_outcome lines)
 
 abbrev pub AnswersLint : Settings → List ℕ → AnswerValue → Type 0
-AnswersLint settings written answer =
-    ((d : DescriptorValue) × Spells (sddl_in settings.domain) written d × IsLinted (dacl_lines d.dacl) answer)
-    ⊎ AnswersSddlFault settings written answer
+AnswersLint settings written answer = AnswersOfText settings written (λ d. IsLinted (dacl_lines settings.mapping d.dacl)) answer
+
+-- ---- other forms
 
 -- the canonical text
 abbrev pub AnswersPrint : Settings → List ℕ → AnswerValue → Type 0
-AnswersPrint settings written answer =
-    ((d : DescriptorValue) × Spells (sddl_in settings.domain) written d × IsDone (line (canon d)) answer)
-    ⊎ AnswersSddlFault settings written answer
+AnswersPrint settings written answer = AnswersOfText settings written (λ d. IsDone (line (canon d))) answer
 
 -- the self-relative form in hexadecimal
 abbrev pub AnswersToBinary : Settings → List ℕ → AnswerValue → Type 0
-AnswersToBinary settings written answer =
-    ((d : DescriptorValue) × Spells (sddl_in settings.domain) written d × IsDone (line (encode_lower (wire_of d))) answer)
-    ⊎ AnswersSddlFault settings written answer
+AnswersToBinary settings written answer = AnswersOfText settings written (λ d. IsDone (line (encode_lower (wire_of d)))) answer
 
 -- the canonical text of what bytes hold, or their fault
 abbrev pub AnswersRead : Result DescriptorValue WireFault → AnswerValue → Type 0
 AnswersRead (Ok d) answer = IsDone (line (canon d)) answer
-AnswersRead (Err fault) answer = IsFault (wire_fault_line fault) answer
+AnswersRead (Err fault) answer = IsFault (wire_fault_line fault) (told_line (codes "BYTES") (wire_fault_text fault)) answer
 
-abbrev pub AnswersBytes : List ℕ → AnswerValue → Type 0
-AnswersBytes bytes answer = AnswersRead (descriptor_read bytes) answer
+-- the same of bytes in which a SACL is passed over, where that is asked for
+abbrev pub AnswersBytes : Settings → List ℕ → AnswerValue → Type 0
+AnswersBytes settings bytes answer = MatchBool settings.without_sacl
+    (Noting (codes "BYTES") (has_sacl bytes) (AnswersRead (descriptor_read (without_sacl bytes))) answer)
+    (AnswersRead (descriptor_read bytes) answer)
 
--- the same of bytes in hexadecimal, or that they aren't
-abbrev pub AnswersDecoded : Result (List ℕ) FromHexError → AnswerValue → Type 0
-AnswersDecoded (Ok bytes) answer = AnswersBytes bytes answer
-AnswersDecoded (Err e) answer = IsFault (fault_line (codes "hex")) answer
+-- the same of the bytes that a text spells, or that it spells none
+abbrev pub AnswersDecoded : Settings → Result (List ℕ) (List ℕ) → AnswerValue → Type 0
+AnswersDecoded settings (Ok bytes) answer = AnswersBytes settings bytes answer
+AnswersDecoded settings (Err reason) answer = IsFault (fault_line (form_name settings.bytes)) (told_line (codes "BYTES") reason) answer
 
-abbrev pub AnswersFromBinary : List ℕ → AnswerValue → Type 0
-AnswersFromBinary written answer = AnswersDecoded (decode_of written) answer
+abbrev pub AnswersFromBinary : Settings → List ℕ → AnswerValue → Type 0
+AnswersFromBinary settings written answer = AnswersDecoded settings (bytes_read settings.bytes written) answer
+
+-- ---- scripts
 
 -- the output of the script on the input
 abbrev pub AnswersScript : Option (List ℕ) → AnswerValue → Type 0
-AnswersScript input answer = IsOutput Prints input answer.printed × (answer.outcome ≡ Done)
+AnswersScript input answer = IsOutput Prints input answer.printed × (answer.told ≡ []) × (answer.outcome ≡ Done)
 
 -- the output of the audit of the script on the input
 abbrev pub AnswersAudit : ℕ → Option (List ℕ) → AnswerValue → Type 0
-AnswersAudit workers input answer = IsOutput (PrintsAudit workers) input answer.printed × (answer.outcome ≡ Done)
+AnswersAudit workers input answer = IsOutput (PrintsAudit workers) input answer.printed × (answer.told ≡ []) × (answer.outcome ≡ Done)
+
+-- ---- command lines
 
 -- what is printed for an invocation that needs no input, under these settings; the help's text is `clap`'s
 abbrev pub AnswersUnder : Settings → InvocationValue → AnswerValue → Type 0
@@ -164,24 +221,75 @@ AnswersUnder settings (AsksWhy sddl user mask words) answer = AnswersVerdict set
 AnswersUnder settings (Lint sddl) answer = AnswersLint settings sddl answer
 AnswersUnder settings (Print sddl) answer = AnswersPrint settings sddl answer
 AnswersUnder settings (ToBinary sddl) answer = AnswersToBinary settings sddl answer
-AnswersUnder settings (FromBinary hex) answer = AnswersFromBinary hex answer
-AnswersUnder settings (Help command) answer = answer.outcome ≡ Done
+AnswersUnder settings (FromBinary bytes) answer = AnswersFromBinary settings bytes answer
+AnswersUnder settings (Help command) answer = (answer.told ≡ []) × (answer.outcome ≡ Done)
 AnswersUnder settings Version answer = IsDone version_lines answer
 AnswersUnder settings AsksScript answer = ⊥
 AnswersUnder settings AsksServe answer = ⊥
 AnswersUnder settings (AsksAudit workers) answer = ⊥
+AnswersUnder settings (AsksEach ending request) answer = ⊥
 
--- the same where the settings are those that the options say; or the domain's text is read as none
+-- the value of an option isn't read
+abbrev pub IsBadValue : BadValue → AnswerValue → Type 0
+IsBadValue (NoDomain text) answer =
+    (reason : List ℕ) × IsSidReason None (codes "no domain") text.now reason
+    × IsFault (fault_line (codes "domain")) (told_line (codes "--domain") reason) answer
+IsBadValue NoMapping answer = IsFault (fault_line (codes "mapping")) (told_line (codes "--mapping") (codes "no such mapping")) answer
+
+-- the same where the settings are those that the options say; or one of their values isn't read
 abbrev pub AnswersArguments : OptionsValue → InvocationValue → AnswerValue → Type 0
 AnswersArguments options invocation answer =
     ((settings : Settings) × AreSettings options settings × AnswersUnder settings invocation answer)
-    ⊎ (GivesNoDomain options.domain × IsFault (fault_line (codes "domain")) answer)
+    ⊎ ((bad : BadValue) × HasBadValue options bad × IsBadValue bad answer)
+
+-- ---- of each line
+
+-- the answer to a line's text is the one command's; no text is told of a line that is too long
+abbrev pub AnswersTold : OptionsValue → RequestValue → Option (List ℕ) → AnswerValue → Type 0
+AnswersTold options request None answer = IsFault (fault_line (codes "long")) [] answer
+AnswersTold options request (Some text) answer =
+    (IsUtf8 text × AnswersArguments options (of_line request text) answer)
+    ⊎ ((IsUtf8 text → ⊥) × IsFault (fault_line (codes "utf8")) [] answer)
+
+-- what stands behind each answer: an empty line, where an answer may have several lines
+abbrev pub behind_answer : RequestValue → List ℕ
+behind_answer (WhyOfLine user mask words) = codes "\n"
+behind_answer LintOfLine = codes "\n"
+behind_answer request = []
+
+abbrev pub is_refusal : Outcome → Bool
+is_refusal Done = false
+is_refusal Refused = true
+
+abbrev pub outcome_of_lines : Bool → Outcome
+outcome_of_lines true = Refused
+outcome_of_lines false = Done
+
+-- a line's answer, and whether it is a refusal
+abbrev pub AnswersLine : OptionsValue → RequestValue → Option (List ℕ) → List ℕ → Bool → Type 0
+AnswersLine options request told printed is_refused =
+    (answer : AnswerValue) × AnswersTold options request told answer
+    × (printed ≡ answer.printed ++ behind_answer request) × (is_refused ≡ is_refusal answer.outcome)
+
+-- the lines' answers, one behind the other; refused where one is, and nothing is told beside them
+abbrev pub AnswersEach : OptionsValue → Ending → RequestValue → Option (List ℕ) → AnswerValue → Type 0
+AnswersEach options ending request input answer =
+    (text : List ℕ) × (refused : Bool) × IfSome input (λ bytes. text ≡ bytes)
+    × AreAnswered (AnswersLine options request) (lines_of ending text) answer.printed refused
+    × (answer.told ≡ []) × (answer.outcome ≡ outcome_of_lines refused)
+
+-- known bytes grow by them
+pub record AppendsEach (options : OptionsValue) (ending : Ending) (request : RequestValue) (input old new : Option (List ℕ)) (outcome : Outcome) : Type 0 where
+  pub printed : List ℕ
+  pub answers : AnswersEach options ending request input (record { printed = printed; told = []; outcome = outcome })
+  pub appended : Appends old new printed
 
 -- what is printed for a command line, with this input where it is known, and what came of it
 abbrev pub AnswersInvocation : Option (List ℕ) → OptionsValue → InvocationValue → AnswerValue → Type 0
 AnswersInvocation input options AsksScript answer = AnswersScript input answer
 AnswersInvocation input options AsksServe answer = AnswersScript input answer
 AnswersInvocation input options (AsksAudit workers) answer = AnswersAudit workers input answer
+AnswersInvocation input options (AsksEach ending request) answer = AnswersEach options ending request input answer
 AnswersInvocation input options invocation answer = AnswersArguments options invocation answer
 
 abbrev pub Answers : Option (List ℕ) → CommandLineValue → AnswerValue → Type 0

@@ -4,12 +4,33 @@ use Rattle.std.specs.Prelude.{◌≡◌, ℕ, List, [], ◌∷◌, ◌+◌, ◌-
 use Rattle.std.specs.Option.{option_map_or}
 use Rattle.std.specs.Borrow.{Bor}
 use Rattle.std.specs.Char.{is_ascii_digit}
+use Rattle.sd_each.specs.declared.ending.Ending.{Ending}
+use Rattle.sd_each.specs.declared.ending.Ending.TheVariants.{Feed, Zero}
 use Rattle.sd_tool.specs.declared.command_line.CommandName.{CommandName}
 use Rattle.sd_tool.specs.declared.command_line.CommandName.TheVariants as names
 use Rattle.sd_tool.specs.declared.command_line.CommandLine.{CommandLine}
+use Rattle.sd_tool.specs.declared.command_line.Request.{Request}
+use Rattle.sd_tool.specs.declared.command_line.Request.TheVariants as requests
 use Rattle.sd_tool.specs.declared.command_line.Invocation.{Invocation}
 use Rattle.sd_tool.specs.declared.command_line.Invocation.TheVariants as invocations
 use Rattle.sd_tool.specs.Options.{OptionsValue, no_options, options_in, options_of}
+
+-- what is asked of each line: a command with its arguments, but for the descriptor
+pub data RequestValue : Type 0 where
+  VerdictOfLine : List ℕ → List ℕ → List (Bor (List ℕ)) → RequestValue
+  WhyOfLine : List ℕ → List ℕ → List (Bor (List ℕ)) → RequestValue
+  LintOfLine : RequestValue
+  PrintOfLine : RequestValue
+  ToBinaryOfLine : RequestValue
+  FromBinaryOfLine : RequestValue
+
+abbrev pub request_of : Request → RequestValue
+request_of (requests.Verdict user mask words) = VerdictOfLine user.now mask.now words.now
+request_of (requests.Why user mask words) = WhyOfLine user.now mask.now words.now
+request_of requests.Lint = LintOfLine
+request_of requests.Print = PrintOfLine
+request_of requests.ToBinary = ToBinaryOfLine
+request_of requests.FromBinary = FromBinaryOfLine
 
 -- what is asked for: a command with its arguments, help on a command or on the program, or the version
 pub data InvocationValue : Type 0 where
@@ -22,6 +43,7 @@ pub data InvocationValue : Type 0 where
   Script : InvocationValue
   Serve : InvocationValue
   Audit : ℕ → InvocationValue
+  Each : Ending → RequestValue → InvocationValue
   Help : Option CommandName → InvocationValue
   Version : InvocationValue
 
@@ -31,10 +53,11 @@ invocation_of (invocations.Why sddl user mask words) = Why sddl.now user.now mas
 invocation_of (invocations.Lint sddl) = Lint sddl.now
 invocation_of (invocations.Print sddl) = Print sddl.now
 invocation_of (invocations.ToBinary sddl) = ToBinary sddl.now
-invocation_of (invocations.FromBinary hex) = FromBinary hex.now
+invocation_of (invocations.FromBinary bytes) = FromBinary bytes.now
 invocation_of invocations.Script = Script
 invocation_of invocations.Serve = Serve
 invocation_of (invocations.Audit workers) = Audit workers
+invocation_of (invocations.Each ending request) = Each ending (request_of request)
 invocation_of (invocations.Help command) = Help command
 invocation_of invocations.Version = Version
 
@@ -58,7 +81,8 @@ command_named word =
     else (if bytes_eq word (codes "script") then Some names.Script
     else (if bytes_eq word (codes "serve") then Some names.Serve
     else (if bytes_eq word (codes "audit") then Some names.Audit
-    else None))))))))
+    else (if bytes_eq word (codes "each") then Some names.Each
+    else None)))))))))
 
 abbrev pub is_help_flag : List ℕ → Bool
 is_help_flag word = bytes_eq word (codes "-h") || bytes_eq word (codes "--help")
@@ -88,6 +112,46 @@ workers_of (ones ∷ []) = count_of 48 ones
 workers_of (tens ∷ ones ∷ []) = count_of tens ones
 workers_of (a ∷ b ∷ c ∷ rest) = None
 
+-- ---- a question of each line
+
+-- the command with this descriptor
+abbrev pub of_line : RequestValue → List ℕ → InvocationValue
+of_line (VerdictOfLine user mask words) line = Verdict line user mask words
+of_line (WhyOfLine user mask words) line = Why line user mask words
+of_line LintOfLine line = Lint line
+of_line PrintOfLine line = Print line
+of_line ToBinaryOfLine line = ToBinary line
+of_line FromBinaryOfLine line = FromBinary line
+
+-- the one command: what is asked of a line, where it is asked of each
+abbrev pub asked_by : InvocationValue → InvocationValue
+asked_by (Each ending request) = of_line request []
+asked_by invocation = invocation
+
+-- the command with these arguments, where they are as many as it takes beside the descriptor
+abbrev pub request_on : CommandName → List (Bor (List ℕ)) → Option RequestValue
+request_on names.Verdict (user ∷ mask ∷ words) = Some (VerdictOfLine user.now mask.now words)
+request_on names.Why (user ∷ mask ∷ words) = Some (WhyOfLine user.now mask.now words)
+request_on names.Lint [] = Some LintOfLine
+request_on names.Print [] = Some PrintOfLine
+request_on names.ToBinary [] = Some ToBinaryOfLine
+request_on names.FromBinary [] = Some FromBinaryOfLine
+request_on command arguments = None
+
+abbrev pub request_in : List (Bor (List ℕ)) → Option RequestValue
+request_in [] = None
+request_in (word ∷ words) = option_and_then (λ command. request_on command (arguments_in words)) (command_named word.now)
+
+abbrev pub each_in : Ending → List (Bor (List ℕ)) → Option InvocationValue
+each_in ending words = option_map (Each ending) (request_in words)
+
+-- what the words behind `each` ask for: first may stand `-0`
+abbrev pub each_on : List (Bor (List ℕ)) → Option InvocationValue
+each_on [] = each_in Feed []
+each_on (word ∷ words) = if bytes_eq word.now (codes "-0") then each_in Zero words else each_in Feed (word ∷ words)
+
+-- ---- the command
+
 -- the command with these arguments, where they are as many as it takes
 abbrev pub command_on : CommandName → List (Bor (List ℕ)) → Option InvocationValue
 command_on names.Verdict (sddl ∷ user ∷ mask ∷ words) = Some (Verdict sddl.now user.now mask.now words)
@@ -95,10 +159,11 @@ command_on names.Why (sddl ∷ user ∷ mask ∷ words) = Some (Why sddl.now use
 command_on names.Lint (sddl ∷ []) = Some (Lint sddl.now)
 command_on names.Print (sddl ∷ []) = Some (Print sddl.now)
 command_on names.ToBinary (sddl ∷ []) = Some (ToBinary sddl.now)
-command_on names.FromBinary (hex ∷ []) = Some (FromBinary hex.now)
+command_on names.FromBinary (bytes ∷ []) = Some (FromBinary bytes.now)
 command_on names.Script [] = Some Script
 command_on names.Serve [] = Some Serve
 command_on names.Audit (workers ∷ []) = option_map Audit (workers_of workers.now)
+command_on names.Each words = each_on words
 command_on command arguments = None
 
 -- ---- help and the version
@@ -137,12 +202,29 @@ reads_text (Print sddl) = true
 reads_text (ToBinary sddl) = true
 reads_text invocation = false
 
+-- whether bytes are read
+abbrev pub reads_bytes : InvocationValue → Bool
+reads_bytes (FromBinary bytes) = true
+reads_bytes invocation = false
+
+-- whether generic rights are mapped
+abbrev pub maps : InvocationValue → Bool
+maps (Verdict sddl user mask words) = true
+maps (Why sddl user mask words) = true
+maps (Lint sddl) = true
+maps invocation = false
+
 -- whether each of the options is for what is asked
 abbrev pub takes : InvocationValue → OptionsValue → Bool
-takes invocation options = (explains invocation || not options.names) && (reads_text invocation || is_none options.domain)
+takes invocation options =
+    (explains invocation || not options.names)
+    && (reads_text invocation || is_none options.domain)
+    && (maps invocation || is_none options.mapping)
+    && (reads_text invocation || reads_bytes invocation || not options.without_sacl)
+    && (reads_bytes invocation || not options.base64)
 
 abbrev pub with_options : OptionsValue → InvocationValue → Option CommandLineValue
-with_options options invocation = if takes invocation options then Some (record { options = options; invocation = invocation }) else None
+with_options options invocation = if takes (asked_by invocation) options then Some (record { options = options; invocation = invocation }) else None
 
 -- the command that the words begin with, and its arguments
 abbrev pub command_in : List (Bor (List ℕ)) → Option InvocationValue
@@ -172,17 +254,18 @@ reading (name ∷ words) = behind_name words
 abbrev pub IsUnread : List (Bor (List ℕ)) → Type 0
 IsUnread words = reading words ≡ None
 
--- whether a script is asked for, at once or line by line, or its audit: what is answered from the input
+-- whether what is asked for is answered from the input: a script, at once or line by line, its audit, or a question of each line
 abbrev pub is_script : InvocationValue → Bool
 is_script Script = true
 is_script Serve = true
 is_script (Audit workers) = true
+is_script (Each ending request) = true
 is_script (Verdict sddl user mask words) = false
 is_script (Why sddl user mask words) = false
 is_script (Lint sddl) = false
 is_script (Print sddl) = false
 is_script (ToBinary sddl) = false
-is_script (FromBinary hex) = false
+is_script (FromBinary bytes) = false
 is_script (Help command) = false
 is_script Version = false
 
@@ -197,3 +280,7 @@ IsAudit words = (workers : ℕ) × (option_map (λ line. line.invocation) (readi
 -- the words ask for a script that is answered line by line
 abbrev pub IsServe : List (Bor (List ℕ)) → Type 0
 IsServe words = option_map (λ line. line.invocation) (reading words) ≡ Some Serve
+
+-- the words ask for an answer to each line
+abbrev pub IsEach : List (Bor (List ℕ)) → OptionsValue → Ending → RequestValue → Type 0
+IsEach words options ending request = reading words ≡ Some (record { options = options; invocation = Each ending request })

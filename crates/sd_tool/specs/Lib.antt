@@ -1,8 +1,11 @@
 pub mod Answer
+pub mod Bytes
 pub mod CommandLine
 pub mod Laws
+pub mod Mapping
 pub mod Options
 pub mod Output
 pub mod Status
+pub mod Told
 pub mod Lint
 pub mod Words

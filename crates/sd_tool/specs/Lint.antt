@@ -2,7 +2,7 @@
 use Rattle.std.specs.Prelude.{ℕ, zero, suc, ◌+◌, Bool, not, ◌&&◌, ◌||◌, ◌==◌, List, [], ◌∷◌, ◌++◌, length, take, Option, Some, None, slice_get, if◌then◌else◌, position, codes}
 use Rattle.std.specs.Fmt.{decimal}
 use Rattle.sd_sid.specs.Mask.{holds, mask_of}
-use Rattle.sd_sid.specs.Mapping.{file_mapping, mapped}
+use Rattle.sd_sid.specs.Mapping.{MappingValue, mapped}
 use Rattle.sd_sid.specs.Sid.{same_sid, owner_rights}
 use Rattle.sd_acl.specs.Ace.{is_allow, is_inherit_only}
 use Rattle.sd_acl.specs.Canonical.{is_inherited, is_explicit, allows, denies}
@@ -56,46 +56,46 @@ where_behind None head what = []
 where_behind (Some earlier) head what = line (head ++ what ++ decimal (earlier + 1))
 
 -- both name some right
-abbrev pub shares_a_right : Ace → Ace → Bool
-shares_a_right earlier e = not (mask_of (λ b. holds (mapped file_mapping earlier.mask) b && holds (mapped file_mapping e.mask) b) 32 == 0)
+abbrev pub shares_a_right : MappingValue → Ace → Ace → Bool
+shares_a_right g earlier e = not (mask_of (λ b. holds (mapped g earlier.mask) b && holds (mapped g e.mask) b) 32 == 0)
 
 -- the number of an entry that covers the later one and shares a right with it, and of all below a place
-abbrev pub covering_number : Ace → ℕ → Option Ace → List ℕ
-covering_number e place None = []
-covering_number e place (Some earlier) = if covers earlier e && shares_a_right earlier e then codes " " ++ decimal (place + 1) else []
+abbrev pub covering_number : MappingValue → Ace → ℕ → Option Ace → List ℕ
+covering_number g e place None = []
+covering_number g e place (Some earlier) = if covers earlier e && shares_a_right g earlier e then codes " " ++ decimal (place + 1) else []
 
-unfoldable pub covering_numbers : List Ace → Ace → ℕ → List ℕ
-covering_numbers es e zero = []
-covering_numbers es e (suc k) = covering_numbers es e k ++ covering_number e k (slice_get es k)
+unfoldable pub covering_numbers : MappingValue → List Ace → Ace → ℕ → List ℕ
+covering_numbers g es e zero = []
+covering_numbers g es e (suc k) = covering_numbers g es e k ++ covering_number g e k (slice_get es k)
 
 -- it names rights, and never decides one
-abbrev pub is_useless : List Ace → ℕ → Ace → Bool
-is_useless es place e = not (e.mask == 0) && is_dead file_mapping es place
+abbrev pub is_useless : MappingValue → List Ace → ℕ → Ace → Bool
+is_useless g es place e = not (e.mask == 0) && is_dead g es place
 
 -- the findings of an entry
-unfoldable pub entry_lines : List Ace → ℕ → Ace → List ℕ
-entry_lines es place e =
+unfoldable pub entry_lines : MappingValue → List Ace → ℕ → Ace → List ℕ
+entry_lines g es place e =
     where_behind (position (is_misplaced e) (take place es)) (entry_head place e) (codes "is out of order behind entry ")
     ++ where_so (e.mask == 0) (entry_head place e) (codes "names no right")
     ++ where_so (is_stranded e) (entry_head place e) (codes "is inherited by nothing")
     ++ where_behind (position (is_repeated e) (take place es)) (entry_head place e) (codes "repeats entry ")
-    ++ where_so (is_useless es place e) (entry_head place e) (codes "decides nothing behind" ++ covering_numbers es e place)
+    ++ where_so (is_useless g es place e) (entry_head place e) (codes "decides nothing behind" ++ covering_numbers g es e place)
     ++ where_so (limits e) (entry_head place e) (codes "limits the owner")
 
-abbrev pub lines_at : List Ace → ℕ → Option Ace → List ℕ
-lines_at es place None = []
-lines_at es place (Some e) = entry_lines es place e
+abbrev pub lines_at : MappingValue → List Ace → ℕ → Option Ace → List ℕ
+lines_at g es place None = []
+lines_at g es place (Some e) = entry_lines g es place e
 
 -- those of the entries below a place
-unfoldable pub list_lines : List Ace → ℕ → List ℕ
-list_lines es zero = []
-list_lines es (suc k) = list_lines es k ++ lines_at es k (slice_get es k)
+unfoldable pub list_lines : MappingValue → List Ace → ℕ → List ℕ
+list_lines g es zero = []
+list_lines g es (suc k) = list_lines g es k ++ lines_at g es k (slice_get es k)
 
 -- those of a DACL
-abbrev pub dacl_lines : Dacl → List ℕ
-dacl_lines Absent = line (codes "no DACL grants everything")
-dacl_lines Null = line (codes "a null DACL grants everything")
-dacl_lines (Entries es) = list_lines es (length es)
+abbrev pub dacl_lines : MappingValue → Dacl → List ℕ
+dacl_lines g Absent = line (codes "no DACL grants everything")
+dacl_lines g Null = line (codes "a null DACL grants everything")
+dacl_lines g (Entries es) = list_lines g es (length es)
 
 -- or that there is none, and whether there is
 abbrev pub or_clean : List ℕ → List ℕ

@@ -7,31 +7,34 @@ use Rattle.sd_stream.specs.declared.error.RunError.{RunError}
 use Rattle.sd_stream.specs.declared.error.RunError.TheVariants.{Read, TooLong, Write, Memory, Thread}
 use Rattle.sd_script.specs.Answer.{line}
 use Rattle.sd_script_serve.specs.Serve.{LeavesAnswers}
-use Rattle.sd_tool.specs.Answer.{Answers}
-use Rattle.sd_tool.specs.CommandLine.{CommandLineValue, reading, IsAudit, IsServe, IsUnread}
+use Rattle.sd_each.specs.Answers.{LeavesAnswers as LeavesLines}
+use Rattle.sd_each.specs.declared.ending.Ending.{Ending}
+use Rattle.sd_tool.specs.Answer.{AnswerValue, Answers, AnswersLine}
+use Rattle.sd_tool.specs.CommandLine.{CommandLineValue, RequestValue, reading, IsAudit, IsEach, IsServe, IsUnread}
+use Rattle.sd_tool.specs.Options.{OptionsValue}
 use Rattle.sd_tool.specs.Status.{outcome_status}
 use Rattle.sd_tool.specs.declared.answer.Outcome.{Outcome}
 use Rattle.sd_tool.specs.declared.failure.Failure.{Failure}
 use Rattle.sd_tool.specs.declared.failure.Failure.TheVariants.{Unread, Run}
 
--- known bytes grow by the whole answer to what the words ask for, with this input, which ends with this status
-pub record AppendsAnswer (words : List (Bor (List ℕ))) (input old new : Option (List ℕ)) (status : ℕ) : Type 0 where
+-- known bytes grow by the whole answer to what the words ask for, with this input; this is told beside it, and it ends with
+-- this status
+pub record AppendsAnswer (words : List (Bor (List ℕ))) (input old new : Option (List ℕ)) (told : List ℕ) (status : ℕ) : Type 0 where
   pub command_line : CommandLineValue
   pub text : List ℕ
   pub outcome : Outcome
   pub asked : reading words ≡ Some command_line
-  pub answers : Answers input command_line (record { printed = text; outcome = outcome })
+  pub answers : Answers input command_line (record { printed = text; told = told; outcome = outcome })
   pub ended : status ≡ outcome_status outcome
   pub appended : Appends old new text
 
 -- known bytes grow by a beginning of the answer to what the words ask for
 pub record AppendsPartOfAnswer (words : List (Bor (List ℕ))) (input old new : Option (List ℕ)) : Type 0 where
   pub command_line : CommandLineValue
-  pub text : List ℕ
-  pub outcome : Outcome
+  pub answer : AnswerValue
   pub asked : reading words ≡ Some command_line
-  pub answers : Answers input command_line (record { printed = text; outcome = outcome })
-  pub beginning : AppendsBeginning old new text
+  pub answers : Answers input command_line answer
+  pub beginning : AppendsBeginning old new answer.printed
 
 -- nothing was written before an error, but for a write's own
 abbrev pub LeavesAnswer : List (Bor (List ℕ)) → Option (List ℕ) → Option (List ℕ) → Option (List ℕ) → RunError → Type 0
@@ -46,10 +49,22 @@ pub record LeavesServed (words : List (Bor (List ℕ))) (input left old new : Op
   pub asked : IsServe words
   pub answers : LeavesAnswers input left old new error
 
+-- the answers to the lines of an input, as far as it came
+pub record LeavesEach (words : List (Bor (List ℕ))) (input left old new : Option (List ℕ)) (error : RunError) : Type 0 where
+  pub options : OptionsValue
+  pub ending : Ending
+  pub request : RequestValue
+  pub asked : IsEach words options ending request
+  pub answers : LeavesLines (AnswersLine options request) ending input left old new error
+
+-- what was answered line by line until then
+abbrev pub LeavesByLine : List (Bor (List ℕ)) → Option (List ℕ) → Option (List ℕ) → Option (List ℕ) → Option (List ℕ) → RunError → Type 0
+LeavesByLine words input left old new error = LeavesServed words input left old new error ⊎ LeavesEach words input left old new error
+
 -- what stands where there is no answer, or not the whole of it
 abbrev pub LeavesAtFailure : List (Bor (List ℕ)) → Option (List ℕ) → Option (List ℕ) → Option (List ℕ) → Option (List ℕ) → Failure → Type 0
 LeavesAtFailure words input left old new (Unread reason) = IsUnread words × Keeps old new
-LeavesAtFailure words input left old new (Run error) = LeavesAnswer words input old new error ⊎ LeavesServed words input left old new error
+LeavesAtFailure words input left old new (Run error) = LeavesAnswer words input old new error ⊎ LeavesByLine words input left old new error
 
 -- what standard error gets of an error
 abbrev pub error_line : RunError → List ℕ

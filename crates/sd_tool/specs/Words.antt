@@ -4,7 +4,7 @@ use Rattle.std.specs.Prelude.{◌≡◌, ◌==◌, ◌⊎◌, ⊤, ℕ, List, []
 use Rattle.std.specs.List.{position_or_len}
 use Rattle.sd_sid.specs.Sid.{SidValue}
 use Rattle.sd_check.specs.Token.{TokenValue}
-use Rattle.sd_script.specs.Word.{IsToken, IsNoWordIn}
+use Rattle.sd_script.specs.Word.{IsToken, IsFirstNoWord}
 use Rattle.sd_text.specs.Canon.{sid_canon}
 use Rattle.sd_text.specs.Grammar.{Spells}
 use Rattle.sd_text.specs.Sid.{sid_text_in}
@@ -36,6 +36,6 @@ AreReadAs (Some domain) words fulls = AreSpelledOut domain words fulls
 abbrev pub IsTokenIn : Option Domain → SidValue → List (List ℕ) → TokenValue → Type 0
 IsTokenIn domain user words token = (fulls : List (List ℕ)) × AreReadAs domain words fulls × IsToken user fulls token
 
--- one of them is no word
-abbrev pub HasNoWordIn : Option Domain → List (List ℕ) → Type 0
-HasNoWordIn domain words = (fulls : List (List ℕ)) × AreReadAs domain words fulls × IsNoWordIn fulls
+-- the word at the place is the first that is no word
+abbrev pub IsFirstNoWordIn : Option Domain → List (List ℕ) → ℕ → Type 0
+IsFirstNoWordIn domain words place = (fulls : List (List ℕ)) × AreReadAs domain words fulls × IsFirstNoWord fulls place

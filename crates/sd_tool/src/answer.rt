@@ -1,15 +1,17 @@
 //! The answer to an invocation: what is printed, and whether that is what was asked for.
-ghost use Rattle.std.specs.Prelude.{◌≡◌, ℕ, List, Option, false, IfErr, IfOk};
+ghost use Rattle.std.specs.Prelude.{◌≡◌, ℕ, List, Option, false, IfErr, IfOk, codes, string_bytes};
 ghost use Rattle.sd_script.specs.Answer.{fault_line as fault_line_of, sddl_fault_line as sddl_fault_line_of};
-ghost use Rattle.sd_tool.specs.Answer.{Answers, AnswersUnder, IsFault, answer_of};
+ghost use Rattle.sd_tool.specs.Answer.{Answers, AnswersUnder, IsBadValue, IsDone, IsFault, answer_of};
 ghost use Rattle.sd_tool.specs.CommandLine.{command_line_of, invocation_of, is_script};
 ghost use Rattle.sd_tool.specs.Status.{outcome_status};
+ghost use Rattle.sd_tool.specs.Told.{fault_text, told_line as told_line_of};
 
 use crate::command_line::{CommandLine, Invocation};
 use crate::convert::{answer_from_binary, answer_print, answer_to_binary};
 use crate::failure::Failure;
 use crate::lint::answer_lint;
-use crate::options::Settings;
+use crate::options::{BadValue, Settings};
+use crate::told::{sid_reason, told_fault, told_line};
 use crate::usage::help;
 use crate::verdict::{Form, answer_verdict};
 use crate::version::version_text;
@@ -39,11 +41,25 @@ impl Outcome {
     }
 }
 
-/// What is printed, and what came of it.
+/// What is printed, what standard error is told beside it, and what came of it.
 #[derive(Debug, Drop)]
 pub(crate) struct Answer {
     pub(crate) text: String,
+    pub(crate) told: String,
     pub(crate) outcome: Outcome,
+}
+
+impl Answer {
+    /// What was asked for was done, and nothing is told beside it.
+    pub(crate) fn done(alloc: Global, text: String) -> Answer
+        ensures { IsDone (string_bytes text) (answer_of result) }
+    {
+        Answer {
+            text,
+            told: String::new(alloc),
+            outcome: Outcome::Done,
+        }
+    }
 }
 
 /// The answer to a command line that needs no input.
@@ -53,8 +69,8 @@ pub(crate) fn answer_to(alloc: Global, line: CommandLine<'_>) -> Result<Answer, 
     ensures err { IfErr result (λ failure. failure ≡ Failure.Run RunError.Memory) }
 {
     match line.options.settings() {
-        Some(settings) => answer_under(alloc, settings, line.invocation),
-        None => fault(alloc, "domain"),
+        Ok(settings) => answer_under(alloc, settings, line.invocation),
+        Err(bad) => bad_value(alloc, bad),
     }
 }
 
@@ -84,37 +100,72 @@ fn answer_under(
         Invocation::Lint { sddl } => answer_lint(alloc, settings, sddl),
         Invocation::Print { sddl } => answer_print(alloc, settings, sddl),
         Invocation::ToBinary { sddl } => answer_to_binary(alloc, settings, sddl),
-        Invocation::FromBinary { hex } => answer_from_binary(alloc, hex),
-        Invocation::Script | Invocation::Serve | Invocation::Audit { .. } => unreachable!(),
-        Invocation::Help { command } => Ok(Answer {
-            text: help(alloc, command)?,
-            outcome: Outcome::Done,
-        }),
-        Invocation::Version => Ok(Answer {
-            text: version_text(alloc)?,
-            outcome: Outcome::Done,
-        }),
+        Invocation::FromBinary { bytes } => answer_from_binary(alloc, settings, bytes),
+        Invocation::Script
+        | Invocation::Serve
+        | Invocation::Audit { .. }
+        | Invocation::Each { .. } => unreachable!(),
+        Invocation::Help { command } => Ok(Answer::done(alloc, help(alloc, command)?)),
+        Invocation::Version => Ok(Answer::done(alloc, version_text(alloc)?)),
     }
 }
 
-/// The answer to an argument that isn't read: what it should have been.
-pub(crate) fn fault(alloc: Global, what: &str) -> Result<Answer, Failure>
-    ensures ok { IfOk result (λ answer. IsFault (fault_line_of what.now) (answer_of answer)) }
+/// The answer to an option whose value isn't read.
+fn bad_value(alloc: Global, bad: BadValue<'_>) -> Result<Answer, Failure>
+    ensures ok { IfOk result (λ answer. IsBadValue bad.entry (answer_of answer)) }
+    ensures err { IfErr result (λ failure. failure ≡ Failure.Run RunError.Memory) }
+{
+    match bad {
+        BadValue::NoDomain(text) => {
+            let reason = sid_reason(alloc, None, "no domain", text)?;
+            fault(
+                alloc,
+                "domain",
+                told_line(alloc, "--domain", reason.as_str())?,
+            )
+        }
+        BadValue::NoMapping => fault(
+            alloc,
+            "mapping",
+            told_line(alloc, "--mapping", "no such mapping")?,
+        ),
+    }
+}
+
+/// The answer to an argument that isn't read: what it should have been, and what is told of it.
+pub(crate) fn fault(alloc: Global, what: &str, told: String) -> Result<Answer, Failure>
+    ensures ok { IfOk result (λ answer. IsFault (fault_line_of what.now) (string_bytes told) (answer_of answer)) }
     ensures err { IfErr result (λ failure. failure ≡ Failure.Run RunError.Memory) }
 {
     Ok(Answer {
         text: fault_line(alloc, what)?,
+        told,
         outcome: Outcome::Refused,
     })
 }
 
+/// The answer to an argument whose text has this first fault.
+pub(crate) fn text_fault(
+    alloc: Global,
+    what: &str,
+    argument: &str,
+    text_fault: TextFault,
+    place: u64,
+) -> Result<Answer, Failure>
+    ensures ok { IfOk result (λ answer. IsFault (fault_line_of what.now) (told_line_of argument.now (fault_text text_fault place)) (answer_of answer)) }
+    ensures err { IfErr result (λ failure. failure ≡ Failure.Run RunError.Memory) }
+{
+    fault(alloc, what, told_fault(alloc, argument, text_fault, place)?)
+}
+
 /// The answer to a descriptor's text with a fault.
 pub(crate) fn sddl_fault(alloc: Global, fault: TextFault, place: u64) -> Result<Answer, Failure>
-    ensures ok { IfOk result (λ answer. IsFault (sddl_fault_line_of fault place) (answer_of answer)) }
+    ensures ok { IfOk result (λ answer. IsFault (sddl_fault_line_of fault place) (told_line_of (codes "SDDL") (fault_text fault place)) (answer_of answer)) }
     ensures err { IfErr result (λ failure. failure ≡ Failure.Run RunError.Memory) }
 {
     Ok(Answer {
         text: sddl_fault_line(alloc, fault, place)?,
+        told: told_fault(alloc, "SDDL", fault, place)?,
         outcome: Outcome::Refused,
     })
 }

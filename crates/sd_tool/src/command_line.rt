@@ -1,9 +1,10 @@
 //! The reading of a command line: what its words ask for.
-ghost use Rattle.std.specs.Prelude.{◌≡◌, Some, option_map};
-ghost use Rattle.sd_tool.specs.CommandLine.{Help, arguments_in as arguments_of, command_in as command_at, command_line_of, command_named, command_on as command_of, count_of, explains as explains_of, help_on as help_of, invocation_of, is_help_flag as is_help_flag_of, reading, reads_text as reads_text_of, run_by as run_of, shown_by as shown_of, takes, workers_of};
+ghost use Rattle.std.specs.Prelude.{◌≡◌, Some, false, option_map};
+ghost use Rattle.sd_tool.specs.CommandLine.{Each, Help, asked_by as asked_of, arguments_in as arguments_of, command_in as command_at, command_line_of, command_named, command_on as command_of, count_of, each_in as each_at, each_on as each_of, explains as explains_of, help_on as help_of, invocation_of, of_line as invocation_on, request_in as request_at, request_of, request_on as request_by, is_help_flag as is_help_flag_of, is_script, maps as maps_of, reading, reads_bytes as reads_bytes_of, reads_text as reads_text_of, run_by as run_of, shown_by as shown_of, takes, workers_of};
 ghost use Rattle.sd_tool.specs.Options.{options_of};
 
 use crate::options::{Options, options_in};
+use sd_each::Ending;
 
 /// A command of the program.
 #[derive(Clone, Copy, Debug, PartialEq, Eq)]
@@ -26,6 +27,8 @@ pub(crate) enum CommandName {
     Serve,
     /// `audit`.
     Audit,
+    /// `each`.
+    Each,
 }
 
 /// What a command line asks for, and with which options.
@@ -66,7 +69,7 @@ pub(crate) enum Invocation<'a> {
     },
     /// The text of a descriptor in self-relative form.
     FromBinary {
-        hex: &'a str,
+        bytes: &'a str,
     },
     /// The output of the script on standard input.
     Script,
@@ -76,12 +79,69 @@ pub(crate) enum Invocation<'a> {
     Audit {
         workers: u64,
     },
+    /// What the request asks, of each line of standard input.
+    Each {
+        ending: Ending,
+        request: Request<'a>,
+    },
     /// The help on a command, or on the program.
     Help {
         command: Option<CommandName>,
     },
     /// The version of the program.
     Version,
+}
+
+/// A command with its arguments, but for the descriptor.
+#[derive(Clone, Copy, Debug)]
+pub(crate) enum Request<'a> {
+    /// `verdict`.
+    Verdict {
+        user: &'a str,
+        mask: &'a str,
+        words: &'a [&'a str],
+    },
+    /// `why`.
+    Why {
+        user: &'a str,
+        mask: &'a str,
+        words: &'a [&'a str],
+    },
+    /// `lint`.
+    Lint,
+    /// `print`.
+    Print,
+    /// `tobin`.
+    ToBinary,
+    /// `frombin`.
+    FromBinary,
+}
+
+impl<'a> Request<'a> {
+    /// The command with this descriptor.
+    pub(crate) fn of(self, line: &'a str) -> Invocation<'a>
+        ensures invocation { invocation_of result ≡ invocation_on (request_of self.entry) line.entry.now }
+        ensures no_input { is_script (invocation_of result) ≡ false }
+    {
+        match self {
+            Request::Verdict { user, mask, words } => Invocation::Verdict {
+                sddl: line,
+                user,
+                mask,
+                words,
+            },
+            Request::Why { user, mask, words } => Invocation::Why {
+                sddl: line,
+                user,
+                mask,
+                words,
+            },
+            Request::Lint => Invocation::Lint { sddl: line },
+            Request::Print => Invocation::Print { sddl: line },
+            Request::ToBinary => Invocation::ToBinary { sddl: line },
+            Request::FromBinary => Invocation::FromBinary { bytes: line },
+        }
+    }
 }
 
 impl CommandName {
@@ -98,17 +158,32 @@ impl CommandName {
             "script" => Some(CommandName::Script),
             "serve" => Some(CommandName::Serve),
             "audit" => Some(CommandName::Audit),
+            "each" => Some(CommandName::Each),
             _ => None,
         }
     }
 }
 
-impl Invocation<'_> {
+impl<'a> Invocation<'a> {
+    /// The one command: what is asked of a line, where it is asked of each.
+    fn asked(self) -> Invocation<'a>
+        ensures { invocation_of result ≡ asked_of (invocation_of self.entry) }
+    {
+        match self {
+            Invocation::Each { request, .. } => request.of(""),
+            _ => self,
+        }
+    }
+
     /// Whether each of the options is for what is asked.
     fn takes(self, options: Options<'_>) -> bool
         ensures { result ≡ takes (invocation_of self.entry) (options_of options.entry) }
     {
-        (self.explains() || !options.names) && (self.reads_text() || options.domain.is_none())
+        (self.explains() || !options.names)
+            && (self.reads_text() || options.domain.is_none())
+            && (self.maps() || options.mapping.is_none())
+            && (self.reads_text() || self.reads_bytes() || !options.without_sacl)
+            && (self.reads_bytes() || !options.base64)
     }
 
     /// Whether rights may be told by their names.
@@ -129,6 +204,23 @@ impl Invocation<'_> {
                 | Invocation::Lint { .. }
                 | Invocation::Print { .. }
                 | Invocation::ToBinary { .. }
+        )
+    }
+
+    /// Whether bytes are read.
+    fn reads_bytes(self) -> bool
+        ensures { result ≡ reads_bytes_of (invocation_of self.entry) }
+    {
+        matches!(self, Invocation::FromBinary { .. })
+    }
+
+    /// Whether generic rights are mapped ([MS-DTYP] 2.4.3).
+    fn maps(self) -> bool
+        ensures { result ≡ maps_of (invocation_of self.entry) }
+    {
+        matches!(
+            self,
+            Invocation::Verdict { .. } | Invocation::Why { .. } | Invocation::Lint { .. }
         )
     }
 }
@@ -168,7 +260,7 @@ fn run_by<'a>(words: &'a [&'a str]) -> Option<CommandLine<'a>>
 {
     let (options, words) = options_in(words)?;
     let invocation = command_in(words)?;
-    if !invocation.takes(options) {
+    if !invocation.asked().takes(options) {
         return None;
     }
     Some(CommandLine {
@@ -247,13 +339,60 @@ fn command_on<'a>(command: CommandName, arguments: &'a [&'a str]) -> Option<Invo
         (CommandName::Lint, [sddl]) => Some(Invocation::Lint { sddl }),
         (CommandName::Print, [sddl]) => Some(Invocation::Print { sddl }),
         (CommandName::ToBinary, [sddl]) => Some(Invocation::ToBinary { sddl }),
-        (CommandName::FromBinary, [hex]) => Some(Invocation::FromBinary { hex }),
+        (CommandName::FromBinary, [bytes]) => Some(Invocation::FromBinary { bytes }),
         (CommandName::Script, []) => Some(Invocation::Script),
         (CommandName::Serve, []) => Some(Invocation::Serve),
         (CommandName::Audit, [workers]) => match workers_in(workers) {
             Some(workers) => Some(Invocation::Audit { workers }),
             None => None,
         },
+        (CommandName::Each, words) => each_on(words),
+        _ => None,
+    }
+}
+
+/// What the words behind `each` ask for: first may stand `-0`.
+fn each_on<'a>(words: &'a [&'a str]) -> Option<Invocation<'a>>
+    ensures { option_map invocation_of result ≡ each_of words.entry.now }
+{
+    match words {
+        [word, words @ ..] if *word == "-0" => each_in(Ending::Zero, words),
+        _ => each_in(Ending::Feed, words),
+    }
+}
+
+fn each_in<'a>(ending: Ending, words: &'a [&'a str]) -> Option<Invocation<'a>>
+    ensures { option_map invocation_of result ≡ each_at ending words.entry.now }
+{
+    let request = request_in(words)?;
+    Some(Invocation::Each { ending, request })
+}
+
+/// The command that the words begin with, and its arguments but for the descriptor.
+fn request_in<'a>(words: &'a [&'a str]) -> Option<Request<'a>>
+    ensures { option_map request_of result ≡ request_at words.entry.now }
+{
+    match words {
+        [] => None,
+        [word, words @ ..] => match CommandName::named(word) {
+            Some(command) => request_on(command, arguments_in(words)),
+            None => None,
+        },
+    }
+}
+
+fn request_on<'a>(command: CommandName, arguments: &'a [&'a str]) -> Option<Request<'a>>
+    ensures { option_map request_of result ≡ request_by command arguments.entry.now }
+{
+    match (command, arguments) {
+        (CommandName::Verdict, [user, mask, words @ ..]) => {
+            Some(Request::Verdict { user, mask, words })
+        }
+        (CommandName::Why, [user, mask, words @ ..]) => Some(Request::Why { user, mask, words }),
+        (CommandName::Lint, []) => Some(Request::Lint),
+        (CommandName::Print, []) => Some(Request::Print),
+        (CommandName::ToBinary, []) => Some(Request::ToBinary),
+        (CommandName::FromBinary, []) => Some(Request::FromBinary),
         _ => None,
     }
 }

@@ -1,27 +1,33 @@
 //! The answers to `print`, `tobin` and `frombin`: a descriptor in another form.
-ghost use Rattle.std.specs.Prelude.{◌≡◌, IfErr, IfOk, string_bytes};
+ghost use Rattle.std.specs.Prelude.{◌≡◌, ◌++◌, IfErr, IfOk, codes, string_bytes};
+ghost use Rattle.sd_wire.specs.Reading.{descriptor_read};
 ghost use Rattle.sd_script.specs.Answer.{line};
-ghost use Rattle.sd_tool.specs.Answer.{AnswersPrint, AnswersToBinary, AnswersFromBinary, AnswersBytes, IsDone, IsFault, answer_of, wire_fault_line};
+ghost use Rattle.sd_tool.specs.Told.{told_line as told_line_of, wire_fault_text as wire_fault_text_of};
+ghost use Rattle.sd_tool.specs.Answer.{AnswersPrint, AnswersToBinary, AnswersFromBinary, AnswersBytes, AnswersRead, IsDone, IsFault, answer_of, wire_fault_line as wire_fault_line_of};
 
 use crate::answer::{Answer, Outcome, fault, sddl_fault};
+use crate::bytes::{BytesError, leave_out_sacl, read_bytes};
+use crate::descriptor::{noting, read_text};
 use crate::failure::Failure;
 use crate::options::Settings;
-use hex::FromHexError;
+use crate::told::told_line;
 use sd_stream::RunError;
-use sd_text::{TextError, print_sddl, read_sddl_in};
+use sd_text::{TextError, print_sddl};
 use sd_wire::{WireError, WireFault, read_descriptor, write_descriptor};
-use std::alloc::Global;
+use std::alloc::{AllocError, Global};
 
 /// The canonical text of a descriptor's text.
 pub(crate) fn answer_print(alloc: Global, settings: Settings, sddl: &str) -> Result<Answer, Failure>
     ensures ok { IfOk result (λ answer. AnswersPrint settings sddl.now (answer_of answer)) }
     ensures err { IfErr result (λ failure. failure ≡ Failure.Run RunError.Memory) }
 {
-    match read_sddl_in(alloc, settings.domain, sddl) {
-        Ok(descriptor) => printed(print_sddl(alloc, &descriptor)?),
-        Err(TextError::Fault { fault, place }) => sddl_fault(alloc, fault, place),
-        Err(TextError::Memory) => Err(Failure::Run(RunError::Memory)),
-    }
+    let read = match read_text(alloc, settings, sddl) {
+        Ok(read) => read,
+        Err(TextError::Fault { fault, place }) => return sddl_fault(alloc, fault, place),
+        Err(TextError::Memory) => return Err(Failure::Run(RunError::Memory)),
+    };
+    let answer = printed(alloc, print_sddl(alloc, &read.descriptor)?)?;
+    Ok(noting(alloc, "SDDL", read.left_out, answer)?)
 }
 
 /// The self-relative form of a descriptor's text, in hexadecimal.
@@ -33,60 +39,97 @@ pub(crate) fn answer_to_binary(
     ensures ok { IfOk result (λ answer. AnswersToBinary settings sddl.now (answer_of answer)) }
     ensures err { IfErr result (λ failure. failure ≡ Failure.Run RunError.Memory) }
 {
-    match read_sddl_in(alloc, settings.domain, sddl) {
-        Ok(descriptor) => {
-            let bytes = write_descriptor(alloc, &descriptor)?;
-            printed(hex::encode(alloc, bytes.as_slice())?)
-        }
-        Err(TextError::Fault { fault, place }) => sddl_fault(alloc, fault, place),
-        Err(TextError::Memory) => Err(Failure::Run(RunError::Memory)),
-    }
+    let read = match read_text(alloc, settings, sddl) {
+        Ok(read) => read,
+        Err(TextError::Fault { fault, place }) => return sddl_fault(alloc, fault, place),
+        Err(TextError::Memory) => return Err(Failure::Run(RunError::Memory)),
+    };
+    let bytes = write_descriptor(alloc, &read.descriptor)?;
+    let answer = printed(alloc, hex::encode(alloc, bytes.as_slice())?)?;
+    Ok(noting(alloc, "SDDL", read.left_out, answer)?)
 }
 
-/// The canonical text of the self-relative form in hexadecimal.
-pub(crate) fn answer_from_binary(alloc: Global, hex: &str) -> Result<Answer, Failure>
-    ensures ok { IfOk result (λ answer. AnswersFromBinary hex.now (answer_of answer)) }
+/// The canonical text of the self-relative form, whose bytes the text spells.
+pub(crate) fn answer_from_binary(
+    alloc: Global,
+    settings: Settings,
+    text: &str,
+) -> Result<Answer, Failure>
+    ensures ok { IfOk result (λ answer. AnswersFromBinary settings text.now (answer_of answer)) }
     ensures err { IfErr result (λ failure. failure ≡ Failure.Run RunError.Memory) }
 {
-    match hex::decode(alloc, hex) {
-        Ok(bytes) => answer_bytes(alloc, &bytes),
-        Err(FromHexError::OutOfMemory) => Err(Failure::Run(RunError::Memory)),
-        Err(_) => fault(alloc, "hex"),
+    match read_bytes(alloc, settings.bytes, text) {
+        Ok(bytes) => answer_bytes(alloc, settings, bytes),
+        Err(BytesError::NoBytes(reason)) => fault(
+            alloc,
+            settings.bytes.name(),
+            told_line(alloc, "BYTES", reason.as_str())?,
+        ),
+        Err(BytesError::Memory) => Err(Failure::Run(RunError::Memory)),
     }
 }
 
-fn answer_bytes(alloc: Global, bytes: &[u8]) -> Result<Answer, Failure>
-    ensures ok { IfOk result (λ answer. AnswersBytes bytes.now (answer_of answer)) }
+/// The same of bytes, in which a SACL is passed over where that is asked for.
+fn answer_bytes(alloc: Global, settings: Settings, mut bytes: Vec<u8>) -> Result<Answer, Failure>
+    ensures ok { IfOk result (λ answer. AnswersBytes settings bytes.items (answer_of answer)) }
+    ensures err { IfErr result (λ failure. failure ≡ Failure.Run RunError.Memory) }
+{
+    if !settings.without_sacl {
+        return answer_held(alloc, &bytes);
+    }
+    let left_out = leave_out_sacl(&mut bytes);
+    let answer = answer_held(alloc, &bytes)?;
+    Ok(noting(alloc, "BYTES", left_out, answer)?)
+}
+
+/// The canonical text of what the bytes hold.
+fn answer_held(alloc: Global, bytes: &[u8]) -> Result<Answer, Failure>
+    ensures ok { IfOk result (λ answer. AnswersRead (descriptor_read bytes.now) (answer_of answer)) }
     ensures err { IfErr result (λ failure. failure ≡ Failure.Run RunError.Memory) }
 {
     match read_descriptor(alloc, bytes) {
-        Ok(descriptor) => printed(print_sddl(alloc, &descriptor)?),
+        Ok(descriptor) => printed(alloc, print_sddl(alloc, &descriptor)?),
         Err(WireError::Fault(fault)) => wire_fault(alloc, fault),
         Err(WireError::Memory) => Err(Failure::Run(RunError::Memory)),
     }
 }
 
 /// The answer that is a line of this text.
-fn printed(mut text: String) -> Result<Answer, Failure>
+fn printed(alloc: Global, mut text: String) -> Result<Answer, Failure>
     ensures ok { IfOk result (λ answer. IsDone (line (string_bytes text)) (answer_of answer)) }
     ensures err { IfErr result (λ failure. failure ≡ Failure.Run RunError.Memory) }
 {
     text.push_str("\n")?;
-    Ok(Answer {
-        text,
-        outcome: Outcome::Done,
-    })
+    Ok(Answer::done(alloc, text))
 }
 
 /// The answer to bytes that hold no descriptor.
 fn wire_fault(alloc: Global, fault: WireFault) -> Result<Answer, Failure>
-    ensures ok { IfOk result (λ answer. IsFault (wire_fault_line fault) (answer_of answer)) }
+    ensures ok { IfOk result (λ answer. IsFault (wire_fault_line_of fault) (told_line_of (codes "BYTES") (wire_fault_text_of fault)) (answer_of answer)) }
     ensures err { IfErr result (λ failure. failure ≡ Failure.Run RunError.Memory) }
+{
+    let what = wire_fault_text(alloc, fault)?;
+    let what = what.as_str();
+    Ok(Answer {
+        text: wire_fault_line(alloc, what)?,
+        told: told_line(alloc, "BYTES", what)?,
+        outcome: Outcome::Refused,
+    })
+}
+
+fn wire_fault_line(alloc: Global, what: &str) -> Result<String, AllocError>
+    ensures { IfOk result (λ text. string_bytes text ≡ line (codes "fault wire " ++ what.now)) }
+{
+    let text = format!(in alloc; "fault wire {what}\n")?;
+    Ok(text)
+}
+
+/// The fault by number and name.
+fn wire_fault_text(alloc: Global, fault: WireFault) -> Result<String, AllocError>
+    ensures { IfOk result (λ text. string_bytes text ≡ wire_fault_text_of fault) }
 {
     let number = fault.number();
     let name = fault.name();
-    Ok(Answer {
-        text: format!(in alloc; "fault wire {number} {name}\n")?,
-        outcome: Outcome::Refused,
-    })
+    let text = format!(in alloc; "{number} {name}")?;
+    Ok(text)
 }

@@ -12,20 +12,25 @@
 #![tactic(auto)]
 
 mod answer;
+mod bytes;
 mod command_line;
 mod convert;
+mod descriptor;
+mod each;
 mod failure;
 mod laws;
 mod lint;
+mod mapping;
 mod options;
 mod program;
 mod shown;
+mod told;
 mod usage;
 mod verdict;
 mod version;
 mod words;
 
-pub use laws::{dashes_keep_texts, help_stands_alone};
+pub use laws::{dashes_keep_texts, each_asks_the_command, help_stands_alone};
 pub use program::drive;
 pub use sd_script::run;
 pub use sd_script_audit::run_audit;

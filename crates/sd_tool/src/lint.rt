@@ -5,6 +5,7 @@ ghost use Rattle.sd_tool.specs.Answer.{AnswersLint, IsLinted, answer_of};
 ghost use Rattle.sd_tool.specs.Lint.{is_misplaced as is_misplaced_of, same_kind as same_kind_of, is_repeated as is_repeated_of, is_stranded as is_stranded_of, limits as limits_of, entry_head as entry_head_of, where_so, where_behind, shares_a_right as shares_a_right_of, covering_number as covering_number_of, covering_numbers as covering_numbers_of, is_useless as is_useless_of, entry_lines as entry_lines_of, list_lines as list_lines_of, dacl_lines as dacl_lines_of};
 
 use crate::answer::{Answer, Outcome, sddl_fault};
+use crate::descriptor::{noting, read_text};
 use crate::failure::Failure;
 use crate::options::Settings;
 use bitflags::Flags;
@@ -12,7 +13,7 @@ use sd_acl::{Ace, AceFlags, AceKind, Dacl};
 use sd_explain::{covers, is_dead};
 use sd_sid::GenericMapping;
 use sd_stream::RunError;
-use sd_text::{TextError, print_entry, read_sddl_in};
+use sd_text::{TextError, print_entry};
 use std::alloc::{AllocError, Global};
 
 /// The findings in a descriptor's text, or `clean`.
@@ -20,11 +21,13 @@ pub(crate) fn answer_lint(alloc: Global, settings: Settings, sddl: &str) -> Resu
     ensures ok { IfOk result (λ answer. AnswersLint settings sddl.now (answer_of answer)) }
     ensures err { IfErr result (λ failure. failure ≡ Failure.Run RunError.Memory) }
 {
-    match read_sddl_in(alloc, settings.domain, sddl) {
-        Ok(descriptor) => found(alloc, dacl_lines(alloc, &descriptor.dacl)?),
-        Err(TextError::Fault { fault, place }) => sddl_fault(alloc, fault, place),
-        Err(TextError::Memory) => Err(Failure::Run(RunError::Memory)),
-    }
+    let read = match read_text(alloc, settings, sddl) {
+        Ok(read) => read,
+        Err(TextError::Fault { fault, place }) => return sddl_fault(alloc, fault, place),
+        Err(TextError::Memory) => return Err(Failure::Run(RunError::Memory)),
+    };
+    let lines = dacl_lines(alloc, &settings.mapping, &read.descriptor.dacl)?;
+    Ok(noting(alloc, "SDDL", read.left_out, found(alloc, lines)?)?)
 }
 
 /// The findings, or that there are none.
@@ -33,34 +36,36 @@ fn found(alloc: Global, lines: String) -> Result<Answer, Failure>
     ensures err { IfErr result (λ failure. failure ≡ Failure.Run RunError.Memory) }
 {
     if lines.is_empty() {
-        Ok(Answer {
-            text: String::from_str(alloc, "clean\n")?,
-            outcome: Outcome::Done,
-        })
+        Ok(Answer::done(alloc, String::from_str(alloc, "clean\n")?))
     } else {
         Ok(Answer {
             text: lines,
+            told: String::new(alloc),
             outcome: Outcome::Refused,
         })
     }
 }
 
-fn dacl_lines(alloc: Global, dacl: &Dacl) -> Result<String, AllocError>
-    ensures { IfOk result (λ text. string_bytes text ≡ dacl_lines_of dacl.now) }
+fn dacl_lines(alloc: Global, mapping: &GenericMapping, dacl: &Dacl) -> Result<String, AllocError>
+    ensures { IfOk result (λ text. string_bytes text ≡ dacl_lines_of mapping.now dacl.now) }
 {
     match dacl {
         Dacl::Absent => String::from_str(alloc, "no DACL grants everything\n"),
         Dacl::Null => String::from_str(alloc, "a null DACL grants everything\n"),
-        Dacl::List(list) => list_lines(alloc, list.entries()),
+        Dacl::List(list) => list_lines(alloc, mapping, list.entries()),
     }
 }
 
-fn list_lines(alloc: Global, entries: &[Ace]) -> Result<String, AllocError>
-    ensures { IfOk result (λ text. string_bytes text ≡ list_lines_of entries.now (length entries.now)) }
+fn list_lines(
+    alloc: Global,
+    mapping: &GenericMapping,
+    entries: &[Ace],
+) -> Result<String, AllocError>
+    ensures { IfOk result (λ text. string_bytes text ≡ list_lines_of mapping.now entries.now (length entries.now)) }
 {
     let mut text = String::new(alloc);
     for place in 0..entries.len() {
-        let lines = entry_lines(alloc, entries, place, &entries[place])?;
+        let lines = entry_lines(alloc, mapping, entries, place, &entries[place])?;
         text.push_str(lines.as_str())?;
     }
     Ok(text)
@@ -70,12 +75,13 @@ fn list_lines(alloc: Global, entries: &[Ace]) -> Result<String, AllocError>
 #[tactic(auto, unfolding(crate::specs::Lint::entry_lines))]
 fn entry_lines(
     alloc: Global,
+    mapping: &GenericMapping,
     entries: &[Ace],
     place: usize,
     entry: &Ace,
 ) -> Result<String, AllocError>
     requires { place < length entries.now }
-    ensures { IfOk result (λ text. string_bytes text ≡ entry_lines_of entries.now place entry.now) }
+    ensures { IfOk result (λ text. string_bytes text ≡ entry_lines_of mapping.now entries.now place entry.now) }
 {
     let mut text = String::new(alloc);
     let head = entry_head(alloc, place, entry)?;
@@ -97,8 +103,8 @@ fn entry_lines(
     )?;
     let repeated = first_repeated(&entries[..place], entry);
     push_behind(alloc, &mut text, repeated, head, "repeats entry ")?;
-    let behind = covering_text(alloc, entries, place, entry)?;
-    let useless = is_useless(entries, place, entry);
+    let behind = covering_text(alloc, mapping, entries, place, entry)?;
+    let useless = is_useless(mapping, entries, place, entry);
     push_where(&mut text, useless, head, behind.as_str())?;
     push_where(&mut text, limits(entry), head, "limits the owner")?;
     Ok(text)
@@ -239,25 +245,26 @@ fn limits(entry: &Ace) -> bool
 }
 
 /// Whether the entry names rights, and never decides one.
-fn is_useless(entries: &[Ace], place: usize, entry: &Ace) -> bool
-    ensures { result ≡ is_useless_of entries.now place entry.now }
+fn is_useless(mapping: &GenericMapping, entries: &[Ace], place: usize, entry: &Ace) -> bool
+    ensures { result ≡ is_useless_of mapping.now entries.now place entry.now }
 {
-    !entry.mask.is_empty() && is_dead(entries, place, &GenericMapping::file())
+    !entry.mask.is_empty() && is_dead(entries, place, mapping)
 }
 
 /// That an entry decides nothing, and the numbers of the entries before the place that cover it.
 fn covering_text(
     alloc: Global,
+    mapping: &GenericMapping,
     entries: &[Ace],
     place: usize,
     entry: &Ace,
 ) -> Result<String, AllocError>
     requires { place ≤ length entries.now }
-    ensures { IfOk result (λ text. string_bytes text ≡ codes "decides nothing behind" ++ covering_numbers_of entries.now entry.now place) }
+    ensures { IfOk result (λ text. string_bytes text ≡ codes "decides nothing behind" ++ covering_numbers_of mapping.now entries.now entry.now place) }
 {
     let mut text = String::from_str(alloc, "decides nothing behind")?;
     for index in 0..place {
-        let number = covering_number(alloc, entry, index, &entries[index])?;
+        let number = covering_number(alloc, mapping, entry, index, &entries[index])?;
         text.push_str(number.as_str())?;
     }
     Ok(text)
@@ -266,14 +273,15 @@ fn covering_text(
 /// The entry's number, where it covers the later one.
 fn covering_number(
     alloc: Global,
+    mapping: &GenericMapping,
     later: &Ace,
     place: usize,
     entry: &Ace,
 ) -> Result<String, AllocError>
     requires { place < 2 ^ 63 }
-    ensures { IfOk result (λ text. string_bytes text ≡ covering_number_of later.now place (Some entry.now)) }
+    ensures { IfOk result (λ text. string_bytes text ≡ covering_number_of mapping.now later.now place (Some entry.now)) }
 {
-    if !covers(entry, later) || !shares_a_right(entry, later) {
+    if !covers(entry, later) || !shares_a_right(mapping, entry, later) {
         return Ok(String::new(alloc));
     }
     let number = place + 1;
@@ -282,10 +290,9 @@ fn covering_number(
 }
 
 /// Whether both entries name some right.
-fn shares_a_right(earlier: &Ace, later: &Ace) -> bool
-    ensures { result ≡ shares_a_right_of earlier.now later.now }
+fn shares_a_right(mapping: &GenericMapping, earlier: &Ace, later: &Ace) -> bool
+    ensures { result ≡ shares_a_right_of mapping.now earlier.now later.now }
 {
-    let mapping = GenericMapping::file();
     let both = mapping.map(earlier.mask).common(mapping.map(later.mask));
     !both.is_empty()
 }

@@ -1,12 +1,13 @@
 //! What may stand between the program's name and the command, and what it says.
-ghost use Rattle.std.specs.Prelude.{◌≡◌, IfNone, IfSome, option_map};
+ghost use Rattle.std.specs.Prelude.{◌≡◌, IfErr, IfNone, IfOk, IfSome, option_map};
 ghost use Rattle.sd_text.specs.Domain.{domain_sid};
 ghost use Rattle.sd_text.specs.Grammar.{Spells};
 ghost use Rattle.sd_text.specs.Sid.{sid_text};
-ghost use Rattle.sd_text.specs.declared.domain.Domain.{Domain as DomainValue};
-ghost use Rattle.sd_tool.specs.Options.{AreSettings, GivesNoDomain, no_options, flag_named, setting_named, options_in as options_at, options_of, parted, spelling_of, with_flag as with_flag_of, with_setting as with_setting_of};
+ghost use Rattle.sd_tool.specs.Options.{AreSettings, GivesDomain, HasBadValue, IsNoDomain, byte_form_of, no_options, flag_named, setting_named, options_in as options_at, options_of, parted, spelling_of, with_flag as with_flag_of, with_setting as with_setting_of};
 
+use crate::mapping::mapping_given;
 use sd_script::Spelling;
+use sd_sid::GenericMapping;
 use sd_text::{Domain, read_sid_text};
 
 /// An option without a value.
@@ -14,6 +15,10 @@ use sd_text::{Domain, read_sid_text};
 pub(crate) enum Flag {
     /// `--names`.
     Names,
+    /// `--without-sacl`.
+    WithoutSacl,
+    /// `--base64`.
+    Base64,
 }
 
 /// An option whose value is the next word.
@@ -21,6 +26,26 @@ pub(crate) enum Flag {
 pub(crate) enum Setting {
     /// `--domain`.
     InDomain,
+    /// `--mapping`.
+    Mapping,
+}
+
+/// How the bytes of a descriptor are spelled.
+#[derive(Clone, Copy, Debug, PartialEq, Eq)]
+pub(crate) enum ByteForm {
+    /// In hexadecimal, two digits a byte.
+    Hex,
+    /// In base64 (RFC 4648, section 4).
+    Base64,
+}
+
+/// The value of an option that isn't read.
+#[derive(Clone, Copy, Debug)]
+pub(crate) enum BadValue<'a> {
+    /// The value of `--domain` is no domain's SID.
+    NoDomain(&'a str),
+    /// The value of `--mapping` is no mapping.
+    NoMapping,
 }
 
 /// The options of a command line. Each stands before the command, at most once.
@@ -28,8 +53,14 @@ pub(crate) enum Setting {
 pub(crate) struct Options<'a> {
     /// `--names`: rights are told by their names.
     pub(crate) names: bool,
+    /// `--without-sacl`: a SACL is left out.
+    pub(crate) without_sacl: bool,
+    /// `--base64`: bytes in base64.
+    pub(crate) base64: bool,
     /// `--domain SID`: the aliases of a domain are read as SIDs of this one.
     pub(crate) domain: Option<&'a str>,
+    /// `--mapping KIND`: what the generic rights stand for.
+    pub(crate) mapping: Option<&'a str>,
 }
 
 /// What the options say.
@@ -39,6 +70,12 @@ pub(crate) struct Settings {
     pub(crate) spelling: Spelling,
     /// Whose the aliases of domains are.
     pub(crate) domain: Option<Domain>,
+    /// What the generic rights stand for.
+    pub(crate) mapping: GenericMapping,
+    /// Whether a SACL is left out.
+    pub(crate) without_sacl: bool,
+    /// How bytes are spelled.
+    pub(crate) bytes: ByteForm,
 }
 
 impl Flag {
@@ -47,6 +84,8 @@ impl Flag {
     {
         match word {
             "--names" => Some(Flag::Names),
+            "--without-sacl" => Some(Flag::WithoutSacl),
+            "--base64" => Some(Flag::Base64),
             _ => None,
         }
     }
@@ -58,6 +97,7 @@ impl Setting {
     {
         match word {
             "--domain" => Some(Setting::InDomain),
+            "--mapping" => Some(Setting::Mapping),
             _ => None,
         }
     }
@@ -70,7 +110,10 @@ impl<'a> Options<'a> {
     {
         Options {
             names: false,
+            without_sacl: false,
+            base64: false,
             domain: None,
+            mapping: None,
         }
     }
 
@@ -83,6 +126,20 @@ impl<'a> Options<'a> {
                 true => None,
                 false => Some(Options {
                     names: true,
+                    ..self
+                }),
+            },
+            Flag::WithoutSacl => match self.without_sacl {
+                true => None,
+                false => Some(Options {
+                    without_sacl: true,
+                    ..self
+                }),
+            },
+            Flag::Base64 => match self.base64 {
+                true => None,
+                false => Some(Options {
+                    base64: true,
                     ..self
                 }),
             },
@@ -101,22 +158,56 @@ impl<'a> Options<'a> {
                     ..self
                 }),
             },
+            Setting::Mapping => match self.mapping {
+                Some(_) => None,
+                None => Some(Options {
+                    mapping: Some(value),
+                    ..self
+                }),
+            },
         }
     }
 
-    /// What they say. `None`: the value of `--domain` is no domain's SID ([MS-DTYP] 2.4.2.4).
-    pub(crate) fn settings(self) -> Option<Settings>
-        ensures settings { IfSome result (AreSettings (options_of self.entry)) }
-        ensures none { IfNone result (GivesNoDomain (options_of self.entry).domain) }
+    /// What they say, or whose value isn't read: first `--domain`'s, which is a domain's SID ([MS-DTYP] 2.4.2.4).
+    pub(crate) fn settings(self) -> Result<Settings, BadValue<'a>>
+        ensures settings { IfOk result (AreSettings (options_of self.entry)) }
+        ensures bad { IfErr result (HasBadValue (options_of self.entry)) }
     {
-        let domain = match self.domain {
-            None => None,
-            Some(text) => Some(domain_in(text)?),
+        let domain = self.domain_given()?;
+        let Some(mapping) = mapping_given(self.mapping) else {
+            return Err(BadValue::NoMapping);
         };
-        Some(Settings {
+        Ok(Settings {
             spelling: self.spelling(),
             domain,
+            mapping,
+            without_sacl: self.without_sacl,
+            bytes: self.byte_form(),
         })
+    }
+
+    /// The domain whose SID is given, if one is.
+    fn domain_given(self) -> Result<Option<Domain>, BadValue<'a>>
+        ensures given { IfOk result (GivesDomain (options_of self.entry).domain) }
+        ensures bad { IfErr result (HasBadValue (options_of self.entry)) }
+    {
+        match self.domain {
+            None => Ok(None),
+            Some(text) => match domain_in(text) {
+                Some(domain) => Ok(Some(domain)),
+                None => Err(BadValue::NoDomain(text)),
+            },
+        }
+    }
+
+    fn byte_form(self) -> ByteForm
+        ensures { result ≡ byte_form_of (options_of self.entry) }
+    {
+        if self.base64 {
+            ByteForm::Base64
+        } else {
+            ByteForm::Hex
+        }
     }
 
     fn spelling(self) -> Spelling
@@ -133,7 +224,7 @@ impl<'a> Options<'a> {
 /// The domain whose SID the text spells.
 fn domain_in(text: &str) -> Option<Domain>
     ensures domain { IfSome result (λ domain. Spells sid_text text.now (domain_sid domain)) }
-    ensures none { IfNone result ((domain : DomainValue) → Spells sid_text text.now (domain_sid domain) → ⊥) }
+    ensures none { IfNone result (IsNoDomain text.now) }
 {
     match read_sid_text(text) {
         Ok(sid) => Domain::new(&sid),

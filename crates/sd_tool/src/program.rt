@@ -1,15 +1,16 @@
 //! The program over any words and streams: words in, an answer and a status out.
-ghost use Rattle.std.specs.Prelude.{◌≡◌, ◌≤◌, ◌⊎◌, ◌||◌, false, Err, IfErr, IfOk};
+ghost use Rattle.std.specs.Prelude.{◌≡◌, ◌≤◌, ◌⊎◌, ◌||◌, ℕ, List, [], false, Err, IfErr, IfOk, string_bytes};
 ghost use Rattle.std.specs.Io.KnownBytes.{Keeps};
 ghost use Rattle.sd_stream.specs.Watched.{has_failed, inner_of};
 ghost use Rattle.sd_stream.specs.Whole.{AppendsBeginning, ReadsPart};
 ghost use Rattle.sd_stream.specs.declared.error.RunError.{RunError as Error};
 ghost use Rattle.sd_tool.specs.CommandLine.{IsAudit, IsUnread, asks_input};
-ghost use Rattle.sd_tool.specs.Output.{AppendsAnswer, AppendsPartOfAnswer, IsDue, LeavesAtFailure, LeavesServed, blames_reader, blames_writer, error_line};
+ghost use Rattle.sd_tool.specs.Output.{AppendsAnswer, AppendsPartOfAnswer, IsDue, LeavesAtFailure, LeavesByLine, blames_reader, blames_writer, error_line};
 ghost use Rattle.sd_tool.specs.Status.{outcome_status};
 
 use crate::answer::{Answer, Outcome, answer_to};
 use crate::command_line::{Invocation, read_command_line};
+use crate::each::{Question, answer_each};
 use crate::failure::Failure;
 use crate::usage::refusal;
 use sd_script::run;
@@ -23,7 +24,7 @@ use std::sync::Wait;
 use std::thread::Threads;
 
 /// Does what the program does with these words, of which the first is its name, and with these
-/// streams, and answers the status with which it ends. Only `script`, `serve` and `audit` use
+/// streams, and answers the status with which it ends. Only `script`, `serve`, `audit` and `each` use
 /// `reader`, and only `audit` starts threads and waits for them.
 ///
 /// - 0: the text was printed, or the right granted, or the script carried out to its end. Help and
@@ -42,10 +43,10 @@ pub fn drive<T: Threads + Wait + Sync, R: Read, W: Write, E: Write>(
     errors: &mut Watched<E>,
 ) -> u8
     ensures statuses { result ≤ 3 }
-    ensures answered { result ≤ 1 → AppendsAnswer words.now (R.remaining (inner_of reader.old))
-        (W.contents (inner_of writer.old)) (W.contents (inner_of writer.new)) result }
-    ensures quiet { result ≤ 1
-        → Keeps (E.contents (inner_of errors.old)) (E.contents (inner_of errors.new)) }
+    ensures answered { result ≤ 1 → (told : List ℕ)
+        × AppendsAnswer words.now (R.remaining (inner_of reader.old))
+        (W.contents (inner_of writer.old)) (W.contents (inner_of writer.new)) told result
+        × AppendsBeginning (E.contents (inner_of errors.old)) (E.contents (inner_of errors.new)) told }
     ensures unread { result ≡ 2 → IsUnread words.now
         × Keeps (W.contents (inner_of writer.old)) (W.contents (inner_of writer.new)) }
     ensures refused { IsUnread words.now → (2 ≤ result)
@@ -54,7 +55,7 @@ pub fn drive<T: Threads + Wait + Sync, R: Read, W: Write, E: Write>(
         → Keeps (W.contents (inner_of writer.old)) (W.contents (inner_of writer.new))
         ⊎ (AppendsPartOfAnswer words.now (R.remaining (inner_of reader.old))
         (W.contents (inner_of writer.old)) (W.contents (inner_of writer.new))
-        ⊎ ((error : Error) × LeavesServed words.now (R.remaining (inner_of reader.old)) (R.remaining (inner_of reader.new))
+        ⊎ ((error : Error) × LeavesByLine words.now (R.remaining (inner_of reader.old)) (R.remaining (inner_of reader.new))
         (W.contents (inner_of writer.old)) (W.contents (inner_of writer.new)) error)) }
     ensures told { result ≡ 3 → (error : Error)
         × IsDue words.now (has_failed reader.old) (has_failed reader.new)
@@ -67,24 +68,54 @@ pub fn drive<T: Threads + Wait + Sync, R: Read, W: Write, E: Write>(
     ensures unused { asks_input words.now ≡ false → reader.new ≡ reader.old }
 {
     match carry_out(rt, alloc, words, reader, writer) {
-        Ok(outcome) => outcome.status(),
+        Ok(Ended { told, outcome }) => {
+            tell(errors, told.as_str());
+            outcome.status()
+        }
         Err(failure) => {
-            // The status stands, also where the errors can't be written.
-            let _ = write_whole(errors, failure.text().as_bytes());
+            tell(errors, failure.text());
             failure.status()
         }
     }
 }
 
+/// Tells standard error. What stands, stands also where the errors can't be written.
+fn tell<E: Write>(errors: &mut Watched<E>, text: &str)
+    ensures { AppendsBeginning (E.contents (inner_of errors.old)) (E.contents (inner_of errors.new)) text.now }
+{
+    let _ = write_whole(errors, text.as_bytes());
+}
+
+/// What came of a run, and what standard error is told beside its output.
+#[derive(Debug, Drop)]
+struct Ended {
+    told: String,
+    outcome: Outcome,
+}
+
+impl Ended {
+    /// Nothing is told beside the output.
+    fn quiet(alloc: Global, outcome: Outcome) -> Ended
+        ensures told { string_bytes result.told ≡ [] }
+        ensures outcome { result.outcome ≡ outcome }
+    {
+        Ended {
+            told: String::new(alloc),
+            outcome,
+        }
+    }
+}
+
+#[tactic(auto, using(crate::proofs::Telling::leaves_script, crate::proofs::Telling::leaves_audit, crate::proofs::Telling::leaves_write))]
 fn carry_out<T: Threads + Wait + Sync, R: Read, W: Write>(
     rt: &T,
     alloc: Global,
     words: &[&str],
     reader: &mut Watched<R>,
     writer: &mut Watched<W>,
-) -> Result<Outcome, Failure>
-    ensures ok { IfOk result (λ outcome. AppendsAnswer words.now (R.remaining (inner_of reader.old))
-        (W.contents (inner_of writer.old)) (W.contents (inner_of writer.new)) (outcome_status outcome)) }
+) -> Result<Ended, Failure>
+    ensures ok { IfOk result (λ ended. AppendsAnswer words.now (R.remaining (inner_of reader.old))
+        (W.contents (inner_of writer.old)) (W.contents (inner_of writer.new)) (string_bytes ended.told) (outcome_status ended.outcome)) }
     ensures err { IfErr result (LeavesAtFailure words.now (R.remaining (inner_of reader.old)) (R.remaining (inner_of reader.new))
         (W.contents (inner_of writer.old)) (W.contents (inner_of writer.new))) }
     ensures read { has_failed reader.new ≡ (has_failed reader.old || blames_reader result) }
@@ -99,19 +130,31 @@ fn carry_out<T: Threads + Wait + Sync, R: Read, W: Write>(
     };
     if let Invocation::Script = line.invocation {
         run(alloc, reader, writer)?;
-        return Ok(Outcome::Done);
+        return Ok(Ended::quiet(alloc, Outcome::Done));
     }
     if let Invocation::Serve = line.invocation {
         serve(alloc, reader, writer)?;
-        return Ok(Outcome::Done);
+        return Ok(Ended::quiet(alloc, Outcome::Done));
     }
     if let Invocation::Audit { workers } = line.invocation {
         run_audit(rt, alloc, workers, reader, writer, &OpenGate)?;
-        return Ok(Outcome::Done);
+        return Ok(Ended::quiet(alloc, Outcome::Done));
     }
-    let Answer { text, outcome } = answer_to(alloc, line)?;
+    if let Invocation::Each { ending, request } = line.invocation {
+        let question = Question {
+            options: line.options,
+            request,
+        };
+        let outcome = answer_each(alloc, question, ending, reader, writer)?;
+        return Ok(Ended::quiet(alloc, outcome));
+    }
+    let Answer {
+        text,
+        told,
+        outcome,
+    } = answer_to(alloc, line)?;
     write_whole(writer, text.as_bytes())?;
-    Ok(outcome)
+    Ok(Ended { told, outcome })
 }
 
 #[cfg(test)]

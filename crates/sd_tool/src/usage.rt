@@ -10,7 +10,8 @@ use std::alloc::{AllocError, Global};
 const NOTES: &str = "\
 Statuses:
   0  the text was printed, the right granted, or the script carried out to its end
-  1  an argument's fault was printed, or a verdict other than granted
+  1  an argument's fault was printed, and standard error has which it is, or a verdict other than
+     granted
   2  the words aren't a command line
   3  memory was wanting, the input wasn't read or too long, the output didn't take the answer, or
      an audit's workers got no answers
@@ -23,8 +24,13 @@ A first '--' after 'verdict' is dropped, and every word after it is an argument:
 'sdstore verdict -- \"$sddl\" ..' where a text comes from outside. Options stand before 'verdict':
 'sdstore help' tells them.
 
-Generic rights are mapped as those of files:
-  GR 0x120089  GW 0x120116  GX 0x1200a0  GA 0x1f01ff
+Generic rights are mapped by '--mapping', and without it as those of files:
+  file     GR 0x120089  GW 0x120116  GX 0x1200a0  GA 0x1f01ff
+  key      GR 0x20019   GW 0x20006   GX 0x20019   GA 0xf003f
+  service  GR 0x2008d   GW 0x20002   GX 0x20170   GA 0xf01ff
+  process  GR 0x20410   GW 0x20bea   GX 0x121001  GA 0x1fffff
+  R,W,X,A  these four masks, spelled as MASK, each within 0x1fffff
+The most that is granted is asked for by 0x02000000, MAXIMUM_ALLOWED, which has no name.
 
 Statuses:
   0  granted
@@ -88,7 +94,7 @@ Example:
   sdstore tobin O:BA";
 
 const FROM_BINARY_NOTES: &str = "\
-A first '--' after 'frombin' is dropped.
+A first '--' after 'frombin' is dropped. Options stand before 'frombin': 'sdstore help' tells them.
 
 Example:
   sdstore frombin 010000801400000000000000000000000000000001020000000000052000000020020000";
@@ -146,6 +152,28 @@ Statuses:
 Example:
   printf 'open 1 O:BAG:SYD:\\naddo /a O:BAG:SYD:(A;;FR;;;WD)\\ncheck 0 /a SY FR WD\\n' | sdstore audit 4";
 
+const EACH_NOTES: &str = "\
+Each line of standard input takes the place of the descriptor, the first argument of the command,
+and is answered as the command answers it, a fault too, in order. What ends in the bytes of one
+read is answered before more is read: a program may ask a line, wait for its answer and ask the
+next. The answers of 'why' and 'lint', which may have several lines, end by an empty line.
+
+A line ends by a line feed, before which one carriage return is dropped, or with '-0' by a zero
+byte; the last may lack its end. A byte order mark before the first line is dropped. A line of
+more than 16777216 bytes is answered by 'fault long', and one that isn't UTF-8 by 'fault utf8'.
+
+'-0' stands before the command of 'each' and nowhere else, and all other options before 'each'.
+Behind the command a first '--' is dropped, and every other word is an argument.
+
+Statuses:
+  0  each line was answered with status 0
+  1  a line was answered with status 1
+  2  the words aren't a command line
+  3  memory was wanting, the input wasn't read, or the output didn't take an answer
+
+Example:
+  printf 'D:(A;;FR;;;WD)\nD:(A;;FX;;;WD)\n' | sdstore each verdict S-1-5-21-1-2-3-1001 0x1 WD";
+
 const USER: &str = "The user's SID: in full, as S-1-5-21-1-2-3-1001, or an alias, as SY";
 
 const MASK: &str = "\
@@ -163,6 +191,17 @@ SID=restrict  a restricting SID, no group: access is asked a second time for the
 
 const NAMES: &str = "Before 'why': tells rights by their names, as FR+WD in place of 0x160089";
 
+const WITHOUT_SACL: &str = "\
+Before a command that reads a descriptor: leaves out a section S: of audit and label entries, or the
+SACL in bytes, and tells of it on standard error";
+
+const BASE64: &str = "Before 'frombin': the bytes are in base64";
+
+const MAPPING: &str = "\
+Before 'verdict', 'why' and 'lint': what generic rights stand for: those of a file (as without this
+option), of a key of the registry, of a service or of a process, or R,W,X,A, the four masks of GR, GW,
+GX and GA";
+
 const DOMAIN: &str = "\
 Before a command that reads SDDL: the aliases of a domain's accounts and groups, as DA, are read as
 SIDs of the domain with this SID, S-1-5-21 and three more numbers, as S-1-5-21-1-2-3";
@@ -170,7 +209,8 @@ SIDs of the domain with this SID, S-1-5-21 and three more numbers, as S-1-5-21-1
 // What is told of options that `clap` would take with any command, or with a `=` before the value.
 const OPTIONS: &str = "\
 an option stands before the command, once, and its value is the next word: '--names' is for 'why' \
-alone, and '--domain' for 'verdict', 'why', 'lint', 'print' and 'tobin'";
+alone, '--base64' for 'frombin', '--mapping' for 'verdict', 'why' and 'lint', '--domain' for these, \
+'print' and 'tobin', and '--without-sacl' for all of them";
 
 // What is told of words that `clap` would answer with help or the version.
 const STANDS_ALONE: &str = "\
@@ -180,6 +220,11 @@ by '--help' as the only word after a command, or by 'help' and a command";
 // What is told of an audit's words that `clap` would take: it knows no numbers.
 const WORKERS: &str =
     "the one argument of 'audit' is the number of workers: 1 to 64, in one or two decimal digits";
+
+// What is told of the words of a question that `clap` would take: it doesn't know how many arguments a command has.
+const QUESTION: &str = "\
+behind 'each' stand '-0' or nothing, and then 'verdict', 'why', 'lint', 'print', 'tobin' or \
+'frombin' with all its arguments but the descriptor";
 
 // What is told of other words that `clap` would take, since it drops a later `--` too.
 const LATER_DASHES: &str =
@@ -198,6 +243,7 @@ pub(crate) fn help(alloc: Global, command: Option<CommandName>) -> Result<String
         Some(CommandName::Script) => script_command(alloc)?,
         Some(CommandName::Serve) => serve_command(alloc)?,
         Some(CommandName::Audit) => audit_command(alloc)?,
+        Some(CommandName::Each) => each_command(alloc)?,
     };
     described.render_help()
 }
@@ -222,6 +268,10 @@ fn refusal_of<'a>(alloc: Global, words: &'a [&'a str]) -> Result<Error, AllocErr
             [_, "audit", ..] => {
                 let mut audit = audit_command(alloc)?;
                 audit.error(ErrorKind::ValueValidation, WORKERS)
+            }
+            [_, "each", ..] => {
+                let mut each = each_command(alloc)?;
+                each.error(ErrorKind::ValueValidation, QUESTION)
             }
             _ => sdstore.error(ErrorKind::UnknownArgument, LATER_DASHES),
         },
@@ -251,7 +301,10 @@ fn sdstore<'a>(alloc: Global) -> Result<Command<'a>, AllocError> {
         .subcommand_required(true)
         .after_help(NOTES)
         .arg(flag(alloc, "names").help(NAMES))?
+        .arg(flag(alloc, "without-sacl").help(WITHOUT_SACL))?
+        .arg(flag(alloc, "base64").help(BASE64))?
         .arg(setting(alloc, "domain", "SID").help(DOMAIN))?
+        .arg(setting(alloc, "mapping", "KIND").help(MAPPING))?
         .subcommand(verdict_command(alloc)?)?
         .subcommand(why_command(alloc)?)?
         .subcommand(lint_command(alloc)?)?
@@ -260,7 +313,8 @@ fn sdstore<'a>(alloc: Global) -> Result<Command<'a>, AllocError> {
         .subcommand(from_binary_command(alloc)?)?
         .subcommand(script_command(alloc)?)?
         .subcommand(serve_command(alloc)?)?
-        .subcommand(audit_command(alloc)?)
+        .subcommand(audit_command(alloc)?)?
+        .subcommand(each_command(alloc)?)
 }
 
 fn verdict_command<'a>(alloc: Global) -> Result<Command<'a>, AllocError> {
@@ -316,9 +370,9 @@ fn to_binary_command<'a>(alloc: Global) -> Result<Command<'a>, AllocError> {
 fn from_binary_command<'a>(alloc: Global) -> Result<Command<'a>, AllocError> {
     Command::new(alloc, "frombin")
         .about("Prints a descriptor in self-relative form as canonical SDDL")
-        .override_usage("sdstore frombin [--] <HEX>")
+        .override_usage("sdstore [OPTIONS] frombin [--] <BYTES>")
         .after_help(FROM_BINARY_NOTES)
-        .arg(text(alloc, "HEX").help("The bytes of the descriptor, in hexadecimal"))
+        .arg(text(alloc, "BYTES").help("The bytes of the descriptor, in hexadecimal"))
 }
 
 fn script_command<'a>(alloc: Global) -> Result<Command<'a>, AllocError> {
@@ -345,6 +399,26 @@ fn audit_command<'a>(alloc: Global) -> Result<Command<'a>, AllocError> {
         .override_usage("sdstore audit [--] <N>")
         .after_help(AUDIT_NOTES)
         .arg(text(alloc, "N").help("The number of workers, 1 to 64, in one or two decimal digits"))
+}
+
+fn each_command<'a>(alloc: Global) -> Result<Command<'a>, AllocError> {
+    Command::new(alloc, "each")
+        .about("Does what a command does, with each line of standard input as the descriptor")
+        .override_usage("sdstore [OPTIONS] each [-0] <COMMAND> [--] [ARG]...")
+        .after_help(EACH_NOTES)
+        .arg(
+            Arg::new(alloc, "zero")
+                .short('0')
+                .action(ArgAction::SetTrue)
+                .help("Lines end by zero bytes"),
+        )?
+        .arg(text(alloc, "COMMAND").help("verdict, why, lint, print, tobin or frombin"))?
+        .arg(
+            text(alloc, "ARG")
+                .required(false)
+                .num_args(0..)
+                .help("The command's arguments, but for the descriptor"),
+        )
 }
 
 // An option without a value, which stands before the command.

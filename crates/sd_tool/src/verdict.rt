@@ -1,21 +1,24 @@
 //! The answers to `verdict` and to `why`: whether a descriptor grants a mask to a user, and why.
-ghost use Rattle.std.specs.Prelude.{◌≡◌, IfErr, IfOk, string_bytes};
+ghost use Rattle.std.specs.Prelude.{◌≡◌, ◌<◌, IfErr, IfOk, length, string_bytes};
 ghost use Rattle.sd_acl.specs.Descriptor.{descriptor_of};
 ghost use Rattle.sd_check.specs.Check.{verdict as verdict_of};
 ghost use Rattle.sd_check.specs.Dacl.{dacl_entries};
-ghost use Rattle.sd_sid.specs.Mapping.{file_mapping};
-ghost use Rattle.sd_tool.specs.Answer.{AnswersVerdict, AnswersUser, AnswersMask, AnswersWords, answer_of, form_text, verdict_outcome};
+ghost use Rattle.sd_script.specs.Word.{texts};
+ghost use Rattle.sd_tool.specs.Answer.{AnswersVerdict, AnswersUser, AnswersMask, AnswersWords, IsWordFault, answer_of, form_text, verdict_outcome};
+ghost use Rattle.sd_tool.specs.Words.{IsFirstNoWordIn};
 
-use crate::answer::{Answer, Outcome, fault, sddl_fault};
+use crate::answer::{Answer, Outcome, fault, sddl_fault, text_fault};
+use crate::descriptor::{noting, read_text};
 use crate::failure::Failure;
 use crate::options::Settings;
+use crate::told::{told_line, word_argument, word_reason};
 use crate::words::token_in;
 use sd_acl::Descriptor;
 use sd_check::{Token, Verdict, check};
 use sd_script::{TokenError, verdict_line, why_text};
-use sd_sid::{GenericMapping, Mask, Sid};
+use sd_sid::{Mask, Sid};
 use sd_stream::RunError;
-use sd_text::{TextError, read_mask, read_sddl_in, read_sid_text_in};
+use sd_text::{TextError, read_mask, read_sid_text_in};
 use std::alloc::{AllocError, Global};
 
 /// What is told of a verdict.
@@ -40,11 +43,13 @@ pub(crate) fn answer_verdict(
     ensures ok { IfOk result (λ answer. AnswersVerdict settings form sddl.now user.now mask.now words.now (answer_of answer)) }
     ensures err { IfErr result (λ failure. failure ≡ Failure.Run RunError.Memory) }
 {
-    match read_sddl_in(alloc, settings.domain, sddl) {
-        Ok(descriptor) => verdict_for_user(alloc, settings, form, &descriptor, user, mask, words),
-        Err(TextError::Fault { fault, place }) => sddl_fault(alloc, fault, place),
-        Err(TextError::Memory) => Err(Failure::Run(RunError::Memory)),
-    }
+    let read = match read_text(alloc, settings, sddl) {
+        Ok(read) => read,
+        Err(TextError::Fault { fault, place }) => return sddl_fault(alloc, fault, place),
+        Err(TextError::Memory) => return Err(Failure::Run(RunError::Memory)),
+    };
+    let answer = verdict_for_user(alloc, settings, form, &read.descriptor, user, mask, words)?;
+    Ok(noting(alloc, "SDDL", read.left_out, answer)?)
 }
 
 fn verdict_for_user(
@@ -56,12 +61,13 @@ fn verdict_for_user(
     mask: &str,
     words: &[&str],
 ) -> Result<Answer, Failure>
-    ensures ok { IfOk result (λ answer. AnswersUser settings form (descriptor_of descriptor.now) user.now mask.now words.now (answer_of answer)) }
+    ensures ok { IfOk result (λ answer. AnswersUser settings form user.now mask.now words.now (descriptor_of descriptor.now) (answer_of answer)) }
     ensures err { IfErr result (λ failure. failure ≡ Failure.Run RunError.Memory) }
 {
     match read_sid_text_in(settings.domain, user) {
         Ok(user) => verdict_on_mask(alloc, settings, form, descriptor, user, mask, words),
-        Err(_) => fault(alloc, "sid"),
+        Err(TextError::Fault { fault, place }) => text_fault(alloc, "sid", "USER", fault, place),
+        Err(TextError::Memory) => Err(Failure::Run(RunError::Memory)),
     }
 }
 
@@ -79,7 +85,8 @@ fn verdict_on_mask(
 {
     match read_mask(mask) {
         Ok(asked) => verdict_with_words(alloc, settings, form, descriptor, user, asked, words),
-        Err(_) => fault(alloc, "mask"),
+        Err(TextError::Fault { fault, place }) => text_fault(alloc, "mask", "MASK", fault, place),
+        Err(TextError::Memory) => Err(Failure::Run(RunError::Memory)),
     }
 }
 
@@ -97,15 +104,38 @@ fn verdict_with_words(
 {
     match token_in(alloc, settings.domain, user, words) {
         Ok(token) => {
-            let verdict = check(descriptor, &GenericMapping::file(), &token, asked);
+            let verdict = check(descriptor, &settings.mapping, &token, asked);
             Ok(Answer {
                 text: text_of(alloc, settings, form, descriptor, &token, asked)?,
+                told: String::new(alloc),
                 outcome: outcome_of(verdict),
             })
         }
-        Err(TokenError::NoWord) => fault(alloc, "token"),
+        Err(TokenError::NoWord { place }) => word_fault(alloc, settings, words, place),
         Err(TokenError::Memory) => Err(Failure::Run(RunError::Memory)),
     }
+}
+
+/// The answer to words of which the one at the place is the first that is none.
+fn word_fault(
+    alloc: Global,
+    settings: Settings,
+    words: &[&str],
+    place: usize,
+) -> Result<Answer, Failure>
+    requires first { IsFirstNoWordIn settings.domain (texts words.now) place }
+    requires within { place < length words.now }
+    ensures ok { IfOk result (λ answer. IsWordFault settings (texts words.now) (answer_of answer)) }
+    ensures err { IfErr result (λ failure. failure ≡ Failure.Run RunError.Memory) }
+{
+    let word = words[place];
+    let argument = word_argument(alloc, place, word)?;
+    let reason = word_reason(alloc, settings.domain, word)?;
+    fault(
+        alloc,
+        "token",
+        told_line(alloc, argument.as_str(), reason.as_str())?,
+    )
 }
 
 /// The verdict's line, or with it the reasons.
@@ -121,10 +151,13 @@ fn text_of(
 {
     match form {
         Form::Short => {
-            let verdict = check(descriptor, &GenericMapping::file(), token, asked);
+            let verdict = check(descriptor, &settings.mapping, token, asked);
             verdict_line(alloc, verdict)
         }
-        Form::Explained => why_text(alloc, settings.spelling, descriptor, token, asked),
+        Form::Explained => {
+            let mapping = &settings.mapping;
+            why_text(alloc, mapping, settings.spelling, descriptor, token, asked)
+        }
     }
 }
 

@@ -1,8 +1,8 @@
 //! The words that make a token where a domain is given.
-ghost use Rattle.std.specs.Prelude.{◌≡◌, ◌≤◌, Err, IfOk, length, map, string_bytes};
+ghost use Rattle.std.specs.Prelude.{◌≡◌, ◌<◌, ◌≤◌, ℕ, Err, IfOk, length, map, string_bytes};
 ghost use Rattle.std.specs.Str.{IsCharBoundary};
 ghost use Rattle.sd_script.specs.Word.{texts};
-ghost use Rattle.sd_tool.specs.Words.{AreSpelledOut, HasNoWordIn, IsSpelledOut, IsTokenIn, sid_length as sid_length_of};
+ghost use Rattle.sd_tool.specs.Words.{AreSpelledOut, IsFirstNoWordIn, IsSpelledOut, IsTokenIn, sid_length as sid_length_of};
 
 use sd_check::Token;
 use sd_script::{TokenError, read_token};
@@ -18,7 +18,8 @@ pub(crate) fn token_in(
     words: &[&str],
 ) -> Result<Token, TokenError>
     ensures token { IfOk result (IsTokenIn domain user (texts words.now)) }
-    ensures no_word { result ≡ Err TokenError.NoWord → HasNoWordIn domain (texts words.now) }
+    ensures no_word { (place : ℕ) → result ≡ Err (TokenError.NoWord place) → IsFirstNoWordIn domain (texts words.now) place }
+    ensures within { (place : ℕ) → result ≡ Err (TokenError.NoWord place) → place < length words.now }
 {
     let Some(domain) = domain else {
         return read_token(alloc, user, words);
@@ -54,7 +55,7 @@ fn spelled_out_word(alloc: Global, domain: Domain, word: &str) -> Result<String,
 }
 
 /// How long the SID of a word is: as far as the first `=`, or all of it.
-fn sid_length(word: &str) -> usize
+pub(crate) fn sid_length(word: &str) -> usize
     ensures length { result ≡ sid_length_of word.now }
     ensures within { result ≤ length word.now }
     ensures boundary { IsCharBoundary word.now result }

@@ -1,13 +1,16 @@
 //! The program `sdstore`: the command line of `sd_tool` over the words and the streams of the process.
 #![tactic(auto)]
 
+mod terminal;
+
 use sd_tool::{Watched, drive};
 use std::env::Env;
-use std::io::{ErrorKind, Read, Write};
+use std::io::{ErrorKind, IsTerminal, Read, Write};
 use std::process::ExitCode;
 use std::sync::Wait;
 use std::thread::Threads;
 use std::{env, io};
+use terminal::{Coloured, reads_lines, shows_colours};
 
 fn main(rt: HostRuntime) -> ExitCode {
     match run(&rt, rt.stdin(), rt.stdout(), &mut rt.stderr()) {
@@ -25,21 +28,26 @@ fn main(rt: HostRuntime) -> ExitCode {
 
 // The status with which the program ends. An `Err` says that there are no words: an argument isn't
 // Unicode, or there is no memory for them.
-fn run<T: Env + AllocGlobal + Threads + Wait + Sync, R: Read + Drop, W: Write + Drop, E: Write>(
-    rt: &T,
-    input: R,
-    output: W,
-    errors: &mut E,
-) -> io::Result<u8> {
+fn run<T, R, W, E: Write>(rt: &T, input: R, output: W, errors: &mut E) -> io::Result<u8>
+where
+    T: Env + AllocGlobal + Threads + Wait + Sync,
+    R: Read + IsTerminal + Drop,
+    W: Write + IsTerminal + Drop,
+{
     let alloc = rt.alloc();
     let texts: Vec<String> = env::args(rt)?.collect(alloc)?;
     let words: Vec<&str> = texts.iter().map(|text| text.as_str()).collect(alloc)?;
+    if input.is_terminal() && reads_lines(words.as_slice()) {
+        // Where nobody can be told, nobody is.
+        let _ = errors.write_all(b"sdstore: reads the standard input, up to its end\n");
+    }
+    let shows = shows_colours(rt, &output);
     Ok(drive(
         rt,
         alloc,
         words.as_slice(),
         &mut Watched::new(input),
-        &mut Watched::new(output),
+        &mut Watched::new(Coloured::new(output, shows)),
         &mut Watched::new(errors),
     ))
 }

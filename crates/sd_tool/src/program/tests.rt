@@ -3,8 +3,10 @@
 mod answers;
 mod each_call;
 mod help;
+mod lines;
 mod scripts;
 mod streams;
+mod told;
 
 use super::*;
 use std::io;
@@ -46,7 +48,7 @@ fn run_over<T: AllocGlobal + Threads + Wait + Sync, R: Read + Drop>(
     }
 }
 
-/// Runs the words, and wants this line alone on the output, with the status.
+/// Runs the words, and wants this line alone on the output, with the status. Standard error is told of a fault alone.
 fn expect(
     rt: &(impl Abort + AllocGlobal + Threads + Wait + Sync),
     words: &[&str],
@@ -56,7 +58,8 @@ fn expect(
     let ended = run(rt, words);
     assert_eq!(rt; ended.output.as_slice(), line.as_bytes(), "{words:?}");
     assert_eq!(rt; ended.status, status, "{words:?}");
-    assert!(rt; ended.errors.is_empty(), "{words:?}");
+    let is_fault = line.starts_with("fault ");
+    assert_eq!(rt; ended.errors.is_empty(), !is_fault, "{words:?}");
 }
 
 /// The same behind `--domain`.
@@ -73,4 +76,16 @@ fn expect_in<'a>(
     }
     assert!(rt; words.extend_from_slice(behind).is_ok());
     expect(rt, words.as_slice(), line, status);
+}
+
+/// Runs the words, and wants this line alone on the output and this on standard error.
+fn expect_told(
+    rt: &(impl Abort + AllocGlobal + Threads + Wait + Sync),
+    words: &[&str],
+    line: &str,
+    told: &str,
+) {
+    let ended = run(rt, words);
+    assert_eq!(rt; ended.output.as_slice(), line.as_bytes(), "{words:?}");
+    assert_eq!(rt; ended.errors.as_slice(), told.as_bytes(), "{words:?}");
 }

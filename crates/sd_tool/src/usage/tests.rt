@@ -58,7 +58,29 @@ fn expect(
 
 #[test]
 fn both_read_commands(rt: HostRuntime) -> Result<(), AllocError> {
-    let rows: [&[&str]; 54] = [
+    let rows: [&[&str]; 67] = [
+        &["--mapping", "1,2,4,8", "each", "verdict", "SY", "0x1"],
+        &["each", "print"],
+        &["each", "-0", "print"],
+        &["each", "lint", "--"],
+        &["each", "verdict", "SY", "0x1", "BU", "+take"],
+        &["each", "-0", "frombin"],
+        &["--names", "each", "why", "SY", "0x1"],
+        &["--without-sacl", "print", "D:"],
+        &["--without-sacl", "frombin", "--base64"],
+        &["--base64", "--without-sacl", "frombin", "AA=="],
+        &["--mapping", "key", "verdict", "D:", "SY", "0x1"],
+        &[
+            "--mapping",
+            "--mapping",
+            "--names",
+            "why",
+            "--",
+            "-h",
+            "SY",
+            "0x1",
+        ],
+        &["--mapping", "", "--domain", "", "lint", "--mapping"],
         &["--names", "why", "D:", "SY", "0x1"],
         &["--names", "why", "--", "-h", "SY", "0x1", "--names"],
         &["--names", "why", "--names", "--names", "--names"],
@@ -121,7 +143,9 @@ fn both_read_commands(rt: HostRuntime) -> Result<(), AllocError> {
 
 #[test]
 fn both_read_help_and_version(rt: HostRuntime) -> Result<(), AllocError> {
-    let rows: [&[&str]; 31] = [
+    let rows: [&[&str]; 33] = [
+        &["help", "each"],
+        &["each", "--help"],
         &["-h"],
         &["--help"],
         &["help"],
@@ -160,7 +184,13 @@ fn both_read_help_and_version(rt: HostRuntime) -> Result<(), AllocError> {
 }
 
 /// Words that are no command line.
-const REFUSED: [&[&str]; 58] = [
+const REFUSED: [&[&str]; 64] = [
+    &["each"],
+    &["each", "-0"],
+    &["--without-sacl", "--without-sacl", "print", "D:"],
+    &["--base64", "--base64", "frombin", "00"],
+    &["--mapping", "key", "--mapping", "key", "lint", "D:"],
+    &["--mapping", "lint", "D:"],
     &["--names"],
     &["--names", ""],
     &["--names", "frob"],
@@ -281,7 +311,11 @@ fn gives_no_help_beside_other_words(rt: HostRuntime) -> Result<(), AllocError> {
 // An option is for the commands that take it, and help takes none; `clap` takes one before any command.
 #[test]
 fn takes_options_before_their_commands_alone(rt: HostRuntime) -> Result<(), AllocError> {
-    let rows: [&[&str]; 13] = [
+    let rows: [&[&str]; 17] = [
+        &["--without-sacl", "script"],
+        &["--base64", "tobin", "D:"],
+        &["--mapping", "key", "print", "D:"],
+        &["--mapping", "key", "serve"],
         &["--domain", "x", "frombin", "00"],
         &["--domain", "x", "script"],
         &["--domain", "x", "serve"],
@@ -323,6 +357,21 @@ fn clap_knows_no_numbers(rt: HostRuntime) -> Result<(), AllocError> {
         &["audit", "1/"],
         &["audit", "two"],
         &["audit", "18446744073709551616"],
+    ];
+    expect(&rt, &rows, Kind::Nothing, Kind::Command)
+}
+
+// `clap` doesn't know how many arguments the command of `each` has.
+#[test]
+fn clap_counts_no_arguments_of_a_question(rt: HostRuntime) -> Result<(), AllocError> {
+    let rows: [&[&str]; 7] = [
+        &["each", "frob"],
+        &["each", "script"],
+        &["each", "each", "print"],
+        &["each", "print", "D:"],
+        &["each", "verdict", "SY"],
+        &["each", "print", "-0"],
+        &["--names", "each", "print"],
     ];
     expect(&rt, &rows, Kind::Nothing, Kind::Command)
 }

@@ -18,7 +18,7 @@ loop-index-preserved c =
     slice_get_read entries (length entries) index c.index-entries-index.result refl low c.index-entries-index.is in
     c.in_ok-push_str.ensures.bytes
     ∙ ap (λ text. text ++ c.as_str.result.now) c.loop-index.invariant
-    ∙ append_assoc (codes "decides nothing behind") (covering_numbers entries entry index) c.as_str.result.now
-    ∙ ap (λ number. codes "decides nothing behind" ++ (covering_numbers entries entry index ++ number))
-    (c.as_str.ensures.value ∙ c.in_ok-number.ensures ∙ ap (covering_number entry index) (sym stands))
-    ∙ ap (λ n. codes "decides nothing behind" ++ covering_numbers entries entry n) (sym (add-one index))
+    ∙ append_assoc (codes "decides nothing behind") (covering_numbers c.args.mapping.now entries entry index) c.as_str.result.now
+    ∙ ap (λ number. codes "decides nothing behind" ++ (covering_numbers c.args.mapping.now entries entry index ++ number))
+    (c.as_str.ensures.value ∙ c.in_ok-number.ensures ∙ ap (covering_number c.args.mapping.now entry index) (sym stands))
+    ∙ ap (λ n. codes "decides nothing behind" ++ covering_numbers c.args.mapping.now entries entry n) (sym (add-one index))

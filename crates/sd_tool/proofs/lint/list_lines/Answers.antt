@@ -16,10 +16,10 @@ loop-place-preserved c =
     slice_get_read entries (length entries) place c.index-entries-place.result refl c.loop-place-test.true c.index-entries-place.is in
     c.in_ok-push_str.ensures.bytes
     ∙ ap (λ text. text ++ c.as_str.result.now) c.loop-place.invariant
-    ∙ ap (λ lines. list_lines entries place ++ lines) (c.as_str.ensures.value ∙ c.in_ok-lines.ensures ∙ ap (lines_at entries place) (sym stands))
-    ∙ ap (list_lines entries) (sym (add-one place))
+    ∙ ap (λ lines. list_lines c.args.mapping.now entries place ++ lines) (c.as_str.ensures.value ∙ c.in_ok-lines.ensures ∙ ap (lines_at c.args.mapping.now entries place) (sym stands))
+    ∙ ap (list_lines c.args.mapping.now entries) (sym (add-one place))
 
 pub returns : goal.returns
 returns c =
     let all : c.loop-place.place ≡ length c.args.entries.now = omega (arith, c.loop-place-test.false, c.loop-place.auto.place-end) in
-    c.loop-place.invariant ∙ ap (list_lines c.args.entries.now) all
+    c.loop-place.invariant ∙ ap (list_lines c.args.mapping.now c.args.entries.now) all

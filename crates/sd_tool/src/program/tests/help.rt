@@ -10,7 +10,7 @@ const REFUSED: [(&[&str], &str); 25] = [
     ),
     (
         &["sdstore", "--domain", "S-1-5-21-1-2-3", "frombin", "00"],
-        "'--domain' for 'verdict', 'why', 'lint', 'print' and 'tobin'",
+        "'--domain' for these, 'print' and 'tobin'",
     ),
     (
         &["sdstore", "--domain=S-1-5-21-1-2-3", "print", "D:"],

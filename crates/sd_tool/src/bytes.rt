@@ -1,0 +1,139 @@
+//! Bytes as a text spells them, and a SACL in them that is passed over.
+ghost use Rattle.std.specs.Prelude.{◌≡◌, Err, IfErr, IfOk, Ok, string_bytes};
+ghost use Rattle.sd_tool.specs.declared.bytes.BytesError.TheVariants.{Memory};
+ghost use Rattle.sd_tool.specs.declared.options.ByteForm.TheVariants.{Hex, Base64};
+ghost use Rattle.sd_tool.specs.Bytes.{IsBytesError, base64_reason as base64_reason_of, bytes_read, form_name, has_sacl as has_sacl_of, hex_reason as hex_reason_of, without_sacl};
+
+use crate::options::ByteForm;
+use base64::engine::general_purpose::STANDARD;
+use base64::{DecodeAllocError, DecodeError};
+use hex::FromHexError;
+use std::alloc::{AllocError, AllocFailed, Global};
+
+/// Why a text is no bytes.
+#[derive(Debug, Drop)]
+pub(crate) enum BytesError {
+    /// It spells none, and the text says why.
+    NoBytes(String),
+    /// Memory was refused.
+    Memory,
+}
+
+impl From<AllocError> for BytesError {
+    ghost from_gives = { λ _ e. e ≡ Memory };
+
+    fn from(_error: AllocError) -> BytesError {
+        BytesError::Memory
+    }
+}
+
+impl<T: Drop> From<AllocFailed<T>> for BytesError {
+    ghost from_gives = { λ _ e. e ≡ Memory };
+
+    fn from(_error: AllocFailed<T>) -> BytesError {
+        BytesError::Memory
+    }
+}
+
+impl ByteForm {
+    /// What a text in this form should have been.
+    pub(crate) fn name(self) -> &'static str
+        ensures { result.now ≡ form_name self }
+    {
+        match self {
+            ByteForm::Hex => "hex",
+            ByteForm::Base64 => "base64",
+        }
+    }
+}
+
+/// The bytes that the text spells in this form.
+pub(crate) fn read_bytes(alloc: Global, form: ByteForm, text: &str) -> Result<Vec<u8>, BytesError>
+    ensures ok { IfOk result (λ bytes. bytes_read form text.now ≡ Ok bytes.items) }
+    ensures err { IfErr result (IsBytesError form text.now) }
+{
+    match form {
+        ByteForm::Hex => hex_bytes(alloc, text),
+        ByteForm::Base64 => base64_bytes(alloc, text),
+    }
+}
+
+fn hex_bytes(alloc: Global, text: &str) -> Result<Vec<u8>, BytesError>
+    ensures ok { IfOk result (λ bytes. bytes_read Hex text.now ≡ Ok bytes.items) }
+    ensures err { IfErr result (IsBytesError Hex text.now) }
+{
+    match hex::decode(alloc, text) {
+        Ok(bytes) => Ok(bytes),
+        Err(FromHexError::OutOfMemory) => Err(BytesError::Memory),
+        Err(error) => Err(BytesError::NoBytes(hex_reason(alloc, error)?)),
+    }
+}
+
+fn hex_reason(alloc: Global, error: FromHexError) -> Result<String, AllocError>
+    ensures { IfOk result (λ text. string_bytes text ≡ hex_reason_of error) }
+{
+    match error {
+        FromHexError::InvalidHexCharacter { c: _, index } => {
+            let text = format!(in alloc; "no digit at {index}")?;
+            Ok(text)
+        }
+        FromHexError::OddLength => String::from_str(alloc, "half a byte"),
+        FromHexError::InvalidStringLength | FromHexError::OutOfMemory => {
+            String::from_str(alloc, "no bytes")
+        }
+    }
+}
+
+fn base64_bytes(alloc: Global, text: &str) -> Result<Vec<u8>, BytesError>
+    ensures ok { IfOk result (λ bytes. bytes_read Base64 text.now ≡ Ok bytes.items) }
+    ensures err { IfErr result (IsBytesError Base64 text.now) }
+{
+    match STANDARD.decode(alloc, text.as_bytes()) {
+        Ok(bytes) => Ok(bytes),
+        Err(DecodeAllocError::OutOfMemory) => Err(BytesError::Memory),
+        Err(DecodeAllocError::DecodeError(error)) => {
+            Err(BytesError::NoBytes(base64_reason(alloc, error)?))
+        }
+    }
+}
+
+fn base64_reason(alloc: Global, error: DecodeError) -> Result<String, AllocError>
+    ensures { IfOk result (λ text. string_bytes text ≡ base64_reason_of error) }
+{
+    match error {
+        DecodeError::InvalidByte(place, _) => {
+            let text = format!(in alloc; "no digit at {place}")?;
+            Ok(text)
+        }
+        DecodeError::InvalidLength(place) => {
+            let text = format!(in alloc; "no end at {place}")?;
+            Ok(text)
+        }
+        DecodeError::InvalidLastSymbol { offset, .. } => {
+            let text = format!(in alloc; "no last digit at {offset}")?;
+            Ok(text)
+        }
+        DecodeError::InvalidPadding => String::from_str(alloc, "no padding"),
+    }
+}
+
+/// Has the header say that there is no SACL, where it says that there is one, and tells whether it did: SP, bit 4 of the
+/// control bits, and OffsetSacl at byte 12 ([MS-DTYP] 2.4.6).
+pub(crate) fn leave_out_sacl(bytes: &mut Vec<u8>) -> bool
+    ensures told { result ≡ has_sacl_of bytes.old.items }
+    ensures bytes { bytes.new.items ≡ without_sacl bytes.old.items }
+{
+    if !has_sacl(bytes) {
+        return false;
+    }
+    bytes[2] &= 0xEF;
+    true
+}
+
+fn has_sacl(bytes: &[u8]) -> bool
+    ensures { result ≡ has_sacl_of bytes.now }
+{
+    20 <= bytes.len()
+        && bytes[2] & 0x10 != 0
+        && !(bytes[12] == 0 && bytes[13] == 0 && bytes[14] == 0 && bytes[15] == 0)
+}

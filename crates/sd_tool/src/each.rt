@@ -1,0 +1,117 @@
+//! The answers of one command to each line of an input.
+ghost use Rattle.std.specs.Prelude.{◌≡◌, ◌||◌, IfErr, IfOk, option_map};
+ghost use Rattle.sd_each.specs.Answers.{LeavesAnswers};
+ghost use Rattle.sd_stream.specs.Watched.{has_failed, inner_of};
+ghost use Rattle.sd_stream.specs.Whole.{is_read_error, is_write_error};
+ghost use Rattle.sd_tool.specs.Answer.{AnswersLine, AnswersTold, AppendsEach, answer_of, behind_answer, is_refusal, outcome_of_lines};
+ghost use Rattle.sd_tool.specs.CommandLine.{request_of};
+ghost use Rattle.sd_tool.specs.Options.{options_of};
+
+use crate::answer::{Answer, Outcome, answer_to, fault};
+use crate::command_line::{CommandLine, Request};
+use crate::failure::Failure;
+use crate::options::Options;
+use sd_each::{Answers, Ending, each};
+use sd_stream::{RunError, Watched};
+use std::alloc::{AllocError, Global};
+use std::io::{Read, Write};
+use std::str::from_utf8;
+
+/// A command with its arguments, under its options, that is asked of each line.
+#[derive(Clone, Copy, Debug)]
+pub(crate) struct Question<'a> {
+    pub(crate) options: Options<'a>,
+    pub(crate) request: Request<'a>,
+}
+
+impl Answers for Question<'_> {
+    ghost answers = { λ question told printed is_refused. AnswersLine (options_of question.options) (request_of question.request) told printed is_refused };
+
+    fn answer(
+        &self,
+        alloc: Global,
+        line: Option<&[u8]>,
+        text: &mut Vec<u8>,
+    ) -> Result<bool, AllocError> {
+        let Ok(answer) = self.answer_told(alloc, line) else {
+            return Err(AllocError);
+        };
+        text.extend_from_slice(answer.text.as_bytes())?;
+        text.extend_from_slice(self.request.behind_answer().as_bytes())?;
+        Ok(answer.outcome.is_refusal())
+    }
+}
+
+impl Question<'_> {
+    /// The answer to a line, of which there is no text where it is too long.
+    fn answer_told(&self, alloc: Global, line: Option<&[u8]>) -> Result<Answer, Failure>
+        ensures { IfOk result (λ answer. AnswersTold (options_of self.now.options) (request_of self.now.request)
+            (option_map (λ bytes. bytes.now) line.entry) (answer_of answer)) }
+    {
+        let Some(bytes) = line else {
+            return fault(alloc, "long", String::new(alloc));
+        };
+        let Ok(text) = from_utf8(bytes) else {
+            return fault(alloc, "utf8", String::new(alloc));
+        };
+        answer_to(
+            alloc,
+            CommandLine {
+                options: self.options,
+                invocation: self.request.of(text),
+            },
+        )
+    }
+}
+
+impl Request<'_> {
+    /// What stands behind each answer: an empty line, where an answer may have several lines.
+    fn behind_answer(self) -> &'static str
+        ensures { result.now ≡ behind_answer (request_of self.entry) }
+    {
+        match self {
+            Request::Why { .. } | Request::Lint => "\n",
+            _ => "",
+        }
+    }
+}
+
+impl Outcome {
+    /// Whether what was asked for wasn't done.
+    fn is_refusal(self) -> bool
+        ensures { result ≡ is_refusal self }
+    {
+        matches!(self, Outcome::Refused)
+    }
+
+    /// What came of a run over lines.
+    fn of_lines(is_refused: bool) -> Outcome
+        ensures { result ≡ outcome_of_lines is_refused }
+    {
+        if is_refused {
+            Outcome::Refused
+        } else {
+            Outcome::Done
+        }
+    }
+}
+
+/// Answers each line of an input.
+pub(crate) fn answer_each<R: Read, W: Write>(
+    alloc: Global,
+    question: Question<'_>,
+    ending: Ending,
+    reader: &mut Watched<R>,
+    writer: &mut Watched<W>,
+) -> Result<Outcome, RunError>
+    ensures ok { IfOk result (AppendsEach (options_of question.entry.options) ending (request_of question.entry.request) (R.remaining (inner_of reader.old))
+        (W.contents (inner_of writer.old)) (W.contents (inner_of writer.new))) }
+    ensures err { IfErr result (LeavesAnswers (AnswersLine (options_of question.entry.options) (request_of question.entry.request)) ending
+        (R.remaining (inner_of reader.old)) (R.remaining (inner_of reader.new))
+        (W.contents (inner_of writer.old)) (W.contents (inner_of writer.new))) }
+    ensures read { has_failed reader.new ≡ (has_failed reader.old || is_read_error result) }
+    ensures write { has_failed writer.new ≡ (has_failed writer.old || is_write_error result) }
+{
+    let is_refused = each(alloc, &question, ending, reader, writer)?;
+    Ok(Outcome::of_lines(is_refused))
+}
