@@ -1,3 +1,4 @@
+pub mod Before
 pub mod Loop
 mod RestrictingLoop
 pub mod Front

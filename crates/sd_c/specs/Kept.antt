@@ -1,5 +1,5 @@
 -- What the calls over handles answer, and what they leave in the handles.
-use Rattle.std.specs.Prelude.{◌≡◌, ◌⊎◌, ℕ, ◌==◌, List, Result, Ok, Err, if◌then◌else◌}
+use Rattle.std.specs.Prelude.{◌≡◌, ◌⊎◌, ℕ, ◌==◌, List, Option, Some, None, IsSome, Result, Ok, Err, if◌then◌else◌}
 use Rattle.std.specs.Arc.{arc_value}
 use Rattle.sd_acl.specs.Descriptor.{DescriptorValue, descriptor_of}
 use Rattle.sd_check.specs.Token.{TokenValue}
@@ -14,6 +14,7 @@ use Rattle.sd_c.specs.declared.refusal.Refusal.{Refusal}
 use Rattle.sd_c.specs.declared.stop.NotRead.{NotRead}
 use Rattle.sd_c.specs.declared.stop.NotRead.TheVariants.{DescriptorHandle, TokenHandle}
 use Rattle.sd_c.specs.Answer.{not_read, unread}
+use Rattle.sd_c.specs.Store.{History, history_of}
 use Rattle.sd_c.specs.Request.{◌>>=◌, RequestValue, mapping_read}
 use Rattle.sd_c.specs.Written.{not_written, refused}
 
@@ -26,10 +27,28 @@ is_kept is_there why = if is_there == 0 then Err why else Ok tt
 abbrev pub descriptor_in : Kept → Result DescriptorValue NotRead
 descriptor_in (kinds.Descriptor d) = Ok (descriptor_of (arc_value d))
 descriptor_in (kinds.Token t) = Err DescriptorHandle
+descriptor_in (kinds.Store s) = Err DescriptorHandle
+descriptor_in (kinds.View v) = Err DescriptorHandle
 
 abbrev pub token_in : Kept → Result TokenValue NotRead
 token_in (kinds.Descriptor d) = Err TokenHandle
 token_in (kinds.Token t) = Ok (arc_value t)
+token_in (kinds.Store s) = Err TokenHandle
+token_in (kinds.View v) = Err TokenHandle
+
+-- of a store the tree with all its edits, those too that no view has yet
+abbrev pub store_in : Kept → Option History
+store_in (kinds.Descriptor d) = None
+store_in (kinds.Token t) = None
+store_in (kinds.Store s) = Some (history_of s.value.draft)
+store_in (kinds.View v) = None
+
+-- of a view the tree as it was published
+abbrev pub view_in : Kept → Option History
+view_in (kinds.Descriptor d) = None
+view_in (kinds.Token t) = None
+view_in (kinds.Store s) = None
+view_in (kinds.View v) = Some (history_of (arc_value v))
 
 -- what two things that are kept ask of a check
 unfoldable pub asked_of : Kept → Kept → Mapping → Result RequestValue NotRead
@@ -80,11 +99,13 @@ TokenInUse old new answer = (old.is_there ≡ 1) × (new ≡ old) × (answer ≡
 
 -- what answers as this does, whatever is asked of it
 abbrev pub IsSame : Kept → Kept → Type 0
-IsSame kept other = (descriptor_in other ≡ descriptor_in kept) × (token_in other ≡ token_in kept)
+IsSame kept other =
+    (descriptor_in other ≡ descriptor_in kept) × (token_in other ≡ token_in kept)
+    × (store_in other ≡ store_in kept) × (view_in other ≡ view_in kept)
 
 -- the second handle keeps the same as the first, or is as it was: memory was refused, or one of them didn't serve
 abbrev pub IsShared : Handle → Handle → Handle → Written → Type 0
 IsShared handle old new answer =
     ((handle.is_there ≡ 1) × (old.is_there ≡ 0) × (new.is_there ≡ 1) × IsSame handle.seal.kept new.seal.kept × (answer ≡ not_written 0 0 0))
     ⊎ ((new ≡ old) × (answer ≡ not_written 1 0 0))
-    ⊎ (((handle.is_there ≡ 0) ⊎ (old.is_there ≡ 1)) × (new ≡ old) × (answer ≡ not_written 11 0 0))
+    ⊎ (((handle.is_there ≡ 0) ⊎ (old.is_there ≡ 1) ⊎ IsSome (store_in handle.seal.kept)) × (new ≡ old) × (answer ≡ not_written 11 0 0))

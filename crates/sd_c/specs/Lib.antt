@@ -1,8 +1,16 @@
 pub mod Request
 pub mod Answer
 pub mod Written
+pub mod InDomain
 pub mod Length
 pub mod Handle
+pub mod Store
+pub mod NotDone
+pub mod Edits
 pub mod Kept
+pub mod Publishing
+pub mod Views
+pub mod Nodes
+pub mod Trim
 pub mod OverBytes
 pub mod Explaining

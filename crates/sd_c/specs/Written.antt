@@ -18,7 +18,7 @@ use Rattle.sd_text.specs.declared.fault.TextError.TheVariants as errors
 use Rattle.sd_c.specs.declared.answer.Written.{Written}
 use Rattle.sd_c.specs.declared.answer.MaskAnswer.{MaskAnswer}
 use Rattle.sd_c.specs.declared.refusal.Refusal.{Refusal}
-use Rattle.sd_c.specs.declared.refusal.Refusal.TheVariants.{Memory, Utf8, Text, Wire, Sid}
+use Rattle.sd_c.specs.declared.refusal.Refusal.TheVariants.{Memory, Utf8, Text, Wire, Sid, NoDomain}
 
 -- ---- the answer and the room
 
@@ -40,6 +40,7 @@ refused (Utf8 place) = not_written 3 0 place
 refused (Text fault place) = not_written 4 (number_of fault) place
 refused (Wire fault) = not_written 5 (wire_fault_number fault) 0
 refused (Sid fault) = not_written 6 (sid_error_number fault) 0
+refused NoDomain = not_written 17 0 0
 
 -- the call writes these bytes, or tells that the room is too small for them
 abbrev pub Writes : List ℕ → List ℕ → List ℕ → Written → Type 0
@@ -68,6 +69,7 @@ RefusesText grammar text (Utf8 place) = IsNotUtf8 text place
 RefusesText grammar text (Text fault place) = HasFault grammar text fault place
 RefusesText grammar text (Wire fault) = ⊥
 RefusesText grammar text (Sid fault) = ⊥
+RefusesText grammar text NoDomain = ⊥
 
 -- bytes are refused: they hold no descriptor
 abbrev pub RefusesBytes : List ℕ → Refusal → Type 0
@@ -76,6 +78,7 @@ RefusesBytes bytes (Utf8 place) = ⊥
 RefusesBytes bytes (Text fault place) = ⊥
 RefusesBytes bytes (Wire fault) = descriptor_read bytes ≡ Err fault
 RefusesBytes bytes (Sid fault) = ⊥
+RefusesBytes bytes NoDomain = ⊥
 
 -- bytes are refused: they don't begin with a SID
 abbrev pub RefusesSid : List ℕ → Refusal → Type 0
@@ -84,6 +87,7 @@ RefusesSid bytes (Utf8 place) = ⊥
 RefusesSid bytes (Text fault place) = ⊥
 RefusesSid bytes (Wire fault) = ⊥
 RefusesSid bytes (Sid fault) = sid_reading bytes ≡ Err fault
+RefusesSid bytes NoDomain = ⊥
 
 -- the reason that an error of a text is
 abbrev pub text_refusal : TextError → Refusal
@@ -127,6 +131,7 @@ RefusesMask text (Utf8 place) = IsNotUtf8 text place
 RefusesMask text (Text fault place) = HasFault mask_text text fault place
 RefusesMask text (Wire fault) = ⊥
 RefusesMask text (Sid fault) = ⊥
+RefusesMask text NoDomain = ⊥
 
 -- the mask that the text spells, or a reason that holds
 abbrev pub AnswersMask : List ℕ → MaskAnswer → Type 0

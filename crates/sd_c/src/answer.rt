@@ -34,6 +34,18 @@ pub const PRIVILEGES: u32 = 9;
 pub const MAPPING: u32 = 10;
 /// A handle keeps nothing, or something else; or it keeps something already.
 pub const HANDLE: u32 = 11;
+/// A number is no edit's, or an edit has a value and takes none.
+pub const EDIT: u32 = 12;
+/// A text is no path; the fault is one of those of `PathError`.
+pub const PATH: u32 = 13;
+/// A descriptor lacks an owner or a group, or has one where a DACL alone is wanted.
+pub const PARTS: u32 = 14;
+/// The tree refuses the edit; the fault is one of those of `EditRefusal`.
+pub const REFUSED: u32 = 15;
+/// No node stands at the path.
+pub const NO_NODE: u32 = 16;
+/// A SID is no domain's.
+pub const DOMAIN: u32 = 17;
 
 /// What a check answers: a verdict and its mask, or which argument isn't read.
 #[repr(C)]
@@ -170,6 +182,7 @@ pub(crate) fn refused(why: Refusal) -> Written
         Refusal::Text { fault, place } => not_written(TEXT, fault.number(), place),
         Refusal::Wire(fault) => not_written(WIRE, fault.number(), 0),
         Refusal::Sid(fault) => not_written(SID, fault.number(), 0),
+        Refusal::NoDomain => not_written(DOMAIN, 0, 0),
     }
 }
 

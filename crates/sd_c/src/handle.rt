@@ -11,7 +11,7 @@ pub use seal::Seal;
 use std::alloc::Global;
 
 /// A box that is kept for the caller, or nothing: zeros are nothing. C holds it as a pointer and a number, and hands it to one
-/// call at a time. To let a handle go frees nothing: `hudarin_free` does.
+/// call at a time. To let a handle go frees nothing: `hudarin_release` does.
 #[repr(C)]
 #[derive(Drop)]
 pub struct Handle {

@@ -16,7 +16,7 @@ use std::alloc::Global;
 
 /// Frees what the handle keeps, where it keeps something. Then it keeps nothing.
 #[unsafe(no_mangle)]
-pub extern "C" fn hudarin_free(alloc: Global, handle: &mut Handle)
+pub extern "C" fn hudarin_release(alloc: Global, handle: &mut Handle)
     ensures { handle.new.is_there ≡ 0 }
 {
     let _kept = handle.take(alloc);

@@ -92,7 +92,7 @@ fn kept_text(alloc: Global, text: &[u8]) -> Result<Box<Kept>, Refusal>
     ensures ok { IfOk result (λ kept. (d : DescriptorValue) × Spells sddl text.now d × (descriptor_in kept.value ≡ Ok d)) }
     ensures err { IfErr result (λ why. RefusesText sddl text.now why) }
 {
-    let descriptor = descriptor_of(alloc, text)?;
+    let descriptor = descriptor_of(alloc, None, text)?;
     Ok(boxed_descriptor(alloc, descriptor)?)
 }
 

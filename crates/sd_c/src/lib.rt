@@ -11,36 +11,54 @@
 mod answer;
 mod bytes;
 mod check;
+mod edits;
 mod explaining;
 mod handle;
 mod handles;
+mod in_domain;
 mod keeping;
 mod length;
 mod mapping;
+mod nodes;
+mod not_done;
 mod over_bytes;
 mod refusal;
 mod request;
 mod sharing;
 mod stop;
+mod store;
+mod stores;
 mod text;
+mod trim;
 mod version;
+mod views;
 
 pub use answer::{CheckAnswer, MaskAnswer, Written};
 pub use bytes::{hudarin_bytes_to_sddl, hudarin_sid_bytes_to_text};
 pub use check::hudarin_check;
 pub use explaining::{Explained, FindingAnswer, PartAnswer, hudarin_explain};
 pub use handle::{Handle, Kept, Seal};
-pub use handles::{hudarin_check_kept, hudarin_free};
+pub use handles::{hudarin_check_kept, hudarin_release};
+pub use in_domain::{hudarin_sddl_to_bytes_in, hudarin_sid_text_to_bytes_in};
 pub use keeping::{hudarin_keep_bytes, hudarin_keep_sddl, hudarin_keep_token};
 pub use length::{front_is_read, hudarin_descriptor_length};
 pub use mapping::Mapping;
+pub use nodes::{NodeAnswer, hudarin_view_node, hudarin_view_own, own_forms_come_back};
+pub use not_done::{NotDone, PathArgument};
 pub use over_bytes::hudarin_check_bytes;
 pub use sharing::hudarin_share;
+pub use store::Store;
+pub use stores::{
+    hudarin_store_edit, hudarin_store_judge, hudarin_store_open, hudarin_store_publish,
+    hudarin_store_revert,
+};
 pub use text::{
     hudarin_mask_from_text, hudarin_sddl_canonical, hudarin_sddl_to_bytes,
     hudarin_sid_text_to_bytes,
 };
+pub use trim::{Trimmed, hudarin_descriptor_trim};
 pub use version::{Version, hudarin_version};
+pub use views::{ViewAnswer, hudarin_journal_length, hudarin_view_check, hudarin_view_descriptor};
 
 #[cfg(test)]
 mod tests;

@@ -21,6 +21,8 @@ pub enum Refusal {
     Wire(WireFault),
     /// The bytes don't begin with a SID.
     Sid(SidError),
+    /// The SID at their front is no domain's.
+    NoDomain,
 }
 
 impl From<AllocError> for Refusal {

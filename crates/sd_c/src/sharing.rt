@@ -1,7 +1,7 @@
 //! Another handle of what a handle keeps.
 
-ghost use Rattle.std.specs.Prelude.{◌≡◌, ◌⊎◌, IfOk};
-ghost use Rattle.sd_c.specs.Kept.{IsShared, IsSame, Stays};
+ghost use Rattle.std.specs.Prelude.{◌≡◌, ◌⊎◌, IfOk, IsSome, MatchOption};
+ghost use Rattle.sd_c.specs.Kept.{IsShared, IsSame, Stays, store_in};
 
 use crate::answer::{HANDLE, MEMORY, OK, Written, not_written};
 use crate::handle::{Handle, Kept};
@@ -9,7 +9,7 @@ use std::alloc::{AllocError, Global};
 use std::sync::Arc;
 
 /// Keeps behind `other` what `handle` keeps, for another thread: nothing of it is copied, and it is freed with the last of its
-/// handles. Refused where `handle` keeps nothing, or `other` something; then both stay as they were.
+/// handles. Refused where `handle` keeps nothing or a store, or `other` something; then both stay as they were.
 #[unsafe(no_mangle)]
 pub extern "C" fn hudarin_share(alloc: Global, handle: &mut Handle, other: &mut Handle) -> Written
     ensures shared { IsShared handle.old other.old other.new result }
@@ -22,23 +22,26 @@ pub extern "C" fn hudarin_share(alloc: Global, handle: &mut Handle, other: &mut 
         return not_written(HANDLE, 0, 0);
     };
     let answer = match shared(alloc, &kept) {
-        Ok(second) => {
+        Ok(Some(second)) => {
             other.put(second);
             not_written(OK, 0, 0)
         }
+        Ok(None) => not_written(HANDLE, 0, 0),
         Err(AllocError) => not_written(MEMORY, 0, 0),
     };
     handle.put(kept);
     answer
 }
 
-/// The same, for one holder more.
-fn shared(alloc: Global, kept: &Kept) -> Result<Box<Kept>, AllocError>
-    ensures { IfOk result (λ second. IsSame kept.now second.value) }
+/// The same, for one holder more; a store has one alone.
+fn shared(alloc: Global, kept: &Kept) -> Result<Option<Box<Kept>>, AllocError>
+    ensures { IfOk result (λ second. MatchOption second (IsSome (store_in kept.now)) (λ other. IsSame kept.now other.value)) }
 {
     let second = match kept {
         Kept::Descriptor(descriptor) => Kept::Descriptor(Arc::try_clone(descriptor)?),
         Kept::Token(token) => Kept::Token(Arc::try_clone(token)?),
+        Kept::View(tree) => Kept::View(Arc::try_clone(tree)?),
+        Kept::Store(_) => return Ok(None),
     };
-    Ok(Box::new(alloc, second)?)
+    Ok(Some(Box::new(alloc, second)?))
 }

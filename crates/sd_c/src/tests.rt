@@ -342,10 +342,10 @@ fn what_is_kept_answers_as_what_was_read(rt: HostRuntime) {
         let answer = hudarin_check_bytes(rt.alloc(), &DENIED_TO_USERS, &mut token, FILE, asked);
         assert_eq!(rt; (answer.status, answer.kind, answer.mask), (0, kind, mask));
     }
-    hudarin_free(rt.alloc(), &mut read);
-    hudarin_free(rt.alloc(), &mut spelled);
-    hudarin_free(rt.alloc(), &mut token);
-    hudarin_free(rt.alloc(), &mut token);
+    hudarin_release(rt.alloc(), &mut read);
+    hudarin_release(rt.alloc(), &mut spelled);
+    hudarin_release(rt.alloc(), &mut token);
+    hudarin_release(rt.alloc(), &mut token);
     assert_eq!(rt;
         (read.is_there, spelled.is_there, token.is_there),
         (0, 0, 0)
@@ -366,7 +366,7 @@ fn a_shared_handle_keeps_the_same(rt: HostRuntime) {
     assert_eq!(rt; (answer.status, second.is_there), (0, 1));
     let answer = hudarin_share(rt.alloc(), &mut second, &mut first);
     assert_eq!(rt; answer.status, 11);
-    hudarin_free(rt.alloc(), &mut first);
+    hudarin_release(rt.alloc(), &mut first);
     let answer = hudarin_keep_token(rt.alloc(), &USER, &GROUPS, &[0, 4], &[], 0, &mut token);
     assert_eq!(rt; answer.status, 0);
     let answer = hudarin_check_kept(rt.alloc(), &mut second, &mut token, FILE, 0x3);
@@ -374,7 +374,7 @@ fn a_shared_handle_keeps_the_same(rt: HostRuntime) {
     if let Some(kept) = second.take(rt.alloc()) {
         may_cross(&*kept);
     }
-    hudarin_free(rt.alloc(), &mut token);
+    hudarin_release(rt.alloc(), &mut token);
 }
 
 #[test]
@@ -409,6 +409,6 @@ fn handles_that_do_not_serve(rt: HostRuntime) {
     assert_eq!(rt; (answer.status, token.is_there), (0, 1));
     let answer = hudarin_check_kept(rt.alloc(), &mut token, &mut descriptor, FILE, 1);
     assert_eq!(rt; (answer.status, answer.argument), (11, 1));
-    hudarin_free(rt.alloc(), &mut descriptor);
-    hudarin_free(rt.alloc(), &mut token);
+    hudarin_release(rt.alloc(), &mut descriptor);
+    hudarin_release(rt.alloc(), &mut token);
 }

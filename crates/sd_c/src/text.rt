@@ -4,15 +4,15 @@ ghost use Rattle.std.specs.Prelude.{◌≡◌, IfOk, IfErr, string_bytes};
 ghost use Rattle.sd_acl.specs.Descriptor.{descriptor_of as value_of};
 ghost use Rattle.sd_text.specs.Grammar.{Spells};
 ghost use Rattle.sd_text.specs.Rights.{mask_text};
-ghost use Rattle.sd_text.specs.Sddl.{sddl};
-ghost use Rattle.sd_text.specs.Sid.{sid_text};
+ghost use Rattle.sd_text.specs.Sddl.{sddl, sddl_in};
+ghost use Rattle.sd_text.specs.Sid.{sid_text, sid_text_in};
 ghost use Rattle.sd_c.specs.Written.{Answers, AnswersMask, IsCanonOf, IsFormOf, IsNotUtf8, IsSidOf, RefusesMask, RefusesText, text_refusal};
 
 use crate::answer::{MaskAnswer, Written, mask_given, no_mask, refused, write};
 use crate::refusal::Refusal;
 use sd_acl::Descriptor;
-use sd_sid::{Mask, sid_bytes};
-use sd_text::{TextError, print_sddl, read_mask, read_sddl, read_sid_text};
+use sd_sid::{Mask, Sid, sid_bytes};
+use sd_text::{Domain, TextError, print_sddl, read_mask, read_sddl_in, read_sid_text_in};
 use sd_wire::write_descriptor;
 use std::alloc::Global;
 
@@ -47,7 +47,7 @@ pub extern "C" fn hudarin_sddl_canonical(alloc: Global, text: &[u8], room: &mut 
 pub extern "C" fn hudarin_sid_text_to_bytes(alloc: Global, text: &[u8], room: &mut [u8]) -> Written
     ensures { Answers (IsSidOf text.now) (RefusesText sid_text text.now) room.old room.new result }
 {
-    match sid_of(alloc, text) {
+    match sid_form_of(alloc, text) {
         Ok(bytes) => write(&bytes, room),
         Err(why) => refused(why),
     }
@@ -66,7 +66,7 @@ pub extern "C" fn hudarin_mask_from_text(text: &[u8]) -> MaskAnswer
 }
 
 /// The bytes as a text, or where they cease to be UTF-8.
-fn utf8_of(bytes: &[u8]) -> Result<&str, u64>
+pub(crate) fn utf8_of(bytes: &[u8]) -> Result<&str, u64>
     ensures ok { IfOk result (λ text. text.now ≡ bytes.now) }
     ensures err { IfErr result (λ place. IsNotUtf8 bytes.now place) }
 {
@@ -86,13 +86,32 @@ fn refusal_of(e: TextError) -> Refusal
     }
 }
 
-pub(crate) fn descriptor_of(alloc: Global, text: &[u8]) -> Result<Descriptor, Refusal>
-    ensures ok { IfOk result (λ d. Spells sddl text.now (value_of d)) }
-    ensures err { IfErr result (λ why. RefusesText sddl text.now why) }
+/// The descriptor that the text spells, in the domain where one is given.
+pub(crate) fn descriptor_of(
+    alloc: Global,
+    domain: Option<Domain>,
+    text: &[u8],
+) -> Result<Descriptor, Refusal>
+    ensures ok { IfOk result (λ d. Spells (sddl_in domain) text.now (value_of d)) }
+    ensures err { IfErr result (λ why. RefusesText (sddl_in domain) text.now why) }
 {
     match utf8_of(text) {
-        Ok(text) => match read_sddl(alloc, text) {
+        Ok(text) => match read_sddl_in(alloc, domain, text) {
             Ok(descriptor) => Ok(descriptor),
+            Err(e) => Err(refusal_of(e)),
+        },
+        Err(place) => Err(Refusal::Utf8 { place }),
+    }
+}
+
+/// The SID that the text spells, in the domain where one is given.
+pub(crate) fn sid_of(domain: Option<Domain>, text: &[u8]) -> Result<Sid, Refusal>
+    ensures ok { IfOk result (λ sid. Spells (sid_text_in domain) text.now sid) }
+    ensures err { IfErr result (λ why. RefusesText (sid_text_in domain) text.now why) }
+{
+    match utf8_of(text) {
+        Ok(text) => match read_sid_text_in(domain, text) {
+            Ok(sid) => Ok(sid),
             Err(e) => Err(refusal_of(e)),
         },
         Err(place) => Err(Refusal::Utf8 { place }),
@@ -103,7 +122,7 @@ fn form_of(alloc: Global, text: &[u8]) -> Result<Vec<u8>, Refusal>
     ensures ok { IfOk result (λ bytes. IsFormOf text.now bytes.items) }
     ensures err { IfErr result (λ why. RefusesText sddl text.now why) }
 {
-    let descriptor = descriptor_of(alloc, text)?;
+    let descriptor = descriptor_of(alloc, None, text)?;
     Ok(write_descriptor(alloc, &descriptor)?)
 }
 
@@ -111,21 +130,16 @@ fn canon_of(alloc: Global, text: &[u8]) -> Result<String, Refusal>
     ensures ok { IfOk result (λ printed. IsCanonOf text.now (string_bytes printed)) }
     ensures err { IfErr result (λ why. RefusesText sddl text.now why) }
 {
-    let descriptor = descriptor_of(alloc, text)?;
+    let descriptor = descriptor_of(alloc, None, text)?;
     Ok(print_sddl(alloc, &descriptor)?)
 }
 
-fn sid_of(alloc: Global, text: &[u8]) -> Result<Vec<u8>, Refusal>
+fn sid_form_of(alloc: Global, text: &[u8]) -> Result<Vec<u8>, Refusal>
     ensures ok { IfOk result (λ bytes. IsSidOf text.now bytes.items) }
     ensures err { IfErr result (λ why. RefusesText sid_text text.now why) }
 {
-    match utf8_of(text) {
-        Ok(text) => match read_sid_text(text) {
-            Ok(sid) => Ok(sid_bytes(alloc, &sid)?),
-            Err(e) => Err(refusal_of(e)),
-        },
-        Err(place) => Err(Refusal::Utf8 { place }),
-    }
+    let sid = sid_of(None, text)?;
+    Ok(sid_bytes(alloc, &sid)?)
 }
 
 fn mask_of(text: &[u8]) -> Result<Mask, Refusal>

@@ -90,8 +90,8 @@ fn reasons_are_told(rt: HostRuntime) {
         let answer = explained.answer;
         assert_eq!(rt; (answer.status, answer.kind, answer.mask), (0, 2, missing));
         has_parts(&rt, &explained, rows);
-        hudarin_free(rt.alloc(), &mut descriptor);
-        hudarin_free(rt.alloc(), &mut token);
+        hudarin_release(rt.alloc(), &mut descriptor);
+        hudarin_release(rt.alloc(), &mut token);
     }
 }
 
@@ -112,5 +112,5 @@ fn nothing_is_explained_without_handles(rt: HostRuntime) {
         (11, 8)
     );
     has_parts(&rt, &explained, &[]);
-    hudarin_free(rt.alloc(), &mut descriptor);
+    hudarin_release(rt.alloc(), &mut descriptor);
 }

@@ -1,0 +1,15 @@
+use Rattle.std.proofs.Common.{◌≡◌, refl}
+use Rattle.sd_tree.specs.Descriptors.{is_protected, own_descriptor_of_row, own_list}
+use Rattle.sd_tree.specs.declared.node.NodeDacl.{NodeDacl}
+use Rattle.sd_tree.specs.declared.node.NodeDacl.TheVariants.{Null, List as Entries}
+use Rattle.sd_wire.proofs.WireIsHeld.{descriptors_come_back}
+use Rattle.sd_c.specs.Edits.{own_dacl}
+use Rattle.sd_c.proofs.nodes.own_forms_come_back.Goals as goal
+
+gives_again : (dacl : NodeDacl) → dacl ≡ own_dacl (is_protected dacl) (own_list dacl)
+gives_again Null = refl
+gives_again (Entries protected entries) = refl
+
+pub returns : goal.returns
+returns c = λ row sound named.
+    (own_descriptor_of_row row, descriptors_come_back (own_descriptor_of_row row) sound named, refl, refl, gives_again row.dacl)

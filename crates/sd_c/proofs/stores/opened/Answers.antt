@@ -1,0 +1,11 @@
+use Rattle.std.proofs.Common.{rules, inr, sym, subst}
+use Rattle.sd_tree.specs.Journal.{opening_of, root_refusal}
+use Rattle.sd_c.specs.Publishing.{IsNotBegun}
+use Rattle.sd_c.proofs.Before.{told_reason}
+use Rattle.sd_c.proofs.stores.opened.Goals as goal
+
+pub returns-clause-err : goal.returns-clause-err
+returns-clause-err c =
+    let opening = opening_of c.in-Ok.mapping c.in_ok-root.root in
+    let reason = told_reason c.in-Err.e (root_refusal opening) c.in-Err.ensures.refused in
+    subst (IsNotBegun c.args.root.now c.args.mapping) (sym c.reason_of.ensures) (inr (inr (opening, search rules, reason)))

@@ -1,0 +1,157 @@
+-- What the arguments of an edit are read as.
+use Rattle.std.specs.Prelude.{◌≡◌, ◌⊎◌, ℕ, ◌<◌, Bool, false, List, [], length, Some, None, IsSome, Ok, Err}
+use Rattle.sd_sid.specs.Sid.{SidValue}
+use Rattle.sd_sid.specs.SidBytes.{sid_reading}
+use Rattle.sd_acl.specs.Descriptor.{DescriptorValue}
+use Rattle.sd_acl.specs.declared.descriptor.Dacl.{Dacl}
+use Rattle.sd_acl.specs.declared.descriptor.Dacl.TheVariants as dacls
+use Rattle.sd_wire.specs.Reading.{descriptor_read}
+use Rattle.sd_path.specs.PathText.{path_of}
+use Rattle.sd_tree.specs.declared.edit.Edit.{Edit}
+use Rattle.sd_tree.specs.declared.edit.Edit.TheVariants.{AddContainer, AddObject, SetOwner, SetGroup, SetDacl, Remove, ProtectKeeping, Move}
+use Rattle.sd_tree.specs.declared.node.NodeDacl.{NodeDacl}
+use Rattle.sd_tree.specs.declared.node.NodeDacl.TheVariants.{Null, List as Entries}
+use Rattle.sd_c.specs.Written.{IsNotUtf8}
+use Rattle.sd_c.specs.declared.not_done.PathArgument.{PathArgument}
+use Rattle.sd_c.specs.declared.not_done.PathArgument.TheVariants as arguments
+use Rattle.sd_c.specs.declared.not_done.NotDone.{NotDone}
+use Rattle.sd_c.specs.declared.not_done.NotDone.TheVariants as reasons
+
+-- the DACL that a descriptor gives a node: an absent one is an empty list that isn't protected
+abbrev pub own_dacl : Bool → Dacl → NodeDacl
+own_dacl protected dacls.Absent = Entries false []
+own_dacl protected dacls.Null = Null
+own_dacl protected (dacls.List entries) = Entries protected entries
+
+-- the bytes hold a descriptor with an owner and a group, which gives a node these
+abbrev pub IsNode : List ℕ → SidValue → SidValue → NodeDacl → Type 0
+IsNode bytes owner group dacl =
+    (d : DescriptorValue) × (descriptor_read bytes ≡ Ok d) × (d.owner ≡ Some owner) × (d.group ≡ Some group) × (dacl ≡ own_dacl d.protected d.dacl)
+
+-- the bytes hold a descriptor with neither, which gives a node this DACL
+abbrev pub IsDacl : List ℕ → NodeDacl → Type 0
+IsDacl bytes dacl =
+    (d : DescriptorValue) × (descriptor_read bytes ≡ Ok d) × (d.owner ≡ None) × (d.group ≡ None) × (dacl ≡ own_dacl d.protected d.dacl)
+
+-- a SID stands at the front of the bytes
+abbrev pub IsSid : List ℕ → SidValue → Type 0
+IsSid bytes sid = (n : ℕ) × (sid_reading bytes ≡ Ok (sid, n))
+
+-- the number, the path and the value say this edit
+abbrev pub IsEdit : ℕ → List ℕ → List ℕ → Edit → Type 0
+IsEdit kind path value (AddContainer at owner group dacl) = (kind ≡ 1) × (path_of path ≡ Ok at) × IsNode value owner group dacl
+IsEdit kind path value (AddObject at owner group dacl) = (kind ≡ 2) × (path_of path ≡ Ok at) × IsNode value owner group dacl
+IsEdit kind path value (SetOwner at owner) = (kind ≡ 3) × (path_of path ≡ Ok at) × IsSid value owner
+IsEdit kind path value (SetGroup at group) = (kind ≡ 4) × (path_of path ≡ Ok at) × IsSid value group
+IsEdit kind path value (SetDacl at dacl) = (kind ≡ 5) × (path_of path ≡ Ok at) × IsDacl value dacl
+IsEdit kind path value (Remove at) = (kind ≡ 6) × (path_of path ≡ Ok at) × (length value ≡ 0)
+IsEdit kind path value (ProtectKeeping at) = (kind ≡ 7) × (path_of path ≡ Ok at) × (length value ≡ 0)
+IsEdit kind path value (Move source target) = (kind ≡ 8) × (path_of path ≡ Ok source) × (path_of value ≡ Ok target)
+
+abbrev pub argument_in : PathArgument → List ℕ → List ℕ → List ℕ
+argument_in arguments.Path path value = path
+argument_in arguments.Target path value = value
+
+-- a descriptor without an owner or without a group
+abbrev pub LacksTrustee : List ℕ → Type 0
+LacksTrustee bytes = (d : DescriptorValue) × (descriptor_read bytes ≡ Ok d) × ((d.owner ≡ None) ⊎ (d.group ≡ None))
+
+-- one with an owner or a group
+abbrev pub HasTrustee : List ℕ → Type 0
+HasTrustee bytes = (d : DescriptorValue) × (descriptor_read bytes ≡ Ok d) × (IsSome d.owner ⊎ IsSome d.group)
+
+-- the number is no edit's, or that of one that takes no value, and has one
+abbrev pub IsNoKind : ℕ → List ℕ → Type 0
+IsNoKind kind value = (kind ≡ 0) ⊎ (8 < kind) ⊎ (((kind ≡ 6) ⊎ (kind ≡ 7)) × (0 < length value))
+
+-- why they say none: each reason of a part, for which memory may be refused too
+abbrev pub IsNoPath : PathArgument → List ℕ → NotDone → Type 0
+IsNoPath given bytes reasons.Memory = Unit {0}
+IsNoPath given bytes reasons.StoreHandle = ⊥
+IsNoPath given bytes reasons.ViewHandle = ⊥
+IsNoPath given bytes reasons.TokenHandle = ⊥
+IsNoPath given bytes reasons.MappingBits = ⊥
+IsNoPath given bytes reasons.EditKind = ⊥
+IsNoPath given bytes (reasons.Utf8 argument place) = (argument ≡ given) × IsNotUtf8 bytes place
+IsNoPath given bytes (reasons.Path argument fault) = (argument ≡ given) × (path_of bytes ≡ Err fault)
+IsNoPath given bytes (reasons.Descriptor fault) = ⊥
+IsNoPath given bytes reasons.Parts = ⊥
+IsNoPath given bytes (reasons.Sid fault) = ⊥
+IsNoPath given bytes (reasons.Refused refusal) = ⊥
+IsNoPath given bytes reasons.NoNode = ⊥
+
+abbrev pub IsNoSid : List ℕ → NotDone → Type 0
+IsNoSid bytes reasons.Memory = ⊥
+IsNoSid bytes reasons.StoreHandle = ⊥
+IsNoSid bytes reasons.ViewHandle = ⊥
+IsNoSid bytes reasons.TokenHandle = ⊥
+IsNoSid bytes reasons.MappingBits = ⊥
+IsNoSid bytes reasons.EditKind = ⊥
+IsNoSid bytes (reasons.Utf8 argument place) = ⊥
+IsNoSid bytes (reasons.Path argument fault) = ⊥
+IsNoSid bytes (reasons.Descriptor fault) = ⊥
+IsNoSid bytes reasons.Parts = ⊥
+IsNoSid bytes (reasons.Sid fault) = sid_reading bytes ≡ Err fault
+IsNoSid bytes (reasons.Refused refusal) = ⊥
+IsNoSid bytes reasons.NoNode = ⊥
+
+abbrev pub IsNoDescriptor : List ℕ → NotDone → Type 0
+IsNoDescriptor bytes reasons.Memory = Unit {0}
+IsNoDescriptor bytes reasons.StoreHandle = ⊥
+IsNoDescriptor bytes reasons.ViewHandle = ⊥
+IsNoDescriptor bytes reasons.TokenHandle = ⊥
+IsNoDescriptor bytes reasons.MappingBits = ⊥
+IsNoDescriptor bytes reasons.EditKind = ⊥
+IsNoDescriptor bytes (reasons.Utf8 argument place) = ⊥
+IsNoDescriptor bytes (reasons.Path argument fault) = ⊥
+IsNoDescriptor bytes (reasons.Descriptor fault) = descriptor_read bytes ≡ Err fault
+IsNoDescriptor bytes reasons.Parts = ⊥
+IsNoDescriptor bytes (reasons.Sid fault) = ⊥
+IsNoDescriptor bytes (reasons.Refused refusal) = ⊥
+IsNoDescriptor bytes reasons.NoNode = ⊥
+
+abbrev pub IsNoNode : List ℕ → NotDone → Type 0
+IsNoNode bytes reasons.Memory = Unit {0}
+IsNoNode bytes reasons.StoreHandle = ⊥
+IsNoNode bytes reasons.ViewHandle = ⊥
+IsNoNode bytes reasons.TokenHandle = ⊥
+IsNoNode bytes reasons.MappingBits = ⊥
+IsNoNode bytes reasons.EditKind = ⊥
+IsNoNode bytes (reasons.Utf8 argument place) = ⊥
+IsNoNode bytes (reasons.Path argument fault) = ⊥
+IsNoNode bytes (reasons.Descriptor fault) = descriptor_read bytes ≡ Err fault
+IsNoNode bytes reasons.Parts = LacksTrustee bytes
+IsNoNode bytes (reasons.Sid fault) = ⊥
+IsNoNode bytes (reasons.Refused refusal) = ⊥
+IsNoNode bytes reasons.NoNode = ⊥
+
+abbrev pub IsNoDacl : List ℕ → NotDone → Type 0
+IsNoDacl bytes reasons.Memory = Unit {0}
+IsNoDacl bytes reasons.StoreHandle = ⊥
+IsNoDacl bytes reasons.ViewHandle = ⊥
+IsNoDacl bytes reasons.TokenHandle = ⊥
+IsNoDacl bytes reasons.MappingBits = ⊥
+IsNoDacl bytes reasons.EditKind = ⊥
+IsNoDacl bytes (reasons.Utf8 argument place) = ⊥
+IsNoDacl bytes (reasons.Path argument fault) = ⊥
+IsNoDacl bytes (reasons.Descriptor fault) = descriptor_read bytes ≡ Err fault
+IsNoDacl bytes reasons.Parts = HasTrustee bytes
+IsNoDacl bytes (reasons.Sid fault) = ⊥
+IsNoDacl bytes (reasons.Refused refusal) = ⊥
+IsNoDacl bytes reasons.NoNode = ⊥
+
+-- of all of them
+abbrev pub IsNoEdit : ℕ → List ℕ → List ℕ → NotDone → Type 0
+IsNoEdit kind path value reasons.Memory = Unit {0}
+IsNoEdit kind path value reasons.StoreHandle = ⊥
+IsNoEdit kind path value reasons.ViewHandle = ⊥
+IsNoEdit kind path value reasons.TokenHandle = ⊥
+IsNoEdit kind path value reasons.MappingBits = ⊥
+IsNoEdit kind path value reasons.EditKind = IsNoKind kind value
+IsNoEdit kind path value (reasons.Utf8 argument place) = IsNotUtf8 (argument_in argument path value) place
+IsNoEdit kind path value (reasons.Path argument fault) = path_of (argument_in argument path value) ≡ Err fault
+IsNoEdit kind path value (reasons.Descriptor fault) = descriptor_read value ≡ Err fault
+IsNoEdit kind path value reasons.Parts = ((kind ≡ 5) × HasTrustee value) ⊎ (¬ (kind ≡ 5) × LacksTrustee value)
+IsNoEdit kind path value (reasons.Sid fault) = sid_reading value ≡ Err fault
+IsNoEdit kind path value (reasons.Refused refusal) = ⊥
+IsNoEdit kind path value reasons.NoNode = ⊥

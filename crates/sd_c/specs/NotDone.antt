@@ -1,0 +1,32 @@
+-- The answers of the calls over stores and views that did nothing, as numbers.
+use Rattle.std.specs.Prelude.{ℕ}
+use Rattle.sd_sid.specs.Sid.{sid_error_number}
+use Rattle.sd_wire.specs.Fault.{wire_fault_number}
+use Rattle.sd_path.specs.PathText.{path_error_number}
+use Rattle.sd_tree.specs.Refusals.{number_of}
+use Rattle.sd_c.specs.declared.answer.CheckAnswer.{CheckAnswer}
+use Rattle.sd_c.specs.declared.not_done.PathArgument.{PathArgument}
+use Rattle.sd_c.specs.declared.not_done.PathArgument.TheVariants as arguments
+use Rattle.sd_c.specs.declared.not_done.NotDone.{NotDone}
+use Rattle.sd_c.specs.declared.not_done.NotDone.TheVariants.{Memory, StoreHandle, ViewHandle, TokenHandle, MappingBits, EditKind, Utf8, Path, Descriptor, Parts, Sid, Refused, NoNode}
+use Rattle.sd_c.specs.Answer.{unread}
+
+abbrev pub argument_number : PathArgument → ℕ
+argument_number arguments.Path = 12
+argument_number arguments.Target = 13
+
+-- the status, the argument, the fault's number or the refusal's, and where a path ceases to be UTF-8
+abbrev pub not_done : NotDone → CheckAnswer
+not_done Memory = unread 1 0 0 0
+not_done StoreHandle = unread 11 9 0 0
+not_done ViewHandle = unread 11 10 0 0
+not_done TokenHandle = unread 11 8 0 0
+not_done MappingBits = unread 10 7 0 0
+not_done EditKind = unread 12 11 0 0
+not_done (Utf8 argument place) = unread 3 (argument_number argument) 0 place
+not_done (Path argument fault) = unread 13 (argument_number argument) (path_error_number fault) 0
+not_done (Descriptor fault) = unread 5 13 (wire_fault_number fault) 0
+not_done Parts = unread 14 13 0 0
+not_done (Sid fault) = unread 6 13 (sid_error_number fault) 0
+not_done (Refused refusal) = unread 15 0 (number_of refusal) 0
+not_done NoNode = unread 16 12 0 0

@@ -1,0 +1,128 @@
+-- What the calls over stores answer, and what they leave in the handles.
+use Rattle.std.specs.Prelude.{◌≡◌, ◌⊎◌, ℕ, List, [], length, Option, Some, None, IsSome, Ok, Err}
+use Rattle.sd_tree.specs.Journal.{refusal, root_refusal}
+use Rattle.sd_tree.specs.declared.edit.Edit.{Edit}
+use Rattle.sd_tree.specs.declared.opening.Opening.{Opening}
+use Rattle.sd_tree.specs.declared.refusal.EditRefusal.{EditRefusal}
+use Rattle.sd_tree.specs.declared.refusal.TreeError.{TreeError}
+use Rattle.sd_tree.specs.declared.refusal.TreeError.TheVariants as errors
+use Rattle.sd_c.specs.declared.answer.CheckAnswer.{CheckAnswer}
+use Rattle.sd_c.specs.declared.answer.Written.{Written}
+use Rattle.sd_c.specs.declared.handle.Handle.{Handle}
+use Rattle.sd_c.specs.declared.handle.kept.Kept.{Kept}
+use Rattle.sd_c.specs.declared.mapping.Mapping.{Mapping}
+use Rattle.sd_c.specs.declared.not_done.NotDone.{NotDone}
+use Rattle.sd_c.specs.declared.not_done.NotDone.TheVariants as reasons
+use Rattle.sd_c.specs.declared.stop.NotRead.TheVariants.{MappingBits}
+use Rattle.sd_c.specs.Answer.{unread}
+use Rattle.sd_c.specs.Edits.{IsEdit, IsNoEdit, IsNoNode, IsNode}
+use Rattle.sd_c.specs.Kept.{IsSame, store_in, view_in}
+use Rattle.sd_c.specs.Length.{length_told}
+use Rattle.sd_c.specs.NotDone.{not_done}
+use Rattle.sd_c.specs.Request.{mapping_read}
+use Rattle.sd_c.specs.Store.{History, with_edit}
+use Rattle.sd_c.specs.Written.{not_written}
+
+-- the handle shows what it showed: an edit that isn't made may have made room for itself
+abbrev pub Remains : Handle → Handle → Type 0
+Remains old new = (new.is_there ≡ old.is_there) × (old.is_there ≡ 1 → IsSame old.seal.kept new.seal.kept)
+
+-- the tree refuses, or memory ran out
+abbrev pub IsTreeReason : Option EditRefusal → NotDone → Type 0
+IsTreeReason due why = ((refused : EditRefusal) × (due ≡ Some refused) × (why ≡ reasons.Refused refused)) ⊎ (why ≡ reasons.Memory)
+
+abbrev pub tree_reason : TreeError → NotDone
+tree_reason (errors.Refused refused) = reasons.Refused refused
+tree_reason errors.Memory = reasons.Memory
+
+-- ---- opening
+
+-- the bytes hold the root, which a tree with this mapping takes
+abbrev pub IsOpening : List ℕ → Mapping → Opening → Type 0
+IsOpening root mapping opening =
+    (mapping_read mapping ≡ Ok opening.mapping) × IsNode root opening.root.owner opening.root.group opening.root.dacl
+
+-- a store of the root alone
+abbrev pub IsBegun : List ℕ → Mapping → Kept → Type 0
+IsBegun root mapping kept =
+    (opening : Opening) × IsOpening root mapping opening × (root_refusal opening ≡ None)
+    × (store_in kept ≡ Some (record { opening = opening; journal = [] }))
+
+-- why there is none
+abbrev pub IsNotBegun : List ℕ → Mapping → NotDone → Type 0
+IsNotBegun root mapping why =
+    IsNoNode root why
+    ⊎ ((why ≡ reasons.MappingBits) × (mapping_read mapping ≡ Err MappingBits))
+    ⊎ ((opening : Opening) × IsOpening root mapping opening × IsTreeReason (root_refusal opening) why)
+
+-- a store of the root is kept, or why it isn't is told, or something was kept already; then nothing is kept
+abbrev pub Begins : List ℕ → Mapping → Handle → Handle → CheckAnswer → Type 0
+Begins root mapping old new answer =
+    ((old.is_there ≡ 0) × (new.is_there ≡ 1) × IsBegun root mapping new.seal.kept × (answer ≡ unread 0 0 0 0))
+    ⊎ ((why : NotDone) × IsNotBegun root mapping why × (new ≡ old) × (answer ≡ not_done why))
+    ⊎ ((old.is_there ≡ 1) × (new ≡ old) × (answer ≡ not_done reasons.StoreHandle))
+
+-- ---- edits
+
+-- the edit that the arguments say has joined the store's journal, which nothing refused
+abbrev pub IsEdited : ℕ → List ℕ → List ℕ → Kept → Kept → Type 0
+IsEdited kind path value old new =
+    (h : History) × (edit : Edit) × (store_in old ≡ Some h) × IsEdit kind path value edit × (refusal h.opening h.journal edit ≡ None)
+    × (store_in new ≡ Some (with_edit h edit))
+
+-- why it hasn't: no store is kept, the arguments say no edit, the tree refuses it, or memory ran out
+abbrev pub IsNotEdited : ℕ → List ℕ → List ℕ → Kept → NotDone → Type 0
+IsNotEdited kind path value old why =
+    ((store_in old ≡ None) × (why ≡ reasons.StoreHandle))
+    ⊎ IsNoEdit kind path value why
+    ⊎ ((h : History) × (edit : Edit) × (store_in old ≡ Some h) × IsEdit kind path value edit
+    × IsTreeReason (refusal h.opening h.journal edit) why)
+
+-- the edit is made, or why it isn't is told and nothing has changed
+abbrev pub Edits : ℕ → List ℕ → List ℕ → Handle → Handle → CheckAnswer → Type 0
+Edits kind path value old new answer =
+    ((old.is_there ≡ 1) × (new.is_there ≡ 1) × IsEdited kind path value old.seal.kept new.seal.kept × (answer ≡ unread 0 0 0 0))
+    ⊎ ((why : NotDone) × (old.is_there ≡ 1) × IsNotEdited kind path value old.seal.kept why × Remains old new × (answer ≡ not_done why))
+    ⊎ ((old.is_there ≡ 0) × (new ≡ old) × (answer ≡ not_done reasons.StoreHandle))
+
+-- nothing refuses the edit that the arguments say
+abbrev pub IsAllowed : ℕ → List ℕ → List ℕ → Kept → Type 0
+IsAllowed kind path value store =
+    (h : History) × (edit : Edit) × (store_in store ≡ Some h) × IsEdit kind path value edit × (refusal h.opening h.journal edit ≡ None)
+
+-- the edit would be made, or why it wouldn't is told
+abbrev pub Judges : ℕ → List ℕ → List ℕ → Handle → CheckAnswer → Type 0
+Judges kind path value store answer =
+    ((store.is_there ≡ 1) × IsAllowed kind path value store.seal.kept × (answer ≡ unread 0 0 0 0))
+    ⊎ ((why : NotDone) × (store.is_there ≡ 1) × IsNotEdited kind path value store.seal.kept why × (answer ≡ not_done why))
+    ⊎ ((store.is_there ≡ 0) × (answer ≡ not_done reasons.StoreHandle))
+
+-- ---- publishing
+
+-- the view shows the store's tree with all its edits
+abbrev pub IsViewOf : Kept → Kept → ℕ → Type 0
+IsViewOf store view told = (h : History) × (store_in store ≡ Some h) × (view_in view ≡ Some h) × (told ≡ length h.journal)
+
+-- a view is kept, or memory ran out, or one of the handles didn't serve; the store shows what it showed
+abbrev pub Publishes : Handle → Handle → Handle → Handle → Written → Type 0
+Publishes store later old new answer =
+    Remains store later
+    × (((told : ℕ) × (store.is_there ≡ 1) × (old.is_there ≡ 0) × (new.is_there ≡ 1) × IsViewOf store.seal.kept new.seal.kept told × (answer ≡ length_told told))
+    ⊎ ((new ≡ old) × (answer ≡ not_written 1 0 0))
+    ⊎ (((store.is_there ≡ 0) ⊎ (old.is_there ≡ 1) ⊎ (store_in store.seal.kept ≡ None)) × (new ≡ old) × (answer ≡ not_written 11 0 0)))
+
+-- ---- going back
+
+-- the store shows what the view shows, whatever it showed
+abbrev pub IsReverted : Kept → Kept → Kept → ℕ → Type 0
+IsReverted old new view told =
+    (h : History) × IsSome (store_in old) × (view_in view ≡ Some h) × (store_in new ≡ Some h) × (told ≡ length h.journal)
+
+-- the store's tree is the view's, or memory ran out, or one of the handles didn't serve, and it shows what it showed
+abbrev pub Reverts : Handle → Handle → Handle → Written → Type 0
+Reverts old new view answer =
+    ((told : ℕ) × (old.is_there ≡ 1) × (new.is_there ≡ 1) × (view.is_there ≡ 1)
+    × IsReverted old.seal.kept new.seal.kept view.seal.kept told × (answer ≡ length_told told))
+    ⊎ (Remains old new × (answer ≡ not_written 1 0 0))
+    ⊎ (((old.is_there ≡ 0) ⊎ (view.is_there ≡ 0) ⊎ (store_in old.seal.kept ≡ None) ⊎ (view_in view.seal.kept ≡ None))
+    × Remains old new × (answer ≡ not_written 11 0 0))

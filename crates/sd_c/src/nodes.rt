@@ -1,0 +1,130 @@
+//! The calls that tell a view's nodes, with which a server looks into its store and writes it down.
+
+ghost use Rattle.std.specs.Prelude.{◌≡◌, IfErr, IfOk, string_bytes};
+ghost use Rattle.sd_c.specs.Kept.{Stays};
+ghost use Rattle.sd_c.specs.Nodes.{IsNoOwnAt, IsNoPathAt, IsOwnAt, IsPathAt, OwnFormsComeBack, TellsNode, kind_number, no_node_told};
+ghost use Rattle.sd_c.specs.Written.{Writes};
+
+use crate::answer::{Written, write};
+use crate::edits::path_of;
+use crate::handle::{Handle, Kept};
+use crate::not_done::{NotDone, PathArgument};
+use crate::views::not_told;
+use sd_tree::NodeKind;
+use sd_wire::write_descriptor;
+use std::alloc::Global;
+
+/// What a call answers that tells a node.
+#[repr(C)]
+#[derive(Clone, Copy, Debug, PartialEq, Eq)]
+pub struct NodeAnswer {
+    pub written: Written,
+    /// 1 for a container and 2 for an object; 0 where no node is told.
+    pub kind: u32,
+}
+
+/// What was given to the node of a path in the tree that the view shows, written into the room: the self-relative form
+/// ([MS-DTYP] 2.4.6) of its owner, its group and its own DACL, without what it inherits. Refused as `hudarin_view_descriptor` is;
+/// then, and where the room is too small, nothing is written.
+#[unsafe(no_mangle)]
+pub extern "C" fn hudarin_view_own(
+    alloc: Global,
+    view: &mut Handle,
+    path: &[u8],
+    room: &mut [u8],
+) -> NodeAnswer
+    ensures answer { TellsNode (IsOwnAt view.old.seal.kept path.now) (IsNoOwnAt view.old.seal.kept path.now) view.old room.old room.new result }
+    ensures view { Stays view.old view.new }
+{
+    let Some(kept) = view.take(alloc) else {
+        return no_node_told(NotDone::ViewHandle);
+    };
+    let answer = match own_at(alloc, &kept, path) {
+        Ok((bytes, kind)) => node_told(&bytes, kind, room),
+        Err(why) => no_node_told(why),
+    };
+    view.put(kept);
+    answer
+}
+
+/// The path of the node that stands so many places behind the root in the order of the paths, written into the room: each node
+/// stands at one place, behind what holds it, and behind the last one there is none. Refused where the handle keeps no view, no
+/// node stands there, or memory runs out; then, and where the room is too small, nothing is written.
+#[unsafe(no_mangle)]
+pub extern "C" fn hudarin_view_node(
+    alloc: Global,
+    view: &mut Handle,
+    place: u64,
+    room: &mut [u8],
+) -> NodeAnswer
+    ensures answer { TellsNode (IsPathAt view.old.seal.kept place) (IsNoPathAt view.old.seal.kept place) view.old room.old room.new result }
+    ensures view { Stays view.old view.new }
+{
+    let Some(kept) = view.take(alloc) else {
+        return no_node_told(NotDone::ViewHandle);
+    };
+    let answer = match path_at(alloc, &kept, place) {
+        Ok((text, kind)) => node_told(text.as_bytes(), kind, room),
+        Err(why) => no_node_told(why),
+    };
+    view.put(kept);
+    answer
+}
+
+/// A law: an edit that brings what `hudarin_view_own` wrote of a node, where no entry has a flag without a name, gives the node of
+/// its path the same owner, group and DACL.
+pub fn own_forms_come_back()
+    ensures { OwnFormsComeBack }
+{}
+
+fn own_at(alloc: Global, kept: &Kept, path: &[u8]) -> Result<(Vec<u8>, NodeKind), NotDone>
+    ensures ok { IfOk result (λ made. IsOwnAt kept.now path.now made.0.items made.1) }
+    ensures err { IfErr result (λ why. IsNoOwnAt kept.now path.now why) }
+{
+    let Kept::View(tree) = kept else {
+        return Err(NotDone::ViewHandle);
+    };
+    let path = path_of(alloc, PathArgument::Path, path)?;
+    match tree.given(&path)? {
+        Some((kind, descriptor)) => Ok((write_descriptor(alloc, &descriptor)?, kind)),
+        None => Err(NotDone::NoNode),
+    }
+}
+
+fn path_at(alloc: Global, kept: &Kept, place: u64) -> Result<(String, NodeKind), NotDone>
+    ensures ok { IfOk result (λ made. IsPathAt kept.now place (string_bytes made.0) made.1) }
+    ensures err { IfErr result (λ why. IsNoPathAt kept.now place why) }
+{
+    let Kept::View(tree) = kept else {
+        return Err(NotDone::ViewHandle);
+    };
+    match tree.node(place as usize) {
+        Some(node) => {
+            let path = node.path;
+            Ok((format!(in alloc; "{path}")?, node.kind))
+        }
+        None => Err(NotDone::NoNode),
+    }
+}
+
+fn node_told(bytes: &[u8], kind: NodeKind, room: &mut [u8]) -> NodeAnswer
+    ensures written { Writes bytes.now room.old room.new result.written }
+    ensures kind { result.kind ≡ kind_number kind }
+{
+    NodeAnswer {
+        written: write(bytes, room),
+        kind: match kind {
+            NodeKind::Container => 1,
+            NodeKind::Object => 2,
+        },
+    }
+}
+
+fn no_node_told(why: NotDone) -> NodeAnswer
+    ensures { result ≡ no_node_told why }
+{
+    NodeAnswer {
+        written: not_told(why),
+        kind: 0,
+    }
+}

@@ -1,0 +1,102 @@
+//! Why a call over a store or a view did nothing.
+
+ghost use Rattle.std.specs.Prelude.{◌≡◌};
+ghost use Rattle.sd_c.specs.declared.not_done.NotDone.TheVariants.{Memory};
+ghost use Rattle.sd_c.specs.NotDone.{argument_number, not_done};
+
+use crate::answer::{
+    CheckAnswer, EDIT, HANDLE, MAPPING, MEMORY, NO_NODE, PARTS, PATH, REFUSED, SID, UTF8, WIRE,
+    unread,
+};
+use sd_path::PathError;
+use sd_sid::SidError;
+use sd_tree::EditRefusal;
+use sd_wire::WireFault;
+use std::alloc::AllocError;
+
+/// An argument that is a path.
+#[derive(Clone, Copy)]
+pub enum PathArgument {
+    /// The node's.
+    Path,
+    /// Where a move goes to.
+    Target,
+}
+
+impl PathArgument {
+    /// The number by which an answer names it.
+    pub(crate) fn number(self) -> u32
+        ensures { result ≡ argument_number self }
+    {
+        match self {
+            PathArgument::Path => 12,
+            PathArgument::Target => 13,
+        }
+    }
+}
+
+/// Why a call over a store or a view did nothing.
+#[derive(Clone, Copy)]
+pub enum NotDone {
+    /// Memory ran out.
+    Memory,
+    /// The handle of the store keeps none.
+    StoreHandle,
+    /// The handle of the view keeps none.
+    ViewHandle,
+    /// The handle of the token keeps none.
+    TokenHandle,
+    /// A mask of the mapping has a bit beyond 0x001FFFFF.
+    MappingBits,
+    /// The number is no edit's, or the edit takes no value and has one.
+    EditKind,
+    /// The path isn't UTF-8 from this byte on.
+    Utf8 {
+        argument: PathArgument,
+        place: u64,
+    },
+    /// The text is no path.
+    Path {
+        argument: PathArgument,
+        fault: PathError,
+    },
+    /// The bytes hold no descriptor.
+    Descriptor(WireFault),
+    /// The descriptor lacks an owner or a group, or has one where a DACL alone is wanted.
+    Parts,
+    /// The bytes don't begin with a SID.
+    Sid(SidError),
+    /// The tree refuses the edit.
+    Refused(EditRefusal),
+    /// No node stands at the path.
+    NoNode,
+}
+
+impl From<AllocError> for NotDone {
+    ghost from_gives = { λ _ why. why ≡ Memory };
+
+    fn from(_: AllocError) -> NotDone {
+        NotDone::Memory
+    }
+}
+
+/// The answer that says why nothing was done.
+pub(crate) fn not_done(why: NotDone) -> CheckAnswer
+    ensures { result ≡ not_done why }
+{
+    match why {
+        NotDone::Memory => unread(MEMORY, 0, 0, 0),
+        NotDone::StoreHandle => unread(HANDLE, 9, 0, 0),
+        NotDone::ViewHandle => unread(HANDLE, 10, 0, 0),
+        NotDone::TokenHandle => unread(HANDLE, 8, 0, 0),
+        NotDone::MappingBits => unread(MAPPING, 7, 0, 0),
+        NotDone::EditKind => unread(EDIT, 11, 0, 0),
+        NotDone::Utf8 { argument, place } => unread(UTF8, argument.number(), 0, place),
+        NotDone::Path { argument, fault } => unread(PATH, argument.number(), fault.number(), 0),
+        NotDone::Descriptor(fault) => unread(WIRE, 13, fault.number(), 0),
+        NotDone::Parts => unread(PARTS, 13, 0, 0),
+        NotDone::Sid(fault) => unread(SID, 13, fault.number(), 0),
+        NotDone::Refused(refusal) => unread(REFUSED, 0, refusal.number(), 0),
+        NotDone::NoNode => unread(NO_NODE, 12, 0, 0),
+    }
+}

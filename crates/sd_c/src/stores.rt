@@ -1,0 +1,241 @@
+//! The calls over a store: one writer's, behind a handle.
+
+ghost use Rattle.std.specs.Prelude.{◌≡◌, ◌⊎◌, None, Some, IfErr, IfOk, MatchOption, MatchResult, OnOk};
+ghost use Rattle.sd_c.specs.Kept.{IsSame, Stays, store_in, view_in};
+ghost use Rattle.sd_c.specs.Store.{history_of};
+ghost use Rattle.sd_c.specs.Publishing.{Begins, Edits, IsAllowed, IsBegun, IsEdited, IsNotBegun, IsNotEdited, IsReverted, IsViewOf, Judges, Publishes, Reverts, tree_reason};
+
+use crate::answer::{CheckAnswer, HANDLE, MEMORY, OK, Written, length_told, not_written, unread};
+use crate::edits::{edit_of, node_of};
+use crate::handle::{Handle, Kept};
+use crate::mapping::Mapping;
+use crate::not_done::{NotDone, not_done};
+use crate::request::mapping_of;
+use crate::store::Store;
+use sd_tree::{Tree, TreeError};
+use std::alloc::{AllocError, Global};
+
+/// Keeps a store whose tree is the root alone: a container with the owner, the group and the DACL of the descriptor in the bytes
+/// ([MS-DTYP] 2.4.6), and this mapping for all nodes. Refused where one of them isn't read, the tree refuses the root, memory
+/// runs out, or the handle keeps something already; then it stays as it was.
+#[unsafe(no_mangle)]
+pub extern "C" fn hudarin_store_open(
+    alloc: Global,
+    root: &[u8],
+    mapping: Mapping,
+    store: &mut Handle,
+) -> CheckAnswer
+    ensures { Begins root.now mapping store.old store.new result }
+{
+    if store.is_there == 1 {
+        return not_done(NotDone::StoreHandle);
+    }
+    match opened(alloc, root, mapping) {
+        Ok(kept) => {
+            store.put(kept);
+            unread(OK, 0, 0, 0)
+        }
+        Err(why) => not_done(why),
+    }
+}
+
+fn opened(alloc: Global, root: &[u8], mapping: Mapping) -> Result<Box<Kept>, NotDone>
+    ensures ok { IfOk result (λ kept. IsBegun root.now mapping kept.value) }
+    ensures err { IfErr result (λ why. IsNotBegun root.now mapping why) }
+{
+    let root = node_of(alloc, root)?;
+    let Ok(mapping) = mapping_of(mapping) else {
+        return Err(NotDone::MappingBits);
+    };
+    match Tree::opening(alloc, &mapping, &root) {
+        Ok(tree) => Ok(boxed_store(alloc, tree)?),
+        Err(e) => Err(reason_of(e)),
+    }
+}
+
+fn boxed_store(alloc: Global, tree: Tree) -> Result<Box<Kept>, AllocError>
+    ensures { IfOk result (λ kept. store_in kept.value ≡ Some (history_of tree)) }
+{
+    let store = Box::new(alloc, Store::new(alloc, tree))?;
+    Ok(Box::new(alloc, Kept::Store(store))?)
+}
+
+/// Why a tree wasn't opened or changed.
+fn reason_of(e: TreeError) -> NotDone
+    ensures { result ≡ tree_reason e }
+{
+    match e {
+        TreeError::Refused(refusal) => NotDone::Refused(refusal),
+        TreeError::Memory => NotDone::Memory,
+    }
+}
+
+/// Makes an edit of the store's tree: its number, the path of its node, and what it brings, by its kind a descriptor's bytes, a SID's,
+/// a target's text, or nothing. Where an argument isn't read, the tree refuses the edit or memory runs out, nothing changes.
+#[unsafe(no_mangle)]
+pub extern "C" fn hudarin_store_edit(
+    alloc: Global,
+    store: &mut Handle,
+    kind: u32,
+    path: &[u8],
+    value: &[u8],
+) -> CheckAnswer
+    ensures { Edits kind path.now value.now store.old store.new result }
+{
+    let Some(kept) = store.take(alloc) else {
+        return not_done(NotDone::StoreHandle);
+    };
+    let mut kept = kept;
+    let answer = match edited(alloc, &mut kept, kind, path, value) {
+        Ok(()) => unread(OK, 0, 0, 0),
+        Err(why) => not_done(why),
+    };
+    store.put(kept);
+    answer
+}
+
+fn edited(
+    alloc: Global,
+    kept: &mut Kept,
+    kind: u32,
+    path: &[u8],
+    value: &[u8],
+) -> Result<(), NotDone>
+    ensures { MatchResult result (λ _. IsEdited kind path.now value.now kept.old kept.new)
+        (λ why. IsNotEdited kind path.now value.now kept.old why × IsSame kept.old kept.new) }
+{
+    let Kept::Store(store) = kept else {
+        return Err(NotDone::StoreHandle);
+    };
+    let edit = edit_of(alloc, kind, path, value)?;
+    match store.edit(&edit) {
+        Ok(()) => Ok(()),
+        Err(e) => Err(reason_of(e)),
+    }
+}
+
+/// Whether the edit that the arguments say would be made, and why not: as `hudarin_store_edit` answers, and nothing changes.
+#[unsafe(no_mangle)]
+pub extern "C" fn hudarin_store_judge(
+    alloc: Global,
+    store: &mut Handle,
+    kind: u32,
+    path: &[u8],
+    value: &[u8],
+) -> CheckAnswer
+    ensures answer { Judges kind path.now value.now store.old result }
+    ensures store { Stays store.old store.new }
+{
+    let Some(kept) = store.take(alloc) else {
+        return not_done(NotDone::StoreHandle);
+    };
+    let answer = match judged(alloc, &kept, kind, path, value) {
+        Ok(()) => unread(OK, 0, 0, 0),
+        Err(why) => not_done(why),
+    };
+    store.put(kept);
+    answer
+}
+
+fn judged(alloc: Global, kept: &Kept, kind: u32, path: &[u8], value: &[u8]) -> Result<(), NotDone>
+    ensures ok { OnOk result (IsAllowed kind path.now value.now kept.now) }
+    ensures err { IfErr result (λ why. IsNotEdited kind path.now value.now kept.now why) }
+{
+    let Kept::Store(store) = kept else {
+        return Err(NotDone::StoreHandle);
+    };
+    let edit = edit_of(alloc, kind, path, value)?;
+    match store.draft.judge(&edit)? {
+        None => Ok(()),
+        Some(refusal) => Err(NotDone::Refused(refusal)),
+    }
+}
+
+/// Keeps behind `view` the store's tree as it is now, with all its edits; `length` tells how many they are. Refused where `store` keeps
+/// none, `view` keeps something already, or memory runs out; then both stay as they were.
+#[unsafe(no_mangle)]
+pub extern "C" fn hudarin_store_publish(
+    alloc: Global,
+    store: &mut Handle,
+    view: &mut Handle,
+) -> Written
+    ensures { Publishes store.old store.new view.old view.new result }
+{
+    if view.is_there == 1 {
+        return not_written(HANDLE, 0, 0);
+    }
+    let Some(kept) = store.take(alloc) else {
+        return not_written(HANDLE, 0, 0);
+    };
+    let mut kept = kept;
+    let answer = match published(alloc, &mut kept) {
+        Ok(Some((made, length))) => {
+            view.put(made);
+            length_told(length)
+        }
+        Ok(None) => not_written(HANDLE, 0, 0),
+        Err(AllocError) => not_written(MEMORY, 0, 0),
+    };
+    store.put(kept);
+    answer
+}
+
+/// A view of the store that is kept, where one is, and the length of its journal.
+fn published(alloc: Global, kept: &mut Kept) -> Result<Option<(Box<Kept>, u64)>, AllocError>
+    ensures same { IsSame kept.old kept.new }
+    ensures view { IfOk result (λ made. MatchOption made (store_in kept.old ≡ None) (λ x. IsViewOf kept.old x.0.value x.1)) }
+{
+    let Kept::Store(store) = kept else {
+        return Ok(None);
+    };
+    let tree = store.publish()?;
+    let length = tree.len();
+    let view = Box::new(alloc, Kept::View(tree))?;
+    Ok(Some((view, length)))
+}
+
+/// The store's tree is again that which the view shows, of this store or another one, and has its edits alone; `length` tells how many
+/// they are. Refused where `store` keeps none, `view` keeps none, or memory runs out; then the store stays as it was.
+#[unsafe(no_mangle)]
+pub extern "C" fn hudarin_store_revert(
+    alloc: Global,
+    store: &mut Handle,
+    view: &mut Handle,
+) -> Written
+    ensures store { Reverts store.old store.new view.old result }
+    ensures view { Stays view.old view.new }
+{
+    let Some(first) = store.take(alloc) else {
+        return not_written(HANDLE, 0, 0);
+    };
+    let mut first = first;
+    let Some(second) = view.take(alloc) else {
+        store.put(first);
+        return not_written(HANDLE, 0, 0);
+    };
+    let answer = match reverted(&mut first, &second) {
+        Ok(Some(length)) => length_told(length),
+        Ok(None) => not_written(HANDLE, 0, 0),
+        Err(AllocError) => not_written(MEMORY, 0, 0),
+    };
+    store.put(first);
+    view.put(second);
+    answer
+}
+
+/// The store that is kept shows what the view does, where they are such; how long that journal is.
+fn reverted(first: &mut Kept, second: &Kept) -> Result<Option<u64>, AllocError>
+    ensures { MatchResult result (λ told. MatchOption told
+        (((store_in first.old ≡ None) ⊎ (view_in second.now ≡ None)) × IsSame first.old first.new)
+        (λ length. IsReverted first.old first.new second.now length))
+        (λ _. IsSame first.old first.new) }
+{
+    let Kept::Store(store) = first else {
+        return Ok(None);
+    };
+    let Kept::View(tree) = second else {
+        return Ok(None);
+    };
+    store.revert(tree)?;
+    Ok(Some(tree.len()))
+}

@@ -1,0 +1,182 @@
+//! The calls over views: trees as they were published, which threads share.
+
+ghost use Rattle.std.specs.Prelude.{◌≡◌, IfErr, IfOk};
+ghost use Rattle.sd_c.specs.Kept.{Stays};
+ghost use Rattle.sd_c.specs.Store.{history_of};
+ghost use Rattle.sd_c.specs.Views.{Asks, IsAnswered, IsFormAt, IsNoFormAt, IsNotAsked, TellsLength, WritesNode, length_in, not_told, reply_given, unasked, view_answer};
+
+use crate::answer::{CheckAnswer, HANDLE, Written, length_told, not_written, verdict_given, write};
+use crate::edits::path_of;
+use crate::handle::{Handle, Kept};
+use crate::not_done::{NotDone, PathArgument, not_done};
+use sd_check::Token;
+use sd_path::Path;
+use sd_sid::Mask;
+use sd_tree::{CheckReply, Tree};
+use sd_wire::write_descriptor;
+use std::alloc::Global;
+
+/// What a check by a view answers.
+#[repr(C)]
+#[derive(Clone, Copy, Debug, PartialEq, Eq)]
+pub struct ViewAnswer {
+    pub answer: CheckAnswer,
+    /// How many edits the view's journal has; 0 where a handle didn't serve, the path isn't read or memory runs out.
+    pub length: u64,
+}
+
+/// The verdict on a request for the node of a path ([MS-DTYP] 2.5.3.2), in the tree that the view shows, and how many edits that
+/// has. Refused where a handle keeps something else, the path isn't read, no node stands there, or memory for the path runs out.
+#[unsafe(no_mangle)]
+pub extern "C" fn hudarin_view_check(
+    alloc: Global,
+    view: &mut Handle,
+    path: &[u8],
+    token: &mut Handle,
+    asked: u32,
+) -> ViewAnswer
+    ensures answer { Asks view.old path.now token.old asked result }
+    ensures view { Stays view.old view.new }
+    ensures token { Stays token.old token.new }
+{
+    let Some(first) = view.take(alloc) else {
+        return unasked(NotDone::ViewHandle);
+    };
+    let Some(second) = token.take(alloc) else {
+        view.put(first);
+        return unasked(NotDone::TokenHandle);
+    };
+    let answer = match asked_of(alloc, &first, path, &second, asked) {
+        Ok(answer) => answer,
+        Err(why) => unasked(why),
+    };
+    view.put(first);
+    token.put(second);
+    answer
+}
+
+fn unasked(why: NotDone) -> ViewAnswer
+    ensures { result ≡ unasked why }
+{
+    ViewAnswer {
+        answer: not_done(why),
+        length: 0,
+    }
+}
+
+fn asked_of(
+    alloc: Global,
+    first: &Kept,
+    path: &[u8],
+    second: &Kept,
+    asked: u32,
+) -> Result<ViewAnswer, NotDone>
+    ensures ok { IfOk result (λ answer. IsAnswered first.now path.now second.now asked answer) }
+    ensures err { IfErr result (λ why. IsNotAsked first.now path.now second.now why) }
+{
+    let Kept::View(tree) = first else {
+        return Err(NotDone::ViewHandle);
+    };
+    let Kept::Token(token) = second else {
+        return Err(NotDone::TokenHandle);
+    };
+    let path = path_of(alloc, PathArgument::Path, path)?;
+    Ok(answer_in(tree, &path, token, asked))
+}
+
+fn answer_in(tree: &Tree, path: &Path, token: &Token, asked: u32) -> ViewAnswer
+    ensures { result ≡ view_answer (history_of tree.now) path.now token.now asked }
+{
+    ViewAnswer {
+        answer: reply_given(tree.check(path, token, Mask(asked))),
+        length: tree.len(),
+    }
+}
+
+fn reply_given(reply: CheckReply) -> CheckAnswer
+    ensures { result ≡ reply_given reply }
+{
+    match reply {
+        CheckReply::Verdict(verdict) => verdict_given(verdict),
+        CheckReply::NoNode => not_done(NotDone::NoNode),
+    }
+}
+
+/// How many edits a store's journal has, those too that no view shows, or a view's.
+#[unsafe(no_mangle)]
+pub extern "C" fn hudarin_journal_length(alloc: Global, handle: &mut Handle) -> Written
+    ensures length { TellsLength handle.old result }
+    ensures stays { Stays handle.old handle.new }
+{
+    let Some(kept) = handle.take(alloc) else {
+        return not_written(HANDLE, 0, 0);
+    };
+    let answer = length_in(&kept);
+    handle.put(kept);
+    answer
+}
+
+fn length_in(kept: &Kept) -> Written
+    ensures { result ≡ length_in kept.now }
+{
+    match kept {
+        Kept::Store(store) => length_told(store.draft.len()),
+        Kept::View(tree) => length_told(tree.len()),
+        Kept::Descriptor(_) | Kept::Token(_) => not_written(HANDLE, 0, 0),
+    }
+}
+
+/// The self-relative form ([MS-DTYP] 2.4.6) of the descriptor of a path's node in the tree that the view shows, written into the room.
+/// Refused as a check by the view is; then, and where the room is too small, nothing is written.
+#[unsafe(no_mangle)]
+pub extern "C" fn hudarin_view_descriptor(
+    alloc: Global,
+    view: &mut Handle,
+    path: &[u8],
+    room: &mut [u8],
+) -> Written
+    ensures answer { WritesNode view.old path.now room.old room.new result }
+    ensures view { Stays view.old view.new }
+{
+    let Some(kept) = view.take(alloc) else {
+        return not_told(NotDone::ViewHandle);
+    };
+    let answer = match form_at(alloc, &kept, path) {
+        Ok(bytes) => write(&bytes, room),
+        Err(why) => not_told(why),
+    };
+    view.put(kept);
+    answer
+}
+
+fn form_at(alloc: Global, kept: &Kept, path: &[u8]) -> Result<Vec<u8>, NotDone>
+    ensures ok { IfOk result (λ bytes. IsFormAt kept.now path.now bytes.items) }
+    ensures err { IfErr result (λ why. IsNoFormAt kept.now path.now why) }
+{
+    let Kept::View(tree) = kept else {
+        return Err(NotDone::ViewHandle);
+    };
+    let path = path_of(alloc, PathArgument::Path, path)?;
+    match tree.descriptor(&path)? {
+        Some(descriptor) => Ok(write_descriptor(alloc, &descriptor)?),
+        None => Err(NotDone::NoNode),
+    }
+}
+
+/// Why nothing is written.
+pub(crate) fn not_told(why: NotDone) -> Written
+    ensures { result ≡ not_told why }
+{
+    let CheckAnswer {
+        status,
+        fault,
+        place,
+        ..
+    } = not_done(why);
+    Written {
+        status,
+        fault,
+        place,
+        length: 0,
+    }
+}
