@@ -11,6 +11,7 @@ mod moving;
 mod numbers;
 mod paths;
 mod refusing;
+mod renewing;
 mod stepping;
 
 use sd_acl::{Dacl, Descriptor, Verdict};
@@ -33,6 +34,7 @@ enum Act {
     Keep,
     Move,
     Show,
+    Given,
     Count,
     Check,
 }
@@ -43,8 +45,13 @@ type Row = (Act, &'static str, &'static str, &'static str);
 /// The answer to the first row that is answered otherwise, in a tree whose root has the DACL of a text.
 fn wrong(alloc: Global, root: &str, rows: &[Row]) -> Result<Option<String>, Fail> {
     let mut tree = opened(alloc, root)?;
+    wrong_in(alloc, &mut tree, rows)
+}
+
+/// The same in a tree that is there.
+fn wrong_in(alloc: Global, tree: &mut Tree, rows: &[Row]) -> Result<Option<String>, Fail> {
     for (act, path, text, wanted) in rows {
-        let told = answer(alloc, &mut tree, *act, path, text)?;
+        let told = answer(alloc, tree, *act, path, text)?;
         if told.as_str() != *wanted {
             return Ok(Some(told));
         }
@@ -69,6 +76,7 @@ fn answer(
     let path = Path::read(alloc, path)?;
     match act {
         Act::Show => shown(alloc, tree, &path),
+        Act::Given => given_to(alloc, tree, &path),
         Act::Count => counted(alloc, tree, &path),
         Act::Check => checked(alloc, tree, &path, text),
         Act::Owner | Act::Group => told(alloc, tree, &naming(act, path, text)?),
@@ -152,6 +160,17 @@ fn shown(alloc: Global, tree: &Tree, path: &Path) -> Result<String, Fail> {
     match tree.descriptor(path)? {
         None => Ok(String::from_str(alloc, "nonode")?),
         Some(descriptor) => Ok(print_sddl(alloc, &descriptor)?),
+    }
+}
+
+/// The kind of the node, and the text of what was given to it, or `nonode`.
+fn given_to(alloc: Global, tree: &Tree, path: &Path) -> Result<String, Fail> {
+    match tree.given(path)? {
+        None => Ok(String::from_str(alloc, "nonode")?),
+        Some((kind, descriptor)) => {
+            let text = print_sddl(alloc, &descriptor)?;
+            Ok(format!(in alloc; "{kind:?} {text}")?)
+        }
     }
 }
 

@@ -5,12 +5,14 @@ mod beside;
 mod client;
 mod limits;
 mod memory;
+mod onwards;
 mod opening;
 mod refusals;
 mod runs;
 mod stage;
 mod step;
 mod threads;
+mod together;
 mod told;
 
 use stage::{Setting, run};

@@ -1,4 +1,4 @@
-//! The example of README.md.
+//! The example of docs/LIBRARY.md.
 
 use sd_check::{GroupState, Privileges, Token, Verdict, check};
 use sd_sid::{GenericMapping, Mask};

@@ -114,17 +114,21 @@ fn requests(alloc: Global, rows: &[(Step, &str)]) -> Result<Vec<Request>, Fail> 
     Ok(requests)
 }
 
+/// A desk on which the row's request comes behind those of the other rows.
+fn step_call(alloc: Global, before: &[(Step, &str)], row: (Step, &str)) -> Result<Stepped, Fail> {
+    Ok(Stepped {
+        desk: started(alloc)?,
+        before: requests(alloc, before)?,
+        request: requests(alloc, &[row])?.pop().ok_or("a request")?,
+    })
+}
+
 #[test]
 fn steps_of_a_desk(rt: HostRuntime) -> Result<(), Fail> {
     let alloc = rt.alloc();
     let mut before = Vec::new(alloc);
     for row in ROWS {
-        let mut stepped = Stepped {
-            desk: started(alloc)?,
-            before: requests(alloc, &before)?,
-            request: requests(alloc, &[row])?.pop().ok_or("a request")?,
-        };
-        expect(&rt, &mut stepped, row.1);
+        expect(&rt, &mut step_call(alloc, &before, row)?, row.1);
         before.push(row)?;
     }
     Ok(())

@@ -152,22 +152,32 @@ impl Call for Edited {
         if let Done::Applied(Ok(())) = &answer {
             return shown(alloc, &self.tree, &self.shown);
         }
-        if text_of(alloc, &self.tree)?.as_str() != text_of(alloc, &self.first)?.as_str() {
+        if is_changed(alloc, &self.first, &self.tree)? {
             return String::from_str(alloc, "changed");
         }
-        match answer {
-            Done::Judged(Ok(Some(refusal)))
-            | Done::Prepared(Err(TreeError::Refused(refusal)))
-            | Done::Applied(Err(TreeError::Refused(refusal))) => {
-                format!(in alloc; "refused {} {}", refusal.number(), refusal.name())
-            }
-            Done::Judged(Ok(None)) | Done::Prepared(Ok(_)) => String::from_str(alloc, "well"),
-            Done::Copied(Ok(copy)) => {
-                let same = debug(alloc, &copy)?.as_str() == debug(alloc, &self.edit)?.as_str();
-                String::from_str(alloc, if same { "well" } else { "another" })
-            }
-            _ => String::from_str(alloc, MEMORY),
+        outcome(alloc, &self.edit, answer)
+    }
+}
+
+/// Whether the journal or a node differs.
+fn is_changed(alloc: Global, first: &Tree, tree: &Tree) -> Result<bool, AllocError> {
+    Ok(text_of(alloc, tree)?.as_str() != text_of(alloc, first)?.as_str())
+}
+
+/// What was done with the edit, in words, where the tree is as it was.
+fn outcome(alloc: Global, edit: &Edit, answer: Done) -> Result<String, AllocError> {
+    match answer {
+        Done::Judged(Ok(Some(refusal)))
+        | Done::Prepared(Err(TreeError::Refused(refusal)))
+        | Done::Applied(Err(TreeError::Refused(refusal))) => {
+            format!(in alloc; "refused {} {}", refusal.number(), refusal.name())
         }
+        Done::Judged(Ok(None)) | Done::Prepared(Ok(_)) => String::from_str(alloc, "well"),
+        Done::Copied(Ok(copy)) => {
+            let same = debug(alloc, &copy)?.as_str() == debug(alloc, edit)?.as_str();
+            String::from_str(alloc, if same { "well" } else { "another" })
+        }
+        _ => String::from_str(alloc, MEMORY),
     }
 }
 
@@ -221,20 +231,25 @@ fn tree(alloc: Global) -> Result<Tree, Fail> {
 
 /// The edit of the tree in each way.
 fn expect_all(rt: &(impl Abort + AllocGlobal), tree: &Tree, row: Row) -> Result<(), Fail> {
-    let alloc = rt.alloc();
-    let (step, path, wanted) = row;
+    let (_, _, wanted) = row;
     for way in [Way::Judge, Way::Prepare, Way::Apply, Way::Copy] {
-        let mut edited = Edited {
-            first: tree.copy()?,
-            tree: tree.copy()?,
-            edit: edit(alloc, step).ok_or("an edit")?,
-            way,
-            shown: Path::read(alloc, path)?,
-        };
+        let mut call = edit_call(rt.alloc(), tree, row, way)?;
         let is_shown = way == Way::Apply || (way != Way::Copy && wanted.starts_with("refused"));
-        expect(rt, &mut edited, if is_shown { wanted } else { "well" });
+        expect(rt, &mut call, if is_shown { wanted } else { "well" });
     }
     Ok(())
+}
+
+/// The row's edit of the tree, in that way.
+fn edit_call(alloc: Global, tree: &Tree, row: Row, way: Way) -> Result<Edited, Fail> {
+    let (step, path, _) = row;
+    Ok(Edited {
+        first: tree.copy()?,
+        tree: tree.copy()?,
+        edit: edit(alloc, step).ok_or("an edit")?,
+        way,
+        shown: Path::read(alloc, path)?,
+    })
 }
 
 #[test]
@@ -274,29 +289,45 @@ fn object(alloc: Global, number: u64) -> Result<Edit, Fail> {
     })
 }
 
-#[test]
-fn a_full_tree_refuses_a_node_or_wants_memory(rt: HostRuntime) -> Result<(), Fail> {
-    let alloc = rt.alloc();
+/// The tree with so many objects.
+fn full(alloc: Global) -> Result<Tree, Fail> {
     let mut tree = tree(alloc)?;
     for number in 0..OBJECTS {
         tree.apply(&object(alloc, number)?)?;
     }
+    Ok(tree)
+}
+
+#[test]
+fn a_full_tree_refuses_a_node_or_wants_memory(rt: HostRuntime) -> Result<(), Fail> {
+    let alloc = rt.alloc();
+    let mut tree = full(alloc)?;
     let edit = object(alloc, OBJECTS)?;
     for lasts in [false, true] {
         for number in 1..MOST {
-            Refusal { number, lasts }.begin(alloc);
-            let applied = tree.apply(&edit);
-            let was_refused = Refusal::ended(alloc);
-            let is_full = applied == Err(TreeError::Refused(EditRefusal::NodesFull));
-            let is_memory = was_refused && applied == Err(TreeError::Memory);
-            assert!(rt; is_full || is_memory, "{number}");
-            assert_eq!(rt; tree.len(), 65_535);
-            if !was_refused {
+            if !is_refused_full(&rt, &mut tree, &edit, Refusal { number, lasts }) {
                 break;
             }
         }
     }
     Ok(())
+}
+
+/// Whether a request of the edit of a full tree was refused.
+fn is_refused_full(
+    rt: &(impl Abort + AllocGlobal),
+    tree: &mut Tree,
+    edit: &Edit,
+    refusal: Refusal,
+) -> bool {
+    refusal.begin(rt.alloc());
+    let applied = tree.apply(edit);
+    let was_refused = Refusal::ended(rt.alloc());
+    let is_full = applied == Err(TreeError::Refused(EditRefusal::NodesFull));
+    let is_memory = was_refused && applied == Err(TreeError::Memory);
+    assert!(rt; is_full || is_memory, "{refusal:?}");
+    assert_eq!(rt; tree.len(), 65_535);
+    was_refused
 }
 
 #[test]
@@ -306,17 +337,28 @@ fn early_refusals_take_no_memory(rt: HostRuntime) -> Result<(), Fail> {
     let object = edit(alloc, Step::Object("/o", "D:")).ok_or("an edit")?;
     tree.apply(&object)?;
     for (step, wanted) in EARLY {
-        let edit = edit(alloc, step).ok_or("an edit")?;
-        Refusal::ALL.begin(alloc);
-        let judged = tree.judge(&edit);
-        let prepared = tree.prepare(&edit).err();
-        let applied = tree.apply(&edit);
-        assert!(rt; !Refusal::ended(alloc), "{step:?}");
-        assert_eq!(rt; judged?, Some(wanted), "{step:?}");
-        assert_eq!(rt; prepared, Some(TreeError::Refused(wanted)), "{step:?}");
-        assert_eq!(rt; applied, Err(TreeError::Refused(wanted)), "{step:?}");
+        refuses_early(&rt, &mut tree, step, wanted)?;
     }
     assert_eq!(rt; tree.journal().len(), 4);
+    Ok(())
+}
+
+/// The edit is refused so in each way, though each request for memory is refused.
+fn refuses_early(
+    rt: &(impl Abort + AllocGlobal),
+    tree: &mut Tree,
+    step: Step,
+    wanted: EditRefusal,
+) -> Result<(), Fail> {
+    let alloc = rt.alloc();
+    let edit = edit(alloc, step).ok_or("an edit")?;
+    Refusal::ALL.begin(alloc);
+    let is_judged = tree.judge(&edit) == Ok(Some(wanted));
+    let is_prepared = tree.prepare(&edit).err() == Some(TreeError::Refused(wanted));
+    let is_applied = tree.apply(&edit) == Err(TreeError::Refused(wanted));
+    let was_refused = Refusal::ended(alloc);
+    let found = (is_judged, is_prepared, is_applied, was_refused);
+    assert_eq!(rt; found, (true, true, true, false), "{step:?}");
     Ok(())
 }
 
@@ -386,13 +428,19 @@ impl Call for Whole {
 }
 
 #[test]
-fn whole_trees(rt: HostRuntime) -> Result<(), Fail> {
+fn openings(rt: HostRuntime) -> Result<(), Fail> {
     let alloc = rt.alloc();
     let opened = "O:BAG:SYD:AI(A;OICI;FA;;;BA)";
     let given = root(alloc, ADMINISTRATORS, 1).ok_or("a root")?;
     expect(&rt, &mut Whole::Opening(given), opened);
     let given = root(alloc, "O:BAG:SYD:(A;;FA;;;WD)", 3277).ok_or("a root")?;
     expect(&rt, &mut Whole::Opening(given), "AclTooLarge");
+    Ok(())
+}
+
+#[test]
+fn whole_trees(rt: HostRuntime) -> Result<(), Fail> {
+    let alloc = rt.alloc();
     let text = text_of(alloc, &tree(alloc)?)?;
     expect(&rt, &mut Whole::Copying(tree(alloc)?), text.as_str());
     let inherited = "O:BAG:SYD:AI(A;OICIID;FA;;;BA)";
