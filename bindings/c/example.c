@@ -37,7 +37,8 @@ int main(void)
     uint32_t states[] = { HUDARIN_GROUP_ENABLED, HUDARIN_GROUP_DENY_ONLY };
     char text[100];
     size_t user_length, groups_length;
-    hudarin_kept kept = HUDARIN_NOTHING, token = HUDARIN_NOTHING;
+    hudarin_descriptor kept = HUDARIN_NOTHING;
+    hudarin_token token = HUDARIN_NOTHING;
     hudarin_written answer;
     hudarin_mask asked;
 
@@ -79,8 +80,8 @@ int main(void)
         show("a token", made);
     }
     show("read, as kept", hudarin_check_kept(&kept, &token, files, 0x1));
-    hudarin_free(&kept);
+    hudarin_free(&kept.kept);
     show("a handle that was freed", hudarin_check_kept(&kept, &token, files, 0x1));
-    hudarin_free(&token);
+    hudarin_free(&token.kept);
     return 0;
 }

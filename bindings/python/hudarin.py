@@ -10,10 +10,11 @@ else the system's. Any number of threads may use this module: its objects never 
 """
 
 import ctypes
+import itertools
 import os
 import re
 import threading
-from typing import Iterable, NamedTuple, Optional, SupportsBytes, Tuple, Union
+from typing import Iterable, Iterator, NamedTuple, Optional, SupportsBytes, Tuple, Union
 
 __version__ = "0.1.0"
 
@@ -33,6 +34,12 @@ STATUSES = {
     9: "privileges",
     10: "mapping",
     11: "handle",
+    12: "edit",
+    13: "path",
+    14: "parts",
+    15: "refused",
+    16: "no node",
+    17: "domain",
 }
 VERDICTS = {1: "granted", 2: "denied", 3: "reserved", 4: "empty"}
 ARGUMENTS = {
@@ -44,9 +51,14 @@ ARGUMENTS = {
     6: "privileges",
     7: "mapping",
     8: "token",
+    9: "store",
+    10: "view",
+    11: "edit",
+    12: "path",
+    13: "value",
 }
 
-#: The faults of a text, of a descriptor's bytes and of a SID's, by their numbers.
+#: The faults of a text, of a descriptor's bytes, of a SID's and of a path, and why a tree refuses an edit, by their numbers.
 FAULTS = {
     "sddl": ("Syntax", "HasSacl", "EntryKind", "ObjectGuid", "UnknownAlias", "DomainAlias", "Range", "AclTooLarge"),
     "wire": (
@@ -62,6 +74,22 @@ FAULTS = {
         "EntryKind",
     ),
     "sid": ("Revision", "Count", "Short"),
+    "path": ("Syntax", "NameTooLong", "TooManyNames"),
+    "refused": (
+        "NoParent",
+        "ParentIsObject",
+        "Exists",
+        "NoNode",
+        "NotEmpty",
+        "IsRoot",
+        "InheritedEntry",
+        "NotCanonical",
+        "AclTooLarge",
+        "TooDeep",
+        "NodesFull",
+        "JournalFull",
+        "IntoItself",
+    ),
 }
 CAUSES = {
     1: "without a list",
@@ -77,13 +105,19 @@ CAUSES = {
 DISABLED, ENABLED, DENY_ONLY = 0x0, 0x4, 0x10
 #: The privileges, joined by |.
 SECURITY, TAKE_OWNERSHIP = 0x1, 0x2
-#: The mappings of files and of registry keys: what GENERIC_READ, GENERIC_WRITE, GENERIC_EXECUTE and GENERIC_ALL stand for.
+#: The mappings of files, of registry keys, of services and of processes: what GENERIC_READ, GENERIC_WRITE, GENERIC_EXECUTE and
+#: GENERIC_ALL stand for.
 FILES = (0x120089, 0x120116, 0x1200A0, 0x1F01FF)
 KEYS = (0x20019, 0x20006, 0x20019, 0xF003F)
+SERVICES = (0x2008D, 0x20002, 0x20170, 0xF01FF)
+PROCESSES = (0x20410, 0x20BEA, 0x121001, 0x1FFFFF)
 
-_ROOM = 2
+_ROOM, _NO_NODE = 2, 16
+_CONTAINER = 1
+_DESCRIPTOR_BYTES = 65688
 _BY_THE_LIST = 2
 _NO_PASS, _NO_ENTRY = 0, 3
+_ADD_CONTAINER, _ADD_OBJECT, _SET_OWNER, _SET_GROUP, _SET_DACL, _REMOVE, _PROTECT_KEEPING, _MOVE = range(1, 9)
 
 
 class _Mapping(ctypes.Structure):
@@ -99,6 +133,10 @@ class _Verdict(ctypes.Structure):
         ("place", _U64),
         ("mask", _U32),
     ]
+
+
+class _ViewVerdict(ctypes.Structure):
+    _fields_ = [("answer", _Verdict), ("length", _U64)]
 
 
 class _Finding(ctypes.Structure):
@@ -121,13 +159,21 @@ class _Written(ctypes.Structure):
     _fields_ = [("status", _U32), ("fault", _U32), ("place", _U64), ("length", _U64)]
 
 
+class _Trimmed(ctypes.Structure):
+    _fields_ = [("written", _Written), ("left_out", _U32)]
+
+
+class _NodeAnswer(ctypes.Structure):
+    _fields_ = [("written", _Written), ("kind", _U32)]
+
+
 class _Mask(ctypes.Structure):
     _fields_ = [("status", _U32), ("fault", _U32), ("place", _U64), ("mask", _U32)]
 
 
 def _load():
-    beside = os.path.join(os.path.dirname(os.path.abspath(__file__)), "..", "out", "libhudarin.so.1")
-    named = os.environ.get("HUDARIN_LIBRARY") or (beside if os.path.exists(beside) else "libhudarin.so.1")
+    beside = os.path.join(os.path.dirname(os.path.abspath(__file__)), "..", "out", "libhudarin.so.0")
+    named = os.environ.get("HUDARIN_LIBRARY") or (beside if os.path.exists(beside) else "libhudarin.so.0")
     try:
         library = ctypes.CDLL(named)
     except OSError as e:
@@ -143,8 +189,12 @@ def _load():
     ):
         call = getattr(library, "hudarin_" + name)
         call.argtypes, call.restype = given + room, _Written
+    for call in (library.hudarin_sddl_to_bytes_in, library.hudarin_sid_text_to_bytes_in):
+        call.argtypes, call.restype = given * 2 + room, _Written
     library.hudarin_descriptor_length.argtypes = given
     library.hudarin_descriptor_length.restype = _Written
+    library.hudarin_descriptor_trim.argtypes = given + [_U64, _U32] + room
+    library.hudarin_descriptor_trim.restype = _Trimmed
     library.hudarin_mask_from_text.argtypes = given
     library.hudarin_mask_from_text.restype = _Mask
     token = given * 2 + [ctypes.POINTER(_U32), _SIZE] + given + [_U32]
@@ -155,7 +205,18 @@ def _load():
     library.hudarin_keep_token.argtypes, library.hudarin_keep_token.restype = token + [kept], _Verdict
     library.hudarin_check_bytes.argtypes, library.hudarin_check_bytes.restype = given + [kept, _Mapping, _U32], _Verdict
     library.hudarin_explain.argtypes, library.hudarin_explain.restype = [kept, kept, _Mapping, _U32], _Explanation
-    library.hudarin_free.argtypes, library.hudarin_free.restype = [kept], None
+    library.hudarin_share.argtypes, library.hudarin_share.restype = [kept, kept], _Written
+    library.hudarin_store_open.argtypes, library.hudarin_store_open.restype = given + [_Mapping, kept], _Verdict
+    for call in (library.hudarin_store_edit, library.hudarin_store_judge):
+        call.argtypes, call.restype = [kept, _U32] + given * 2, _Verdict
+    library.hudarin_store_publish.argtypes, library.hudarin_store_publish.restype = [kept, kept], _Written
+    library.hudarin_view_check.argtypes, library.hudarin_view_check.restype = [kept] + given + [kept, _U32], _ViewVerdict
+    library.hudarin_view_descriptor.argtypes, library.hudarin_view_descriptor.restype = [kept] + given + room, _Written
+    library.hudarin_view_own.argtypes, library.hudarin_view_own.restype = [kept] + given + room, _NodeAnswer
+    library.hudarin_view_node.argtypes, library.hudarin_view_node.restype = [kept, _U64] + room, _NodeAnswer
+    library.hudarin_store_revert.argtypes, library.hudarin_store_revert.restype = [kept, kept], _Written
+    library.hudarin_journal_length.argtypes, library.hudarin_journal_length.restype = [kept], _Written
+    library.hudarin_release.argtypes, library.hudarin_release.restype = [kept], None
     return library
 
 
@@ -194,9 +255,13 @@ def _mapping(masks):
 
 
 def _sid(value, what):
-    if not isinstance(value, Sid):
-        raise TypeError(f"{what}: a Sid is wanted, and {value!r} isn't one")
-    return bytes(value)
+    return bytes(_wanted(value, Sid, what))
+
+
+def _wanted(value, kind, what):
+    if not isinstance(value, kind):
+        raise TypeError(f"{what}: a {kind.__name__} is wanted, and {value!r} isn't one")
+    return value
 
 
 def _text(value):
@@ -234,17 +299,31 @@ def _token(user, groups, privileges, restricting):
     return who, len(who), sids, len(sids), states, len(pairs), again, len(again), _number(privileges, "privileges")
 
 
-def _written(call, given):
-    """What the call writes, in a room that is made as large as it wants."""
+def _filled(call):
+    """What the call writes, in a room that is made as large as it wants, and its answer."""
     length = 256
     while True:
         room = ctypes.create_string_buffer(length)
-        answer = call(given, len(given), room, length)
-        if answer.status == 0:
-            return room.raw[: answer.length]
-        if answer.status != _ROOM:
-            _refuse(answer)
-        length = answer.length
+        answer = call(room, length)
+        written = getattr(answer, "written", answer)
+        if written.status == 0:
+            return room.raw[: written.length], answer
+        if written.status != _ROOM:
+            _refuse(written)
+        length = written.length
+
+
+def _written(call, given, *before):
+    """What the call writes, by what is given."""
+    return _filled(lambda room, length: call(*before, given, len(given), room, length))[0]
+
+
+def _spelled(call, call_in, text, domain):
+    """What the call writes of the text; where there is a domain its aliases are read, by the other call."""
+    if domain is None:
+        return _written(call, _text(text))
+    given = _sid(domain, "domain")
+    return _written(call_in, _text(text), given, len(given))
 
 
 def mask(text: str) -> int:
@@ -326,10 +405,10 @@ class Sid:
         self._bytes = _written(_library.hudarin_sid_text_to_bytes, _written(_library.hudarin_sid_bytes_to_text, _data(data)))
 
     @classmethod
-    def from_text(cls, text: str) -> "Sid":
-        """The SID that the text spells, in full or by an alias of two letters."""
+    def from_text(cls, text: str, domain: Optional["Sid"] = None) -> "Sid":
+        """The SID that the text spells, in full or by an alias of two letters: of a ``domain``'s accounts and groups where that is given."""
         sid = cls.__new__(cls)
-        sid._bytes = _written(_library.hudarin_sid_text_to_bytes, _text(text))
+        sid._bytes = _spelled(_library.hudarin_sid_text_to_bytes, _library.hudarin_sid_text_to_bytes_in, text, domain)
         return sid
 
     def __bytes__(self) -> bytes:
@@ -352,25 +431,18 @@ class Sid:
 Group = Union[Sid, Tuple[Sid, int]]
 
 
-class Token:
-    """A user, groups and privileges, read once for many checks: ``with Token(user, groups) as token: ..``, or until ``close``.
-    Its arguments are those of ``Descriptor.check``. Threads may use one at once, and take turns at it."""
+class _Held:
+    """What the library keeps, until ``close`` or the end of a ``with``. Threads may use one at once, and take turns at it."""
 
     __slots__ = ("_kept", "_turn")
 
-    def __init__(
-        self, user: Sid, groups: Iterable[Group] = (), privileges: int = 0, restricting: Iterable[Sid] = ()
-    ) -> None:
+    def __init__(self) -> None:
         self._kept, self._turn = _Kept(), threading.Lock()
-        _held(_library.hudarin_keep_token(*_token(user, groups, privileges, restricting), self._kept))
 
     def close(self) -> None:
         """Frees what is kept; a second time does nothing."""
         with self._turn:
-            _library.hudarin_free(self._kept)
-
-    def __enter__(self) -> "Token":
-        return self
+            _library.hudarin_release(self._kept)
 
     def __exit__(self, *_: object) -> None:
         self.close()
@@ -378,6 +450,22 @@ class Token:
     def __del__(self) -> None:
         if hasattr(self, "_turn"):
             self.close()
+
+
+class Token(_Held):
+    """A user, groups and privileges, read once for many checks: ``with Token(user, groups) as token: ..``, or until ``close``.
+    Its arguments are those of ``Descriptor.check``. Threads may use one at once, and take turns at it."""
+
+    __slots__ = ()
+
+    def __init__(
+        self, user: Sid, groups: Iterable[Group] = (), privileges: int = 0, restricting: Iterable[Sid] = ()
+    ) -> None:
+        super().__init__()
+        _held(_library.hudarin_keep_token(*_token(user, groups, privileges, restricting), self._kept))
+
+    def __enter__(self) -> "Token":
+        return self
 
 
 class Descriptor:
@@ -391,11 +479,25 @@ class Descriptor:
         self._bytes = given[: _held(_library.hudarin_descriptor_length(given, len(given))).length]
 
     @classmethod
-    def from_sddl(cls, text: str) -> "Descriptor":
-        """The descriptor that the SDDL text spells."""
+    def from_sddl(cls, text: str, domain: Optional[Sid] = None) -> "Descriptor":
+        """The descriptor that the SDDL text spells, the aliases of a ``domain``'s accounts and groups too where that is given."""
         descriptor = cls.__new__(cls)
-        descriptor._bytes = _written(_library.hudarin_sddl_to_bytes, _text(text))
+        descriptor._bytes = _spelled(_library.hudarin_sddl_to_bytes, _library.hudarin_sddl_to_bytes_in, text, domain)
         return descriptor
+
+    @classmethod
+    def from_blob(cls, data: Data, place: int, leaves_sacl: bool = False) -> Tuple["Descriptor", int]:
+        """The descriptor whose header stands at the place in a blob from whose front its offsets count, as in Samba's security.NTACL, and
+        what is left out of it: 1 for a SACL, which is refused unless ``leaves_sacl``, and 2 for the resource manager's byte."""
+        if not isinstance(place, int) or isinstance(place, bool):
+            raise TypeError(f"place: a number is wanted, and {place!r} isn't one")
+        if not 0 <= place < 1 << 64:
+            raise ValueError(f"place: {place} isn't a number of 64 bits")
+        given, room = _data(data), ctypes.create_string_buffer(_DESCRIPTOR_BYTES)
+        told = _library.hudarin_descriptor_trim(given, len(given), place, 1 if leaves_sacl else 0, room, len(room))
+        descriptor = cls.__new__(cls)
+        descriptor._bytes = room.raw[: _held(told.written).length]
+        return descriptor, told.left_out
 
     def __bytes__(self) -> bytes:
         return self._bytes
@@ -432,8 +534,7 @@ class Descriptor:
 
     def check_by(self, token: Token, asked: int = 0, mapping: Iterable[int] = FILES) -> Verdict:
         """The verdict on ``asked`` for a ``Token``, straight over the descriptor's bytes. One that was closed is a ``Refused``."""
-        if not isinstance(token, Token):
-            raise TypeError(f"token: a Token is wanted, and {token!r} isn't one")
+        _wanted(token, Token, "token")
         request = _mapping(mapping), _number(asked, "asked")
         with token._turn:
             answer = _library.hudarin_check_bytes(self._bytes, len(self._bytes), token._kept, *request)
@@ -457,10 +558,179 @@ class Descriptor:
             _held(_library.hudarin_keep_token(*token, who))
             explained = _library.hudarin_explain(descriptor, who, *request)
         finally:
-            _library.hudarin_free(descriptor)
-            _library.hudarin_free(who)
+            _library.hudarin_release(descriptor)
+            _library.hudarin_release(who)
         answer = _held(explained.answer)
         # In a canonical text each entry is what stands between a pair of brackets.
         entries = re.findall(r"\([^()]*\)", str(self))
         parts = tuple(_part(part, entries) for part in explained.parts if part.mask != 0)
         return Explanation(Verdict(VERDICTS[answer.kind], answer.mask), parts)
+
+
+class Node(NamedTuple):
+    """A node of a view: its path, whether it is a container, and what was given to it, without what it inherits."""
+
+    path: str
+    is_container: bool
+    own: Descriptor
+
+
+class View(_Held):
+    """The tree of a ``Store`` as it was published, which never changes: ``with store.publish() as view: ..``, or until ``close``.
+    Threads may use one at once, and take turns at it; ``share`` makes another of the same, which they needn't wait for."""
+
+    __slots__ = ()
+
+    def __enter__(self) -> "View":
+        return self
+
+    def check(self, path: str, token: Token, asked: int = 0) -> Verdict:
+        """The verdict on ``asked`` for the node of the path. A ``Refused`` where no node stands there."""
+        given = _text(path)
+        _wanted(token, Token, "token")
+        _number(asked, "asked")
+        with self._turn, token._turn:
+            told = _library.hudarin_view_check(self._kept, given, len(given), token._kept, asked)
+        return Verdict(VERDICTS[_held(told.answer).kind], told.answer.mask)
+
+    def descriptor(self, path: str) -> Descriptor:
+        """The descriptor of the node of the path, with the entries that it inherits."""
+        with self._turn:
+            return Descriptor(_written(_library.hudarin_view_descriptor, _text(path), self._kept))
+
+    def own(self, path: str) -> Node:
+        """The node of the path, with what was given to it: the descriptor that an addition of it brings."""
+        given = _text(path)
+        with self._turn:
+            form, told = _filled(lambda *room: _library.hudarin_view_own(self._kept, given, len(given), *room))
+        return Node(path, told.kind == _CONTAINER, Descriptor(form))
+
+    def nodes(self) -> Iterator[Node]:
+        """Each node, in the order of their paths: behind what holds it, and the root first."""
+        for place in itertools.count():
+            try:
+                with self._turn:
+                    path, _ = _filled(lambda *room: _library.hudarin_view_node(self._kept, place, *room))
+            except Refused as refused:
+                if refused.status == STATUSES[_NO_NODE]:
+                    return
+                raise
+            yield self.own(path.decode())
+
+    def share(self) -> "View":
+        """Another view of the same tree, which is closed by itself."""
+        other = View()
+        with self._turn:
+            _held(_library.hudarin_share(self._kept, other._kept))
+        return other
+
+    def __len__(self) -> int:
+        """How many edits its tree has."""
+        with self._turn:
+            return _held(_library.hudarin_journal_length(self._kept)).length
+
+    def __bool__(self) -> bool:
+        return True
+
+
+class _Edits:
+    """The edits of a tree, each by its number, its path and its value."""
+
+    __slots__ = ()
+
+    def _edit(self, edit, path, value=b""):
+        raise NotImplementedError
+
+    def add_container(self, path: str, descriptor: Descriptor) -> None:
+        """Adds a container with the descriptor's owner, group and own DACL."""
+        self._edit(_ADD_CONTAINER, path, bytes(_wanted(descriptor, Descriptor, "descriptor")))
+
+    def add_object(self, path: str, descriptor: Descriptor) -> None:
+        """Adds an object with the descriptor's owner, group and own DACL."""
+        self._edit(_ADD_OBJECT, path, bytes(_wanted(descriptor, Descriptor, "descriptor")))
+
+    def set_owner(self, path: str, owner: Sid) -> None:
+        """Gives the node an owner."""
+        self._edit(_SET_OWNER, path, _sid(owner, "owner"))
+
+    def set_group(self, path: str, group: Sid) -> None:
+        """Gives the node a group."""
+        self._edit(_SET_GROUP, path, _sid(group, "group"))
+
+    def set_dacl(self, path: str, descriptor: Descriptor) -> None:
+        """Gives the node the descriptor's DACL as its own; the descriptor has neither owner nor group."""
+        self._edit(_SET_DACL, path, bytes(_wanted(descriptor, Descriptor, "descriptor")))
+
+    def remove(self, path: str) -> None:
+        """Removes a node without children."""
+        self._edit(_REMOVE, path)
+
+    def protect_keeping(self, path: str) -> None:
+        """Protects the node; what it had inherited becomes its own."""
+        self._edit(_PROTECT_KEEPING, path)
+
+    def move(self, source: str, target: str) -> None:
+        """Moves the node and all below it to a free path."""
+        self._edit(_MOVE, source, _text(target))
+
+
+class Store(_Held, _Edits):
+    """A tree of containers and objects that inherit: ``with Store(root) as store: ..``, or until ``close``. Its edits are in no view
+    before the next ``publish``, and one that is refused changes nothing. Threads may use one at once, and take turns at it."""
+
+    __slots__ = ()
+
+    def __init__(self, root: Descriptor, mapping: Iterable[int] = FILES) -> None:
+        """The tree of the root alone, a container with the descriptor's owner, group and DACL."""
+        super().__init__()
+        given = bytes(_wanted(root, Descriptor, "root"))
+        _held(_library.hudarin_store_open(given, len(given), _mapping(mapping), self._kept))
+
+    def __enter__(self) -> "Store":
+        return self
+
+    def _edit(self, edit, path, value=b""):
+        self._call(_library.hudarin_store_edit, edit, path, value)
+
+    def _call(self, call, edit, path, value):
+        given = _text(path)
+        with self._turn:
+            _held(call(self._kept, edit, given, len(given), value, len(value)))
+
+    @property
+    def judge(self) -> "Judge":
+        """Its edits are refused as those of the store would be, and make nothing: ``store.judge.remove(path)``."""
+        return Judge(self)
+
+    def revert(self, view: View) -> None:
+        """The tree is again that of the view, and has its edits alone: so several edits are made all or none."""
+        _wanted(view, View, "view")
+        with self._turn, view._turn:
+            _held(_library.hudarin_store_revert(self._kept, view._kept))
+
+    def publish(self) -> View:
+        """A view of the tree with all its edits."""
+        view = View()
+        with self._turn:
+            _held(_library.hudarin_store_publish(self._kept, view._kept))
+        return view
+
+    def __len__(self) -> int:
+        """How many edits its tree has, those too that no view shows."""
+        with self._turn:
+            return _held(_library.hudarin_journal_length(self._kept)).length
+
+    def __bool__(self) -> bool:
+        return True
+
+
+class Judge(_Edits):
+    """What the edits of a ``Store`` would be refused for: each is a ``Refused``, or None where it would be made. Nothing changes."""
+
+    __slots__ = ("_store",)
+
+    def __init__(self, store: Store) -> None:
+        self._store = store
+
+    def _edit(self, edit, path, value=b""):
+        self._store._call(_library.hudarin_store_judge, edit, path, value)

@@ -7,7 +7,7 @@ import threading
 
 sys.path.insert(0, os.path.join(os.path.dirname(os.path.abspath(__file__)), "..", "python"))
 
-from hudarin import ENABLED, FILES, KEYS, Descriptor, Refused, Sid, Token, mask  # noqa: E402
+from hudarin import ENABLED, FILES, KEYS, Descriptor, Refused, Sid, Store, Token, mask  # noqa: E402
 
 USER = Sid.from_text("S-1-5-21-1-2-3-1001")
 EVERYONE = Sid.from_text("WD")
@@ -95,6 +95,18 @@ def refusal(call):
     return None
 
 
+# The aliases of a domain, which [MS-DTYP] 2.4.2.4 gives relative identifiers: 512 is DA's, 513 DU's, 500 LA's.
+DOMAIN = Sid.from_text("S-1-5-21-7-8-9")
+gives("an alias of a domain", "S-1-5-21-7-8-9-512", lambda: str(Sid.from_text("DA", DOMAIN)))
+gives("an alias of none", "BA", lambda: str(Sid.from_text("BA", DOMAIN)))
+gives(
+    "aliases of a domain in a text",
+    "O:S-1-5-21-7-8-9-500G:S-1-5-21-7-8-9-513D:(A;;FA;;;S-1-5-21-7-8-9-512)",
+    lambda: str(Descriptor.from_sddl("O:LAG:DUD:(A;;FA;;;DA)", DOMAIN)),
+)
+gives("a SID of no domain", ("domain at 0", None), lambda: refusal(lambda: Descriptor.from_sddl("O:DA", USER)))
+gives("a fault behind an alias of a domain", ("sddl 5 UnknownAlias at 6", "UnknownAlias"), lambda: refusal(lambda: Descriptor.from_sddl("O:DAG:QQ", DOMAIN)))
+raises("a domain that is no Sid", TypeError, lambda: Sid.from_text("DA", "S-1-5-21-7-8-9"))
 gives("a fault of a text", ("sddl 6 DomainAlias at 2", "DomainAlias"), lambda: refusal(lambda: Descriptor.from_sddl("O:DA")))
 gives("a fault of bytes", ("wire 1 Short at 0", "Short"), lambda: refusal(lambda: Descriptor(b"")))
 gives("a fault of a SID", ("sid 3 Short at 0", "Short"), lambda: refusal(lambda: Sid(b"\x01\x01")))
@@ -155,5 +167,71 @@ gives("not restricted", "granted 0x1", lambda: str(HELD.check(USER, [EVERYONE], 
 gives("restricted to the user", "denied 0x1", lambda: str(HELD.check(USER, [EVERYONE], asked=0x1, restricting=[USER])))
 gives("restricted to everyone too", "granted 0x1", lambda: str(HELD.check(USER, [EVERYONE], asked=0x1, restricting=[USER, EVERYONE])))
 gives("restricted to everyone, in no group", "denied 0x1", lambda: str(HELD.check(USER, asked=0x1, restricting=[EVERYONE])))
+
+
+def refusal(call):
+    """Why the call is refused: its status, its fault's name, and its argument."""
+    try:
+        return call()
+    except Refused as e:
+        return e.status, e.name, e.argument
+
+
+# A store, and what its views show: each as it was published.
+ROOT = Descriptor.from_sddl("O:SYG:SYD:(A;OICI;FR;;;S-1-5-21-1-2-3-1001)")
+NODE = Descriptor.from_sddl("O:BAG:SYD:")
+with Store(ROOT) as store, Token(USER) as token:
+    with store.publish() as empty:
+        store.add_container("/a", NODE)
+        store.add_object("/a/o", NODE)
+        gives("nothing is pending in a view", (0, 2), lambda: (len(empty), len(store)))
+        gives("no node yet", ("no node", None, "path"), lambda: refusal(lambda: empty.check("/a/o", token, 0x1)))
+        first = store.publish()
+    gives("a view that was closed", ("handle", None, "view"), lambda: refusal(lambda: empty.check("/", token, 0x1)))
+    gives("a view", "granted 0x1", lambda: str(first.check("/a/o", token, 0x1)))
+    gives("a node's descriptor", "O:BAG:SYD:AI(A;ID;FR;;;S-1-5-21-1-2-3-1001)", lambda: str(first.descriptor("/a/o")))
+    store.set_dacl("/a", Descriptor.from_sddl("D:P(A;OICI;0x2;;;WD)"))
+    store.set_owner("/a/o", Sid.from_text("BA"))
+    store.set_group("/a/o", Sid.from_text("BU"))
+    store.protect_keeping("/a/o")
+    store.move("/a", "/b")
+    with store.publish() as second, first, first.share() as third:
+        gives("the lengths", (2, 7, 7, 2), lambda: (len(first), len(second), len(store), len(third)))
+        gives("the first, as it was", "granted 0x1", lambda: str(first.check("/a/o", token, 0x1)))
+        gives("a share of it", "granted 0x1", lambda: str(third.check("/a/o", token, 0x1)))
+        gives("the second", "denied 0x1", lambda: str(second.check("/b/o", token, 0x1)))
+        gives("a node that was moved", "O:BAG:BUD:PAI(A;;0x2;;;WD)", lambda: str(second.descriptor("/b/o")))
+        raises("no token, by a view", TypeError, lambda: second.check("/b/o", USER, 0x1))
+        for number, wanted in NUMBERS:
+            raises(f"by a view {number!r}", wanted, lambda: second.check("/b/o", token, number))
+        gives(
+            "its nodes",
+            [("/", True, "O:SYG:SYD:(A;OICI;FR;;;S-1-5-21-1-2-3-1001)"), ("/b", True, "O:BAG:SYD:P(A;OICI;0x2;;;WD)"), ("/b/o", False, "O:BAG:BUD:P(A;;0x2;;;WD)")],
+            lambda: [(node.path, node.is_container, str(node.own)) for node in second.nodes()],
+        )
+        gives("one of them", second.own("/b/o"), lambda: list(second.nodes())[2])
+        gives("no such node", ("no node", None, None), lambda: refusal(lambda: second.own("/a")))
+        store.remove("/b/o")
+        raises("a revert to no view", TypeError, lambda: store.revert(token))
+        gives("a store that goes back", (None, 7), lambda: (store.revert(second), len(store)))
+    gives("a revert to a view that was closed", ("handle", None, None), lambda: refusal(lambda: store.revert(second)))
+    gives("nodes of a view that was closed", ("handle", None, None), lambda: refusal(lambda: list(second.nodes())))
+    raises("a revert to a token", TypeError, lambda: store.revert(token))
+    raises("a token that is a view", TypeError, lambda: first.check("/", second, 0x1))
+    raises("a token that is a store", TypeError, lambda: HELD.check_by(store, 0x1))
+    store.remove("/b/o")
+    gives("an edit that would be made", (None, 8), lambda: (store.judge.add_object("/q", NODE), len(store)))
+    gives("an edit that wouldn't", ("refused", "NoParent", None), lambda: refusal(lambda: store.judge.add_object("/x/y", NODE)))
+    raises("an owner that is no Sid, judged", TypeError, lambda: store.judge.set_owner("/b", "BA"))
+    gives("a parent that isn't there", ("refused", "NoParent", None), lambda: refusal(lambda: store.add_object("/x/y", NODE)))
+    gives("no path", ("path", "Syntax", "path"), lambda: refusal(lambda: store.remove("b")))
+    gives("no target", ("path", "Syntax", "value"), lambda: refusal(lambda: store.move("/b", "b")))
+    gives("no owner", ("parts", None, "value"), lambda: refusal(lambda: store.add_object("/q", HELD)))
+    raises("an owner that is no Sid", TypeError, lambda: store.set_owner("/b", "BA"))
+    raises("a node that is no Descriptor", TypeError, lambda: store.add_object("/q", b""))
+    raises("a path that is no text", TypeError, lambda: store.remove(b"/b"))
+    gives("nothing has changed", 8, lambda: len(store))
+gives("a store that was closed", ("handle", None, "store"), lambda: refusal(lambda: store.remove("/b")))
+gives("a root without an owner", ("parts", None, "value"), lambda: refusal(lambda: Store(HELD)))
 
 print(f"{passed} passed, {failed} failed")

@@ -136,7 +136,7 @@ static hudarin_verdict verdict(const unsigned char *bytes, size_t length, uint32
 }
 
 /* An explanation has the check's answer, no bit in two parts, and what is granted in parts that say so. */
-static void explains(hudarin_kept *descriptor, hudarin_kept *token, uint32_t asked, hudarin_verdict there)
+static void explains(hudarin_descriptor *descriptor, hudarin_token *token, uint32_t asked, hudarin_verdict there)
 {
     hudarin_explanation why = hudarin_explain(descriptor, token, files, asked);
     uint32_t all = 0, granted = 0;
@@ -158,7 +158,8 @@ static void keeps(const unsigned char *bytes, size_t length, uint32_t asked, hud
     static const unsigned char user[] = { 1, 5, 0, 0, 0, 0, 0, 5, 21, 0, 0, 0, 1, 0, 0, 0, 2, 0, 0, 0, 3, 0, 0, 0, 0xe9, 3, 0, 0 };
     static const unsigned char groups[] = { 1, 1, 0, 0, 0, 0, 0, 1, 0, 0, 0, 0, 1, 1, 0, 0, 0, 0, 0, 5, 18, 0, 0, 0 };
     static const uint32_t states[] = { HUDARIN_GROUP_ENABLED, HUDARIN_GROUP_DENY_ONLY };
-    hudarin_kept descriptor = HUDARIN_NOTHING, token = HUDARIN_NOTHING;
+    hudarin_descriptor descriptor = HUDARIN_NOTHING;
+    hudarin_token token = HUDARIN_NOTHING;
     hudarin_verdict there = hudarin_keep_token(user, sizeof user, groups, sizeof groups, states, 2, groups,
                                                restricting(asked, sizeof groups), asked & 3, &token);
     hudarin_written answer = hudarin_keep_bytes(bytes, length, &descriptor);
@@ -172,9 +173,9 @@ static void keeps(const unsigned char *bytes, size_t length, uint32_t asked, hud
     explains(&descriptor, &token, asked, there);
     there = hudarin_check_bytes(bytes, length, &token, files, asked);
     HOLDS(there.status == here.status && there.fault == here.fault && there.kind == here.kind && there.mask == here.mask);
-    hudarin_free(&descriptor);
-    hudarin_free(&token);
-    HOLDS(descriptor.is_there == 0 && token.is_there == 0);
+    hudarin_free(&descriptor.kept);
+    hudarin_free(&token.kept);
+    HOLDS(descriptor.kept.is_there == 0 && token.kept.is_there == 0);
 }
 
 static void change_bytes(void)

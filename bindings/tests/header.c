@@ -1,4 +1,4 @@
-/* What the header has of its own: its version, mappings, rooms that suffice, and the functions that stand in it. */
+/* What the header has of its own: its version, mappings, rooms that suffice, the functions that stand in it; and domains. */
 #include "tally.h"
 
 static const unsigned char user[] = { 1, 5, 0, 0, 0, 0, 0, 5, 21, 0, 0, 0, 1, 0, 0, 0, 2, 0, 0, 0, 3, 0, 0, 0, 0xe9, 3, 0, 0 };
@@ -41,7 +41,8 @@ static void granted(void)
 /* What the four generic rights come to, beside the constants of the standard. */
 static void mapped(hudarin_mapping mapping, const uint32_t *rights)
 {
-    hudarin_kept descriptor = HUDARIN_NOTHING, token = HUDARIN_NOTHING;
+    hudarin_descriptor descriptor = HUDARIN_NOTHING;
+    hudarin_token token = HUDARIN_NOTHING;
     int at;
     HOLDS(hudarin_keep_sddl("D:NO_ACCESS_CONTROL", 19, &descriptor).status == HUDARIN_OK);
     HOLDS(hudarin_keep_token(user, sizeof user, NULL, 0, NULL, 0, NULL, 0, 0, &token).status == HUDARIN_OK);
@@ -49,16 +50,49 @@ static void mapped(hudarin_mapping mapping, const uint32_t *rights)
         hudarin_verdict answer = hudarin_check_kept(&descriptor, &token, mapping, 0x80000000u >> at);
         HOLDS(hudarin_is_granted(answer) && answer.mask == rights[at]);
     }
-    hudarin_free(&descriptor);
-    hudarin_free(&token);
+    hudarin_free(&descriptor.kept);
+    hudarin_free(&token.kept);
 }
 
 static void mappings(void)
 {
     static const hudarin_mapping files = HUDARIN_FILE_MAPPING, keys = HUDARIN_KEY_MAPPING;
+    static const hudarin_mapping services = HUDARIN_SERVICE_MAPPING, processes = HUDARIN_PROCESS_MAPPING;
     static const uint32_t of_files[] = { 0x120089, 0x120116, 0x1200A0, 0x1F01FF }, of_keys[] = { 0x20019, 0x20006, 0x20019, 0xF003F };
+    static const uint32_t of_services[] = { 0x2008D, 0x20002, 0x20170, 0xF01FF }, of_processes[] = { 0x20410, 0x20BEA, 0x121001, 0x1FFFFF };
     mapped(files, of_files);
     mapped(keys, of_keys);
+    mapped(services, of_services);
+    mapped(processes, of_processes);
+    hudarin_free(NULL);
+}
+
+/* The aliases of a domain, by the relative identifiers of the standard: 512 is DA's, 513 DU's. */
+static void domains(void)
+{
+    static const char text[] = "O:DAG:DUD:(A;;FA;;;DA)", plain[] = "O:S-1-5-21-1-2-3-512G:S-1-5-21-1-2-3-513D:(A;;FA;;;S-1-5-21-1-2-3-512)";
+    unsigned char in_domain[200], in_full[200];
+    hudarin_written one, other = hudarin_sddl_to_bytes(plain, sizeof plain - 1, in_full, sizeof in_full);
+    unsigned char domain[sizeof user];
+    memcpy(domain, user, sizeof user);
+    domain[1] = 4; /* the user's SID without its last sub-authority, which stands behind it then */
+    one = hudarin_sddl_to_bytes_in(domain, sizeof domain, text, sizeof text - 1, in_domain, sizeof in_domain);
+    HOLDS(one.status == HUDARIN_OK && other.status == HUDARIN_OK && one.length == other.length);
+    HOLDS(memcmp(in_domain, in_full, (size_t)one.length) == 0);
+    HOLDS(hudarin_sddl_to_bytes_in(domain, sizeof domain, text, sizeof text - 1, NULL, 0).status == HUDARIN_ROOM);
+    one = hudarin_sddl_to_bytes_in(user, sizeof user, text, sizeof text - 1, in_domain, sizeof in_domain);
+    HOLDS(one.status == HUDARIN_DOMAIN && one.fault == 0 && one.place == 0 && one.length == 0);
+    one = hudarin_sddl_to_bytes_in(user, 27, "\xff", 1, in_domain, sizeof in_domain);
+    HOLDS(one.status == HUDARIN_SID && one.fault == HUDARIN_SID_SHORT);
+    one = hudarin_sddl_to_bytes_in(domain, 24, "\xff", 1, in_domain, sizeof in_domain);
+    HOLDS(one.status == HUDARIN_UTF8 && one.place == 0);
+    one = hudarin_sddl_to_bytes_in(domain, 24, "O:DAG:QQ", 8, in_domain, sizeof in_domain);
+    HOLDS(one.status == HUDARIN_TEXT && one.fault == HUDARIN_TEXT_UNKNOWN_ALIAS && one.place == 6);
+    one = hudarin_sid_text_to_bytes_in(domain, 24, "DU", 2, in_domain, sizeof in_domain);
+    other = hudarin_sid_text_to_bytes("S-1-5-21-1-2-3-513", 18, in_full, sizeof in_full);
+    HOLDS(one.status == HUDARIN_OK && one.length == other.length && memcmp(in_domain, in_full, (size_t)one.length) == 0);
+    HOLDS(hudarin_sid_text_to_bytes("DU", 2, in_domain, sizeof in_domain).fault == HUDARIN_TEXT_DOMAIN_ALIAS);
+    HOLDS(hudarin_sid_text_to_bytes_in(NULL, 0, "DU", 2, in_domain, sizeof in_domain).fault == HUDARIN_SID_SHORT);
 }
 
 int main(void)
@@ -69,5 +103,6 @@ int main(void)
     group_states();
     granted();
     mappings();
+    domains();
     return close_tally();
 }

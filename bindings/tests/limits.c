@@ -1,17 +1,7 @@
 /* Arguments at their limits: nothing at all, rooms that just fit, each bit of a state, a privilege and a mapping. */
-#include "tally.h"
-#include <string.h>
-
-#define ROOM 400
+#include "rooms.h"
 
 static const hudarin_mapping files = HUDARIN_FILE_MAPPING;
-static unsigned char *in_end, *out_end;
-
-/* The bytes, put where nothing can be read behind them. */
-static unsigned char *lent(const void *bytes, size_t length)
-{
-    return length == 0 ? in_end : memcpy(in_end - length, bytes, length);
-}
 
 typedef hudarin_written by_text(const char *, size_t, char *, size_t);
 
@@ -40,26 +30,6 @@ static hudarin_written made(const struct call *call, const void *given, size_t l
         return call->text_to_bytes(given, length, room, room_length);
     }
     return call->text_to_text(given, length, (char *)room, room_length);
-}
-
-/* The room has just what was wanted at its front, and is else as it was. */
-static int room_is(const unsigned char *room, size_t length, const void *wanted, size_t wanted_length)
-{
-    size_t at;
-    if (wanted_length > length || memcmp(room, wanted, wanted_length) != 0) {
-        return 0;
-    }
-    for (at = wanted_length; at < length; at++) {
-        if (room[at] != 0x5A) {
-            return 0;
-        }
-    }
-    return 1;
-}
-
-static unsigned char *fresh_room(size_t length)
-{
-    return memset(out_end - length, 0x5A, length);
 }
 
 /* Rooms of all lengths about the one that is wanted. */
@@ -284,7 +254,7 @@ static void restricting(void)
 {
     static const uint32_t enabled = HUDARIN_GROUP_ENABLED;
     unsigned char two[sizeof everyone + sizeof user];
-    hudarin_kept token = HUDARIN_NOTHING;
+    hudarin_token token = HUDARIN_NOTHING;
     hudarin_verdict answer;
     size_t cut;
     memcpy(two, everyone, sizeof everyone);
@@ -302,7 +272,7 @@ static void restricting(void)
                            1);
     HOLDS(answer.status == HUDARIN_OK && answer.kind == HUDARIN_DENIED && answer.mask == 1);
     answer = hudarin_keep_token(user, sizeof user, everyone, sizeof everyone, &enabled, 1, user, sizeof user - 1, 0, &token);
-    HOLDS(is_unread(answer, HUDARIN_SID, HUDARIN_ARGUMENT_RESTRICTING, HUDARIN_SID_SHORT, 0) && token.is_there == 0);
+    HOLDS(is_unread(answer, HUDARIN_SID, HUDARIN_ARGUMENT_RESTRICTING, HUDARIN_SID_SHORT, 0) && token.kept.is_there == 0);
 }
 
 static int keeps(const hudarin_kept *handle, int wanted)
@@ -314,42 +284,43 @@ static int keeps(const hudarin_kept *handle, int wanted)
 static void handles(void)
 {
     static const uint32_t enabled = HUDARIN_GROUP_ENABLED, bad = 3;
-    hudarin_kept descriptor = HUDARIN_NOTHING, token = HUDARIN_NOTHING;
+    hudarin_descriptor descriptor = HUDARIN_NOTHING;
+    hudarin_token token = HUDARIN_NOTHING;
     hudarin_written answer;
     hudarin_verdict verdict = hudarin_check_kept(&descriptor, &token, files, 1);
     HOLDS(is_unread(verdict, HUDARIN_HANDLE, HUDARIN_ARGUMENT_DESCRIPTOR, 0, 0));
     answer = hudarin_keep_bytes(lent(worked, 75), 75, &descriptor);
-    HOLDS(answer.status == HUDARIN_WIRE && answer.fault == HUDARIN_WIRE_ACL_SIZE && keeps(&descriptor, 0));
+    HOLDS(answer.status == HUDARIN_WIRE && answer.fault == HUDARIN_WIRE_ACL_SIZE && keeps(&descriptor.kept, 0));
     answer = hudarin_keep_sddl((char *)lent("O:DA", 4), 4, &descriptor);
-    HOLDS(answer.status == HUDARIN_TEXT && answer.place == 2 && keeps(&descriptor, 0));
+    HOLDS(answer.status == HUDARIN_TEXT && answer.place == 2 && keeps(&descriptor.kept, 0));
     answer = hudarin_keep_sddl((char *)lent("\xff", 1), 1, &descriptor);
-    HOLDS(answer.status == HUDARIN_UTF8 && answer.place == 0 && keeps(&descriptor, 0));
+    HOLDS(answer.status == HUDARIN_UTF8 && answer.place == 0 && keeps(&descriptor.kept, 0));
     answer = hudarin_keep_bytes(lent(worked, sizeof worked), sizeof worked, &descriptor);
-    HOLDS(answer.status == HUDARIN_OK && answer.length == 0 && keeps(&descriptor, 1));
+    HOLDS(answer.status == HUDARIN_OK && answer.length == 0 && keeps(&descriptor.kept, 1));
     answer = hudarin_keep_sddl(NULL, 0, &descriptor);
-    HOLDS(answer.status == HUDARIN_HANDLE && keeps(&descriptor, 1));
+    HOLDS(answer.status == HUDARIN_HANDLE && keeps(&descriptor.kept, 1));
     verdict = hudarin_check_kept(&descriptor, &token, files, 1);
     HOLDS(is_unread(verdict, HUDARIN_HANDLE, HUDARIN_ARGUMENT_TOKEN, 0, 0));
     verdict = hudarin_keep_token(user, sizeof user, everyone, sizeof everyone, &bad, 1, NULL, 0, 0, &token);
-    HOLDS(is_unread(verdict, HUDARIN_STATE, HUDARIN_ARGUMENT_STATES, 0, 0) && keeps(&token, 0));
+    HOLDS(is_unread(verdict, HUDARIN_STATE, HUDARIN_ARGUMENT_STATES, 0, 0) && keeps(&token.kept, 0));
     verdict = hudarin_keep_token(user, sizeof user, everyone, sizeof everyone, &enabled, 1, NULL, 0, 0, &token);
-    HOLDS(is_unread(verdict, HUDARIN_OK, 0, 0, 0) && keeps(&token, 1));
+    HOLDS(is_unread(verdict, HUDARIN_OK, 0, 0, 0) && keeps(&token.kept, 1));
     verdict = hudarin_keep_token(user, sizeof user, NULL, 0, NULL, 0, NULL, 0, 0, &token);
-    HOLDS(is_unread(verdict, HUDARIN_HANDLE, HUDARIN_ARGUMENT_TOKEN, 0, 0) && keeps(&token, 1));
-    verdict = hudarin_check_kept(&token, &descriptor, files, 1);
+    HOLDS(is_unread(verdict, HUDARIN_HANDLE, HUDARIN_ARGUMENT_TOKEN, 0, 0) && keeps(&token.kept, 1));
+    verdict = hudarin_check_kept((hudarin_descriptor *)&token, (hudarin_token *)&descriptor, files, 1);
     HOLDS(is_unread(verdict, HUDARIN_HANDLE, HUDARIN_ARGUMENT_DESCRIPTOR, 0, 0));
     verdict = hudarin_check_kept(&descriptor, &token, (hudarin_mapping){ 0, 0, 0, 0x200000 }, 1);
     HOLDS(is_unread(verdict, HUDARIN_MAPPING, HUDARIN_ARGUMENT_MAPPING, 0, 0));
     verdict = hudarin_check_kept(&descriptor, &token, files, 0x80000000u);
     HOLDS(verdict.status == HUDARIN_OK && verdict.kind == HUDARIN_GRANTED && verdict.mask == 0x00120089u);
-    HOLDS(keeps(&descriptor, 1) && keeps(&token, 1));
-    hudarin_free(&descriptor);
-    hudarin_free(&descriptor);
-    hudarin_free(&token);
-    HOLDS(keeps(&descriptor, 0) && keeps(&token, 0));
+    HOLDS(keeps(&descriptor.kept, 1) && keeps(&token.kept, 1));
+    hudarin_free(&descriptor.kept);
+    hudarin_free(&descriptor.kept);
+    hudarin_free(&token.kept);
+    HOLDS(keeps(&descriptor.kept, 0) && keeps(&token.kept, 0));
     answer = hudarin_keep_sddl("", 0, &descriptor);
-    HOLDS(answer.status == HUDARIN_OK && keeps(&descriptor, 1));
-    hudarin_free(&descriptor);
+    HOLDS(answer.status == HUDARIN_OK && keeps(&descriptor.kept, 1));
+    hudarin_free(&descriptor.kept);
 }
 
 /* A token that is kept and bytes: the faults of each cut are those of keeping the bytes, and the handles' and the mapping's come
@@ -358,7 +329,8 @@ static void over_bytes(void)
 {
     static const uint32_t enabled = HUDARIN_GROUP_ENABLED;
     hudarin_mapping wide = { 0, 0, 0, 0x200000 };
-    hudarin_kept descriptor = HUDARIN_NOTHING, token = HUDARIN_NOTHING;
+    hudarin_descriptor descriptor = HUDARIN_NOTHING;
+    hudarin_token token = HUDARIN_NOTHING;
     hudarin_verdict verdict = hudarin_check_bytes(NULL, 0, &token, wide, 1);
     size_t cut;
     HOLDS(is_unread(verdict, HUDARIN_HANDLE, HUDARIN_ARGUMENT_TOKEN, 0, 0));
@@ -379,16 +351,15 @@ static void over_bytes(void)
     verdict = hudarin_check_bytes(worked, sizeof worked, &token, files, 0xffffffffu);
     HOLDS(verdict.status == HUDARIN_OK && verdict.kind == HUDARIN_RESERVED && verdict.mask == 0x0ce00000u);
     HOLDS(hudarin_keep_bytes(worked, sizeof worked, &descriptor).status == HUDARIN_OK);
-    verdict = hudarin_check_bytes(worked, sizeof worked, &descriptor, files, 1);
-    HOLDS(is_unread(verdict, HUDARIN_HANDLE, HUDARIN_ARGUMENT_TOKEN, 0, 0) && keeps(&descriptor, 1) && keeps(&token, 1));
-    hudarin_free(&descriptor);
-    hudarin_free(&token);
+    verdict = hudarin_check_bytes(worked, sizeof worked, (hudarin_token *)&descriptor, files, 1);
+    HOLDS(is_unread(verdict, HUDARIN_HANDLE, HUDARIN_ARGUMENT_TOKEN, 0, 0) && keeps(&descriptor.kept, 1) && keeps(&token.kept, 1));
+    hudarin_free(&descriptor.kept);
+    hudarin_free(&token.kept);
 }
 
 int main(void)
 {
-    in_end = room_end(ROOM);
-    out_end = room_end(ROOM);
+    open_rooms();
     writing();
     refusals();
     largest();

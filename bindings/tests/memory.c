@@ -109,7 +109,14 @@ typedef struct loan {
 } loan;
 
 static loan lent;
-static hudarin_kept kept, descriptor, token;
+static hudarin_descriptor descriptor;
+static hudarin_token token;
+/* What the call keeps, of the one kind or the other. */
+static union {
+    hudarin_kept kept;
+    hudarin_descriptor descriptor;
+    hudarin_token token;
+} held;
 
 /* What a call answered, wrote and keeps, and the verdict on what it keeps. */
 typedef struct outcome {
@@ -133,7 +140,7 @@ static void judged(outcome *it, hudarin_verdict answer)
     it->mask = answer.mask;
 }
 
-static hudarin_verdict keep_token(hudarin_kept *handle)
+static hudarin_verdict keep_token(hudarin_token *handle)
 {
     return hudarin_keep_token(lent.user, lent.user_length, lent.groups, lent.groups_length, states, 2, NULL, 0, 0, handle);
 }
@@ -155,15 +162,16 @@ static void made(const row *row, outcome *it)
         judged(it, hudarin_check(lent.bytes, lent.length, lent.user, lent.user_length, lent.groups, lent.groups_length, states, 2,
                                  NULL, 0, 0, files, 0x80000000u));
         break;
-    case KEEP_SDDL: written(it, hudarin_keep_sddl(row->text, text, &kept)); break;
-    case KEEP_BYTES: written(it, hudarin_keep_bytes(lent.bytes, lent.length, &kept)); break;
-    case KEEP_TOKEN: judged(it, keep_token(&kept)); break;
-    case SHARE: written(it, hudarin_share(&descriptor, &kept)); break;
+    case KEEP_SDDL: written(it, hudarin_keep_sddl(row->text, text, &held.descriptor)); break;
+    case KEEP_BYTES: written(it, hudarin_keep_bytes(lent.bytes, lent.length, &held.descriptor)); break;
+    case KEEP_TOKEN: judged(it, keep_token(&held.token)); break;
+    case SHARE: written(it, hudarin_descriptor_share(&descriptor, &held.descriptor)); break;
     }
     granted = -1;
-    if (kept.is_there) {
+    if (held.kept.is_there) {
         int is_token = row->call == KEEP_TOKEN;
-        judged(it, hudarin_check_kept(is_token ? &descriptor : &kept, is_token ? &kept : &token, files, 0x80000000u));
+        judged(it, hudarin_check_kept(is_token ? &descriptor : &held.descriptor, is_token ? &held.token : &token, files,
+                                      0x80000000u));
     }
 }
 
@@ -179,7 +187,8 @@ static int left_alone(const outcome *it)
     while (at < sizeof it->room && it->room[at] == 0x5A) {
         at++;
     }
-    return at == sizeof it->room && it->length == 0 && it->kind == 0 && it->mask == 0 && !kept.is_there && kept.at == NULL;
+    return at == sizeof it->room && it->length == 0 && it->kind == 0 && it->mask == 0 && !held.kept.is_there &&
+           held.kept.at == NULL;
 }
 
 /* The bytes that the digits tell; how many there are. */
@@ -238,11 +247,11 @@ static void runs_out(const row *row, int is_lasting, const outcome *due)
             /* (a vector that may not grow to twice its room asks for what it needs, and one that gives room back does without) */
             HOLDS(same(&got, due, sizeof got));
         }
-        hudarin_free(&kept);
+        hudarin_free(&held.kept);
         HOLDS(taken == blocks && same(&lent, &before, sizeof lent));
         made(row, &again);
         HOLDS(same(&again, due, sizeof again));
-        hudarin_free(&kept);
+        hudarin_free(&held.kept);
     }
     HOLDS(done && (wanting > 0 || row->fault != 0 || row->text[0] == 0));
 }
@@ -291,19 +300,19 @@ int main(void)
     HOLDS(lent.user_length == 28 && lent.groups_length == 28 && taken == 0);
     HOLDS(hudarin_keep_sddl(CHECKED, sizeof CHECKED - 1, &descriptor).status == HUDARIN_OK);
     HOLDS(keep_token(&token).status == HUDARIN_OK);
-    HOLDS(descriptor.is_there && token.is_there);
+    HOLDS(descriptor.kept.is_there && token.kept.is_there);
     for (at = 0; at < sizeof rows / sizeof rows[0]; at++) {
         static outcome due;
         lend(&rows[at]);
         made(&rows[at], &due);
         answers(&rows[at], &due);
-        hudarin_free(&kept);
+        hudarin_free(&held.kept);
         runs_out(&rows[at], 0, &due);
         runs_out(&rows[at], 1, &due);
     }
     takes_none();
-    hudarin_free(&descriptor);
-    hudarin_free(&token);
+    hudarin_free(&descriptor.kept);
+    hudarin_free(&token.kept);
     HOLDS(taken == 0 && refusals > 0);
     printf("%ld requests for memory were refused\n", refusals);
     return close_tally();

@@ -79,7 +79,8 @@ static void has_parts(const hudarin_explanation *explained, const struct wanted 
 static void worked(const struct row *row)
 {
     static const uint32_t enabled = HUDARIN_GROUP_ENABLED;
-    hudarin_kept descriptor = HUDARIN_NOTHING, token = HUDARIN_NOTHING;
+    hudarin_descriptor descriptor = HUDARIN_NOTHING;
+    hudarin_token token = HUDARIN_NOTHING;
     hudarin_explanation explained;
     HOLDS(hudarin_keep_sddl(row->sddl, strlen(row->sddl), &descriptor).status == HUDARIN_OK);
     HOLDS(hudarin_keep_token(user, sizeof user, users, sizeof users, &enabled, 1, users, row->restricted ? sizeof users : 0,
@@ -88,13 +89,13 @@ static void worked(const struct row *row)
     explained = hudarin_explain(&descriptor, &token, files, row->asked);
     HOLDS(explained.answer.status == HUDARIN_OK && explained.answer.kind == row->kind && explained.answer.mask == row->mask);
     has_parts(&explained, row->parts);
-    HOLDS(descriptor.is_there == 1 && token.is_there == 1);
-    hudarin_free(&descriptor);
-    hudarin_free(&token);
+    HOLDS(descriptor.kept.is_there == 1 && token.kept.is_there == 1);
+    hudarin_free(&descriptor.kept);
+    hudarin_free(&token.kept);
 }
 
 /* A call that is refused tells of no part. */
-static void refused(hudarin_kept *descriptor, hudarin_kept *token, hudarin_mapping mapping, uint32_t status, uint32_t argument)
+static void refused(hudarin_descriptor *descriptor, hudarin_token *token, hudarin_mapping mapping, uint32_t status, uint32_t argument)
 {
     static const struct wanted none[4];
     hudarin_explanation explained = hudarin_explain(descriptor, token, mapping, 1);
@@ -106,15 +107,16 @@ static void refused(hudarin_kept *descriptor, hudarin_kept *token, hudarin_mappi
 static void refusals(void)
 {
     static const hudarin_mapping wide = { 0, 0, 0, 0x200000 };
-    hudarin_kept descriptor = HUDARIN_NOTHING, token = HUDARIN_NOTHING;
+    hudarin_descriptor descriptor = HUDARIN_NOTHING;
+    hudarin_token token = HUDARIN_NOTHING;
     refused(&descriptor, &token, wide, HUDARIN_HANDLE, HUDARIN_ARGUMENT_DESCRIPTOR);
     HOLDS(hudarin_keep_sddl("D:", 2, &descriptor).status == HUDARIN_OK);
     refused(&descriptor, &token, wide, HUDARIN_HANDLE, HUDARIN_ARGUMENT_TOKEN);
     HOLDS(hudarin_keep_token(user, sizeof user, NULL, 0, NULL, 0, NULL, 0, 0, &token).status == HUDARIN_OK);
-    refused(&token, &descriptor, wide, HUDARIN_HANDLE, HUDARIN_ARGUMENT_DESCRIPTOR);
+    refused((hudarin_descriptor *)&token, (hudarin_token *)&descriptor, wide, HUDARIN_HANDLE, HUDARIN_ARGUMENT_DESCRIPTOR);
     refused(&descriptor, &token, wide, HUDARIN_MAPPING, HUDARIN_ARGUMENT_MAPPING);
-    hudarin_free(&descriptor);
-    hudarin_free(&token);
+    hudarin_free(&descriptor.kept);
+    hudarin_free(&token.kept);
 }
 
 int main(void)

@@ -14,11 +14,12 @@ static const unsigned char everyone[] = { 1, 1, 0, 0, 0, 0, 0, 1, 0, 0, 0, 0 };
 /* What a thread is handed, and how many of its answers were wrong. */
 struct part {
     pthread_t thread;
-    hudarin_kept descriptor, token;
+    hudarin_descriptor descriptor;
+    hudarin_token token;
     unsigned long wrong;
 };
 
-static int is_so(hudarin_kept *descriptor, hudarin_kept *token)
+static int is_so(hudarin_descriptor *descriptor, hudarin_token *token)
 {
     hudarin_verdict one = hudarin_check_kept(descriptor, token, files, 0x1);
     hudarin_verdict two = hudarin_check_kept(descriptor, token, files, 0x3);
@@ -31,16 +32,17 @@ static void *work(void *given)
     struct part *part = given;
     int round;
     for (round = 0; round < ROUNDS; round++) {
-        hudarin_kept descriptor = HUDARIN_NOTHING, token = HUDARIN_NOTHING;
-        part->wrong += hudarin_share(&part->descriptor, &descriptor).status != HUDARIN_OK;
-        part->wrong += hudarin_share(&part->token, &token).status != HUDARIN_OK;
+        hudarin_descriptor descriptor = HUDARIN_NOTHING;
+        hudarin_token token = HUDARIN_NOTHING;
+        part->wrong += hudarin_descriptor_share(&part->descriptor, &descriptor).status != HUDARIN_OK;
+        part->wrong += hudarin_token_share(&part->token, &token).status != HUDARIN_OK;
         part->wrong += !is_so(&descriptor, &part->token);
-        hudarin_free(&descriptor);
+        hudarin_free(&descriptor.kept);
         part->wrong += !is_so(&part->descriptor, &token);
-        hudarin_free(&token);
+        hudarin_free(&token.kept);
     }
-    hudarin_free(&part->descriptor);
-    hudarin_free(&part->token);
+    hudarin_free(&part->descriptor.kept);
+    hudarin_free(&part->token.kept);
     return NULL;
 }
 
@@ -49,37 +51,38 @@ static void shared(void)
 {
     static struct part parts[THREADS];
     static const uint32_t enabled = HUDARIN_GROUP_ENABLED;
-    hudarin_kept descriptor = HUDARIN_NOTHING, token = HUDARIN_NOTHING;
+    hudarin_descriptor descriptor = HUDARIN_NOTHING;
+    hudarin_token token = HUDARIN_NOTHING;
     int at;
     HOLDS(hudarin_keep_sddl(sddl, sizeof sddl - 1, &descriptor).status == HUDARIN_OK);
     HOLDS(hudarin_keep_token(user, sizeof user, everyone, sizeof everyone, &enabled, 1, NULL, 0, 0, &token).status == HUDARIN_OK);
     for (at = 0; at < THREADS; at++) {
-        hudarin_written answer = hudarin_share(&descriptor, &parts[at].descriptor);
+        hudarin_written answer = hudarin_descriptor_share(&descriptor, &parts[at].descriptor);
         HOLDS(answer.status == HUDARIN_OK && answer.length == 0 && answer.fault == 0 && answer.place == 0);
-        HOLDS(hudarin_share(&token, &parts[at].token).status == HUDARIN_OK);
+        HOLDS(hudarin_token_share(&token, &parts[at].token).status == HUDARIN_OK);
         HOLDS(pthread_create(&parts[at].thread, NULL, work, &parts[at]) == 0);
     }
     HOLDS(is_so(&descriptor, &token));
-    hudarin_free(&descriptor);
-    hudarin_free(&token);
+    hudarin_free(&descriptor.kept);
+    hudarin_free(&token.kept);
     for (at = 0; at < THREADS; at++) {
         HOLDS(pthread_join(parts[at].thread, NULL) == 0 && parts[at].wrong == 0);
-        HOLDS(parts[at].descriptor.is_there == 0 && parts[at].token.is_there == 0);
+        HOLDS(parts[at].descriptor.kept.is_there == 0 && parts[at].token.kept.is_there == 0);
     }
 }
 
 /* What can't be shared, or has no place: both handles stay as they were. */
 static void refused(void)
 {
-    hudarin_kept nothing = HUDARIN_NOTHING, descriptor = HUDARIN_NOTHING, other = HUDARIN_NOTHING;
-    HOLDS(hudarin_share(&nothing, &other).status == HUDARIN_HANDLE && nothing.is_there == 0 && other.is_there == 0);
+    hudarin_descriptor nothing = HUDARIN_NOTHING, descriptor = HUDARIN_NOTHING, other = HUDARIN_NOTHING;
+    HOLDS(hudarin_descriptor_share(&nothing, &other).status == HUDARIN_HANDLE && nothing.kept.is_there == 0 && other.kept.is_there == 0);
     HOLDS(hudarin_keep_sddl(sddl, sizeof sddl - 1, &descriptor).status == HUDARIN_OK);
-    HOLDS(hudarin_share(&nothing, &descriptor).status == HUDARIN_HANDLE && nothing.is_there == 0 && descriptor.is_there == 1);
-    HOLDS(hudarin_share(&descriptor, &other).status == HUDARIN_OK && other.is_there == 1 && other.at != descriptor.at);
-    HOLDS(hudarin_share(&descriptor, &other).status == HUDARIN_HANDLE && descriptor.is_there == 1 && other.is_there == 1);
-    hudarin_free(&descriptor);
-    HOLDS(hudarin_share(&descriptor, &nothing).status == HUDARIN_HANDLE && descriptor.is_there == 0 && nothing.is_there == 0);
-    hudarin_free(&other);
+    HOLDS(hudarin_descriptor_share(&nothing, &descriptor).status == HUDARIN_HANDLE && nothing.kept.is_there == 0 && descriptor.kept.is_there == 1);
+    HOLDS(hudarin_descriptor_share(&descriptor, &other).status == HUDARIN_OK && other.kept.is_there == 1 && other.kept.at != descriptor.kept.at);
+    HOLDS(hudarin_descriptor_share(&descriptor, &other).status == HUDARIN_HANDLE && descriptor.kept.is_there == 1 && other.kept.is_there == 1);
+    hudarin_free(&descriptor.kept);
+    HOLDS(hudarin_descriptor_share(&descriptor, &nothing).status == HUDARIN_HANDLE && descriptor.kept.is_there == 0 && nothing.kept.is_there == 0);
+    hudarin_free(&other.kept);
 }
 
 int main(void)

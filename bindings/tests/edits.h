@@ -1,0 +1,72 @@
+/* Edits as rows of texts, and whether two views show the same. */
+#ifndef EDITS_H
+#define EDITS_H
+
+#include "tally.h"
+
+static const hudarin_mapping files = HUDARIN_FILE_MAPPING;
+
+#define USER "S-1-5-21-1-2-3-1001"
+#define ROOT "O:SYG:SYD:(A;OICI;FR;;;" USER ")"
+#define NODE "O:BAG:SYD:"
+
+/* An edit, what it brings as an SDDL text, a SID's or a path's by its number, and the answer. */
+typedef struct row {
+    uint32_t edit;
+    const char *path;
+    const char *value;
+    uint32_t status, argument, fault;
+    uint64_t place;
+} row;
+
+#define DONE HUDARIN_OK, 0, 0, 0
+
+/* A value's bytes, by the edit that it is for. */
+static size_t value_of(const row *row, unsigned char *bytes, size_t room)
+{
+    size_t length = strlen(row->value);
+    if (length > 0 && (row->edit <= HUDARIN_EDIT_ADD_OBJECT || row->edit == HUDARIN_EDIT_SET_DACL) && row->edit != 0) {
+        return (size_t)hudarin_sddl_to_bytes(row->value, length, bytes, room).length;
+    }
+    if (length > 0 && (row->edit == HUDARIN_EDIT_SET_OWNER || row->edit == HUDARIN_EDIT_SET_GROUP)) {
+        return (size_t)hudarin_sid_text_to_bytes(row->value, length, bytes, room).length;
+    }
+    memcpy(bytes, row->value, length);
+    return length;
+}
+
+static hudarin_verdict made(hudarin_store *store, const row *row)
+{
+    unsigned char value[300];
+    size_t length = value_of(row, value, sizeof value);
+    return hudarin_store_edit(store, row->edit, row->path, strlen(row->path), value, length);
+}
+
+static hudarin_verdict opened(hudarin_store *store, const char *sddl)
+{
+    unsigned char root[200];
+    size_t length = (size_t)hudarin_sddl_to_bytes(sddl, strlen(sddl), root, sizeof root).length;
+    return hudarin_store_open(root, length, files, store);
+}
+
+static int is_made(hudarin_verdict answer)
+{
+    return answer.status == HUDARIN_OK && answer.argument == 0 && answer.fault == 0 && answer.kind == 0 && answer.mask == 0;
+}
+
+/* Whether both views show the same text at each of these paths, and are of the same length. */
+static int alike(hudarin_view *one, hudarin_view *other)
+{
+    static const char *const paths[] = { "/", "/a", "/a/o", "/b", "/b/c", "/b/c/o", "/b/o", "/b/q" };
+    size_t at;
+    int is_so = hudarin_journal_length(&one->kept).length == hudarin_journal_length(&other->kept).length;
+    for (at = 0; at < sizeof paths / sizeof paths[0]; at++) {
+        unsigned char first[300] = { 0 }, second[300] = { 0 };
+        hudarin_written a = hudarin_view_descriptor(one, paths[at], strlen(paths[at]), first, sizeof first);
+        hudarin_written b = hudarin_view_descriptor(other, paths[at], strlen(paths[at]), second, sizeof second);
+        is_so = is_so && a.status == b.status && a.length == b.length && memcmp(first, second, sizeof first) == 0;
+    }
+    return is_so;
+}
+
+#endif
