@@ -95,6 +95,17 @@ static void reads_bytes(const struct subject *s)
     free_context(context, "bench");
 }
 
+static void checks_bytes(const struct subject *s)
+{
+    void *context = new_context(NULL, 0, "bench");
+    void *descriptor = NULL;
+    uint32_t granted = 0;
+
+    if (unmarshall(context, s->bytes, s->size, &descriptor) != 0 || access_check(descriptor, s->token, 1, &granted) != 0)
+        exit(2);
+    free_context(context, "bench");
+}
+
 static void writes_bytes(const struct subject *s)
 {
     void *context = new_context(NULL, 0, "bench");
@@ -210,6 +221,7 @@ int main(void)
     static const int entries[] = { 1, 4, 16, 64, 256, 1000 };
     static const int groups[] = { 5, 20, 100 };
     static const int lengths[] = { 1, 16, 256 };
+    static const int over_bytes[][2] = { { 1, 5 }, { 1, 100 }, { 4, 20 }, { 16, 20 }, { 64, 100 } };
 
     if (!open_libraries())
         return 1;
@@ -223,6 +235,15 @@ int main(void)
             s.token = token_of(groups[j]);
             printf("check, %d entries, %d groups\t%.1f\n", entries[i], groups[j], nanos_of(checks, &s));
         }
+    }
+    for (size_t i = 0; i < sizeof over_bytes / sizeof *over_bytes; i++) {
+        void *context = new_context(NULL, 0, "bench");
+        struct subject s = { .text = text_of(over_bytes[i][0]), .token = token_of(over_bytes[i][1]) };
+
+        s.descriptor = sddl_decode(context, s.text, NULL);
+        if (s.descriptor == NULL || marshall(context, s.descriptor, &s.bytes, &s.size) != 0)
+            return 2;
+        printf("check over bytes, %d entries, %d groups\t%.1f\n", over_bytes[i][0], over_bytes[i][1], nanos_of(checks_bytes, &s));
     }
     for (size_t i = 0; i < sizeof lengths / sizeof *lengths; i++) {
         void *context = new_context(NULL, 0, "bench");
