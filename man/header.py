@@ -1,0 +1,80 @@
+"""What bindings/hudarin.h declares, with the comments that stand before it."""
+
+import re
+import textwrap
+from dataclasses import dataclass, field
+
+
+@dataclass
+class Item:
+    """A call, a type or a constant: its name, its declaration line by line, and what is told of it."""
+
+    name: str
+    lines: list[str]
+    text: str
+
+
+@dataclass
+class Section:
+    title: str
+    text: str
+    constants: list[Item] = field(default_factory=list)
+
+
+@dataclass
+class Header:
+    text: str
+    sections: list[Section] = field(default_factory=list)
+    types: list[Item] = field(default_factory=list)
+    calls: list[Item] = field(default_factory=list)
+
+
+_PIECE = re.compile(
+    r"/\*(?P<comment>.*?)\*/"
+    r"|#define (?P<constant>HUDARIN_[A-Z0-9_]+) (?P<value>[^\n]*)"
+    r"|typedef struct \w+ (?P<hidden>\w+);"
+    r"|typedef struct \w+ \{\n(?P<fields>.*?)\n\} (?P<type>\w+);"
+    r"|(?P<inline>static inline )?(?P<call>(?:HUDARIN_ANSWERS )?(?:const )?[a-z_0-9]+ \*?"
+    r"(?P<name>hudarin_[a-z_0-9]+)\([^;{]*\))(?:;|\n\{.*?\n\})",
+    re.DOTALL,
+)
+
+
+def _plain(comment: str) -> str:
+    """A comment's text, its paragraphs behind empty lines."""
+    lines = [re.sub(r"^\s*\* ?", "", each).strip() for each in comment.strip().splitlines()]
+    return re.sub(r"(?<!\n)\n(?!\n)", " ", "\n".join(lines)).strip()
+
+
+def _call(found: re.Match) -> list[str]:
+    """The declaration without the word that wants the answer looked at, in lines that a terminal holds."""
+    text = (found["inline"] or "") + found["call"].replace("HUDARIN_ANSWERS ", "") + ";"
+    wrap = textwrap.TextWrapper(72, subsequent_indent="    ", break_long_words=False, break_on_hyphens=False)
+    return wrap.wrap(" ".join(text.split()))
+
+
+def read_header(text: str) -> Header:
+    _, head, rest = re.split(r"/\*|\*/", text, maxsplit=2)
+    header = Header(_plain(head))
+    comment = ""
+    for found in _PIECE.finditer(rest):
+        if found["comment"] is not None:
+            comment = _plain(found["comment"])
+            if comment.startswith("---- "):
+                title, _, told = comment[5:].partition(". ")
+                title, _, more = title.partition(": ")
+                header.sections.append(Section(title, " ".join(each for each in (more, told) if each)))
+                comment = ""
+            continue
+        if found["constant"] and found["constant"] != "HUDARIN_ANSWERS":
+            line = "%s %s" % (found["constant"], found["value"])
+            header.sections[-1].constants.append(Item(found["constant"], [line], comment))
+        elif found["type"]:
+            fields = [each.strip() for each in found["fields"].splitlines()]
+            header.types.append(Item(found["type"], fields, comment))
+        elif found["hidden"]:
+            header.types.append(Item(found["hidden"], ["struct " + found["hidden"]], comment))
+        elif found["name"]:
+            header.calls.append(Item(found["name"], _call(found), comment))
+        comment = ""
+    return header
