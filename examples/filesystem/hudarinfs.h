@@ -1,0 +1,241 @@
+/*
+ * What the parts of hudarinfs share: the operations ask (asks.c) who may do what (who.c, maps.c, masks.c), of the
+ * newest view of the store (store.c). One writer at a time changes the store, what is kept of it (keep.c), and FOLDER itself
+ * (folder.c), by the steps of edits.c. A tree of descriptors (tree.c) stands at the start alone.
+ *
+ * A function that answers an int answers 0 or more where it went well, and else a negative error number.
+ */
+#ifndef HUDARINFS_H
+#define HUDARINFS_H
+
+#define FUSE_USE_VERSION 31
+#define _FILE_OFFSET_BITS 64
+
+#include <dirent.h>
+#include <hudarin.h>
+#include <stdbool.h>
+#include <stddef.h>
+#include <stdint.h>
+#include <sys/stat.h>
+#include <sys/types.h>
+
+/* The tree holds paths of 64 names, each of 255 bytes and led by a slash; one name more is looked up in vain. */
+#define PATH_ROOM (65 * 256 + 1)
+#define DEEPEST 64
+
+/* ---- masks.c: the rights of files, as [MS-SMB2] 2.2.13.1 numbers them; in brackets those of a folder. */
+
+#define FILE_READ_DATA 0x1u        /* FILE_LIST_DIRECTORY */
+#define FILE_WRITE_DATA 0x2u       /* FILE_ADD_FILE */
+#define FILE_APPEND_DATA 0x4u      /* FILE_ADD_SUBDIRECTORY */
+#define FILE_EXECUTE 0x20u         /* FILE_TRAVERSE */
+#define FILE_DELETE_CHILD 0x40u
+#define FILE_READ_ATTRIBUTES 0x80u
+#define FILE_WRITE_ATTRIBUTES 0x100u
+#define RIGHT_DELETE 0x10000u
+#define RIGHT_READ_CONTROL 0x20000u
+#define RIGHT_WRITE_DAC 0x40000u
+#define RIGHT_WRITE_OWNER 0x80000u
+
+/* What an open with these flags asks of a file. */
+uint32_t mask_of_open(int flags);
+/* What access(2) asks. */
+uint32_t mask_of_access(int how);
+/* What a new node asks of its parent. */
+uint32_t mask_of_adding(bool is_folder);
+
+/* ---- say.c: the log, on standard error */
+
+void say(const char *format, ...) __attribute__((format(printf, 1, 2)));
+
+/* ---- steps.c: a test may end the process at a step of an edit, the one whose number HUDARINFS_STEP tells, counted
+ * from steps_begin, or have it wait HUDARINFS_WAIT microseconds where FOLDER has changed and the view hasn't. */
+
+#ifdef STEPS
+void steps_begin(void);
+void step(void);
+void linger(void);
+#else
+#define steps_begin() ((void)0)
+#define step() ((void)0)
+#define linger() ((void)0)
+#endif
+
+/* ---- maps.c: SIDs of users and groups */
+
+struct sid {
+    size_t length;
+    unsigned char bytes[HUDARIN_SID_BYTES];
+};
+
+/* Reads lines `uid N SID` and `gid N SID`. */
+int maps_read(const char *path);
+struct sid sid_of_uid(uid_t uid);
+struct sid sid_of_gid(gid_t gid);
+/* The user or the group of a SID, or else `nobody`. */
+uid_t uid_of_sid(const struct sid *sid, uid_t nobody);
+gid_t gid_of_sid(const struct sid *sid, gid_t nobody);
+bool sid_equal(const struct sid *a, const struct sid *b);
+/* The SID that the text spells. */
+int sid_read(const char *text, struct sid *sid);
+/* Writes its text with a zero behind it. */
+int sid_text(const struct sid *sid, char room[HUDARIN_SID_TEXT_BYTES + 1]);
+
+/* ---- who.c: the process that calls */
+
+struct who;
+/* Who calls, with a token; it stands until the thread's next call of this. */
+int who_calls(struct who **who);
+hudarin_token *who_token(struct who *who);
+const struct sid *who_user(const struct who *who);
+struct sid who_group(const struct who *who);
+/* Whether the SID is the user's, or that of one of the groups. */
+bool who_has(const struct who *who, const struct sid *sid);
+
+/* ---- tree.c: what was given to each node, as the start reads it. Behind that the store has it. */
+
+struct parts {
+    char *owner; /* SIDs as texts */
+    char *group;
+    char *dacl; /* `D:` and the own entries, in SDDL */
+};
+
+struct node {
+    char *name;
+    bool is_folder;
+    struct parts given;
+    struct node *parent;
+    struct node **children; /* by their names' bytes */
+    size_t count;
+    size_t room;
+};
+
+bool parts_make(struct parts *parts, const char *owner, const char *group, const char *dacl);
+void parts_free(struct parts *parts);
+/* The parts of a canonical text; those that it lacks stay NULL. The caller frees them, whatever the answer. */
+bool parts_split(const char *text, struct parts *parts);
+/* A text of the whole, to be freed, or NULL. */
+char *parts_text(const struct parts *parts);
+/* A node without a parent, or NULL; it takes a copy of the parts. */
+struct node *node_make(const char *name, size_t length, bool is_folder, const struct parts *parts);
+/* Frees the node with all below it; it stands in no parent any more. */
+void node_free(struct node *node);
+struct node *node_child(const struct node *parent, const char *name, size_t length);
+struct node *tree_at(struct node *root, const char *path);
+/* Room for one more child, so that node_join can't fail. */
+bool node_reserve(struct node *parent);
+void node_join(struct node *parent, struct node *child);
+void node_leave(struct node *child);
+/* The node goes below `parent`, which has room, by that name, which it takes over, in place of the node `replaced`,
+ * where that isn't NULL. */
+void tree_move(struct node *moved, struct node *parent, char *name, struct node *replaced);
+/* The path's last name, and in `parent` the path before it. */
+const char *path_split(const char *path, char parent[PATH_ROOM]);
+
+/* ---- store.c: the library's store, and the view that checks ask */
+
+/* A store of the tree's nodes, whose view is shown; what no path can spell is left out of the tree. */
+int store_build(struct node *root);
+/* An edit of the store, which nobody sees before store_show. */
+int store_edit(uint32_t edit, const char *path, const void *value, size_t length);
+/* The edit that adds a node, or sets a part. */
+int store_add(const char *path, bool is_folder, const struct parts *parts);
+int store_set(uint32_t edit, const char *path, const char *text);
+/* Makes the view that store_show shows; that can't fail. */
+int store_ready(void);
+void store_show(void);
+/* The edits since the last store_show are undone. */
+void store_undo(void);
+/* No edit is made any more. */
+void store_close(const char *why);
+/* How many edits the store has. */
+uint64_t store_length(void);
+/* The store's journal begins anew with the nodes that are there, where memory suffices. No edit has been made since store_show. */
+void store_renew(void);
+/* The writer's views: that of store_ready, and that of the last store_show. */
+hudarin_view *store_next(void);
+hudarin_view *store_shown(void);
+/* Whether the node that is shown there is a folder: 1 or 0. */
+int store_is_folder(const char *path);
+
+/* A node of a view, and the bytes of what was given to it, which stand until the writer's next call. */
+struct told {
+    char path[PATH_ROOM];
+    bool is_folder;
+    const unsigned char *own;
+    size_t length;
+};
+
+/* The node at a place of the writer's view: -ENOENT behind the last. */
+int node_told(hudarin_view *view, uint64_t place, struct told *told);
+int view_share(hudarin_view *view);
+/* A negative error number for a status that isn't HUDARIN_OK. */
+int error_of(uint32_t status, uint32_t fault);
+const char *status_name(uint32_t status);
+/* The canonical text of a descriptor, with a zero behind it, to be freed: in `text`. */
+int text_of_bytes(const void *bytes, size_t length, char **text);
+int text_of_text(const char *given, size_t length, char **text);
+
+/* ---- keep.c: the file beside FOLDER that keeps the tree */
+
+int keep_open(const char *folder);
+/* The tree that is kept, or NULL where no file is there. */
+int keep_read(struct node **root);
+/* Keeps the view's nodes; with `from` also that a move to `to` is about to be made. The old tree is kept, or the new one. */
+int keep_write(hudarin_view *view, const char *from, const char *to);
+
+/* ---- folder.c: FOLDER itself, below a descriptor that is held; no symlink is followed */
+
+int folder_open(const char *path);
+/* Opens the file or folder at the path; what is neither is EACCES. */
+int folder_at(const char *path, int flags);
+int folder_stat(const char *path, struct stat *found);
+/* Makes a file, and answers its descriptor, or a folder, and answers 0. */
+int folder_make(const char *path, bool is_folder, int flags);
+int folder_remove(const char *path, bool is_folder);
+int folder_move(const char *from, const char *to);
+/* Syncs the folder that holds the path. */
+int folder_sync(const char *path);
+/* The tree of what FOLDER has; what `known` tells of a node it was given, else it is a new node of root's. */
+int folder_scan(struct node *known, const struct parts *root, struct node **found);
+
+/* ---- asks.c: checks */
+
+struct asking {
+    hudarin_view view;
+    struct who *who;
+};
+
+/* The caller, and a share of the newest view. */
+int asking_begin(struct asking *asking);
+void asking_end(struct asking *asking);
+/* 0 where the whole mask is granted. */
+int asks(struct asking *asking, const char *path, uint32_t mask);
+/* 0 where a node stands there. */
+int asks_node(struct asking *asking, const char *path);
+/* 0 where the caller may see that the node is there. */
+int asks_seen(struct asking *asking, const char *path, bool is_folder);
+/* 0 where the caller may delete it. */
+int asks_delete(struct asking *asking, const char *path);
+/* begins, asks, and ends. */
+int asks_once(const char *path, uint32_t mask);
+/* The node's descriptor in a room that is the thread's; how long it is. */
+int descriptor_of(struct asking *asking, const char *path, const unsigned char **bytes);
+/* Who the owner and the group are, as far as they are users and groups of this machine. */
+int owners_of(struct asking *asking, const char *path, struct stat *found);
+
+/* ---- edits.c: what changes the tree */
+
+void edits_open(uint64_t journal_limit);
+int edit_create(const char *path, bool is_folder, int flags);
+int edit_remove(const char *path, bool is_folder);
+int edit_rename(const char *from, const char *to, unsigned int flags);
+int edit_owners(const char *path, uid_t uid, gid_t gid);
+int edit_descriptor(const char *path, const char *text);
+
+/* ---- operations.c: what FUSE calls */
+
+struct fuse_operations;
+const struct fuse_operations *operations(void);
+
+#endif

@@ -1,0 +1,207 @@
+#!/usr/bin/env python3
+"""
+What isn't taken: descriptors that aren't read, names and paths that the tree can't hold, a full tree, a folder that is
+open to others, a kept file that isn't whole. Each has its error, the log tells the fault, and nothing is half done.
+
+    refusals.py
+"""
+
+import os
+import sys
+
+from calls import CALLS
+from rig import ALICE, BOB, PLAIN, ROOT, Caller, Mount, Tally, User, outcome
+
+ROOTS = "O:S-1-22-1-0G:S-1-22-2-0D:P(A;OICI;FA;;;S-1-22-1-0)(A;OICI;0x1200a9;;;WD)"
+FULL = 65536
+# What is given, the error, and what the log tells: faults by docs/FORMATS.md, refusals by docs/TREE.md.
+TEXTS = [
+    ("D:(A;;FQ;;;WD)", "EINVAL", "text fault 1 at byte 6"),
+    ("D:(A;;FR;;;ZZ)", "EINVAL", "text fault 5 at byte 11"),
+    ("D:(A;;FR;;;DU)", "EINVAL", "text fault 6 at byte 11"),
+    ("D:(A;;FR;;;WD)S:(AU;SA;FA;;;WD)", "EINVAL", "text fault 2"),
+    ("D:(XA;;FR;;;WD)", "EINVAL", "text fault 3"),
+    ("", "EINVAL", "without an owner, a group and a DACL"),
+    ("D:(A;ID;FR;;;WD)", "EINVAL", "refusal 7"),
+    ("D:(A;;FR;;;WD)(D;;FW;;;WD)", "EINVAL", "refusal 8"),
+    ("O:BAD:(A;;FR;;;WD)", "EPERM", ""),
+]
+BYTES = [
+    ("", "EINVAL", "wire fault 1"),
+    ("0200048000000000000000000000000000000000", "EINVAL", "wire fault 2"),
+    ("0100040000000000000000000000000000000000", "EINVAL", "wire fault 3"),
+    ("010004800000000000000000000000001400000002001000", "EINVAL", "wire fault"),
+]
+
+
+def refuses_descriptors(tally: Tally, mount: Mount, caller: Caller) -> None:
+    tally.same("a file", caller.call("create", mount.path("/file"))[0], "ok")
+    before = caller.call("text", mount.path("/file"))
+    for way, rows in (("set", TEXTS), ("set_bytes", BYTES)):
+        for given, error, fault in rows:
+            behind = len(mount.said())
+            tally.same("%s %s" % (way, given), caller.call(way, mount.path("/file"), given)[0], error)
+            tally.holds(fault in mount.said()[behind:], "the log of %s" % given, mount.said()[behind:])
+            tally.same("the descriptor behind %s" % given, caller.call("text", mount.path("/file")), before)
+    large = "D:" + "(A;OICI;0x1;;;WD)" * 3300
+    tally.same("a list that is too large", caller.call("set", mount.path("/file"), large)[0], "EINVAL")
+    whole = before[1]
+    bytes_of = caller.call("bytes", mount.path("/file"))[1]
+    tally.holds(whole.startswith("O:S-1-22-1-0") and len(bytes_of) > 40, "the two forms", (whole, bytes_of))
+    tally.same("a list in bytes", caller.call("set", mount.path("/file"), "D:(A;;FX;;;AU)")[0], "ok")
+    tally.same("other attributes", outcome(os.setxattr, mount.path("/file"), "user.other", b"x"), "ENOTSUP")
+    tally.same("an attribute is taken away", outcome(os.removexattr, mount.path("/file"), "user.hudarin.sddl"), "EPERM")
+
+
+def refuses_large_below(tally: Tally, mount: Mount, caller: Caller) -> None:
+    """A list that fits where it is given, and is too much for a file below with entries of its own."""
+    at = mount.path
+    tally.same("a folder", caller.call("mkdir", at("/large"))[0], "ok")
+    tally.same("a file", caller.call("create", at("/large/file"))[0], "ok")
+    tally.same("its list", caller.call("set", at("/large/file"), "D:(A;;FR;;;WD)")[0], "ok")
+    before = [caller.call("text", at(path)) for path in ("/large", "/large/file")]
+    text = "D:P" + "(A;OICI;FA;;;WD)" * 3276
+    tally.same("too large below", caller.call("set", at("/large"), text)[0], "E2BIG")
+    tally.same("the same behind it", [caller.call("text", at(path)) for path in ("/large", "/large/file")], before)
+
+
+def refuses_names(tally: Tally, mount: Mount, caller: Caller) -> None:
+    at = mount.path
+    tally.same("a name of 256 bytes", caller.call("create", at("/" + "n" * 256))[0], "ENAMETOOLONG")
+    tally.same("a name of 255 bytes", caller.call("create", at("/" + "n" * 255))[0], "ok")
+    tally.same("no UTF-8", outcome(os.mkdir, os.fsencode(mount.at) + b"/\xff"), "EILSEQ")
+    deep = ""
+    for number in range(64):
+        deep += "/d"
+        tally.same("folder %d" % number, caller.call("mkdir", at(deep))[0], "ok")
+    tally.same("a 65th name", caller.call("mkdir", at(deep + "/d"))[0], "ENAMETOOLONG")
+    tally.same("a 65th name of a file", caller.call("create", at(deep + "/f"))[0], "ENAMETOOLONG")
+    tally.same("a folder", caller.call("mkdir", at("/other"))[0], "ok")
+    tally.same("a move too deep", caller.call("rename", at("/d"), at("/other/d"))[0], "ENAMETOOLONG")
+    tally.holds(os.path.isdir(at(deep)) and not os.path.exists(at("/other/d")), "both stand where they stood")
+    tally.same("FOLDER too", sorted(os.listdir(mount.folder + "/other")), [])
+
+
+def refuses_kinds(tally: Tally, mount: Mount, caller: Caller, root: Caller) -> None:
+    at = mount.path
+    tally.same("a symlink", caller.call("symlink", "/etc/passwd", at("/link"))[0], "EPERM")
+    tally.same("a second link", caller.call("link", at("/file"), at("/second"))[0], "EPERM")
+    tally.same("a FIFO", caller.call("fifo", at("/fifo"))[0], "EPERM")
+    os.symlink("/etc/passwd", mount.folder + "/planted")
+    tally.same("a planted symlink", caller.call("read", at("/planted"))[0], "ENOENT")
+    tally.same("to make a file there", root.call("create", at("/planted"))[0], "EEXIST")
+    tally.holds("planted" not in os.listdir(mount.at), "it isn't listed")
+    os.unlink(mount.folder + "/planted")
+    many = Caller(User("many", 62009, 63001, list(range(70000, 71100))), CALLS)
+    tally.same("a process in 1,100 groups", many.call("read", at("/file"))[0], "EACCES")
+    many.close()
+
+
+def appends_alone(tally: Tally, mount: Mount, caller: Caller) -> None:
+    """Who may append alone changes nothing that is there, by no way round."""
+    import fcntl
+    import mmap
+    from rig import become
+    at = mount.path("/log")
+    tally.same("a log", caller.call("create", at)[0], "ok")
+    tally.same("its bytes", caller.call("write", at)[0], "ok")
+    tally.same("its list", caller.call("set", at, "D:P(A;;FA;;;S-1-22-1-0)(A;;0x5;;;WD)")[0], "ok")
+    ours, theirs = os.pipe()
+    if os.fork() == 0:
+        become(BOB)
+        file = os.open(at, os.O_RDWR | os.O_APPEND)
+        fcntl.fcntl(file, fcntl.F_SETFL, 0)
+        said = [outcome(os.pwrite, file, b"y", 0), outcome(os.ftruncate, file, 0), outcome(mmap.mmap, file, 1),
+                outcome(os.open, at, os.O_RDWR)]
+        os.write(theirs, repr(said).encode())
+        os._exit(0)
+    os.wait()
+    said = os.read(ours, 1000).decode()
+    tally.same("to write, to empty, to map, to open", said, repr(["ok", "EACCES", "ENODEV", "EACCES"]))
+    with open(mount.folder + "/log", "rb") as file:
+        tally.same("the bytes stand behind", file.read(), b"xy")
+
+
+def maps(tally: Tally, mount: Mount, alice: Caller, root: Caller) -> None:
+    """A user that stands in a file of maps has the SID that it tells; a file that isn't read ends the start."""
+    path, sid = os.path.join(mount.room, "maps"), "S-1-5-21-1-2-3-1001"
+    with open(path, "w", encoding="utf-8") as file:
+        file.write("# who\nuid %d %s\ngid %d S-1-5-21-1-2-3-513\n" % (ALICE.uid, sid, ALICE.gid))
+    tally.holds(mount.start(ROOTS, options=("-m", path)), "a start with maps", mount.said())
+    tally.same("a list", root.call("set", mount.path("/file"), "D:P(A;;FR;;;%s)" % sid)[0], "ok")
+    tally.same("who is mapped", alice.call("read", mount.path("/file"))[0], "ok")
+    tally.same("who isn't", root.call("read", mount.path("/file"))[0], "EACCES")
+    tally.same("the status", mount.stop(), 0)
+    for text in ("uid x S-1-5-7\n", "who 1 S-1-5-7\n", "uid 1 S-1\n", "uid 1\n", "uid 1 WD more\n"):
+        with open(path, "w", encoding="utf-8") as file:
+            file.write(text)
+        tally.holds(not mount.start(ROOTS, options=("-m", path)), "a start with %r" % text)
+        mount.ended()
+
+
+def full_tree(tally: Tally) -> None:
+    mount, caller = Mount(PLAIN), Caller(ROOT, CALLS)
+    try:
+        for number in range(FULL - 2):
+            if number % 1000 == 0:
+                folder = mount.folder + "/%d" % number
+                os.mkdir(folder)
+            else:
+                os.close(os.open("%s/%d" % (folder, number), os.O_CREAT | os.O_WRONLY, 0o600))
+        tally.holds(mount.start(ROOTS), "a start with 65,535 nodes", mount.said())
+        tally.same("the last node", caller.call("create", mount.path("/last"))[0], "ok")
+        tally.same("one more", caller.call("create", mount.path("/more"))[0], "ENOSPC")
+        tally.same("one more folder", caller.call("mkdir", mount.path("/more"))[0], "ENOSPC")
+        tally.holds(not os.path.exists(mount.folder + "/more"), "nothing is half done")
+        tally.same("the status", mount.stop(), 0)
+    finally:
+        caller.close()
+        mount.close()
+
+
+def refuses_starts(tally: Tally, mount: Mount) -> None:
+    """The server isn't there: what stands beside FOLDER, or FOLDER itself, is no good."""
+    with open(mount.kept, encoding="utf-8") as file:
+        whole = file.read()
+    for text in (whole[:-4], whole[:len(whole) // 2], "", whole + "more\n", whole.replace("folder", "fold", 1),
+                 whole.replace("D:", "Q:", 1), whole.replace("O:S-1", "O:Q-1", 1),
+                 whole.replace("folder /d ", "folder /e/d ", 1)):
+        with open(mount.kept, "w", encoding="utf-8") as file:
+            file.write(text)
+        tally.holds(not mount.start(ROOTS), "a start by %.60r" % text[-60:])
+        tally.same("its status", mount.ended(), 1)
+    with open(mount.kept, "w", encoding="utf-8") as file:
+        file.write(whole)
+    os.chmod(mount.folder, 0o755)
+    tally.holds(not mount.start(ROOTS), "a start of a folder that is open")
+    os.chmod(mount.folder, 0o700)
+    tally.holds(mount.start(ROOTS), "the start of the whole one", mount.said())
+    second = Mount()
+    second.folder = mount.folder
+    tally.holds(not second.start(ROOTS), "a second server of one folder")
+    second.close()
+    tally.same("the status behind that", mount.stop(), 0)
+
+
+def main() -> int:
+    tally, mount, caller, alice = Tally(), Mount(), Caller(ROOT, CALLS), Caller(ALICE, CALLS)
+    try:
+        if tally.holds(mount.start(ROOTS), "the start", mount.said()):
+            refuses_descriptors(tally, mount, caller)
+            refuses_large_below(tally, mount, caller)
+            refuses_names(tally, mount, caller)
+            refuses_kinds(tally, mount, alice, caller)
+            appends_alone(tally, mount, caller)
+            tally.same("the status, and the sanitizers", mount.stop(), 0)
+            refuses_starts(tally, mount)
+            maps(tally, mount, alice, caller)
+        full_tree(tally)
+    finally:
+        caller.close()
+        alice.close()
+        mount.close()
+    return tally.close()
+
+
+if __name__ == "__main__":
+    sys.exit(main())

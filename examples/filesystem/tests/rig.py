@@ -1,0 +1,183 @@
+"""What the tests share: a mount of its own, processes of other users, and a count of what holds."""
+
+import ctypes
+import errno
+import json
+import os
+import shutil
+import signal
+import subprocess
+import sys
+import tempfile
+import time
+
+HERE = os.path.dirname(os.path.abspath(__file__))
+OUT = os.path.join(os.path.dirname(HERE), "out")
+PROGRAM = os.path.join(OUT, "hudarinfs-sanitized")
+PLAIN = os.path.join(OUT, "hudarinfs")
+UNCHECKED = os.path.join(OUT, "hudarinfs-unchecked")
+
+
+class Tally:
+    """How many tests held; what didn't hold is told in a line of its own, for the first twenty."""
+
+    def __init__(self) -> None:
+        self.passed = 0
+        self.failed = 0
+
+    def holds(self, is_so: bool, place: str, found: object = "") -> bool:
+        if is_so:
+            self.passed += 1
+        else:
+            self.failed += 1
+            if self.failed <= 20:
+                print("%s: %s" % (place, found), flush=True)
+        return is_so
+
+    def same(self, place: str, found: object, wanted: object) -> bool:
+        return self.holds(found == wanted, place, "got %.300r, where %.300r was wanted" % (found, wanted))
+
+    def close(self) -> int:
+        print("%d passed, %d failed" % (self.passed, self.failed))
+        return 0 if self.failed == 0 and self.passed > 0 else 1
+
+
+class User:
+    """Who a process is to be, and how `sdstore` is told of it: as the server's README says that it makes tokens."""
+
+    def __init__(self, name: str, uid: int, gid: int, groups: list) -> None:
+        self.name, self.uid, self.gid, self.groups = name, uid, gid, groups
+        self.sid = "S-1-22-1-%d" % uid
+        self.group_sid = "S-1-22-2-%d" % gid
+        words = ["S-1-22-2-%d" % group for group in [gid] + groups] + ["S-1-1-0", "S-1-5-11"]
+        if uid == 0:
+            words += ["+take", "+security"]
+        self.words = " ".join([self.sid, "%s", *words])
+
+
+ROOT = User("root", 0, 0, [])
+ALICE = User("alice", 62001, 63001, [63010])
+BOB = User("bob", 62002, 63001, [63010, 63020])
+CAROL = User("carol", 62003, 63002, [])
+USERS = [ROOT, ALICE, BOB, CAROL]
+
+
+def outcome(call, *arguments):
+    """`ok`, or the name of the error."""
+    try:
+        call(*arguments)
+    except OSError as error:
+        return errno.errorcode.get(error.errno, str(error.errno))
+    return "ok"
+
+
+def become(user: User) -> None:
+    """This process is the user's from now on, and dies with the one that made it."""
+    ctypes.CDLL(None).prctl(1, signal.SIGKILL)
+    os.setgroups(user.groups)
+    os.setresgid(user.gid, user.gid, user.gid)
+    os.setresuid(user.uid, user.uid, user.uid)
+
+
+class Caller:
+    """A process of a user, which makes the calls that it is asked for: by name, with words."""
+
+    def __init__(self, user: User, calls: dict) -> None:
+        self.user = user
+        ours, theirs = os.pipe(), os.pipe()
+        self._pid = os.fork()
+        if self._pid == 0:
+            os.close(ours[1])
+            os.close(theirs[0])
+            self._serve(user, calls, os.fdopen(ours[0]), os.fdopen(theirs[1], "w"))
+        os.close(ours[0])
+        os.close(theirs[1])
+        self._asks = os.fdopen(ours[1], "w")
+        self._answers = os.fdopen(theirs[0])
+
+    @staticmethod
+    def _serve(user, calls, asked, answers) -> None:
+        try:
+            become(user)
+            for line in asked:
+                name, *arguments = json.loads(line)
+                found = []
+                said = outcome(lambda: found.append(calls[name](*arguments)))
+                answers.write(json.dumps([said, found[0] if found else None]) + "\n")
+                answers.flush()
+        finally:
+            os._exit(0)
+
+    def call(self, *words):
+        """(`ok` or the name of the error, what the call gave)"""
+        self._asks.write(json.dumps(words) + "\n")
+        self._asks.flush()
+        return tuple(json.loads(self._answers.readline()))
+
+    def close(self) -> None:
+        self._asks.close()
+        self._answers.close()
+        os.kill(self._pid, signal.SIGKILL)
+        os.waitpid(self._pid, 0)
+
+
+class Mount:
+    """A folder, the file that is kept beside it, and a server that shows it."""
+
+    def __init__(self, program: str = PROGRAM) -> None:
+        self.program = program
+        self.room = tempfile.mkdtemp(prefix="hudarinfs.")
+        os.chmod(self.room, 0o755)
+        self.folder = os.path.join(self.room, "folder")
+        self.at = os.path.join(self.room, "mount")
+        self.kept = self.folder + ".hudarin"
+        self.log = os.path.join(self.room, "log")
+        os.mkdir(self.folder, 0o700)
+        os.mkdir(self.at)
+        self._server = None
+
+    def path(self, path: str) -> str:
+        return self.at + (path if path != "/" else "")
+
+    def said(self) -> str:
+        with open(self.log, encoding="utf-8", errors="replace") as file:
+            return file.read()
+
+    def start(self, *words: str, options: tuple = (), step: int = 0, wait: int = 0) -> bool:
+        """Whether it serves, within a minute. It ends at a step of its edits, where one is told, or waits so many
+        microseconds where FOLDER has changed and the view hasn't."""
+        command = [self.program, *options, self.folder, self.at, *words]
+        settings = {**os.environ, "HUDARINFS_STEP": str(step), "HUDARINFS_WAIT": str(wait)}
+        with open(self.log, "wb") as log:
+            self._server = subprocess.Popen(command, stderr=log, stdout=log, env=settings)
+        end = time.monotonic() + 60
+        while time.monotonic() < end and self._server.poll() is None:
+            if "ready" in self.said() and os.path.ismount(self.at):
+                return True
+            time.sleep(0.002)
+        return False
+
+    def ended(self) -> int:
+        return self._server.wait(timeout=10)
+
+    def stop(self) -> int:
+        """Unmounts; the status of the server, whose sanitizers have found nothing where it is 0."""
+        subprocess.run(["umount", self.at], check=False, timeout=20)
+        return self.ended()
+
+    def kill(self) -> None:
+        self._server.kill()
+        self._server.wait()
+        subprocess.run(["umount", "-l", self.at], check=False)
+
+    def close(self) -> None:
+        if self._server is not None and self._server.poll() is None:
+            self._server.kill()
+            self._server.wait()
+        if os.path.ismount(self.at) or "ready" in (self.said() if os.path.exists(self.log) else ""):
+            subprocess.run(["umount", "-l", self.at], check=False, stderr=subprocess.DEVNULL)
+        shutil.rmtree(self.room, ignore_errors=True)
+
+
+def fail(text: str) -> None:
+    sys.exit("the test itself: " + text)
