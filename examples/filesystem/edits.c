@@ -1,6 +1,6 @@
 /*
- * What changes the tree. One writer at a time checks, makes the edit in the store, keeps the tree, changes FOLDER, and
- * then shows the new view; whatever goes wrong before that, all is as it was. README.md tells why in this order.
+ * What changes the tree. One writer at a time checks and makes the edit in the store; then the keeper keeps it, changes
+ * FOLDER, and shows the new view. Whatever goes wrong before that, all is as it was.
  */
 #include "hudarinfs.h"
 
@@ -15,10 +15,12 @@
 
 static pthread_mutex_t writer = PTHREAD_MUTEX_INITIALIZER;
 static uint64_t longest_journal;
+static const struct keeper *keeper;
 
-void edits_open(uint64_t journal_limit)
+void edits_open(uint64_t journal_limit, const struct keeper *kept_by)
 {
     longest_journal = journal_limit;
+    keeper = kept_by;
 }
 
 /* edit_end follows, whatever the answer. A journal that has grown long begins anew. */
@@ -53,27 +55,6 @@ static int add_new(struct asking *asking, const char *path, bool is_folder)
     return result < 0 ? result : store_add(path, is_folder, &parts);
 }
 
-/* The tree is kept with the node before FOLDER has it: a node that is kept alone is dropped at a start. */
-static int make_node(const char *path, bool is_folder, int flags)
-{
-    int result = store_ready();
-    if (result < 0) {
-        return result;
-    }
-    result = keep_write(store_next(), NULL, NULL);
-    if (result == 0) {
-        result = folder_make(path, is_folder, flags);
-        step();
-        linger();
-    }
-    if (result >= 0) {
-        store_show();
-    } else {
-        (void)keep_write(store_shown(), NULL, NULL);
-    }
-    return result;
-}
-
 static int create_below(struct asking *asking, const char *path, bool is_folder, int flags)
 {
     char above[PATH_ROOM];
@@ -88,7 +69,8 @@ static int create_below(struct asking *asking, const char *path, bool is_folder,
         return there == 0 ? -EEXIST : there;
     }
     result = add_new(asking, path, is_folder);
-    result = result < 0 ? result : make_node(path, is_folder, flags);
+    result = result < 0 ? result : store_ready();
+    result = result < 0 ? result : keeper->make(path, is_folder, flags);
     if (result < 0) {
         store_undo();
     }
@@ -113,22 +95,15 @@ int edit_create(const char *path, bool is_folder, int flags)
 
 /* ---- A node goes */
 
-/* FOLDER loses the node before the file does: a node that is kept alone is dropped at a start. */
 static int remove_node(const char *path, bool is_folder)
 {
     int result = store_edit(HUDARIN_EDIT_REMOVE, path, NULL, 0);
     result = result < 0 ? result : store_ready();
-    if (result == 0) {
-        result = folder_remove(path, is_folder);
-        step();
-        linger();
-    }
+    result = result < 0 ? result : keeper->drop(path, is_folder);
     if (result < 0) {
         store_undo();
         return result;
     }
-    store_show();
-    (void)keep_write(store_shown(), NULL, NULL);
     return folder_sync(path);
 }
 
@@ -153,33 +128,13 @@ int edit_remove(const char *path, bool is_folder)
 
 /* ---- A node moves */
 
-/* Behind the store's edits: the file tells of the move before FOLDER makes it, and of the new tree afterwards. */
-static int move_node(const char *from, const char *to)
-{
-    int result = store_ready();
-    result = result < 0 ? result : keep_write(store_shown(), from, to);
-    if (result < 0) {
-        return result;
-    }
-    result = folder_move(from, to);
-    step();
-    linger();
-    if (result == 0) {
-        store_show();
-    }
-    int kept = keep_write(store_shown(), NULL, NULL);
-    if (result < 0 && kept < 0) {
-        store_close("the kept tree tells of a move that wasn't made");
-    }
-    return result;
-}
-
 /* The edits: what stands at the target goes, and the node moves there. Where either is refused neither is made. */
 static int rename_nodes(const char *from, const char *to, bool is_there)
 {
     int result = is_there ? store_edit(HUDARIN_EDIT_REMOVE, to, NULL, 0) : 0;
     result = result < 0 ? result : store_edit(HUDARIN_EDIT_MOVE, from, to, strlen(to));
-    result = result < 0 ? result : move_node(from, to);
+    result = result < 0 ? result : store_ready();
+    result = result < 0 ? result : keeper->move(from, to);
     if (result < 0) {
         store_undo();
     }
@@ -249,10 +204,8 @@ static int give_parts(const char *path, const struct parts *parts)
 {
     int result = set_parts(path, parts);
     result = result < 0 ? result : store_ready();
-    result = result < 0 ? result : keep_write(store_next(), NULL, NULL);
-    if (result == 0) {
-        store_show();
-    } else {
+    result = result < 0 ? result : keeper->give(path);
+    if (result < 0) {
         store_undo();
     }
     return result;

@@ -95,6 +95,38 @@ int folder_make(const char *path, bool is_folder, int flags)
     return result;
 }
 
+/* No path can spell it, as it isn't UTF-8. */
+#define STAGED ".hudarin\xff"
+
+int folder_stage(bool is_folder, int flags)
+{
+    int how = is_folder ? O_RDONLY | O_DIRECTORY : flags | O_CREAT | O_EXCL;
+    if (is_folder && mkdirat(folder, STAGED, 0700) != 0) {
+        return -errno;
+    }
+    int fd = openat(folder, STAGED, how | O_NOFOLLOW | O_CLOEXEC, 0600);
+    return fd < 0 ? -errno : fd;
+}
+
+int folder_place(const char *path)
+{
+    const char *name;
+    int parent = open_parent(path, &name);
+    if (parent < 0) {
+        return parent;
+    }
+    int result = renameat2(folder, STAGED, parent, name, RENAME_NOREPLACE) == 0 ? 0 : -errno;
+    (void)close(parent);
+    return result;
+}
+
+void folder_unstage(void)
+{
+    if (unlinkat(folder, STAGED, 0) != 0) {
+        (void)unlinkat(folder, STAGED, AT_REMOVEDIR);
+    }
+}
+
 int folder_remove(const char *path, bool is_folder)
 {
     const char *name;
@@ -139,11 +171,45 @@ int folder_sync(const char *path)
 /* ---- The tree at the start */
 
 struct scan {
+    bool by_attributes;
     const struct parts *root; /* a new node's owner and group */
     unsigned long unknown;
 };
 
 static int scan_below(struct scan *scan, struct node *node, struct node *known, int fd, unsigned depth);
+
+/* A copy of what was given to a node: what is known of it, or what its attribute tells; else it is a new one of root's. */
+static int given_to(struct scan *scan, const struct node *known, int fd, struct parts *given)
+{
+    int told = known != NULL ? 1 : 0;
+    if (scan->by_attributes) {
+        told = attribute_read(fd, given);
+    } else if (known != NULL && !parts_make(given, known->given.owner, known->given.group, known->given.dacl)) {
+        return -ENOMEM;
+    }
+    if (told == 0) {
+        scan->unknown++;
+        return parts_make(given, scan->root->owner, scan->root->group, "D:") ? 0 : -ENOMEM;
+    }
+    return told < 0 ? told : 0;
+}
+
+/* What is open there joins the parent by that name. */
+static int join_node(struct scan *scan, struct node *parent, const struct node *known, int fd, const char *name,
+                     bool is_folder)
+{
+    struct parts given = { NULL, NULL, NULL };
+    int result = given_to(scan, known, fd, &given);
+    struct node *node = result < 0 ? NULL : node_make(name, strlen(name), is_folder, &given);
+    parts_free(&given);
+    if (node == NULL || !node_reserve(parent)) {
+        node_free(node);
+        say("%s: what was given to it isn't read", name);
+        return result < 0 ? result : -ENOMEM;
+    }
+    node_join(parent, node);
+    return 0;
+}
 
 /* A name that FOLDER has: it joins the node, with what is known of it, where its kind is the same. */
 static int scan_name(struct scan *scan, struct node *parent, struct node *known, int fd, const char *name,
@@ -162,20 +228,16 @@ static int scan_name(struct scan *scan, struct node *parent, struct node *known,
     if (same != NULL && same->is_folder != is_folder) {
         same = NULL;
     }
-    char empty[] = "D:";
-    struct parts unknown = { scan->root->owner, scan->root->group, empty };
-    struct node *node = node_make(name, strlen(name), is_folder, same != NULL ? &same->given : &unknown);
-    if (node == NULL || !node_reserve(parent)) {
-        node_free(node);
-        return -ENOMEM;
+    int below = openat(fd, name, O_RDONLY | O_NONBLOCK | O_NOCTTY | O_NOFOLLOW | O_CLOEXEC);
+    if (below < 0) {
+        return -errno;
     }
-    node_join(parent, node);
-    scan->unknown += same == NULL;
-    if (!is_folder) {
-        return 0;
+    int result = join_node(scan, parent, same, below, name, is_folder);
+    if (result < 0 || !is_folder) {
+        (void)close(below);
+        return result;
     }
-    int below = openat(fd, name, O_RDONLY | O_DIRECTORY | O_NOFOLLOW | O_CLOEXEC);
-    return below < 0 ? -errno : scan_below(scan, node, same, below, depth);
+    return scan_below(scan, node_child(parent, name, strlen(name)), same, below, depth);
 }
 
 /* Closes the descriptor. */
@@ -199,21 +261,40 @@ static int scan_below(struct scan *scan, struct node *node, struct node *known, 
     return result;
 }
 
-int folder_scan(struct node *known, const struct parts *root, struct node **found)
+/* The root's node: without anything kept of it the policy holds. */
+static struct node *scan_root(const struct scan *scan, const struct node *known)
 {
-    struct scan scan = { root, 0 };
+    struct parts given = { NULL, NULL, NULL };
+    int told = scan->by_attributes ? attribute_read(folder, &given) : 0;
+    struct node *top = NULL;
+    if (told >= 0) {
+        top = node_make("", 0, true, told > 0 ? &given : known != NULL ? &known->given : scan->root);
+    } else {
+        say("/: what was given to it isn't read: %s", strerror(-told));
+    }
+    parts_free(&given);
+    return top;
+}
+
+int folder_scan(struct node *known, bool by_attributes, const struct parts *root, struct node **found)
+{
+    struct scan scan = { by_attributes, root, 0 };
+    bool is_kept = known != NULL || (by_attributes && attributes_are_there() == 1);
     int fd = open_below("/", O_RDONLY | O_DIRECTORY, 0);
-    struct node *top = node_make("", 0, true, known != NULL ? &known->given : root);
+    struct node *top = scan_root(&scan, known);
     if (fd < 0 || top == NULL) {
+        if (fd >= 0) {
+            (void)close(fd);
+        }
         node_free(top);
-        return fd < 0 ? fd : -ENOMEM;
+        return fd < 0 ? fd : -EINVAL;
     }
     int result = scan_below(&scan, top, known, fd, 0);
     if (result < 0) {
         node_free(top);
         return result;
     }
-    if (known != NULL && scan.unknown > 0) {
+    if (is_kept && scan.unknown > 0) {
         say("%lu names of FOLDER weren't known: they inherit, and are root's", scan.unknown);
     }
     *found = top;

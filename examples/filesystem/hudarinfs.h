@@ -1,7 +1,7 @@
 /*
  * What the parts of hudarinfs share: the operations ask (asks.c) who may do what (who.c, maps.c, masks.c), of the
- * newest view of the store (store.c). One writer at a time changes the store, what is kept of it (keep.c), and FOLDER itself
- * (folder.c), by the steps of edits.c. A tree of descriptors (tree.c) stands at the start alone.
+ * newest view of the store (store.c). One writer at a time changes the store (edits.c), what is kept of it (attributes.c
+ * or beside.c), and FOLDER itself (folder.c). A tree of descriptors (tree.c) stands at the start alone.
  *
  * A function that answers an int answers 0 or more where it went well, and else a negative error number.
  */
@@ -168,6 +168,8 @@ struct told {
 
 /* The node at a place of the writer's view: -ENOENT behind the last. */
 int node_told(hudarin_view *view, uint64_t place, struct told *told);
+/* The node at the path, which stands in `told` already. */
+int own_told(hudarin_view *view, struct told *told);
 int view_share(hudarin_view *view);
 /* A negative error number for a status that isn't HUDARIN_OK. */
 int error_of(uint32_t status, uint32_t fault);
@@ -176,13 +178,36 @@ const char *status_name(uint32_t status);
 int text_of_bytes(const void *bytes, size_t length, char **text);
 int text_of_text(const char *given, size_t length, char **text);
 
-/* ---- keep.c: the file beside FOLDER that keeps the tree */
+/* ---- What keeps each node's own parts, so that a start finds them */
 
-int keep_open(const char *folder);
+/* Each call but `begin` carries out an edit that store_ready has made ready: it keeps it, changes FOLDER and shows the
+ * view; or all is as it was, and FOLDER's and the store's edit are to be undone. */
+struct keeper {
+    /* Keeps the tree that the start has built. */
+    int (*begin)(void);
+    /* FOLDER gets the file, whose descriptor is the answer, or the folder. */
+    int (*make)(const char *path, bool is_folder, int flags);
+    int (*drop)(const char *path, bool is_folder);
+    int (*move)(const char *from, const char *to);
+    /* The node's own parts are others. */
+    int (*give)(const char *path);
+};
+
+/* ---- attributes.c: an attribute of each of FOLDER's own files and folders */
+
+extern const struct keeper keeper_attributes;
+/* Whether FOLDER itself has the attribute: 1 or 0; -ENOTSUP where its file system keeps none. */
+int attributes_are_there(void);
+/* What is open there was given by its attribute: 1 with the parts, to be freed, or 0. */
+int attribute_read(int fd, struct parts *parts);
+
+/* ---- beside.c: a file beside FOLDER */
+
+extern const struct keeper keeper_beside;
+int beside_open(const char *folder);
+int beside_is_there(void);
 /* The tree that is kept, or NULL where no file is there. */
-int keep_read(struct node **root);
-/* Keeps the view's nodes; with `from` also that a move to `to` is about to be made. The old tree is kept, or the new one. */
-int keep_write(hudarin_view *view, const char *from, const char *to);
+int beside_read(struct node **root);
 
 /* ---- folder.c: FOLDER itself, below a descriptor that is held; no symlink is followed */
 
@@ -196,8 +221,15 @@ int folder_remove(const char *path, bool is_folder);
 int folder_move(const char *from, const char *to);
 /* Syncs the folder that holds the path. */
 int folder_sync(const char *path);
-/* The tree of what FOLDER has; what `known` tells of a node it was given, else it is a new node of root's. */
-int folder_scan(struct node *known, const struct parts *root, struct node **found);
+/* A new file or folder in FOLDER, open, at a name that no path can spell. */
+int folder_stage(bool is_folder, int flags);
+/* What was staged goes to the path, where nothing stands. */
+int folder_place(const char *path);
+/* What was staged goes, where it is there. */
+void folder_unstage(void);
+/* The tree of what FOLDER has. A node was given what `known` tells of it or, where that is NULL and `by_attributes`, what
+ * its attribute does; else it is a new node of root's. */
+int folder_scan(struct node *known, bool by_attributes, const struct parts *root, struct node **found);
 
 /* ---- asks.c: checks */
 
@@ -226,7 +258,7 @@ int owners_of(struct asking *asking, const char *path, struct stat *found);
 
 /* ---- edits.c: what changes the tree */
 
-void edits_open(uint64_t journal_limit);
+void edits_open(uint64_t journal_limit, const struct keeper *kept_by);
 int edit_create(const char *path, bool is_folder, int flags);
 int edit_remove(const char *path, bool is_folder);
 int edit_rename(const char *from, const char *to, unsigned int flags);

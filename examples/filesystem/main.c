@@ -19,13 +19,15 @@
 
 struct words {
     const char *folder, *mount, *policy, *maps;
+    bool wants_file;
     uint64_t journal;
 };
 
 static int usage(void)
 {
-    (void)fputs("usage: hudarinfs [-m MAPS] [-j EDITS] FOLDER MOUNT [POLICY]\n"
+    (void)fputs("usage: hudarinfs [-f] [-m MAPS] [-j EDITS] FOLDER MOUNT [POLICY]\n"
                 "  POLICY  the root's descriptor, in SDDL, where FOLDER has none kept yet\n"
+                "  -f      keeps descriptors in a file beside FOLDER, in place of attributes\n"
                 "  MAPS    a file of lines `uid N SID` and `gid N SID`\n"
                 "  EDITS   behind so many edits the store is made anew (1000000)\n", stderr);
     return 2;
@@ -33,11 +35,13 @@ static int usage(void)
 
 static bool read_words(int count, char **words, struct words *read)
 {
-    *read = (struct words){ NULL, NULL, ROOTS_ALONE, NULL, LONGEST_JOURNAL };
+    *read = (struct words){ NULL, NULL, ROOTS_ALONE, NULL, false, LONGEST_JOURNAL };
     char *end = NULL;
     int option;
-    while ((option = getopt(count, words, "m:j:")) != -1) {
-        if (option == 'm') {
+    while ((option = getopt(count, words, "fm:j:")) != -1) {
+        if (option == 'f') {
+            read->wants_file = true;
+        } else if (option == 'm') {
             read->maps = optarg;
         } else if (option == 'j') {
             errno = 0;
@@ -59,28 +63,54 @@ static bool read_words(int count, char **words, struct words *read)
     return true;
 }
 
-/* The tree of FOLDER, with what was kept of it, or below the policy. */
-static int read_tree(const struct words *words, struct node **tree)
+/* What keeps the tree, and what is to, where nothing does yet: one of the two, and never both. */
+static int choose(const struct words *words, const struct keeper **keeper)
 {
-    struct parts policy = { NULL, NULL, NULL };
-    struct node *known = NULL;
+    int attributes = attributes_are_there(), file = beside_is_there();
+    if (file < 0 || (attributes < 0 && attributes != -ENOTSUP)) {
+        return file < 0 ? file : attributes;
+    }
+    if (attributes == 1 && (file == 1 || words->wants_file)) {
+        say("%s has its descriptors in attributes: a file beside it would tell of others", words->folder);
+        return -EEXIST;
+    }
+    if (attributes != 1 && file == 0) {
+        say("nothing is kept of %s: the policy holds", words->folder);
+    }
+    *keeper = file == 1 || words->wants_file || attributes < 0 ? &keeper_beside : &keeper_attributes;
+    return 0;
+}
+
+/* POLICY's parts, to be freed whatever the answer. */
+static int read_policy(const struct words *words, struct parts *policy)
+{
     char *text = NULL;
     int result = text_of_text(words->policy, strlen(words->policy), &text);
     if (result < 0) {
         return result;
     }
-    if (!parts_split(text, &policy) || policy.owner == NULL || policy.group == NULL || policy.dacl == NULL) {
+    if (!parts_split(text, policy) || policy->owner == NULL || policy->group == NULL || policy->dacl == NULL) {
         say("POLICY wants an owner, a group and a DACL");
         result = -EINVAL;
     }
-    result = result < 0 ? result : keep_read(&known);
-    if (result == 0 && known == NULL) {
-        say("nothing is kept beside %s: the policy holds", words->folder);
+    free(text);
+    return result;
+}
+
+/* The tree of FOLDER, with what was kept of it, or below the policy. */
+static int read_tree(const struct words *words, const struct keeper *keeper, struct node **tree)
+{
+    struct parts policy = { NULL, NULL, NULL };
+    struct node *known = NULL;
+    bool by_attributes = keeper == &keeper_attributes;
+    if (by_attributes) {
+        folder_unstage();
     }
-    result = result < 0 ? result : folder_scan(known, &policy, tree);
+    int result = read_policy(words, &policy);
+    result = result < 0 || by_attributes ? result : beside_read(&known);
+    result = result < 0 ? result : folder_scan(known, by_attributes, &policy, tree);
     node_free(known);
     parts_free(&policy);
-    free(text);
     return result;
 }
 
@@ -88,14 +118,16 @@ static int read_tree(const struct words *words, struct node **tree)
 static int start(const struct words *words)
 {
     struct node *tree = NULL;
+    const struct keeper *keeper = NULL;
     int result = words->maps == NULL ? 0 : maps_read(words->maps);
     result = result < 0 ? result : folder_open(words->folder);
-    result = result < 0 ? result : keep_open(words->folder);
-    result = result < 0 ? result : read_tree(words, &tree);
+    result = result < 0 ? result : beside_open(words->folder);
+    result = result < 0 ? result : choose(words, &keeper);
+    result = result < 0 ? result : read_tree(words, keeper, &tree);
     result = result < 0 ? result : store_build(tree);
-    result = result < 0 ? result : keep_write(store_shown(), NULL, NULL);
+    result = result < 0 ? result : keeper->begin();
     node_free(tree);
-    edits_open(words->journal);
+    edits_open(words->journal, keeper);
     return result;
 }
 

@@ -220,18 +220,23 @@ int store_is_folder(const char *path)
     return node.kind != 0 ? node.kind == HUDARIN_CONTAINER : error_of(node.written.status, node.written.fault);
 }
 
-int node_told(hudarin_view *view, uint64_t place, struct told *told)
+int own_told(hudarin_view *view, struct told *told)
 {
-    hudarin_node node = hudarin_view_node(view, place, told->path, sizeof told->path - 1);
-    size_t length = (size_t)node.written.length;
-    if (node.written.status == HUDARIN_OK) {
-        told->path[length] = '\0';
-        node = hudarin_view_own(view, told->path, length, bytes, sizeof bytes);
-    }
+    hudarin_node node = hudarin_view_own(view, told->path, strlen(told->path), bytes, sizeof bytes);
     told->is_folder = node.kind == HUDARIN_CONTAINER;
     told->own = bytes;
     told->length = (size_t)node.written.length;
     return node.written.status == HUDARIN_OK ? 0 : error_of(node.written.status, node.written.fault);
+}
+
+int node_told(hudarin_view *view, uint64_t place, struct told *told)
+{
+    hudarin_node node = hudarin_view_node(view, place, told->path, sizeof told->path - 1);
+    if (node.written.status != HUDARIN_OK) {
+        return error_of(node.written.status, node.written.fault);
+    }
+    told->path[node.written.length] = '\0';
+    return own_told(view, told);
 }
 
 /* ---- At the start, and anew */

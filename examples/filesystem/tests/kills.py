@@ -121,7 +121,8 @@ SETTING = [("mkdir", "/a"), ("mkdir", "/b"), ("mkdir", "/a/c"), ("create", "/a/c
 STEPPED = [("create", "/b/n"), ("mkdir", "/b/n"), ("unlink", "/a/g"), ("rmdir", "/e"), ("rename", "/a", "/b/a"),
            ("rename", "/a/c/f", "/b/h"), ("rename", "/a/g", "/a/i"), ("rename", "/a/c", "/e"),
            ("set", "/a", "D:P(A;OICI;FA;;;S-1-22-1-0)"), ("give", "/a/g", -1, 7)]
-LEAST_STEPS = 6
+# An edit begins and ends by a step, and has some between: of a file beside FOLDER it is written, synced and renamed.
+LEAST_STEPS = {False: 2, True: 6}
 
 
 def script_lines(call: tuple, model: Model) -> list:
@@ -141,9 +142,9 @@ def ask(mount: Mount, caller: Caller, call: tuple) -> str:
     return caller.call(*words)[0]
 
 
-def kill_at(tally: Tally, program: str, caller: Caller, call: tuple, number: int) -> str:
+def kill_at(tally: Tally, program: str, caller: Caller, call: tuple, number: int, in_file: bool) -> str:
     """What the call met whose server was killed at that step: `ok` where it has no such step. Then it starts again."""
-    mount, model = Mount(), Model(program, ROOTS)
+    mount, model = Mount(in_file=in_file), Model(program, ROOTS)
     try:
         tally.holds(mount.start(ROOTS), "the start", mount.said())
         for setting in SETTING:
@@ -167,19 +168,19 @@ def kill_at(tally: Tally, program: str, caller: Caller, call: tuple, number: int
         mount.close()
 
 
-def kill_at_each_step(tally: Tally, program: str, caller: Caller) -> None:
+def kill_at_each_step(tally: Tally, program: str, caller: Caller, in_file: bool) -> None:
     count = 0
     for call in STEPPED:
         number = 1
-        while kill_at(tally, program, caller, call, number) != "ok" and number < 40:
+        while kill_at(tally, program, caller, call, number, in_file) != "ok" and number < 40:
             number += 1
-        tally.holds(LEAST_STEPS < number < 40, "the steps of %s" % (call,), number)
+        tally.holds(LEAST_STEPS[in_file] < number < 40, "the steps of %s" % (call,), number)
         count += number - 1
     print("%d steps of %d edits" % (count, len(STEPPED)))
 
 
-def main(program: str, kills: int) -> int:
-    tally, chance, mount, model = Tally(), random.Random(), Mount(), Model(program, ROOTS)
+def kill(tally: Tally, program: str, kills: int, in_file: bool) -> None:
+    chance, mount, model = random.Random(), Mount(in_file=in_file), Model(program, ROOTS)
     caller, counts = Caller(ROOT, CALLS), {"answered": 0, "left undone": 0, "done unanswered": 0}
     edits = Edits(chance, model)
     try:
@@ -187,15 +188,22 @@ def main(program: str, kills: int) -> int:
             for _ in range(kills):
                 if not kill_once(tally, mount, caller, edits, counts):
                     break
-            print("%d kills: %s" % (kills, counts))
+            print("%d kills, by %s: %s" % (kills, "a file" if in_file else "attributes", counts))
             tally.holds(counts["answered"] >= kills, "hardly any edits", counts)
             tally.same("what FOLDER has", sorted(os.listdir(mount.folder)), model.children("/"))
+            tally.same("whether a file is beside it", os.path.exists(mount.kept), in_file)
             tally.same("the status, and the sanitizers", mount.stop(), 0)
-            kill_at_each_step(tally, program, caller)
+            kill_at_each_step(tally, program, caller, in_file)
     finally:
         caller.close()
         model.close()
         mount.close()
+
+
+def main(program: str, kills: int) -> int:
+    tally = Tally()
+    for in_file in (False, True):
+        kill(tally, program, kills, in_file)
     return tally.close()
 
 

@@ -1,13 +1,14 @@
 #!/usr/bin/env python3
 """
 Processes of four users try every operation on a tree of 200 nodes with twelve kinds of descriptors, and each outcome is
-compared with the model's.
+compared with the model's: where descriptors are attributes of the folder's own files, and where a file beside it has them.
 
     operations.py SDSTORE [CHANGES]
 """
 
 import os
 import random
+import subprocess
 import sys
 
 from calls import CALLS
@@ -46,9 +47,9 @@ def grow(chance: random.Random, count: int) -> list:
     return nodes
 
 
-def plant(mount: Mount, nodes: list) -> None:
-    """FOLDER, and the file beside it, as a server would have left them."""
-    lines = ["hudarinfs 1", "folder / " + ROOTS]
+def plant(mount: Mount, nodes: list, program: str) -> None:
+    """FOLDER, with the attributes or the file beside it that a server would have left."""
+    lines, known = ["hudarinfs 1", "folder / " + ROOTS], {}
     for kind, path, text in nodes:
         if kind == "folder":
             os.mkdir(mount.folder + path, 0o700)
@@ -56,8 +57,14 @@ def plant(mount: Mount, nodes: list) -> None:
             with open(mount.folder + path, "w", encoding="utf-8") as file:
                 file.write(path)
         lines.append("%s %s %s" % (kind, path, text))
-    with open(mount.kept, "w", encoding="utf-8") as file:
-        file.write("\n".join(lines + ["end", ""]))
+    if mount.in_file:
+        with open(mount.kept, "w", encoding="utf-8") as file:
+            file.write("\n".join(lines + ["end", ""]))
+        return
+    for _, path, text in [("folder", "", ROOTS)] + nodes:
+        if text not in known:
+            known[text] = bytes.fromhex(subprocess.check_output([program, "tobin", text], text=True))
+        os.setxattr(mount.folder + path, "user.hudarin.own", known[text])
 
 
 def look(tally: Tally, mount: Mount, model: Model, caller: Caller) -> None:
@@ -140,16 +147,17 @@ def same_trees(tally: Tally, mount: Mount, model: Model, callers: list) -> None:
                 break
 
 
-def main(program: str, changes: int) -> int:
-    tally, chance, mount = Tally(), random.Random(31), Mount()
+def try_all(tally: Tally, program: str, changes: int, in_file: bool) -> None:
+    chance, mount = random.Random(31 + in_file), Mount(in_file=in_file)
     nodes = grow(chance, 200)
-    plant(mount, nodes)
+    plant(mount, nodes, program)
     model = Model(program, ROOTS)
     for kind, path, text in nodes:
         tally.same("the script", model.edit("%s %s %s" % ("addc" if kind == "folder" else "addo", path, text)), "ok")
     callers = [Caller(user, CALLS) for user in USERS]
     try:
         if tally.holds(mount.start(), "the start", mount.said() if os.path.exists(mount.log) else ""):
+            tally.holds("weren't known" not in mount.said(), "what was kept", mount.said())
             for caller in callers:
                 look(tally, mount, model, caller)
             tries = Changes(chance, mount, model)
@@ -170,6 +178,12 @@ def main(program: str, changes: int) -> int:
             caller.close()
         model.close()
         mount.close()
+
+
+def main(program: str, changes: int) -> int:
+    tally = Tally()
+    for in_file in (False, True):
+        try_all(tally, program, changes, in_file)
     return tally.close()
 
 

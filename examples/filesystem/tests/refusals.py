@@ -159,6 +159,50 @@ def full_tree(tally: Tally) -> None:
         mount.close()
 
 
+def refuses_long_attributes(tally: Tally, mount: Mount, caller: Caller) -> None:
+    """A list that is longer than an attribute of this file system may be stays as it was; where it isn't, it is taken."""
+    at, short, long = mount.path("/long"), "D:P(A;;FA;;;S-1-22-1-0)", "D:P(A;;FA;;;S-1-22-1-0)" + "(A;;FR;;;WD)" * 3000
+    tally.same("a file", caller.call("create", at)[0], "ok")
+    tally.same("a short list", caller.call("set", at, short)[0], "ok")
+    before = caller.call("text", at)
+    said = caller.call("set", at, long)[0]
+    behind = caller.call("text", at)
+    taken = said == "ok" and len(behind[1]) > len(long)
+    refused = said in ("ENOSPC", "E2BIG") and behind == before and "isn't kept" in mount.said()
+    print("a list of 60,000 bytes in an attribute: %s" % said)
+    tally.holds(taken or refused, "a long list", (said, behind[1][:100]))
+    tally.same("another short list", caller.call("set", at, "D:P(A;;FA;;;S-1-22-1-0)(A;;FX;;;WD)")[0], "ok")
+
+
+def refuses_attributes(tally: Tally, mount: Mount) -> None:
+    """An attribute that isn't read ends the start, and so does what is kept twice; what a create left behind goes."""
+    path, name = mount.folder + "/file", "user.hudarin.own"
+    whole = os.getxattr(path, name)
+    for found in (b"", whole[:-1], b"x" * len(whole), bytes.fromhex("0100008000000000000000000000000000000000")):
+        os.setxattr(path, name, found)
+        tally.holds(not mount.start(ROOTS), "a start by an attribute of %r" % found)
+        tally.same("its status", mount.ended(), 1)
+    os.setxattr(path, name, whole)
+    with open(mount.kept, "w", encoding="utf-8") as file:
+        file.write("hudarinfs 1\nfolder / %s\nend\n" % ROOTS)
+    tally.holds(not mount.start(ROOTS), "a start with a file beside the attributes")
+    tally.same("its status", mount.ended(), 1)
+    os.unlink(mount.kept)
+    tally.holds(not mount.start(ROOTS, options=("-f",)), "a start that is to keep a file beside the attributes")
+    tally.same("its status", mount.ended(), 1)
+    staged = os.fsencode(mount.folder) + b"/.hudarin\xff"
+    os.mkdir(staged)
+    os.close(os.open(mount.folder + "/other/planted", os.O_CREAT | os.O_WRONLY, 0o600))
+    tally.holds(mount.start(ROOTS), "the start of what is whole", mount.said())
+    tally.holds(not os.path.exists(staged), "what a create left behind")
+    tally.holds("1 names of FOLDER weren't known" in mount.said(), "a planted name is told", mount.said())
+    tally.holds(os.getxattr(mount.folder + "/other/planted", name) != b"", "it has an attribute now")
+    os.mkdir(staged)
+    tally.same("a folder beside it", outcome(os.mkdir, mount.path("/beside")), "ok")
+    tally.same("FOLDER", sorted(os.listdir(mount.folder + "/beside")), [])
+    tally.same("the status", mount.stop(), 0)
+
+
 def refuses_starts(tally: Tally, mount: Mount) -> None:
     """The server isn't there: what stands beside FOLDER, or FOLDER itself, is no good."""
     with open(mount.kept, encoding="utf-8") as file:
@@ -183,6 +227,20 @@ def refuses_starts(tally: Tally, mount: Mount) -> None:
     tally.same("the status behind that", mount.stop(), 0)
 
 
+def keeps_file(tally: Tally, caller: Caller) -> None:
+    mount = Mount(in_file=True)
+    try:
+        if tally.holds(mount.start(ROOTS), "the start", mount.said()):
+            tally.same("a folder", caller.call("mkdir", mount.path("/d"))[0], "ok")
+            tally.same("a file", caller.call("create", mount.path("/d/f"))[0], "ok")
+            long = "D:P(A;;FA;;;S-1-22-1-0)" + "(A;;FR;;;WD)" * 3000
+            tally.same("a long list", caller.call("set", mount.path("/d/f"), long)[0], "ok")
+            tally.same("the status, and the sanitizers", mount.stop(), 0)
+            refuses_starts(tally, mount)
+    finally:
+        mount.close()
+
+
 def main() -> int:
     tally, mount, caller, alice = Tally(), Mount(), Caller(ROOT, CALLS), Caller(ALICE, CALLS)
     try:
@@ -192,9 +250,11 @@ def main() -> int:
             refuses_names(tally, mount, caller)
             refuses_kinds(tally, mount, alice, caller)
             appends_alone(tally, mount, caller)
+            refuses_long_attributes(tally, mount, caller)
             tally.same("the status, and the sanitizers", mount.stop(), 0)
-            refuses_starts(tally, mount)
+            refuses_attributes(tally, mount)
             maps(tally, mount, alice, caller)
+        keeps_file(tally, caller)
         full_tree(tally)
     finally:
         caller.close()

@@ -122,10 +122,12 @@ class Caller:
 
 
 class Mount:
-    """A folder, the file that is kept beside it, and a server that shows it."""
+    """A folder, and a server that shows it and keeps descriptors in attributes of the folder's own files, or in a file
+    beside it."""
 
-    def __init__(self, program: str = PROGRAM) -> None:
+    def __init__(self, program: str = PROGRAM, in_file: bool = False) -> None:
         self.program = program
+        self.in_file = in_file
         self.room = tempfile.mkdtemp(prefix="hudarinfs.")
         os.chmod(self.room, 0o755)
         self.folder = os.path.join(self.room, "folder")
@@ -146,7 +148,7 @@ class Mount:
     def start(self, *words: str, options: tuple = (), step: int = 0, wait: int = 0) -> bool:
         """Whether it serves, within a minute. It ends at a step of its edits, where one is told, or waits so many
         microseconds where FOLDER has changed and the view hasn't."""
-        command = [self.program, *options, self.folder, self.at, *words]
+        command = [self.program, *["-f"][:self.in_file], *options, self.folder, self.at, *words]
         settings = {**os.environ, "HUDARINFS_STEP": str(step), "HUDARINFS_WAIT": str(wait)}
         with open(self.log, "wb") as log:
             self._server = subprocess.Popen(command, stderr=log, stdout=log, env=settings)

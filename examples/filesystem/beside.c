@@ -1,6 +1,6 @@
 /*
- * The file beside FOLDER that keeps the tree: `hudarinfs 1`, a line for each node, each folder before what it holds,
- * where a rename is under way a line for it, and `end`. It is written whole under another name, synced, and renamed.
+ * The keeper by a file beside FOLDER: `hudarinfs 1`, a line for each node, each folder before what it holds, where a
+ * rename is under way a line for it, and `end`. It is written whole under another name, synced, and renamed.
  */
 #include "hudarinfs.h"
 
@@ -16,7 +16,7 @@ static int beside = -1; /* the folder that holds FOLDER */
 static char kept_name[300];
 static char new_name[310];
 
-int keep_open(const char *folder)
+int beside_open(const char *folder)
 {
     char *real = realpath(folder, NULL);
     char parent[PATH_ROOM];
@@ -30,6 +30,15 @@ int keep_open(const char *folder)
     int error = wanted > 255 - 4 || name[0] == '\0' ? EINVAL : errno;
     free(real);
     return beside < 0 ? -error : 0;
+}
+
+int beside_is_there(void)
+{
+    struct stat found;
+    if (fstatat(beside, kept_name, &found, AT_SYMLINK_NOFOLLOW) != 0) {
+        return errno == ENOENT ? 0 : -errno;
+    }
+    return 1;
 }
 
 /* ---- Writing */
@@ -97,7 +106,8 @@ static int put_all(FILE *file, hudarin_view *view, const char *from, const char 
     return 0;
 }
 
-int keep_write(hudarin_view *view, const char *from, const char *to)
+/* Keeps the view's nodes; with `from` also that a move to `to` is about to be made. The old tree is kept, or the new one. */
+static int write_whole(hudarin_view *view, const char *from, const char *to)
 {
     int fd = openat(beside, new_name, O_WRONLY | O_CREAT | O_TRUNC | O_NOFOLLOW | O_CLOEXEC, 0600);
     if (fd < 0) {
@@ -249,7 +259,7 @@ static int get_all(FILE *file, struct node **root)
     return result < 0 ? result : 0;
 }
 
-int keep_read(struct node **root)
+int beside_read(struct node **root)
 {
     *root = NULL;
     int fd = openat(beside, kept_name, O_RDONLY | O_NOFOLLOW | O_CLOEXEC);
@@ -269,3 +279,72 @@ int keep_read(struct node **root)
     }
     return result;
 }
+
+/* ---- The steps of each change, behind store_ready: README.md tells why in this order */
+
+static int begin(void)
+{
+    return write_whole(store_shown(), NULL, NULL);
+}
+
+/* The tree is kept with the node before FOLDER has it: a node that is kept alone is dropped at a start. */
+static int make(const char *path, bool is_folder, int flags)
+{
+    int result = write_whole(store_next(), NULL, NULL);
+    if (result == 0) {
+        result = folder_make(path, is_folder, flags);
+        step();
+        linger();
+    }
+    if (result >= 0) {
+        store_show();
+    } else {
+        (void)write_whole(store_shown(), NULL, NULL);
+    }
+    return result;
+}
+
+/* FOLDER loses the node before the file does: a node that is kept alone is dropped at a start. */
+static int drop(const char *path, bool is_folder)
+{
+    int result = folder_remove(path, is_folder);
+    step();
+    linger();
+    if (result == 0) {
+        store_show();
+        (void)write_whole(store_shown(), NULL, NULL);
+    }
+    return result;
+}
+
+/* The file tells of the move before FOLDER makes it, and of the new tree afterwards. */
+static int move(const char *from, const char *to)
+{
+    int result = write_whole(store_shown(), from, to);
+    if (result < 0) {
+        return result;
+    }
+    result = folder_move(from, to);
+    step();
+    linger();
+    if (result == 0) {
+        store_show();
+    }
+    int kept = write_whole(store_shown(), NULL, NULL);
+    if (result < 0 && kept < 0) {
+        store_close("the kept tree tells of a move that wasn't made");
+    }
+    return result;
+}
+
+static int give(const char *path)
+{
+    (void)path;
+    int result = write_whole(store_next(), NULL, NULL);
+    if (result == 0) {
+        store_show();
+    }
+    return result;
+}
+
+const struct keeper keeper_beside = { begin, make, drop, move, give };
