@@ -13,18 +13,18 @@ use Rattle.sd_tool.specs.declared.bytes.BytesError.TheVariants.{NoBytes, Memory}
 use Rattle.sd_tool.specs.declared.options.ByteForm.{ByteForm}
 use Rattle.sd_tool.specs.declared.options.ByteForm.TheVariants.{Hex, Base64}
 
--- why a text isn't bytes in its form
-abbrev pub hex_reason : FromHexError → List ℕ
-hex_reason (InvalidHexCharacter c place) = codes "no digit at " ++ decimal place
-hex_reason OddLength = codes "half a byte"
-hex_reason InvalidStringLength = codes "no bytes"
-hex_reason OutOfMemory = codes "no bytes"
+-- why a text isn't bytes in its form: what is wrong with it, and where; what is missing is missing at its end
+abbrev pub hex_reason : List ℕ → FromHexError → List ℕ
+hex_reason text (InvalidHexCharacter c place) = codes "no digit at " ++ decimal place
+hex_reason text OddLength = codes "no second digit at " ++ decimal (length text)
+hex_reason text InvalidStringLength = codes "no bytes"
+hex_reason text OutOfMemory = codes "no bytes"
 
-abbrev pub base64_reason : DecodeError → List ℕ
-base64_reason (InvalidByte place byte) = codes "no digit at " ++ decimal place
-base64_reason (InvalidLength place) = codes "no end at " ++ decimal place
-base64_reason (InvalidLastSymbol place symbol value) = codes "no last digit at " ++ decimal place
-base64_reason InvalidPadding = codes "no padding"
+abbrev pub base64_reason : List ℕ → DecodeError → List ℕ
+base64_reason text (InvalidByte place byte) = codes "no digit at " ++ decimal place
+base64_reason text (InvalidLength place) = codes "no end at " ++ decimal place
+base64_reason text (InvalidLastSymbol place symbol value) = codes "no last digit at " ++ decimal place
+base64_reason text InvalidPadding = codes "no padding at " ++ decimal (length text)
 
 abbrev pub reasoned : {E : Type 0} → (E → List ℕ) → Result (List ℕ) E → Result (List ℕ) (List ℕ)
 reasoned reason (Ok bytes) = Ok bytes
@@ -32,8 +32,8 @@ reasoned reason (Err e) = Err (reason e)
 
 -- the bytes that the text spells, or why it spells none
 abbrev pub bytes_read : ByteForm → List ℕ → Result (List ℕ) (List ℕ)
-bytes_read Hex text = reasoned hex_reason (hex.decode_of text)
-bytes_read Base64 text = reasoned base64_reason (base64.decode_of standard text)
+bytes_read Hex text = reasoned (hex_reason text) (hex.decode_of text)
+bytes_read Base64 text = reasoned (base64_reason text) (base64.decode_of standard text)
 
 abbrev pub IsBytesError : ByteForm → List ℕ → BytesError → Type 0
 IsBytesError form text (NoBytes reason) = bytes_read form text ≡ Err (string_bytes reason)

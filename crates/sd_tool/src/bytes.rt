@@ -65,19 +65,23 @@ fn hex_bytes(alloc: Global, text: &str) -> Result<Vec<u8>, BytesError>
     match hex::decode(alloc, text) {
         Ok(bytes) => Ok(bytes),
         Err(FromHexError::OutOfMemory) => Err(BytesError::Memory),
-        Err(error) => Err(BytesError::NoBytes(hex_reason(alloc, error)?)),
+        Err(error) => Err(BytesError::NoBytes(hex_reason(alloc, text, error)?)),
     }
 }
 
-fn hex_reason(alloc: Global, error: FromHexError) -> Result<String, AllocError>
-    ensures { IfOk result (λ text. string_bytes text ≡ hex_reason_of error) }
+fn hex_reason(alloc: Global, text: &str, error: FromHexError) -> Result<String, AllocError>
+    ensures { IfOk result (λ reason. string_bytes reason ≡ hex_reason_of text.now error) }
 {
     match error {
         FromHexError::InvalidHexCharacter { c: _, index } => {
-            let text = format!(in alloc; "no digit at {index}")?;
-            Ok(text)
+            let reason = format!(in alloc; "no digit at {index}")?;
+            Ok(reason)
         }
-        FromHexError::OddLength => String::from_str(alloc, "half a byte"),
+        FromHexError::OddLength => {
+            let end = text.len();
+            let reason = format!(in alloc; "no second digit at {end}")?;
+            Ok(reason)
+        }
         FromHexError::InvalidStringLength | FromHexError::OutOfMemory => {
             String::from_str(alloc, "no bytes")
         }
@@ -92,28 +96,32 @@ fn base64_bytes(alloc: Global, text: &str) -> Result<Vec<u8>, BytesError>
         Ok(bytes) => Ok(bytes),
         Err(DecodeAllocError::OutOfMemory) => Err(BytesError::Memory),
         Err(DecodeAllocError::DecodeError(error)) => {
-            Err(BytesError::NoBytes(base64_reason(alloc, error)?))
+            Err(BytesError::NoBytes(base64_reason(alloc, text, error)?))
         }
     }
 }
 
-fn base64_reason(alloc: Global, error: DecodeError) -> Result<String, AllocError>
-    ensures { IfOk result (λ text. string_bytes text ≡ base64_reason_of error) }
+fn base64_reason(alloc: Global, text: &str, error: DecodeError) -> Result<String, AllocError>
+    ensures { IfOk result (λ reason. string_bytes reason ≡ base64_reason_of text.now error) }
 {
     match error {
         DecodeError::InvalidByte(place, _) => {
-            let text = format!(in alloc; "no digit at {place}")?;
-            Ok(text)
+            let reason = format!(in alloc; "no digit at {place}")?;
+            Ok(reason)
         }
         DecodeError::InvalidLength(place) => {
-            let text = format!(in alloc; "no end at {place}")?;
-            Ok(text)
+            let reason = format!(in alloc; "no end at {place}")?;
+            Ok(reason)
         }
         DecodeError::InvalidLastSymbol { offset, .. } => {
-            let text = format!(in alloc; "no last digit at {offset}")?;
-            Ok(text)
+            let reason = format!(in alloc; "no last digit at {offset}")?;
+            Ok(reason)
         }
-        DecodeError::InvalidPadding => String::from_str(alloc, "no padding"),
+        DecodeError::InvalidPadding => {
+            let end = text.len();
+            let reason = format!(in alloc; "no padding at {end}")?;
+            Ok(reason)
+        }
     }
 }
 
