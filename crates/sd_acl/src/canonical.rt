@@ -87,6 +87,3 @@ pub fn explicit_of(alloc: Global, entries: &[Ace]) -> Result<Vec<Ace>, AllocErro
 {
     entries.iter().map(explicit_entry).collect(alloc)
 }
-
-#[cfg(test)]
-mod tests;

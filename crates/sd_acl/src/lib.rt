@@ -23,6 +23,3 @@ pub use descriptor::{Dacl, Descriptor};
 pub use flags::AceFlags;
 pub use list::{ACL_HEADER_BYTES, AceList, AclTooLarge, MAX_ACL_BYTES, acl_size};
 pub use verdict::Verdict;
-
-#[cfg(test)]
-mod tests;

@@ -59,6 +59,3 @@ pub use text::{
 pub use trim::{Trimmed, hudarin_descriptor_trim};
 pub use version::{Version, hudarin_version};
 pub use views::{ViewAnswer, hudarin_journal_length, hudarin_view_check, hudarin_view_descriptor};
-
-#[cfg(test)]
-mod tests;

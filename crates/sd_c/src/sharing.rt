@@ -43,5 +43,9 @@ fn shared(alloc: Global, kept: &Kept) -> Result<Option<Box<Kept>>, AllocError>
         Kept::View(tree) => Kept::View(Arc::try_clone(tree)?),
         Kept::Store(_) => return Ok(None),
     };
+    may_cross(&second);
     Ok(Some(Box::new(alloc, second)?))
 }
+
+/// Compiled only for what may go to another thread.
+fn may_cross<T: Send>(_: &T) {}

@@ -34,8 +34,3 @@ pub use sd_acl::Verdict;
 pub use steps::{Found, Question};
 pub use token::{GroupState, Privileges, Token};
 pub use walk::subject_of;
-
-#[cfg(test)]
-mod bit_by_bit;
-#[cfg(test)]
-mod tests;

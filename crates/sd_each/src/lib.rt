@@ -20,6 +20,3 @@ mod streams;
 pub use answers::Answers;
 pub use ending::Ending;
 pub use streams::each;
-
-#[cfg(test)]
-mod tests;

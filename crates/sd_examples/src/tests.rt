@@ -1,6 +1,7 @@
 //! A tree that is edited and asked row by row.
 
 mod copying;
+mod desks;
 mod full;
 mod handing_on;
 mod inheriting;

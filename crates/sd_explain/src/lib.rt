@@ -23,6 +23,3 @@ pub use laws::{
     parts_are_apart_and_whole, parts_join,
 };
 pub use reason::{Cause, Finding, Reason, Share};
-
-#[cfg(test)]
-mod tests;

@@ -41,6 +41,3 @@ pub use spelling::{Spelling, spell};
 pub use streams::run;
 pub use why::why_text;
 pub use word::{TokenError, read_token};
-
-#[cfg(test)]
-mod tests;

@@ -20,6 +20,3 @@ mod streams;
 
 pub use laws::workers_show_in_the_opening;
 pub use streams::run_audit;
-
-#[cfg(test)]
-mod tests;

@@ -16,6 +16,3 @@ mod ended;
 mod streams;
 
 pub use streams::serve;
-
-#[cfg(test)]
-mod tests;

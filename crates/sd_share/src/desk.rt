@@ -5,9 +5,6 @@ ghost use Rattle.sd_tree.specs.Journal.{opening_of, root_refusal, IsLawful};
 ghost use Rattle.sd_share.specs.Machine.{Steps, Runs, started, accepted};
 ghost use Rattle.sd_share.specs.Starts.{IsReaderCount, IsStartError};
 
-#[cfg(test)]
-mod tests;
-
 use crate::draft::catch_up;
 use crate::request::{Answer, Reply, Request};
 use crate::start::{MAX_READERS, StartError};

@@ -19,6 +19,3 @@ pub use bytes::{SID_HEADER_BYTES, push_sid, read_sid, sid_bytes, sids_come_back,
 pub use mapping::{BadMapping, GenericMapping, OBJECT_RIGHTS};
 pub use mask::Mask;
 pub use sid::{AUTHORITY_LIMIT, MAX_SUBS, Sid, SidError, sids_compare_by_value};
-
-#[cfg(test)]
-mod tests;

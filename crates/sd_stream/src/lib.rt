@@ -22,6 +22,3 @@ pub use error::RunError;
 pub use input::{MAX_INPUT_BYTES, read_whole};
 pub use output::write_whole;
 pub use watched::Watched;
-
-#[cfg(test)]
-mod tests;

@@ -38,6 +38,3 @@ pub use print::{print_entry, print_full_sid, print_sddl, print_sid};
 pub use rights::read_mask;
 pub use sacl::{WithoutSacl, read_sddl_without_sacl};
 pub use sid::{read_sid_text, read_sid_text_in};
-
-#[cfg(test)]
-mod tests;

@@ -4,7 +4,7 @@ use Rattle.std.specs.Option.{option_map_or}
 use Rattle.std.specs.Borrow.{Bor}
 use Rattle.sd_tool.specs.CommandLine.{InvocationValue, Verdict, Why, Lint, Print, ToBinary, FromBinary, Script, Serve, Audit, Each, Help, Version, CommandLineValue, RequestValue, command_on, of_line, reading, request_on}
 use Rattle.sd_tool.specs.Options.{no_options}
-use Rattle.sd_tool.specs.declared.command_line.CommandName.{CommandName}
+use Rattle.sd_usage.specs.declared.command_name.CommandName.{CommandName}
 
 -- whether what was read is help or the version
 abbrev pub is_shown : InvocationValue → Bool

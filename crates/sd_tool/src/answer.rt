@@ -12,12 +12,12 @@ use crate::failure::Failure;
 use crate::lint::answer_lint;
 use crate::options::{BadValue, Settings};
 use crate::told::{sid_reason, told_fault, told_line};
-use crate::usage::help;
 use crate::verdict::{Form, answer_verdict};
 use crate::version::version_text;
 use sd_script::{fault_line, sddl_fault_line};
 use sd_stream::RunError;
 use sd_text::TextFault;
+use sd_usage::help;
 use std::alloc::Global;
 
 /// What came of an invocation.

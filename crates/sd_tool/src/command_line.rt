@@ -5,31 +5,7 @@ ghost use Rattle.sd_tool.specs.Options.{options_of};
 
 use crate::options::{Options, options_in};
 use sd_each::Ending;
-
-/// A command of the program.
-#[derive(Clone, Copy, Debug, PartialEq, Eq)]
-pub(crate) enum CommandName {
-    /// `verdict`.
-    Verdict,
-    /// `why`.
-    Why,
-    /// `lint`.
-    Lint,
-    /// `print`.
-    Print,
-    /// `tobin`.
-    ToBinary,
-    /// `frombin`.
-    FromBinary,
-    /// `script`.
-    Script,
-    /// `serve`.
-    Serve,
-    /// `audit`.
-    Audit,
-    /// `each`.
-    Each,
-}
+use sd_usage::CommandName;
 
 /// What a command line asks for, and with which options.
 #[derive(Clone, Copy, Debug)]
@@ -144,23 +120,22 @@ impl<'a> Request<'a> {
     }
 }
 
-impl CommandName {
-    fn named(word: &str) -> Option<CommandName>
-        ensures { result ≡ command_named word.now }
-    {
-        match word {
-            "verdict" => Some(CommandName::Verdict),
-            "why" => Some(CommandName::Why),
-            "lint" => Some(CommandName::Lint),
-            "print" => Some(CommandName::Print),
-            "tobin" => Some(CommandName::ToBinary),
-            "frombin" => Some(CommandName::FromBinary),
-            "script" => Some(CommandName::Script),
-            "serve" => Some(CommandName::Serve),
-            "audit" => Some(CommandName::Audit),
-            "each" => Some(CommandName::Each),
-            _ => None,
-        }
+/// The command of that name.
+fn named(word: &str) -> Option<CommandName>
+    ensures { result ≡ command_named word.now }
+{
+    match word {
+        "verdict" => Some(CommandName::Verdict),
+        "why" => Some(CommandName::Why),
+        "lint" => Some(CommandName::Lint),
+        "print" => Some(CommandName::Print),
+        "tobin" => Some(CommandName::ToBinary),
+        "frombin" => Some(CommandName::FromBinary),
+        "script" => Some(CommandName::Script),
+        "serve" => Some(CommandName::Serve),
+        "audit" => Some(CommandName::Audit),
+        "each" => Some(CommandName::Each),
+        _ => None,
     }
 }
 
@@ -275,7 +250,7 @@ fn command_in<'a>(words: &'a [&'a str]) -> Option<Invocation<'a>>
 {
     match words {
         [] => None,
-        [word, words @ ..] => match CommandName::named(word) {
+        [word, words @ ..] => match named(word) {
             Some(command) => command_on(command, arguments_in(words)),
             None => None,
         },
@@ -296,7 +271,7 @@ fn help_on<'a>(word: &str) -> Option<Invocation<'a>>
 fn help_on_command<'a>(word: &str) -> Option<Invocation<'a>>
     ensures { option_map invocation_of result ≡ option_map (λ command. Help (Some command)) (command_named word.now) }
 {
-    match CommandName::named(word) {
+    match named(word) {
         Some(command) => Some(Invocation::Help {
             command: Some(command),
         }),
@@ -374,7 +349,7 @@ fn request_in<'a>(words: &'a [&'a str]) -> Option<Request<'a>>
 {
     match words {
         [] => None,
-        [word, words @ ..] => match CommandName::named(word) {
+        [word, words @ ..] => match named(word) {
             Some(command) => request_on(command, arguments_in(words)),
             None => None,
         },

@@ -25,7 +25,6 @@ mod options;
 mod program;
 mod shown;
 mod told;
-mod usage;
 mod verdict;
 mod version;
 mod words;

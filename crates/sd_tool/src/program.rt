@@ -12,13 +12,14 @@ use crate::answer::{Answer, Outcome, answer_to};
 use crate::command_line::{Invocation, read_command_line};
 use crate::each::{Question, answer_each};
 use crate::failure::Failure;
-use crate::usage::refusal;
+use crate::shown::shown_words;
 use sd_script::run;
 use sd_script_audit::run_audit;
 use sd_script_serve::serve;
 use sd_store::OpenGate;
 use sd_stream::{RunError, Watched, write_whole};
-use std::alloc::Global;
+use sd_usage::refusal;
+use std::alloc::{AllocError, Global};
 use std::io::{Read, Write};
 use std::sync::Wait;
 use std::thread::Threads;
@@ -106,6 +107,13 @@ impl Ended {
     }
 }
 
+/// Why the words aren't a command line. No control character of theirs stands in it.
+fn reason(alloc: Global, words: &[&str]) -> Result<String, AllocError> {
+    let shown = shown_words(alloc, words)?;
+    let words: Vec<&str> = shown.iter().map(|word| word.as_str()).collect(alloc)?;
+    refusal(alloc, words.as_slice())
+}
+
 #[tactic(auto, using(crate::proofs::Telling::leaves_script, crate::proofs::Telling::leaves_audit, crate::proofs::Telling::leaves_write))]
 fn carry_out<T: Threads + Wait + Sync, R: Read, W: Write>(
     rt: &T,
@@ -126,7 +134,7 @@ fn carry_out<T: Threads + Wait + Sync, R: Read, W: Write>(
     ensures unused { asks_input words.now ≡ false → reader.new ≡ reader.old }
 {
     let Some(line) = read_command_line(words) else {
-        return Err(Failure::Unread(refusal(alloc, words)?));
+        return Err(Failure::Unread(reason(alloc, words)?));
     };
     if let Invocation::Script = line.invocation {
         run(alloc, reader, writer)?;
@@ -156,6 +164,3 @@ fn carry_out<T: Threads + Wait + Sync, R: Read, W: Write>(
     write_whole(writer, text.as_bytes())?;
     Ok(Ended { told, outcome })
 }
-
-#[cfg(test)]
-mod tests;

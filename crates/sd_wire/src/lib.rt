@@ -17,8 +17,6 @@ mod laws;
 mod list;
 mod number;
 mod parts;
-#[cfg(test)]
-mod tests;
 mod trustee;
 
 pub use descriptor::{read_descriptor, wire_len, write_descriptor};

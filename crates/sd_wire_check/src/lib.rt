@@ -14,6 +14,3 @@
 mod bytes;
 
 pub use bytes::check_bytes;
-
-#[cfg(test)]
-mod tests;

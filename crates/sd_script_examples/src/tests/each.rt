@@ -1,0 +1,250 @@
+//! Inputs of every kind of line, that come in pieces of every length and break off at every byte.
+use sd_each::*;
+use sd_stream::{MAX_INPUT_BYTES, RunError, Watched};
+use std::alloc::{AllocError, Global};
+use std::io;
+use std::io::{ErrorKind, Read, Write};
+use std::process::Abort;
+
+/// Answers a line by its text between brackets, and one that is too long by `..`. One that begins with `!` is refused, and
+/// so is one that is too long.
+#[derive(Debug)]
+struct Brackets;
+
+impl Answers for Brackets {
+    ghost answers = { λ _ line printed is_refused. Unit {0} };
+
+    fn answer(
+        &self,
+        _: Global,
+        line: Option<&[u8]>,
+        text: &mut Vec<u8>,
+    ) -> Result<bool, AllocError> {
+        let Some(bytes) = line else {
+            text.extend_from_slice(b"..\n")?;
+            return Ok(true);
+        };
+        text.push(b'[')?;
+        text.extend_from_slice(bytes)?;
+        text.extend_from_slice(b"]\n")?;
+        Ok(bytes.first() == Some(&b'!'))
+    }
+}
+
+/// Inputs, their answers, and whether one is a refusal. Of a mark alone there is no line, and of two bytes of one there is.
+const INPUTS: [(Ending, &[u8], &[u8], bool); 12] = [
+    (Ending::Feed, b"", b"", false),
+    (Ending::Feed, b"a\nbc\n", b"[a]\n[bc]\n", false),
+    (
+        Ending::Feed,
+        b"a\r\n\r\n\n\r\r\nb",
+        b"[a]\n[]\n[]\n[\r]\n[b]\n",
+        false,
+    ),
+    (Ending::Feed, b"a\r", b"[a\r]\n", false),
+    (Ending::Feed, b"!\na\n", b"[!]\n[a]\n", true),
+    (Ending::Feed, b"a\n!", b"[a]\n[!]\n", true),
+    (
+        Ending::Feed,
+        b"\xef\xbb\xbfa\n\xef\xbb\xbfb\n",
+        b"[a]\n[\xef\xbb\xbfb]\n",
+        false,
+    ),
+    (Ending::Feed, b"\xef\xbb\xbf", b"", false),
+    (Ending::Feed, b"\xef\xbb\xbf\r\n", b"[]\n", false),
+    (Ending::Feed, b"\xef\xbb", b"[\xef\xbb]\n", false),
+    (Ending::Feed, b"a\0b\n", b"[a\0b]\n", false),
+    (
+        Ending::Zero,
+        b"\xef\xbb\xbfa\r\n\0\0b\r\0c",
+        b"[a\r\n]\n[]\n[b\r]\n[c]\n",
+        false,
+    ),
+];
+
+/// A reader that gives so many bytes at a call, and fails where it has given so many.
+#[derive(Drop)]
+struct Pieces {
+    input: &'static [u8],
+    size: usize,
+    until_failure: usize,
+}
+
+impl Read for Pieces {
+    fn read(&mut self, buf: &mut [u8]) -> io::Result<usize> {
+        if self.until_failure == 0 {
+            return Err(io::Error::from(ErrorKind::BrokenPipe));
+        }
+        let count = self
+            .input
+            .len()
+            .min(self.size)
+            .min(self.until_failure)
+            .min(buf.len());
+        buf[..count].copy_from_slice(&self.input[..count]);
+        self.input = &self.input[count..];
+        self.until_failure -= count;
+        Ok(count)
+    }
+}
+
+fn in_pieces(input: &'static [u8], size: usize, until_failure: usize) -> Watched<Pieces> {
+    Watched::new(Pieces {
+        input,
+        size,
+        until_failure,
+    })
+}
+
+#[test]
+fn answers_pieces_of_every_length(rt: HostRuntime) {
+    for (ending, input, wanted, is_refused) in INPUTS {
+        for size in 1..=input.len() + 1 {
+            let mut reader = in_pieces(input, size, usize::MAX);
+            let mut writer = Watched::new(Vec::new(rt.alloc()));
+            let answer = each(rt.alloc(), &Brackets, ending, &mut reader, &mut writer);
+            assert_eq!(rt; answer, Ok(is_refused), "{input:?} by {size}");
+            assert_eq!(rt;
+                writer.into_inner().as_slice(),
+                wanted,
+                "{input:?} by {size}"
+            );
+        }
+    }
+}
+
+/// A line that ends at the first of these bytes, and what was answered then.
+const ENDS: [(usize, &[u8]); 3] = [(5, b"[a]\n[!b]\n"), (2, b"[a]\n"), (0, b"")];
+
+#[test]
+fn answers_what_had_ended_before_the_reader_failed(rt: HostRuntime) {
+    for until_failure in 0..=6 {
+        let mut reader = in_pieces(b"a\n!b\nc\n", 2, until_failure);
+        let mut writer = Watched::new(Vec::new(rt.alloc()));
+        let answer = each(
+            rt.alloc(),
+            &Brackets,
+            Ending::Feed,
+            &mut reader,
+            &mut writer,
+        );
+        assert_eq!(rt; answer, Err(RunError::Read), "at {until_failure}");
+        assert!(rt; reader.failed() && !writer.failed(), "at {until_failure}");
+        let ended = ENDS.iter().find(|(end, _)| *end <= until_failure);
+        let wanted = ended.map_or(&b""[..], |(_, wanted)| *wanted);
+        assert_eq!(rt;
+            writer.into_inner().as_slice(),
+            wanted,
+            "at {until_failure}"
+        );
+    }
+}
+
+/// A reader of so many letters, and behind them of other lines.
+#[derive(Drop)]
+struct Letters {
+    before: &'static [u8],
+    left: usize,
+    behind: &'static [u8],
+}
+
+impl Read for Letters {
+    fn read(&mut self, buf: &mut [u8]) -> io::Result<usize> {
+        let count = self.before.len().min(buf.len());
+        if count > 0 {
+            buf[..count].copy_from_slice(&self.before[..count]);
+            self.before = &self.before[count..];
+            return Ok(count);
+        }
+        let count = buf.len().min(self.left);
+        buf[..count].fill(b'a');
+        self.left -= count;
+        if count > 0 {
+            return Ok(count);
+        }
+        let count = self.behind.len().min(buf.len());
+        buf[..count].copy_from_slice(&self.behind[..count]);
+        self.behind = &self.behind[count..];
+        Ok(count)
+    }
+}
+
+/// Answers a line by a letter: whether it is too long.
+#[derive(Debug)]
+struct Lengths;
+
+impl Answers for Lengths {
+    ghost answers = { λ _ line printed is_refused. Unit {0} };
+
+    fn answer(
+        &self,
+        _: Global,
+        line: Option<&[u8]>,
+        text: &mut Vec<u8>,
+    ) -> Result<bool, AllocError> {
+        text.push(if line.is_none() { b'L' } else { b'.' })?;
+        Ok(line.is_none())
+    }
+}
+
+#[test]
+fn tells_a_line_that_is_too_long(rt: HostRuntime) {
+    // A mark and a carriage return don't count.
+    let rows: [(&[u8], usize, &[u8], &[u8]); 3] = [
+        (b"x\n", MAX_INPUT_BYTES + 1, b"\nb\nc", b".L.."),
+        (b"\xef\xbb\xbf", MAX_INPUT_BYTES, b"\r\nb", b".."),
+        (b"\xef\xbb\xbf", MAX_INPUT_BYTES + 1, b"", b"L"),
+    ];
+    for (before, left, behind, wanted) in rows {
+        let mut reader = Watched::new(Letters {
+            before,
+            left,
+            behind,
+        });
+        let mut writer = Watched::new(Vec::new(rt.alloc()));
+        let answer = each(rt.alloc(), &Lengths, Ending::Feed, &mut reader, &mut writer);
+        assert_eq!(rt; answer, Ok(wanted.contains(&b'L')), "{left}");
+        assert_eq!(rt; writer.into_inner().as_slice(), wanted, "{left}");
+    }
+}
+
+/// A writer that takes so many bytes.
+#[derive(Drop)]
+struct Full {
+    taken: Vec<u8>,
+    room: usize,
+}
+
+impl Write for Full {
+    fn write(&mut self, buf: &[u8]) -> io::Result<usize> {
+        let count = buf.len().min(self.room.saturating_sub(self.taken.len()));
+        self.taken.extend_from_slice(&buf[..count])?;
+        Ok(count)
+    }
+
+    fn flush(&mut self) -> io::Result<()> {
+        Ok(())
+    }
+}
+
+#[test]
+fn writes_a_beginning_where_the_writer_fails(rt: HostRuntime) {
+    let whole = b"[a]\n[b]\n[c]\n";
+    for room in 0..whole.len() {
+        let mut reader = in_pieces(b"a\nb\nc", 2, usize::MAX);
+        let mut writer = Watched::new(Full {
+            taken: Vec::new(rt.alloc()),
+            room,
+        });
+        let answer = each(
+            rt.alloc(),
+            &Brackets,
+            Ending::Feed,
+            &mut reader,
+            &mut writer,
+        );
+        assert_eq!(rt; answer, Err(RunError::Write), "room for {room}");
+        assert!(rt; writer.failed() && !reader.failed(), "room for {room}");
+        assert_eq!(rt; writer.into_inner().taken.as_slice(), &whole[..room]);
+    }
+}

@@ -1,0 +1,191 @@
+//! Scripts that come in pieces of every length, that break off at every byte, and lines as long as one may be.
+use sd_script_serve::serve;
+use sd_stream::{MAX_INPUT_BYTES, RunError, Watched};
+use std::alloc::{AllocError, Global};
+use std::io;
+use std::io::{ErrorKind, Read, Write};
+use std::process::Abort;
+
+/// The lines of a script, and what each is answered by. One has a carriage return, one isn't answered, two are answered by
+/// several lines, the last isn't ended.
+const LINES: [(&[u8], &[u8]); 10] = [
+    (b"open 2 O:BAG:SYD:(A;OICI;FA;;;BA)\n", b"opened 2\n"),
+    (b"# an object\n", b""),
+    (b"addo /a O:BAG:SYD:(A;;FR;;;BU)\r\n", b"ok\n"),
+    (
+        b"check 0 /a S-1-5-21-1-2-3-1001 0x1 BU\n",
+        b"seen 0 nonode\n",
+    ),
+    (b"publish\n", b"published 1\n"),
+    (b"frob\n", b"fault words\n"),
+    (
+        b"check 0 /a S-1-5-21-1-2-3-1001 0x1 BU\n",
+        b"seen 1 granted 0x1\n",
+    ),
+    (
+        b"why 0 /a S-1-5-21-1-2-3-1001 0x1 BU\n",
+        b"seen 1 granted 0x1\ngranted 0x1 by entry 1 (A;;FR;;;BU) as S-1-5-32-545\n\n",
+    ),
+    (b"why 0 /a\n", b"fault words\n\n"),
+    (b"learn 0 1", b"learned 1\n"),
+];
+
+/// A reader of the script that gives so many bytes at a call, and fails where it has given so many.
+#[derive(Drop)]
+struct Pieces {
+    script: Vec<u8>,
+    at: usize,
+    size: usize,
+    fails_at: usize,
+}
+
+impl Read for Pieces {
+    fn read(&mut self, buf: &mut [u8]) -> io::Result<usize> {
+        if self.at >= self.fails_at {
+            return Err(io::Error::from(ErrorKind::BrokenPipe));
+        }
+        let rest = self.script.get(self.at..).unwrap_or_default();
+        let most = self.fails_at - self.at;
+        let count = rest.len().min(self.size).min(most).min(buf.len());
+        buf[..count].copy_from_slice(&rest[..count]);
+        self.at = self.at.saturating_add(count);
+        Ok(count)
+    }
+}
+
+/// The whole script.
+fn script(alloc: Global) -> Result<Vec<u8>, AllocError> {
+    let mut bytes = Vec::new(alloc);
+    for (line, _) in LINES {
+        bytes.extend_from_slice(line)?;
+    }
+    Ok(bytes)
+}
+
+/// The answers to the lines of which so many bytes have the ends, and to the last where it is whole.
+fn answers(alloc: Global, bytes: usize) -> Result<Vec<u8>, AllocError> {
+    let mut printed = Vec::new(alloc);
+    let mut end = 0usize;
+    for (line, answer) in LINES {
+        end = end.saturating_add(line.len());
+        if end <= bytes && line.last() == Some(&b'\n') {
+            printed.extend_from_slice(answer)?;
+        }
+    }
+    Ok(printed)
+}
+
+#[test]
+fn answers_pieces_of_every_length(rt: HostRuntime) {
+    let script = script(rt.alloc()).expect(&rt, "memory is there");
+    let mut wanted = answers(rt.alloc(), script.len()).expect(&rt, "memory is there");
+    wanted
+        .extend_from_slice(b"learned 1\n")
+        .expect(&rt, "memory is there");
+    for size in 1..=script.len() {
+        let mut reader = Watched::new(Pieces {
+            script: Vec::from_slice(rt.alloc(), &script).expect(&rt, "memory is there"),
+            at: 0,
+            size,
+            fails_at: usize::MAX,
+        });
+        let mut writer = Watched::new(Vec::new(rt.alloc()));
+        assert_eq!(rt;
+            serve(rt.alloc(), &mut reader, &mut writer),
+            Ok(()),
+            "by {size}"
+        );
+        assert!(rt; writer.into_inner() == wanted, "by {size}");
+    }
+}
+
+#[test]
+fn answers_what_had_ended_before_the_reader_failed(rt: HostRuntime) {
+    let script = script(rt.alloc()).expect(&rt, "memory is there");
+    for fails_at in 0..=script.len() {
+        let mut reader = Watched::new(Pieces {
+            script: Vec::from_slice(rt.alloc(), &script).expect(&rt, "memory is there"),
+            at: 0,
+            size: 7,
+            fails_at,
+        });
+        let mut writer = Watched::new(Vec::new(rt.alloc()));
+        let answer = serve(rt.alloc(), &mut reader, &mut writer);
+        assert_eq!(rt; answer, Err(RunError::Read), "at {fails_at}");
+        assert!(rt; reader.failed() && !writer.failed(), "at {fails_at}");
+        let wanted = answers(rt.alloc(), fails_at).expect(&rt, "memory is there");
+        assert!(rt; writer.into_inner() == wanted, "at {fails_at}");
+    }
+}
+
+/// A reader of a line of a script, and behind it of so many letters without an end.
+#[derive(Drop)]
+struct Letters {
+    line: &'static [u8],
+    left: usize,
+}
+
+impl Read for Letters {
+    fn read(&mut self, buf: &mut [u8]) -> io::Result<usize> {
+        let first = self.line.len().min(buf.len());
+        buf[..first].copy_from_slice(&self.line[..first]);
+        self.line = &self.line[first..];
+        let count = (buf.len() - first).min(self.left);
+        buf[first..first + count].fill(b'a');
+        self.left -= count;
+        Ok(first + count)
+    }
+}
+
+#[test]
+fn answers_the_longest_line_and_no_longer(rt: HostRuntime) {
+    let rows: [(usize, &[u8], Result<(), RunError>); 2] = [
+        (MAX_INPUT_BYTES, b"fault open\nfault words\n", Ok(())),
+        (MAX_INPUT_BYTES + 1, b"fault open\n", Err(RunError::TooLong)),
+    ];
+    for (left, wanted, ends) in rows {
+        let mut reader = Watched::new(Letters {
+            line: b"publish\n",
+            left,
+        });
+        let mut writer = Watched::new(Vec::new(rt.alloc()));
+        assert_eq!(rt; serve(rt.alloc(), &mut reader, &mut writer), ends, "{left}");
+        assert_eq!(rt; writer.into_inner().as_slice(), wanted, "{left}");
+    }
+}
+
+/// A writer that takes so many bytes.
+#[derive(Drop)]
+struct Full {
+    taken: Vec<u8>,
+    room: usize,
+}
+
+impl Write for Full {
+    fn write(&mut self, buf: &[u8]) -> io::Result<usize> {
+        let count = buf.len().min(self.room.saturating_sub(self.taken.len()));
+        self.taken.extend_from_slice(&buf[..count])?;
+        Ok(count)
+    }
+
+    fn flush(&mut self) -> io::Result<()> {
+        Ok(())
+    }
+}
+
+#[test]
+fn writes_a_beginning_where_the_writer_fails(rt: HostRuntime) {
+    let script = script(rt.alloc()).expect(&rt, "memory is there");
+    let whole = answers(rt.alloc(), script.len()).expect(&rt, "memory is there");
+    for room in 0..whole.len() {
+        let mut reader = Watched::new(script.as_slice());
+        let mut writer = Watched::new(Full {
+            taken: Vec::new(rt.alloc()),
+            room,
+        });
+        let answer = serve(rt.alloc(), &mut reader, &mut writer);
+        assert_eq!(rt; answer, Err(RunError::Write), "room for {room}");
+        assert!(rt; writer.failed() && !reader.failed(), "room for {room}");
+        assert_eq!(rt; writer.into_inner().taken.as_slice(), &whole[..room]);
+    }
+}
