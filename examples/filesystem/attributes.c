@@ -108,7 +108,18 @@ static int begin_node(const struct told *told)
     }
     int length = length_of(fd);
     int result = length == -ENODATA ? attribute_set(fd, told) : length < 0 ? length : 0;
-    result = result == 0 && length == -ENODATA ? sync_of(fd) : result;
+    (void)close(fd);
+    return result;
+}
+
+/* All of FOLDER's file system is on the disk. */
+static int sync_all(void)
+{
+    int fd = folder_at("/", O_RDONLY | O_DIRECTORY);
+    if (fd < 0) {
+        return fd;
+    }
+    int result = syncfs(fd) == 0 ? 0 : -errno;
     (void)close(fd);
     return result;
 }
@@ -121,7 +132,7 @@ static int begin(void)
         result = node_told(store_shown(), place, &told);
         result = result < 0 ? result : begin_node(&told);
     }
-    return result == -ENOENT ? 0 : result; /* (behind the last node none is told) */
+    return result == -ENOENT ? sync_all() : result; /* (behind the last node none is told) */
 }
 
 /* ---- The steps of each change, behind store_ready */

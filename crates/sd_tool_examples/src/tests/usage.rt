@@ -6,18 +6,13 @@ use sd_usage::{ByClap, by_clap};
 fn made_of(rt: &(impl Abort + AllocGlobal + Threads + Wait + Sync), words: &[&str]) -> ByClap {
     let ended = run(rt, words);
     if ended.status == 2 {
-        ByClap::Nothing
-    } else if ended.output.starts_with(b"sdstore 0.") {
-        ByClap::Version
-    } else if contains(&ended.output, b"Usage: sdstore") {
-        ByClap::Help
-    } else {
-        ByClap::Command
+        return ByClap::Nothing;
     }
-}
-
-fn contains(text: &[u8], part: &[u8]) -> bool {
-    text.windows(part.len()).any(|here| here == part)
+    match str::from_utf8(ended.output.as_slice()) {
+        Ok(text) if text.starts_with("sdstore 0.") => ByClap::Version,
+        Ok(text) if text.contains("Usage: sdstore") => ByClap::Help,
+        _ => ByClap::Command,
+    }
 }
 
 /// Reads the words behind the program's name both ways.
