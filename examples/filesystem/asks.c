@@ -11,6 +11,23 @@
 #define IS_CHECKED true
 #endif
 
+static _Thread_local char made[PATH_ROOM];
+
+int made_by(const char *path, int result)
+{
+    if (result >= 0 && strlen(path) < sizeof made) {
+        memcpy(made, path, strlen(path) + 1);
+    }
+    return result;
+}
+
+bool made_is(const char *path)
+{
+    bool is_made = strcmp(made, path) == 0;
+    made[0] = '\0';
+    return is_made;
+}
+
 int asking_begin(struct asking *asking)
 {
     *asking = (struct asking){ HUDARIN_NOTHING, NULL };

@@ -247,6 +247,11 @@ int asks(struct asking *asking, const char *path, uint32_t mask);
 int asks_node(struct asking *asking, const char *path);
 /* 0 where the caller may see that the node is there. */
 int asks_seen(struct asking *asking, const char *path, bool is_folder);
+/* libfuse asks for the attributes of what a call has made before it answers that call, and who made it is told them,
+ * whatever else is granted: notes the path, where the call went well, and answers its result. */
+int made_by(const char *path, int result);
+/* Whether this thread's last call made what stands there; once. */
+bool made_is(const char *path);
 /* 0 where the caller may delete it. */
 int asks_delete(struct asking *asking, const char *path);
 /* begins, asks, and ends. */

@@ -44,10 +44,11 @@ static void show_mode(struct stat *found)
 static int stat_seen(const char *path, struct stat *found)
 {
     struct asking asking;
+    bool is_made = made_is(path);
     int result = asking_begin(&asking);
     result = result < 0 ? result : asks_node(&asking, path);
     result = result < 0 ? result : folder_stat(path, found);
-    if (result == 0) {
+    if (result == 0 && !is_made) {
         result = asks_seen(&asking, path, S_ISDIR(found->st_mode));
     }
     result = result < 0 ? result : owners_of(&asking, path, found);
@@ -147,7 +148,7 @@ static int op_readdir(const char *path, void *room, fuse_fill_dir_t fill, off_t 
 static int op_mkdir(const char *path, mode_t mode)
 {
     (void)mode;
-    return edit_create(path, true, 0);
+    return made_by(path, edit_create(path, true, 0));
 }
 
 static int op_rmdir(const char *path)
@@ -182,7 +183,7 @@ static int op_open(const char *path, struct fuse_file_info *info)
 static int op_create(const char *path, mode_t mode, struct fuse_file_info *info)
 {
     (void)mode;
-    int fd = edit_create(path, false, info->flags & (O_ACCMODE | O_APPEND));
+    int fd = made_by(path, edit_create(path, false, info->flags & (O_ACCMODE | O_APPEND)));
     if (fd < 0) {
         return fd;
     }
@@ -198,7 +199,7 @@ static int op_mknod(const char *path, mode_t mode, dev_t device)
     if (!S_ISREG(mode)) {
         return -EPERM;
     }
-    int fd = edit_create(path, false, O_WRONLY);
+    int fd = made_by(path, edit_create(path, false, O_WRONLY));
     return fd < 0 ? fd : result_of(close(fd));
 }
 

@@ -122,6 +122,17 @@ def appends_alone(tally: Tally, mount: Mount, caller: Caller) -> None:
         tally.same("the bytes stand behind", file.read(), b"xy")
 
 
+def makes_unseen(tally: Tally, mount: Mount, caller: Caller, root: Caller) -> None:
+    """Who may add alone is answered that it has made what it made, and sees it no more."""
+    at = mount.path
+    tally.same("a folder", root.call("mkdir", at("/drop"))[0], "ok")
+    tally.same("its list", root.call("set", at("/drop"), "D:P(A;;FA;;;S-1-22-1-0)(A;;0x26;;;WD)")[0], "ok")
+    for way, path in (("create", "/drop/file"), ("mkdir", "/drop/folder")):
+        tally.same(way, caller.call(way, at(path))[0], "ok")
+        tally.same("%s, made twice" % way, caller.call(way, at(path))[0], "EACCES")
+        tally.same("%s, seen" % way, caller.call("stat", at(path))[0], "EACCES")
+
+
 def maps(tally: Tally, mount: Mount, alice: Caller, root: Caller) -> None:
     """A user that stands in a file of maps has the SID that it tells; a file that isn't read ends the start."""
     path, sid = os.path.join(mount.room, "maps"), "S-1-5-21-1-2-3-1001"
@@ -250,6 +261,7 @@ def main() -> int:
             refuses_names(tally, mount, caller)
             refuses_kinds(tally, mount, alice, caller)
             appends_alone(tally, mount, caller)
+            makes_unseen(tally, mount, alice, caller)
             refuses_long_attributes(tally, mount, caller)
             tally.same("the status, and the sanitizers", mount.stop(), 0)
             refuses_attributes(tally, mount)
