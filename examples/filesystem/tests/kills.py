@@ -14,7 +14,7 @@ import threading
 
 from calls import CALLS
 from model import Model, above
-from rig import ROOT, Caller, Mount, Tally
+from rig import ROOT, WAYS_TO_KEEP, Caller, Mount, Tally
 
 ROOTS = "O:S-1-22-1-0G:S-1-22-2-0D:P(A;OICI;FA;;;S-1-22-1-0)(A;OICI;FR;;;WD)"
 OWN = "O:S-1-22-1-0G:S-1-22-2-0D:"
@@ -202,7 +202,7 @@ def kill(tally: Tally, program: str, kills: int, in_file: bool) -> None:
 
 def main(program: str, kills: int) -> int:
     tally = Tally()
-    for in_file in (False, True):
+    for in_file in WAYS_TO_KEEP:
         kill(tally, program, kills, in_file)
     return tally.close()
 

@@ -13,7 +13,7 @@ import sys
 
 from calls import CALLS
 from model import APPEND, EXECUTE, READ, READ_CONTROL, WRITE, WRITE_ATTRIBUTES, Model
-from rig import ALICE, BOB, CAROL, ROOT, USERS, Caller, Mount, Tally
+from rig import ALICE, BOB, CAROL, ROOT, USERS, WAYS_TO_KEEP, Caller, Mount, Tally
 
 ROOTS = "O:S-1-22-1-0G:S-1-22-2-0D:P(A;OICI;FA;;;S-1-22-1-0)(A;OICI;0xa0;;;WD)(A;;0x7;;;AU)"
 KINDS = [
@@ -182,7 +182,7 @@ def try_all(tally: Tally, program: str, changes: int, in_file: bool) -> None:
 
 def main(program: str, changes: int) -> int:
     tally = Tally()
-    for in_file in (False, True):
+    for in_file in WAYS_TO_KEEP:
         try_all(tally, program, changes, in_file)
     return tally.close()
 

@@ -262,9 +262,11 @@ def main() -> int:
             refuses_kinds(tally, mount, alice, caller)
             appends_alone(tally, mount, caller)
             makes_unseen(tally, mount, alice, caller)
-            refuses_long_attributes(tally, mount, caller)
+            if not mount.in_file:
+                refuses_long_attributes(tally, mount, caller)
             tally.same("the status, and the sanitizers", mount.stop(), 0)
-            refuses_attributes(tally, mount)
+            if not mount.in_file:
+                refuses_attributes(tally, mount)
             maps(tally, mount, alice, caller)
         keeps_file(tally, caller)
         full_tree(tally)

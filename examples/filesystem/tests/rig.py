@@ -18,6 +18,21 @@ PLAIN = os.path.join(OUT, "hudarinfs")
 UNCHECKED = os.path.join(OUT, "hudarinfs-unchecked")
 
 
+def keeps_attributes() -> bool:
+    """Whether the file system of the tests' folders keeps extended attributes: else what stands in them isn't tried."""
+    with tempfile.NamedTemporaryFile(prefix="hudarinfs.") as file:
+        try:
+            os.setxattr(file.name, "user.hudarin.own", b"x")
+        except OSError:
+            print("left out: attributes, which the file system of %s doesn't keep" % tempfile.gettempdir(), flush=True)
+            return False
+    return True
+
+
+# Whether descriptors are kept in a file beside the folder: each way that can be tried here.
+WAYS_TO_KEEP = [False, True] if keeps_attributes() else [True]
+
+
 class Tally:
     """How many tests held; what didn't hold is told in a line of its own, for the first twenty."""
 
@@ -125,7 +140,7 @@ class Mount:
     """A folder, and a server that shows it and keeps descriptors in attributes of the folder's own files, or in a file
     beside it."""
 
-    def __init__(self, program: str = PROGRAM, in_file: bool = False) -> None:
+    def __init__(self, program: str = PROGRAM, in_file: bool = WAYS_TO_KEEP[0]) -> None:
         self.program = program
         self.in_file = in_file
         self.room = tempfile.mkdtemp(prefix="hudarinfs.")
@@ -148,7 +163,9 @@ class Mount:
     def start(self, *words: str, options: tuple = (), step: int = 0, wait: int = 0) -> bool:
         """Whether it serves, within a minute. It ends at a step of its edits, where one is told, or waits so many
         microseconds where FOLDER has changed and the view hasn't."""
-        command = [self.program, *["-f"][:self.in_file], *options, self.folder, self.at, *words]
+        # (where there are no attributes a file is kept without being asked for)
+        asked = ["-f"] if self.in_file and len(WAYS_TO_KEEP) > 1 else []
+        command = [self.program, *asked, *options, self.folder, self.at, *words]
         settings = {**os.environ, "HUDARINFS_STEP": str(step), "HUDARINFS_WAIT": str(wait)}
         with open(self.log, "wb") as log:
             self._server = subprocess.Popen(command, stderr=log, stdout=log, env=settings)
