@@ -1,10 +1,11 @@
 //! The check as its rules are told, each bit by itself and each group looked at: what the one walk is tried against.
 
+use super::{holds, restricted_to, same, sid, token_in, user, users};
 use bitflags::Flags;
 use sd_acl::{Ace, AceFlags, AceKind};
-use sd_check::{DaclRef, GroupState, Privileges, Token, Verdict, check_joined, check_parts};
+use sd_check::{DaclRef, GroupState, Token, Verdict, check_joined, check_parts};
 use sd_sid::{GenericMapping, Mask, Sid};
-use std::test::Fail;
+use std::process::Abort;
 
 /// Who asks, of what.
 #[derive(Clone, Copy)]
@@ -17,31 +18,45 @@ struct Access<'a> {
 }
 
 /// A pass over the list: for the user and the groups, or for the restricting SIDs.
-#[derive(Clone, Copy, PartialEq, Eq)]
+#[derive(Clone, Copy)]
 enum Pass {
     First,
     Second,
 }
 
+/// Whether a group in this state stands for an entry of this kind.
+fn counts(state: GroupState, kind: AceKind) -> bool {
+    match state {
+        GroupState::Enabled => true,
+        GroupState::DenyOnly => kind == AceKind::Deny,
+        GroupState::Disabled => false,
+    }
+}
+
 impl Access<'_> {
-    fn stands_for(&self, pass: Pass, kind: AceKind, sid: &Sid) -> bool {
-        if pass == Pass::Second {
-            return self.restricting.iter().any(|one| one == sid);
-        }
-        if self.user == sid {
-            return true;
-        }
-        for (group, state) in self.groups {
-            let counts = match state {
-                GroupState::Enabled => true,
-                GroupState::DenyOnly => kind == AceKind::Deny,
-                GroupState::Disabled => false,
-            };
-            if group == sid && counts {
+    fn is_restricted_to(&self, sid: &Sid) -> bool {
+        for one in self.restricting {
+            if one == sid {
                 return true;
             }
         }
         false
+    }
+
+    fn is_in(&self, kind: AceKind, sid: &Sid) -> bool {
+        for (group, state) in self.groups {
+            if group == sid && counts(*state, kind) {
+                return true;
+            }
+        }
+        false
+    }
+
+    fn stands_for(&self, pass: Pass, kind: AceKind, sid: &Sid) -> bool {
+        match pass {
+            Pass::First => self.user == sid || self.is_in(kind, sid),
+            Pass::Second => self.is_restricted_to(sid),
+        }
     }
 
     fn applies(&self, pass: Pass, entry: &Ace) -> bool {
@@ -84,17 +99,22 @@ impl Access<'_> {
         (listed, self.stands_for(pass, AceKind::Allow, self.owner))
     }
 
-    fn granted(&self) -> u32 {
-        let (mut granted, mut is_owner) = self.in_pass(Pass::First);
-        if !self.restricting.is_empty() {
-            let (listed, owns) = self.in_pass(Pass::Second);
-            granted &= listed;
-            is_owner = is_owner && owns;
-        }
+    /// With what an owner is granted beside the list.
+    fn with_the_owners(&self, listed: u32, is_owner: bool) -> u32 {
         if is_owner && !self.limits_owner() {
-            granted |= 0x0006_0000;
+            listed | 0x0006_0000
+        } else {
+            listed
         }
-        granted
+    }
+
+    fn granted(&self) -> u32 {
+        let (first, is_first) = self.in_pass(Pass::First);
+        if self.restricting.is_empty() {
+            return self.with_the_owners(first, is_first);
+        }
+        let (second, is_second) = self.in_pass(Pass::Second);
+        self.with_the_owners(first & second, is_first && is_second)
     }
 
     /// The verdict on a request without generic rights, reserved bits and privileges.
@@ -141,113 +161,121 @@ impl Access<'_> {
             && self.agrees_on(token, 0x1)
             && self.agrees_on(token, 0x0204_0002)
     }
+
+    /// The same of another list.
+    fn agrees_over(&self, entries: &[Ace], token: &Token) -> bool {
+        Access { entries, ..*self }.agrees(token)
+    }
+
+    /// Whether the walk agrees on the empty list, each entry alone and each two of them.
+    fn all_agree(&self, entries: &[Ace], token: &Token) -> bool {
+        let mut agree = self.agrees_over(&[], token);
+        for first in entries {
+            agree &= self.agrees_over(&[*first], token);
+            for second in entries {
+                agree &= self.agrees_over(&[*first, *second], token);
+            }
+        }
+        agree
+    }
+}
+
+/// The entries of this kind with these flags, of these masks, for these SIDs.
+fn add_entries(entries: &mut Vec<Ace>, like: Ace, masks: &[u32], sids: &[Sid]) -> bool {
+    for mask in masks {
+        for sid in sids {
+            let (mask, sid) = (Mask(*mask), *sid);
+            if entries.push(Ace { mask, sid, ..like }).is_err() {
+                return false;
+            }
+        }
+    }
+    true
 }
 
 /// The entries of each kind, with or without IO, of these masks, for these SIDs.
-fn entries(rt: HostRuntime, masks: &[u32], sids: &[Sid]) -> Result<Vec<Ace>, Fail> {
+fn entries(rt: &(impl Abort + AllocGlobal), masks: &[u32], sids: &[Sid]) -> Vec<Ace> {
     let mut entries = Vec::new(rt.alloc());
     for kind in [AceKind::Allow, AceKind::Deny] {
         for flags in [AceFlags::empty(), AceFlags::IO] {
-            for mask in masks {
-                for sid in sids {
-                    entries.push(Ace {
-                        kind,
-                        flags,
-                        mask: Mask(*mask),
-                        sid: *sid,
-                    })?;
-                }
-            }
+            let like = Ace {
+                kind,
+                flags,
+                mask: Mask(0),
+                sid: user(rt),
+            };
+            holds(rt, "memory", add_entries(&mut entries, like, masks, sids));
         }
     }
-    Ok(entries)
+    entries
 }
 
-/// Whether the walk agrees on the empty list, each entry alone and each two of them.
-fn all_agree(access: Access<'_>, entries: &[Ace], token: &Token) -> bool {
-    let mut agree = Access {
+/// Whether the walk agrees for the user in the users, who is the owner, and whom these SIDs restrict.
+fn agrees_restricted(
+    rt: &(impl Abort + AllocGlobal),
+    entries: &[Ace],
+    restricting: &[Sid],
+) -> bool {
+    let groups = [(users(rt), GroupState::Enabled)];
+    let user = user(rt);
+    let access = Access {
+        owner: &user,
         entries: &[],
-        ..access
-    }
-    .agrees(token);
-    for first in entries {
-        let one = [*first];
-        agree &= Access {
-            entries: &one,
-            ..access
-        }
-        .agrees(token);
-        for second in entries {
-            let two = [*first, *second];
-            agree &= Access {
-                entries: &two,
-                ..access
-            }
-            .agrees(token);
-        }
-    }
-    agree
+        user: &user,
+        groups: &groups,
+        restricting,
+    };
+    access.all_agree(entries, &restricted_to(rt, &groups, restricting))
 }
 
 #[test]
-fn every_list_of_at_most_two_entries(rt: HostRuntime) -> Result<(), Fail> {
-    let user = Sid::new(5, &[21, 1, 2, 3, 1001])?;
-    let users = Sid::new(5, &[32, 545])?;
-    let sids = [user, users, Sid::new(3, &[4])?];
-    let entries = entries(rt, &[0x1, 0x3, 0x0002_0000], &sids)?;
-    let groups = [(users, GroupState::Enabled)];
-    assert_eq!(rt; entries.len(), 36);
-    let none: &[Sid] = &[];
-    let rows = [
-        none,
-        &[user],
-        &[users],
-        &[users, user, users],
-        &[Sid::new(5, &[12])?],
-    ];
-    for restricting in rows {
-        let mut sids = Vec::new(rt.alloc());
-        sids.extend_from_slice(restricting)?;
-        let held = vec![in rt.alloc(); (users, GroupState::Enabled)]?;
-        let token = Token::restricted(user, held, sids, Privileges::default());
-        let access = Access {
-            owner: &user,
-            entries: &[],
-            user: &user,
-            groups: &groups,
-            restricting,
-        };
-        assert!(rt; all_agree(access, &entries, &token));
-    }
-    Ok(())
+fn every_list_of_at_most_two_entries(rt: HostRuntime) {
+    let (user, users) = (user(&rt), users(&rt));
+    let sids = [user, users, sid(&rt, 3, &[4])];
+    let entries = entries(&rt, &[0x1, 0x3, 0x0002_0000], &sids);
+    same(&rt, "their number", entries.len(), 36);
+    let nobody = agrees_restricted(&rt, &entries, &[]);
+    holds(&rt, "unrestricted", nobody);
+    let one = agrees_restricted(&rt, &entries, &[user]);
+    holds(&rt, "restricted to the user", one);
+    let one = agrees_restricted(&rt, &entries, &[users]);
+    holds(&rt, "restricted to the users", one);
+    let both = agrees_restricted(&rt, &entries, &[users, user, users]);
+    holds(&rt, "restricted to both", both);
+    let another = super::sid(&rt, 5, &[12]);
+    let other = agrees_restricted(&rt, &entries, &[another]);
+    holds(&rt, "restricted to another", other);
+}
+
+/// S-1-5-21-1-2-3 and this sub-authority.
+fn account(rt: &(impl Abort + AllocGlobal), relative: u32) -> Sid {
+    sid(rt, 5, &[21, 1, 2, 3, relative])
+}
+
+/// The user's account, the groups', and those that have the bits of these in the filter or none; and the owner's rights.
+fn accounts(rt: &(impl Abort + AllocGlobal)) -> [Sid; 8] {
+    [
+        account(rt, 1001),
+        account(rt, 1100),
+        account(rt, 1200),
+        account(rt, 1201),
+        account(rt, 2025),
+        account(rt, 2224),
+        account(rt, 1300),
+        sid(rt, 3, &[4]),
+    ]
 }
 
 /// A SID's bit in the filter is that of its last sub-authority, of 1,024: so 2025 has that of 1001, and 1300 its own.
 #[test]
-fn each_branch_of_the_filter(rt: HostRuntime) -> Result<(), Fail> {
-    let user = Sid::new(5, &[21, 1, 2, 3, 1001])?;
-    let enabled = Sid::new(5, &[21, 1, 2, 3, 1100])?;
-    let deny_only = Sid::new(5, &[21, 1, 2, 3, 1200])?;
-    let disabled = Sid::new(5, &[21, 1, 2, 3, 1201])?;
+fn each_branch_of_the_filter(rt: HostRuntime) {
+    let user = user(&rt);
     let groups = [
-        (enabled, GroupState::Enabled),
-        (deny_only, GroupState::DenyOnly),
-        (disabled, GroupState::Disabled),
+        (account(&rt, 1100), GroupState::Enabled),
+        (account(&rt, 1200), GroupState::DenyOnly),
+        (account(&rt, 1201), GroupState::Disabled),
     ];
-    let sids = [
-        user,
-        enabled,
-        deny_only,
-        disabled,
-        Sid::new(5, &[21, 1, 2, 3, 2025])?,
-        Sid::new(5, &[21, 1, 2, 3, 2224])?,
-        Sid::new(5, &[21, 1, 2, 3, 1300])?,
-        Sid::new(3, &[4])?,
-    ];
-    let entries = entries(rt, &[0x1, 0x0004_0003], &sids)?;
-    let mut held = Vec::new(rt.alloc());
-    held.extend_from_slice(&groups)?;
-    let token = Token::new(user, held, Privileges::default());
+    let entries = entries(&rt, &[0x1, 0x0004_0003], &accounts(&rt));
     let access = Access {
         owner: &user,
         entries: &[],
@@ -255,6 +283,6 @@ fn each_branch_of_the_filter(rt: HostRuntime) -> Result<(), Fail> {
         groups: &groups,
         restricting: &[],
     };
-    assert!(rt; all_agree(access, &entries, &token));
-    Ok(())
+    let agree = access.all_agree(&entries, &token_in(&rt, &groups));
+    holds(&rt, "the walk agrees", agree);
 }

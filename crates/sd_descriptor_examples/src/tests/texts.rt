@@ -1,10 +1,11 @@
 //! What no clause says: that calls which take memory succeed where it is there, and texts with their values or faults.
 
+use super::{same, sid};
 use sd_acl::{Ace, AceFlags, AceKind};
-use sd_sid::{Mask, Sid};
+use sd_sid::Mask;
 use sd_text::*;
 use std::alloc::{AllocError, Global};
-use std::test::Fail;
+use std::process::Abort;
 
 /// The canonical text of what is read, or the fault.
 fn printed(alloc: Global, text: &str) -> Result<String, AllocError> {
@@ -41,6 +42,11 @@ fn mask_shown(alloc: Global, text: &str) -> Result<String, AllocError> {
     }
 }
 
+/// Stops the test unless what was made is a text, which is the one that is wanted.
+fn says(rt: &impl Abort, of: &str, made: Result<String, AllocError>, want: &str) {
+    same(rt, of, made.expect(rt, "memory").as_str(), want);
+}
+
 const TEXTS: [(&str, &str); 13] = [
     ("", ""),
     (
@@ -61,28 +67,40 @@ const TEXTS: [(&str, &str); 13] = [
 ];
 
 #[test]
-fn descriptors(rt: HostRuntime) -> Result<(), Fail> {
-    for (text, want) in TEXTS {
-        assert_eq!(rt; printed(rt.alloc(), text)?.as_str(), want, "of {text}");
+fn descriptors(rt: HostRuntime) {
+    for (text, want) in &TEXTS {
+        says(&rt, text, printed(rt.alloc(), text), want);
     }
-    Ok(())
+}
+
+const WORDS: [&str; 8] = ["", "P", "AR", "AI", "PAR", "PAI", "ARAI", "PARAI"];
+
+const LISTS: [&str; 4] = [
+    "",
+    "NO_ACCESS_CONTROL",
+    "(A;;FA;;;WD)",
+    "(D;;0x7;;;SY)(A;OI;KR;;;S-1-5-7-1)",
+];
+
+/// That such a text is printed as it is read.
+fn comes_back(rt: &(impl Abort + AllocGlobal), words: &str, list: &str) {
+    let text = format!(in rt.alloc(); "D:{words}{list}").expect(rt, "memory");
+    says(
+        rt,
+        text.as_str(),
+        printed(rt.alloc(), text.as_str()),
+        text.as_str(),
+    );
 }
 
 /// Each kind of DACL behind each of the words, which are printed as they are read.
 #[test]
-fn words_and_lists(rt: HostRuntime) -> Result<(), Fail> {
-    for words in ["", "P", "AR", "AI", "PAR", "PAI", "ARAI", "PARAI"] {
-        for list in [
-            "",
-            "NO_ACCESS_CONTROL",
-            "(A;;FA;;;WD)",
-            "(D;;0x7;;;SY)(A;OI;KR;;;S-1-5-7-1)",
-        ] {
-            let text = format!(in rt.alloc(); "D:{words}{list}")?;
-            assert_eq!(rt; printed(rt.alloc(), text.as_str())?.as_str(), text.as_str());
+fn words_and_lists(rt: HostRuntime) {
+    for words in &WORDS {
+        for list in &LISTS {
+            comes_back(&rt, words, list);
         }
     }
-    Ok(())
 }
 
 /// What is missing from the front of a text, by how much of it is there.
@@ -112,23 +130,31 @@ const CUTS: [Option<u64>; 23] = [
     None,
 ];
 
-#[test]
-fn cut_texts(rt: HostRuntime) -> Result<(), Fail> {
-    for (len, want) in CUTS.iter().enumerate() {
-        let text: String = "O:BAG:SYD:(A;;FA;;;WD)"
-            .chars()
-            .take(len)
-            .collect(rt.alloc())?;
-        match read_sddl(rt.alloc(), text.as_str()) {
-            Ok(_) => assert_eq!(rt; *want, None, "at {len}"),
-            Err(TextError::Fault { fault, place }) => {
-                assert_eq!(rt; fault, TextFault::Syntax);
-                assert_eq!(rt; *want, Some(place), "at {len}");
-            }
-            Err(TextError::Memory) => assert!(rt; false),
+/// Where something is missing from a text, if anything is.
+fn missing_at(rt: &(impl Abort + AllocGlobal), text: &str) -> Option<u64> {
+    match read_sddl(rt.alloc(), text) {
+        Ok(_) => None,
+        Err(TextError::Fault { fault, place }) => {
+            same(rt, text, fault, TextFault::Syntax);
+            Some(place)
         }
+        Err(TextError::Memory) => panic!(rt; "memory"),
     }
-    Ok(())
+}
+
+fn front(rt: &(impl Abort + AllocGlobal), text: &str, len: usize) -> String {
+    text.chars()
+        .take(len)
+        .collect(rt.alloc())
+        .expect(rt, "memory")
+}
+
+#[test]
+fn cut_texts(rt: HostRuntime) {
+    for (len, want) in CUTS.iter().enumerate() {
+        let text = front(&rt, "O:BAG:SYD:(A;;FA;;;WD)", len);
+        same(&rt, len, missing_at(&rt, text.as_str()), *want);
+    }
 }
 
 const SIDS: [(&str, &str); 11] = [
@@ -146,16 +172,24 @@ const SIDS: [(&str, &str); 11] = [
 ];
 
 #[test]
-fn sids(rt: HostRuntime) -> Result<(), Fail> {
-    for (text, want) in SIDS {
-        assert_eq!(rt; sid_shown(rt.alloc(), text)?.as_str(), want, "of {text}");
+fn sids(rt: HostRuntime) {
+    for (text, want) in &SIDS {
+        says(&rt, text, sid_shown(rt.alloc(), text), want);
     }
-    let most = Sid::new(0xFFFF_FFFF_FFFF, &[u32::MAX; 15])?;
-    let text = print_sid(rt.alloc(), &most)?;
-    assert_eq!(rt; read_sid_text(text.as_str())?, most);
-    assert_eq!(rt; alias_of(&Sid::new(5, &[18])?), Some(*b"SY"));
-    assert_eq!(rt; alias_of(&most), None);
-    Ok(())
+}
+
+#[test]
+fn the_longest_sid_and_back(rt: HostRuntime) {
+    let most = sid(&rt, 0xFFFF_FFFF_FFFF, &[u32::MAX; 15]);
+    let text = print_sid(rt.alloc(), &most).expect(&rt, "memory");
+    same(&rt, "the longest", read_sid_text(text.as_str()), Ok(most));
+    same(&rt, "its alias", alias_of(&most), None);
+    same(
+        &rt,
+        "the system's",
+        alias_of(&sid(&rt, 5, &[18])),
+        Some(*b"SY"),
+    );
 }
 
 /// The aliases of a domain's accounts and groups, in the domain S-1-5-21-7-8-4294967295: [MS-DTYP] 2.4.2.4.
@@ -178,45 +212,69 @@ const ACCOUNTS: [(&str, &str); 16] = [
     ("DAX", "1 Syntax at 2"),
 ];
 
-#[test]
-fn aliases_of_a_domain(rt: HostRuntime) -> Result<(), Fail> {
-    let sid = Sid::new(5, &[21, 7, 8, 0xFFFF_FFFF])?;
-    let domain = Domain::new(&sid).ok_or("a domain")?;
-    assert_eq!(rt; domain.sid(), sid);
-    assert_eq!(rt;
-        domain.account(500),
-        Sid::new(5, &[21, 7, 8, 0xFFFF_FFFF, 500])?
-    );
-    for (text, want) in ACCOUNTS {
-        let said = match read_sid_text_in(Some(domain), text) {
-            Ok(sid) => print_sid(rt.alloc(), &sid)?,
-            Err(e) => shown(rt.alloc(), e)?,
-        };
-        assert_eq!(rt; said.as_str(), want, "of {text}");
+/// S-1-5-21-7-8-4294967295.
+fn domain(rt: &impl Abort) -> Domain {
+    let sid = sid(rt, 5, &[21, 7, 8, 0xFFFF_FFFF]);
+    Domain::new(&sid).expect(rt, "a domain")
+}
+
+fn account_shown(alloc: Global, domain: Domain, text: &str) -> Result<String, AllocError> {
+    match read_sid_text_in(Some(domain), text) {
+        Ok(sid) => print_sid(alloc, &sid),
+        Err(e) => shown(alloc, e),
     }
-    let text = "O:DAG:duD:P(A;;FA;;;ea)(D;;FR;;;BU)";
-    let descriptor = read_sddl_in(rt.alloc(), Some(domain), text)?;
-    assert_eq!(rt;
-        print_sddl(rt.alloc(), &descriptor)?.as_str(),
-        "O:S-1-5-21-7-8-4294967295-512G:S-1-5-21-7-8-4294967295-513\
-         D:P(A;;FA;;;S-1-5-21-7-8-4294967295-519)(D;;FR;;;BU)"
-    );
-    Ok(())
 }
 
 #[test]
-fn only_domains_are_domains(rt: HostRuntime) -> Result<(), Fail> {
-    for text in [
-        "S-1-5-21-1-2",
-        "S-1-5-21-1-2-3-4",
-        "S-1-5-22-1-2-3",
-        "S-1-4-21-1-2-3",
-        "S-1-5-21",
-        "BA",
-    ] {
-        assert_eq!(rt; Domain::new(&read_sid_text(text)?), None, "of {text}");
+fn aliases_of_a_domain(rt: HostRuntime) {
+    let domain = domain(&rt);
+    for (text, want) in &ACCOUNTS {
+        says(&rt, text, account_shown(rt.alloc(), domain, text), want);
     }
-    Ok(())
+}
+
+#[test]
+fn sids_of_a_domain(rt: HostRuntime) {
+    let domain = domain(&rt);
+    let its = sid(&rt, 5, &[21, 7, 8, 0xFFFF_FFFF]);
+    same(&rt, "its own", domain.sid(), its);
+    let account = sid(&rt, 5, &[21, 7, 8, 0xFFFF_FFFF, 500]);
+    same(&rt, "an account's", domain.account(500), account);
+}
+
+fn printed_in(alloc: Global, domain: Domain, text: &str) -> Result<String, AllocError> {
+    match read_sddl_in(alloc, Some(domain), text) {
+        Ok(descriptor) => print_sddl(alloc, &descriptor),
+        Err(e) => shown(alloc, e),
+    }
+}
+
+#[test]
+fn a_descriptor_in_a_domain(rt: HostRuntime) {
+    let text = "O:DAG:duD:P(A;;FA;;;ea)(D;;FR;;;BU)";
+    let want = "O:S-1-5-21-7-8-4294967295-512G:S-1-5-21-7-8-4294967295-513\
+         D:P(A;;FA;;;S-1-5-21-7-8-4294967295-519)(D;;FR;;;BU)";
+    says(&rt, text, printed_in(rt.alloc(), domain(&rt), text), want);
+}
+
+const NO_DOMAINS: [&str; 6] = [
+    "S-1-5-21-1-2",
+    "S-1-5-21-1-2-3-4",
+    "S-1-5-22-1-2-3",
+    "S-1-4-21-1-2-3",
+    "S-1-5-21",
+    "BA",
+];
+
+fn domain_of(rt: &impl Abort, text: &str) -> Option<Domain> {
+    Domain::new(&read_sid_text(text).expect(rt, "a SID"))
+}
+
+#[test]
+fn only_domains_are_domains(rt: HostRuntime) {
+    for text in &NO_DOMAINS {
+        same(&rt, *text, domain_of(&rt, text), None);
+    }
 }
 
 /// Texts with the section of a SACL, and what is read of them where it is left out: [MS-DTYP] 2.5.1.1, sacl.
@@ -244,41 +302,41 @@ const WITH_SACL: [(&str, &str); 15] = [
     ("S:D:", "1 Syntax at 2"),
 ];
 
-#[test]
-fn texts_with_a_sacl(rt: HostRuntime) -> Result<(), Fail> {
-    for (text, want) in WITH_SACL {
-        let said = match read_sddl_without_sacl(rt.alloc(), None, text) {
-            Ok(read) => {
-                let mut said = print_sddl(rt.alloc(), &read.descriptor)?;
-                if read.left_out {
-                    said.push_str(" left out")?;
-                }
-                said
+/// What is read of a text without its SACL, or the fault.
+fn printed_without_sacl(alloc: Global, text: &str) -> Result<String, AllocError> {
+    match read_sddl_without_sacl(alloc, None, text) {
+        Ok(read) => {
+            let mut said = print_sddl(alloc, &read.descriptor)?;
+            if read.left_out {
+                said.push_str(" left out")?;
             }
-            Err(e) => shown(rt.alloc(), e)?,
-        };
-        assert_eq!(rt; said.as_str(), want, "of {text}");
+            Ok(said)
+        }
+        Err(e) => shown(alloc, e),
     }
-    Ok(())
+}
+
+#[test]
+fn texts_with_a_sacl(rt: HostRuntime) {
+    for (text, want) in &WITH_SACL {
+        says(&rt, text, printed_without_sacl(rt.alloc(), text), want);
+    }
 }
 
 /// A SID of each number of sub-authorities, which is printed as it is read.
 #[test]
-fn each_number_of_sub_authorities(rt: HostRuntime) -> Result<(), Fail> {
-    let mut text = String::from_str(rt.alloc(), "S-1-5")?;
-    for _ in 0..15 {
-        text.push_str("-1")?;
-        assert_eq!(rt;
-            sid_shown(rt.alloc(), text.as_str())?.as_str(),
-            text.as_str()
+fn each_number_of_sub_authorities(rt: HostRuntime) {
+    for number in 1..=15 {
+        let made = repeated(rt.alloc(), "S-1-5", "-1", number, "");
+        let text = made.expect(&rt, "memory");
+        says(
+            &rt,
+            text.as_str(),
+            sid_shown(rt.alloc(), text.as_str()),
+            text.as_str(),
         );
     }
-    text.push_str("-1")?;
-    assert_eq!(rt;
-        sid_shown(rt.alloc(), text.as_str())?.as_str(),
-        "7 Range at 36"
-    );
-    Ok(())
+    reads_as(&rt, "S-1-5", "-1", 16, "", "7 Range at 36");
 }
 
 const MASKS: [(&str, &str); 6] = [
@@ -291,11 +349,10 @@ const MASKS: [(&str, &str); 6] = [
 ];
 
 #[test]
-fn masks(rt: HostRuntime) -> Result<(), Fail> {
-    for (text, want) in MASKS {
-        assert_eq!(rt; mask_shown(rt.alloc(), text)?.as_str(), want, "of {text}");
+fn masks(rt: HostRuntime) {
+    for (text, want) in &MASKS {
+        says(&rt, text, mask_shown(rt.alloc(), text), want);
     }
-    Ok(())
 }
 
 /// So many times the same letters, between two others.
@@ -314,54 +371,68 @@ fn repeated(
     Ok(text)
 }
 
+/// What a SID's text of such parts is read as.
+fn reads_as(
+    rt: &(impl Abort + AllocGlobal),
+    head: &str,
+    middle: &str,
+    times: u32,
+    tail: &str,
+    want: &str,
+) {
+    let text = repeated(rt.alloc(), head, middle, times, tail).expect(rt, "memory");
+    says(rt, want, sid_shown(rt.alloc(), text.as_str()), want);
+}
+
+/// A list of so many entries of 20 bytes, and another one.
+fn large(rt: &(impl Abort + AllocGlobal), entries: u32, last: &str) -> String {
+    repeated(rt.alloc(), "D:", "(A;;FA;;;WD)", entries, last).expect(rt, "memory")
+}
+
 /// The largest list, of 65,532 bytes: 8, and 20 for each entry but the last, which takes 24.
 #[test]
-fn largest_list(rt: HostRuntime) -> Result<(), Fail> {
-    let most = repeated(rt.alloc(), "D:", "(A;;FA;;;WD)", 3275, "(A;;FA;;;BA)")?;
-    assert_eq!(rt; printed(rt.alloc(), most.as_str())?.as_str(), most.as_str());
-    let more = repeated(
-        rt.alloc(),
-        "D:",
-        "(A;;FA;;;WD)",
-        3275,
-        "(A;;FA;;;S-1-5-7-1-1)",
-    )?;
-    assert_eq!(rt;
-        printed(rt.alloc(), more.as_str())?.as_str(),
-        "8 AclTooLarge at 39322"
+fn largest_list(rt: HostRuntime) {
+    let most = large(&rt, 3275, "(A;;FA;;;BA)");
+    says(
+        &rt,
+        "the most",
+        printed(rt.alloc(), most.as_str()),
+        most.as_str(),
     );
-    Ok(())
+    let more = large(&rt, 3275, "(A;;FA;;;S-1-5-7-1-1)");
+    let fault = "8 AclTooLarge at 39322";
+    says(&rt, "more", printed(rt.alloc(), more.as_str()), fault);
 }
 
 #[test]
-fn long_texts(rt: HostRuntime) -> Result<(), Fail> {
-    let zeros = repeated(rt.alloc(), "S-1-", "0", 1_000_000, "5-18")?;
-    assert_eq!(rt; sid_shown(rt.alloc(), zeros.as_str())?.as_str(), "SY");
-    let nines = repeated(rt.alloc(), "S-1-5-", "9", 1_000_000, "")?;
-    assert_eq!(rt;
-        sid_shown(rt.alloc(), nines.as_str())?.as_str(),
-        "7 Range at 6"
+fn long_texts(rt: HostRuntime) {
+    reads_as(&rt, "S-1-", "0", 1_000_000, "5-18", "SY");
+    reads_as(&rt, "S-1-5-", "9", 1_000_000, "", "7 Range at 6");
+    let made = repeated(rt.alloc(), "O:S-1-", "0", 1_000_000, "5-18D:(A;;FA;;;QQ)");
+    let section = made.expect(&rt, "memory");
+    let fault = "5 UnknownAlias at 1000021";
+    says(
+        &rt,
+        "a section",
+        printed(rt.alloc(), section.as_str()),
+        fault,
     );
-    let section = repeated(rt.alloc(), "O:S-1-", "0", 1_000_000, "5-18D:(A;;FA;;;QQ)")?;
-    assert_eq!(rt;
-        printed(rt.alloc(), section.as_str())?.as_str(),
-        "5 UnknownAlias at 1000021"
-    );
-    Ok(())
 }
 
 #[test]
-fn prints_an_entry_and_a_sid_in_full(rt: HostRuntime) -> Result<(), Fail> {
-    let sid = read_sid_text("bu").ok().ok_or("a SID")?;
-    let text = print_full_sid(rt.alloc(), &sid)?;
-    assert_eq!(rt; text.as_str(), "S-1-5-32-545");
+fn prints_an_entry_and_a_sid_in_full(rt: HostRuntime) {
+    let sid = read_sid_text("bu").expect(&rt, "a SID");
+    says(&rt, "bu", print_full_sid(rt.alloc(), &sid), "S-1-5-32-545");
     let entry = Ace {
         kind: AceKind::Deny,
         flags: AceFlags::IO,
         mask: Mask(0x0012_0116),
         sid,
     };
-    let text = print_entry(rt.alloc(), &entry)?;
-    assert_eq!(rt; text.as_str(), "(D;IO;FW;;;BU)");
-    Ok(())
+    says(
+        &rt,
+        "an entry",
+        print_entry(rt.alloc(), &entry),
+        "(D;IO;FW;;;BU)",
+    );
 }

@@ -1,10 +1,11 @@
 //! Descriptors as bytes, and bytes that hold none.
 
+use super::{holds, same, sid};
 use bitflags::Flags;
-use sd_acl::{Ace, AceFlags, AceKind, Dacl};
-use sd_sid::{Mask, Sid};
+use sd_acl::{Ace, AceFlags, AceKind, Dacl, Descriptor};
+use sd_sid::Mask;
 use sd_wire::*;
-use std::test::Fail;
+use std::process::Abort;
 
 /// `O:BAG:SYD:(A;;FA;;;WD)`: the header, the owner, the group, and the list with its one entry.
 const WORKED: [u8; 76] = [
@@ -18,13 +19,13 @@ const WORKED: [u8; 76] = [
 ];
 
 /// The worked descriptor's entry: everyone is allowed all of a file's rights.
-fn everyone_all() -> Result<Ace, Fail> {
-    Ok(Ace {
+fn everyone_all(rt: &(impl Abort + AllocGlobal)) -> Ace {
+    Ace {
         kind: AceKind::Allow,
         flags: AceFlags::empty(),
         mask: Mask(0x001F_01FF),
-        sid: Sid::new(1, &[0])?,
-    })
+        sid: sid(rt, 1, &[0]),
+    }
 }
 
 /// What the worked descriptor is with another byte at a place.
@@ -75,81 +76,111 @@ fn changed(place: usize, value: u8) -> [u8; 76] {
     bytes
 }
 
-#[test]
-fn the_worked_descriptor_and_back(rt: HostRuntime) -> Result<(), Fail> {
-    let descriptor = read_descriptor(rt.alloc(), &WORKED)?;
-    assert_eq!(rt; descriptor.owner, Some(Sid::new(5, &[32, 544])?));
-    assert_eq!(rt; descriptor.group, Some(Sid::new(5, &[18])?));
-    assert!(rt; !(descriptor.protected || descriptor.auto_req || descriptor.auto_inherited));
+fn read(rt: &(impl Abort + AllocGlobal), bytes: &[u8]) -> Descriptor {
+    read_descriptor(rt.alloc(), bytes).expect(rt, "a descriptor")
+}
+
+/// Why bytes aren't read.
+fn fault(rt: &(impl Abort + AllocGlobal), bytes: &[u8]) -> Option<WireError> {
+    read_descriptor(rt.alloc(), bytes).err()
+}
+
+fn entries(descriptor: &Descriptor) -> Option<&[Ace]> {
     match &descriptor.dacl {
-        Dacl::List(list) => assert_eq!(rt; list.entries(), [everyone_all()?].as_slice()),
-        _ => assert!(rt; false, "the DACL is a list"),
+        Dacl::List(list) => Some(list.entries()),
+        Dacl::Absent | Dacl::Null => None,
     }
-    assert_eq!(rt;
-        write_descriptor(rt.alloc(), &descriptor)?.as_slice(),
-        WORKED.as_slice()
-    );
-    assert_eq!(rt; wire_len(&descriptor), 76);
-    Ok(())
+}
+
+/// That a descriptor is written as these bytes.
+fn is_written(rt: &(impl Abort + AllocGlobal), descriptor: &Descriptor, bytes: &[u8]) {
+    let written = write_descriptor(rt.alloc(), descriptor).expect(rt, "memory");
+    holds(rt, "it is written so", written.as_slice() == bytes);
 }
 
 #[test]
-fn every_byte_of_any_value_has_its_answer(rt: HostRuntime) -> Result<(), Fail> {
+fn the_worked_descriptor_and_back(rt: HostRuntime) {
+    let descriptor = read(&rt, &WORKED);
+    same(
+        &rt,
+        "owner",
+        descriptor.owner,
+        Some(sid(&rt, 5, &[32, 544])),
+    );
+    same(&rt, "group", descriptor.group, Some(sid(&rt, 5, &[18])));
+    holds(&rt, "not protected", !descriptor.protected);
+    holds(&rt, "no auto_req", !descriptor.auto_req);
+    holds(&rt, "not auto_inherited", !descriptor.auto_inherited);
+    let wanted = [everyone_all(&rt)];
+    same(&rt, "list", entries(&descriptor), Some(wanted.as_slice()));
+    is_written(&rt, &descriptor, &WORKED);
+    same(&rt, "length", wire_len(&descriptor), 76);
+}
+
+/// That the worked descriptor with another byte at a place has its answer.
+fn has_its_answer(rt: &(impl Abort + AllocGlobal), place: usize, value: u8) {
+    let answer = read_descriptor(rt.alloc(), &changed(place, value));
+    match (answer_to(place, value), answer) {
+        (Answer::Refused(want), Err(WireError::Fault(fault))) => {
+            assert_eq!(rt; fault, want, "{value} at {place}");
+        }
+        (Answer::Written(byte), Ok(descriptor)) => {
+            let written = write_descriptor(rt.alloc(), &descriptor).expect(rt, "memory");
+            let want = changed(place, byte);
+            assert!(rt; written.as_slice() == want.as_slice(), "{value} at {place}");
+        }
+        (Answer::Elsewhere, Ok(_)) => {}
+        (want, _) => assert!(rt; false, "{value} at {place}, not {want:?}"),
+    }
+}
+
+#[test]
+fn every_byte_of_any_value_has_its_answer(rt: HostRuntime) {
     for place in 0..76 {
         for value in 0..=255 {
-            let answer = read_descriptor(rt.alloc(), &changed(place, value));
-            match (answer_to(place, value), answer) {
-                (Answer::Refused(want), Err(WireError::Fault(fault))) => {
-                    assert_eq!(rt; fault, want, "{value} at {place}");
-                }
-                (Answer::Written(byte), Ok(descriptor)) => {
-                    let written = write_descriptor(rt.alloc(), &descriptor)?;
-                    let want = changed(place, byte);
-                    assert!(rt; written.as_slice() == want.as_slice(), "{value} at {place}");
-                }
-                (Answer::Elsewhere, Ok(_)) => {}
-                (want, _) => assert!(rt; false, "{value} at {place}, not {want:?}"),
-            }
+            has_its_answer(&rt, place, value);
         }
     }
-    Ok(())
 }
 
 #[test]
-fn a_part_at_an_odd_offset_is_read_there(rt: HostRuntime) -> Result<(), Fail> {
+fn a_part_at_an_odd_offset_is_read_there(rt: HostRuntime) {
     let odd = [
         0x01, 0x00, 0x00, 0x80, 0x15, 0, 0, 0, 0, 0, 0, 0, 0, 0, 0, 0, 0, 0, 0, 0, 0xff, 0x01,
         0x01, 0, 0, 0, 0, 0, 0x05, 0x12, 0, 0, 0,
     ];
-    let system = Some(Sid::new(5, &[18])?);
-    assert_eq!(rt; read_descriptor(rt.alloc(), &odd)?.owner, system);
-    Ok(())
+    let system = Some(sid(&rt, 5, &[18]));
+    same(&rt, "owner", read(&rt, &odd).owner, system);
 }
 
-#[test]
-fn a_list_ends_at_its_size(rt: HostRuntime) -> Result<(), Fail> {
-    // Of entries of 20 bytes 3,276 fit a list, and come back.
+/// A list alone, whose size is 65,528 and whose count is 3,276, and so many entries of 20 bytes.
+fn full_list(rt: &(impl Abort + AllocGlobal), number: u32) -> Vec<u8> {
     let header = [
         1, 0, 4, 0x80, 0, 0, 0, 0, 0, 0, 0, 0, 0, 0, 0, 0, 0x14, 0, 0, 0, 2, 0, 0xf8, 0xff, 0xcc,
         0x0c, 0, 0,
     ];
-    let mut bytes = Vec::from_slice(rt.alloc(), &header)?;
-    for _ in 0..3276 {
-        bytes.extend_from_slice(&WORKED[56..])?;
+    let mut bytes = Vec::from_slice(rt.alloc(), &header).expect(rt, "memory");
+    for _ in 0..number {
+        bytes.extend_from_slice(&WORKED[56..]).expect(rt, "memory");
     }
-    let full = read_descriptor(rt.alloc(), &bytes)?;
-    assert!(rt; write_descriptor(rt.alloc(), &full)?.as_slice() == bytes.as_slice());
-    // One more, and a size that wraps to 12: the list ends there.
-    bytes.extend_from_slice(&WORKED[56..])?;
+    bytes
+}
+
+/// Of entries of 20 bytes 3,276 fit a list, and come back.
+#[test]
+fn the_largest_list_comes_back(rt: HostRuntime) {
+    let bytes = full_list(&rt, 3276);
+    is_written(&rt, &read(&rt, &bytes), &bytes);
+}
+
+/// One more, and a size that wraps to 12: the list ends there.
+#[test]
+fn a_list_ends_at_its_size(rt: HostRuntime) {
+    let mut bytes = full_list(&rt, 3277);
     assert!(rt; bytes.len() > 28);
     bytes[22..25].copy_from_slice(&[12, 0, 0xcd]);
-    assert!(rt;
-        matches!(
-            read_descriptor(rt.alloc(), &bytes),
-            Err(WireError::Fault(WireFault::EntrySize))
-        )
-    );
-    Ok(())
+    let wanted = Some(WireError::Fault(WireFault::EntrySize));
+    same(&rt, "a size of 12", fault(&rt, &bytes), wanted);
 }
 
 #[test]
@@ -157,19 +188,15 @@ fn a_count_without_room_is_a_fault(rt: HostRuntime) {
     // AclSize 8 and AceCount 65,535.
     let mut bytes = WORKED;
     bytes[50..54].copy_from_slice(&[8, 0, 0xff, 0xff]);
-    assert!(rt;
-        matches!(
-            read_descriptor(rt.alloc(), &bytes),
-            Err(WireError::Fault(WireFault::EntrySize))
-        )
-    );
+    let wanted = Some(WireError::Fault(WireFault::EntrySize));
+    same(&rt, "no room", fault(&rt, &bytes), wanted);
 }
 
 #[test]
-fn faults_are_shown_by_their_names(rt: HostRuntime) -> Result<(), Fail> {
-    assert_eq!(rt; WireFault::BadSid.number(), 6);
-    assert_eq!(rt; WireFault::BadSid.name(), "BadSid");
-    let shown = WireError::Fault(WireFault::BadSid).to_string(rt.alloc())?;
-    assert_eq!(rt; shown.as_str(), "BadSid");
-    Ok(())
+fn faults_are_shown_by_their_names(rt: HostRuntime) {
+    same(&rt, "number", WireFault::BadSid.number(), 6);
+    same(&rt, "name", WireFault::BadSid.name(), "BadSid");
+    let error = WireError::Fault(WireFault::BadSid);
+    let shown = error.to_string(rt.alloc()).expect(&rt, "memory");
+    same(&rt, "shown", shown.as_str(), "BadSid");
 }
