@@ -170,6 +170,13 @@ fn run_of(text: &[u8], radix: u32, limit: u64) -> (u64, usize)
     ensures within { result.1 ≤ length text.now }
     ensures value { IsCapped limit result.0 (digits_value radix (take result.1 text.now)) }
 {
+    if text.len() >= NUMBER_FRONT {
+        let (number, _) = text.split_at(NUMBER_FRONT);
+        let (value, len) = short_run_of(number, radix);
+        if len < NUMBER_FRONT {
+            return (value, len);
+        }
+    }
     let (front, _) = text.split_at(text.len().min(SHORT_RUN));
     let (value, len) = short_run_of(front, radix);
     if len < SHORT_RUN {
@@ -178,6 +185,10 @@ fn run_of(text: &[u8], radix: u32, limit: u64) -> (u64, usize)
         long_run_of(text, radix, limit)
     }
 }
+
+/// The digits of a decimal number of 32 bits and the byte behind them. Only for speed such a front is read by itself: its length
+/// is known when this is compiled, so that no digit comes with a look at where the text ends.
+const NUMBER_FRONT: usize = 11;
 
 /// So many digits pass no number of 64 bits, in whichever radix up to 16.
 const SHORT_RUN: usize = 15;

@@ -149,6 +149,7 @@ impl Cursor<'_> {
 
     /// A section of one SID, where its head stands.
     #[tactic(auto, unfolding(crate::specs::Sddl::sid_section))]
+    #[inline(always)]
     fn sid_section(&mut self, domain: Option<Domain>, head: &[u8]) -> Result<Option<Sid>, TextFault>
         ensures { Gives (λ sid. sid) result self.new.rest.now (find (sid_section domain head.now) self.old.rest.now) }
     {

@@ -2,7 +2,7 @@
 
 ghost use Rattle.std.specs.Prelude.{◌≡◌, ◌<◌, ◌≤◌, ◌^◌, length, take, Ok, OnOk, IfOk, IfErr, IsErrOf};
 ghost use Rattle.sd_sid.specs.Sid.{SidValue};
-ghost use Rattle.sd_text.specs.Grammar.{Spells};
+ghost use Rattle.sd_text.specs.Grammar.{Spells, and_then};
 ghost use Rattle.sd_text.specs.Fault.{StandsIn};
 ghost use Rattle.sd_text.specs.Sid.{sid_text, sid_text_in, sid, authority, sub, subs_of};
 ghost use Rattle.sd_text.specs.Finding.{Gives, find};
@@ -61,12 +61,25 @@ impl Cursor<'_> {
         if !self.eat(b"S-1-") {
             return self.alias(domain);
         }
+        // (only for speed a cursor of its own: it stays in registers, as no other function is given it)
+        let mut ahead = Cursor { rest: self.rest };
+        let sid = ahead.behind_head();
+        self.rest = ahead.rest;
+        sid
+    }
+
+    /// What is behind the head of a SID in full.
+    #[inline(always)]
+    fn behind_head(&mut self) -> Result<Sid, TextFault>
+        ensures { Gives (λ sid. sid) result self.new.rest.now (find (and_then authority subs_of) self.old.rest.now) }
+    {
         let authority = self.authority()?;
         self.subs_of(authority)
     }
 
     /// An authority, of which `0x` heads hexadecimal digits.
     #[tactic(auto, unfolding(crate::specs::Sid::authority))]
+    #[inline(always)]
     fn authority(&mut self) -> Result<u64, TextFault>
         ensures authority { Gives (λ n. n) result self.new.rest.now (find authority self.old.rest.now) }
         ensures bound { IfOk result (λ n. n < 2 ^ 48) }
@@ -80,6 +93,7 @@ impl Cursor<'_> {
 
     /// The sub-authorities, each behind a dash, and the SID of them.
     #[tactic(auto, unfolding(crate::specs::Sid::subs_of))]
+    #[inline(always)]
     fn subs_of(&mut self, authority: u64) -> Result<Sid, TextFault>
         requires { authority < 2 ^ 48 }
         ensures { Gives (λ sid. sid) result self.new.rest.now (find (subs_of authority) self.old.rest.now) }
@@ -98,6 +112,7 @@ impl Cursor<'_> {
 
     /// A sub-authority, where so many stand before it. Behind fifteen of them no digit may stand.
     #[tactic(auto, unfolding(crate::specs::Sid::sub))]
+    #[inline(always)]
     fn sub(&mut self, before: usize) -> Result<u32, TextFault>
         ensures sub { Gives (λ n. n) result self.new.rest.now (find (sub before) self.old.rest.now) }
         ensures few { OnOk result (before < 15) }
