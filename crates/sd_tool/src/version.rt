@@ -8,7 +8,7 @@ use std::alloc::{AllocError, Global};
 pub(crate) const VERSION: &str = "0.1.0";
 
 /// The toolchain that proves and builds the program, as its command `rt version` tells it.
-pub(crate) const KIT: &str = "rattle-kit-13b logic dac8208d650f15bf";
+pub(crate) const KIT: &str = "rattle-kit-13f logic dac8208d650f15bf";
 
 /// A line of the program's name and version, and one of the toolchain.
 pub(crate) fn version_text(alloc: Global) -> Result<String, AllocError>

@@ -10,7 +10,7 @@ const REFUSED: [(&[&str], &str); 25] = [
     ),
     (
         &["sdstore", "--domain", "S-1-5-21-1-2-3", "frombin", "00"],
-        "'--domain' for these, 'print' and 'tobin'",
+        "'--domain' for the first three, 'print' and 'tobin'",
     ),
     (
         &["sdstore", "--domain=S-1-5-21-1-2-3", "print", "D:"],
@@ -87,9 +87,12 @@ fn tells_the_usage_of_the_command(rt: HostRuntime) -> Result<(), Fail> {
     let rows: [(&[&str], &str); 3] = [
         (
             &["sdstore", "audit", "0"],
-            "Usage: sdstore audit [--] <N>\n",
+            "Usage: sdstore [OPTIONS] audit [--] <N>\n",
         ),
-        (&["sdstore", "audit"], "Usage: sdstore audit [--] <N>\n"),
+        (
+            &["sdstore", "audit"],
+            "Usage: sdstore [OPTIONS] audit [--] <N>\n",
+        ),
         (&["sdstore", "frob"], "Usage: sdstore [OPTIONS] <COMMAND>\n"),
     ];
     for (words, usage) in rows {
@@ -152,10 +155,14 @@ fn prints_help_on_each_command(rt: HostRuntime) -> Result<(), Fail> {
 #[test]
 fn prints_help_on_scripts(rt: HostRuntime) -> Result<(), Fail> {
     let rows = [
-        ("script", "Usage: sdstore script\n", " | sdstore script\n"),
+        (
+            "script",
+            "Usage: sdstore [OPTIONS] script\n",
+            " | sdstore script\n",
+        ),
         (
             "audit",
-            "Usage: sdstore audit [--] <N>\n",
+            "Usage: sdstore [OPTIONS] audit [--] <N>\n",
             " | sdstore audit 4\n",
         ),
     ];
@@ -214,7 +221,7 @@ fn prints_help_on_each_argument(rt: HostRuntime) -> Result<(), Fail> {
 #[test]
 fn prints_the_version(rt: HostRuntime) {
     for flag in ["-V", "--version"] {
-        let lines = "sdstore 0.1.0\nrattle-kit-13b logic dac8208d650f15bf\n";
+        let lines = "sdstore 0.1.0\nrattle-kit-13f logic dac8208d650f15bf\n";
         expect(&rt, &["sdstore", flag], lines, 0);
     }
 }
