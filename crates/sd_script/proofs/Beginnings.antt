@@ -1,7 +1,7 @@
 -- What `why` tells begins with what `check` tells.
 use Rattle.std.proofs.Common.{◌≡◌, ℕ, Bool, true, false, List, [], ◌++◌, length, Option, Some, None, refl, sym, ◌∙◌, ap, append_assoc, append-nil}
 use Rattle.std.specs.Prelude.{codes, if◌then◌else◌, nat_lt, option_map}
-use Rattle.sd_sid.specs.Mapping.{MappingValue, file_mapping}
+use Rattle.sd_sid.specs.Mapping.{MappingValue}
 use Rattle.sd_acl.specs.declared.ace.Ace.{Ace}
 use Rattle.sd_check.specs.Token.{TokenValue}
 use Rattle.sd_explain.specs.Parts.{reason_in}
@@ -19,21 +19,22 @@ use Rattle.sd_script.specs.Laws.{BeginsAsCheck}
 use Rattle.sd_script.specs.Reply.{check_line, seen_line}
 use Rattle.sd_script.specs.Why.{listed, part_lines}
 use Rattle.sd_script.specs.declared.spelling.Spelling.TheVariants.{Number}
+use Rattle.sd_script.specs.declared.session.Session.TheVariants.{Opened}
 use Rattle.sd_script.proofs.OneOutput.{explained, one_explained, one_step, outcome, pair, reasons}
 
 -- a text that another begins
 abbrev Begins : List ℕ → List ℕ → Type 0
 Begins text whole = (rest : List ℕ) × (whole ≡ text ++ rest)
 
-abbrev parts : Option (List Ace) → Row → TokenValue → ℕ → List ℕ
-parts dacl row t asked = part_lines Number (Some row.owner) (listed dacl) (reason_in (reasons_of (Some row.owner) dacl file_mapping t asked)) 32
+abbrev parts : MappingValue → Option (List Ace) → Row → TokenValue → ℕ → List ℕ
+parts g dacl row t asked = part_lines Number (Some row.owner) (listed dacl) (reason_in (reasons_of (Some row.owner) dacl g t asked)) 32
 
 -- of a node, or of none
-node_begins : (g : MappingValue) (dacl : Option (List Ace)) (row : Option Row) (t : TokenValue) (asked : ℕ) → g ≡ file_mapping
-    → Begins (check_line (reply_for g dacl t asked row)) (reasons t asked (option_map (λ (r : Row). descriptor_of_row r dacl) row))
-node_begins g dacl None t asked files = ([], sym (append-nil (line (codes "nonode"))))
-node_begins g None (Some row) t asked files = rw files (parts None row t asked, refl)
-node_begins g (Some es) (Some row) t asked files = rw files (parts (Some es) row t asked, refl)
+node_begins : (g : MappingValue) (dacl : Option (List Ace)) (row : Option Row) (t : TokenValue) (asked : ℕ)
+    → Begins (check_line (reply_for g dacl t asked row)) (reasons g t asked (option_map (λ (r : Row). descriptor_of_row r dacl) row))
+node_begins g dacl None t asked = ([], sym (append-nil (line (codes "nonode"))))
+node_begins g None (Some row) t asked = (parts g None row t asked, refl)
+node_begins g (Some es) (Some row) t asked = (parts g (Some es) row t asked, refl)
 
 seen_begins : (seen : ℕ) (text whole : List ℕ) → Begins text whole → Begins (seen_line seen text) (seen_line seen whole)
 seen_begins seen text whole begins =
@@ -47,24 +48,24 @@ for_reader_begins : (is_there : Bool) (m looked : Machine) (absent text whole : 
 for_reader_begins true m looked absent text whole begins = (begins, refl)
 for_reader_begins false m looked absent text whole begins = (([], sym (append-nil absent)), refl)
 
-outcomes_begin : (m : Machine) (reader : ℕ) (path : Names) (t : TokenValue) (asked : ℕ) → m.opening.mapping ≡ file_mapping
+outcomes_begin : (m : Machine) (reader : ℕ) (path : Names) (t : TokenValue) (asked : ℕ)
     → Begins (outcome m (requests.Check reader path t asked)).0 (explained m reader path t asked).0
     × ((explained m reader path t asked).1 ≡ (outcome m (requests.Check reader path t asked)).1)
-outcomes_begin m reader path t asked files =
+outcomes_begin m reader path t asked =
     let g = m.opening.mapping in
     let tree = replay m.opening m.published in
     for_reader_begins (nat_lt reader (length m.floors)) m (with_look m reader) (line (codes "noreader"))
     (seen_line (length m.published) (check_line (answer m.opening m.published path t asked)))
-    (seen_line (length m.published) (reasons t asked (descriptor_at g tree path)))
-    (seen_begins (length m.published) (check_line (answer m.opening m.published path t asked)) (reasons t asked (descriptor_at g tree path))
-    (node_begins g (dacl_at g tree path) (row_at tree path) t asked files))
+    (seen_line (length m.published) (reasons g t asked (descriptor_at g tree path)))
+    (seen_begins (length m.published) (check_line (answer m.opening m.published path t asked)) (reasons g t asked (descriptor_at g tree path))
+    (node_begins g (dacl_at g tree path) (row_at tree path) t asked))
 
 pub begins_as_check : BeginsAsCheck
-begins_as_check m reader path t asked checked told one other files first second =
+begins_as_check m reader path t asked checked told one other first second =
     let r = requests.Check reader path t asked in
     let check = one_step m r first.0 first.1 checked first.2 first.3 in
     let why = one_explained m reader path t asked second.0 second.1 told second.2 second.3 in
-    let both = outcomes_begin m reader path t asked files in (
+    let both = outcomes_begin m reader path t asked in (
       (both.0.0, ap (λ (z : List ℕ × Machine). z.0) why ∙ both.0.1 ∙ ap (λ (z : List ℕ × Machine). z.0 ++ both.0.0) (sym check)),
-      second.4 ∙ ap Some (ap (λ (z : List ℕ × Machine). z.1) why ∙ both.1 ∙ ap (λ (z : List ℕ × Machine). z.1) (sym check)) ∙ sym first.4,
+      second.4 ∙ ap Opened (ap (λ (z : List ℕ × Machine). z.1) why ∙ both.1 ∙ ap (λ (z : List ℕ × Machine). z.1) (sym check)) ∙ sym first.4,
     )

@@ -1,9 +1,9 @@
 -- A text has one output: a line is read as one thing, and a request has one reply that has a line.
 use Rattle.std.proofs.Common.{◌≡◌, ℕ, ◌<◌, ◌≤◌, Bool, true, false, List, [], ◌∷◌, ◌++◌, length, Option, Some, None, Ok, Err, inl, inr, refl, sym, ◌∙◌, ap, subst, arith, take}
-use Rattle.std.specs.Prelude.{MatchBool, codes, is_some, if◌then◌else◌, nat_lt, nat_le, option_map}
+use Rattle.std.specs.Prelude.{MatchBool, codes, if◌then◌else◌, nat_lt, nat_le, option_map}
 use Rattle.std.specs.Str.Lines.{lines}
 use Rattle.std.proofs.lemmas.Bool.{lt-ltb, le-ltb, le-leb, lt-leb}
-use Rattle.sd_sid.specs.Mapping.{file_mapping}
+use Rattle.sd_sid.specs.Mapping.{MappingValue}
 use Rattle.sd_acl.specs.Descriptor.{DescriptorValue, descriptor_of}
 use Rattle.sd_acl.specs.declared.descriptor.Descriptor.{Descriptor}
 use Rattle.sd_text.specs.Canon.{canon}
@@ -25,10 +25,12 @@ use Rattle.sd_script.specs.Answer.{line}
 use Rattle.sd_script.specs.Fault.{line_of_fault}
 use Rattle.sd_script.specs.Laws.{HasOneOutput}
 use Rattle.sd_script.specs.Lines.{is_silent}
-use Rattle.sd_script.specs.Output.{Standing, IsOpened, IsDone, IsTold, IsAnswered, AreAnswered, closing_of}
+use Rattle.sd_script.specs.Output.{is_open, mapping_of, IsOpened, IsDone, IsTold, IsAnswered, AreAnswered, closing_of}
 use Rattle.sd_script.specs.Reply.{check_line, counted_line, refused_line, reply_line, seen_line, shown_line, start_error_line}
 use Rattle.sd_script.specs.declared.asked.Asked.{Asked}
 use Rattle.sd_script.specs.declared.asked.Asked.TheVariants.{Opening, Asking, Explaining}
+use Rattle.sd_script.specs.declared.session.Session.{Session}
+use Rattle.sd_script.specs.declared.session.Session.TheVariants.{Closed, Opened}
 use Rattle.sd_script.specs.Why.{explained_reply, node_why_text, why_text}
 use Rattle.sd_script.specs.declared.spelling.Spelling.TheVariants.{Number}
 use Rattle.sd_check.specs.Token.{TokenValue}
@@ -106,25 +108,25 @@ one_step old (requests.Show reader names) replies.Memory new printed is text = a
 one_step old r reply new printed is text = absurd is
 
 -- what is told of why, and the machine then
-abbrev pub reasons : TokenValue → ℕ → Option DescriptorValue → List ℕ
-reasons t asked (Some d) = why_text file_mapping Number d t asked
-reasons t asked None = line (codes "nonode")
+abbrev pub reasons : MappingValue → TokenValue → ℕ → Option DescriptorValue → List ℕ
+reasons g t asked (Some d) = why_text g Number d t asked
+reasons g t asked None = line (codes "nonode")
 
 abbrev pub explained : Machine → ℕ → Names → TokenValue → ℕ → List ℕ × Machine
 explained m reader names t asked = for_reader m reader
-    (seen_line (length m.published) (reasons t asked (descriptor_at m.opening.mapping (replay m.opening m.published) names)), with_look m reader)
+    (seen_line (length m.published) (reasons m.opening.mapping t asked (descriptor_at m.opening.mapping (replay m.opening m.published) names)), with_look m reader)
 
-reasons_are : (t : TokenValue) (asked : ℕ) (d : Option Descriptor) → node_why_text t asked d ≡ reasons t asked (option_map descriptor_of d)
-reasons_are t asked (Some d) = refl
-reasons_are t asked None = refl
+reasons_are : (g : MappingValue) (t : TokenValue) (asked : ℕ) (d : Option Descriptor) → node_why_text g t asked d ≡ reasons g t asked (option_map descriptor_of d)
+reasons_are g t asked (Some d) = refl
+reasons_are g t asked None = refl
 
 pub one_explained : (old : Machine) (reader : ℕ) (names : Names) (t : TokenValue) (asked : ℕ) (reply : Reply) (new : Machine) (printed : List ℕ)
-    → Steps old (requests.Show reader names) reply new → explained_reply t asked reply ≡ Some printed → pair printed new ≡ explained old reader names t asked
+    → Steps old (requests.Show reader names) reply new → explained_reply old.opening.mapping t asked reply ≡ Some printed → pair printed new ≡ explained old reader names t asked
 one_explained old reader names t asked replies.NoReader new printed is text =
     printed_is _ printed _ new text is.1 ∙ sym (absent old reader _ is.0)
 one_explained old reader names t asked (replies.Shown seen d) new printed is text =
-    printed_is _ printed _ new (ap (λ n. Some (seen_line n (reasons t asked (descriptor_at old.opening.mapping (replay old.opening old.published) names)))) (sym is.1)
-    ∙ ap (λ x. Some (seen_line seen (reasons t asked x))) (sym is.2) ∙ ap (λ x. Some (seen_line seen x)) (sym (reasons_are t asked d)) ∙ text) is.3 ∙ sym (there old reader _ is.0)
+    printed_is _ printed _ new (ap (λ n. Some (seen_line n (reasons old.opening.mapping t asked (descriptor_at old.opening.mapping (replay old.opening old.published) names)))) (sym is.1)
+    ∙ ap (λ x. Some (seen_line seen (reasons old.opening.mapping t asked x))) (sym is.2) ∙ ap (λ x. Some (seen_line seen x)) (sym (reasons_are old.opening.mapping t asked d)) ∙ text) is.3 ∙ sym (there old reader _ is.0)
 one_explained old reader names t asked replies.Memory new printed is text = absurd (cc (text))
 one_explained old reader names t asked reply new printed is text = absurd is
 
@@ -155,38 +157,38 @@ no_error (starts.Root r) readers due p count none is text = let no = sym none �
 no_error starts.Memory readers due p count none is text = cc (text)
 no_error starts.Place readers due p count none is text = is
 
-opened-one : (readers : ℕ) (root : RootSpec) (p q : List ℕ) (x y : Standing) → IsOpened readers root p x → IsOpened readers root q y → (p ≡ q) × (x ≡ y)
-opened-one readers root p q x y (inl one) (inl other) = (one.2 ∙ sym other.2, one.3 ∙ sym other.3)
-opened-one readers root p q x y (inl one) (inr other) = absurd (no_error other.0 readers _ q one.0 one.1 other.1 other.2)
-opened-one readers root p q x y (inr one) (inl other) = absurd (no_error one.0 readers _ p other.0 other.1 one.1 one.2)
-opened-one readers root p q x y (inr one) (inr other) = (errors-one one.0 other.0 readers _ p q one.1 other.1 one.2 other.2, one.3 ∙ sym other.3)
+opened-one : (g : MappingValue) (readers : ℕ) (root : RootSpec) (p q : List ℕ) (x y : Session) → IsOpened g readers root p x → IsOpened g readers root q y → (p ≡ q) × (x ≡ y)
+opened-one g readers root p q x y (inl one) (inl other) = (one.2 ∙ sym other.2, one.3 ∙ sym other.3)
+opened-one g readers root p q x y (inl one) (inr other) = absurd (no_error other.0 readers _ q one.0 one.1 other.1 other.2)
+opened-one g readers root p q x y (inr one) (inl other) = absurd (no_error one.0 readers _ p other.0 other.1 one.1 one.2)
+opened-one g readers root p q x y (inr one) (inr other) = (errors-one one.0 other.0 readers _ p q one.1 other.1 one.2 other.2, one.3 ∙ sym other.3)
 
 -- ---- the whole output
 
-done-one : (old : Standing) (asked : Asked) (p q : List ℕ) (x y : Standing) → IsDone old asked p x → IsDone old asked q y → (p ≡ q) × (x ≡ y)
-done-one old (Opening readers root) p q x y one other = opened-one readers root p q x y one other
-done-one (Some m) (Asking r) p q x y one other =
+done-one : (old : Session) (asked : Asked) (p q : List ℕ) (x y : Session) → IsDone old asked p x → IsDone old asked q y → (p ≡ q) × (x ≡ y)
+done-one old (Opening readers root) p q x y one other = opened-one (mapping_of old) readers root p q x y one other
+done-one (Opened m) (Asking r) p q x y one other =
     let same = one_step m r one.0 one.1 p one.2 one.3 ∙ sym (one_step m r other.0 other.1 q other.2 other.3) in
-    (ap (λ (z : List ℕ × Machine). z.0) same, one.4 ∙ ap (λ (z : List ℕ × Machine). Some z.1) same ∙ sym other.4)
-done-one None (Asking r) p q x y one other = absurd one
-done-one (Some m) (Explaining reader names t asked) p q x y one other =
+    (ap (λ (z : List ℕ × Machine). z.0) same, one.4 ∙ ap (λ (z : List ℕ × Machine). Opened z.1) same ∙ sym other.4)
+done-one (Closed g) (Asking r) p q x y one other = absurd one
+done-one (Opened m) (Explaining reader names t asked) p q x y one other =
     let same = one_explained m reader names t asked one.0 one.1 p one.2 one.3 ∙ sym (one_explained m reader names t asked other.0 other.1 q other.2 other.3) in
-    (ap (λ (z : List ℕ × Machine). z.0) same, one.4 ∙ ap (λ (z : List ℕ × Machine). Some z.1) same ∙ sym other.4)
-done-one None (Explaining reader names t asked) p q x y one other = absurd one
+    (ap (λ (z : List ℕ × Machine). z.0) same, one.4 ∙ ap (λ (z : List ℕ × Machine). Opened z.1) same ∙ sym other.4)
+done-one (Closed g) (Explaining reader names t asked) p q x y one other = absurd one
 
-told-one : (old : Standing) (text p q : List ℕ) (x y : Standing) → IsTold old text p x → IsTold old text q y → (p ≡ q) × (x ≡ y)
+told-one : (old : Session) (text p q : List ℕ) (x y : Session) → IsTold old text p x → IsTold old text q y → (p ≡ q) × (x ≡ y)
 told-one old text p q x y (inl one) (inl other) =
-    let same = line-one (is_some old) text (Ok one.0) (Ok other.0) one.1 other.1 in
+    let same = line-one (is_open old) text (Ok one.0) (Ok other.0) one.1 other.1 in
     let asked : one.0 ≡ other.0 = cc (same) in
     done-one old other.0 p q x y (subst (λ a. IsDone old a p x) asked one.2) other.2
-told-one old text p q x y (inl one) (inr other) = absurd (let no = line-one (is_some old) text (Ok one.0) (Err other.0) one.1 other.1 in cc (no))
-told-one old text p q x y (inr one) (inl other) = absurd (let no = line-one (is_some old) text (Err one.0) (Ok other.0) one.1 other.1 in cc (no))
+told-one old text p q x y (inl one) (inr other) = absurd (let no = line-one (is_open old) text (Ok one.0) (Err other.0) one.1 other.1 in cc (no))
+told-one old text p q x y (inr one) (inl other) = absurd (let no = line-one (is_open old) text (Err one.0) (Ok other.0) one.1 other.1 in cc (no))
 told-one old text p q x y (inr one) (inr other) =
-    let same = line-one (is_some old) text (Err one.0) (Err other.0) one.1 other.1 in
+    let same = line-one (is_open old) text (Err one.0) (Err other.0) one.1 other.1 in
     let fault : one.0 ≡ other.0 = cc (same) in
     (one.2 ∙ ap line_of_fault fault ∙ sym other.2, one.3 ∙ sym other.3)
 
-by_silence : (silent : Bool) (old : Standing) (text p q : List ℕ) (x y : Standing)
+by_silence : (silent : Bool) (old : Session) (text p q : List ℕ) (x y : Session)
     → MatchBool silent ((p ≡ []) × (x ≡ old)) ((told : List ℕ) × IsTold old text told x × (p ≡ told ++ closing_of text))
     → MatchBool silent ((q ≡ []) × (y ≡ old)) ((told : List ℕ) × IsTold old text told y × (q ≡ told ++ closing_of text)) → (p ≡ q) × (x ≡ y)
 by_silence true old text p q x y one other = (one.0 ∙ sym other.0, one.1 ∙ sym other.1)
@@ -194,10 +196,10 @@ by_silence false old text p q x y one other =
     let same = told-one old text one.0 other.0 x y one.1 other.1 in
     (one.2 ∙ ap (λ told. told ++ closing_of text) same.0 ∙ sym other.2, same.1)
 
-answered-one : (old : Standing) (text p q : List ℕ) (x y : Standing) → IsAnswered old text p x → IsAnswered old text q y → (p ≡ q) × (x ≡ y)
+answered-one : (old : Session) (text p q : List ℕ) (x y : Session) → IsAnswered old text p x → IsAnswered old text q y → (p ≡ q) × (x ≡ y)
 answered-one old text p q x y one other = by_silence (is_silent text) old text p q x y one other
 
-all-one : (old : Standing) (texts : List (List ℕ)) (p q : List ℕ) → AreAnswered old texts p → AreAnswered old texts q → p ≡ q
+all-one : (old : Session) (texts : List (List ℕ)) (p q : List ℕ) → AreAnswered old texts p → AreAnswered old texts q → p ≡ q
 all-one old [] p q one other = one ∙ sym other
 all-one old (text ∷ texts) p q one other =
     let first = answered-one old text one.0 other.0 one.1 other.1 one.3 other.3 in
@@ -205,4 +207,4 @@ all-one old (text ∷ texts) p q one other =
     one.5 ∙ ap (λ xs. xs ++ one.2) first.0 ∙ ap (λ xs. other.0 ++ xs) rest ∙ sym other.5
 
 pub has_one_output : HasOneOutput
-has_one_output text one other prints other_prints = all-one None (lines text) one other prints other_prints
+has_one_output g text one other prints other_prints = all-one (Closed g) (lines text) one other prints other_prints

@@ -1,13 +1,15 @@
 -- What a line can ask for: an opening where no store is open, and something of a store where one is.
 use Rattle.std.proofs.Common.{◌≡◌, ⊎_elim, ℕ, List, Bool, true, false, not, Option, Some, None, Ok, Err, refl, sym, ap, subst, ◌∙◌}
-use Rattle.std.specs.Prelude.{IsSome, MatchBool, is_some, if◌then◌else◌}
+use Rattle.std.specs.Prelude.{MatchBool, if◌then◌else◌}
 use Rattle.sd_script.specs.Command.{CommandValue, Open, AddContainer, AddObject, SetOwner, SetGroup, SetDacl, Remove, Protect, Move, Publish, Tell, Learn, Check, Why, Show, asks, asks_where, is_untimely, line_asks, command_of}
 use Rattle.sd_script.specs.Fault.{Just, Reading}
 use Rattle.sd_script.specs.Lines.{words_of}
-use Rattle.sd_script.specs.Output.{Standing}
+use Rattle.sd_script.specs.Output.{is_open}
 use Rattle.sd_script.specs.declared.asked.Asked.{Asked}
 use Rattle.sd_script.specs.declared.asked.Asked.TheVariants.{Opening, Asking, Explaining}
 use Rattle.sd_script.specs.declared.fault.LineFault.TheVariants as faults
+use Rattle.sd_script.specs.declared.session.Session.{Session}
+use Rattle.sd_script.specs.declared.session.Session.TheVariants.{Closed, Opened}
 
 -- ---- what holds of all that a reading gives
 
@@ -95,6 +97,6 @@ pub line_opens : (is_open : Bool) (line : List ℕ) → Gives (Opens (not is_ope
 line_opens is_open line b h = ⊎_elim (λ x. where_open is_open (command_of (words_of line)) b x.1) (λ x. absurd (cc (x.1))) h
 
 -- where a line asks something of a store, one is open
-pub open_where_asked : (old : Standing) (line : List ℕ) (asked : Asked) → opens asked ≡ false → line_asks (is_some old) line (Ok asked) → IsSome old
-open_where_asked (Some machine) line asked of_store h = refl
-open_where_asked None line asked of_store h = absurd (let same = sym of_store ∙ line_opens false line asked h in cc (same))
+pub open_where_asked : (old : Session) (line : List ℕ) (asked : Asked) → opens asked ≡ false → line_asks (is_open old) line (Ok asked) → is_open old ≡ true
+open_where_asked (Opened machine) line asked of_store h = refl
+open_where_asked (Closed g) line asked of_store h = absurd (let same = sym of_store ∙ line_opens false line asked h in cc (same))

@@ -2,7 +2,7 @@
 use Rattle.std.specs.Prelude.{ℕ, zero, suc, ◌+◌, List, [], ◌++◌, Option, Some, None, slice_get, if◌then◌else◌, codes}
 use Rattle.std.specs.Fmt.{decimal}
 use Rattle.sd_sid.specs.Sid.{SidValue}
-use Rattle.sd_sid.specs.Mapping.{MappingValue, file_mapping}
+use Rattle.sd_sid.specs.Mapping.{MappingValue}
 use Rattle.sd_acl.specs.Descriptor.{DescriptorValue, descriptor_of}
 use Rattle.sd_acl.specs.Verdict.{subject}
 use Rattle.sd_acl.specs.declared.ace.Ace.{Ace}
@@ -84,12 +84,12 @@ why_text g spelling d t asked =
 
 -- ---- in a script
 
--- of the node of a path, where there is one, by the mapping of files
-abbrev pub node_why_text : TokenValue → ℕ → Option Descriptor → List ℕ
-node_why_text t asked None = line (codes "nonode")
-node_why_text t asked (Some d) = why_text file_mapping Number (descriptor_of d) t asked
+-- of the node of a path, where there is one
+abbrev pub node_why_text : MappingValue → TokenValue → ℕ → Option Descriptor → List ℕ
+node_why_text g t asked None = line (codes "nonode")
+node_why_text g t asked (Some d) = why_text g Number (descriptor_of d) t asked
 
 -- of the reply to a reader who asks for the descriptor of the node
-abbrev pub explained_reply : TokenValue → ℕ → Reply → Option (List ℕ)
-explained_reply t asked (Shown seen d) = Some (seen_line seen (node_why_text t asked d))
-explained_reply t asked reply = reply_line reply
+abbrev pub explained_reply : MappingValue → TokenValue → ℕ → Reply → Option (List ℕ)
+explained_reply g t asked (Shown seen d) = Some (seen_line seen (node_why_text g t asked d))
+explained_reply g t asked reply = reply_line reply

@@ -6,7 +6,7 @@
 //!
 //! ```text
 //! let text = b"open 1 O:BAG:SYD:\naddo /a O:BAG:SYD:(A;;FR;;;SY)\npublish\ncheck 0 /a SY 0x1\n";
-//! let printed = script_output(alloc, text)?;
+//! let printed = script_output(alloc, &GenericMapping::file(), text)?;
 //! // printed holds "opened 1\nok\npublished 1\nseen 1 granted 0x1\n"
 //! ```
 //!
@@ -24,6 +24,7 @@ mod line;
 mod lines;
 mod reply;
 mod script;
+mod session;
 mod spelling;
 mod streams;
 mod why;
@@ -37,6 +38,7 @@ pub use line::read_line;
 pub use lines::{first_line, is_silent, line_len};
 pub use reply::{counted_line, reply_line, start_error_line};
 pub use script::{answer_line, script_output};
+pub use session::Session;
 pub use spelling::{Spelling, spell};
 pub use streams::run;
 pub use why::why_text;

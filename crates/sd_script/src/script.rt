@@ -1,13 +1,14 @@
 //! The whole output of a script.
-ghost use Rattle.std.specs.Prelude.{◌≡◌, IfOk, IsSome, string_bytes};
-ghost use Rattle.sd_script.specs.Output.{IsAnswered, IsDone, IsOpened, IsTold, Prints};
-ghost use Rattle.sd_script.specs.declared.asked.Asked.TheVariants.{Asking, Explaining};
+ghost use Rattle.std.specs.Prelude.{◌≡◌, true, IfOk, string_bytes};
+ghost use Rattle.sd_script.specs.Output.{IsAnswered, IsDone, IsTold, Prints, is_open};
+ghost use Rattle.sd_script.specs.declared.asked.Asked.TheVariants.{Asking, Explaining, Opening};
 
 use crate::asked::Asked;
 use crate::fault::{Stop, line_of_fault};
 use crate::line::read_line;
 use crate::lines::{asks_why, first_line, is_silent};
 use crate::reply::{counted_line, reply_line, start_error_line};
+use crate::session::Session;
 use crate::why::explained_reply;
 use sd_check::Token;
 use sd_share::{Desk, Request};
@@ -15,18 +16,22 @@ use sd_sid::{GenericMapping, Mask};
 use sd_tree::{Path, RootSpec};
 use std::alloc::{AllocError, Global};
 
-/// The whole output of a script. Each line is answered by one line, and `why` by several, an empty one the last; an empty
+/// The whole output of a script, whose store maps generic rights so ([MS-DTYP] 2.4.3). Each line is answered by one line, and `why` by several, an empty one the last; an empty
 /// line, and one that begins with `#`, by none. A line that can't be carried out is answered by its first fault, and the
 /// script goes on. Fails only where memory is refused.
-pub fn script_output(alloc: Global, text: &[u8]) -> Result<Vec<u8>, AllocError>
-    ensures { IfOk result (λ printed. Prints text.now printed.items) }
+pub fn script_output(
+    alloc: Global,
+    mapping: &GenericMapping,
+    text: &[u8],
+) -> Result<Vec<u8>, AllocError>
+    ensures { IfOk result (λ printed. Prints mapping.now text.now printed.items) }
 {
-    let mut desk = None;
+    let mut session = Session::Closed(*mapping);
     let mut printed = Vec::new(alloc);
     let mut rest = text;
     while !rest.is_empty() {
         let (line, after) = first_line(rest);
-        let answer = answer_line(alloc, &mut desk, line)?;
+        let answer = answer_line(alloc, &mut session, line)?;
         printed.extend_from_slice(answer.as_bytes())?;
         rest = after;
     }
@@ -34,18 +39,14 @@ pub fn script_output(alloc: Global, text: &[u8]) -> Result<Vec<u8>, AllocError>
 }
 
 /// What a line, without its end, is answered by: a line, of `why` several, an empty one the last, or nothing where it is
-/// empty or begins with `#`. The desk is the store that is open, if one is. Fails only where memory is refused.
-pub fn answer_line(
-    alloc: Global,
-    desk: &mut Option<Desk>,
-    line: &[u8],
-) -> Result<String, AllocError>
-    ensures { IfOk result (λ text. IsAnswered desk.old line.now (string_bytes text) desk.new) }
+/// empty or begins with `#`. Fails only where memory is refused.
+pub fn answer_line(alloc: Global, session: &mut Session, line: &[u8]) -> Result<String, AllocError>
+    ensures { IfOk result (λ text. IsAnswered session.old line.now (string_bytes text) session.new) }
 {
     if is_silent(line) {
         return Ok(String::new(alloc));
     }
-    let mut text = told(alloc, desk, line)?;
+    let mut text = told(alloc, session, line)?;
     if asks_why(line) {
         text.push_str("\n")?;
     }
@@ -53,12 +54,12 @@ pub fn answer_line(
 }
 
 /// What a line that isn't silent is told: what it asks for, or its fault.
-fn told(alloc: Global, desk: &mut Option<Desk>, line: &[u8]) -> Result<String, AllocError>
-    ensures { IfOk result (λ text. IsTold desk.old line.now (string_bytes text) desk.new) }
+fn told(alloc: Global, session: &mut Session, line: &[u8]) -> Result<String, AllocError>
+    ensures { IfOk result (λ text. IsTold session.old line.now (string_bytes text) session.new) }
 {
-    match read_line(alloc, desk.is_some(), line) {
-        Ok(Asked::Opening { readers, root }) => open_store(alloc, desk, readers, &root),
-        Ok(Asked::Asking(request)) => ask(alloc, desk, &request),
+    match read_line(alloc, session.is_open(), line) {
+        Ok(Asked::Opening { readers, root }) => open_store(alloc, session, readers, &root),
+        Ok(Asked::Asking(request)) => ask(alloc, session, &request),
         Ok(
             Asked::Explaining {
                 reader,
@@ -66,7 +67,7 @@ fn told(alloc: Global, desk: &mut Option<Desk>, line: &[u8]) -> Result<String, A
                 token,
                 asked,
             },
-        ) => explain(alloc, desk, reader, path, &token, asked),
+        ) => explain(alloc, session, reader, path, &token, asked),
         Err(Stop::Fault(fault)) => line_of_fault(alloc, fault),
         Err(Stop::Memory) => Err(AllocError),
     }
@@ -75,35 +76,36 @@ fn told(alloc: Global, desk: &mut Option<Desk>, line: &[u8]) -> Result<String, A
 /// Opens a store.
 fn open_store(
     alloc: Global,
-    desk: &mut Option<Desk>,
+    session: &mut Session,
     readers: u64,
     root: &RootSpec,
 ) -> Result<String, AllocError>
-    ensures { IfOk result (λ text. IsOpened readers root.now (string_bytes text) desk.new) }
+    ensures { IfOk result (λ text. IsDone session.old (Opening readers root.now) (string_bytes text) session.new) }
 {
-    match Desk::start(alloc, &GenericMapping::file(), root, readers) {
-        Ok(started) => {
-            *desk = Some(started);
+    let mapping = session.mapping();
+    match Desk::start(alloc, &mapping, root, readers) {
+        Ok(desk) => {
+            *session = Session::Opened(desk);
             counted_line(alloc, "opened", readers)
         }
         Err(error) => {
-            *desk = None;
+            *session = Session::Closed(mapping);
             start_error_line(alloc, error)
         }
     }
 }
 
 /// Asks the store that is open.
-fn ask(alloc: Global, desk: &mut Option<Desk>, request: &Request) -> Result<String, AllocError>
-    requires { IsSome desk.old }
-    ensures { IfOk result (λ text. IsDone desk.old (Asking request.now) (string_bytes text) desk.new) }
+fn ask(alloc: Global, session: &mut Session, request: &Request) -> Result<String, AllocError>
+    requires { is_open session.old ≡ true }
+    ensures { IfOk result (λ text. IsDone session.old (Asking request.now) (string_bytes text) session.new) }
 {
-    match desk {
-        Some(desk) => {
+    match session {
+        Session::Opened(desk) => {
             let reply = desk.step(request);
             reply_line(alloc, &reply)
         }
-        None => unreachable!(),
+        Session::Closed(_) => unreachable!(),
     }
 }
 
@@ -111,20 +113,21 @@ fn ask(alloc: Global, desk: &mut Option<Desk>, request: &Request) -> Result<Stri
 /// are that descriptor's.
 fn explain(
     alloc: Global,
-    desk: &mut Option<Desk>,
+    session: &mut Session,
     reader: u64,
     path: Path,
     token: &Token,
     asked: Mask,
 ) -> Result<String, AllocError>
-    requires { IsSome desk.old }
-    ensures { IfOk result (λ text. IsDone desk.old (Explaining reader path token.now asked) (string_bytes text) desk.new) }
+    requires { is_open session.old ≡ true }
+    ensures { IfOk result (λ text. IsDone session.old (Explaining reader path token.now asked) (string_bytes text) session.new) }
 {
-    match desk {
-        Some(desk) => {
+    let mapping = session.mapping();
+    match session {
+        Session::Opened(desk) => {
             let reply = desk.step(&Request::Show { reader, path });
-            explained_reply(alloc, token, asked, &reply)
+            explained_reply(alloc, &mapping, token, asked, &reply)
         }
-        None => unreachable!(),
+        Session::Closed(_) => unreachable!(),
     }
 }

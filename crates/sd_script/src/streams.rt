@@ -7,11 +7,12 @@ ghost use Rattle.sd_script.specs.Output.{Prints};
 ghost use Rattle.sd_script.specs.Run.{AppendsOutput, LeavesOutput};
 
 use crate::script::script_output;
+use sd_sid::GenericMapping;
 use sd_stream::{RunError, Watched, read_whole, write_whole};
 use std::alloc::Global;
 use std::io::{Read, Write};
 
-/// Reads a whole script, and writes its whole output.
+/// Reads a whole script, whose store maps generic rights so ([MS-DTYP] 2.4.3), and writes its whole output.
 ///
 /// - `Read`: the reader failed; nothing was written.
 /// - `TooLong`: more than 16,777,216 bytes were read; nothing was written.
@@ -19,12 +20,13 @@ use std::io::{Read, Write};
 /// - `Memory`: memory was refused; nothing was written.
 pub fn run<R: Read, W: Write>(
     alloc: Global,
+    mapping: &GenericMapping,
     reader: &mut Watched<R>,
     writer: &mut Watched<W>,
 ) -> Result<(), RunError>
-    ensures ok { OnOk result (AppendsOutput Prints (R.remaining (inner_of reader.old))
+    ensures ok { OnOk result (AppendsOutput (Prints mapping.now) (R.remaining (inner_of reader.old))
         (W.contents (inner_of writer.old)) (W.contents (inner_of writer.new))) }
-    ensures err { IfErr result (LeavesOutput Prints (R.remaining (inner_of reader.old))
+    ensures err { IfErr result (LeavesOutput (Prints mapping.now) (R.remaining (inner_of reader.old))
         (W.contents (inner_of writer.old)) (W.contents (inner_of writer.new))) }
     ensures too_long { result ≡ Err RunError.TooLong
         → ReadsPart (R.remaining (inner_of reader.old)) (R.remaining (inner_of reader.new)) RunError.TooLong }
@@ -33,6 +35,6 @@ pub fn run<R: Read, W: Write>(
     ensures write { has_failed writer.new ≡ (has_failed writer.old || is_write_error result) }
 {
     let text = read_whole(alloc, reader)?;
-    let printed = script_output(alloc, &text)?;
+    let printed = script_output(alloc, mapping, &text)?;
     write_whole(writer, &printed)
 }

@@ -45,15 +45,16 @@ pub fn why_text(
 /// explanation or `nonode`; or the line of another reply.
 pub(crate) fn explained_reply(
     alloc: Global,
+    mapping: &GenericMapping,
     token: &Token,
     asked: Mask,
     reply: &Reply,
 ) -> Result<String, AllocError>
-    ensures { IfOk result (λ text. explained_reply_of token.now asked reply.now ≡ Some (string_bytes text)) }
+    ensures { IfOk result (λ text. explained_reply_of mapping.now token.now asked reply.now ≡ Some (string_bytes text)) }
 {
     match reply {
         Reply::Shown { seen, descriptor } => {
-            let lines = node_why_text(alloc, token, asked, descriptor)?;
+            let lines = node_why_text(alloc, mapping, token, asked, descriptor)?;
             seen_line(alloc, *seen, &lines)
         }
         _ => reply_line(alloc, reply),
@@ -63,18 +64,16 @@ pub(crate) fn explained_reply(
 /// The lines of an explanation by the descriptor of a node, where there is one.
 fn node_why_text(
     alloc: Global,
+    mapping: &GenericMapping,
     token: &Token,
     asked: Mask,
     descriptor: &Option<Descriptor>,
 ) -> Result<String, AllocError>
-    ensures { IfOk result (λ text. string_bytes text ≡ node_why_text_of token.now asked descriptor.now) }
+    ensures { IfOk result (λ text. string_bytes text ≡ node_why_text_of mapping.now token.now asked descriptor.now) }
 {
     match descriptor {
         None => String::from_str(alloc, "nonode\n"),
-        Some(descriptor) => {
-            let files = GenericMapping::file();
-            why_text(alloc, &files, Spelling::Number, descriptor, token, asked)
-        }
+        Some(descriptor) => { why_text(alloc, mapping, Spelling::Number, descriptor, token, asked) }
     }
 }
 

@@ -1,5 +1,5 @@
 -- The answers of an audit, as lines.
-use Rattle.std.proofs.Common.{◌≡◌, ℕ, suc, ◌<◌, List, [], ◌∷◌, ◌++◌, All, length, take, slice_index_or, Some, Result, Ok, Err, refl, sym, ap, ◌∙◌, append_assoc, arith}
+use Rattle.std.proofs.Common.{◌≡◌, ℕ, suc, ◌<◌, List, [], ◌∷◌, ◌++◌, All, length, take, slice_index_or, Result, Ok, Err, refl, sym, ap, ◌∙◌, append_assoc, arith}
 use Rattle.std.proofs.Math.Nat.{mod-lt}
 use Rattle.std.proofs.lemmas.List.{take-append-le, take_all}
 use Rattle.std.specs.Prelude.{◌%◌, OnOk}
@@ -15,6 +15,7 @@ use Rattle.sd_store.proofs.Dealing.{nobody}
 use Rattle.sd_script_audit.specs.Audit.{answer_line, IsEnd}
 use Rattle.sd_script_audit.specs.Parts.{last_lines, given_lines, machine_of}
 use Rattle.sd_script.specs.Reply.{check_line, seen_line}
+use Rattle.sd_script.specs.declared.session.Session.TheVariants.{Opened}
 
 -- the beginning of a list that has a beginning of that length
 take_begun : {A : Type 0} (xs ys : List A) → IsPrefix xs ys → take (length xs) ys ≡ xs
@@ -52,7 +53,7 @@ module _ (o : Opening) (journal : List Edit) where
       → journal ≡ w.journal ++ w.pending → seen ≡ length journal → now ≡ out ++ last_lines w → new ≡ now ++ given_lines seen answers
       → All (λ given. given.seen ≡ seen) answers → 0 < length olds
       → HaveGrown o (length queries) journal olds news → AreAnswers o queries journal olds news answers → length answers ≡ length queries
-      → (back : List ℕ) × IsEnd (Some (machine_of o readers w)) queries back × (new ≡ out ++ back)
+      → (back : List ℕ) × IsEnd (Opened (machine_of o readers w)) queries back × (new ≡ out ++ back)
   end_is w readers queries olds news answers out now new seen is long closed grown all some have are same =
       let lines = answers_are queries olds news answers some have are same (λ j d within. all j d within ∙ long) in (
         last_lines w ++ given_lines seen answers,

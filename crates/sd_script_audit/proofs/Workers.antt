@@ -1,8 +1,10 @@
 -- Audits of one text by two numbers of workers: once a store is open, what is printed is the same.
 use Rattle.std.proofs.Common.{◌≡◌, ◌⊎◌, ℕ, Bool, true, false, List, [], ◌∷◌, ◌++◌, length, Option, Some, None, Ok, Err, inl, inr, refl, sym, ◌∙◌, ap, subst, append_assoc, arith}
-use Rattle.std.specs.Prelude.{MatchBool, codes, is_some}
+use Rattle.std.specs.Prelude.{MatchBool, codes}
 use Rattle.std.specs.List.{flat_map}
 use Rattle.std.specs.Str.Lines.{lines}
+use Rattle.sd_sid.specs.Mapping.{MappingValue}
+use Rattle.sd_tree.specs.Journal.{opening_of}
 use Rattle.sd_tree.specs.declared.edit.Edit.{Edit}
 use Rattle.sd_tree.specs.declared.opening.RootSpec.{RootSpec}
 use Rattle.sd_tree.specs.declared.refusal.EditRefusal.{EditRefusal}
@@ -16,11 +18,12 @@ use Rattle.sd_store.specs.declared.query.Query.{Query}
 use Rattle.sd_script.specs.Command.{line_asks}
 use Rattle.sd_script.specs.Fault.{line_of_fault}
 use Rattle.sd_script.specs.Lines.{is_silent}
-use Rattle.sd_script.specs.Output.{IsDone, IsOpened, opening_with}
+use Rattle.sd_script.specs.Output.{IsDone, IsOpened, is_open}
 use Rattle.sd_script.specs.Reply.{counted_line, refused_line, start_error_line}
 use Rattle.sd_script.specs.declared.asked.Asked.{Asked}
 use Rattle.sd_script.specs.declared.asked.Asked.TheVariants.{Opening as Opens, Asking, Explaining}
 use Rattle.sd_script.specs.declared.fault.LineFault.{LineFault}
+use Rattle.sd_script.specs.declared.session.Session.TheVariants as sessions
 use Rattle.sd_script.proofs.OneOutput.{no_error, edited, outcome, one_step}
 use Rattle.sd_script.proofs.OneReading.{line-one}
 use Rattle.sd_script.proofs.Timely.{line_opens}
@@ -51,8 +54,8 @@ same_outcome x y r one other alike = one ∙ ap (λ m. unread_after (outcome m r
 pub record AreAlike (a b : Progress) : Type 0 where
   pub one : Machine
   pub other : Machine
-  pub one_is : a.store ≡ Some one
-  pub other_is : b.store ≡ Some other
+  pub one_is : a.store ≡ sessions.Opened one
+  pub other_is : b.store ≡ sessions.Opened other
   pub alike : unread one ≡ unread other
   pub queries : a.queries ≡ b.queries
 
@@ -109,8 +112,8 @@ module _ (a b : Progress) (alike : AreAlike a b) where
 -- a line that isn't silent is answered
 abbrev Loud : ℕ → Progress → List ℕ → List ℕ → Progress → Type 0
 Loud n a text p c =
-    ((asked : Asked) × line_asks (is_some a.store) text (Ok asked) × IsDoneInAudit n a asked p c)
-    ⊎ ((fault : LineFault) × line_asks (is_some a.store) text (Err fault) × (p ≡ line_of_fault fault) × (c ≡ a))
+    ((asked : Asked) × line_asks (is_open a.store) text (Ok asked) × IsDoneInAudit n a asked p c)
+    ⊎ ((fault : LineFault) × line_asks (is_open a.store) text (Err fault) × (p ≡ line_of_fault fault) × (c ≡ a))
 
 module _ (n m : ℕ) (text : List ℕ) where
   asking_alike : (a b : Progress) (asked : Asked) (p q : List ℕ) (c d : Progress) → AreAlike a b → line_asks true text (Ok asked)
@@ -121,22 +124,22 @@ module _ (n m : ℕ) (text : List ℕ) where
 
   loud_alike : (a b : Progress) (p q : List ℕ) (c d : Progress) → AreAlike a b → Loud n a text p c → Loud m b text q d → (p ≡ q) × AreAlike c d
   loud_alike a b p q c d alike (inl one) (inl other) =
-      let first = subst (λ s. line_asks (is_some s) text (Ok one.0)) alike.one_is one.1 in
-      let second = subst (λ s. line_asks (is_some s) text (Ok other.0)) alike.other_is other.1 in
+      let first = subst (λ s. line_asks (is_open s) text (Ok one.0)) alike.one_is one.1 in
+      let second = subst (λ s. line_asks (is_open s) text (Ok other.0)) alike.other_is other.1 in
       let same = line-one true text (Ok one.0) (Ok other.0) first second in
       let asked : one.0 ≡ other.0 = cc (same) in
       asking_alike a b other.0 p q c d alike second (subst (λ x. IsDoneInAudit n a x p c) asked one.2) other.2
   loud_alike a b p q c d alike (inl one) (inr other) = absurd (
-      let first = subst (λ s. line_asks (is_some s) text (Ok one.0)) alike.one_is one.1 in
-      let second = subst (λ s. line_asks (is_some s) text (Err other.0)) alike.other_is other.1 in
+      let first = subst (λ s. line_asks (is_open s) text (Ok one.0)) alike.one_is one.1 in
+      let second = subst (λ s. line_asks (is_open s) text (Err other.0)) alike.other_is other.1 in
       let no = line-one true text (Ok one.0) (Err other.0) first second in cc (no))
   loud_alike a b p q c d alike (inr one) (inl other) = absurd (
-      let first = subst (λ s. line_asks (is_some s) text (Err one.0)) alike.one_is one.1 in
-      let second = subst (λ s. line_asks (is_some s) text (Ok other.0)) alike.other_is other.1 in
+      let first = subst (λ s. line_asks (is_open s) text (Err one.0)) alike.one_is one.1 in
+      let second = subst (λ s. line_asks (is_open s) text (Ok other.0)) alike.other_is other.1 in
       let no = line-one true text (Err one.0) (Ok other.0) first second in cc (no))
   loud_alike a b p q c d alike (inr one) (inr other) =
-      let first = subst (λ s. line_asks (is_some s) text (Err one.0)) alike.one_is one.1 in
-      let second = subst (λ s. line_asks (is_some s) text (Err other.0)) alike.other_is other.1 in
+      let first = subst (λ s. line_asks (is_open s) text (Err one.0)) alike.one_is one.1 in
+      let second = subst (λ s. line_asks (is_open s) text (Err other.0)) alike.other_is other.1 in
       let same = line-one true text (Err one.0) (Err other.0) first second in
       let fault : one.0 ≡ other.0 = cc (same) in
       stay_alike a b alike (line_of_fault other.0) p q c d (one.2 ∙ ap line_of_fault fault, one.3) (other.2, other.3)
@@ -165,8 +168,8 @@ all_alike n m (text ∷ texts) a b p q alike one other =
 
 -- ---- before a store is open
 
-progress_is : (a : Progress) → a.store ≡ None → a.queries ≡ [] → a ≡ unopened
-progress_is a store queries =
+progress_is : (g : MappingValue) (a : Progress) → a.store ≡ sessions.Closed g → a.queries ≡ [] → a ≡ unopened g
+progress_is g a store queries =
     subst (λ s. a ≡ record { store = s; queries = [] }) store (subst (λ (xs : List Query). a ≡ record { store = a.store; queries = xs }) queries refl)
 
 -- an error with a line, of a number of readers that a store can have
@@ -178,21 +181,21 @@ root_error (starts.Root r) n due p count is text = (r, is.1, text)
 root_error starts.Memory n due p count is text = absurd (cc (text))
 root_error starts.Place n due p count is text = absurd is
 
-module _ (n m : ℕ) (some : IsReaderCount n) (others : IsReaderCount m) where
+module _ (g : MappingValue) (n m : ℕ) (some : IsReaderCount n) (others : IsReaderCount m) where
   -- no store is open afterwards, or both are
   abbrev Opened : List ℕ → List ℕ → Progress → Progress → Type 0
   Opened p q c d =
-      ((p ≡ q) × (c ≡ unopened) × (d ≡ unopened))
+      ((p ≡ q) × (c ≡ unopened g) × (d ≡ unopened g))
       ⊎ ((p ≡ counted_line (codes "opened") n) × (q ≡ counted_line (codes "opened") m) × AreAlike c d)
 
-  opening : (root : RootSpec) (p q : List ℕ) (c d : Progress) → IsOpened n root p c.store × (c.queries ≡ [])
-      → IsOpened m root q d.store × (d.queries ≡ []) → Opened p q c d
+  opening : (root : RootSpec) (p q : List ℕ) (c d : Progress) → IsOpened g n root p c.store × (c.queries ≡ [])
+      → IsOpened g m root q d.store × (d.queries ≡ []) → Opened p q c d
   opening root p q c d (inl one, none) (inl other, nothing) = inr (
     one.2,
     other.2,
     record {
-      one = started (opening_with root) n;
-      other = started (opening_with root) m;
+      one = started (opening_of g root) n;
+      other = started (opening_of g root) m;
       one_is = one.3;
       other_is = other.3;
       alike = refl;
@@ -208,21 +211,21 @@ module _ (n m : ℕ) (some : IsReaderCount n) (others : IsReaderCount m) where
       let refusals : first.0 ≡ second.0 = cc (dues) in
       let texts = sym first.2 ∙ ap (λ r. Some (refused_line r)) refusals ∙ second.2 in
       let same : p ≡ q = cc (texts) in
-      inl (same, progress_is c one.3 none, progress_is d other.3 nothing)
+      inl (same, progress_is g c one.3 none, progress_is g d other.3 nothing)
 
   module _ (text : List ℕ) where
     opening_asked : (asked : Asked) (p q : List ℕ) (c d : Progress) → line_asks false text (Ok asked)
-        → IsDoneInAudit n unopened asked p c → IsDoneInAudit m unopened asked q d → Opened p q c d
+        → IsDoneInAudit n (unopened g) asked p c → IsDoneInAudit m (unopened g) asked q d → Opened p q c d
     opening_asked (Opens readers root) p q c d asks one other = opening root p q c d one other
     opening_asked (Asking r) p q c d asks one other = absurd (let no = line_opens false text (Asking r) asks in cc (no))
     opening_asked (Explaining reader path token asked) p q c d asks one other =
         absurd (let no = line_opens false text (Explaining reader path token asked) asks in cc (no))
 
-    loud_unopened : (p q : List ℕ) (c d : Progress) → Loud n unopened text p c → Loud m unopened text q d → Opened p q c d
+    loud_unopened : (p q : List ℕ) (c d : Progress) → Loud n (unopened g) text p c → Loud m (unopened g) text q d → Opened p q c d
     loud_unopened p q c d (inl one) (inl other) =
         let same = line-one false text (Ok one.0) (Ok other.0) one.1 other.1 in
         let asked : one.0 ≡ other.0 = cc (same) in
-        opening_asked other.0 p q c d other.1 (subst (λ x. IsDoneInAudit n unopened x p c) asked one.2) other.2
+        opening_asked other.0 p q c d other.1 (subst (λ x. IsDoneInAudit n (unopened g) x p c) asked one.2) other.2
     loud_unopened p q c d (inl one) (inr other) = absurd (let no = line-one false text (Ok one.0) (Err other.0) one.1 other.1 in cc (no))
     loud_unopened p q c d (inr one) (inl other) = absurd (let no = line-one false text (Err one.0) (Ok other.0) one.1 other.1 in cc (no))
     loud_unopened p q c d (inr one) (inr other) =
@@ -230,8 +233,8 @@ module _ (n m : ℕ) (some : IsReaderCount n) (others : IsReaderCount m) where
         let fault : one.0 ≡ other.0 = cc (same) in
         inl (one.2 ∙ ap line_of_fault fault ∙ sym other.2, one.3, other.3)
 
-    unopened_by_silence : (silent : Bool) (p q : List ℕ) (c d : Progress) → MatchBool silent ((p ≡ []) × (c ≡ unopened)) (Loud n unopened text p c)
-        → MatchBool silent ((q ≡ []) × (d ≡ unopened)) (Loud m unopened text q d) → Opened p q c d
+    unopened_by_silence : (silent : Bool) (p q : List ℕ) (c d : Progress) → MatchBool silent ((p ≡ []) × (c ≡ unopened g)) (Loud n (unopened g) text p c)
+        → MatchBool silent ((q ≡ []) × (d ≡ unopened g)) (Loud m (unopened g) text q d) → Opened p q c d
     unopened_by_silence true p q c d one other = inl (one.0 ∙ sym other.0, one.1, other.1)
     unopened_by_silence false p q c d one other = loud_unopened p q c d one other
 
@@ -247,7 +250,7 @@ module _ (n m : ℕ) (some : IsReaderCount n) (others : IsReaderCount m) where
 
   after_opening : (texts : List (List ℕ)) (p q first second xs ys : List ℕ) (c d : Progress) → p ≡ first ++ xs → q ≡ second ++ ys → Opened first second c d
       → AreAnsweredInAudit n c texts xs → AreAnsweredInAudit m d texts ys
-      → (AreAnsweredInAudit n unopened texts xs → AreAnsweredInAudit m unopened texts ys → DifferInOpening n m xs ys) → DifferInOpening n m p q
+      → (AreAnsweredInAudit n (unopened g) texts xs → AreAnsweredInAudit m (unopened g) texts ys → DifferInOpening n m xs ys) → DifferInOpening n m p q
   after_opening texts p q first second xs ys c d one other (inl same) answered answers rest =
       after_line second p q xs ys (one ∙ ap (λ zs. zs ++ xs) same.0) other
       (rest (subst (λ e. AreAnsweredInAudit n e texts xs) same.1 answered) (subst (λ e. AreAnsweredInAudit m e texts ys) same.2 answers))
@@ -255,7 +258,7 @@ module _ (n m : ℕ) (some : IsReaderCount n) (others : IsReaderCount m) where
       let same = all_alike n m texts c d xs ys opened.2 answered answers in
       inr ([], ys, one ∙ ap (λ zs. zs ++ xs) opened.0 ∙ ap (λ zs. counted_line (codes "opened") n ++ zs) same, other ∙ ap (λ zs. zs ++ ys) opened.1)
 
-  all_differ : (texts : List (List ℕ)) (p q : List ℕ) → AreAnsweredInAudit n unopened texts p → AreAnsweredInAudit m unopened texts q → DifferInOpening n m p q
+  all_differ : (texts : List (List ℕ)) (p q : List ℕ) → AreAnsweredInAudit n (unopened g) texts p → AreAnsweredInAudit m (unopened g) texts q → DifferInOpening n m p q
   all_differ [] p q one other = inl (one ∙ sym other)
   all_differ (text ∷ texts) p q one other =
       after_opening texts p q one.0 other.0 one.2 other.2 one.1 other.1 one.5 other.5
@@ -263,4 +266,4 @@ module _ (n m : ℕ) (some : IsReaderCount n) (others : IsReaderCount m) where
       (λ answered answers. all_differ texts one.2 other.2 answered answers)
 
 pub workers_show_in_the_opening : WorkersShowInTheOpening
-workers_show_in_the_opening n m text one other some others prints other_prints = all_differ n m some others (lines text) one other prints other_prints
+workers_show_in_the_opening g n m text one other some others prints other_prints = all_differ g n m some others (lines text) one other prints other_prints

@@ -1,8 +1,9 @@
 -- The output of an audit: a script whose checks are kept as queries, and answered at the end by all that was published.
 -- By how many workers they are answered is not a word of it, but for the line of an opening.
-use Rattle.std.specs.Prelude.{◌≡◌, ◌⊎◌, ℕ, List, [], ◌∷◌, ◌++◌, length, Some, None, Ok, Err, is_some, MatchBool, codes}
+use Rattle.std.specs.Prelude.{◌≡◌, ◌⊎◌, ℕ, List, [], ◌∷◌, ◌++◌, length, Ok, Err, MatchBool, codes}
 use Rattle.std.specs.List.{flat_map}
 use Rattle.std.specs.Str.Lines.{lines}
+use Rattle.sd_sid.specs.Mapping.{MappingValue}
 use Rattle.sd_tree.specs.declared.edit.Edit.{Edit}
 use Rattle.sd_tree.specs.declared.opening.Opening.{Opening}
 use Rattle.sd_share.specs.Machine.{accepted}
@@ -13,20 +14,22 @@ use Rattle.sd_script.specs.Answer.{fault_line}
 use Rattle.sd_script.specs.Command.{line_asks}
 use Rattle.sd_script.specs.Fault.{line_of_fault}
 use Rattle.sd_script.specs.Lines.{is_silent}
-use Rattle.sd_script.specs.Output.{Standing, IsDone, IsOpened}
+use Rattle.sd_script.specs.Output.{IsDone, IsOpened, is_open, mapping_of}
 use Rattle.sd_script.specs.Reply.{check_line, counted_line, seen_line}
 use Rattle.sd_script.specs.declared.asked.Asked.{Asked}
 use Rattle.sd_script.specs.declared.asked.Asked.TheVariants.{Opening as Opens, Asking, Explaining}
 use Rattle.sd_script.specs.declared.fault.LineFault.{LineFault}
+use Rattle.sd_script.specs.declared.session.Session.{Session}
+use Rattle.sd_script.specs.declared.session.Session.TheVariants.{Closed, Opened}
 
 -- what stands between two lines: the store, where one is open, and the queries so far
 pub record Progress : Type 0 where
-  pub store : Standing
+  pub store : Session
   pub queries : List Query
 
--- no store is open, and nothing was asked
-abbrev pub unopened : Progress
-unopened = record { store = None; queries = [] }
+-- no store is open, one is opened with this mapping, and nothing was asked
+abbrev pub unopened : MappingValue → Progress
+unopened g = record { store = Closed g; queries = [] }
 
 -- of what only a script does a fault is told
 abbrev pub IsForScripts : Progress → List ℕ → Progress → Type 0
@@ -35,7 +38,7 @@ IsForScripts old printed new = (printed ≡ fault_line (codes "audit")) × (new 
 -- what is asked is done as in a script, but that a store is opened for the workers, that a check is kept, and that an
 -- audit tells, teaches, shows and explains nothing
 abbrev pub IsDoneInAudit : ℕ → Progress → Asked → List ℕ → Progress → Type 0
-IsDoneInAudit workers old (Opens readers root) printed new = IsOpened workers root printed new.store × (new.queries ≡ old.queries)
+IsDoneInAudit workers old (Opens readers root) printed new = IsOpened (mapping_of old.store) workers root printed new.store × (new.queries ≡ old.queries)
 IsDoneInAudit workers old (Asking (Check reader path token asked)) printed new =
     (printed ≡ []) × (new ≡ record { store = old.store; queries = old.queries ++ record { path = path; token = token; asked = asked } ∷ [] })
 IsDoneInAudit workers old (Asking Tell) printed new = IsForScripts old printed new
@@ -48,8 +51,8 @@ IsDoneInAudit workers old asked printed new = IsDone old.store asked printed new
 abbrev pub IsAnsweredInAudit : ℕ → Progress → List ℕ → List ℕ → Progress → Type 0
 IsAnsweredInAudit workers old line printed new = MatchBool (is_silent line)
     ((printed ≡ []) × (new ≡ old))
-    (((asked : Asked) × line_asks (is_some old.store) line (Ok asked) × IsDoneInAudit workers old asked printed new)
-    ⊎ ((fault : LineFault) × line_asks (is_some old.store) line (Err fault) × (printed ≡ line_of_fault fault) × (new ≡ old)))
+    (((asked : Asked) × line_asks (is_open old.store) line (Ok asked) × IsDoneInAudit workers old asked printed new)
+    ⊎ ((fault : LineFault) × line_asks (is_open old.store) line (Err fault) × (printed ≡ line_of_fault fault) × (new ≡ old)))
 
 -- what a last publish prints, where edits wait
 abbrev pub last_publish : List Edit → ℕ → List ℕ
@@ -61,9 +64,9 @@ abbrev pub answer_line : Opening → List Edit → Query → List ℕ
 answer_line opening journal query = seen_line (length journal) (check_line (reply_by opening journal query))
 
 -- behind the last line: where a store is open, all that was accepted is published and told, and answers each query
-abbrev pub IsEnd : Standing → List Query → List ℕ → Type 0
-IsEnd None queries printed = printed ≡ []
-IsEnd (Some m) queries printed =
+abbrev pub IsEnd : Session → List Query → List ℕ → Type 0
+IsEnd (Closed g) queries printed = printed ≡ []
+IsEnd (Opened m) queries printed =
     printed ≡ last_publish m.pending (length (accepted m)) ++ counted_line (codes "told") (length (accepted m))
     ++ flat_map (answer_line m.opening (accepted m)) queries
 
@@ -74,6 +77,6 @@ AreAnsweredInAudit workers old (line ∷ lines) printed =
     (first : List ℕ) × (between : Progress) × (rest : List ℕ)
     × IsAnsweredInAudit workers old line first between × AreAnsweredInAudit workers between lines rest × (printed ≡ first ++ rest)
 
--- the whole output of an audit by so many workers
-abbrev pub PrintsAudit : ℕ → List ℕ → List ℕ → Type 0
-PrintsAudit workers text printed = AreAnsweredInAudit workers unopened (lines text) printed
+-- the whole output of an audit by so many workers, of a store with this mapping
+abbrev pub PrintsAudit : MappingValue → ℕ → List ℕ → List ℕ → Type 0
+PrintsAudit g workers text printed = AreAnsweredInAudit workers (unopened g) (lines text) printed

@@ -3,6 +3,7 @@
 ghost use Rattle.std.specs.Prelude.{◌≡◌, ◌⊎◌, ◌++◌, ◌<◌, ◌≤◌, ℕ, List, length, All, IfErr, IfOk, OnOk};
 ghost use Rattle.sd_script_audit.specs.Audit.{IsEnd};
 ghost use Rattle.sd_script_audit.specs.Parts.{given_lines, last_lines, machine_of};
+ghost use Rattle.sd_script.specs.declared.session.Session.TheVariants.{Opened};
 
 use sd_script::{counted_line, reply_line};
 use sd_share::{Answer, Reply};
@@ -24,7 +25,7 @@ pub(crate) fn publish_and_answer<J: Naming + Send + Sync, T: Threads + Wait + Sy
 ) -> Result<(), RunError>
     requires some { (0 < length checkers.old) × (length checkers.old ≤ 64) }
     ensures end { (readers : ℕ) → OnOk result ((back : List ℕ)
-        × IsEnd (Some (machine_of J.opening readers writer.old)) queries.now back
+        × IsEnd (Opened (machine_of J.opening readers writer.old)) queries.now back
         × (printed.new.items ≡ printed.old.items ++ back)) }
     ensures failed { IfErr result (λ e. (e ≡ RunError.Memory) ⊎ (e ≡ RunError.Thread)) }
 {

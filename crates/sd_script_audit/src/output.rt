@@ -1,7 +1,8 @@
 //! The whole output of an audit.
 
+ghost use Rattle.sd_sid.specs.Mapping.{MappingValue};
 ghost use Rattle.std.specs.Prelude.{◌≡◌, ◌⊎◌, ◌++◌, ◌<◌, ◌≤◌, ℕ, List, [], length, IfErr, IfNone, IfOk, IfSome};
-ghost use Rattle.sd_script.specs.Output.{opening_with};
+ghost use Rattle.sd_tree.specs.Journal.{opening_of};
 ghost use Rattle.sd_script_audit.specs.Audit.{AreAnsweredInAudit, IsAnsweredInAudit, PrintsAudit, unopened};
 ghost use Rattle.sd_script_audit.specs.Parts.{progress, IsOpenedAndAudited, OpensStore};
 ghost use Rattle.std.specs.Str.Lines.{lines};
@@ -22,15 +23,16 @@ use std::marker::Brand;
 use std::sync::Wait;
 use std::thread::Threads;
 
-/// The whole output of an audit by so many workers. Fails where memory is refused, and by `Thread`.
+/// The whole output of an audit by so many workers, of a store with this mapping. Fails where memory is refused, and by `Thread`.
 pub(crate) fn audit_output<T: Threads + Wait + Sync, G: Gate + Sync>(
     rt: &T,
     alloc: Global,
     workers: u64,
+    mapping: &GenericMapping,
     text: &[u8],
     gate: &G,
 ) -> Result<Vec<u8>, RunError>
-    ensures printed { IfOk result (λ printed. PrintsAudit workers text.now printed.items) }
+    ensures printed { IfOk result (λ printed. PrintsAudit mapping.now workers text.now printed.items) }
     ensures failed { IfErr result (λ e. (e ≡ RunError.Memory) ⊎ (e ≡ RunError.Thread)) }
 {
     let mut printed = Vec::new(alloc);
@@ -44,6 +46,7 @@ pub(crate) fn audit_output<T: Threads + Wait + Sync, G: Gate + Sync>(
                 alloc,
                 workers,
                 history,
+                mapping,
                 &root,
                 after,
                 gate,
@@ -66,8 +69,8 @@ fn opened_root(
 ) -> Result<Option<RootSpec>, AllocError>
     ensures opens { IfOk result (λ found. IfSome found (λ root.
         OpensStore line.now root × (printed.new.items ≡ printed.old.items))) }
-    ensures answered { (workers : ℕ) → IfOk result (λ found. IfNone found ((answer : List ℕ)
-        × IsAnsweredInAudit workers unopened line.now answer unopened
+    ensures answered { (g : MappingValue) (workers : ℕ) → IfOk result (λ found. IfNone found ((answer : List ℕ)
+        × IsAnsweredInAudit workers (unopened g) line.now answer (unopened g)
         × (printed.new.items ≡ printed.old.items ++ answer))) }
 {
     if is_silent(line) {
@@ -92,19 +95,19 @@ fn open_and_audit<J: Naming + Send + Sync, T: Threads + Wait + Sync, G: Gate + S
     alloc: Global,
     workers: u64,
     history: Opened<Edit>,
+    mapping: &GenericMapping,
     root: &RootSpec,
     after: &[u8],
     gate: &G,
     printed: &mut Vec<u8>,
 ) -> Result<bool, RunError>
     requires history { (history.book ≡ J.book) × (history.first ≡ J.first) }
-    requires opening { opening_with root.now ≡ J.opening }
+    requires opening { opening_of mapping.now root.now ≡ J.opening }
     ensures audited { IfOk result (λ is_open.
-        IsOpenedAndAudited workers root.now after.now is_open printed.old.items printed.new.items) }
+        IsOpenedAndAudited mapping.now workers root.now after.now is_open printed.old.items printed.new.items) }
     ensures failed { IfErr result (λ e. (e ≡ RunError.Memory) ⊎ (e ≡ RunError.Thread)) }
 {
-    let mapping = GenericMapping::file();
-    match start::<J, T>(rt, alloc, history, &mapping, root, workers) {
+    match start::<J, T>(rt, alloc, history, mapping, root, workers) {
         Ok((mut writer, mut checkers)) => {
             let answered = collect_and_answer(
                 rt,

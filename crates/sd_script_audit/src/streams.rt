@@ -7,6 +7,7 @@ ghost use Rattle.sd_script_audit.specs.Audit.{PrintsAudit};
 ghost use Rattle.sd_script.specs.Run.{AppendsOutput, LeavesOutput};
 
 use crate::output::audit_output;
+use sd_sid::GenericMapping;
 use sd_store::Gate;
 use sd_stream::{RunError, Watched, read_whole, write_whole};
 use std::alloc::Global;
@@ -15,7 +16,8 @@ use std::sync::Wait;
 use std::thread::Threads;
 
 /// Reads a whole script, and writes its whole output as an audit's: its checks are answered at the end, by all that was
-/// published, dealt among so many workers, 1 to 64. `OpenGate` lets each check through.
+/// published, dealt among so many workers, 1 to 64. Its store maps generic rights so ([MS-DTYP] 2.4.3). `OpenGate` lets each check
+/// through.
 ///
 /// - `Read`: the reader failed; nothing was written.
 /// - `TooLong`: more than 16,777,216 bytes were read; nothing was written.
@@ -27,13 +29,14 @@ pub fn run_audit<T: Threads + Wait + Sync, R: Read, W: Write, G: Gate + Sync>(
     rt: &T,
     alloc: Global,
     workers: u64,
+    mapping: &GenericMapping,
     reader: &mut Watched<R>,
     writer: &mut Watched<W>,
     gate: &G,
 ) -> Result<(), RunError>
-    ensures ok { OnOk result (AppendsOutput (PrintsAudit workers) (R.remaining (inner_of reader.old))
+    ensures ok { OnOk result (AppendsOutput (PrintsAudit mapping.now workers) (R.remaining (inner_of reader.old))
         (W.contents (inner_of writer.old)) (W.contents (inner_of writer.new))) }
-    ensures err { IfErr result (LeavesOutput (PrintsAudit workers) (R.remaining (inner_of reader.old))
+    ensures err { IfErr result (LeavesOutput (PrintsAudit mapping.now workers) (R.remaining (inner_of reader.old))
         (W.contents (inner_of writer.old)) (W.contents (inner_of writer.new))) }
     ensures too_long { result ≡ Err RunError.TooLong
         → ReadsPart (R.remaining (inner_of reader.old)) (R.remaining (inner_of reader.new)) RunError.TooLong }
@@ -41,6 +44,6 @@ pub fn run_audit<T: Threads + Wait + Sync, R: Read, W: Write, G: Gate + Sync>(
     ensures write { has_failed writer.new ≡ (has_failed writer.old || is_write_error result) }
 {
     let text = read_whole(alloc, reader)?;
-    let printed = audit_output(rt, alloc, workers, &text, gate)?;
+    let printed = audit_output(rt, alloc, workers, mapping, &text, gate)?;
     write_whole(writer, &printed)
 }

@@ -1,9 +1,12 @@
 -- Lines that are answered as they end.
-use Rattle.std.proofs.Common.{◌≡◌, ℕ, ◌<◌, List, [], ◌∷◌, ◌++◌, length, refl, sym, ◌∙◌, ap, append_assoc, append-nil, inl, inr, None, arith}
+use Rattle.std.proofs.Common.{◌≡◌, ℕ, ◌<◌, List, [], ◌∷◌, ◌++◌, length, refl, sym, ◌∙◌, ap, append_assoc, append-nil, inl, inr, arith}
 use Rattle.std.specs.List.{slice_split}
 use Rattle.std.specs.Str.Lines.{lines, lines_of_parts, strip_carriage_return}
 use Rattle.std.proofs.lemmas.List.Splits.{slice_split_at, slice_split_none, length-slice_split}
-use Rattle.sd_script.specs.Output.{Standing, IsAnswered, Prints}
+use Rattle.sd_sid.specs.Mapping.{MappingValue}
+use Rattle.sd_script.specs.Output.{IsAnswered, Prints}
+use Rattle.sd_script.specs.declared.session.Session.{Session}
+use Rattle.sd_script.specs.declared.session.Session.TheVariants.{Closed}
 use Rattle.sd_script.proofs.Cutting.{feeds, before_others, last_part}
 use Rattle.sd_script_serve.specs.Serve.{Advances, HasNoFeed, IsEnded}
 
@@ -21,11 +24,11 @@ pub heads : (one other : List ℕ) (ones others : List (List ℕ)) → one ∷ o
 heads one other ones others e = cc
 
 -- nothing is answered by nothing
-pub advances_none : (old : Standing) → Advances old [] [] old
+pub advances_none : (old : Session) → Advances old [] [] old
 advances_none old rest back answered = answered
 
 -- one more line is answered
-pub advances_line : (old mid new : Standing) (ended printed line answer first behind : List ℕ)
+pub advances_line : (old mid new : Session) (ended printed line answer first behind : List ℕ)
     → Advances old ended printed mid → HasNoFeed line → lines (line ++ 10 ∷ []) ≡ first ∷ lines behind
     → IsAnswered mid first answer new → Advances old (ended ++ (line ++ 10 ∷ [])) (printed ++ answer) new
 advances_line old mid new ended printed line answer first behind so_far none cut is rest back answered =
@@ -35,15 +38,15 @@ advances_line old mid new ended printed line answer first behind so_far none cut
     (rw (lines_ended line rest none, head) (answer, new, back, is, answered, refl)))
 
 -- what two stretches put before what is left, one behind the other
-pub advances_both : (old mid new : Standing) (ended more printed said : List ℕ)
+pub advances_both : (old mid new : Session) (ended more printed said : List ℕ)
     → Advances old ended printed mid → Advances mid more said new → Advances old (ended ++ more) (printed ++ said) new
 advances_both old mid new ended more printed said first second rest back answered =
     rw (append_assoc ended more rest, append_assoc printed said back)
     (first (more ++ rest) (said ++ back) (second rest back answered))
 
 -- the whole output of what has ended
-pub ended_prints : (ended printed : List ℕ) (new : Standing) → Advances None ended printed new → Prints ended printed
-ended_prints ended printed new so_far = rw (append-nil ended, append-nil printed) at (so_far [] [] refl)
+pub ended_prints : (g : MappingValue) (ended printed : List ℕ) (new : Session) → Advances (Closed g) ended printed new → Prints g ended printed
+ended_prints g ended printed new so_far = rw (append-nil ended, append-nil printed) at (so_far [] [] refl)
 
 pub ended_line : (ended line : List ℕ) → IsEnded (ended ++ (line ++ 10 ∷ []))
 ended_line ended line = inr (ended ++ line, sym (append_assoc ended line (10 ∷ [])))

@@ -12,7 +12,7 @@ use Rattle.std.proofs.lemmas.List.Sums.{prefix_len_passes, prefix_len_stops}
 use Rattle.sd_stream.specs.Whole.{AppendsBeginning}
 use Rattle.sd_stream.specs.declared.error.RunError.{RunError}
 use Rattle.sd_stream.specs.declared.error.RunError.TheVariants.{Read, TooLong, Write, Memory, Thread}
-use Rattle.sd_script.specs.Output.{Standing}
+use Rattle.sd_script.specs.declared.session.Session.{Session}
 use Rattle.sd_script.proofs.Cutting.{feeds}
 use Rattle.sd_script_serve.specs.Serve.{Advances, AnswersAll, AnswersFirst, FailsFirst, FailsLast, HasNoFeed, IsEnded, IsGrowthError, StopsIn}
 use Rattle.sd_script_serve.proofs.Feeds.{advances_line, ended_line, heads, lines_last}
@@ -89,7 +89,7 @@ if_write Q (Ok x) is given make = tt
 if_write Q (Err e) is given make = rw is (make given)
 
 -- a text of one line that hasn't ended is answered by its first line
-pub all_of_first : (before after : Standing) (text : List ℕ) (Wrote : List ℕ → Type 0)
+pub all_of_first : (before after : Session) (text : List ℕ) (Wrote : List ℕ → Type 0)
     → HasNoFeed text → 0 < length text → AnswersFirst before text after Wrote → AnswersAll before text Wrote
 all_of_first before after text Wrote none some a =
     let whole : lines text ≡ text ∷ [] = lines_last text none some in
@@ -100,7 +100,7 @@ all_of_first before after text Wrote none some a =
       wrote = a.wrote;
     }
 
-pub last_fails : (before after : Standing) (text : List ℕ) (old new : Option (List ℕ)) → HasNoFeed text → 0 < length text
+pub last_fails : (before after : Session) (text : List ℕ) (old new : Option (List ℕ)) → HasNoFeed text → 0 < length text
     → (e : RunError) → FailsFirst before text after old new e → FailsLast before text old new e
 last_fails before after text old new none some Read fails = fails
 last_fails before after text old new none some TooLong fails = fails
@@ -110,7 +110,7 @@ last_fails before after text old new none some Thread fails = fails
 
 -- ---- errors between two reads
 
-pub growth_stops : (before mid : Standing) (line bytes ended printed grown more : List ℕ) (old new : Option (List ℕ))
+pub growth_stops : (before mid : Session) (line bytes ended printed grown more : List ℕ) (old new : Option (List ℕ))
     → line ++ bytes ≡ ended ++ (grown ++ more) → IsEnded ended → HasNoFeed grown → Advances before ended printed mid → Appends old new printed
     → (e : RunError) → IsGrowthError grown e → StopsIn before line bytes old new e
 growth_stops before mid line bytes ended printed grown more old new parts whole none so_far appended Read fails = absurd fails
@@ -139,7 +139,7 @@ growth_stops before mid line bytes ended printed grown more old new parts whole 
 }
 growth_stops before mid line bytes ended printed grown more old new parts whole none so_far appended Thread fails = absurd fails
 
-pub answer_stops : (before mid after : Standing) (line bytes ended printed grown more : List ℕ) (old now new : Option (List ℕ))
+pub answer_stops : (before mid after : Session) (line bytes ended printed grown more : List ℕ) (old now new : Option (List ℕ))
     → line ++ bytes ≡ ended ++ (grown ++ 10 ∷ more) → IsEnded ended → HasNoFeed grown → Advances before ended printed mid → Appends old now printed
     → (e : RunError) → FailsFirst mid (grown ++ 10 ∷ []) after now new e → StopsIn before line bytes old new e
 answer_stops before mid after line bytes ended printed grown more old now new parts whole none so_far appended Read fails = absurd fails

@@ -99,6 +99,14 @@ impl Desk {
         Ok(replies)
     }
 
+    /// The tree that readers see.
+    pub fn published(&self) -> &Tree
+        ensures opening { result.now.opening ≡ self.now.opening }
+        ensures journal { result.now.journal ≡ self.now.published }
+    {
+        &self.published
+    }
+
     /// The edits that are seen, in their order.
     pub fn journal(&self) -> &[Shared<Edit>]
         ensures journal { result.now ≡ self.now.published }

@@ -4,5 +4,6 @@ pub mod LawProofs
 pub mod Telling
 pub mod Texts
 pub mod LintLines
+pub mod BytesByPart
 pub mod SpelledOut
 pub mod EachLines

@@ -1,21 +1,27 @@
 -- What is told of a failure.
-use Rattle.std.proofs.Common.{◌≡◌, ℕ, Bool, List, [], Option, Some, Result, Err, ap, inl, inr, refl, arith}
-use Rattle.std.specs.Prelude.{◌||◌, ◌⊎◌}
-use Rattle.std.specs.Io.KnownBytes.{Keeps}
+use Rattle.std.proofs.Common.{◌≡◌, ℕ, Bool, true, List, [], ◌++◌, ◌+◌, ◌∙◌, length, Option, Some, Result, Ok, Err, ap, subst, inl, inr, refl, arith}
+use Rattle.std.specs.Prelude.{◌||◌, ◌⊎◌, IfErr}
+use Rattle.std.proofs.lemmas.List.{length-append}
+use Rattle.std.specs.Io.KnownBytes.{Appends, Keeps}
 use Rattle.std.specs.Borrow.{Bor}
 use Rattle.sd_stream.specs.Whole.{AppendsBeginning, ReadsPart}
 use Rattle.sd_stream.specs.declared.error.RunError.{RunError}
 use Rattle.sd_stream.specs.declared.error.RunError.TheVariants.{Read, TooLong, Write, Memory, Thread}
 use Rattle.sd_script.specs.Output.{Prints}
-use Rattle.sd_script.specs.Run.{LeavesOutput}
+use Rattle.sd_script.specs.Run.{AppendsOutput, IsOutput, LeavesOutput}
+use Rattle.sd_sid.specs.Mapping.{MappingValue}
 use Rattle.sd_script_audit.specs.Audit.{PrintsAudit}
-use Rattle.sd_tool.specs.Answer.{AnswerValue, Answers}
-use Rattle.sd_tool.specs.CommandLine.{CommandLineValue, IsAudit, Script, Audit, reading}
-use Rattle.sd_tool.specs.Options.{OptionsValue}
+use Rattle.sd_script_serve.specs.Serve.{LeavesAnswers}
+use Rattle.sd_tool.specs.Answer.{AnswerValue, Answers, IsBadValue}
+use Rattle.sd_tool.specs.CommandLine.{CommandLineValue, InvocationValue, IsAudit, Verdict, Why, Lint, Print, ToBinary, FromBinary, Script, Serve, Audit, Each, Help, Version, reading, runs_script}
+use Rattle.sd_tool.specs.Options.{AreSettings, HasBadValue, OptionsValue}
+use Rattle.sd_tool.specs.declared.answer.Outcome.{Outcome}
 use Rattle.sd_tool.specs.declared.answer.Outcome.TheVariants.{Done}
-use Rattle.sd_tool.specs.Output.{AppendsPartOfAnswer, IsDue, LeavesAnswer, LeavesAtFailure, LeavesByLine, blames_reader, blames_writer, error_line, failure_text}
-use Rattle.sd_tool.specs.Status.{failure_status}
-use Rattle.sd_tool.specs.declared.program.Ended.{Ended}
+use Rattle.sd_tool.specs.declared.options.BadValue.{BadValue}
+use Rattle.sd_tool.specs.declared.options.Settings.{Settings}
+use Rattle.sd_tool.specs.Output.{AppendsAnswerTo, AppendsPartOfAnswer, IsDue, LeavesAfter, LeavesAfterFailure, LeavesAnswerTo, LeavesAtFailure, LeavesByLine, blames_reader, blames_writer, error_line, failure_text}
+use Rattle.sd_tool.specs.Status.{failure_status, outcome_status}
+use Rattle.sd_tool.specs.declared.perform.Ended.{Ended}
 use Rattle.sd_tool.specs.declared.failure.Failure.{Failure}
 use Rattle.sd_tool.specs.declared.failure.Failure.TheVariants.{Unread, Run}
 
@@ -47,56 +53,109 @@ abbrev Left : List (Bor (List ℕ)) → Option (List ℕ) → Option (List ℕ) 
 Left words input left old new =
     Keeps old new ⊎ (AppendsPartOfAnswer words input old new ⊎ ((error : RunError) × LeavesByLine words input left old new error))
 
-answer_left : (words : List (Bor (List ℕ))) (input left old new : Option (List ℕ)) (error : RunError)
-    → LeavesAnswer words input old new error → Left words input left old new
-answer_left words input left old new Read leaves = inl leaves
-answer_left words input left old new TooLong leaves = inl leaves
-answer_left words input left old new Write leaves = inr (inl leaves)
-answer_left words input left old new Memory leaves = inl leaves
-answer_left words input left old new Thread leaves = inl leaves
+answer_left : (words : List (Bor (List ℕ))) (input left old new : Option (List ℕ)) (line : CommandLineValue) (error : RunError)
+    → reading words ≡ Some line → LeavesAfter line input left old new error → Left words input left old new
+answer_left words input left old new line Read asked (inl leaves) = inl leaves
+answer_left words input left old new line TooLong asked (inl leaves) = inl leaves
+answer_left words input left old new line Write asked (inl leaves) = inr (inl (line, asked, leaves))
+answer_left words input left old new line Memory asked (inl leaves) = inl leaves
+answer_left words input left old new line Thread asked (inl leaves) = inl leaves
+answer_left words input left old new line error asked (inr served) = inr (inr (error, (line, asked, served)))
 
 pub failure_left : (failure : Failure) (words : List (Bor (List ℕ))) (input left old new : Option (List ℕ))
     → LeavesAtFailure words input left old new failure → Left words input left old new
 failure_left (Unread reason) words input left old new leaves = inl leaves.1
-failure_left (Run error) words input left old new (inl leaves) = answer_left words input left old new error leaves
-failure_left (Run error) words input left old new (inr served) = inr (inr (error, served))
+failure_left (Run error) words input left old new (inl kept) = inl kept
+failure_left (Run error) words input left old new (inr leaves) = answer_left words input left old new leaves.0 error leaves.1 leaves.2
 
--- what an error leaves of a script's output, or of an audit's, it leaves of the answer
-pub leaves_script : (words : List (Bor (List ℕ))) (input old new : Option (List ℕ)) (options : OptionsValue) (error : RunError)
-    → reading words ≡ Some (record { options = options; invocation = Script })
-    → LeavesOutput Prints input old new error → LeavesAnswer words input old new error
-leaves_script words input old new options Read asked leaves = leaves
-leaves_script words input old new options TooLong asked leaves = leaves
-leaves_script words input old new options Write asked part = record {
-  command_line = record { options = options; invocation = Script };
-  answer = record { printed = part.printed; told = []; outcome = Done };
-  asked = asked;
-  answers = (part.output, refl, refl);
-  beginning = part.beginning;
+-- what a command line's failure leaves, the words' does
+pub words_leave : (words : List (Bor (List ℕ))) (input left old new : Option (List ℕ)) (line : CommandLineValue) (failure : Failure)
+    → reading words ≡ Some line → LeavesAfterFailure line input left old new failure → LeavesAtFailure words input left old new failure
+words_leave words input left old new line (Unread reason) asked leaves = absurd leaves
+words_leave words input left old new line (Run error) asked leaves = inr (line, asked, leaves)
+
+-- ---- an output that is the answer to a line
+
+module _ (line : CommandLineValue) (prints : List ℕ → List ℕ → Type 0) (input : Option (List ℕ))
+    (answers : (printed : List ℕ) → IsOutput prints input printed → Answers input line (record { printed = printed; told = []; outcome = Done })) where
+  pub output_answers : (old new : Option (List ℕ)) → AppendsOutput prints input old new → AppendsAnswerTo line input old new [] 0
+  output_answers old new out = record { text = out.printed; outcome = Done; answers = answers out.printed out.output; ended = refl; appended = out.appended }
+
+  -- what an error leaves of the output, it leaves of the answer
+  pub output_leaves : (old new : Option (List ℕ)) (error : RunError) → LeavesOutput prints input old new error → LeavesAnswerTo line input old new error
+  output_leaves old new Read leaves = leaves
+  output_leaves old new TooLong leaves = leaves
+  output_leaves old new Write part = record {
+    answer = record { printed = part.printed; told = []; outcome = Done };
+    answers = answers part.printed part.output;
+    beginning = part.beginning;
+  }
+  output_leaves old new Memory leaves = leaves
+  output_leaves old new Thread leaves = leaves
+
+module _ (options : OptionsValue) (settings : Settings) (said : AreSettings options settings) (input : Option (List ℕ)) where
+  pub script_answers : (printed : List ℕ) → IsOutput (Prints settings.mapping) input printed
+      → Answers input (record { options = options; invocation = Script }) (record { printed = printed; told = []; outcome = Done })
+  script_answers printed is = inl (settings, said, (is, refl, refl))
+
+  pub served_answers : (printed : List ℕ) → IsOutput (Prints settings.mapping) input printed
+      → Answers input (record { options = options; invocation = Serve }) (record { printed = printed; told = []; outcome = Done })
+  served_answers printed is = inl (settings, said, (is, refl, refl))
+
+  pub audit_answers : (workers : ℕ) (printed : List ℕ) → IsOutput (PrintsAudit settings.mapping workers) input printed
+      → Answers input (record { options = options; invocation = Audit workers }) (record { printed = printed; told = []; outcome = Done })
+  audit_answers workers printed is = inl (settings, said, (is, refl, refl))
+
+-- ---- an answer that is printed
+
+pub print_answers : (line : CommandLineValue) (input old new : Option (List ℕ)) (answer : AnswerValue) (told : List ℕ) (outcome : Outcome)
+    → Answers input line answer → Appends old new answer.printed → told ≡ answer.told → outcome ≡ answer.outcome
+    → AppendsAnswerTo line input old new told (outcome_status outcome)
+print_answers line input old new answer told outcome answers grown says ended = record {
+  text = answer.printed;
+  outcome = outcome;
+  answers = rw (says, ended) answers;
+  ended = refl;
+  appended = grown;
 }
-leaves_script words input old new options Memory asked leaves = leaves
-leaves_script words input old new options Thread asked leaves = leaves
 
-pub leaves_audit : (words : List (Bor (List ℕ))) (input old new : Option (List ℕ)) (options : OptionsValue) (workers : ℕ) (error : RunError)
-    → reading words ≡ Some (record { options = options; invocation = Audit workers })
-    → LeavesOutput (PrintsAudit workers) input old new error → LeavesAnswer words input old new error
-leaves_audit words input old new options workers Read asked leaves = leaves
-leaves_audit words input old new options workers TooLong asked leaves = leaves
-leaves_audit words input old new options workers Write asked part = record {
-  command_line = record { options = options; invocation = Audit workers };
-  answer = record { printed = part.printed; told = []; outcome = Done };
-  asked = asked;
-  answers = (part.output, refl, refl);
-  beginning = part.beginning;
-}
-leaves_audit words input old new options workers Memory asked leaves = leaves
-leaves_audit words input old new options workers Thread asked leaves = leaves
+pub print_leaves : (line : CommandLineValue) (input old new : Option (List ℕ)) (answer : AnswerValue)
+    → Answers input line answer → AppendsBeginning old new answer.printed → LeavesAnswerTo line input old new Write
+print_leaves line input old new answer answers begun = record { answer = answer; answers = answers; beginning = begun }
 
--- a write that failed leaves a beginning of the answer
-pub leaves_write : (words : List (Bor (List ℕ))) (input old new : Option (List ℕ)) (line : CommandLineValue) (answer : AnswerValue) (error : RunError)
-    → reading words ≡ Some line → Answers input line answer → error ≡ Write → AppendsBeginning old new answer.printed → LeavesAnswer words input old new error
-leaves_write words input old new line answer Read asked answers is begun = absurd (cc (is))
-leaves_write words input old new line answer TooLong asked answers is begun = absurd (cc (is))
-leaves_write words input old new line answer Write asked answers is begun = record { command_line = line; answer = answer; asked = asked; answers = answers; beginning = begun }
-leaves_write words input old new line answer Memory asked answers is begun = absurd (cc (is))
-leaves_write words input old new line answer Thread asked answers is begun = absurd (cc (is))
+pub print_fails : {T : Type 0} (r : Result T Failure) (line : CommandLineValue) (input left old new : Option (List ℕ)) (answer : AnswerValue)
+    → Answers input line answer → IfErr r (λ failure. (failure ≡ Run Write) × AppendsBeginning old new answer.printed)
+    → IfErr r (LeavesAfterFailure line input left old new)
+print_fails (Ok x) line input left old new answer answers fails = tt
+print_fails (Err failure) line input left old new answer answers fails = rw (fails.0) (inl (print_leaves line input old new answer answers fails.1))
+
+-- a script whose mapping isn't read
+pub bad_answers : (input : Option (List ℕ)) (options : OptionsValue) (invocation : InvocationValue) (bad : BadValue) (answer : AnswerValue)
+    → runs_script invocation ≡ true → HasBadValue options bad → IsBadValue bad answer
+    → Answers input (record { options = options; invocation = invocation }) answer
+bad_answers input options Script bad answer runs has is = inr (bad, has, is)
+bad_answers input options Serve bad answer runs has is = inr (bad, has, is)
+bad_answers input options (Audit workers) bad answer runs has is = inr (bad, has, is)
+bad_answers input options (Verdict sddl user mask words) bad answer runs has is = absurd (cc (runs))
+bad_answers input options (Why sddl user mask words) bad answer runs has is = absurd (cc (runs))
+bad_answers input options (Lint sddl) bad answer runs has is = absurd (cc (runs))
+bad_answers input options (Print sddl) bad answer runs has is = absurd (cc (runs))
+bad_answers input options (ToBinary sddl) bad answer runs has is = absurd (cc (runs))
+bad_answers input options (FromBinary bytes) bad answer runs has is = absurd (cc (runs))
+bad_answers input options (Each ending request) bad answer runs has is = absurd (cc (runs))
+bad_answers input options (Help command) bad answer runs has is = absurd (cc (runs))
+bad_answers input options Version bad answer runs has is = absurd (cc (runs))
+
+-- ---- line by line
+
+-- too long a line is too much that was read
+pub served_too_much : (g : MappingValue) (input left old new : Option (List ℕ)) → LeavesAnswers g input left old new TooLong → ReadsPart input left TooLong
+served_too_much g input left old new leaves =
+    let parts = leaves.rest in
+    let long : length (leaves.ended ++ leaves.behind) ≡ length leaves.ended + (length parts.0 + length parts.1) =
+    length-append leaves.ended leaves.behind ∙ ap (λ n. length leaves.ended + n) (ap length parts.2 ∙ length-append parts.0 parts.1) in
+    record { part = leaves.ended ++ leaves.behind; consumed = leaves.consumed; fits = omega (arith, parts.4, long) }
+
+pub fails_so : {T : Type 0} (P : RunError → Type 0) (r : Result T RunError) (error : RunError) → IfErr r P → r ≡ Err error → P error
+fails_so P (Ok x) error given is = absurd (cc (is))
+fails_so P (Err e) error given is = let same : e ≡ error = cc (is) in subst P same given

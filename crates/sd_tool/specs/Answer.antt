@@ -205,12 +205,13 @@ AnswersFromBinary settings written answer = AnswersDecoded settings (bytes_read 
 -- ---- scripts
 
 -- the output of the script on the input
-abbrev pub AnswersScript : Option (List ℕ) → AnswerValue → Type 0
-AnswersScript input answer = IsOutput Prints input answer.printed × (answer.told ≡ []) × (answer.outcome ≡ Done)
+abbrev pub AnswersScript : Option (List ℕ) → Settings → AnswerValue → Type 0
+AnswersScript input settings answer = IsOutput (Prints settings.mapping) input answer.printed × (answer.told ≡ []) × (answer.outcome ≡ Done)
 
 -- the output of the audit of the script on the input
-abbrev pub AnswersAudit : ℕ → Option (List ℕ) → AnswerValue → Type 0
-AnswersAudit workers input answer = IsOutput (PrintsAudit workers) input answer.printed × (answer.told ≡ []) × (answer.outcome ≡ Done)
+abbrev pub AnswersAudit : ℕ → Option (List ℕ) → Settings → AnswerValue → Type 0
+AnswersAudit workers input settings answer =
+    IsOutput (PrintsAudit settings.mapping workers) input answer.printed × (answer.told ≡ []) × (answer.outcome ≡ Done)
 
 -- ---- command lines
 
@@ -236,11 +237,14 @@ IsBadValue (NoDomain text) answer =
     × IsFault (fault_line (codes "domain")) (told_line (codes "--domain") reason) answer
 IsBadValue NoMapping answer = IsFault (fault_line (codes "mapping")) (told_line (codes "--mapping") (codes "no such mapping")) answer
 
--- the same where the settings are those that the options say; or one of their values isn't read
-abbrev pub AnswersArguments : OptionsValue → InvocationValue → AnswerValue → Type 0
-AnswersArguments options invocation answer =
-    ((settings : Settings) × AreSettings options settings × AnswersUnder settings invocation answer)
+-- an answer under the settings that the options say; or one of their values isn't read
+abbrev pub AnswersWith : OptionsValue → (Settings → AnswerValue → Type 0) → AnswerValue → Type 0
+AnswersWith options Answers answer =
+    ((settings : Settings) × AreSettings options settings × Answers settings answer)
     ⊎ ((bad : BadValue) × HasBadValue options bad × IsBadValue bad answer)
+
+abbrev pub AnswersArguments : OptionsValue → InvocationValue → AnswerValue → Type 0
+AnswersArguments options invocation answer = AnswersWith options (λ settings. AnswersUnder settings invocation) answer
 
 -- ---- of each line
 
@@ -286,9 +290,9 @@ pub record AppendsEach (options : OptionsValue) (ending : Ending) (request : Req
 
 -- what is printed for a command line, with this input where it is known, and what came of it
 abbrev pub AnswersInvocation : Option (List ℕ) → OptionsValue → InvocationValue → AnswerValue → Type 0
-AnswersInvocation input options AsksScript answer = AnswersScript input answer
-AnswersInvocation input options AsksServe answer = AnswersScript input answer
-AnswersInvocation input options (AsksAudit workers) answer = AnswersAudit workers input answer
+AnswersInvocation input options AsksScript answer = AnswersWith options (AnswersScript input) answer
+AnswersInvocation input options AsksServe answer = AnswersWith options (AnswersScript input) answer
+AnswersInvocation input options (AsksAudit workers) answer = AnswersWith options (AnswersAudit workers input) answer
 AnswersInvocation input options (AsksEach ending request) answer = AnswersEach options ending request input answer
 AnswersInvocation input options invocation answer = AnswersArguments options invocation answer
 

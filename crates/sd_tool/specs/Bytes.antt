@@ -1,6 +1,7 @@
 -- Bytes as a text spells them, and a SACL in them that is passed over.
-use Rattle.std.specs.Prelude.{◌≡◌, ℕ, ◌==◌, ◌&&◌, nat_le, not, Bool, List, ◌++◌, length, string_bytes, slice_index, slice_set, bit_and, Result, Ok, Err, if◌then◌else◌, codes}
+use Rattle.std.specs.Prelude.{◌≡◌, ℕ, ◌+◌, ◌==◌, ◌&&◌, ◌||◌, nat_le, not, Bool, List, [], ◌∷◌, ◌++◌, length, string_bytes, slice_index, slice_set, bit_and, Result, Ok, Err, if◌then◌else◌, codes}
 use Rattle.std.specs.Fmt.{decimal}
+use Rattle.std.specs.List.{slice_split}
 use Rattle.base64.specs.Engines.{standard}
 use Rattle.base64.specs.GeneralPurpose as base64
 use Rattle.base64.specs.declared.decode.DecodeError.{DecodeError}
@@ -11,7 +12,7 @@ use Rattle.hex.specs.declared.FromHexError.TheVariants.{InvalidHexCharacter, Odd
 use Rattle.sd_tool.specs.declared.bytes.BytesError.{BytesError}
 use Rattle.sd_tool.specs.declared.bytes.BytesError.TheVariants.{NoBytes, Memory}
 use Rattle.sd_tool.specs.declared.options.ByteForm.{ByteForm}
-use Rattle.sd_tool.specs.declared.options.ByteForm.TheVariants.{Hex, Base64}
+use Rattle.sd_tool.specs.declared.options.ByteForm.TheVariants.{Hex, Loose, Base64}
 
 -- why a text isn't bytes in its form: what is wrong with it, and where; what is missing is missing at its end
 abbrev pub hex_reason : List ℕ → FromHexError → List ℕ
@@ -30,18 +31,52 @@ abbrev pub reasoned : {E : Type 0} → (E → List ℕ) → Result (List ℕ) E 
 reasoned reason (Ok bytes) = Ok bytes
 reasoned reason (Err e) = Err (reason e)
 
+-- ---- hexadecimal with signs between bytes
+
+-- what may stand between two bytes: a tab, the end of a line, a space, a comma or a backslash
+abbrev pub is_between : ℕ → Bool
+is_between b = b == 9 || b == 10 || b == 13 || b == 32 || b == 44 || b == 92
+
+-- a part without one `0x` at its front
+abbrev pub digits_of : List ℕ → List ℕ
+digits_of [] = []
+digits_of (b ∷ []) = b ∷ []
+digits_of (a ∷ b ∷ digits) = if a == 48 && (b == 120 || b == 88) then digits else a ∷ b ∷ digits
+
+-- the bytes of the part that begins at this byte of the text, or that it spells none
+abbrev pub part_read : ℕ → List ℕ → Result (List ℕ) (List ℕ)
+part_read place part = reasoned (λ error. codes "no bytes at " ++ decimal place) (hex.decode_of (digits_of part))
+
+abbrev pub joined : Result (List ℕ) (List ℕ) → Result (List ℕ) (List ℕ) → Result (List ℕ) (List ℕ)
+joined (Ok bytes) (Ok more) = Ok (bytes ++ more)
+joined (Ok bytes) (Err reason) = Err reason
+joined (Err reason) more = Err reason
+
+-- the bytes of the parts, one behind the other, of which the first begins at this byte of the text; or why there are none
+unfoldable pub parts_read : ℕ → List (List ℕ) → Result (List ℕ) (List ℕ)
+parts_read place [] = Ok []
+parts_read place (part ∷ parts) = joined (part_read place part) (parts_read (place + length part + 1) parts)
+
+-- ---- by form
+
 -- the bytes that the text spells, or why it spells none
 abbrev pub bytes_read : ByteForm → List ℕ → Result (List ℕ) (List ℕ)
 bytes_read Hex text = reasoned (hex_reason text) (hex.decode_of text)
+bytes_read Loose text = parts_read 0 (slice_split is_between text)
 bytes_read Base64 text = reasoned (base64_reason text) (base64.decode_of standard text)
 
 abbrev pub IsBytesError : ByteForm → List ℕ → BytesError → Type 0
 IsBytesError form text (NoBytes reason) = bytes_read form text ≡ Err (string_bytes reason)
 IsBytesError form text Memory = Unit {0}
 
+abbrev pub IsPartError : ℕ → List ℕ → BytesError → Type 0
+IsPartError place part (NoBytes reason) = part_read place part ≡ Err (string_bytes reason)
+IsPartError place part Memory = Unit {0}
+
 -- what the text should have been
 abbrev pub form_name : ByteForm → List ℕ
 form_name Hex = codes "hex"
+form_name Loose = codes "hex"
 form_name Base64 = codes "base64"
 
 -- ---- a SACL

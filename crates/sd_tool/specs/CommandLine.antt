@@ -212,7 +212,14 @@ abbrev pub maps : InvocationValue → Bool
 maps (Verdict sddl user mask words) = true
 maps (Why sddl user mask words) = true
 maps (Lint sddl) = true
+maps Script = true
+maps Serve = true
+maps (Audit workers) = true
 maps invocation = false
+
+-- whether at most one option spells bytes, and that where bytes are read
+abbrev pub spells_bytes : InvocationValue → OptionsValue → Bool
+spells_bytes invocation options = if reads_bytes invocation then not (options.base64 && options.loose) else not (options.base64 || options.loose)
 
 -- whether each of the options is for what is asked
 abbrev pub takes : InvocationValue → OptionsValue → Bool
@@ -221,7 +228,7 @@ takes invocation options =
     && (reads_text invocation || is_none options.domain)
     && (maps invocation || is_none options.mapping)
     && (reads_text invocation || reads_bytes invocation || not options.without_sacl)
-    && (reads_bytes invocation || not options.base64)
+    && spells_bytes invocation options
 
 abbrev pub with_options : OptionsValue → InvocationValue → Option CommandLineValue
 with_options options invocation = if takes (asked_by invocation) options then Some (record { options = options; invocation = invocation }) else None
@@ -269,6 +276,13 @@ is_script (FromBinary bytes) = false
 is_script (Help command) = false
 is_script Version = false
 
+-- whether what is asked for is a script, at once, line by line or as an audit
+abbrev pub runs_script : InvocationValue → Bool
+runs_script Script = true
+runs_script Serve = true
+runs_script (Audit workers) = true
+runs_script invocation = false
+
 -- the words ask for what is answered from the input
 abbrev pub asks_input : List (Bor (List ℕ)) → Bool
 asks_input words = option_map_or (λ line. is_script line.invocation) (reading words) false
@@ -276,11 +290,3 @@ asks_input words = option_map_or (λ line. is_script line.invocation) (reading w
 -- the words ask for an audit
 abbrev pub IsAudit : List (Bor (List ℕ)) → Type 0
 IsAudit words = (workers : ℕ) × (option_map (λ line. line.invocation) (reading words) ≡ Some (Audit workers))
-
--- the words ask for a script that is answered line by line
-abbrev pub IsServe : List (Bor (List ℕ)) → Type 0
-IsServe words = option_map (λ line. line.invocation) (reading words) ≡ Some Serve
-
--- the words ask for an answer to each line
-abbrev pub IsEach : List (Bor (List ℕ)) → OptionsValue → Ending → RequestValue → Type 0
-IsEach words options ending request = reading words ≡ Some (record { options = options; invocation = Each ending request })

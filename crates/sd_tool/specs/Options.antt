@@ -9,7 +9,7 @@ use Rattle.sd_script.specs.declared.spelling.Spelling.{Spelling}
 use Rattle.sd_script.specs.declared.spelling.Spelling.TheVariants.{Number, Names as ByNames}
 use Rattle.sd_tool.specs.Mapping.{GivesMapping, GivesNoMapping}
 use Rattle.sd_tool.specs.declared.options.Flag.{Flag}
-use Rattle.sd_tool.specs.declared.options.Flag.TheVariants.{Names, WithoutSacl, Base64}
+use Rattle.sd_tool.specs.declared.options.Flag.TheVariants.{Names, WithoutSacl, Base64, Loose}
 use Rattle.sd_tool.specs.declared.options.Setting.{Setting}
 use Rattle.sd_tool.specs.declared.options.Setting.TheVariants.{InDomain, Mapping}
 use Rattle.sd_tool.specs.declared.options.ByteForm.{ByteForm}
@@ -24,6 +24,7 @@ pub record OptionsValue : Type 0 where
   pub names : Bool
   pub without_sacl : Bool
   pub base64 : Bool
+  pub loose : Bool
   pub domain : Option (List ℕ)
   pub mapping : Option (List ℕ)
 
@@ -32,12 +33,13 @@ options_of options = record {
   names = options.names;
   without_sacl = options.without_sacl;
   base64 = options.base64;
+  loose = options.loose;
   domain = option_map (λ text. text.now) options.domain;
   mapping = option_map (λ text. text.now) options.mapping;
 }
 
 abbrev pub no_options : OptionsValue
-no_options = record { names = false; without_sacl = false; base64 = false; domain = None; mapping = None }
+no_options = record { names = false; without_sacl = false; base64 = false; loose = false; domain = None; mapping = None }
 
 -- the option without a value that the word names
 abbrev pub flag_named : List ℕ → Option Flag
@@ -45,7 +47,8 @@ flag_named word =
     if bytes_eq word (codes "--names") then Some Names
     else (if bytes_eq word (codes "--without-sacl") then Some WithoutSacl
     else (if bytes_eq word (codes "--base64") then Some Base64
-    else None))
+    else (if bytes_eq word (codes "--loose") then Some Loose
+    else None)))
 
 -- the option with a value that the word names
 abbrev pub setting_named : List ℕ → Option Setting
@@ -59,6 +62,7 @@ abbrev pub with_flag : OptionsValue → Flag → Option OptionsValue
 with_flag options Names = if options.names then None else Some (record options { names = true })
 with_flag options WithoutSacl = if options.without_sacl then None else Some (record options { without_sacl = true })
 with_flag options Base64 = if options.base64 then None else Some (record options { base64 = true })
+with_flag options Loose = if options.loose then None else Some (record options { loose = true })
 
 abbrev pub with_setting : OptionsValue → Setting → List ℕ → Option OptionsValue
 with_setting options InDomain value = if is_some options.domain then None else Some (record options { domain = Some value })
@@ -91,7 +95,7 @@ spelling_of options = if options.names then ByNames else Number
 
 -- how bytes are spelled
 abbrev pub byte_form_of : OptionsValue → ByteForm
-byte_form_of options = if options.base64 then forms.Base64 else forms.Hex
+byte_form_of options = if options.base64 then forms.Base64 else if options.loose then forms.Loose else forms.Hex
 
 -- the text is the SID of this domain, or neither is there
 abbrev pub GivesDomain : Option (List ℕ) → Option Domain → Type 0

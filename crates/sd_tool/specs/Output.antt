@@ -10,61 +10,83 @@ use Rattle.sd_script_serve.specs.Serve.{LeavesAnswers}
 use Rattle.sd_each.specs.Answers.{LeavesAnswers as LeavesLines}
 use Rattle.sd_each.specs.declared.ending.Ending.{Ending}
 use Rattle.sd_tool.specs.Answer.{AnswerValue, Answers, AnswersLine}
-use Rattle.sd_tool.specs.CommandLine.{CommandLineValue, RequestValue, reading, IsAudit, IsEach, IsServe, IsUnread}
-use Rattle.sd_tool.specs.Options.{OptionsValue}
+use Rattle.sd_tool.specs.CommandLine.{CommandLineValue, RequestValue, Each, Serve, reading, IsAudit, IsUnread}
+use Rattle.sd_tool.specs.Options.{AreSettings}
 use Rattle.sd_tool.specs.Status.{outcome_status}
 use Rattle.sd_tool.specs.declared.answer.Outcome.{Outcome}
+use Rattle.sd_tool.specs.declared.options.Settings.{Settings}
 use Rattle.sd_tool.specs.declared.failure.Failure.{Failure}
 use Rattle.sd_tool.specs.declared.failure.Failure.TheVariants.{Unread, Run}
 
--- known bytes grow by the whole answer to what the words ask for, with this input; this is told beside it, and it ends with
--- this status
-pub record AppendsAnswer (words : List (Bor (List ℕ))) (input old new : Option (List ℕ)) (told : List ℕ) (status : ℕ) : Type 0 where
-  pub command_line : CommandLineValue
+-- ---- of a command line
+
+-- known bytes grow by the whole answer, with this input; this is told beside it, and it ends with this status
+pub record AppendsAnswerTo (line : CommandLineValue) (input old new : Option (List ℕ)) (told : List ℕ) (status : ℕ) : Type 0 where
   pub text : List ℕ
   pub outcome : Outcome
-  pub asked : reading words ≡ Some command_line
-  pub answers : Answers input command_line (record { printed = text; told = told; outcome = outcome })
+  pub answers : Answers input line (record { printed = text; told = told; outcome = outcome })
   pub ended : status ≡ outcome_status outcome
   pub appended : Appends old new text
 
--- known bytes grow by a beginning of the answer to what the words ask for
-pub record AppendsPartOfAnswer (words : List (Bor (List ℕ))) (input old new : Option (List ℕ)) : Type 0 where
-  pub command_line : CommandLineValue
+-- known bytes grow by a beginning of the answer
+pub record AppendsPartOfAnswerTo (line : CommandLineValue) (input old new : Option (List ℕ)) : Type 0 where
   pub answer : AnswerValue
-  pub asked : reading words ≡ Some command_line
-  pub answers : Answers input command_line answer
+  pub answers : Answers input line answer
   pub beginning : AppendsBeginning old new answer.printed
 
 -- nothing was written before an error, but for a write's own
-abbrev pub LeavesAnswer : List (Bor (List ℕ)) → Option (List ℕ) → Option (List ℕ) → Option (List ℕ) → RunError → Type 0
-LeavesAnswer words input old new Read = Keeps old new
-LeavesAnswer words input old new TooLong = Keeps old new
-LeavesAnswer words input old new Write = AppendsPartOfAnswer words input old new
-LeavesAnswer words input old new Memory = Keeps old new
-LeavesAnswer words input old new Thread = Keeps old new
+abbrev pub LeavesAnswerTo : CommandLineValue → Option (List ℕ) → Option (List ℕ) → Option (List ℕ) → RunError → Type 0
+LeavesAnswerTo line input old new Read = Keeps old new
+LeavesAnswerTo line input old new TooLong = Keeps old new
+LeavesAnswerTo line input old new Write = AppendsPartOfAnswerTo line input old new
+LeavesAnswerTo line input old new Memory = Keeps old new
+LeavesAnswerTo line input old new Thread = Keeps old new
 
 -- line by line, what was answered until then
-pub record LeavesServed (words : List (Bor (List ℕ))) (input left old new : Option (List ℕ)) (error : RunError) : Type 0 where
-  pub asked : IsServe words
-  pub answers : LeavesAnswers input left old new error
+pub record LeavesServed (line : CommandLineValue) (input left old new : Option (List ℕ)) (error : RunError) : Type 0 where
+  pub settings : Settings
+  pub asked : line.invocation ≡ Serve
+  pub said : AreSettings line.options settings
+  pub answers : LeavesAnswers settings.mapping input left old new error
 
 -- the answers to the lines of an input, as far as it came
-pub record LeavesEach (words : List (Bor (List ℕ))) (input left old new : Option (List ℕ)) (error : RunError) : Type 0 where
-  pub options : OptionsValue
+pub record LeavesEach (line : CommandLineValue) (input left old new : Option (List ℕ)) (error : RunError) : Type 0 where
   pub ending : Ending
   pub request : RequestValue
-  pub asked : IsEach words options ending request
-  pub answers : LeavesLines (AnswersLine options request) ending input left old new error
+  pub asked : line.invocation ≡ Each ending request
+  pub answers : LeavesLines (AnswersLine line.options request) ending input left old new error
 
 -- what was answered line by line until then
+abbrev pub LeavesLinesOf : CommandLineValue → Option (List ℕ) → Option (List ℕ) → Option (List ℕ) → Option (List ℕ) → RunError → Type 0
+LeavesLinesOf line input left old new error = LeavesServed line input left old new error ⊎ LeavesEach line input left old new error
+
+-- what stands where the answer isn't there, or not the whole of it
+abbrev pub LeavesAfter : CommandLineValue → Option (List ℕ) → Option (List ℕ) → Option (List ℕ) → Option (List ℕ) → RunError → Type 0
+LeavesAfter line input left old new error = LeavesAnswerTo line input old new error ⊎ LeavesLinesOf line input left old new error
+
+abbrev pub LeavesAfterFailure : CommandLineValue → Option (List ℕ) → Option (List ℕ) → Option (List ℕ) → Option (List ℕ) → Failure → Type 0
+LeavesAfterFailure line input left old new (Unread reason) = ⊥
+LeavesAfterFailure line input left old new (Run error) = LeavesAfter line input left old new error
+
+-- ---- of words
+
+-- the same where this holds of the command line that the words are
+abbrev pub OfReading : List (Bor (List ℕ)) → (CommandLineValue → Type 0) → Type 0
+OfReading words Holds = (line : CommandLineValue) × (reading words ≡ Some line) × Holds line
+
+abbrev pub AppendsAnswer : List (Bor (List ℕ)) → Option (List ℕ) → Option (List ℕ) → Option (List ℕ) → List ℕ → ℕ → Type 0
+AppendsAnswer words input old new told status = OfReading words (λ line. AppendsAnswerTo line input old new told status)
+
+abbrev pub AppendsPartOfAnswer : List (Bor (List ℕ)) → Option (List ℕ) → Option (List ℕ) → Option (List ℕ) → Type 0
+AppendsPartOfAnswer words input old new = OfReading words (λ line. AppendsPartOfAnswerTo line input old new)
+
 abbrev pub LeavesByLine : List (Bor (List ℕ)) → Option (List ℕ) → Option (List ℕ) → Option (List ℕ) → Option (List ℕ) → RunError → Type 0
-LeavesByLine words input left old new error = LeavesServed words input left old new error ⊎ LeavesEach words input left old new error
+LeavesByLine words input left old new error = OfReading words (λ line. LeavesLinesOf line input left old new error)
 
 -- what stands where there is no answer, or not the whole of it
 abbrev pub LeavesAtFailure : List (Bor (List ℕ)) → Option (List ℕ) → Option (List ℕ) → Option (List ℕ) → Option (List ℕ) → Failure → Type 0
 LeavesAtFailure words input left old new (Unread reason) = IsUnread words × Keeps old new
-LeavesAtFailure words input left old new (Run error) = LeavesAnswer words input old new error ⊎ LeavesByLine words input left old new error
+LeavesAtFailure words input left old new (Run error) = Keeps old new ⊎ OfReading words (λ line. LeavesAfter line input left old new error)
 
 -- what standard error gets of an error
 abbrev pub error_line : RunError → List ℕ

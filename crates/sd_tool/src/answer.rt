@@ -111,7 +111,7 @@ fn answer_under(
 }
 
 /// The answer to an option whose value isn't read.
-fn bad_value(alloc: Global, bad: BadValue<'_>) -> Result<Answer, Failure>
+pub(crate) fn bad_value(alloc: Global, bad: BadValue<'_>) -> Result<Answer, Failure>
     ensures ok { IfOk result (λ answer. IsBadValue bad.entry (answer_of answer)) }
     ensures err { IfErr result (λ failure. failure ≡ Failure.Run RunError.Memory) }
 {

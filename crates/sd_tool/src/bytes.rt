@@ -4,6 +4,7 @@ ghost use Rattle.sd_tool.specs.declared.bytes.BytesError.TheVariants.{Memory};
 ghost use Rattle.sd_tool.specs.declared.options.ByteForm.TheVariants.{Hex, Base64};
 ghost use Rattle.sd_tool.specs.Bytes.{IsBytesError, base64_reason as base64_reason_of, bytes_read, form_name, has_sacl as has_sacl_of, hex_reason as hex_reason_of, without_sacl};
 
+use crate::loose::loose_bytes;
 use crate::options::ByteForm;
 use base64::engine::general_purpose::STANDARD;
 use base64::{DecodeAllocError, DecodeError};
@@ -41,7 +42,7 @@ impl ByteForm {
         ensures { result.now ≡ form_name self }
     {
         match self {
-            ByteForm::Hex => "hex",
+            ByteForm::Hex | ByteForm::Loose => "hex",
             ByteForm::Base64 => "base64",
         }
     }
@@ -54,6 +55,7 @@ pub(crate) fn read_bytes(alloc: Global, form: ByteForm, text: &str) -> Result<Ve
 {
     match form {
         ByteForm::Hex => hex_bytes(alloc, text),
+        ByteForm::Loose => loose_bytes(alloc, text.as_bytes()),
         ByteForm::Base64 => base64_bytes(alloc, text),
     }
 }

@@ -1,6 +1,6 @@
 //! The reading of a command line: what its words ask for.
 ghost use Rattle.std.specs.Prelude.{◌≡◌, Some, false, option_map};
-ghost use Rattle.sd_tool.specs.CommandLine.{Each, Help, asked_by as asked_of, arguments_in as arguments_of, command_in as command_at, command_line_of, command_named, command_on as command_of, count_of, each_in as each_at, each_on as each_of, explains as explains_of, help_on as help_of, invocation_of, of_line as invocation_on, request_in as request_at, request_of, request_on as request_by, is_help_flag as is_help_flag_of, is_script, maps as maps_of, reading, reads_bytes as reads_bytes_of, reads_text as reads_text_of, run_by as run_of, shown_by as shown_of, takes, workers_of};
+ghost use Rattle.sd_tool.specs.CommandLine.{Each, Help, asked_by as asked_of, arguments_in as arguments_of, command_in as command_at, command_line_of, command_named, command_on as command_of, count_of, each_in as each_at, each_on as each_of, explains as explains_of, help_on as help_of, invocation_of, of_line as invocation_on, request_in as request_at, request_of, request_on as request_by, is_help_flag as is_help_flag_of, is_script, maps as maps_of, reading, reads_bytes as reads_bytes_of, reads_text as reads_text_of, run_by as run_of, shown_by as shown_of, spells_bytes as spells_bytes_of, takes, workers_of};
 ghost use Rattle.sd_tool.specs.Options.{options_of};
 
 use crate::options::{Options, options_in};
@@ -158,7 +158,18 @@ impl<'a> Invocation<'a> {
             && (self.reads_text() || options.domain.is_none())
             && (self.maps() || options.mapping.is_none())
             && (self.reads_text() || self.reads_bytes() || !options.without_sacl)
-            && (self.reads_bytes() || !options.base64)
+            && self.spells_bytes(options)
+    }
+
+    /// Whether at most one option spells bytes, and that where bytes are read.
+    fn spells_bytes(self, options: Options<'_>) -> bool
+        ensures { result ≡ spells_bytes_of (invocation_of self.entry) (options_of options.entry) }
+    {
+        if self.reads_bytes() {
+            !(options.base64 && options.loose)
+        } else {
+            !(options.base64 || options.loose)
+        }
     }
 
     /// Whether rights may be told by their names.
@@ -195,7 +206,12 @@ impl<'a> Invocation<'a> {
     {
         matches!(
             self,
-            Invocation::Verdict { .. } | Invocation::Why { .. } | Invocation::Lint { .. }
+            Invocation::Verdict { .. }
+                | Invocation::Why { .. }
+                | Invocation::Lint { .. }
+                | Invocation::Script
+                | Invocation::Serve
+                | Invocation::Audit { .. }
         )
     }
 }

@@ -19,6 +19,8 @@ pub(crate) enum Flag {
     WithoutSacl,
     /// `--base64`.
     Base64,
+    /// `--loose`.
+    Loose,
 }
 
 /// An option whose value is the next word.
@@ -35,6 +37,8 @@ pub(crate) enum Setting {
 pub(crate) enum ByteForm {
     /// In hexadecimal, two digits a byte.
     Hex,
+    /// In hexadecimal, with signs between bytes.
+    Loose,
     /// In base64 (RFC 4648, section 4).
     Base64,
 }
@@ -57,6 +61,8 @@ pub(crate) struct Options<'a> {
     pub(crate) without_sacl: bool,
     /// `--base64`: bytes in base64.
     pub(crate) base64: bool,
+    /// `--loose`: bytes in hexadecimal with signs between them.
+    pub(crate) loose: bool,
     /// `--domain SID`: the aliases of a domain are read as SIDs of this one.
     pub(crate) domain: Option<&'a str>,
     /// `--mapping KIND`: what the generic rights stand for.
@@ -86,6 +92,7 @@ impl Flag {
             "--names" => Some(Flag::Names),
             "--without-sacl" => Some(Flag::WithoutSacl),
             "--base64" => Some(Flag::Base64),
+            "--loose" => Some(Flag::Loose),
             _ => None,
         }
     }
@@ -112,6 +119,7 @@ impl<'a> Options<'a> {
             names: false,
             without_sacl: false,
             base64: false,
+            loose: false,
             domain: None,
             mapping: None,
         }
@@ -140,6 +148,13 @@ impl<'a> Options<'a> {
                 true => None,
                 false => Some(Options {
                     base64: true,
+                    ..self
+                }),
+            },
+            Flag::Loose => match self.loose {
+                true => None,
+                false => Some(Options {
+                    loose: true,
                     ..self
                 }),
             },
@@ -205,6 +220,8 @@ impl<'a> Options<'a> {
     {
         if self.base64 {
             ByteForm::Base64
+        } else if self.loose {
+            ByteForm::Loose
         } else {
             ByteForm::Hex
         }

@@ -1,5 +1,5 @@
 //! The program over any words and streams: words in, an answer and a status out.
-ghost use Rattle.std.specs.Prelude.{◌≡◌, ◌≤◌, ◌⊎◌, ◌||◌, ℕ, List, [], false, Err, IfErr, IfOk, string_bytes};
+ghost use Rattle.std.specs.Prelude.{◌≡◌, ◌≤◌, ◌⊎◌, ◌||◌, ℕ, List, false, Err, IfErr, IfOk, string_bytes};
 ghost use Rattle.std.specs.Io.KnownBytes.{Keeps};
 ghost use Rattle.sd_stream.specs.Watched.{has_failed, inner_of};
 ghost use Rattle.sd_stream.specs.Whole.{AppendsBeginning, ReadsPart};
@@ -8,15 +8,10 @@ ghost use Rattle.sd_tool.specs.CommandLine.{IsAudit, IsUnread, asks_input};
 ghost use Rattle.sd_tool.specs.Output.{AppendsAnswer, AppendsPartOfAnswer, IsDue, LeavesAtFailure, LeavesByLine, blames_reader, blames_writer, error_line};
 ghost use Rattle.sd_tool.specs.Status.{outcome_status};
 
-use crate::answer::{Answer, Outcome, answer_to};
-use crate::command_line::{Invocation, read_command_line};
-use crate::each::{Question, answer_each};
+use crate::command_line::read_command_line;
 use crate::failure::Failure;
+use crate::perform::{Ended, perform};
 use crate::shown::shown_words;
-use sd_script::run;
-use sd_script_audit::run_audit;
-use sd_script_serve::serve;
-use sd_store::OpenGate;
 use sd_stream::{RunError, Watched, write_whole};
 use sd_usage::refusal;
 use std::alloc::{AllocError, Global};
@@ -87,26 +82,6 @@ fn tell<E: Write>(errors: &mut Watched<E>, text: &str)
     let _ = write_whole(errors, text.as_bytes());
 }
 
-/// What came of a run, and what standard error is told beside its output.
-#[derive(Debug, Drop)]
-struct Ended {
-    told: String,
-    outcome: Outcome,
-}
-
-impl Ended {
-    /// Nothing is told beside the output.
-    fn quiet(alloc: Global, outcome: Outcome) -> Ended
-        ensures told { string_bytes result.told ≡ [] }
-        ensures outcome { result.outcome ≡ outcome }
-    {
-        Ended {
-            told: String::new(alloc),
-            outcome,
-        }
-    }
-}
-
 /// Why the words aren't a command line. No control character of theirs stands in it.
 fn reason(alloc: Global, words: &[&str]) -> Result<String, AllocError> {
     let shown = shown_words(alloc, words)?;
@@ -114,7 +89,6 @@ fn reason(alloc: Global, words: &[&str]) -> Result<String, AllocError> {
     refusal(alloc, words.as_slice())
 }
 
-#[tactic(auto, using(crate::proofs::Telling::leaves_script, crate::proofs::Telling::leaves_audit, crate::proofs::Telling::leaves_write))]
 fn carry_out<T: Threads + Wait + Sync, R: Read, W: Write>(
     rt: &T,
     alloc: Global,
@@ -136,31 +110,5 @@ fn carry_out<T: Threads + Wait + Sync, R: Read, W: Write>(
     let Some(line) = read_command_line(words) else {
         return Err(Failure::Unread(reason(alloc, words)?));
     };
-    if let Invocation::Script = line.invocation {
-        run(alloc, reader, writer)?;
-        return Ok(Ended::quiet(alloc, Outcome::Done));
-    }
-    if let Invocation::Serve = line.invocation {
-        serve(alloc, reader, writer)?;
-        return Ok(Ended::quiet(alloc, Outcome::Done));
-    }
-    if let Invocation::Audit { workers } = line.invocation {
-        run_audit(rt, alloc, workers, reader, writer, &OpenGate)?;
-        return Ok(Ended::quiet(alloc, Outcome::Done));
-    }
-    if let Invocation::Each { ending, request } = line.invocation {
-        let question = Question {
-            options: line.options,
-            request,
-        };
-        let outcome = answer_each(alloc, question, ending, reader, writer)?;
-        return Ok(Ended::quiet(alloc, outcome));
-    }
-    let Answer {
-        text,
-        told,
-        outcome,
-    } = answer_to(alloc, line)?;
-    write_whole(writer, text.as_bytes())?;
-    Ok(Ended { told, outcome })
+    perform(rt, alloc, line, reader, writer)
 }

@@ -98,6 +98,9 @@ Example:
 const FROM_BINARY_NOTES: &str = "\
 A first '--' after 'frombin' is dropped. Options stand before 'frombin': 'sdstore help' tells them.
 
+With '--loose' tabs, spaces, commas, backslashes and line ends may stand between bytes, and '0x' at
+the front of what they part, as a .reg file or a dump has them.
+
 Example:
   sdstore frombin 010000801400000000000000000000000000000001020000000000052000000020020000";
 
@@ -116,8 +119,12 @@ Each line is a command, and is answered by a line; an empty line and one that be
   why I PATH USER MASK [WORD]...       asks why such a check is answered as it is
   show I PATH                          asks, as reader I, for the node's descriptor
 
+Generic rights are mapped as files', or as '--mapping' before 'script' tells: 'sdstore help verdict'
+has the kinds.
+
 Statuses:
   0  the script was carried out to its end, whatever its lines were answered
+  1  the fault of the option's value was printed, and the input not read
   2  the words aren't a command line
   3  memory was wanting, the input wasn't read or has more than 16777216 bytes, or the output
      didn't take the answer
@@ -128,9 +135,11 @@ Example:
 const SERVE_NOTES: &str = "\
 Each line is answered as by 'sdstore script', when it is read and before the next: a program may
 ask a line, wait for its answer and ask the next. There is no limit on the number of lines.
+'--mapping' stands before 'serve', as before 'script'.
 
 Statuses:
   0  the input ended, whatever its lines were answered
+  1  the fault of the option's value was printed, and the input not read
   2  the words aren't a command line
   3  memory was wanting, the input wasn't read, a line has more than 16777216 bytes, or the output
      didn't take an answer; the lines before are answered
@@ -143,10 +152,12 @@ Each line is answered as by 'sdstore script', but that
   open N SDDL                          opens the store for as many readers as there are workers
   check I PATH USER MASK [WORD]...     is kept, whatever its reader, and answered at the end
   tell, learn I L, why .., show I PATH are faults
-At the end all edits are published, and each check is answered by them, in order.
+At the end all edits are published, and each check is answered by them, in order. '--mapping' stands
+before 'audit', as before 'script'.
 
 Statuses:
   0  the audit was carried out to its end, whatever its lines were answered
+  1  the fault of the option's value was printed, and the input not read
   2  the words aren't a command line
   3  memory was wanting, the input wasn't read or has more than 16777216 bytes, the output didn't
      take the answer, or the workers got no answers
@@ -199,10 +210,14 @@ SACL in bytes, and tells of it on standard error";
 
 const BASE64: &str = "Before 'frombin': the bytes are in base64";
 
+const LOOSE: &str = "\
+Before 'frombin': the bytes are in hexadecimal, with '0x', tabs, spaces, commas, backslashes and line
+ends between them";
+
 const MAPPING: &str = "\
-Before 'verdict', 'why' and 'lint': what generic rights stand for: those of a file (as without this
-option), of a key of the registry, of a service or of a process, or R,W,X,A, the four masks of GR, GW,
-GX and GA";
+Before 'verdict', 'why', 'lint', 'script', 'serve' and 'audit': what generic rights stand for: those
+of a file (as without this option), of a key of the registry, of a service or of a process, or
+R,W,X,A, the four masks of GR, GW, GX and GA";
 
 const DOMAIN: &str = "\
 Before a command that reads SDDL: the aliases of a domain's accounts and groups, as DA, are read as
@@ -211,8 +226,9 @@ SIDs of the domain with this SID, S-1-5-21 and three more numbers, as S-1-5-21-1
 // What is told of options that `clap` would take with any command, or with a `=` before the value.
 const OPTIONS: &str = "\
 an option stands before the command, once, and its value is the next word: '--names' is for 'why' \
-alone, '--base64' for 'frombin', '--mapping' for 'verdict', 'why' and 'lint', '--domain' for these, \
-'print' and 'tobin', and '--without-sacl' for all of them";
+alone, '--base64' or '--loose' for 'frombin', '--mapping' for 'verdict', 'why', 'lint', 'script', \
+'serve' and 'audit', '--domain' for the first three, 'print' and 'tobin', and '--without-sacl' for \
+these and 'frombin'";
 
 // What is told of words that `clap` would answer with help or the version.
 const STANDS_ALONE: &str = "\
@@ -332,6 +348,7 @@ fn sdstore<'a>(alloc: Global) -> Result<Command<'a>, AllocError> {
         .arg(flag(alloc, "names").help(NAMES))?
         .arg(flag(alloc, "without-sacl").help(WITHOUT_SACL))?
         .arg(flag(alloc, "base64").help(BASE64))?
+        .arg(flag(alloc, "loose").help(LOOSE))?
         .arg(setting(alloc, "domain", "SID").help(DOMAIN))?
         .arg(setting(alloc, "mapping", "KIND").help(MAPPING))?
         .subcommand(verdict_command(alloc)?)?
@@ -409,7 +426,7 @@ fn script_command<'a>(alloc: Global) -> Result<Command<'a>, AllocError> {
         .about(
             "Carries out the script on standard input: builds a tree of nodes, edits it and asks",
         )
-        .override_usage("sdstore script")
+        .override_usage("sdstore [OPTIONS] script")
         .after_help(SCRIPT_NOTES);
     Ok(script)
 }
@@ -417,7 +434,7 @@ fn script_command<'a>(alloc: Global) -> Result<Command<'a>, AllocError> {
 fn serve_command<'a>(alloc: Global) -> Result<Command<'a>, AllocError> {
     let serve = Command::new(alloc, "serve")
         .about("Answers each line of the script on standard input when it is read")
-        .override_usage("sdstore serve")
+        .override_usage("sdstore [OPTIONS] serve")
         .after_help(SERVE_NOTES);
     Ok(serve)
 }
@@ -425,7 +442,7 @@ fn serve_command<'a>(alloc: Global) -> Result<Command<'a>, AllocError> {
 fn audit_command<'a>(alloc: Global) -> Result<Command<'a>, AllocError> {
     Command::new(alloc, "audit")
         .about("Carries out the script on standard input, and answers its checks at the end")
-        .override_usage("sdstore audit [--] <N>")
+        .override_usage("sdstore [OPTIONS] audit [--] <N>")
         .after_help(AUDIT_NOTES)
         .arg(text(alloc, "N").help("The number of workers, 1 to 64, in one or two decimal digits"))
 }

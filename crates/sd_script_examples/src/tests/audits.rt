@@ -1,6 +1,7 @@
 //! Whole audits, each with its whole output.
 
 use sd_script_audit::run_audit;
+use sd_sid::GenericMapping;
 use sd_store::{Gate, OpenGate};
 use sd_stream::{RunError, Watched};
 use std::alloc::AllocGlobal;
@@ -73,7 +74,15 @@ fn audited<T: Threads + Wait + Sync + AllocGlobal, G: Gate + Sync>(
     let alloc = rt.alloc();
     let mut reader = Watched::new(script.as_bytes());
     let mut writer = Watched::new(Vec::new(alloc));
-    let ended = run_audit(rt, alloc, workers, &mut reader, &mut writer, gate);
+    let ended = run_audit(
+        rt,
+        alloc,
+        workers,
+        &GenericMapping::file(),
+        &mut reader,
+        &mut writer,
+        gate,
+    );
     (ended, writer.into_inner())
 }
 

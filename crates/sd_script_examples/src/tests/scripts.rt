@@ -70,7 +70,7 @@ static SCRIPTS: [(&str, &str); 11] = [
 #[test]
 fn prints_the_output_of_scripts(rt: HostRuntime) -> Result<(), Fail> {
     for (script, output) in &SCRIPTS {
-        let printed = script_output(rt.alloc(), script.as_bytes())?;
+        let printed = script_output(rt.alloc(), &GenericMapping::file(), script.as_bytes())?;
         assert_eq!(rt; printed.as_slice(), output.as_bytes(), "{script}");
     }
     Ok(())
@@ -97,7 +97,7 @@ fn refuses_what_lies_too_deep(rt: HostRuntime) -> Result<(), Fail> {
             output.push_str("ok\n")?;
         }
         output.push_str(last)?;
-        let printed = script_output(rt.alloc(), script.as_bytes())?;
+        let printed = script_output(rt.alloc(), &GenericMapping::file(), script.as_bytes())?;
         assert_eq!(rt; printed.as_slice(), output.as_bytes(), "{depth}");
     }
     Ok(())
@@ -127,7 +127,7 @@ fn refuses_lists_that_are_too_large(rt: HostRuntime) -> Result<(), Fail> {
     ];
     for (count, output) in rows {
         let script = heirs_of(rt.alloc(), count)?;
-        let printed = script_output(rt.alloc(), script.as_bytes())?;
+        let printed = script_output(rt.alloc(), &GenericMapping::file(), script.as_bytes())?;
         assert_eq!(rt; printed.as_slice(), output.as_bytes(), "{count}");
     }
     Ok(())
@@ -135,7 +135,11 @@ fn refuses_lists_that_are_too_large(rt: HostRuntime) -> Result<(), Fail> {
 
 #[test]
 fn lines_that_are_no_text(rt: HostRuntime) -> Result<(), Fail> {
-    let printed = script_output(rt.alloc(), b"\xFF\n#\xFF\nwhy \xFF\ntell")?;
+    let printed = script_output(
+        rt.alloc(),
+        &GenericMapping::file(),
+        b"\xFF\n#\xFF\nwhy \xFF\ntell",
+    )?;
     assert_eq!(rt;
         printed.as_slice(),
         b"fault utf8\nfault utf8\n\nfault open\n".as_slice()

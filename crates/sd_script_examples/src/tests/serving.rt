@@ -1,5 +1,6 @@
 //! Scripts that come in pieces of every length, that break off at every byte, and lines as long as one may be.
 use sd_script_serve::serve;
+use sd_sid::GenericMapping;
 use sd_stream::{MAX_INPUT_BYTES, RunError, Watched};
 use std::alloc::{AllocError, Global};
 use std::io;
@@ -91,7 +92,12 @@ fn answers_pieces_of_every_length(rt: HostRuntime) {
         });
         let mut writer = Watched::new(Vec::new(rt.alloc()));
         assert_eq!(rt;
-            serve(rt.alloc(), &mut reader, &mut writer),
+            serve(
+                rt.alloc(),
+                &GenericMapping::file(),
+                &mut reader,
+                &mut writer
+            ),
             Ok(()),
             "by {size}"
         );
@@ -110,7 +116,12 @@ fn answers_what_had_ended_before_the_reader_failed(rt: HostRuntime) {
             fails_at,
         });
         let mut writer = Watched::new(Vec::new(rt.alloc()));
-        let answer = serve(rt.alloc(), &mut reader, &mut writer);
+        let answer = serve(
+            rt.alloc(),
+            &GenericMapping::file(),
+            &mut reader,
+            &mut writer,
+        );
         assert_eq!(rt; answer, Err(RunError::Read), "at {fails_at}");
         assert!(rt; reader.failed() && !writer.failed(), "at {fails_at}");
         let wanted = answers(rt.alloc(), fails_at).expect(&rt, "memory is there");
@@ -149,7 +160,16 @@ fn answers_the_longest_line_and_no_longer(rt: HostRuntime) {
             left,
         });
         let mut writer = Watched::new(Vec::new(rt.alloc()));
-        assert_eq!(rt; serve(rt.alloc(), &mut reader, &mut writer), ends, "{left}");
+        assert_eq!(rt;
+            serve(
+                rt.alloc(),
+                &GenericMapping::file(),
+                &mut reader,
+                &mut writer
+            ),
+            ends,
+            "{left}"
+        );
         assert_eq!(rt; writer.into_inner().as_slice(), wanted, "{left}");
     }
 }
@@ -183,7 +203,12 @@ fn writes_a_beginning_where_the_writer_fails(rt: HostRuntime) {
             taken: Vec::new(rt.alloc()),
             room,
         });
-        let answer = serve(rt.alloc(), &mut reader, &mut writer);
+        let answer = serve(
+            rt.alloc(),
+            &GenericMapping::file(),
+            &mut reader,
+            &mut writer,
+        );
         assert_eq!(rt; answer, Err(RunError::Write), "room for {room}");
         assert!(rt; writer.failed() && !reader.failed(), "room for {room}");
         assert_eq!(rt; writer.into_inner().taken.as_slice(), &whole[..room]);

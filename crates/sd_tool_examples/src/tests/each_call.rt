@@ -82,10 +82,10 @@ impl Way {
         reader: &mut Watched<R>,
         writer: &mut Watched<W>,
     ) -> &'static str {
-        let alloc = rt.alloc();
+        let (alloc, files) = (rt.alloc(), GenericMapping::file());
         match self {
-            Way::Script => name_of(sd_tool::run(alloc, reader, writer)),
-            Way::Audit => name_of(run_audit(rt, alloc, 2, reader, writer, &OpenGate)),
+            Way::Script => name_of(sd_tool::run(alloc, &files, reader, writer)),
+            Way::Audit => name_of(run_audit(rt, alloc, 2, &files, reader, writer, &OpenGate)),
             Way::ScriptCommand => driven(rt, &["sdstore", "script"], reader, writer),
             Way::AuditCommand => driven(rt, &["sdstore", "audit", "2"], reader, writer),
         }

@@ -124,3 +124,32 @@ fn answers_audits_alike(rt: HostRuntime) -> Result<(), Fail> {
     }
     Ok(())
 }
+
+/// GENERIC_READ of a key has 0x10, the right to be notified of changes (winnt.h); of a file it hasn't.
+#[test]
+fn maps_as_the_option_tells(rt: HostRuntime) {
+    let script = b"open 1 O:BAG:SYD:(A;;GR;;;BU)\ncheck 0 / S-1-5-21-1-2-3-1001 0x10 BU\n";
+    let rows: [(&[&str], &str); 4] = [
+        (
+            &["sdstore", "--mapping", "key", "script"],
+            "opened 1\nseen 0 granted 0x10\n",
+        ),
+        (
+            &["sdstore", "--mapping", "key", "serve"],
+            "opened 1\nseen 0 granted 0x10\n",
+        ),
+        (
+            &["sdstore", "--mapping", "key", "audit", "1"],
+            "opened 1\ntold 0\nseen 0 granted 0x10\n",
+        ),
+        (
+            &["sdstore", "--mapping", "file", "script"],
+            "opened 1\nseen 0 denied 0x10\n",
+        ),
+    ];
+    for (words, output) in rows {
+        let ended = run_over(&rt, words, script.as_slice());
+        assert_eq!(rt; ended.output.as_slice(), output.as_bytes(), "{words:?}");
+        assert_eq!(rt; ended.status, 0, "{words:?}");
+    }
+}

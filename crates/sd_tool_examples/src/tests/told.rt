@@ -61,7 +61,7 @@ fn tells_which_argument_is_not_read(rt: HostRuntime) {
 
 #[test]
 fn tells_of_options_and_bytes(rt: HostRuntime) {
-    let rows: [(&[&str], &str, &str); 8] = [
+    let rows: [(&[&str], &str, &str); 11] = [
         (
             &["sdstore", "--domain", "SY", "print", "D:"],
             "fault domain\n",
@@ -76,6 +76,21 @@ fn tells_of_options_and_bytes(rt: HostRuntime) {
             &["sdstore", "--mapping", "File", "lint", "D:"],
             "fault mapping\n",
             "sdstore: --mapping: no such mapping\n",
+        ),
+        (
+            &["sdstore", "--mapping", "File", "script"],
+            "fault mapping\n",
+            "sdstore: --mapping: no such mapping\n",
+        ),
+        (
+            &["sdstore", "--loose", "frombin", "0x01, 0"],
+            "fault hex\n",
+            "sdstore: BYTES: no bytes at 6\n",
+        ),
+        (
+            &["sdstore", "--loose", "frombin", "0x010x00"],
+            "fault hex\n",
+            "sdstore: BYTES: no bytes at 0\n",
         ),
         (
             &["sdstore", "frombin", "01zz"],
@@ -271,4 +286,17 @@ fn reads_base64(rt: HostRuntime) {
         "AQAAgAAAAAAAAAAAAAAAAAAAAAA=",
     ];
     expect(&rt, &words, "\n", 0);
+}
+
+/// A descriptor of nothing, as a dump, a .reg file and C have its twenty bytes.
+#[test]
+fn reads_hexadecimal_of_others(rt: HostRuntime) {
+    for text in [
+        "0x0100008000000000000000000000000000000000",
+        "01,00,00,80,00,00,00,00,00,00,\\\r\n  00,00,00,00,00,00,00,00,00,00",
+        "0x01, 0X00, 0x00, 0x80, 00000000\t0x00000000\n00000000 00000000,\n",
+        "0100008000000000000000000000000000000000",
+    ] {
+        expect(&rt, &["sdstore", "--loose", "frombin", text], "\n", 0);
+    }
 }

@@ -38,7 +38,11 @@ fn expect_both(
 
 #[test]
 fn both_read_commands(rt: HostRuntime) -> Result<(), AllocError> {
-    let rows: [&[&str]; 67] = [
+    let rows: [&[&str]; 71] = [
+        &["--mapping", "key", "script"],
+        &["--mapping", "key", "serve"],
+        &["--mapping", "key", "audit", "--", "1"],
+        &["--loose", "--without-sacl", "frombin", "00"],
         &["--mapping", "1,2,4,8", "each", "verdict", "SY", "0x1"],
         &["each", "print"],
         &["each", "-0", "print"],
@@ -164,7 +168,8 @@ fn both_read_help_and_version(rt: HostRuntime) -> Result<(), AllocError> {
 }
 
 /// Words that are no command line.
-const REFUSED: [&[&str]; 64] = [
+const REFUSED: [&[&str]; 65] = [
+    &["--loose", "--loose", "frombin", "00"],
     &["each"],
     &["each", "-0"],
     &["--without-sacl", "--without-sacl", "print", "D:"],
@@ -291,11 +296,12 @@ fn gives_no_help_beside_other_words(rt: HostRuntime) -> Result<(), AllocError> {
 // An option is for the commands that take it, and help takes none; `clap` takes one before any command.
 #[test]
 fn takes_options_before_their_commands_alone(rt: HostRuntime) -> Result<(), AllocError> {
-    let rows: [&[&str]; 17] = [
+    let rows: [&[&str]; 18] = [
         &["--without-sacl", "script"],
+        &["--loose", "script"],
         &["--base64", "tobin", "D:"],
         &["--mapping", "key", "print", "D:"],
-        &["--mapping", "key", "serve"],
+        &["--base64", "--loose", "frombin", "00"],
         &["--domain", "x", "frombin", "00"],
         &["--domain", "x", "script"],
         &["--domain", "x", "serve"],

@@ -8,11 +8,11 @@ loop-rest-init c = λ back answered. rw (c.new-printed.ensures.items) answered
 
 pub loop-rest-preserved : goal.loop-rest-preserved
 loop-rest-preserved c =
-    more_answered c.args.text.now c.loop-rest.rest.now c.first_line.result.1.now c.first_line.result.0.now
-    c.loop-rest.desk c.answer_line.new.desk c.loop-rest.printed.items c.as_bytes.result.now c.extend_from_slice.new.self.items
+    more_answered c.args.mapping.now c.args.text.now c.loop-rest.rest.now c.first_line.result.1.now c.first_line.result.0.now
+    c.loop-rest.session c.answer_line.new.session c.loop-rest.printed.items c.as_bytes.result.now c.extend_from_slice.new.self.items
     c.loop-rest.invariant c.first_line.ensures.lines (rw (c.as_bytes.ensures.value) c.in_ok-answer.ensures) c.in_ok-extend_from_slice.ensures.items
 
 pub returns : goal.returns
 returns c =
     let none : length c.loop-rest.rest.now ≡ 0 = let test = sym c.is_empty.ensures ∙ c.loop-rest-test.false in grind (arith, nat_tests) in
-    all_answered c.args.text.now c.loop-rest.rest.now c.loop-rest.printed.items c.loop-rest.desk c.loop-rest.invariant none
+    all_answered c.args.mapping.now c.args.text.now c.loop-rest.rest.now c.loop-rest.printed.items c.loop-rest.session c.loop-rest.invariant none

@@ -7,12 +7,12 @@ use Rattle.sd_script.proofs.script.told.Goals as goal
 pub ask-requires : goal.ask-requires
 ask-requires c =
     let asked = rw (c.in-Ok-Asking.field-0-is) at c.in-Ok-Asking.ensures in
-    let standing = rw (c.is_some.ensures) at asked in
-    open_where_asked c.args.desk.now c.args.line.now (Asking c.in-Ok-Asking.request) refl standing
+    let standing = rw (c.is_open.ensures) at asked in
+    open_where_asked c.args.session.now c.args.line.now (Asking c.in-Ok-Asking.request) refl standing
 
 pub explain-requires : goal.explain-requires
 explain-requires c =
     let asked = rw (c.in-Ok-Explaining.field-0-is) at c.in-Ok-Explaining.ensures in
-    let standing = rw (c.is_some.ensures) at asked in
+    let standing = rw (c.is_open.ensures) at asked in
     let explaining = Explaining c.in-Ok-Explaining.reader c.in-Ok-Explaining.path c.in-Ok-Explaining.token c.in-Ok-Explaining.asked in
-    open_where_asked c.args.desk.now c.args.line.now explaining refl standing
+    open_where_asked c.args.session.now c.args.line.now explaining refl standing

@@ -3,18 +3,18 @@
 use Rattle.std.proofs.Common.{ℕ, List, ◌++◌, length}
 use Rattle.std.specs.Str.Lines.{lines}
 use Rattle.sd_script_audit.specs.Audit.{AreAnsweredInAudit, PrintsAudit, unopened}
-use Rattle.sd_script.specs.Output.{opening_with}
+use Rattle.sd_tree.specs.Journal.{opening_of}
 use Rattle.sd_script_audit.proofs.output.audit_output.Given as goal
 
 abbrev pub ghosts-open_and_audit-J-Naming : goal.ghosts-open_and_audit-J-Naming
-ghosts-open_and_audit-J-Naming g a = record { opening = opening_with a.root.now }
+ghosts-open_and_audit-J-Naming g a = record { opening = opening_of a.mapping.now a.root.now }
 
 abbrev pub ghosts-open_and_audit-J-Chain : goal.ghosts-open_and_audit-J-Chain
 ghosts-open_and_audit-J-Chain g a = record { book = a.history.book; first = a.history.first }
 
 abbrev pub invariant-loop-rest : goal.invariant-loop-rest
 invariant-loop-rest g l = (back : List ℕ)
-    → AreAnsweredInAudit l.workers unopened (lines l.rest) back → PrintsAudit l.workers l.initial.rest (l.printed.items ++ back)
+    → AreAnsweredInAudit l.workers (unopened l.mapping) (lines l.rest) back → PrintsAudit l.mapping l.workers l.initial.rest (l.printed.items ++ back)
 
 abbrev pub decreases-loop-rest : goal.decreases-loop-rest
 decreases-loop-rest g l = length l.rest
