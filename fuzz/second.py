@@ -175,6 +175,26 @@ class Tree:
         words = "NO_ACCESS_CONTROL" if whole is None else ("P" if node.dacl[0] else "") + "AI"
         return "O:%sG:%sD:%s%s" % (sid_text(node.owner), sid_text(node.group), words, "".join(map(entry_text, whole or [])))
 
+    def given(self, path):
+        """The descriptor that was given to the node, without what it inherits."""
+        node = self.nodes[path]
+        protected, own = node.dacl or (False, [])
+        words = "NO_ACCESS_CONTROL" if node.dacl is None else "P" if protected else ""
+        return "O:%sG:%sD:%s%s" % (sid_text(node.owner), sid_text(node.group), words, "".join(map(entry_text, own)))
+
+    def listed(self, top):
+        """The lines of `list`, of the nodes at and below the path."""
+        kinds = {True: "container", False: "object"}
+        below = [path for path in sorted(self.nodes) if path[: len(top)] == top]
+        return ["%s /%s %s" % (kinds[self.nodes[path].is_container], "/".join(path), self.shown(path)) for path in below]
+
+    def dumped(self, readers):
+        """The lines of `dump`."""
+        edits = {True: "addc", False: "addo"}
+        below = [path for path in sorted(self.nodes) if path]
+        added = ["%s /%s %s" % (edits[self.nodes[path].is_container], "/".join(path), self.given(path)) for path in below]
+        return ["open %d %s" % (readers, self.given(()))] + added + ["publish"]
+
 
 @dataclass
 class Token:

@@ -34,7 +34,7 @@ class Server:
         self.close()
 
     def ask(self, line: str) -> str:
-        """The answer to one line: one line, or to `why` several. ValueError: it isn't one line that is answered. EOFError: the server
+        """The answer to one line: one line, or to `why`, `list` and `dump` several. ValueError: it isn't one line that is answered. EOFError: the server
         has ended."""
         if not line or line[0] == "#" or "\n" in line or line[-1] == "\r":
             raise ValueError("not one line that is answered: %r" % line)
@@ -44,7 +44,7 @@ class Server:
         except BrokenPipeError:
             raise EOFError("the server has ended") from None
         lines = [self._line()]
-        if line.split(" ", 1)[0] == "why":
+        if line.split(" ", 1)[0] in ("why", "list", "dump"):
             lines += iter(self._line, "")
         return "\n".join(lines)
 

@@ -1,6 +1,6 @@
 # shellcheck shell=bash
 # Asks `sdstore serve` from Bash: source this, then `serve_with PROGRAM`, and `ask LINE` for each line of a script. The
-# answer stands in `answer`: one line, or to `why` several. `ask` fails where the line is no question or the program has ended; `end_serving` ends it.
+# answer stands in `answer`: one line, or to `why`, `list` and `dump` several. `ask` fails where the line is no question or the program has ended; `end_serving` ends it.
 
 # serve_with PROGRAM: starts it.
 serve_with() {
@@ -16,7 +16,10 @@ ask() {
     '' | '#'* | *$'\n'* | *$'\r') return 2 ;;
     esac
     printf '%s\n' "$1" >&"${SERVING[1]}" && IFS= read -r answer <&"${SERVING[0]}" || return
-    [[ $1 == why || $1 == 'why '* ]] || return 0
+    case ${1%% *} in
+    why | list | dump) ;;
+    *) return 0 ;;
+    esac
     while IFS= read -r line <&"${SERVING[0]}"; do
         [[ -n $line ]] || return 0
         answer+=$'\n'$line

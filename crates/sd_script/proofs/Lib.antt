@@ -2,6 +2,7 @@ pub mod Answered
 pub mod Askings
 pub mod Beginnings
 pub mod Cutting
+pub mod Dumping
 pub mod OneOutput
 pub mod OneReading
 pub mod Readings

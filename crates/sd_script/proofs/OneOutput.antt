@@ -22,13 +22,14 @@ use Rattle.sd_share.specs.declared.request.Request.TheVariants as requests
 use Rattle.sd_share.specs.declared.start.StartError.{StartError}
 use Rattle.sd_share.specs.declared.start.StartError.TheVariants as starts
 use Rattle.sd_script.specs.Answer.{line}
+use Rattle.sd_script.specs.Dump.{IsDump}
 use Rattle.sd_script.specs.Fault.{line_of_fault}
 use Rattle.sd_script.specs.Laws.{HasOneOutput}
 use Rattle.sd_script.specs.Lines.{is_silent}
 use Rattle.sd_script.specs.Output.{is_open, mapping_of, IsOpened, IsDone, IsTold, IsAnswered, AreAnswered, closing_of}
 use Rattle.sd_script.specs.Reply.{check_line, counted_line, refused_line, reply_line, seen_line, shown_line, start_error_line}
 use Rattle.sd_script.specs.declared.asked.Asked.{Asked}
-use Rattle.sd_script.specs.declared.asked.Asked.TheVariants.{Opening, Asking, Explaining}
+use Rattle.sd_script.specs.declared.asked.Asked.TheVariants.{Opening, Asking, Explaining, Listing, Dumping}
 use Rattle.sd_script.specs.declared.session.Session.{Session}
 use Rattle.sd_script.specs.declared.session.Session.TheVariants.{Closed, Opened}
 use Rattle.sd_script.specs.Why.{explained_reply, node_why_text, why_text}
@@ -163,6 +164,14 @@ opened-one g readers root p q x y (inl one) (inr other) = absurd (no_error other
 opened-one g readers root p q x y (inr one) (inl other) = absurd (no_error one.0 readers _ p other.0 other.1 one.1 one.2)
 opened-one g readers root p q x y (inr one) (inr other) = (errors-one one.0 other.0 readers _ p q one.1 other.1 one.2 other.2, one.3 ∙ sym other.3)
 
+-- ---- a tree as a script
+
+dump-one : (m : Machine) (p q : List ℕ) → IsDump m p → IsDump m q → p ≡ q
+dump-one m p q (inl one) (inl other) = one.1 ∙ sym other.1
+dump-one m p q (inl one) (inr other) = absurd (other.0 one.0)
+dump-one m p q (inr one) (inl other) = absurd (one.0 other.0)
+dump-one m p q (inr one) (inr other) = one.1 ∙ sym other.1
+
 -- ---- the whole output
 
 done-one : (old : Session) (asked : Asked) (p q : List ℕ) (x y : Session) → IsDone old asked p x → IsDone old asked q y → (p ≡ q) × (x ≡ y)
@@ -175,6 +184,10 @@ done-one (Opened m) (Explaining reader names t asked) p q x y one other =
     let same = one_explained m reader names t asked one.0 one.1 p one.2 one.3 ∙ sym (one_explained m reader names t asked other.0 other.1 q other.2 other.3) in
     (ap (λ (z : List ℕ × Machine). z.0) same, one.4 ∙ ap (λ (z : List ℕ × Machine). Opened z.1) same ∙ sym other.4)
 done-one (Closed g) (Explaining reader names t asked) p q x y one other = absurd one
+done-one (Opened m) (Listing path) p q x y one other = (one.0 ∙ sym other.0, one.1 ∙ sym other.1)
+done-one (Closed g) (Listing path) p q x y one other = absurd one
+done-one (Opened m) Dumping p q x y one other = (dump-one m p q one.0 other.0, one.1 ∙ sym other.1)
+done-one (Closed g) Dumping p q x y one other = absurd one
 
 told-one : (old : Session) (text p q : List ℕ) (x y : Session) → IsTold old text p x → IsTold old text q y → (p ≡ q) × (x ≡ y)
 told-one old text p q x y (inl one) (inl other) =
@@ -196,7 +209,7 @@ by_silence false old text p q x y one other =
     let same = told-one old text one.0 other.0 x y one.1 other.1 in
     (one.2 ∙ ap (λ told. told ++ closing_of text) same.0 ∙ sym other.2, same.1)
 
-answered-one : (old : Session) (text p q : List ℕ) (x y : Session) → IsAnswered old text p x → IsAnswered old text q y → (p ≡ q) × (x ≡ y)
+pub answered-one : (old : Session) (text p q : List ℕ) (x y : Session) → IsAnswered old text p x → IsAnswered old text q y → (p ≡ q) × (x ≡ y)
 answered-one old text p q x y one other = by_silence (is_silent text) old text p q x y one other
 
 all-one : (old : Session) (texts : List (List ℕ)) (p q : List ℕ) → AreAnswered old texts p → AreAnswered old texts q → p ≡ q

@@ -16,12 +16,12 @@ use Rattle.sd_tree.specs.Names.{Names}
 use Rattle.sd_tree.specs.declared.edit.Edit.TheVariants as edits
 use Rattle.sd_share.specs.declared.request.Request.TheVariants as requests
 use Rattle.sd_script.specs.Argument.{IsNumber, number, path, sid, mask, token, descriptor, node, node_of, dacl, dacl_of}
-use Rattle.sd_script.specs.Command.{CommandValue, Open, AddContainer, AddObject, SetOwner, SetGroup, SetDacl, Remove, Protect, Move, Publish, Tell, Learn, Check, Why, Show, asks, asks_where, command_of, edit, is_untimely, line_asks, posed, question, question_by, question_with, request}
+use Rattle.sd_script.specs.Command.{CommandValue, Open, AddContainer, AddObject, SetOwner, SetGroup, SetDacl, Remove, Protect, Move, Publish, Tell, Learn, Check, Why, Show, ListNodes, Dump, asks, asks_where, command_of, edit, is_untimely, line_asks, posed, question, question_by, question_with, request}
 use Rattle.sd_script.specs.Fault.{Reading, SomeOr, Just, Then}
 use Rattle.sd_script.specs.Lines.{words_of}
 use Rattle.sd_script.specs.Word.{AreWords, IsNoWordIn, IsWord, token_of}
 use Rattle.sd_script.specs.declared.asked.Asked.{Asked}
-use Rattle.sd_script.specs.declared.asked.Asked.TheVariants.{Opening, Asking, Explaining}
+use Rattle.sd_script.specs.declared.asked.Asked.TheVariants.{Opening, Asking, Explaining, Listing}
 use Rattle.sd_script.specs.declared.asked.Question.{Question}
 use Rattle.sd_script.specs.declared.fault.LineFault.{LineFault}
 use Rattle.sd_script.specs.declared.fault.LineFault.TheVariants as faults
@@ -210,6 +210,8 @@ asks-one (Learn reader len) = Then-one (number reader) (λ i. Then (number len) 
 asks-one (Check reader at user asked words) = posed-one (λ i p q. Asking (requests.Check i p q.token q.asked)) reader at (question user asked words) (question-one user asked words)
 asks-one (Why reader at user asked words) = posed-one (λ i p q. Explaining i p q.token q.asked) reader at (question user asked words) (question-one user asked words)
 asks-one (Show reader at) = Then-one (number reader) (λ i. Then (path at) (λ p. request (requests.Show i p))) (number-one reader) (λ i. Then-one (path at) (λ p. request (requests.Show i p)) (path-one at) (λ p. Just-one _))
+asks-one (ListNodes at) = Then-one (path at) (λ p. Just (Listing p)) (path-one at) (λ p. Just-one _)
+asks-one Dump = Just-one _
 
 by_time : (untimely : Bool) (command : CommandValue) (r s : Result Asked LineFault)
     → MatchBool untimely (r ≡ Err faults.Open) (asks command r) → MatchBool untimely (s ≡ Err faults.Open) (asks command s) → r ≡ s

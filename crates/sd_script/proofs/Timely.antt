@@ -1,12 +1,12 @@
 -- What a line can ask for: an opening where no store is open, and something of a store where one is.
 use Rattle.std.proofs.Common.{◌≡◌, ⊎_elim, ℕ, List, Bool, true, false, not, Option, Some, None, Ok, Err, refl, sym, ap, subst, ◌∙◌}
 use Rattle.std.specs.Prelude.{MatchBool, if◌then◌else◌}
-use Rattle.sd_script.specs.Command.{CommandValue, Open, AddContainer, AddObject, SetOwner, SetGroup, SetDacl, Remove, Protect, Move, Publish, Tell, Learn, Check, Why, Show, asks, asks_where, is_untimely, line_asks, command_of}
+use Rattle.sd_script.specs.Command.{CommandValue, Open, AddContainer, AddObject, SetOwner, SetGroup, SetDacl, Remove, Protect, Move, Publish, Tell, Learn, Check, Why, Show, ListNodes, Dump, asks, asks_where, is_untimely, line_asks, command_of}
 use Rattle.sd_script.specs.Fault.{Just, Reading}
 use Rattle.sd_script.specs.Lines.{words_of}
 use Rattle.sd_script.specs.Output.{is_open}
 use Rattle.sd_script.specs.declared.asked.Asked.{Asked}
-use Rattle.sd_script.specs.declared.asked.Asked.TheVariants.{Opening, Asking, Explaining}
+use Rattle.sd_script.specs.declared.asked.Asked.TheVariants.{Opening, Asking, Explaining, Listing, Dumping}
 use Rattle.sd_script.specs.declared.fault.LineFault.TheVariants as faults
 use Rattle.sd_script.specs.declared.session.Session.{Session}
 use Rattle.sd_script.specs.declared.session.Session.TheVariants.{Closed, Opened}
@@ -22,6 +22,8 @@ abbrev pub opens : Asked → Bool
 opens (Opening readers root) = true
 opens (Asking r) = false
 opens (Explaining reader path token asked) = false
+opens (Listing path) = false
+opens Dumping = false
 
 abbrev is_opening : CommandValue → Bool
 is_opening (Open readers sddl) = true
@@ -39,6 +41,8 @@ is_opening (Learn reader len) = false
 is_opening (Check reader path user mask words) = false
 is_opening (Why reader path user mask words) = false
 is_opening (Show reader path) = false
+is_opening (ListNodes path) = false
+is_opening Dump = false
 
 abbrev Opens : Bool → Asked → Type 0
 Opens b a = opens a ≡ b
@@ -62,6 +66,8 @@ words_open (Learn reader len) a is = ⊎_elim (λ w. ⊎_elim (λ x. same_opens 
 words_open (Check reader at user asked words) a is = ⊎_elim (λ w. ⊎_elim (λ x. ⊎_elim (λ y. same_opens a _ y.2) (λ y. absurd (cc (y.2))) x.2) (λ x. absurd (cc (x.2))) w.2) (λ w. absurd (cc (w.2))) is
 words_open (Why reader at user asked words) a is = ⊎_elim (λ w. ⊎_elim (λ x. ⊎_elim (λ y. same_opens a _ y.2) (λ y. absurd (cc (y.2))) x.2) (λ x. absurd (cc (x.2))) w.2) (λ w. absurd (cc (w.2))) is
 words_open (Show reader at) a is = ⊎_elim (λ w. ⊎_elim (λ x. same_opens a _ x.2) (λ x. absurd (cc (x.2))) w.2) (λ w. absurd (cc (w.2))) is
+words_open (ListNodes at) a is = ⊎_elim (λ w. same_opens a _ w.2) (λ w. absurd (cc (w.2))) is
+words_open Dump a is = same_opens a _ is
 
 untimely_is : (is_open : Bool) (command : CommandValue) → is_untimely is_open command ≡ (if is_opening command then is_open else not is_open)
 untimely_is is_open (Open readers sddl) = refl
@@ -79,6 +85,8 @@ untimely_is is_open (Learn reader len) = refl
 untimely_is is_open (Check reader path user mask words) = refl
 untimely_is is_open (Why reader path user mask words) = refl
 untimely_is is_open (Show reader path) = refl
+untimely_is is_open (ListNodes path) = refl
+untimely_is is_open Dump = refl
 
 by_test : (is_open is : Bool) (command : CommandValue) (b : Asked) → is_opening command ≡ is
     → MatchBool (if is then is_open else not is_open) (Ok b ≡ Err faults.Open) (asks command (Ok b)) → Opens (not is_open) b

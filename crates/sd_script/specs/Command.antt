@@ -13,7 +13,7 @@ use Rattle.sd_script.specs.Fault.{Reading, Just, Then}
 use Rattle.sd_script.specs.Lines.{words_of}
 use Rattle.sd_script.specs.Word.{texts}
 use Rattle.sd_script.specs.declared.asked.Asked.{Asked}
-use Rattle.sd_script.specs.declared.asked.Asked.TheVariants.{Opening, Asking, Explaining}
+use Rattle.sd_script.specs.declared.asked.Asked.TheVariants.{Opening, Asking, Explaining, Listing, Dumping}
 use Rattle.sd_script.specs.declared.asked.Question.{Question}
 use Rattle.sd_script.specs.declared.command.Command.{Command}
 use Rattle.sd_script.specs.declared.command.Command.TheVariants as lent
@@ -39,6 +39,8 @@ pub data CommandValue : Type 0 where
   Check : List ℕ → List ℕ → List ℕ → List ℕ → List (List ℕ) → CommandValue
   Why : List ℕ → List ℕ → List ℕ → List ℕ → List (List ℕ) → CommandValue
   Show : List ℕ → List ℕ → CommandValue
+  ListNodes : List ℕ → CommandValue
+  Dump : CommandValue
 
 abbrev pub command_value : Command → CommandValue
 command_value (lent.Open readers sddl) = Open readers.now sddl.now
@@ -56,6 +58,8 @@ command_value (lent.Learn reader length) = Learn reader.now length.now
 command_value (lent.Check reader path user mask words) = Check reader.now path.now user.now mask.now (texts words.now)
 command_value (lent.Why reader path user mask words) = Why reader.now path.now user.now mask.now (texts words.now)
 command_value (lent.Show reader path) = Show reader.now path.now
+command_value (lent.ListNodes path) = ListNodes path.now
+command_value lent.Dump = Dump
 
 -- the command that the word names
 abbrev pub command_named : List ℕ → Option CommandName
@@ -75,6 +79,8 @@ command_named word =
     else if bytes_eq word (codes "check") then Some names.Check
     else if bytes_eq word (codes "why") then Some names.Why
     else if bytes_eq word (codes "show") then Some names.Show
+    else if bytes_eq word (codes "list") then Some names.ListNodes
+    else if bytes_eq word (codes "dump") then Some names.Dump
     else None
 
 -- the command with these arguments, where they are as many as it takes
@@ -94,6 +100,9 @@ command_on names.Learn (reader ∷ length ∷ []) = Some (Learn reader length)
 command_on names.Check (reader ∷ path ∷ user ∷ mask ∷ words) = Some (Check reader path user mask words)
 command_on names.Why (reader ∷ path ∷ user ∷ mask ∷ words) = Some (Why reader path user mask words)
 command_on names.Show (reader ∷ path ∷ []) = Some (Show reader path)
+command_on names.ListNodes [] = Some (ListNodes (codes "/"))
+command_on names.ListNodes (path ∷ []) = Some (ListNodes path)
+command_on names.Dump [] = Some Dump
 command_on name arguments = None
 
 abbrev pub is_empty : List ℕ → Bool
@@ -152,6 +161,8 @@ asks (Check reader at user asked words) =
 asks (Why reader at user asked words) =
     posed (λ i p q. Explaining i p q.token q.asked) reader at (question user asked words)
 asks (Show reader at) = Then (number reader) (λ i. Then (path at) (λ p. request (requests.Show i p)))
+asks (ListNodes at) = Then (path at) (λ p. Just (Listing p))
+asks Dump = Just Dumping
 
 -- ---- what a line asks for
 

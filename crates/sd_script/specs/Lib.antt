@@ -10,3 +10,5 @@ pub mod Run
 pub mod Word
 pub mod Spelling
 pub mod Why
+pub mod Listing
+pub mod Dump

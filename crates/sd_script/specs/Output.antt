@@ -11,11 +11,13 @@ use Rattle.sd_share.specs.declared.request.Request.TheVariants.{Show}
 use Rattle.sd_share.specs.declared.start.StartError.{StartError}
 use Rattle.sd_script.specs.Command.{line_asks}
 use Rattle.sd_script.specs.Fault.{line_of_fault}
-use Rattle.sd_script.specs.Lines.{asks_why, is_silent}
+use Rattle.sd_script.specs.Dump.{IsDump}
+use Rattle.sd_script.specs.Lines.{is_silent, wants_lines}
+use Rattle.sd_script.specs.Listing.{list_text}
 use Rattle.sd_script.specs.Reply.{counted_line, reply_line, start_error_line}
 use Rattle.sd_script.specs.Why.{explained_reply}
 use Rattle.sd_script.specs.declared.asked.Asked.{Asked}
-use Rattle.sd_script.specs.declared.asked.Asked.TheVariants.{Opening as Opens, Asking, Explaining}
+use Rattle.sd_script.specs.declared.asked.Asked.TheVariants.{Opening as Opens, Asking, Explaining, Listing, Dumping}
 use Rattle.sd_script.specs.declared.fault.LineFault.{LineFault}
 use Rattle.sd_script.specs.declared.session.Session.{Session}
 use Rattle.sd_script.specs.declared.session.Session.TheVariants.{Closed, Opened}
@@ -48,6 +50,10 @@ IsDone (Opened old) (Explaining reader path token asked) printed new =
     (reply : Reply) × (machine : Machine) × Steps old (Show reader path) reply machine
     × (explained_reply old.opening.mapping token asked reply ≡ Some printed) × (new ≡ Opened machine)
 IsDone (Closed g) (Explaining reader path token asked) printed new = ⊥
+IsDone (Opened old) (Listing path) printed new = (printed ≡ list_text old path) × (new ≡ Opened old)
+IsDone (Closed g) (Listing path) printed new = ⊥
+IsDone (Opened old) Dumping printed new = IsDump old printed × (new ≡ Opened old)
+IsDone (Closed g) Dumping printed new = ⊥
 
 -- a line that isn't silent is told what it asks for, or its fault
 abbrev pub IsTold : Session → List ℕ → List ℕ → Session → Type 0
@@ -55,9 +61,9 @@ IsTold old line told new =
     ((asked : Asked) × line_asks (is_open old) line (Ok asked) × IsDone old asked told new)
     ⊎ ((fault : LineFault) × line_asks (is_open old) line (Err fault) × (told ≡ line_of_fault fault) × (new ≡ old))
 
--- behind what a line is told: whether it is told several lines or a fault, an empty line ends the answer to `why`
+-- behind what a line is told: an empty line ends the answer to one that is answered by several lines, a fault too
 abbrev pub closing_of : List ℕ → List ℕ
-closing_of line = if asks_why line then 10 ∷ [] else []
+closing_of line = if wants_lines line then 10 ∷ [] else []
 
 -- a line is answered: by nothing, or by what it is told
 abbrev pub IsAnswered : Session → List ℕ → List ℕ → Session → Type 0

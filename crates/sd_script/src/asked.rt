@@ -1,6 +1,6 @@
 //! What a line asks for, and how its words are read.
 ghost use Rattle.std.specs.Prelude.{◌≡◌};
-ghost use Rattle.sd_script.specs.Command.{CommandValue, Open, AddContainer, AddObject, SetOwner, SetGroup, SetDacl, Remove, Protect, Move, Learn, Check, Why, Show, asks, question, command_value};
+ghost use Rattle.sd_script.specs.Command.{CommandValue, Open, AddContainer, AddObject, SetOwner, SetGroup, SetDacl, Remove, Protect, Move, Learn, Check, Why, Show, ListNodes, asks, question, command_value};
 ghost use Rattle.sd_script.specs.Fault.{UnlessMemory};
 ghost use Rattle.sd_script.specs.Word.{texts};
 
@@ -30,6 +30,12 @@ pub enum Asked {
         token: Token,
         asked: Mask,
     },
+    /// The nodes at and below a path of the published tree.
+    Listing {
+        path: Path,
+    },
+    /// The published tree, as lines of a script.
+    Dumping,
 }
 
 /// A token, and what is asked for it.
@@ -71,6 +77,8 @@ pub(crate) fn asked_by(alloc: Global, command: Command<'_>) -> Result<Asked, Sto
             words,
         } => explained(alloc, reader, path, user, mask, words),
         Command::Show { reader, path } => shown(alloc, reader, path),
+        Command::ListNodes { path } => listed(alloc, path),
+        Command::Dump => Ok(Asked::Dumping),
     }
 }
 
@@ -222,4 +230,11 @@ fn shown(alloc: Global, reader: &str, path: &str) -> Result<Asked, Stop>
     let reader = number_in(reader)?;
     let path = path_in(alloc, path)?;
     Ok(Asked::Asking(Request::Show { reader, path }))
+}
+
+fn listed(alloc: Global, path: &str) -> Result<Asked, Stop>
+    ensures { UnlessMemory (asks (ListNodes path.now)) result }
+{
+    let path = path_in(alloc, path)?;
+    Ok(Asked::Listing { path })
 }

@@ -22,6 +22,8 @@ pub(crate) enum CommandName {
     Check,
     Why,
     Show,
+    ListNodes,
+    Dump,
 }
 
 /// A command with its arguments, as many as it takes.
@@ -100,6 +102,12 @@ pub(crate) enum Command<'a> {
         reader: &'a str,
         path: &'a str,
     },
+    /// The nodes at and below a path are told.
+    ListNodes {
+        path: &'a str,
+    },
+    /// The tree is told as a script.
+    Dump,
 }
 
 impl CommandName {
@@ -122,6 +130,8 @@ impl CommandName {
             "check" => Some(CommandName::Check),
             "why" => Some(CommandName::Why),
             "show" => Some(CommandName::Show),
+            "list" => Some(CommandName::ListNodes),
+            "dump" => Some(CommandName::Dump),
             _ => None,
         }
     }
@@ -182,6 +192,8 @@ fn command_alone<'a>(name: CommandName) -> Option<Command<'a>>
     match name {
         CommandName::Publish => Some(Command::Publish),
         CommandName::Tell => Some(Command::Tell),
+        CommandName::ListNodes => Some(Command::ListNodes { path: "/" }),
+        CommandName::Dump => Some(Command::Dump),
         _ => None,
     }
 }
@@ -193,6 +205,7 @@ fn command_on_one<'a>(name: CommandName, path: &'a str) -> Option<Command<'a>>
     match name {
         CommandName::Remove => Some(Command::Remove { path }),
         CommandName::Protect => Some(Command::Protect { path }),
+        CommandName::ListNodes => Some(Command::ListNodes { path }),
         _ => None,
     }
 }

@@ -2,7 +2,7 @@
 ghost use Rattle.std.specs.Prelude.{◌≡◌, ◌<◌, ◌∷◌, ◌==◌, ◌≤◌, length, IfOk};
 ghost use Rattle.std.specs.List.{position_or_len};
 ghost use Rattle.std.specs.Str.Lines.{lines, strip_carriage_return};
-ghost use Rattle.sd_script.specs.Lines.{asks_why, is_silent, words_of};
+ghost use Rattle.sd_script.specs.Lines.{begins_with, is_silent, wants_lines, words_of};
 ghost use Rattle.sd_script.specs.Word.{texts};
 
 use std::alloc::{AllocError, Global};
@@ -52,11 +52,16 @@ pub fn is_silent(line: &[u8]) -> bool
     }
 }
 
-/// Whether the line's first word is `why`.
-pub(crate) fn asks_why(line: &[u8]) -> bool
-    ensures { result ≡ asks_why line.now }
+/// Whether a line is answered by several: its first word is `why`, `list` or `dump`.
+pub(crate) fn wants_lines(line: &[u8]) -> bool
+    ensures { result ≡ wants_lines line.now }
 {
-    line == b"why".as_slice() || line.starts_with(b"why ")
+    line == b"why".as_slice()
+        || line.starts_with(b"why ")
+        || line == b"list".as_slice()
+        || line.starts_with(b"list ")
+        || line == b"dump".as_slice()
+        || line.starts_with(b"dump ")
 }
 
 /// The words of a line, parted by single spaces.

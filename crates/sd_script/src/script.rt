@@ -1,12 +1,14 @@
 //! The whole output of a script.
 ghost use Rattle.std.specs.Prelude.{◌≡◌, true, IfOk, string_bytes};
 ghost use Rattle.sd_script.specs.Output.{IsAnswered, IsDone, IsTold, Prints, is_open};
-ghost use Rattle.sd_script.specs.declared.asked.Asked.TheVariants.{Asking, Explaining, Opening};
+ghost use Rattle.sd_script.specs.declared.asked.Asked.TheVariants.{Asking, Dumping, Explaining, Listing, Opening};
 
 use crate::asked::Asked;
+use crate::dump::dump_text;
 use crate::fault::{Stop, line_of_fault};
 use crate::line::read_line;
-use crate::lines::{asks_why, first_line, is_silent};
+use crate::lines::{first_line, is_silent, wants_lines};
+use crate::listing::list_text;
 use crate::reply::{counted_line, reply_line, start_error_line};
 use crate::session::Session;
 use crate::why::explained_reply;
@@ -16,9 +18,9 @@ use sd_sid::{GenericMapping, Mask};
 use sd_tree::{Path, RootSpec};
 use std::alloc::{AllocError, Global};
 
-/// The whole output of a script, whose store maps generic rights so ([MS-DTYP] 2.4.3). Each line is answered by one line, and `why` by several, an empty one the last; an empty
-/// line, and one that begins with `#`, by none. A line that can't be carried out is answered by its first fault, and the
-/// script goes on. Fails only where memory is refused.
+/// The whole output of a script, whose store maps generic rights so ([MS-DTYP] 2.4.3). Each line is answered by one line, and
+/// `why`, `list` and `dump` by several, an empty one the last; an empty line, and one that begins with `#`, by none. A line that
+/// can't be carried out is answered by its first fault, and the script goes on. Fails only where memory is refused.
 pub fn script_output(
     alloc: Global,
     mapping: &GenericMapping,
@@ -38,8 +40,8 @@ pub fn script_output(
     Ok(printed)
 }
 
-/// What a line, without its end, is answered by: a line, of `why` several, an empty one the last, or nothing where it is
-/// empty or begins with `#`. Fails only where memory is refused.
+/// What a line, without its end, is answered by: a line, of `why`, `list` and `dump` several, an empty one the last, or nothing
+/// where it is empty or begins with `#`. Fails only where memory is refused.
 pub fn answer_line(alloc: Global, session: &mut Session, line: &[u8]) -> Result<String, AllocError>
     ensures { IfOk result (λ text. IsAnswered session.old line.now (string_bytes text) session.new) }
 {
@@ -47,7 +49,7 @@ pub fn answer_line(alloc: Global, session: &mut Session, line: &[u8]) -> Result<
         return Ok(String::new(alloc));
     }
     let mut text = told(alloc, session, line)?;
-    if asks_why(line) {
+    if wants_lines(line) {
         text.push_str("\n")?;
     }
     Ok(text)
@@ -68,6 +70,8 @@ fn told(alloc: Global, session: &mut Session, line: &[u8]) -> Result<String, All
                 asked,
             },
         ) => explain(alloc, session, reader, path, &token, asked),
+        Ok(Asked::Listing { path }) => list(alloc, session, &path),
+        Ok(Asked::Dumping) => dump(alloc, session),
         Err(Stop::Fault(fault)) => line_of_fault(alloc, fault),
         Err(Stop::Memory) => Err(AllocError),
     }
@@ -128,6 +132,28 @@ fn explain(
             let reply = desk.step(&Request::Show { reader, path });
             explained_reply(alloc, &mapping, token, asked, &reply)
         }
+        Session::Closed(_) => unreachable!(),
+    }
+}
+
+/// Tells, of the store that is open, the nodes at and below a path.
+fn list(alloc: Global, session: &Session, path: &Path) -> Result<String, AllocError>
+    requires { is_open session.now ≡ true }
+    ensures { IfOk result (λ text. IsDone session.now (Listing path.now) (string_bytes text) session.now) }
+{
+    match session {
+        Session::Opened(desk) => list_text(alloc, desk.published(), path),
+        Session::Closed(_) => unreachable!(),
+    }
+}
+
+/// Tells the tree of the store that is open as lines of a script.
+fn dump(alloc: Global, session: &Session) -> Result<String, AllocError>
+    requires { is_open session.now ≡ true }
+    ensures { IfOk result (λ text. IsDone session.now Dumping (string_bytes text) session.now) }
+{
+    match session {
+        Session::Opened(desk) => dump_text(alloc, desk.published(), desk.readers()),
         Session::Closed(_) => unreachable!(),
     }
 }

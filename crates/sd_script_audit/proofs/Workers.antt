@@ -21,7 +21,7 @@ use Rattle.sd_script.specs.Lines.{is_silent}
 use Rattle.sd_script.specs.Output.{IsDone, IsOpened, is_open}
 use Rattle.sd_script.specs.Reply.{counted_line, refused_line, start_error_line}
 use Rattle.sd_script.specs.declared.asked.Asked.{Asked}
-use Rattle.sd_script.specs.declared.asked.Asked.TheVariants.{Opening as Opens, Asking, Explaining}
+use Rattle.sd_script.specs.declared.asked.Asked.TheVariants.{Opening as Opens, Asking, Explaining, Listing, Dumping}
 use Rattle.sd_script.specs.declared.fault.LineFault.{LineFault}
 use Rattle.sd_script.specs.declared.session.Session.TheVariants as sessions
 use Rattle.sd_script.proofs.OneOutput.{no_error, edited, outcome, one_step}
@@ -121,6 +121,8 @@ module _ (n m : ℕ) (text : List ℕ) where
   asking_alike a b (Opens readers root) p q c d alike asks one other = absurd (let no = line_opens true text (Opens readers root) asks in cc (no))
   asking_alike a b (Asking r) p q c d alike asks one other = done_alike a b alike n m r p q c d one other
   asking_alike a b (Explaining reader path token asked) p q c d alike asks one other = stay_alike a b alike _ p q c d one other
+  asking_alike a b (Listing path) p q c d alike asks one other = stay_alike a b alike _ p q c d one other
+  asking_alike a b Dumping p q c d alike asks one other = stay_alike a b alike _ p q c d one other
 
   loud_alike : (a b : Progress) (p q : List ℕ) (c d : Progress) → AreAlike a b → Loud n a text p c → Loud m b text q d → (p ≡ q) × AreAlike c d
   loud_alike a b p q c d alike (inl one) (inl other) =
@@ -220,6 +222,8 @@ module _ (g : MappingValue) (n m : ℕ) (some : IsReaderCount n) (others : IsRea
     opening_asked (Asking r) p q c d asks one other = absurd (let no = line_opens false text (Asking r) asks in cc (no))
     opening_asked (Explaining reader path token asked) p q c d asks one other =
         absurd (let no = line_opens false text (Explaining reader path token asked) asks in cc (no))
+    opening_asked (Listing path) p q c d asks one other = absurd (let no = line_opens false text (Listing path) asks in cc (no))
+    opening_asked Dumping p q c d asks one other = absurd (let no = line_opens false text Dumping asks in cc (no))
 
     loud_unopened : (p q : List ℕ) (c d : Progress) → Loud n (unopened g) text p c → Loud m (unopened g) text q d → Opened p q c d
     loud_unopened p q c d (inl one) (inl other) =

@@ -17,7 +17,7 @@ use Rattle.sd_script.specs.Lines.{is_silent}
 use Rattle.sd_script.specs.Output.{IsDone, IsOpened, is_open, mapping_of}
 use Rattle.sd_script.specs.Reply.{check_line, counted_line, seen_line}
 use Rattle.sd_script.specs.declared.asked.Asked.{Asked}
-use Rattle.sd_script.specs.declared.asked.Asked.TheVariants.{Opening as Opens, Asking, Explaining}
+use Rattle.sd_script.specs.declared.asked.Asked.TheVariants.{Opening as Opens, Asking, Explaining, Listing, Dumping}
 use Rattle.sd_script.specs.declared.fault.LineFault.{LineFault}
 use Rattle.sd_script.specs.declared.session.Session.{Session}
 use Rattle.sd_script.specs.declared.session.Session.TheVariants.{Closed, Opened}
@@ -36,7 +36,7 @@ abbrev pub IsForScripts : Progress → List ℕ → Progress → Type 0
 IsForScripts old printed new = (printed ≡ fault_line (codes "audit")) × (new ≡ old)
 
 -- what is asked is done as in a script, but that a store is opened for the workers, that a check is kept, and that an
--- audit tells, teaches, shows and explains nothing
+-- audit tells, teaches, shows, explains, lists and dumps nothing
 abbrev pub IsDoneInAudit : ℕ → Progress → Asked → List ℕ → Progress → Type 0
 IsDoneInAudit workers old (Opens readers root) printed new = IsOpened (mapping_of old.store) workers root printed new.store × (new.queries ≡ old.queries)
 IsDoneInAudit workers old (Asking (Check reader path token asked)) printed new =
@@ -45,6 +45,8 @@ IsDoneInAudit workers old (Asking Tell) printed new = IsForScripts old printed n
 IsDoneInAudit workers old (Asking (Learn reader len)) printed new = IsForScripts old printed new
 IsDoneInAudit workers old (Asking (Show reader path)) printed new = IsForScripts old printed new
 IsDoneInAudit workers old (Explaining reader path token asked) printed new = IsForScripts old printed new
+IsDoneInAudit workers old (Listing path) printed new = IsForScripts old printed new
+IsDoneInAudit workers old Dumping printed new = IsForScripts old printed new
 IsDoneInAudit workers old asked printed new = IsDone old.store asked printed new.store × (new.queries ≡ old.queries)
 
 -- a line is answered: by nothing, by what it asks for, or by its fault

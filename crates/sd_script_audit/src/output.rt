@@ -79,6 +79,7 @@ fn opened_root(
     match read_line(alloc, false, line) {
         Ok(Asked::Opening { readers: _, root }) => Ok(Some(root)),
         Ok(Asked::Asking(_) | Asked::Explaining { .. }) => unreachable!(),
+        Ok(Asked::Listing { .. } | Asked::Dumping) => unreachable!(),
         Err(Stop::Fault(fault)) => {
             let answer = line_of_fault(alloc, fault)?;
             printed.extend_from_slice(answer.as_bytes())?;

@@ -61,7 +61,9 @@ fn answer_line<J: Naming, T: Wait>(
     }
     match read_line(alloc, true, line) {
         Ok(Asked::Asking(request)) => answer_request(rt, alloc, writer, queries, request),
-        Ok(Asked::Explaining { .. }) => only_in_scripts(alloc),
+        Ok(Asked::Explaining { .. } | Asked::Listing { .. } | Asked::Dumping) => {
+            only_in_scripts(alloc)
+        }
         Ok(Asked::Opening { .. }) => unreachable!(),
         Err(Stop::Fault(fault)) => line_of_fault(alloc, fault),
         Err(Stop::Memory) => Err(AllocError),

@@ -5,3 +5,4 @@ mod each;
 mod scripts;
 mod serving;
 mod streams;
+mod trees;

@@ -1,6 +1,6 @@
 //! The machine of one thread.
 
-ghost use Rattle.std.specs.Prelude.{◌≡◌, ◌≢◌, None, IfOk, IfErr};
+ghost use Rattle.std.specs.Prelude.{◌≡◌, ◌≢◌, None, IfOk, IfErr, length};
 ghost use Rattle.sd_tree.specs.Journal.{opening_of, root_refusal, IsLawful};
 ghost use Rattle.sd_share.specs.Machine.{Steps, Runs, started, accepted};
 ghost use Rattle.sd_share.specs.Starts.{IsReaderCount, IsStartError};
@@ -105,6 +105,13 @@ impl Desk {
         ensures journal { result.now.journal ≡ self.now.published }
     {
         &self.published
+    }
+
+    /// How many readers there are.
+    pub fn readers(&self) -> u64
+        ensures { result ≡ length self.now.floors }
+    {
+        self.floors.len() as u64
     }
 
     /// The edits that are seen, in their order.

@@ -106,7 +106,7 @@ Example:
 
 const SCRIPT_NOTES: &str = "\
 Each line is a command, and is answered by a line; an empty line and one that begins with '#' aren't.
-'why' is answered by several lines, the last of which is empty:
+'why', 'list' and 'dump' are answered by several lines, the last of which is empty:
   open N SDDL                          opens the store: a root, and N readers
   addc PATH SDDL, addo PATH SDDL       adds a container, an object
   owner PATH SID, group PATH SID       gives the node an owner, a group
@@ -118,6 +118,8 @@ Each line is a command, and is answered by a line; an empty line and one that be
   check I PATH USER MASK [WORD]...     asks, as reader I, whether the user is granted the mask
   why I PATH USER MASK [WORD]...       asks why such a check is answered as it is
   show I PATH                          asks, as reader I, for the node's descriptor
+  list [PATH]                          tells the published nodes at and below the path, or all of them
+  dump                                 tells the published tree as lines of a script that makes it
 
 Generic rights are mapped as files', or as '--mapping' before 'script' tells: 'sdstore help verdict'
 has the kinds.
@@ -151,7 +153,7 @@ const AUDIT_NOTES: &str = "\
 Each line is answered as by 'sdstore script', but that
   open N SDDL                          opens the store for as many readers as there are workers
   check I PATH USER MASK [WORD]...     is kept, whatever its reader, and answered at the end
-  tell, learn I L, why .., show I PATH are faults
+  tell, learn I L, why .., show I PATH, list, dump are faults
 At the end all edits are published, and each check is answered by them, in order. '--mapping' stands
 before 'audit', as before 'script'.
 

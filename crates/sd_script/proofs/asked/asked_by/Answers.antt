@@ -23,3 +23,6 @@ returns-in-Check c = rw (c.in-Check.is) c.checked.ensures
 
 pub returns-in-Why : goal.returns-in-Why
 returns-in-Why c = rw (c.in-Why.is) c.explained.ensures
+
+pub returns-in-ListNodes : goal.returns-in-ListNodes
+returns-in-ListNodes c = rw (c.in-ListNodes.is) c.listed.ensures

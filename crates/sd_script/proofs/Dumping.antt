@@ -1,0 +1,213 @@
+-- The lines that make a tree, and whether they are read as what makes it.
+use Rattle.std.proofs.Common.{◌≡◌, ℕ, zero, suc, ◌+◌, ◌<◌, ◌≤◌, Bool, true, false, List, [], ◌∷◌, ◌++◌, length, get_or, Option, Some, None, Result, Ok, Err, refl, sym, ◌∙◌, ap, subst, inl, inr, append_assoc, append-nil, arith}
+use Rattle.std.specs.Prelude.{IfOk, drop, nat_lt, slice_get, option_map, codes}
+use Rattle.std.specs.Bool.{Decides}
+use Rattle.std.specs.Fmt.{decimal}
+use Rattle.std.specs.FinMap.{entries, len, len-entries}
+use Rattle.std.specs.List.{flat_map, position_or_len, before_first, after_first}
+use Rattle.std.specs.Ordering.{eq_by_cmp}
+use Rattle.std.specs.declared.alloc.AllocError.{AllocError}
+use Rattle.std.specs.Str.Lines.{lines, strip_carriage_return}
+use Rattle.std.proofs.Math.ListN.{drop_of_length-le}
+use Rattle.std.proofs.lemmas.Bool.{cases_lt, false≢true, lt-ltb}
+use Rattle.sd_acl.specs.Descriptor.{DescriptorValue}
+use Rattle.sd_text.specs.Canon.{canon}
+use Rattle.sd_tree.specs.Names.{Names, is_root, names_cmp}
+use Rattle.sd_tree.specs.PathText.{text_of}
+use Rattle.sd_tree.specs.Plain.{PlainTree, row_at}
+use Rattle.sd_tree.specs.Answers.{given_at}
+use Rattle.sd_tree.specs.Descriptors.{own_descriptor_of_row}
+use Rattle.sd_tree.specs.declared.node.NodeKind.{NodeKind}
+use Rattle.sd_tree.specs.declared.node.Row.{Row}
+use Rattle.sd_tree.proofs.Moved.{entry_there}
+use Rattle.sd_tree.proofs.Rows.{one_path, path_itself}
+use Rattle.sd_script.specs.Answer.{line}
+use Rattle.sd_script.specs.Command.{line_asks}
+use Rattle.sd_script.specs.Dump.{adding_word, making, makings, making_line, IsAskedBy, AreAskedBy}
+use Rattle.sd_script.specs.Lines.{is_silent}
+use Rattle.sd_script.specs.declared.asked.Asked.{Asked}
+use Rattle.sd_script.specs.declared.fault.LineFault.{LineFault}
+use Rattle.sd_script.proofs.Cutting.{feeds, lines_first, lines_whole}
+use Rattle.sd_script.proofs.OneReading.{line-one}
+
+-- the order of paths tells whether they are one
+pub path_decides : (p q : Names) (r : Bool) → r ≡ eq_by_cmp names_cmp p q → Decides r (p ≡ q)
+path_decides p q r is = (λ e. one_path p q (sym is ∙ e), λ e. is ∙ ap (eq_by_cmp names_cmp p) (sym e) ∙ path_itself p)
+
+-- ---- the line of a node
+
+pub root_line : (readers : ℕ) (path : Names) (row : Row) → is_root path ≡ true
+    → making_line readers path row ≡ line (codes "open " ++ decimal readers ++ codes " " ++ canon (own_descriptor_of_row row))
+root_line readers [] row is = refl
+root_line readers (name ∷ names) row is = absurd (cc (is))
+
+pub adding_line : (readers : ℕ) (path : Names) (row : Row) → is_root path ≡ false
+    → making_line readers path row ≡ line (adding_word row.kind ++ codes " " ++ text_of path ++ codes " " ++ canon (own_descriptor_of_row row))
+adding_line readers [] row is = absurd (cc (is))
+adding_line readers (name ∷ names) row is = refl
+
+-- ---- the nodes one after the other
+
+pub there_at : {A : Type 0} (xs : List A) (k : ℕ) (d x : A) → Some x ≡ slice_get xs k → (k < length xs) × (get_or xs k d ≡ x)
+there_at [] k d x is = absurd (cc (is))
+there_at (y ∷ xs) zero d x is = let same : x ≡ y = cc (is) in (omega arith, sym same)
+there_at (y ∷ xs) (suc k) d x is = let rest = there_at xs k d x is in (let low = rest.0 in omega (arith, low), rest.1)
+
+pub none_past : {A : Type 0} (xs : List A) (k : ℕ) → k < length xs → None ≡ slice_get xs k → ⊥
+none_past [] k low none = omega (arith, low)
+none_past (x ∷ xs) zero low none = cc (none)
+none_past (x ∷ xs) (suc k) low none = none_past xs k (omega (arith, low)) none
+
+pub below_count : (t : PlainTree) (k n : ℕ) → n ≡ len t → k < n → k < length (entries t)
+below_count t k n count low = let size = len-entries t in omega (arith, size, count, low)
+
+-- what was given to the node of an entry
+pub given_there : (t : PlainTree) (k : ℕ) (path : Names) (row : Row) → Some (path, row) ≡ slice_get (entries t) k
+    → given_at t path ≡ Some (row.kind, own_descriptor_of_row row)
+given_there t k path row is =
+    let at : (k < length (entries t)) × (get_or (entries t) k (path, row) ≡ (path, row)) = there_at (entries t) k (path, row) (path, row) is in
+    let stands = subst (λ (e : Names × Row). row_at t e.0 ≡ Some e.1) at.1 (entry_there t k (path, row) at.0) in
+    ap (option_map (λ (r : Row). (r.kind, own_descriptor_of_row r))) stands
+
+-- two that are told the same
+abbrev pub told : NodeKind → DescriptorValue → Option (NodeKind × DescriptorValue)
+told kind d = Some (kind, d)
+
+abbrev second : DescriptorValue → Option (NodeKind × DescriptorValue) → DescriptorValue
+second d None = d
+second d (Some pair) = pair.1
+
+pub second_of : (a b : NodeKind) (x y : DescriptorValue) → told a x ≡ told b y → x ≡ y
+second_of a b x y e = ap (second x) e
+
+-- the piece of a node, and those of the nodes behind it
+next_piece : {A : Type 0} (f : A → List ℕ) (es : List A) (k : ℕ) (piece : List ℕ) → Some piece ≡ option_map f (slice_get es k)
+    → flat_map f (drop k es) ≡ piece ++ flat_map f (drop (suc k) es)
+next_piece f [] k piece is = absurd (cc (is))
+next_piece f (e ∷ es) zero piece is = let same : piece ≡ f e = cc (is) in ap (λ xs. xs ++ flat_map f es) (sym same)
+next_piece f (e ∷ es) (suc k) piece is = next_piece f es k piece is
+
+pub piece_more : {A : Type 0} (f : A → List ℕ) (es : List A) (k : ℕ) (text piece grown whole : List ℕ) → Some piece ≡ option_map f (slice_get es k)
+    → grown ≡ text ++ piece → text ++ flat_map f (drop k es) ≡ whole → grown ++ flat_map f (drop (k + 1) es) ≡ whole
+piece_more f es k text piece grown whole is more so_far =
+    let next : k + 1 ≡ suc k = omega arith in
+    rw (more, next) (append_assoc text piece (flat_map f (drop (suc k) es)) ∙ ap (λ xs. text ++ xs) (sym (next_piece f es k piece is)) ∙ so_far)
+
+pub none_left : (f : Names × Row → List ℕ) (t : PlainTree) (k n : ℕ) (text whole : List ℕ) → len t ≡ n → n ≤ k
+    → text ++ flat_map f (drop k (entries t)) ≡ whole → text ≡ whole
+none_left f t k n text whole count past so_far =
+    let size = len-entries t in
+    let none : drop k (entries t) ≡ [] = drop_of_length-le (entries t) (omega (arith, size, count, past)) in
+    sym (append-nil text) ∙ ap (λ es. text ++ flat_map f es) (sym none) ∙ so_far
+
+-- ---- whether a line is read as this
+
+abbrev good : Asked → Result Asked LineFault
+good asked = Ok asked
+
+same_read : {r : Bool} (asked wanted : Asked) → Decides r (asked ≡ wanted) → Decides r (good asked ≡ good wanted)
+same_read asked wanted same = (λ e. ap Ok (same.0 e), λ e. same.1 (cc (e)))
+
+decides_read : (is_open : Bool) (text : List ℕ) (read : Result Asked LineFault) (wanted : Asked) (r : Bool) → is_silent text ≡ false
+    → line_asks is_open text read → Decides r (read ≡ Ok wanted) → Decides r (IsAskedBy is_open text wanted)
+decides_read is_open text read wanted r loud asks same =
+    (λ e. (loud, subst (λ x. line_asks is_open text x) (same.0 e) asks), λ is. same.1 (line-one is_open text read (Ok wanted) asks is.1))
+
+pub read_decides : (is_open : Bool) (text : List ℕ) (asked wanted : Asked) (r : Bool) → is_silent text ≡ false
+    → line_asks is_open text (Ok asked) → Decides r (asked ≡ wanted) → Decides r (IsAskedBy is_open text wanted)
+read_decides is_open text asked wanted r loud asks same = decides_read is_open text (Ok asked) wanted r loud asks (same_read asked wanted same)
+
+-- a line with a fault is read as nothing
+pub fault_decides : (is_open : Bool) (text : List ℕ) (fault : LineFault) (wanted : Asked) → is_silent text ≡ false
+    → line_asks is_open text (Err fault) → Decides false (IsAskedBy is_open text wanted)
+fault_decides is_open text fault wanted loud asks =
+    decides_read is_open text (Err fault) wanted false loud asks (λ e. absurd (false≢true e), λ e. absurd (cc (e)))
+
+-- ---- lines
+
+pub no_lines : (xs : List ℕ) → length xs ≡ 0 → lines xs ≡ []
+no_lines [] none = refl
+no_lines (x ∷ xs) none = absurd (omega arith)
+
+some_lines : (xs : List ℕ) → 0 < length xs → (x : List ℕ) × (more : List (List ℕ)) × (lines xs ≡ x ∷ more)
+some_lines xs some = elim (cases_lt (position_or_len feeds xs) (length xs)) [
+  | inl low ↦ (strip_carriage_return (before_first feeds xs), lines (after_first feeds xs), lines_first xs low)
+  | inr whole ↦ (xs, [], lines_whole xs some whole)
+]
+
+-- a text whose first line is this, and nothing behind it
+pub one_line : (is_open : Bool) (texts : List (List ℕ)) (text rest : List ℕ) (wanted : Asked) (r : Bool) → texts ≡ text ∷ lines rest → length rest ≡ 0
+    → Decides r (IsAskedBy is_open text wanted) → Decides r (AreAskedBy is_open texts (wanted ∷ []))
+one_line is_open texts text rest wanted r cut none decides =
+    let whole : texts ≡ text ∷ [] = cut ∙ ap (λ more. text ∷ more) (no_lines rest none) in
+    rw whole (λ e. (decides.0 e, tt), λ are. decides.1 are.0)
+
+-- more lines than one are asked by more than one
+pub not_one_line : (is_open : Bool) (texts : List (List ℕ)) (text rest : List ℕ) (wanted : Asked) → texts ≡ text ∷ lines rest → 0 < length rest
+    → AreAskedBy is_open texts (wanted ∷ []) → ⊥
+not_one_line is_open texts text rest wanted cut some are =
+    let more = some_lines rest some in
+    let whole : texts ≡ text ∷ more.0 ∷ more.1 = cut ∙ ap (λ xs. text ∷ xs) more.2 in
+    (subst (λ xs. AreAskedBy is_open xs (wanted ∷ [])) whole are).1
+
+pub silent_line : (is_open : Bool) (texts : List (List ℕ)) (text rest : List ℕ) (wanted : Asked) → texts ≡ text ∷ lines rest → is_silent text ≡ true
+    → AreAskedBy is_open texts (wanted ∷ []) → ⊥
+silent_line is_open texts text rest wanted cut silent are =
+    let asked = subst (λ xs. AreAskedBy is_open xs (wanted ∷ [])) cut are in
+    false≢true (sym asked.0.0 ∙ silent)
+
+-- ---- the nodes that are left
+
+-- two facts that hold together
+pub record Same (P Q : Type 0) : Type 0 where
+  pub there : P → Q
+  pub back : Q → P
+
+pub some_there : {A : Type 0} (xs : List A) (k : ℕ) → k < length xs → (x : A) × (Some x ≡ slice_get xs k)
+some_there [] k low = absurd (omega (arith, low))
+some_there (x ∷ xs) zero low = (x, refl)
+some_there (x ∷ xs) (suc k) low = some_there xs k (omega (arith, low))
+
+next_left : {A : Type 0} (xs : List A) (k : ℕ) (x : A) → Some x ≡ slice_get xs k → drop k xs ≡ x ∷ drop (suc k) xs
+next_left [] k x is = absurd (cc (is))
+next_left (y ∷ xs) zero x is = let same : x ≡ y = cc (is) in ap (λ z. z ∷ xs) (sym same)
+next_left (y ∷ xs) (suc k) x is = next_left xs k x is
+
+module _ (readers : ℕ) (es : List (Names × Row)) (behind : List Asked) where
+  abbrev Left : Bool → List (List ℕ) → ℕ → Type 0
+  Left is_open texts k = AreAskedBy is_open texts (makings readers (drop k es) ++ behind)
+
+  -- the first of the lines that are left is the next node's, and the others are left behind it
+  left_is : (is_open : Bool) (texts : List (List ℕ)) (text : List ℕ) (more : List (List ℕ)) (k : ℕ) (node : Names × Row) → Some node ≡ slice_get es k
+      → texts ≡ text ∷ more → Same (IsAskedBy is_open text (making readers node.0 node.1) × Left true more (suc k)) (Left is_open texts k)
+  left_is is_open texts text more k node is cut = rw (cut, next_left es k node is) (record { there = λ x. (x.0, x.1); back = λ x. (x.0, x.1) })
+
+  opened : (k : ℕ) → nat_lt 0 (k + 1) ≡ true
+  opened k = lt-ltb 0 (k + 1) (omega arith)
+
+  pub next_same : (texts : List (List ℕ)) (text : List ℕ) (more : List (List ℕ)) (k : ℕ) (node : Names × Row) (whole : Type 0) → Some node ≡ slice_get es k
+      → texts ≡ text ∷ more → IsAskedBy (nat_lt 0 k) text (making readers node.0 node.1) → Same (Left (nat_lt 0 k) texts k) whole
+      → Same (Left (nat_lt 0 (k + 1)) more (k + 1)) whole
+  next_same texts text more k node whole is cut asked same =
+      let split = left_is (nat_lt 0 k) texts text more k node is cut in
+      let next : k + 1 ≡ suc k = omega arith in
+      rw (opened k, next) (record { there = λ left. same.there (split.there (asked, left)); back = λ all. (split.back (same.back all)).1 })
+
+  pub not_next : (texts : List (List ℕ)) (text : List ℕ) (more : List (List ℕ)) (k : ℕ) (node : Names × Row) (whole : Type 0) → Some node ≡ slice_get es k
+      → texts ≡ text ∷ more → (IsAskedBy (nat_lt 0 k) text (making readers node.0 node.1) → ⊥) → Same (Left (nat_lt 0 k) texts k) whole → whole → ⊥
+  not_next texts text more k node whole is cut unasked same all = unasked ((left_is (nat_lt 0 k) texts text more k node is cut).back (same.back all)).0
+
+-- where no node is left, what is asked last tells of all
+pub last_same : (readers : ℕ) (t : PlainTree) (behind : List Asked) (texts : List (List ℕ)) (k n : ℕ) (whole : Type 0) → len t ≡ n → k ≡ n
+    → Same (AreAskedBy (nat_lt 0 k) texts (makings readers (drop k (entries t)) ++ behind)) whole → Same (AreAskedBy (nat_lt 0 n) texts behind) whole
+last_same readers t behind texts k n whole count at same =
+    let size = len-entries t in
+    let none : drop k (entries t) ≡ [] = drop_of_length-le (entries t) (omega (arith, size, count, at)) in
+    let P : List (Names × Row) → Type 0 = λ es. Same (AreAskedBy (nat_lt 0 k) texts (makings readers es ++ behind)) whole in
+    let left : Same (AreAskedBy (nat_lt 0 k) texts behind) whole = subst P none same in
+    let Q : ℕ → Type 0 = λ m. Same (AreAskedBy (nat_lt 0 m) texts behind) whole in
+    subst Q at left
+
+pub tells_of_all : {P Q : Type 0} (r : Result Bool AllocError) → Same P Q → IfOk r (λ is. Decides is P) → IfOk r (λ is. Decides is Q)
+tells_of_all (Ok is) same decides = (λ e. same.there (decides.0 e), λ all. decides.1 (same.back all))
+tells_of_all (Err e) same decides = tt

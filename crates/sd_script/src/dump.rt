@@ -1,0 +1,174 @@
+//! A published tree as lines of a script.
+ghost use Rattle.std.specs.Prelude.{◌≡◌, ◌<◌, ◌∷◌, IfOk, Some, [], length, nat_lt, option_map, slice_get, string_bytes};
+ghost use Rattle.std.specs.Bool.{Decides};
+ghost use Rattle.std.specs.FinMap.{entries};
+ghost use Rattle.sd_tree.specs.Journal.{replay};
+ghost use Rattle.sd_tree.specs.Listing.{listed};
+ghost use Rattle.std.specs.Str.Lines.{lines};
+ghost use Rattle.sd_acl.specs.Descriptor.{descriptor_of};
+ghost use Rattle.sd_tree.specs.Descriptors.{own_descriptor_of_row};
+ghost use Rattle.sd_tree.specs.Names.{Names};
+ghost use Rattle.sd_tree.specs.declared.node.Row.{Row};
+ghost use Rattle.sd_script.specs.Dump.{AreAskedBy, IsAskedBy, IsDumpOf, IsReadBack, adding_word as adding_word_of, making, making_line as making_line_of, making_lines as making_lines_of};
+ghost use Rattle.sd_script.specs.declared.asked.Asked.TheVariants.{Asking};
+ghost use Rattle.sd_share.specs.declared.request.Request.TheVariants.{Publish};
+
+use crate::answer::fault_line;
+use crate::asked::Asked;
+use crate::fault::Stop;
+use crate::line::read_line;
+use crate::lines::{first_line, is_silent};
+use crate::same::{is_making, is_publishing};
+use sd_acl::Descriptor;
+use sd_text::print_sddl;
+use sd_tree::{NodeKind, NodeRef, Tree};
+use std::alloc::{AllocError, Global};
+
+/// The lines that make the tree: an opening for so many readers, an addition for each other node, a parent before what it
+/// holds, and `publish`. `fault name` where one of them isn't read as what makes its node.
+pub(crate) fn dump_text(alloc: Global, tree: &Tree, readers: u64) -> Result<String, AllocError>
+    ensures { IfOk result (λ text. IsDumpOf readers (replay tree.now.opening tree.now.journal) (string_bytes text)) }
+{
+    let mut text = making_lines(alloc, tree, readers)?;
+    text.push_str("publish\n")?;
+    if is_read_back(alloc, tree, readers, text.as_bytes())? {
+        Ok(text)
+    } else {
+        fault_line(alloc, "name")
+    }
+}
+
+/// The line of each node.
+fn making_lines(alloc: Global, tree: &Tree, readers: u64) -> Result<String, AllocError>
+    ensures { IfOk result (λ text. string_bytes text
+        ≡ making_lines_of readers (entries (replay tree.now.opening tree.now.journal))) }
+{
+    let mut text = String::new(alloc);
+    for index in 0..tree.node_count() {
+        let line = line_at(alloc, tree, readers, index)?;
+        text.push_str(&line)?;
+    }
+    Ok(text)
+}
+
+/// The line that makes the node of a place.
+fn line_at(alloc: Global, tree: &Tree, readers: u64, index: usize) -> Result<String, AllocError>
+    requires { index < length (entries (replay tree.now.opening tree.now.journal)) }
+    ensures { IfOk result (λ text. Some (string_bytes text) ≡ option_map
+        (λ node. making_line_of readers node.0 node.1)
+        (slice_get (entries (replay tree.now.opening tree.now.journal)) index)) }
+{
+    match tree.node(index) {
+        Some(node) => match tree.given(node.path)? {
+            Some((_, given)) => making_line(alloc, readers, &node, &given),
+            None => unreachable!(),
+        },
+        None => unreachable!(),
+    }
+}
+
+/// The line that makes a node with this descriptor of its own: an opening for the root, and else an addition.
+fn making_line(
+    alloc: Global,
+    readers: u64,
+    node: &NodeRef<'_>,
+    given: &Descriptor,
+) -> Result<String, AllocError>
+    requires { descriptor_of given.now ≡ own_descriptor_of_row (listed node.now).1 }
+    ensures { IfOk result (λ text. string_bytes text
+        ≡ making_line_of readers (listed node.now).0 (listed node.now).1) }
+{
+    let (path, sddl) = (node.path, print_sddl(alloc, given)?);
+    if path.as_path_ref().is_root() {
+        let text = format!(in alloc; "open {readers} {sddl}\n")?;
+        return Ok(text);
+    }
+    let word = adding_word(node.kind);
+    let text = format!(in alloc; "{word} {path} {sddl}\n")?;
+    Ok(text)
+}
+
+fn adding_word(kind: NodeKind) -> &'static str
+    ensures { result.now ≡ adding_word_of kind }
+{
+    match kind {
+        NodeKind::Container => "addc",
+        NodeKind::Object => "addo",
+    }
+}
+
+/// Whether the text is read as what makes the tree, line by line, and a publish.
+fn is_read_back(alloc: Global, tree: &Tree, readers: u64, text: &[u8]) -> Result<bool, AllocError>
+    ensures { IfOk result (λ is. Decides is
+        (IsReadBack readers (replay tree.now.opening tree.now.journal) text.now)) }
+{
+    let mut rest = text;
+    for index in 0..tree.node_count() {
+        if rest.is_empty() {
+            return Ok(false);
+        }
+        let (line, after) = first_line(rest);
+        if !is_read_as_node(alloc, tree, readers, index, line)? {
+            return Ok(false);
+        }
+        rest = after;
+    }
+    is_read_as_publish(alloc, tree.node_count() > 0, rest)
+}
+
+/// Whether a line is read as what makes the node of a place; only the first is read where no store is open.
+fn is_read_as_node(
+    alloc: Global,
+    tree: &Tree,
+    readers: u64,
+    index: usize,
+    line: &[u8],
+) -> Result<bool, AllocError>
+    requires { index < length (entries (replay tree.now.opening tree.now.journal)) }
+    ensures { (node : Names × Row) → Some node ≡ slice_get (entries (replay tree.now.opening tree.now.journal)) index
+        → IfOk result (λ is. Decides is (IsAskedBy (nat_lt 0 index) line.now (making readers node.0 node.1))) }
+{
+    match tree.node(index) {
+        Some(node) => is_read_as(alloc, index > 0, line, readers, &node),
+        None => unreachable!(),
+    }
+}
+
+/// Whether a line is read as what makes the node.
+fn is_read_as(
+    alloc: Global,
+    is_open: bool,
+    line: &[u8],
+    readers: u64,
+    node: &NodeRef<'_>,
+) -> Result<bool, AllocError>
+    ensures { IfOk result (λ is. Decides is
+        (IsAskedBy is_open line.now (making readers (listed node.now).0 (listed node.now).1))) }
+{
+    if is_silent(line) {
+        return Ok(false);
+    }
+    match read_line(alloc, is_open, line) {
+        Ok(asked) => Ok(is_making(&asked, readers, node)),
+        Err(Stop::Fault(_)) => Ok(false),
+        Err(Stop::Memory) => Err(AllocError),
+    }
+}
+
+/// Whether a text is one line, which asks for a publish.
+fn is_read_as_publish(alloc: Global, is_open: bool, text: &[u8]) -> Result<bool, AllocError>
+    ensures { IfOk result (λ is. Decides is (AreAskedBy is_open (lines text.now) (Asking Publish ∷ []))) }
+{
+    if text.is_empty() {
+        return Ok(false);
+    }
+    let (line, after) = first_line(text);
+    if !after.is_empty() || is_silent(line) {
+        return Ok(false);
+    }
+    match read_line(alloc, is_open, line) {
+        Ok(asked) => Ok(is_publishing(&asked)),
+        Err(Stop::Fault(_)) => Ok(false),
+        Err(Stop::Memory) => Err(AllocError),
+    }
+}

@@ -1,0 +1,127 @@
+//! Whether what a line asks for is what makes a node, or a publish.
+ghost use Rattle.std.specs.Prelude.{◌≡◌};
+ghost use Rattle.std.specs.Bool.{Decides};
+ghost use Rattle.sd_tree.specs.Listing.{listed};
+ghost use Rattle.sd_script.specs.Dump.{addition, making, root_of};
+ghost use Rattle.sd_script.specs.declared.asked.Asked.TheVariants.{Asking};
+ghost use Rattle.sd_share.specs.declared.request.Request.TheVariants.{Publish};
+
+use crate::asked::Asked;
+use sd_acl::Ace;
+use sd_share::Request;
+use sd_sid::Sid;
+use sd_tree::{Edit, NodeDacl, NodeKind, NodeRef, Path, RootSpec};
+
+/// Whether this makes the node, whose tree is opened for so many readers.
+pub(crate) fn is_making(asked: &Asked, readers: u64, node: &NodeRef<'_>) -> bool
+    ensures { Decides result (asked.now ≡ making readers (listed node.now).0 (listed node.now).1) }
+{
+    let is_root = node.path.as_path_ref().is_root();
+    match asked {
+        Asked::Opening {
+            readers: some,
+            root,
+        } => { is_root && *some == readers && is_root_of(root, node) }
+        Asked::Asking(Request::Edit(edit)) => !is_root && is_addition(edit, node),
+        _ => false,
+    }
+}
+
+/// Whether this asks for a publish.
+pub(crate) fn is_publishing(asked: &Asked) -> bool
+    ensures { Decides result (asked.now ≡ Asking Publish) }
+{
+    matches!(asked, Asked::Asking(Request::Publish))
+}
+
+/// Whether the root is given what the node has of its own.
+fn is_root_of(root: &RootSpec, node: &NodeRef<'_>) -> bool
+    ensures { Decides result (root.now ≡ root_of (listed node.now).1) }
+{
+    root.owner.is(&node.owner) && root.group.is(&node.group) && same_dacl(&root.dacl, node.dacl)
+}
+
+/// Whether the edit adds the node.
+fn is_addition(edit: &Edit, node: &NodeRef<'_>) -> bool
+    ensures { Decides result (edit.now ≡ addition (listed node.now).1.kind (listed node.now).0 (listed node.now).1) }
+{
+    match (edit, node.kind) {
+        (
+            Edit::AddContainer {
+                path,
+                owner,
+                group,
+                dacl,
+            },
+            NodeKind::Container,
+        ) => is_node(path, owner, group, dacl, node),
+        (
+            Edit::AddObject {
+                path,
+                owner,
+                group,
+                dacl,
+            },
+            NodeKind::Object,
+        ) => is_node(path, owner, group, dacl, node),
+        _ => false,
+    }
+}
+
+/// Whether these are the node's.
+fn is_node(path: &Path, owner: &Sid, group: &Sid, dacl: &NodeDacl, node: &NodeRef<'_>) -> bool
+    ensures { Decides result ((path.now ≡ node.now.path.now) × (owner.now ≡ node.now.owner)
+        × (group.now ≡ node.now.group) × (dacl.now ≡ node.now.dacl.now)) }
+{
+    same_path(path, node.path)
+        && owner.is(&node.owner)
+        && group.is(&node.group)
+        && same_dacl(dacl, node.dacl)
+}
+
+fn same_path(one: &Path, other: &Path) -> bool
+    ensures { Decides result (one.now ≡ other.now) }
+{
+    one == other
+}
+
+fn same_dacl(one: &NodeDacl, other: &NodeDacl) -> bool
+    ensures { Decides result (one.now ≡ other.now) }
+{
+    match (one, other) {
+        (NodeDacl::Null, NodeDacl::Null) => true,
+        (
+            NodeDacl::List { protected, entries },
+            NodeDacl::List {
+                protected: too,
+                entries: others,
+            },
+        ) => *protected == *too && same_entries(entries.as_slice(), others.as_slice()),
+        _ => false,
+    }
+}
+
+/// Whether both lists are one, entry by entry.
+fn same_entries(one: &[Ace], other: &[Ace]) -> bool
+    ensures { Decides result (one.now ≡ other.now) }
+{
+    if one.len() != other.len() {
+        return false;
+    }
+    for (i, entry) in one.iter().enumerate() {
+        if !same_entry(entry, &other[i]) {
+            return false;
+        }
+    }
+    true
+}
+
+/// Whether both are one. (`==` of entries tells contracts nothing of the SIDs' values.)
+fn same_entry(one: &Ace, other: &Ace) -> bool
+    ensures { Decides result (one.now ≡ other.now) }
+{
+    one.kind == other.kind
+        && one.flags == other.flags
+        && one.mask == other.mask
+        && one.sid.is(&other.sid)
+}

@@ -1,0 +1,162 @@
+-- The lines of a dump, answered one after the other: an opening, one addition for each other node, and a publish.
+use Rattle.std.proofs.Common.{◌≡◌, ℕ, Bool, true, false, List, [], ◌∷◌, ◌++◌, length, map, take, Option, Some, None, inl, inr, refl, sym, ◌∙◌, ap, subst, replicate, slice_get, append_assoc, append-nil}
+use Rattle.std.specs.Prelude.{MatchBool, drop, codes, option_map}
+use Rattle.std.specs.Str.Lines.{lines}
+use Rattle.std.proofs.lemmas.List.{length-replicate}
+use Rattle.sd_sid.specs.Mapping.{MappingValue}
+use Rattle.sd_tree.specs.Names.{Names}
+use Rattle.sd_tree.specs.Plain.{row_at}
+use Rattle.sd_tree.specs.Journal.{opening_of, replay, refusal, root_refusal, IsLawful}
+use Rattle.sd_tree.specs.declared.edit.Edit.{Edit}
+use Rattle.sd_tree.specs.declared.node.NodeKind.{NodeKind}
+use Rattle.sd_tree.specs.declared.node.NodeKind.TheVariants.{Container, Object}
+use Rattle.sd_tree.specs.declared.node.Row.{Row}
+use Rattle.sd_tree.specs.declared.opening.Opening.{Opening}
+use Rattle.sd_tree.proofs.Closed.{closed_replay}
+use Rattle.sd_tree_renewal.specs.Renewal.{addition as added, addition_of, spec_of, IsShortest}
+use Rattle.sd_tree_renewal.proofs.Renewing.{a_container, first_entry, shortest_of_lawful}
+use Rattle.sd_share.specs.Machine.{Machine}
+use Rattle.sd_share.specs.Starts.{IsReaderCount}
+use Rattle.sd_share.specs.declared.request.Request.TheVariants as requests
+use Rattle.sd_share.specs.declared.request.Reply.TheVariants as replies
+use Rattle.sd_script.specs.Answer.{line}
+use Rattle.sd_script.specs.Dump.{addition, makings, root_of, dump_text, IsAskedBy, AreAskedBy, IsReadBack}
+use Rattle.sd_script.specs.Output.{is_open, IsAnswered, IsDone, IsTold, closing_of}
+use Rattle.sd_script.specs.Reply.{counted_line}
+use Rattle.sd_script.specs.declared.asked.Asked.{Asked}
+use Rattle.sd_script.specs.declared.asked.Asked.TheVariants.{Opening as Opens, Asking}
+use Rattle.sd_script.specs.declared.session.Session.{Session}
+use Rattle.sd_script.specs.declared.session.Session.TheVariants.{Closed, Opened}
+use Rattle.sd_script.proofs.OneOutput.{answered-one}
+use Rattle.sd_script.proofs.Timely.{line_opens}
+use Rattle.sd_script_laws.specs.Laws.{Reaches, IsSound, IsSameAgain, DumpMakesTheTreeAgain}
+
+-- ---- one line
+
+-- what a line asks for is done
+answers : (old new : Session) (text told : List ℕ) (asked : Asked) → IsAskedBy (is_open old) text asked → IsDone old asked told new
+    → IsAnswered old text (told ++ closing_of text) new
+answers old new text told asked is done =
+    let P : Bool → Type 0 = λ silent. MatchBool silent
+    ((told ++ closing_of text ≡ []) × (new ≡ old))
+    ((said : List ℕ) × IsTold old text said new × (told ++ closing_of text ≡ said ++ closing_of text)) in
+    subst P (sym is.0) (told, inl (asked, is.1, done), refl)
+
+-- and the rest of the lines behind it
+goes_on : (old between new : Session) (text told : List ℕ) (texts : List (List ℕ)) (asked : Asked) → IsAskedBy (is_open old) text asked → IsDone old asked told between
+    → Reaches between texts new → Reaches old (text ∷ texts) new
+goes_on old between new text told texts asked is done rest = (told ++ closing_of text, between, answers old between text told asked is done, rest)
+
+-- ---- the additions
+
+-- a store of which so many edits wait, and one of which they are published
+abbrev waiting : Opening → ℕ → List Edit → Machine
+waiting o n edits = record { opening = o; published = []; pending = edits; floors = replicate n [] }
+
+abbrev shown : Opening → ℕ → List Edit → Machine
+shown o n edits = record { opening = o; published = edits; pending = []; floors = replicate n [] }
+
+-- where an edit stands in a journal
+at_its_place : (front : List Edit) (e : Edit) (back : List Edit) → slice_get (front ++ e ∷ back) (length front) ≡ Some e
+at_its_place [] e back = refl
+at_its_place (x ∷ front) e back = at_its_place front e back
+
+before_it : (front : List Edit) (e : Edit) (back : List Edit) → take (length front) (front ++ e ∷ back) ≡ front
+before_it [] e back = refl
+before_it (x ∷ front) e back = ap (λ xs. x ∷ xs) (before_it front e back)
+
+next_fits : (o : Opening) (front : List Edit) (e : Edit) (back : List Edit) → IsLawful o (front ++ e ∷ back) → refusal o front e ≡ None
+next_fits o front e back lawful =
+    subst (λ edits. refusal o edits e ≡ None) (before_it front e back) (lawful (length front) e (at_its_place front e back))
+
+same_addition : (kind : NodeKind) (path : Names) (row : Row) → addition kind path row ≡ addition_of kind path row
+same_addition Container path row = refl
+same_addition Object path row = refl
+
+module _ (o : Opening) (n : ℕ) where
+  -- an edit joins those that wait
+  adds : (front : List Edit) (e : Edit) → refusal o front e ≡ None → IsDone (Opened (waiting o n front)) (Asking (requests.Edit e)) (line (codes "ok")) (Opened (waiting o n (front ++ e ∷ [])))
+  adds front e fits = (replies.Edited, waiting o n (front ++ e ∷ []), (fits, refl), refl, refl)
+
+  publishes : (front : List Edit) → IsDone (Opened (waiting o n front)) (Asking requests.Publish) (counted_line (codes "published") (length front)) (Opened (shown o n front))
+  publishes front = (replies.Published (length front), shown o n front, (refl, refl), refl, refl)
+
+  nodes_reach : (front : List Edit) (nodes : List (Names × Row)) (texts : List (List ℕ)) → IsLawful o (front ++ map added nodes)
+      → AreAskedBy true texts (makings n nodes ++ Asking requests.Publish ∷ []) → Reaches (Opened (waiting o n front)) texts (Opened (shown o n (front ++ map added nodes)))
+  nodes_reach front [] [] lawful are = absurd are
+  nodes_reach front [] (text ∷ []) lawful are =
+      rw (append-nil) (goes_on (Opened (waiting o n front)) (Opened (shown o n front)) (Opened (shown o n front)) text _ [] (Asking requests.Publish) are.0 (publishes front) refl)
+  nodes_reach front [] (text ∷ more ∷ texts) lawful are = absurd are.1
+  nodes_reach front (node ∷ nodes) [] lawful are = absurd are
+  nodes_reach front (([], row) ∷ nodes) (text ∷ texts) lawful are =
+      absurd (let no = line_opens true text (Opens n (root_of row)) are.0.1 in cc (no))
+  nodes_reach front ((name ∷ names, row) ∷ nodes) (text ∷ texts) lawful are =
+      let e : Edit = addition row.kind (name ∷ names) row in
+      let same = same_addition row.kind (name ∷ names) row in
+      let all = subst (λ x. IsLawful o (front ++ x ∷ map added nodes)) (sym same) lawful in
+      let more = subst (λ edits. IsLawful o edits) (sym (append_assoc front (e ∷ []) (map added nodes))) all in
+      let rest = nodes_reach (front ++ e ∷ []) nodes texts more are.1 in
+      let whole : (front ++ e ∷ []) ++ map added nodes ≡ front ++ map added ((name ∷ names, row) ∷ nodes) =
+      append_assoc front (e ∷ []) (map added nodes) ∙ ap (λ x. front ++ x ∷ map added nodes) same in
+      goes_on (Opened (waiting o n front)) (Opened (waiting o n (front ++ e ∷ []))) (Opened (shown o n (front ++ map added ((name ∷ names, row) ∷ nodes)))) text _ texts
+      (Asking (requests.Edit e)) are.0 (adds front e (next_fits o front e (map added nodes) all))
+      (subst (λ edits. Reaches (Opened (waiting o n (front ++ e ∷ []))) texts (Opened (shown o n edits))) whole rest)
+
+-- ---- the whole tree
+
+opens : (g : MappingValue) (n : ℕ) (row : Row) → IsReaderCount n → root_refusal (opening_of g (root_of row)) ≡ None
+    → IsDone (Closed g) (Opens n (root_of row)) (counted_line (codes "opened") n) (Opened (waiting (opening_of g (root_of row)) n []))
+opens g n row count fits = inl (count, fits, refl, refl)
+
+lines_reach : (g : MappingValue) (n : ℕ) (row : Row) (nodes : List (Names × Row)) (texts : List (List ℕ)) → IsReaderCount n
+    → root_refusal (opening_of g (root_of row)) ≡ None → IsLawful (opening_of g (root_of row)) (map added nodes)
+    → AreAskedBy false texts (makings n (([], row) ∷ nodes) ++ Asking requests.Publish ∷ [])
+    → Reaches (Closed g) texts (Opened (shown (opening_of g (root_of row)) n (map added nodes)))
+lines_reach g n row nodes [] count fits lawful are = absurd are
+lines_reach g n row nodes (text ∷ texts) count fits lawful are =
+    let o = opening_of g (root_of row) in
+    goes_on (Closed g) (Opened (waiting o n [])) (Opened (shown o n (map added nodes))) text _ texts (Opens n (root_of row)) are.0 (opens g n row count fits)
+    (nodes_reach o n [] nodes texts lawful are.1)
+
+-- ---- every run
+
+one_end : (old : Session) (texts : List (List ℕ)) (one other : Session) → Reaches old texts one → Reaches old texts other → one ≡ other
+one_end old [] one other first second = first ∙ sym second
+one_end old (text ∷ texts) one other first second =
+    let same = answered-one old text first.0 second.0 first.1 second.1 first.2 second.2 in
+    one_end second.1 texts one other (subst (λ between. Reaches between texts one) same.1 first.3) second.3
+
+-- ---- the law
+
+remade : (m : Machine) (text : List ℕ) → IsSound m → IsReadBack (length m.floors) (replay m.opening m.published) text
+    → (again : Machine) × IsSameAgain m again × Reaches (Closed m.opening.mapping) (lines text) (Opened again)
+    × ((other : Session) → Reaches (Closed m.opening.mapping) (lines text) other → other ≡ Opened again)
+remade m text sound back =
+    let t = replay m.opening m.published in
+    let n = length m.floors in
+    let g = m.opening.mapping in
+    let held = a_container (row_at t []) (closed_replay m.opening m.published sound.lawful).root in
+    let row = held.0 in
+    let first = first_entry t row held.1 in
+    let o = opening_of g (root_of row) in
+    let edits = map added first.0 in
+    let shortest : IsShortest t (spec_of row) edits = record {
+      root_is = ap (λ (x : Option Row). option_map spec_of x) (sym held.1);
+      edits_are = ap (λ (es : List (Names × Row)). map added (drop 1 es)) first.1;
+    } in
+    let makes = shortest_of_lawful m.opening m.published sound.accepted sound.lawful (spec_of row) edits shortest in
+    let are = subst (λ (es : List (Names × Row)). AreAskedBy false (lines text) (makings n es ++ Asking requests.Publish ∷ [])) (sym first.1) back in
+    let reach = lines_reach g n row first.0 (lines text) sound.readers makes.accepted makes.lawful are in (
+      shown o n edits,
+      record { mapping = refl; tree = makes.made; nothing_waits = refl; readers = length-replicate n [] },
+      reach,
+      λ other reaches. one_end (Closed g) (lines text) other (Opened (shown o n edits)) reaches reach,
+    )
+
+pub dump_makes_the_tree_again : DumpMakesTheTreeAgain
+dump_makes_the_tree_again m printed new sound (inl told, same) fault =
+    let again = remade m (dump_text (length m.floors) (replay m.opening m.published)) sound told.0 in
+    let P : List ℕ → Type 0 = λ text. (again : Machine) × IsSameAgain m again × Reaches (Closed m.opening.mapping) (lines text) (Opened again)
+    × ((other : Session) → Reaches (Closed m.opening.mapping) (lines text) other → other ≡ Opened again) in
+    subst P (sym told.1) again
+dump_makes_the_tree_again m printed new sound (inr refused, same) fault = absurd (fault refused.1)

@@ -1,0 +1,37 @@
+-- What a dump is for: as a script it makes the published tree again.
+use Rattle.std.specs.Prelude.{◌≡◌, ◌≢◌, ℕ, List, [], ◌∷◌, length, None, codes}
+use Rattle.std.specs.Str.Lines.{lines}
+use Rattle.sd_tree.specs.Journal.{replay, root_refusal, IsLawful}
+use Rattle.sd_share.specs.Machine.{Machine}
+use Rattle.sd_share.specs.Starts.{IsReaderCount}
+use Rattle.sd_script.specs.Answer.{fault_line}
+use Rattle.sd_script.specs.Output.{IsAnswered, IsDone}
+use Rattle.sd_script.specs.declared.asked.Asked.TheVariants.{Dumping}
+use Rattle.sd_script.specs.declared.session.Session.{Session}
+use Rattle.sd_script.specs.declared.session.Session.TheVariants.{Closed, Opened}
+
+-- the lines are answered one after the other, and then this stands
+abbrev pub Reaches : Session → List (List ℕ) → Session → Type 0
+Reaches old [] new = new ≡ old
+Reaches old (line ∷ lines) new =
+    (printed : List ℕ) × (between : Session) × IsAnswered old line printed between × Reaches between lines new
+
+-- a machine as each run of a store has one: readers enough and not too many, an opening that isn't refused, and accepted edits
+pub record IsSound (m : Machine) : Type 0 where
+  pub readers : IsReaderCount (length m.floors)
+  pub accepted : root_refusal m.opening ≡ None
+  pub lawful : IsLawful m.opening m.published
+
+-- a store with the same published tree, for as many readers, where nothing waits
+pub record IsSameAgain (m again : Machine) : Type 0 where
+  pub mapping : again.opening.mapping ≡ m.opening.mapping
+  pub tree : replay again.opening again.published ≡ replay m.opening m.published
+  pub nothing_waits : again.pending ≡ []
+  pub readers : length again.floors ≡ length m.floors
+
+-- where what is told isn't the fault
+abbrev pub DumpMakesTheTreeAgain : Type 0
+DumpMakesTheTreeAgain =
+    (m : Machine) (printed : List ℕ) (new : Session) → IsSound m → IsDone (Opened m) Dumping printed new → printed ≢ fault_line (codes "name")
+    → (again : Machine) × IsSameAgain m again × Reaches (Closed m.opening.mapping) (lines printed) (Opened again)
+    × ((other : Session) → Reaches (Closed m.opening.mapping) (lines printed) other → other ≡ Opened again)
