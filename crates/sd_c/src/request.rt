@@ -79,6 +79,7 @@ fn state_of(number: u32) -> Option<GroupState>
 }
 
 /// The group at the front of the bytes, and how many of them its SID takes.
+#[inline(always)]
 #[tactic(auto, unfolding(crate::specs::Request::group_read))]
 fn group_of(bytes: &[u8], number: u32, at: usize) -> Result<((Sid, GroupState), usize), NotRead>
     ensures read { result ≡ group_read bytes.now number at }
@@ -107,7 +108,11 @@ fn groups_of(alloc: Global, bytes: &[u8], states: &[u32]) -> Result<Vec<(Sid, Gr
     let mut rest = bytes;
     for at in 0..states.len() {
         let (group, size) = group_of(rest, states[at], at)?;
-        groups.push(group)?;
+        let (sid, state) = group;
+        // The pair is made anew, in its place: where it is handed on whole, what fills it up behind its state is copied too, in two
+        // parts that overlap, and each group waits for that.
+        groups.reserve(1)?;
+        groups.push_reserved((sid, state));
         rest = &rest[size..];
     }
     if !rest.is_empty() {

@@ -14,5 +14,5 @@ returns-in_err-group-clause-read c =
 pub loop-at-preserved : goal.loop-at-preserved
 loop-at-preserved c =
     let so_far = goes_on c.loop-at.rest.now c.args.states.now (length c.args.states.now) c.loop-at.at c.loop-at.groups.items c.in_ok-group.group c.in_ok-group.size (groups_read c.args.bytes.now c.args.states.now 0 (length c.args.states.now)) c.loop-at-test.true (sym c.in_ok-group.ensures.read) c.loop-at.invariant in
-    let pushed : c.push.new.self.items ≡ c.loop-at.groups.items ++ c.in_ok-group.group ∷ [] = search rules in
+    let pushed : c.push_reserved.new.self.items ≡ c.loop-at.groups.items ++ c.in_ok-group.group ∷ [] = search rules in
     rw (pushed, take_rest c.loop-at.rest.now c.in_ok-group.size) so_far
