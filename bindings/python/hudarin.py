@@ -6,7 +6,8 @@
     'granted 0x1'
 
 The shared library is the one that the environment's HUDARIN_LIBRARY names, else that of bindings/build beside this file,
-else the system's. Any number of threads may use this module: its objects never change, but that a Token is closed.
+else the system's. Any number of threads may use this module: its objects never change, but that what the library keeps is closed,
+and a Store is edited.
 """
 
 import ctypes
@@ -203,6 +204,7 @@ def _load():
     library.hudarin_check.restype = _Verdict
     library.hudarin_keep_bytes.argtypes, library.hudarin_keep_bytes.restype = given + [kept], _Written
     library.hudarin_keep_token.argtypes, library.hudarin_keep_token.restype = token + [kept], _Verdict
+    library.hudarin_check_kept.argtypes, library.hudarin_check_kept.restype = [kept, kept, _Mapping, _U32], _Verdict
     library.hudarin_check_bytes.argtypes, library.hudarin_check_bytes.restype = given + [kept, _Mapping, _U32], _Verdict
     library.hudarin_explain.argtypes, library.hudarin_explain.restype = [kept, kept, _Mapping, _U32], _Explanation
     library.hudarin_share.argtypes, library.hudarin_share.restype = [kept, kept], _Written
@@ -444,6 +446,12 @@ class _Held:
         with self._turn:
             _library.hudarin_release(self._kept)
 
+    def _shared(self, other):
+        """The other one, which keeps the same from now on."""
+        with self._turn:
+            _held(_library.hudarin_share(self._kept, other._kept))
+        return other
+
     def __exit__(self, *_: object) -> None:
         self.close()
 
@@ -454,7 +462,8 @@ class _Held:
 
 class Token(_Held):
     """A user, groups and privileges, read once for many checks: ``with Token(user, groups) as token: ..``, or until ``close``.
-    Its arguments are those of ``Descriptor.check``. Threads may use one at once, and take turns at it."""
+    Its arguments are those of ``Descriptor.check``. Threads may use one at once, and take turns at it; ``share`` makes another of the
+    same, which they needn't wait for."""
 
     __slots__ = ()
 
@@ -466,6 +475,12 @@ class Token(_Held):
 
     def __enter__(self) -> "Token":
         return self
+
+    def share(self) -> "Token":
+        """Another token of the same, which is closed by itself."""
+        other = Token.__new__(Token)
+        _Held.__init__(other)
+        return self._shared(other)
 
 
 class Descriptor:
@@ -550,21 +565,55 @@ class Descriptor:
         restricting: Iterable[Sid] = (),
     ) -> Explanation:
         """Why ``check`` answers as it does, with the same arguments: an ``Explanation``."""
-        token = _token(user, groups, privileges, restricting)
-        request = _mapping(mapping), _number(asked, "asked")
-        descriptor, who = _Kept(), _Kept()
-        try:
-            _held(_library.hudarin_keep_bytes(self._bytes, len(self._bytes), descriptor))
-            _held(_library.hudarin_keep_token(*token, who))
-            explained = _library.hudarin_explain(descriptor, who, *request)
-        finally:
-            _library.hudarin_release(descriptor)
-            _library.hudarin_release(who)
+        with KeptDescriptor(self) as kept, Token(user, groups, privileges, restricting) as token:
+            return kept.explain(token, asked, mapping)
+
+
+class KeptDescriptor(_Held):
+    """A ``Descriptor``, read once for many checks: ``with KeptDescriptor(descriptor) as kept: ..``, or until ``close``. Threads may use
+    one at once, and take turns at it; ``share`` makes another of the same, which they needn't wait for."""
+
+    __slots__ = ("descriptor",)
+
+    #: What is kept.
+    descriptor: Descriptor
+
+    def __init__(self, descriptor: Descriptor) -> None:
+        given = bytes(_wanted(descriptor, Descriptor, "descriptor"))
+        super().__init__()
+        self.descriptor = descriptor
+        _held(_library.hudarin_keep_bytes(given, len(given), self._kept))
+
+    def __enter__(self) -> "KeptDescriptor":
+        return self
+
+    def share(self) -> "KeptDescriptor":
+        """Another one of the same, which is closed by itself."""
+        other = KeptDescriptor.__new__(KeptDescriptor)
+        _Held.__init__(other)
+        other.descriptor = self.descriptor
+        return self._shared(other)
+
+    def check(self, token: Token, asked: int = 0, mapping: Iterable[int] = FILES) -> Verdict:
+        """The verdict on ``asked`` for a ``Token``. What was closed, of the two, is a ``Refused``."""
+        answer = _held(self._asked(_library.hudarin_check_kept, token, asked, mapping))
+        return Verdict(VERDICTS[answer.kind], answer.mask)
+
+    def explain(self, token: Token, asked: int = 0, mapping: Iterable[int] = FILES) -> Explanation:
+        """Why ``check`` answers as it does: an ``Explanation``."""
+        explained = self._asked(_library.hudarin_explain, token, asked, mapping)
         answer = _held(explained.answer)
         # In a canonical text each entry is what stands between a pair of brackets.
-        entries = re.findall(r"\([^()]*\)", str(self))
+        entries = re.findall(r"\([^()]*\)", str(self.descriptor))
         parts = tuple(_part(part, entries) for part in explained.parts if part.mask != 0)
         return Explanation(Verdict(VERDICTS[answer.kind], answer.mask), parts)
+
+    def _asked(self, call, token, asked, mapping):
+        """What the call answers, by what is kept here and by the token."""
+        _wanted(token, Token, "token")
+        request = _mapping(mapping), _number(asked, "asked")
+        with self._turn, token._turn:
+            return call(self._kept, token._kept, *request)
 
 
 class Node(NamedTuple):
@@ -619,10 +668,7 @@ class View(_Held):
 
     def share(self) -> "View":
         """Another view of the same tree, which is closed by itself."""
-        other = View()
-        with self._turn:
-            _held(_library.hudarin_share(self._kept, other._kept))
-        return other
+        return self._shared(View())
 
     def __len__(self) -> int:
         """How many edits its tree has."""

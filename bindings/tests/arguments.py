@@ -7,7 +7,7 @@ import threading
 
 sys.path.insert(0, os.path.join(os.path.dirname(os.path.abspath(__file__)), "..", "python"))
 
-from hudarin import ENABLED, FILES, KEYS, Descriptor, Refused, Sid, Store, Token, mask  # noqa: E402
+from hudarin import ENABLED, FILES, KEYS, TAKE_OWNERSHIP, Descriptor, KeptDescriptor, Refused, Sid, Store, Token, mask  # noqa: E402
 
 USER = Sid.from_text("S-1-5-21-1-2-3-1001")
 EVERYONE = Sid.from_text("WD")
@@ -144,15 +144,54 @@ gives("keys are mapped as keys", "granted 0x20019", lambda: str(Descriptor.from_
 gives("equal descriptors", 1, lambda: len({OPEN, Descriptor(bytes(OPEN)), Descriptor(bytes(OPEN) + b"more")}))
 gives("another descriptor", False, lambda: OPEN == HELD or OPEN == bytes(OPEN))
 
-# Threads take turns at a token.
+# A descriptor that is kept: the worked lines of README.md, until it is closed. What shares it is closed by itself.
+WORKED = Descriptor.from_sddl("O:BAG:SYD:(D;;FW;;;BU)(A;;FR;;;BU)")
+WHY = """denied 0x130116
+granted 0x89 by entry 2 (A;;FR;;;BU)
+denied 0x120116 by entry 1 (D;;FW;;;BU)
+denied 0x10000 by no entry
+granted 0x80000 by SeTakeOwnershipPrivilege"""
+CLOSED = ("descriptor handle at 0", None)
+with Token(USER, [Sid.from_text("BU")], TAKE_OWNERSHIP) as token:
+    with KeptDescriptor(WORKED) as kept, kept.share() as other:
+        gives("by a kept descriptor", "denied 0x130116", lambda: str(kept.check(token, 0x1B019F)))
+        gives("why, by a kept descriptor", WHY, lambda: str(kept.explain(token, 0x1B019F)))
+        gives("what is kept", (WORKED, WORKED), lambda: (kept.descriptor, other.descriptor))
+        for number, wanted in NUMBERS:
+            raises(f"by a kept descriptor {number!r}", wanted, lambda: kept.check(token, number))
+            raises(f"why, by a kept descriptor {number!r}", wanted, lambda: kept.explain(token, number))
+            raises(f"mask 0 {number!r}, by a kept descriptor", wanted, lambda: kept.check(token, 0x1, (number, 0, 0, 0)))
+        for one in (USER, None, kept, bytes(USER)):
+            raises(f"by a kept descriptor, token {one!r}", TypeError, lambda: kept.check(one, 0x1))
+            raises(f"why, by a kept descriptor, token {one!r}", TypeError, lambda: kept.explain(one, 0x1))
+        raises("three masks, by a kept descriptor", ValueError, lambda: kept.check(token, 0x1, FILES[:3]))
+        raises("a mapping beyond a kept list's rights", Refused, lambda: kept.check(token, 0x1, (0, 0, 0, 0x200000)))
+        raises("why, by a mapping beyond a kept list's rights", Refused, lambda: kept.explain(token, 0x1, (0, 0, 0, 0x200000)))
+        kept.close()
+        gives("a descriptor that was closed", CLOSED, lambda: refusal(lambda: kept.check(token, 0x1)))
+        gives("why, by one that was closed", CLOSED, lambda: refusal(lambda: kept.explain(token, 0x1)))
+        raises("a share of a descriptor that was closed", Refused, kept.share)
+        gives("a share, behind the first", "denied 0x130116", lambda: str(other.check(token, 0x1B019F)))
+        gives("a descriptor that is closed twice", None, kept.close)
+    shared = token.share()
+raises("a share of a token that was closed", Refused, token.share)
+with KeptDescriptor(WORKED) as kept, shared:
+    gives("a share of a token", "denied 0x130116", lambda: str(kept.check(shared, 0x1B019F)))
+    gives("a token that was closed", ("token handle at 0", None), lambda: refusal(lambda: kept.check(token, 0x1)))
+with KeptDescriptor(Descriptor.from_sddl("D:NO_ACCESS_CONTROL")) as kept, Token(USER) as token:
+    gives("keys are mapped as keys, by a kept descriptor", "granted 0x20019", lambda: str(kept.check(token, 0x80000000, KEYS)))
+for one in (bytes(WORKED), str(WORKED), None, 5, USER):
+    raises(f"to keep {one!r}", TypeError, lambda: KeptDescriptor(one))
+
+# Threads take turns at a token, and at a kept descriptor.
 wrong = []
-with Token(USER, [EVERYONE]) as token:
+with Token(USER, [EVERYONE]) as token, KeptDescriptor(HELD) as kept:
     answers = {asked: str(HELD.check(USER, [EVERYONE], asked=asked)) for asked in (0x1, 0x2, 0x3)}
 
     def turns():
         for turn in range(3000):
             asked = 1 + turn % 3
-            if str(HELD.check_by(token, asked)) != answers[asked]:
+            if str(HELD.check_by(token, asked)) != answers[asked] or str(kept.check(token, asked)) != answers[asked]:
                 wrong.append(asked)
 
     threads = [threading.Thread(target=turns) for _ in range(4)]

@@ -86,14 +86,20 @@ def verdict(*words):
     answer = asked.descriptor.check(asked.user, asked.groups, asked.asked, asked.privileges, restricting=asked.restricting)
     with hudarin.Token(asked.user, asked.groups, asked.privileges, asked.restricting) as token:
         over = asked.descriptor.check_by(token, asked.asked)
-    return str(answer) if answer == over else f"{answer}, and over the bytes {over}"
+        with hudarin.KeptDescriptor(asked.descriptor) as kept:
+            by = kept.check(token, asked.asked)
+    return str(answer) if answer == over == by else f"{answer}, and over the bytes {over}, and by what is kept {by}"
 
 
 def why(*words):
     asked, refused = question(*words)
     if refused:
         return refused
-    return str(asked.descriptor.explain(asked.user, asked.groups, asked.asked, asked.privileges, restricting=asked.restricting))
+    told = asked.descriptor.explain(asked.user, asked.groups, asked.asked, asked.privileges, restricting=asked.restricting)
+    with hudarin.Token(asked.user, asked.groups, asked.privileges, asked.restricting) as token:
+        with hudarin.KeptDescriptor(asked.descriptor) as kept:
+            by = kept.explain(token, asked.asked)
+    return str(told) if told == by else f"{told}\nand by what is kept {by}"
 
 
 def answer(command, *words):
