@@ -1,6 +1,10 @@
 /*
  * Four threads that check by views of a store, beside a writer that edits it and publishes. Each edit gives a node another list,
  * which grants a mask made of the edit's number in the journal, so each answer is compared with what its own length says.
+ *
+ * A publish takes over the tree of a view that nobody has any more: that a thread's last look at it comes before is the doing of a
+ * count in the library, which valgrind's helgrind and drd take for no order. For them LOCKED_ENDS is 1: a view ends, and a publish is
+ * made, while the lock is held, whose order they know. Checks, edits and shares are made as ever.
  */
 #include "tally.h"
 #include <pthread.h>
@@ -9,6 +13,9 @@
 #ifndef PUBLISHES
 #define PUBLISHES 2000
 #define CHECKS 2500000
+#endif
+#ifndef LOCKED_ENDS
+#define LOCKED_ENDS 0
 #endif
 
 static const hudarin_mapping files = HUDARIN_FILE_MAPPING;
@@ -37,6 +44,17 @@ static hudarin_view held(void)
     return own;
 }
 
+static void end(hudarin_view *view)
+{
+    if (LOCKED_ENDS) {
+        pthread_mutex_lock(&lock);
+    }
+    hudarin_free(&view->kept);
+    if (LOCKED_ENDS) {
+        pthread_mutex_unlock(&lock);
+    }
+}
+
 /* What a thread found: answers that were wrong, a length that went back, and how many lengths it met. */
 struct part {
     pthread_t thread;
@@ -58,7 +76,7 @@ static void *work(void *given)
             part->lengths += it.length != last;
             last = it.length;
         }
-        hudarin_free(&view.kept);
+        end(&view);
     }
     return NULL;
 }
@@ -75,12 +93,17 @@ static int edited(hudarin_store *store, uint32_t kind, const char *owners, uint6
 static void publish(hudarin_store *store, uint64_t edits)
 {
     hudarin_view next = HUDARIN_NOTHING, before;
+    if (LOCKED_ENDS) {
+        pthread_mutex_lock(&lock);
+    }
     HOLDS(hudarin_store_publish(store, &next).length == edits && next.kept.is_there);
-    pthread_mutex_lock(&lock);
+    if (!LOCKED_ENDS) {
+        pthread_mutex_lock(&lock);
+    }
     before = published;
     published = next;
     pthread_mutex_unlock(&lock);
-    hudarin_free(&before.kept);
+    end(&before);
 }
 
 int main(void)
