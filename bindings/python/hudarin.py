@@ -249,7 +249,10 @@ def _number(value, what):
     return value
 
 
-def _mapping(masks):
+# The mapping of files, by which most checks are asked, is made once: to make one takes longer than a check.
+def _mapping(masks, files=FILES, of_files=_Mapping(*FILES)):
+    if masks is files:
+        return of_files
     masks = tuple(masks)
     if len(masks) != 4:
         raise ValueError(f"mapping: four masks are wanted, and not {len(masks)}")
