@@ -14,71 +14,86 @@ const ACTS: [Act; 8] = [
     Act::Move,
 ];
 
-/// The edit of an act, as it is told for debugging.
-fn edit_of(alloc: Global, act: Act) -> Result<Edit, Fail> {
-    let path = Path::read(alloc, "/a/b")?;
-    match act {
-        Act::Owner | Act::Group => naming(act, path, "BU"),
-        Act::Remove => Ok(Edit::Remove { path }),
-        Act::Keep => Ok(Edit::ProtectKeeping { path }),
-        Act::Move => going(alloc, path, "/c"),
-        _ => giving(alloc, act, path, "D:P(A;OICI;FR;;;BU)"),
-    }
+/// What is told for debugging.
+fn debug(rt: &(impl Abort + AllocGlobal), value: &impl Debug) -> String {
+    format!(in rt.alloc(); "{value:?}").expect(rt, "memory")
+}
+
+/// That two values are told alike.
+fn alike(rt: &(impl Abort + AllocGlobal), of: &str, one: &impl Debug, other: &impl Debug) {
+    same(rt, of, debug(rt, one).as_str(), debug(rt, other).as_str());
+}
+
+/// The edit of an act.
+fn edit_of(rt: &(impl Abort + AllocGlobal), act: Act) -> Edit {
+    let text = match act {
+        Act::Owner | Act::Group => "BU",
+        Act::Move => "/c",
+        _ => "D:P(A;OICI;FR;;;BU)",
+    };
+    edit(rt, act, "/a/b", text)
+}
+
+/// That an edit's copy is told like it.
+fn is_copied(rt: &(impl Abort + AllocGlobal), edit: &Edit) {
+    let copy = edit.copy(rt.alloc()).expect(rt, "memory");
+    alike(rt, "an edit", &copy, edit);
 }
 
 #[test]
-fn an_edit_is_copied_whole(rt: HostRuntime) -> Result<(), Fail> {
-    let alloc = rt.alloc();
+fn an_edit_is_copied_whole(rt: HostRuntime) {
     for act in &ACTS {
-        let edit = edit_of(alloc, *act)?;
-        let copy = edit.copy(alloc)?;
-        let shown = format!(in alloc; "{edit:?}")?;
-        assert_eq!(rt; format!(in alloc; "{copy:?}")?, shown);
+        is_copied(&rt, &edit_of(&rt, *act));
     }
-    Ok(())
 }
 
-#[test]
-fn an_opening_is_copied_whole(rt: HostRuntime) -> Result<(), Fail> {
-    let alloc = rt.alloc();
-    let (owner, group, dacl) = parts(alloc, "D:(A;OICI;FR;;;BU)")?;
-    let root = RootSpec { owner, group, dacl };
+fn opening(rt: &(impl Abort + AllocGlobal)) -> Opening {
     let mapping = GenericMapping::file();
-    let opening = Opening { mapping, root };
-    let copy = opening.copy(alloc)?;
-    let shown = format!(in alloc; "{opening:?}")?;
-    assert_eq!(rt; format!(in alloc; "{copy:?}")?, shown);
-    Ok(())
+    let root = root_of(rt, "D:(A;OICI;FR;;;BU)");
+    Opening { mapping, root }
 }
 
 #[test]
-fn entries_are_given_back(rt: HostRuntime) -> Result<(), Fail> {
-    let alloc = rt.alloc();
-    let (_, _, dacl) = parts(alloc, "D:(A;;FR;;;BU)(A;;FX;;;WD)")?;
-    let copy = dacl.copy(alloc)?;
-    assert_eq!(rt;
-        format!(in alloc; "{copy:?}")?,
-        format!(in alloc; "{dacl:?}")?
-    );
-    if let NodeDacl::List { entries, .. } = copy {
-        let shown = format!(in alloc; "{:?}", entries.as_slice())?;
-        assert!(rt; shown.contains("Mask(1179785)") && shown.contains("Mask(1179808)"));
-        assert_eq!(rt; format!(in alloc; "{:?}", entries.into_vec())?, shown);
-    } else {
-        assert!(rt; false, "it is a list");
+fn an_opening_is_copied_whole(rt: HostRuntime) {
+    let opening = opening(&rt);
+    let copy = opening.copy(rt.alloc()).expect(&rt, "memory");
+    alike(&rt, "an opening", &copy, &opening);
+}
+
+/// The entries of a DACL that is a list.
+fn entries_of(rt: &impl Abort, dacl: NodeDacl) -> Entries {
+    match dacl {
+        NodeDacl::List { entries, .. } => entries,
+        NodeDacl::Null => panic!(rt; "it is a list"),
     }
-    Ok(())
 }
 
 #[test]
-fn kinds_are_looked_up(rt: HostRuntime) -> Result<(), Fail> {
-    let alloc = rt.alloc();
-    let mut tree = opened(alloc, "D:")?;
-    let told = answer(alloc, &mut tree, Act::Object, "/o", "D:")?;
-    assert_eq!(rt; told.as_str(), "ok");
-    let object = Path::read(alloc, "/o")?;
-    assert_eq!(rt; tree.lookup(&object), Some(NodeKind::Object));
-    let root = Path::read(alloc, "/")?;
-    assert_eq!(rt; tree.lookup(&root.copy(alloc)?), Some(NodeKind::Container));
-    Ok(())
+fn entries_are_given_back(rt: HostRuntime) {
+    let (_, _, dacl) = parts(&rt, "D:(A;;FR;;;BU)(A;;FX;;;WD)");
+    let copy = dacl.copy(rt.alloc()).expect(&rt, "memory");
+    alike(&rt, "a DACL", &copy, &dacl);
+    let entries = entries_of(&rt, copy);
+    let shown = debug(&rt, &entries.as_slice());
+    holds(&rt, "FR", shown.as_str().contains("Mask(1179785)"));
+    holds(&rt, "FX", shown.as_str().contains("Mask(1179808)"));
+    let given = debug(&rt, &entries.into_vec());
+    same(&rt, "given back", given.as_str(), shown.as_str());
+}
+
+/// That such a node stands there.
+fn is_there(rt: &impl Abort, tree: &Tree, path: &Path, kind: NodeKind) {
+    same(rt, "its kind", tree.lookup(path), Some(kind));
+}
+
+fn copied_path(rt: &(impl Abort + AllocGlobal), text: &str) -> Path {
+    path_of(rt, text).copy(rt.alloc()).expect(rt, "memory")
+}
+
+#[test]
+fn kinds_are_looked_up(rt: HostRuntime) {
+    let mut tree = opened(&rt, "D:");
+    tells(&rt, &mut tree, Act::Object, "/o", "D:", "ok");
+    is_there(&rt, &tree, &path_of(&rt, "/o"), NodeKind::Object);
+    is_there(&rt, &tree, &copied_path(&rt, "/"), NodeKind::Container);
 }

@@ -1,12 +1,13 @@
 //! Two stories of a desk with two readers, what it answers without memory, and how none starts.
 
+use super::{holds, same};
 use sd_acl::{Ace, AceFlags, AceKind, Dacl, Descriptor, Verdict};
 use sd_check::{GroupState, Privileges, Token};
 use sd_share::{Desk, Reply, Request, StartError};
 use sd_sid::{GenericMapping, Mask, Sid};
-use sd_tree::{CheckReply, Edit, EditRefusal, Entries, NodeDacl, Path, RootSpec, Tree};
+use sd_tree::{CheckReply, Edit, EditRefusal, Entries, NodeDacl, Path, RootSpec};
 use std::alloc::{AllocError, Global};
-use std::test::Fail;
+use std::process::Abort;
 
 const READ: u32 = 0x0012_0089;
 
@@ -101,30 +102,39 @@ fn request(alloc: Global, line: Line) -> Option<Request> {
         Line::Publish => Some(Request::Publish),
         Line::Tell => Some(Request::Tell),
         Line::Learn(reader, length) => Some(Request::Learn { reader, length }),
-        Line::Check(reader, path) => Some(Request::Check {
-            reader,
-            path: Path::read(alloc, path).ok()?,
-            token: token(alloc)?,
-            asked: Mask(0x1),
-        }),
-        Line::Show(reader, path) => Some(Request::Show {
-            reader,
-            path: Path::read(alloc, path).ok()?,
-        }),
-        edited => Some(Request::Edit(edit(alloc, edited)?)),
+        Line::Check(reader, path) => check(alloc, reader, path),
+        Line::Show(reader, path) => show(alloc, reader, path),
+        edited => edit(alloc, edited).map(|edit| Request::Edit(edit)),
     }
 }
 
-fn requests(alloc: Global, lines: &[Line]) -> Option<Vec<Request>> {
+fn check(alloc: Global, reader: u64, path: &str) -> Option<Request> {
+    Some(Request::Check {
+        reader,
+        path: Path::read(alloc, path).ok()?,
+        token: token(alloc)?,
+        asked: Mask(0x1),
+    })
+}
+
+fn show(alloc: Global, reader: u64, path: &str) -> Option<Request> {
+    let path = Path::read(alloc, path).ok()?;
+    Some(Request::Show { reader, path })
+}
+
+/// What the rows ask.
+fn requests(alloc: Global, rows: &[Row]) -> Option<Vec<Request>> {
     let mut requests = Vec::new(alloc);
-    for line in lines {
+    for (line, _) in rows {
         requests.push(request(alloc, *line)?).ok()?;
     }
     Some(requests)
 }
 
 /// The kind of a reply, its length or number, and what is granted.
-fn outline(reply: &Reply) -> (&'static str, u64, u32) {
+type Outline = (&'static str, u64, u32);
+
+fn outline(reply: &Reply) -> Outline {
     match reply {
         Reply::Edited => ("ok", 0, 0),
         Reply::Refused(refusal) => ("refused", u64::from(refusal.number()), 0),
@@ -143,99 +153,182 @@ fn outline(reply: &Reply) -> (&'static str, u64, u32) {
     }
 }
 
-#[test]
-fn steps(rt: HostRuntime) -> Result<(), Fail> {
-    let administrators = Sid::new(5, &[32, 544])?;
-    let entries = [allow(AceFlags::OI | AceFlags::CI, ALL, administrators)];
-    let mut desk = started(rt.alloc(), &entries, 2).ok_or("it starts")?;
-    let rows = [
-        (Line::Object("/a"), ("ok", 0, 0)),
-        (Line::Check(0, "/a"), ("nonode", 0, 0)),
-        (Line::Publish, ("published", 1, 0)),
-        (Line::Tell, ("told", 1, 0)),
-        (Line::Learn(0, 1), ("learned", 1, 0)),
-        (Line::Check(0, "/a"), ("granted", 1, 0x1)),
-        (Line::Object("/a"), ("refused", 3, 0)),
-        (Line::Show(0, "/a"), ("shown", 1, 0)),
-        (Line::Publish, ("published", 1, 0)),
-    ];
-    for (line, wanted) in rows {
-        let reply = desk.step(&request(rt.alloc(), line).ok_or("it is asked")?);
-        assert_eq!(rt; outline(&reply), wanted);
-    }
-    assert_eq!(rt; desk.journal().len(), 1);
-    Ok(())
+/// What is asked, and the reply.
+type Row = (Line, Outline);
+
+/// BUILTIN\Administrators.
+fn administrators(rt: &impl Abort) -> Sid {
+    Sid::new(5, &[32, 544]).expect(rt, "it is a SID")
 }
 
+/// BUILTIN\Users.
+fn users(rt: &impl Abort) -> Sid {
+    Sid::new(5, &[32, 545]).expect(rt, "it is a SID")
+}
+
+/// All rights of the administrators, which containers and objects inherit.
+fn inherited(rt: &impl Abort) -> Ace {
+    allow(AceFlags::OI | AceFlags::CI, ALL, administrators(rt))
+}
+
+/// That a desk's next reply is that one.
+fn replies(rt: &impl Abort, desk: &mut Desk, request: &Request, wanted: Outline) {
+    let told = outline(&desk.step(request));
+    let (of, _, _) = wanted;
+    same(rt, of, told, wanted);
+}
+
+/// A desk with two readers.
+fn desk(rt: &(impl Abort + AllocGlobal), entries: &[Ace]) -> Desk {
+    started(rt.alloc(), entries, 2).expect(rt, "it starts")
+}
+
+fn asked_by(rt: &(impl Abort + AllocGlobal), line: Line) -> Request {
+    request(rt.alloc(), line).expect(rt, "it is asked")
+}
+
+/// That so many edits are in a desk's journal.
+fn has_edits(rt: &impl Abort, desk: &Desk, wanted: usize) {
+    same(rt, "the journal's length", desk.journal().len(), wanted);
+}
+
+const STEPS: [Row; 9] = [
+    (Line::Object("/a"), ("ok", 0, 0)),
+    (Line::Check(0, "/a"), ("nonode", 0, 0)),
+    (Line::Publish, ("published", 1, 0)),
+    (Line::Tell, ("told", 1, 0)),
+    (Line::Learn(0, 1), ("learned", 1, 0)),
+    (Line::Check(0, "/a"), ("granted", 1, 0x1)),
+    (Line::Object("/a"), ("refused", 3, 0)),
+    (Line::Show(0, "/a"), ("shown", 1, 0)),
+    (Line::Publish, ("published", 1, 0)),
+];
+
 #[test]
-fn runs(rt: HostRuntime) -> Result<(), Fail> {
-    let rows = [
-        (Line::Container("/a"), ("ok", 0, 0)),
-        (Line::Object("/a/b"), ("ok", 0, 0)),
-        (Line::Remove("/a"), ("refused", 5, 0)),
-        (Line::Check(1, "/a/b"), ("nonode", 0, 0)),
-        (Line::Publish, ("published", 2, 0)),
-        (Line::Check(1, "/a/b"), ("granted", 2, 0x1)),
-        (Line::Learn(1, 3), ("nonotice", 0, 0)),
-        (Line::Learn(1, 1), ("learned", 2, 0)),
-        (Line::Learn(2, 9), ("noreader", 0, 0)),
-        (Line::Owner("/a/b"), ("ok", 0, 0)),
-        (Line::Tell, ("told", 2, 0)),
-    ];
-    let requests = requests(rt.alloc(), &rows.map(|(line, _)| line)).ok_or("they are asked")?;
-    let mut desk = started(rt.alloc(), &[], 2).ok_or("it starts")?;
-    let replies = desk.run(&requests)?;
-    assert_eq!(rt; replies.len(), rows.len());
+fn steps(rt: HostRuntime) {
+    let mut desk = desk(&rt, &[inherited(&rt)]);
+    for (line, wanted) in &STEPS {
+        replies(&rt, &mut desk, &asked_by(&rt, *line), *wanted);
+    }
+    has_edits(&rt, &desk, 1);
+}
+
+const RUN: [Row; 11] = [
+    (Line::Container("/a"), ("ok", 0, 0)),
+    (Line::Object("/a/b"), ("ok", 0, 0)),
+    (Line::Remove("/a"), ("refused", 5, 0)),
+    (Line::Check(1, "/a/b"), ("nonode", 0, 0)),
+    (Line::Publish, ("published", 2, 0)),
+    (Line::Check(1, "/a/b"), ("granted", 2, 0x1)),
+    (Line::Learn(1, 3), ("nonotice", 0, 0)),
+    (Line::Learn(1, 1), ("learned", 2, 0)),
+    (Line::Learn(2, 9), ("noreader", 0, 0)),
+    (Line::Owner("/a/b"), ("ok", 0, 0)),
+    (Line::Tell, ("told", 2, 0)),
+];
+
+/// What a desk with two readers replies to those requests.
+fn ran(rt: &(impl Abort + AllocGlobal), rows: &[Row]) -> Vec<Reply> {
+    let requests = requests(rt.alloc(), rows).expect(rt, "they are asked");
+    let mut desk = desk(rt, &[]);
+    desk.run(&requests).expect(rt, "memory")
+}
+
+/// That the replies are those of the rows.
+fn are(rt: &impl Abort, replies: &[Reply], rows: &[Row]) {
+    same(rt, "their number", replies.len(), rows.len());
     for (reply, (_, wanted)) in replies.iter().zip(rows) {
-        assert_eq!(rt; outline(reply), wanted);
+        same(rt, wanted.0, outline(reply), *wanted);
     }
-    Ok(())
 }
 
-/// A desk on which `/a` is seen and `/b` waits, and what is asked of it then.
-fn asked(alloc: Global, lines: &[Line]) -> Option<(Desk, Vec<Request>)> {
-    let mut desk = started(alloc, &[], 1)?;
-    for line in [Line::Object("/a"), Line::Publish, Line::Object("/b")] {
-        if let Reply::Memory = desk.step(&request(alloc, line)?) {
-            return None;
+#[test]
+fn runs(rt: HostRuntime) {
+    are(&rt, &ran(&rt, &RUN), &RUN);
+}
+
+/// What a desk replies to a line. Nothing where the request finds no memory.
+fn step(alloc: Global, desk: &mut Desk, line: Line) -> Option<Reply> {
+    let request = request(alloc, line)?;
+    Some(desk.step(&request))
+}
+
+/// Whether there was memory for a line.
+fn is_done(alloc: Global, desk: &mut Desk, line: Line) -> bool {
+    match step(alloc, desk, line) {
+        None | Some(Reply::Memory) => false,
+        Some(_) => true,
+    }
+}
+
+/// Whether there was memory for each line.
+fn are_done(alloc: Global, desk: &mut Desk, lines: &[Line]) -> bool {
+    for line in lines {
+        if !is_done(alloc, desk, *line) {
+            return false;
         }
     }
-    Some((desk, requests(alloc, lines)?))
+    true
+}
+
+const BEFORE: [Line; 3] = [Line::Object("/a"), Line::Publish, Line::Object("/b")];
+
+/// A desk on which `/a` is seen and `/b` waits.
+fn waiting(alloc: Global) -> Option<Desk> {
+    let mut desk = started(alloc, &[], 1)?;
+    if are_done(alloc, &mut desk, &BEFORE) {
+        Some(desk)
+    } else {
+        None
+    }
+}
+
+/// That desk, and what is asked of it then.
+fn asked(alloc: Global, rows: &[Row]) -> Option<(Desk, Vec<Request>)> {
+    let desk = waiting(alloc)?;
+    let requests = requests(alloc, rows)?;
+    Some((desk, requests))
+}
+
+const WITHOUT_MEMORY: [Row; 10] = [
+    (Line::Tell, ("told", 1, 0)),
+    (Line::Publish, ("published", 2, 0)),
+    (Line::Object("/b"), ("refused", 3, 0)),
+    (Line::Check(0, "/b"), ("granted", 2, 0x1)),
+    (Line::Check(0, "/x"), ("nonode", 2, 0)),
+    (Line::Check(1, "/b"), ("noreader", 0, 0)),
+    (Line::Learn(0, 1), ("learned", 2, 0)),
+    (Line::Learn(0, 3), ("nonotice", 0, 0)),
+    (Line::Show(0, "/x"), ("shown", 2, 0)),
+    (Line::Show(1, "/b"), ("noreader", 0, 0)),
+];
+
+/// That a desk replies to each request as its row says.
+fn all_reply(rt: &impl Abort, desk: &mut Desk, requests: &[Request], rows: &[Row]) {
+    for (request, (_, wanted)) in requests.iter().zip(rows) {
+        replies(rt, desk, request, *wanted);
+    }
 }
 
 /// So it is whichever request for memory is refused (`rt try --test --fail-alloc`): what comes before is done again.
 #[test]
-fn replies_without_memory(rt: HostRuntime) -> Result<(), Fail> {
-    let rows = [
-        (Line::Tell, ("told", 1, 0)),
-        (Line::Publish, ("published", 2, 0)),
-        (Line::Object("/b"), ("refused", 3, 0)),
-        (Line::Check(0, "/b"), ("granted", 2, 0x1)),
-        (Line::Check(0, "/x"), ("nonode", 2, 0)),
-        (Line::Check(1, "/b"), ("noreader", 0, 0)),
-        (Line::Learn(0, 1), ("learned", 2, 0)),
-        (Line::Learn(0, 3), ("nonotice", 0, 0)),
-        (Line::Show(0, "/x"), ("shown", 2, 0)),
-        (Line::Show(1, "/b"), ("noreader", 0, 0)),
-    ];
-    let lines = rows.map(|(line, _)| line);
-    let (mut desk, requests) = asked(rt.alloc(), &lines)
-        .or_else(|| asked(rt.alloc(), &lines))
-        .ok_or("memory was refused twice")?;
-    for (request, (_, wanted)) in requests.iter().zip(rows) {
-        assert_eq!(rt; outline(&desk.step(request)), wanted);
-    }
-    Ok(())
+fn replies_without_memory(rt: HostRuntime) {
+    let rows = &WITHOUT_MEMORY;
+    let asked = asked(rt.alloc(), rows).or_else(|| asked(rt.alloc(), rows));
+    let (mut desk, requests) = asked.expect(&rt, "memory was refused twice");
+    all_reply(&rt, &mut desk, &requests, rows);
 }
 
 /// The descriptor of `/a`, once it is published below such a root.
 fn shown(alloc: Global, entries: &[Ace]) -> Option<Descriptor> {
     let mut desk = started(alloc, entries, 1)?;
-    for line in [Line::Object("/a"), Line::Publish] {
-        let _ = desk.step(&request(alloc, line)?);
-    }
-    match desk.step(&request(alloc, Line::Show(0, "/a"))?) {
-        Reply::Shown { descriptor, .. } => descriptor,
+    are_done(alloc, &mut desk, &[Line::Object("/a"), Line::Publish]);
+    described(step(alloc, &mut desk, Line::Show(0, "/a")))
+}
+
+fn described(reply: Option<Reply>) -> Option<Descriptor> {
+    match reply {
+        Some(Reply::Shown { descriptor, .. }) => descriptor,
         _ => None,
     }
 }
@@ -248,61 +341,43 @@ fn entries(descriptor: &Descriptor) -> &[Ace] {
 }
 
 #[test]
-fn shows_what_was_inherited(rt: HostRuntime) -> Result<(), Fail> {
-    let administrators = Sid::new(5, &[32, 544])?;
-    let users = Sid::new(5, &[32, 545])?;
-    let above = [allow(AceFlags::OI | AceFlags::CI, ALL, administrators)];
-    let descriptor = shown(rt.alloc(), &above).ok_or("it is shown")?;
+fn shows_what_was_inherited(rt: HostRuntime) {
+    let above = [inherited(&rt)];
+    let descriptor = shown(rt.alloc(), &above).expect(&rt, "it is shown");
     let wanted = [
-        allow(no_flags(), READ, users),
-        allow(AceFlags::ID, ALL, administrators),
+        allow(no_flags(), READ, users(&rt)),
+        allow(AceFlags::ID, ALL, administrators(&rt)),
     ];
-    assert_eq!(rt; entries(&descriptor), wanted.as_slice());
-    assert_eq!(rt; descriptor.owner, Some(administrators));
-    assert!(rt; descriptor.auto_inherited && !descriptor.protected);
-    Ok(())
+    same(&rt, "its entries", entries(&descriptor), wanted.as_slice());
+    let owner = Some(administrators(&rt));
+    same(&rt, "its owner", descriptor.owner, owner);
+    holds(&rt, "it has inherited", descriptor.auto_inherited);
+    holds(&rt, "it isn't protected", !descriptor.protected);
 }
 
-#[test]
-fn refuses_to_start(rt: HostRuntime) -> Result<(), Fail> {
-    let users = Sid::new(5, &[32, 545])?;
-    let disordered = [
-        allow(no_flags(), 1, users),
-        Ace {
-            kind: AceKind::Deny,
-            ..allow(no_flags(), 1, users)
-        },
-    ];
-    let root = root(rt.alloc(), &disordered).ok_or("a root")?;
-    let file = GenericMapping::file();
-    let rows = [
-        (0, StartError::Readers, 1),
-        (65, StartError::Readers, 1),
-        (64, StartError::Root(EditRefusal::NotCanonical), 2),
-    ];
-    for (readers, wanted, number) in rows {
-        let error = Desk::start(rt.alloc(), &file, &root, readers).err();
-        assert_eq!(rt; error, Some(wanted), "{readers}");
-        assert_eq!(rt; wanted.number(), number, "{readers}");
-    }
-    Ok(())
+/// A root with an allow before a deny.
+fn disordered(rt: &(impl Abort + AllocGlobal)) -> RootSpec {
+    let allow = allow(no_flags(), 1, users(rt));
+    let deny = Ace {
+        kind: AceKind::Deny,
+        ..allow
+    };
+    root(rt.alloc(), &[allow, deny]).expect(rt, "a root")
 }
 
+/// How many readers, why no desk starts with that root, and the number of that.
+const REFUSED: [(u64, StartError, u8); 3] = [
+    (0, StartError::Readers, 1),
+    (65, StartError::Readers, 1),
+    (64, StartError::Root(EditRefusal::NotCanonical), 2),
+];
+
 #[test]
-fn two_trees_share_an_edit(rt: HostRuntime) -> Result<(), Fail> {
-    let administrators = Sid::new(5, &[32, 544])?;
-    let entries = [allow(AceFlags::OI | AceFlags::CI, ALL, administrators)];
-    let root = root(rt.alloc(), &entries).ok_or("a root")?;
-    let mut first = Tree::opening(rt.alloc(), &GenericMapping::file(), &root)?;
-    let mut second = Tree::opening(rt.alloc(), &GenericMapping::file(), &root)?;
-    let edit = edit(rt.alloc(), Line::Object("/a")).ok_or("an edit")?;
-    let prepared = first.prepare(&edit)?;
-    second.apply_shared(prepared.edit())?;
-    first.commit(prepared);
-    assert_eq!(rt; first.len(), 1);
-    assert_eq!(rt; second.len(), 1);
-    for edit in second.journal() {
-        assert!(rt; matches!(edit.get(), Edit::AddObject { .. }));
+fn refuses_to_start(rt: HostRuntime) {
+    let (root, file) = (disordered(&rt), GenericMapping::file());
+    for (readers, wanted, number) in &REFUSED {
+        let error = Desk::start(rt.alloc(), &file, &root, *readers).err();
+        same(&rt, *readers, error, Some(*wanted));
+        same(&rt, *readers, wanted.number(), *number);
     }
-    Ok(())
 }

@@ -3,25 +3,23 @@
 use super::*;
 
 /// A tree of 255 containers with 256 objects in each: with the root 65,536 nodes.
-fn full_tree(alloc: Global) -> Result<Tree, Fail> {
-    let mut tree = opened(alloc, "D:(A;OICI;FR;;;BU)")?;
+fn full_tree(rt: &(impl Abort + AllocGlobal)) -> Tree {
+    let mut tree = opened(rt, "D:(A;OICI;FR;;;BU)");
     for node in 0..65_535 {
-        let edit = addition(alloc, node / 257, node % 257)?;
-        tree.apply(&edit)?;
+        let addition = addition(rt, node / 257, node % 257);
+        same(rt, node, applied(rt, &mut tree, &addition), None);
     }
-    Ok(tree)
+    tree
 }
 
 /// A container, or where `below` isn't 0 an object in it.
-fn addition(alloc: Global, above: u64, below: u64) -> Result<Edit, Fail> {
+fn addition(rt: &(impl Abort + AllocGlobal), above: u64, below: u64) -> Edit {
     if below == 0 {
-        let path = format!(in alloc; "/{above}")?;
-        let path = Path::read(alloc, path.as_str())?;
-        giving(alloc, Act::Container, path, "D:")
+        let path = format!(in rt.alloc(); "/{above}").expect(rt, "memory");
+        edit(rt, Act::Container, path.as_str(), "D:")
     } else {
-        let path = format!(in alloc; "/{above}/{below}")?;
-        let path = Path::read(alloc, path.as_str())?;
-        giving(alloc, Act::Object, path, "D:")
+        let path = format!(in rt.alloc(); "/{above}/{below}").expect(rt, "memory");
+        edit(rt, Act::Object, path.as_str(), "D:")
     }
 }
 
@@ -37,13 +35,8 @@ const ROWS: [Row; 8] = [
 ];
 
 #[test]
-fn a_full_tree_takes_a_node_for_one_that_went(rt: HostRuntime) -> Result<(), Fail> {
-    let alloc = rt.alloc();
-    let mut tree = full_tree(alloc)?;
-    assert_eq!(rt; tree.len(), 65_535);
-    for (act, path, text, wanted) in &ROWS {
-        let told = answer(alloc, &mut tree, *act, path, text)?;
-        assert_eq!(rt; told.as_str(), *wanted);
-    }
-    Ok(())
+fn a_full_tree_takes_a_node_for_one_that_went(rt: HostRuntime) {
+    let mut tree = full_tree(&rt);
+    has_edits(&rt, &tree, 65_535);
+    answers_in(&rt, &mut tree, &ROWS);
 }

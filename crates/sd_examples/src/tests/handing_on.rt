@@ -49,9 +49,8 @@ const BY_FLAGS: [(&str, &str, &str); 14] = [
 ];
 
 #[test]
-fn entries_are_handed_on_by_their_flags(rt: HostRuntime) -> Result<(), Fail> {
-    assert!(rt; all_handed_on(rt.alloc(), &BY_FLAGS)?);
-    Ok(())
+fn entries_are_handed_on_by_their_flags(rt: HostRuntime) {
+    all_handed_on(&rt, &BY_FLAGS);
 }
 
 const SPLIT: [(&str, &str, &str); 10] = [
@@ -104,26 +103,27 @@ const SPLIT: [(&str, &str, &str); 10] = [
 ];
 
 #[test]
-fn generic_rights_and_creators_are_split(rt: HostRuntime) -> Result<(), Fail> {
-    assert!(rt; all_handed_on(rt.alloc(), &SPLIT)?);
-    Ok(())
+fn generic_rights_and_creators_are_split(rt: HostRuntime) {
+    all_handed_on(&rt, &SPLIT);
 }
 
-fn all_handed_on(alloc: Global, rows: &[(&str, &str, &str)]) -> Result<bool, Fail> {
+fn all_handed_on(rt: &(impl Abort + AllocGlobal), rows: &[(&str, &str, &str)]) {
     for (root, container, object) in rows {
-        let mut tree = opened(alloc, root)?;
-        let told = is_handed(alloc, &mut tree, Act::Container, container)?;
-        if !told || !is_handed(alloc, &mut tree, Act::Object, object)? {
-            return Ok(false);
-        }
+        let mut tree = opened(rt, root);
+        is_handed(rt, &mut tree, Act::Container, container);
+        is_handed(rt, &mut tree, Act::Object, object);
     }
-    Ok(true)
 }
 
-/// Whether a node that is added without entries of its own gets this list.
-fn is_handed(alloc: Global, tree: &mut Tree, act: Act, wanted: &str) -> Result<bool, Fail> {
-    answer(alloc, tree, act, "/n", "D:")?;
-    let told = answer(alloc, tree, Act::Show, "/n", "")?;
-    answer(alloc, tree, Act::Remove, "/n", "")?;
-    Ok(told.as_str().strip_prefix("O:BAG:SY") == Some(wanted))
+/// That a node which is added without entries of its own gets this list.
+fn is_handed(rt: &(impl Abort + AllocGlobal), tree: &mut Tree, act: Act, wanted: &str) {
+    answer(rt, tree, act, "/n", "D:");
+    let told = answer(rt, tree, Act::Show, "/n", "");
+    answer(rt, tree, Act::Remove, "/n", "");
+    same(
+        rt,
+        wanted,
+        told.as_str().strip_prefix("O:BAG:SY"),
+        Some(wanted),
+    );
 }

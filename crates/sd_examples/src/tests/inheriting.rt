@@ -22,10 +22,8 @@ const CREATOR_OWNER: [Row; 4] = [
 ];
 
 #[test]
-fn creator_owner_becomes_the_owner(rt: HostRuntime) -> Result<(), Fail> {
-    let told = wrong(rt.alloc(), "D:(A;OICIIO;GA;;;CO)", &CREATOR_OWNER)?;
-    assert_eq!(rt; told, None);
-    Ok(())
+fn creator_owner_becomes_the_owner(rt: HostRuntime) {
+    answers(&rt, "D:(A;OICIIO;GA;;;CO)", &CREATOR_OWNER);
 }
 
 const WAITING: [Row; 4] = [
@@ -41,10 +39,9 @@ const WAITING: [Row; 4] = [
 ];
 
 #[test]
-fn oi_waits_in_a_container_and_np_goes_one_level_down(rt: HostRuntime) -> Result<(), Fail> {
+fn oi_waits_in_a_container_and_np_goes_one_level_down(rt: HostRuntime) {
     let root = "D:(A;OI;FR;;;BU)(A;OICINP;FX;;;BU)";
-    assert_eq!(rt; wrong(rt.alloc(), root, &WAITING)?, None);
-    Ok(())
+    answers(&rt, root, &WAITING);
 }
 
 const THREE_LEVELS: [Row; 9] = [
@@ -60,10 +57,8 @@ const THREE_LEVELS: [Row; 9] = [
 ];
 
 #[test]
-fn a_new_dacl_reaches_three_levels_down(rt: HostRuntime) -> Result<(), Fail> {
-    let told = wrong(rt.alloc(), "D:(A;OICI;FA;;;BA)", &THREE_LEVELS)?;
-    assert_eq!(rt; told, None);
-    Ok(())
+fn a_new_dacl_reaches_three_levels_down(rt: HostRuntime) {
+    answers(&rt, "D:(A;OICI;FA;;;BA)", &THREE_LEVELS);
 }
 
 // Each child puts its own owner and group in the creators' places, whoever the nodes above are of.
@@ -87,10 +82,9 @@ const NEW_OWNER: [Row; 6] = [
 ];
 
 #[test]
-fn a_new_owner_and_group_take_the_creators_places(rt: HostRuntime) -> Result<(), Fail> {
+fn a_new_owner_and_group_take_the_creators_places(rt: HostRuntime) {
     let root = "D:(A;OICI;FR;;;CO)(A;OICI;FW;;;CG)";
-    assert_eq!(rt; wrong(rt.alloc(), root, &NEW_OWNER)?, None);
-    Ok(())
+    answers(&rt, root, &NEW_OWNER);
 }
 
 const BELOW_NULL: [Row; 8] = [
@@ -110,8 +104,6 @@ const BELOW_NULL: [Row; 8] = [
 ];
 
 #[test]
-fn a_null_dacl_hands_nothing_on(rt: HostRuntime) -> Result<(), Fail> {
-    let told = wrong(rt.alloc(), "D:(A;OICI;FA;;;BA)", &BELOW_NULL)?;
-    assert_eq!(rt; told, None);
-    Ok(())
+fn a_null_dacl_hands_nothing_on(rt: HostRuntime) {
+    answers(&rt, "D:(A;OICI;FA;;;BA)", &BELOW_NULL);
 }

@@ -10,10 +10,9 @@ const FULL_LIST: [Row; 4] = [
 ];
 
 #[test]
-fn one_entry_more_is_too_large(rt: HostRuntime) -> Result<(), Fail> {
-    let root = repeated(rt.alloc(), "D:", "(A;OICI;FA;;;WD)", 3276)?;
-    assert_eq!(rt; wrong(rt.alloc(), root.as_str(), &FULL_LIST)?, None);
-    Ok(())
+fn one_entry_more_is_too_large(rt: HostRuntime) {
+    let root = repeated(&rt, "D:", "(A;OICI;FA;;;WD)", 3276);
+    answers(&rt, root.as_str(), &FULL_LIST);
 }
 
 // A container would have 3,278 entries, two of each.
@@ -25,10 +24,9 @@ const SPLIT: [Row; 4] = [
 ];
 
 #[test]
-fn a_split_entry_counts_twice(rt: HostRuntime) -> Result<(), Fail> {
-    let root = repeated(rt.alloc(), "D:", "(A;OICI;GA;;;WD)", 1639)?;
-    assert_eq!(rt; wrong(rt.alloc(), root.as_str(), &SPLIT)?, None);
-    Ok(())
+fn a_split_entry_counts_twice(rt: HostRuntime) {
+    let root = repeated(&rt, "D:", "(A;OICI;GA;;;WD)", 1639);
+    answers(&rt, root.as_str(), &SPLIT);
 }
 
 const SPLIT_FITS: [Row; 2] = [
@@ -37,37 +35,34 @@ const SPLIT_FITS: [Row; 2] = [
 ];
 
 #[test]
-fn split_entries_fill_a_list(rt: HostRuntime) -> Result<(), Fail> {
-    let root = repeated(rt.alloc(), "D:", "(A;OICI;GA;;;WD)", 1638)?;
-    assert_eq!(rt; wrong(rt.alloc(), root.as_str(), &SPLIT_FITS)?, None);
-    Ok(())
+fn split_entries_fill_a_list(rt: HostRuntime) {
+    let root = repeated(&rt, "D:", "(A;OICI;GA;;;WD)", 1638);
+    answers(&rt, root.as_str(), &SPLIT_FITS);
 }
 
 #[test]
-fn a_list_is_too_large_for_those_below(rt: HostRuntime) -> Result<(), Fail> {
-    let alloc = rt.alloc();
-    let mut tree = opened(alloc, "D:")?;
-    let many = repeated(alloc, "D:", "(A;OICI;FA;;;WD)", 3276)?;
-    let told = answer(alloc, &mut tree, Act::Container, "/c", "D:(A;;FA;;;WD)")?;
-    assert_eq!(rt; told.as_str(), "ok");
-    let told = answer(alloc, &mut tree, Act::Dacl, "/", many.as_str())?;
-    assert_eq!(rt; told.as_str(), "9");
-    let told = answer(alloc, &mut tree, Act::Show, "/c", "")?;
-    assert_eq!(rt; told.as_str(), "O:BAG:SYD:AI(A;;FA;;;WD)");
-    Ok(())
+fn a_list_is_too_large_for_those_below(rt: HostRuntime) {
+    let mut tree = opened(&rt, "D:");
+    let many = repeated(&rt, "D:", "(A;OICI;FA;;;WD)", 3276);
+    tells(&rt, &mut tree, Act::Container, "/c", "D:(A;;FA;;;WD)", "ok");
+    tells(&rt, &mut tree, Act::Dacl, "/", many.as_str(), "9");
+    tells(
+        &rt,
+        &mut tree,
+        Act::Show,
+        "/c",
+        "",
+        "O:BAG:SYD:AI(A;;FA;;;WD)",
+    );
 }
 
 #[test]
-fn the_sixty_fifth_name_is_too_deep(rt: HostRuntime) -> Result<(), Fail> {
-    let alloc = rt.alloc();
-    let mut tree = opened(alloc, "D:")?;
+fn the_sixty_fifth_name_is_too_deep(rt: HostRuntime) {
+    let mut tree = opened(&rt, "D:");
     for names in 1..65 {
-        let path = repeated(alloc, "", "/d", names)?;
-        let told = answer(alloc, &mut tree, Act::Container, path.as_str(), "D:")?;
-        assert_eq!(rt; told.as_str(), "ok");
+        let path = repeated(&rt, "", "/d", names);
+        tells(&rt, &mut tree, Act::Container, path.as_str(), "D:", "ok");
     }
-    let path = repeated(alloc, "", "/d", 65)?;
-    let told = answer(alloc, &mut tree, Act::Object, path.as_str(), "D:")?;
-    assert_eq!(rt; told.as_str(), "10");
-    Ok(())
+    let path = repeated(&rt, "", "/d", 65);
+    tells(&rt, &mut tree, Act::Object, path.as_str(), "D:", "10");
 }

@@ -4,7 +4,6 @@ use sd_check::{GroupState, Privileges, Token, Verdict, check};
 use sd_sid::{GenericMapping, Mask};
 use sd_text::{TextError, read_sddl, read_sid_text};
 use std::alloc::Global;
-use std::test::Fail;
 
 /// Whether the descriptor lets the user, as one of the built-in users, read a file's data.
 pub fn may_read(alloc: Global, sddl: &str, user: &str) -> Result<bool, TextError> {
@@ -20,10 +19,10 @@ pub fn may_read(alloc: Global, sddl: &str, user: &str) -> Result<bool, TextError
 }
 
 #[test]
-fn a_grant_to_the_users_lets_a_user_read(rt: HostRuntime) -> Result<(), Fail> {
-    let alloc = rt.alloc();
+fn a_grant_to_the_users_lets_a_user_read(rt: HostRuntime) {
     let user = "S-1-5-21-1-2-3-1001";
-    assert_eq!(rt; may_read(alloc, "O:BAG:SYD:(A;;FR;;;BU)", user)?, true);
-    assert_eq!(rt; may_read(alloc, "O:BAG:SYD:(A;;FR;;;BA)", user)?, false);
-    Ok(())
+    let users = may_read(rt.alloc(), "O:BAG:SYD:(A;;FR;;;BU)", user);
+    super::same(&rt, "the users", users, Ok(true));
+    let administrators = may_read(rt.alloc(), "O:BAG:SYD:(A;;FR;;;BA)", user);
+    super::same(&rt, "the administrators", administrators, Ok(false));
 }

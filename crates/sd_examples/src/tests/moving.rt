@@ -21,9 +21,8 @@ const FOLDER: [Row; 15] = [
 ];
 
 #[test]
-fn a_folder_goes_and_comes_back(rt: HostRuntime) -> Result<(), Fail> {
-    assert_eq!(rt; wrong(rt.alloc(), "D:(A;OICI;FR;;;BU)", &FOLDER)?, None);
-    Ok(())
+fn a_folder_goes_and_comes_back(rt: HostRuntime) {
+    answers(&rt, "D:(A;OICI;FR;;;BU)", &FOLDER);
 }
 
 const ORDER: [Row; 11] = [
@@ -41,9 +40,8 @@ const ORDER: [Row; 11] = [
 ];
 
 #[test]
-fn refusals_of_a_move_come_in_their_order(rt: HostRuntime) -> Result<(), Fail> {
-    assert_eq!(rt; wrong(rt.alloc(), "D:", &ORDER)?, None);
-    Ok(())
+fn refusals_of_a_move_come_in_their_order(rt: HostRuntime) {
+    answers(&rt, "D:", &ORDER);
 }
 
 const KINDS: [Row; 12] = [
@@ -67,50 +65,49 @@ const KINDS: [Row; 12] = [
 ];
 
 #[test]
-fn a_moved_node_keeps_its_own(rt: HostRuntime) -> Result<(), Fail> {
-    assert_eq!(rt; wrong(rt.alloc(), "D:", &KINDS)?, None);
-    Ok(())
+fn a_moved_node_keeps_its_own(rt: HostRuntime) {
+    answers(&rt, "D:", &KINDS);
 }
 
+/// Rows behind the container of the large list.
+const BIG: [Row; 6] = [
+    (Act::Container, "/s", "D:", "ok"),
+    (Act::Object, "/s/o", "D:(A;;FA;;;WD)", "ok"),
+    (Act::Move, "/s", "/big/s", "9"),
+    (Act::Count, "/s/o", "", "1"),
+    (Act::Remove, "/s/o", "", "ok"),
+    (Act::Move, "/s", "/big/s", "ok"),
+];
+
 #[test]
-fn a_list_may_be_too_large_at_the_target(rt: HostRuntime) -> Result<(), Fail> {
-    let alloc = rt.alloc();
-    let mut tree = opened(alloc, "D:")?;
-    let many = repeated(alloc, "D:P", "(A;OICI;FA;;;WD)", 3276)?;
-    let rows = [
-        (Act::Container, "/big", many.as_str(), "ok"),
-        (Act::Container, "/s", "D:", "ok"),
-        (Act::Object, "/s/o", "D:(A;;FA;;;WD)", "ok"),
-        (Act::Move, "/s", "/big/s", "9"),
-        (Act::Count, "/s/o", "", "1"),
-        (Act::Remove, "/s/o", "", "ok"),
-        (Act::Move, "/s", "/big/s", "ok"),
-    ];
-    for (act, path, text, wanted) in &rows {
-        let told = answer(alloc, &mut tree, *act, path, text)?;
-        assert_eq!(rt; told.as_str(), *wanted);
-    }
-    Ok(())
+fn a_list_may_be_too_large_at_the_target(rt: HostRuntime) {
+    let mut tree = opened(&rt, "D:");
+    let many = repeated(&rt, "D:P", "(A;OICI;FA;;;WD)", 3276);
+    tells(&rt, &mut tree, Act::Container, "/big", many.as_str(), "ok");
+    answers_in(&rt, &mut tree, &BIG);
+}
+
+/// Adds a container, whose path is a text and so many times `/a`.
+fn add_below(rt: &(impl Abort + AllocGlobal), tree: &mut Tree, head: &str, names: u64) {
+    let path = repeated(rt, head, "/a", names);
+    answer(rt, tree, Act::Container, path.as_str(), "D:");
 }
 
 /// What a move below a path of 60 names is answered, of a container with so many levels below it.
-fn deep(alloc: Global, levels: u64) -> Result<String, Fail> {
-    let mut tree = opened(alloc, "D:")?;
+fn deep(rt: &(impl Abort + AllocGlobal), levels: u64) -> String {
+    let mut tree = opened(rt, "D:");
     for names in 1..=60 {
-        let path = repeated(alloc, "", "/a", names)?;
-        answer(alloc, &mut tree, Act::Container, path.as_str(), "D:")?;
+        add_below(rt, &mut tree, "", names);
     }
     for names in 0..=levels {
-        let path = repeated(alloc, "/s", "/a", names)?;
-        answer(alloc, &mut tree, Act::Container, path.as_str(), "D:")?;
+        add_below(rt, &mut tree, "/s", names);
     }
-    let target = repeated(alloc, "", "/a", 61)?;
-    answer(alloc, &mut tree, Act::Move, "/s", target.as_str())
+    let target = repeated(rt, "", "/a", 61);
+    answer(rt, &mut tree, Act::Move, "/s", target.as_str())
 }
 
 #[test]
-fn no_moved_path_has_more_than_64_names(rt: HostRuntime) -> Result<(), Fail> {
-    assert_eq!(rt; deep(rt.alloc(), 3)?.as_str(), "ok");
-    assert_eq!(rt; deep(rt.alloc(), 4)?.as_str(), "10");
-    Ok(())
+fn no_moved_path_has_more_than_64_names(rt: HostRuntime) {
+    same(&rt, "3 levels", deep(&rt, 3).as_str(), "ok");
+    same(&rt, "4 levels", deep(&rt, 4).as_str(), "10");
 }

@@ -21,7 +21,7 @@ const NUMBERS: [(EditRefusal, u8, &str); 13] = [
 #[test]
 fn each_refusal_has_its_number_and_its_name(rt: HostRuntime) {
     for (refusal, number, name) in &NUMBERS {
-        assert_eq!(rt; refusal.number(), *number);
-        assert_eq!(rt; refusal.name(), *name);
+        same(&rt, *name, refusal.number(), *number);
+        same(&rt, *name, refusal.name(), *name);
     }
 }

@@ -55,53 +55,69 @@ const GIVEN: [Row; 7] = [
     (Act::Given, "/n/o", "", "Object O:BAG:SYD:"),
 ];
 
-#[test]
-fn nodes_tell_what_was_given_to_them(rt: HostRuntime) -> Result<(), Fail> {
-    let alloc = rt.alloc();
-    let mut tree = opened(alloc, "D:(A;OICI;FR;;;BU)")?;
-    assert_eq!(rt; wrong_in(alloc, &mut tree, &HISTORY)?, None);
-    assert_eq!(rt; wrong_in(alloc, &mut tree, &GIVEN)?, None);
-    Ok(())
+/// The tree of that history.
+fn lived(rt: &(impl Abort + AllocGlobal)) -> Tree {
+    let mut tree = opened(rt, "D:(A;OICI;FR;;;BU)");
+    answers_in(rt, &mut tree, &HISTORY);
+    tree
+}
+
+fn begun_anew(rt: &(impl Abort + AllocGlobal), tree: &Tree) -> Tree {
+    renewed(tree, rt.alloc()).expect(rt, "memory")
 }
 
 #[test]
-fn a_tree_begins_anew(rt: HostRuntime) -> Result<(), Fail> {
-    let alloc = rt.alloc();
-    let mut tree = opened(alloc, "D:(A;OICI;FR;;;BU)")?;
-    assert_eq!(rt; wrong_in(alloc, &mut tree, &HISTORY)?, None);
-    let mut again = renewed(&tree, alloc)?;
-    assert_eq!(rt; (tree.len(), again.len()), (9, 5));
-    assert_eq!(rt; wrong_in(alloc, &mut tree, &STANDING)?, None);
-    assert_eq!(rt; wrong_in(alloc, &mut again, &STANDING)?, None);
-    Ok(())
+fn nodes_tell_what_was_given_to_them(rt: HostRuntime) {
+    answers_in(&rt, &mut lived(&rt), &GIVEN);
 }
 
 #[test]
-fn nodes_stand_in_the_order_of_their_paths(rt: HostRuntime) -> Result<(), Fail> {
-    let alloc = rt.alloc();
-    let mut tree = opened(alloc, "D:(A;OICI;FR;;;BU)")?;
-    assert_eq!(rt; wrong_in(alloc, &mut tree, &HISTORY)?, None);
-    let mut told = String::new(alloc);
-    for index in 0..tree.node_count() {
-        if let Some(node) = tree.node(index) {
-            told.push_str(format!(in alloc; "{} {:?} ", node.path, node.kind)?.as_str())?;
+fn a_tree_begins_anew(rt: HostRuntime) {
+    let mut tree = lived(&rt);
+    let mut again = begun_anew(&rt, &tree);
+    has_edits(&rt, &tree, 9);
+    has_edits(&rt, &again, 5);
+    answers_in(&rt, &mut tree, &STANDING);
+    answers_in(&rt, &mut again, &STANDING);
+}
+
+/// The path and the kind of a node, or nothing.
+fn node_text(rt: &(impl Abort + AllocGlobal), tree: &Tree, index: usize) -> String {
+    match tree.node(index) {
+        Some(node) => {
+            format!(in rt.alloc(); "{} {:?} ", node.path, node.kind).expect(rt, "memory")
         }
+        None => String::new(rt.alloc()),
     }
-    assert_eq!(rt;
-        told.as_str(),
-        "/ Container /e Container /e/b Container /e/b/f Object /n Container /n/o Object "
-    );
-    assert!(rt; tree.node(6).is_none());
-    Ok(())
+}
+
+fn nodes_text(rt: &(impl Abort + AllocGlobal), tree: &Tree) -> String {
+    let mut text = String::new(rt.alloc());
+    for index in 0..tree.node_count() {
+        let node = node_text(rt, tree, index);
+        text.push_str(node.as_str()).expect(rt, "memory");
+    }
+    text
 }
 
 #[test]
-fn the_root_alone_begins_anew(rt: HostRuntime) -> Result<(), Fail> {
-    let alloc = rt.alloc();
-    let tree = opened(alloc, "O:WDD:P(A;;FR;;;BU)")?;
-    let mut again = renewed(&tree, alloc)?;
-    assert_eq!(rt; again.len(), 0);
-    let rows = [(Act::Show, "/", "", "O:WDG:SYD:PAI(A;;FR;;;BU)")];
-    assert_eq!(rt; wrong_in(alloc, &mut again, &rows)?, None);
-    Ok(())
+fn nodes_stand_in_the_order_of_their_paths(rt: HostRuntime) {
+    let tree = lived(&rt);
+    same(
+        &rt,
+        "the nodes",
+        nodes_text(&rt, &tree).as_str(),
+        "/ Container /e Container /e/b Container /e/b/f Object /n Container /n/o Object ",
+    );
+    same(&rt, "a seventh", node_text(&rt, &tree, 6).as_str(), "");
+}
+
+const ROOT_ALONE: [Row; 1] = [(Act::Show, "/", "", "O:WDG:SYD:PAI(A;;FR;;;BU)")];
+
+#[test]
+fn the_root_alone_begins_anew(rt: HostRuntime) {
+    let tree = opened(&rt, "O:WDD:P(A;;FR;;;BU)");
+    let mut again = begun_anew(&rt, &tree);
+    has_edits(&rt, &again, 0);
+    answers_in(&rt, &mut again, &ROOT_ALONE);
 }
