@@ -1,7 +1,7 @@
 //! Scripts: lines of text that build a tree of securable nodes, edit it, publish and ask.
 //!
-//! Each line is a command with its words, and is answered by one line, and `why` by several: by what a store replies, or by the
-//! first thing that is wrong with it. `script_output` takes a whole text and gives the whole output, which is what
+//! Each line is a command with its words, and is answered by one line, and `why`, `list` and `dump` by several: by what a store
+//! replies, or by the first thing that is wrong with it. `script_output` takes a whole text and gives the whole output, which is what
 //! `Prints` in specs/Output.antt says. The commands are told in docs/SCRIPT.md.
 //!
 //! ```text
