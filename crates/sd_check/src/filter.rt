@@ -21,11 +21,12 @@ impl Filter {
         ensures token { IsFilterOf result.words user.now groups.now }
         ensures owner_rights { may_hold result.words owner_rights ≡ true }
     {
-        let mut filter = Filter::of_owner_rights().with(user);
+        let mut filter = Filter::of_owner_rights();
+        filter.add(user);
         'groups: for place in groups {
             let (group, state) = place;
             if state.counts(AceKind::Deny) {
-                filter = filter.with(group);
+                filter.add(group);
             }
         }
         filter
@@ -47,20 +48,18 @@ impl Filter {
     {
         let mut filter = self;
         'sids: for sid in sids {
-            filter = filter.with(sid);
+            filter.add(sid);
         }
         filter
     }
 
-    /// The filter with one more SID.
-    fn with(self, sid: &Sid) -> Filter
-        ensures here { may_hold result.words sid.now ≡ true }
-        ensures kept { (s : SidValue) → may_hold self.words s ≡ true → may_hold result.words s ≡ true }
+    /// One more SID.
+    fn add(&mut self, sid: &Sid)
+        ensures here { may_hold self.new.words sid.now ≡ true }
+        ensures kept { (s : SidValue) → may_hold self.old.words s ≡ true → may_hold self.new.words s ≡ true }
     {
-        let mut words = self.words;
         let place = place_of(sid);
-        words[place / 64] |= 1 << (place % 64);
-        Filter { words }
+        self.words[place / 64] |= 1 << (place % 64);
     }
 
     /// Whether the SID's bit is set.

@@ -8,7 +8,7 @@ use Rattle.sd_check.proofs.filter.Filter.new.Goals.{then-counts, else-counts}
 
 pub groups-init : goal.groups-init
 groups-init c =
-    (filter_of_user c.with-filter.result.words c.args.user.now c.with-filter.ensures.here, c.with-filter.ensures.kept owner_rights c.of_owner_rights.ensures)
+    (filter_of_user c.add.new.self.words c.args.user.now c.add.ensures.here, c.add.ensures.kept owner_rights c.of_owner_rights-filter.ensures)
 
 pub groups-preserved : goal.groups-preserved
 groups-preserved c =
@@ -17,9 +17,9 @@ groups-preserved c =
     let groups = c.args.groups.now in
     elim c.if-counts.branch [
       | then-counts w ↦ rw w.filter-is (
-        filter_of_more words w.with-filter-then-counts.result.words user groups c.groups.place-index c.place-item.result c.groups-test.true c.place-item.is
-            c.groups.invariant.0 w.with-filter-then-counts.ensures.kept (λ h. w.with-filter-then-counts.ensures.here),
-        w.with-filter-then-counts.ensures.kept owner_rights c.groups.invariant.1,
+        filter_of_more words w.add-then-counts.new.self.words user groups c.groups.place-index c.place-item.result c.groups-test.true c.place-item.is
+            c.groups.invariant.0 w.add-then-counts.ensures.kept (λ h. w.add-then-counts.ensures.here),
+        w.add-then-counts.ensures.kept owner_rights c.groups.invariant.1,
       )
       | else-counts w ↦ rw w.filter-is (
         filter_of_more words words user groups c.groups.place-index c.place-item.result c.groups-test.true c.place-item.is

@@ -6,9 +6,9 @@ use Rattle.sd_check.proofs.filter.Filter.with_each.Goals as goal
 
 pub sids-preserved : goal.sids-preserved
 sids-preserved c = (
-  holds_each_of_more c.sids.filter.words c.with-filter.result.words c.args.sids.now c.sids.sid-index c.sid-item.result c.sids-test.true c.sid-item.is
-      c.sids.invariant.0 c.with-filter.ensures.kept c.with-filter.ensures.here,
-  λ s held. c.with-filter.ensures.kept s (c.sids.invariant.1 s held),
+  holds_each_of_more c.sids.filter.words c.add.new.self.words c.args.sids.now c.sids.sid-index c.sid-item.result c.sids-test.true c.sid-item.is
+      c.sids.invariant.0 c.add.ensures.kept c.add.ensures.here,
+  λ s held. c.add.ensures.kept s (c.sids.invariant.1 s held),
 )
 
 pub returns-clause-here : goal.returns-clause-here

@@ -3,11 +3,11 @@ use Rattle.std.proofs.Common.{ℕ, ◌*◌, ◌/◌, ◌%◌, ◌^◌, ◌<◌, 
 use Rattle.std.specs.Int.{bit_at}
 use Rattle.sd_check.specs.Filter.{filter_place}
 use Rattle.sd_check.proofs.Filters.{bit_is_set, bit_is_kept}
-use Rattle.sd_check.proofs.filter.Filter.with.Goals as goal
+use Rattle.sd_check.proofs.filter.Filter.add.Goals as goal
 
 pub returns-clause-here : goal.returns-clause-here
 returns-clause-here c =
-    let words = c.args.self.words in
+    let words = c.args.self.now.words in
     let place = c.place_of-place.result in
     let low : place / 64 < length words = omega (arith, c.place_of-place.ensures.small) in
     let within : place % 64 < 64 = omega arith in
@@ -16,7 +16,7 @@ returns-clause-here c =
 
 pub returns-clause-kept : goal.returns-clause-kept
 returns-clause-kept c = λ s held.
-    let words = c.args.self.words in
+    let words = c.args.self.now.words in
     let place = c.place_of-place.result in
     let low : place / 64 < length words = omega (arith, c.place_of-place.ensures.small) in
     let within : place % 64 < 64 = omega arith in
