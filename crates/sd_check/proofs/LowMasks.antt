@@ -6,7 +6,7 @@ use Rattle.std.proofs.Math.Bool.{and-false, and-true, or-false}
 use Rattle.sd_sid.specs.Mask.{holds, mask_of}
 use Rattle.sd_sid.specs.Mapping.{MappingValue, mapped, is_mapped}
 use Rattle.sd_sid.proofs.Masks.{is_mask_of, mask_of-alike}
-use Rattle.sd_acl.specs.Verdict.{reserved_of, without_maximum, judged, missing_of}
+use Rattle.sd_acl.specs.Verdict.{reserved_of, without_maximum, judged, missing_of, plain_verdict}
 use Rattle.sd_acl.specs.declared.verdict.Verdict.TheVariants.{Granted, Denied}
 
 -- such a mask has no place from 21 on
@@ -30,22 +30,28 @@ kept q b small = elim (cases_lt b 21) [
   | inr high ↦ rw (high_place q b small high) refl
 ]
 
-itself : (g : MappingValue) (q b : ℕ) → q < 2 ^ 21 → holds q b ≡ is_mapped g q b
+itself : (g : MappingValue) (q b : ℕ) → q < 2 ^ 28 → holds q b ≡ is_mapped g q b
 itself g q b small =
-    let generic : (k : ℕ) → 21 ≤ k → holds q k ≡ false = λ k. high_place q k small in
+    let generic : (k : ℕ) → 28 ≤ k → holds q k ≡ false = λ k high. ap (λ n. n == 1) (bit_at_above q 28 k small high) in
     rw (generic 31 (omega arith), generic 30 (omega arith), generic 29 (omega arith), generic 28 (omega arith))
-    (elim (cases_lt b 21) [
-      | inl low ↦ simp (lt-ltb b 28 (omega arith), and-true, or-false) refl
+    (elim (cases_lt b 28) [
+      | inl low ↦ simp (lt-ltb b 28 low, and-true, or-false) refl
       | inr high ↦ rw (generic b high) refl
     ])
 
+pub mapped_is_itself : (g : MappingValue) (q : ℕ) → q < 2 ^ 28 → mapped g q ≡ q
+mapped_is_itself g q small = sym (is_mask_of (is_mapped g q) q (omega arith) (λ b h. itself g q b small))
+
 mapped_to_itself : (g : MappingValue) (q : ℕ) → q < 2 ^ 21 → mapped g (without_maximum q) ≡ q
 mapped_to_itself g q small =
-    let wide : q < 2 ^ 32 = omega arith in
-    ap (mapped g) (sym (is_mask_of _ q wide (λ b h. kept q b small)))
-    ∙ sym (is_mask_of (is_mapped g q) q wide (λ b h. itself g q b small))
+    ap (mapped g) (sym (is_mask_of _ q (omega arith) (λ b h. kept q b small))) ∙ mapped_is_itself g q (omega arith)
 
--- the verdict on such a request is granted or denied
+-- the verdict on such a request has nothing reserved, and nothing mapped
+pub judged_low : (g : MappingValue) (p : ℕ → Bool) (most q : ℕ) → (q == 0) ≡ false → q < 2 ^ 21 → judged g p most q ≡ plain_verdict q (missing_of p q)
+judged_low g p most q some small =
+    rw (some, nothing_reserved q small, high_place q 25 small (omega arith), mapped_to_itself g q small, some) refl
+
+-- it is granted or denied
 pub judged_plainly : (g : MappingValue) (p : ℕ → Bool) (most q : ℕ) → (q == 0) ≡ false → q < 2 ^ 21
     → judged g p most q ≡ cond (missing_of p q == 0) (Granted q) (Denied (missing_of p q))
 judged_plainly g p most q some small =

@@ -2,7 +2,7 @@
 
 ghost use Rattle.std.specs.Prelude.{◌≡◌, ◌&&◌, ◌||◌, ◌++◌, not, false, Some, None};
 ghost use Rattle.sd_sid.specs.Mask.{holds, mask_of};
-ghost use Rattle.sd_acl.specs.Verdict.{limits_owner, is_implied, most_of};
+ghost use Rattle.sd_acl.specs.Verdict.{limits_owner, is_implied, missing_of, most_of};
 ghost use Rattle.sd_check.specs.Token.{is_owner};
 ghost use Rattle.sd_check.specs.Check.{is_listed, is_given, is_granted, answer_of};
 ghost use Rattle.sd_check.specs.Dacl.{lent_entries};
@@ -58,6 +58,7 @@ pub(crate) struct Access<'a> {
 
 impl Access<'_> {
     /// Of the bits that are wanted, those that the DACL grants, and the owner's where it doesn't limit the owner.
+    #[inline(always)]
     fn granted_by_dacl(&self, wanted: Mask) -> Mask
         ensures { result ≡ mask_of
             (λ b. holds wanted b
@@ -85,7 +86,12 @@ impl Access<'_> {
         let owners = self.owners_rights(wanted);
         let rights = wanted.common(OBJECT_RIGHTS);
         if self.token.is_restricted() {
-            self.walk_for_both(front, back, rights, owners)
+            // (a copy is lent, so that the other walks needn't have one in memory)
+            let access = *self;
+            access.walk_for_both(front, back, rights, owners)
+        } else if owners.is_empty() {
+            // (nothing to keep for the owner: the compiler makes a shorter walk of this one)
+            self.walk(front, back, rights, Mask(0))
         } else {
             self.walk(front, back, rights, owners)
         }
@@ -125,11 +131,12 @@ impl Access<'_> {
     }
 
     /// Of the bits that are wanted, those that are granted.
+    #[inline(always)]
     fn granted(&self, wanted: Mask) -> Mask
         ensures { result ≡ mask_of (λ b. holds wanted b && is_granted self.now.owner.now (lent_entries self.now.dacl) self.now.mapping.now self.now.token.now b) 32 }
     {
-        let privileged = wanted.common(self.privileged());
-        self.granted_by_dacl(wanted).union(privileged)
+        let granted = self.granted_by_dacl(wanted);
+        granted.union(wanted.common(self.privileged()))
     }
 
     /// What MAXIMUM_ALLOWED takes in, where `granted` are those of the wanted bits that are granted.
@@ -152,6 +159,15 @@ impl Access<'_> {
         self.mapping.all().union(given).common(OBJECT_RIGHTS)
     }
 
+    /// The verdict on what is wanted, by one's own rights and the standard ones' names.
+    #[inline(always)]
+    pub(crate) fn plain_answer(&self, wanted: Mask) -> Verdict
+        ensures { result ≡ rules.plain_verdict wanted
+            (missing_of (is_granted self.now.owner.now (lent_entries self.now.dacl) self.now.mapping.now self.now.token.now) wanted) }
+    {
+        plain_verdict(wanted, wanted.minus(self.granted(wanted)))
+    }
+
     /// The verdict on a request that isn't empty and has no reserved bit.
     pub(crate) fn answer(&self, asked: Mask) -> Verdict
         ensures { result ≡ answer_of self.now.owner.now (lent_entries self.now.dacl) self.now.mapping.now self.now.token.now asked }
@@ -161,7 +177,7 @@ impl Access<'_> {
             let granted = self.granted(wanted.union(OBJECT_RIGHTS));
             maximum_verdict(wanted.minus(granted), wanted.union(self.most(granted)))
         } else {
-            plain_verdict(wanted, wanted.minus(self.granted(wanted)))
+            self.plain_answer(wanted)
         }
     }
 }

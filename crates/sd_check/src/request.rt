@@ -7,7 +7,7 @@ ghost use Rattle.sd_check.specs.Dacl.{entries_of, lent_entries, dacl_entries};
 use crate::access::{Access, DaclRef, LentDacl};
 use crate::token::Token;
 use sd_acl::{Ace, Dacl, Descriptor, Verdict};
-use sd_sid::{GenericMapping, Mask, Sid};
+use sd_sid::{GenericMapping, Mask, OBJECT_RIGHTS, Sid};
 
 /// The bits of a request that no check answers.
 pub(crate) const RESERVED: Mask = Mask(0x0CE0_0000);
@@ -21,12 +21,12 @@ pub fn check(
 ) -> Verdict
     ensures { result ≡ verdict descriptor.now.owner (dacl_entries descriptor.now.dacl) mapping.now token.now asked }
 {
-    let dacl = match &descriptor.dacl {
-        Dacl::Absent => LentDacl::Absent,
-        Dacl::Null => LentDacl::Null,
-        Dacl::List(list) => LentDacl::List(list.entries()),
-    };
-    judge(&descriptor.owner, dacl, mapping, token, asked)
+    let owner = &descriptor.owner;
+    match &descriptor.dacl {
+        Dacl::Absent => judge(owner, LentDacl::Absent, mapping, token, asked),
+        Dacl::Null => judge(owner, LentDacl::Null, mapping, token, asked),
+        Dacl::List(list) => judge(owner, LentDacl::List(list.entries()), mapping, token, asked),
+    }
 }
 
 /// The same for a descriptor in parts: its owner, and its DACL.
@@ -62,8 +62,33 @@ pub fn check_joined(
     judge(&owner, LentDacl::Joined(front, back), mapping, token, asked)
 }
 
-/// The same, for an owner that is lent.
+/// The same, for an owner that is lent. Most requests are for the object's own rights and the standard ones alone: nothing of
+/// them is reserved, mapped or MAXIMUM_ALLOWED.
+#[inline(always)]
 fn judge(
+    owner: &Option<Sid>,
+    dacl: LentDacl<'_>,
+    mapping: &GenericMapping,
+    token: &Token,
+    asked: Mask,
+) -> Verdict
+    ensures { result ≡ verdict owner.now (lent_entries dacl.entry) mapping.now token.now asked }
+{
+    if !asked.is_empty() && asked.bits() <= OBJECT_RIGHTS.bits() {
+        let access = Access {
+            owner,
+            dacl,
+            mapping,
+            token,
+        };
+        return access.plain_answer(asked);
+    }
+    judge_any(owner, dacl, mapping, token, asked)
+}
+
+/// The same, whatever is asked for.
+#[inline(never)]
+fn judge_any(
     owner: &Option<Sid>,
     dacl: LentDacl<'_>,
     mapping: &GenericMapping,

@@ -3,6 +3,7 @@
 ghost use Rattle.std.specs.Prelude.{◌≡◌, ◌&&◌, ◌||◌, ◌++◌, not, true, false, cond, ℕ, ◌<◌, Some, List};
 ghost use Rattle.std.specs.Option.{option_copied};
 ghost use Rattle.sd_sid.specs.Mask.{holds, mask_of};
+ghost use Rattle.sd_sid.specs.Mapping.{mapped};
 ghost use Rattle.sd_acl.specs.Ace.{is_allow};
 ghost use Rattle.sd_acl.specs.Verdict.{first, is_allowed_by, limits_owner, subject};
 ghost use Rattle.sd_acl.specs.declared.ace.Ace.{Ace};
@@ -13,6 +14,9 @@ use crate::access::Access;
 use crate::token::Token;
 use sd_acl::{Ace, AceKind};
 use sd_sid::{Mask, Sid};
+
+/// The lowest of the generic rights, GENERIC_ALL ([MS-DTYP] 2.4.3): a mask below has none of them.
+const FIRST_GENERIC: u32 = 0x1000_0000;
 
 /// Whether an entry of the kind for the SID applies ([MS-DTYP] 2.5.3.1).
 #[inline(always)]
@@ -171,7 +175,18 @@ impl Access<'_> {
         if !applies_to(self.token, self.owner, entry.kind, &entry.sid) {
             return Mask(0);
         }
-        self.mapping.map(entry.mask)
+        self.map(entry.mask)
+    }
+
+    /// The mapped mask: most have no generic right, and stay as they are.
+    #[inline(always)]
+    fn map(&self, mask: Mask) -> Mask
+        ensures { result ≡ mapped self.now.mapping.now mask }
+    {
+        if mask.bits() < FIRST_GENERIC {
+            return mask;
+        }
+        self.mapping.map(mask)
     }
 
     /// The same in the second pass, that of the restricting SIDs.
@@ -238,10 +253,10 @@ impl Access<'_> {
             if self.is_silent(entry) {
                 continue;
             }
+            kept = kept.when(!limits_owner(entry));
             let mask = self.mask_that_applies(entry).common(undecided);
             undecided = undecided.minus(mask);
             allowed = allowed.union(mask.when(entry.kind.is_allow()));
-            kept = kept.when(!limits_owner(entry));
         }
         Walked {
             undecided,

@@ -5,7 +5,7 @@ use Rattle.sd_sid.specs.Mapping.{mapped}
 use Rattle.sd_acl.specs.Verdict.{missing_of, joined_with, most_of, plain_verdict, maximum_verdict}
 use Rattle.sd_check.specs.Check.{is_given, is_granted}
 use Rattle.sd_check.specs.Dacl.{lent_entries}
-use Rattle.sd_check.proofs.Answered.{maximum_is, missing_is}
+use Rattle.sd_check.proofs.Answered.{maximum_is}
 use Rattle.sd_check.proofs.access.Access.answer.Goals as goal
 
 pub returns-then-holds : goal.returns-then-holds
@@ -25,7 +25,6 @@ pub returns-else-holds : goal.returns-else-holds
 returns-else-holds c =
     let access = c.args.self.now in
     let granted = is_granted access.owner.now (lent_entries access.dacl) access.mapping.now access.token.now in
-    c.plain_verdict.ensures
-    ∙ ap (plain_verdict c.map-wanted.result) (missing_is granted c.map-wanted.result c.granted.result c.minus-else-holds.result c.granted.ensures c.minus-else-holds.ensures)
+    c.plain_answer.ensures
     ∙ ap (λ q. plain_verdict q (missing_of granted q)) (c.map-wanted.ensures ∙ ap (mapped access.mapping.now) c.minus.ensures)
     ∙ sym (cond-false _ _ _ (sym c.holds.ensures ∙ c.if-holds.false))
