@@ -159,7 +159,7 @@ impl Access<'_> {
         self.mapping.all().union(given).common(OBJECT_RIGHTS)
     }
 
-    /// The verdict on what is wanted, by one's own rights and the standard ones' names.
+    /// The verdict on what is wanted, where no generic right and no MAXIMUM_ALLOWED is left.
     #[inline(always)]
     pub(crate) fn plain_answer(&self, wanted: Mask) -> Verdict
         ensures { result ≡ rules.plain_verdict wanted
