@@ -1,8 +1,9 @@
 //! The entries that a node has of its own.
 
 ghost use Rattle.std.specs.Prelude.{◌≡◌, IfOk};
+ghost use Rattle.sd_acl.specs.Ace.{acl_size_of};
 
-use sd_acl::Ace;
+use sd_acl::{Ace, acl_size};
 use std::alloc::{AllocError, Global};
 use std::marker::Model;
 
@@ -10,15 +11,20 @@ use std::marker::Model;
 #[derive(Debug, Drop)]
 pub struct Entries {
     items: Vec<Ace>,
+    /// The bytes that a list of them takes.
+    size: u64,
 }
 
 impl Model for Entries {
-    ghost use Rattle.std.specs.Prelude.{List};
+    ghost use Rattle.std.specs.Prelude.{◌≡◌, List};
+    ghost use Rattle.sd_acl.specs.Ace.{acl_size_of};
     ghost use Rattle.sd_acl.specs.declared.ace.Ace.{Ace};
 
     ghost Value = { List Ace };
 
     ghost view = { λ e. e.items.items };
+
+    ghost invariant = { λ e. e.size ≡ acl_size_of e.items.items };
 }
 
 impl Entries {
@@ -26,7 +32,8 @@ impl Entries {
     pub fn new(items: Vec<Ace>) -> Entries
         ensures { result ≡ items.items }
     {
-        Entries { items }
+        let size = acl_size(&items);
+        Entries { items, size }
     }
 
     /// The entries, in order.
@@ -34,6 +41,13 @@ impl Entries {
         ensures { result.now ≡ self.now }
     {
         &self.items
+    }
+
+    /// The bytes that a list of them takes ([MS-DTYP] 2.4.5, AclSize).
+    pub(crate) fn size(&self) -> u64
+        ensures { result ≡ acl_size_of self.now }
+    {
+        self.size
     }
 
     /// The entries, given back. Takes no memory.
@@ -48,6 +62,9 @@ impl Entries {
         ensures { IfOk result (λ entries. entries ≡ self.now) }
     {
         let items = Vec::from_slice(alloc, self.items.as_slice())?;
-        Ok(Entries { items })
+        Ok(Entries {
+            items,
+            size: self.size,
+        })
     }
 }

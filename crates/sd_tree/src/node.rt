@@ -1,13 +1,14 @@
 //! What stands at a path.
 
 ghost use Rattle.std.specs.Prelude.{◌≡◌, IfOk};
+ghost use Rattle.sd_acl.specs.Ace.{acl_size_of};
 ghost use Rattle.sd_tree.specs.Plans.{changed_row, is_of_trustee};
 ghost use Rattle.sd_tree.specs.Refusals.{own_entries};
 
 use crate::entries::Entries;
 use crate::shared::Shared;
 use crate::whole::WholeList;
-use sd_acl::Ace;
+use sd_acl::{ACL_HEADER_BYTES, Ace};
 use sd_path::Path;
 use sd_sid::Sid;
 use std::alloc::{AllocError, Global};
@@ -82,6 +83,16 @@ impl Row {
         match &self.dacl {
             NodeDacl::Null => &[],
             NodeDacl::List { entries, .. } => entries.as_slice(),
+        }
+    }
+
+    /// The bytes that a list of its own entries takes ([MS-DTYP] 2.4.5, AclSize).
+    pub(crate) fn own_size(&self) -> u64
+        ensures { result ≡ acl_size_of (own_entries self.now.dacl) }
+    {
+        match &self.dacl {
+            NodeDacl::Null => ACL_HEADER_BYTES,
+            NodeDacl::List { entries, .. } => entries.size(),
         }
     }
 

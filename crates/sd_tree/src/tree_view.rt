@@ -133,6 +133,9 @@ impl TreeView<'_> {
         ensures beyond { AllWithin (λ b. is_within path.now (path_of_node b) ≡ false) self.now.nodes.now result
             (length self.now.nodes.now) }
     {
+        if path.is_root() {
+            return self.nodes.len();
+        }
         for k in at + 1..self.nodes.len() {
             let node: &Node = &self.nodes[k];
             if !node.path.as_path_ref().is_within(path) {

@@ -8,36 +8,18 @@ ghost use Rattle.sd_tree.specs.Refusals.{own_entries};
 ghost use Rattle.sd_tree.specs.Sizes.{IsSizeError};
 ghost use Rattle.sd_tree.specs.Whole.{behind_own};
 
-use crate::node::{NodeDacl, Row};
+use crate::entries::Entries;
+use crate::node::Row;
 use crate::refusal::{EditRefusal, TreeError};
 use crate::shared::Shared;
-use sd_acl::{ACL_HEADER_BYTES, Ace, AceList, MAX_ACL_BYTES, acl_size};
+use sd_acl::{ACL_HEADER_BYTES, Ace, AceList, MAX_ACL_BYTES};
 use std::alloc::{AllocError, Global};
 use std::marker::Model;
-
-/// Entries, and the bytes that a list of them takes. Contracts see the entries.
-#[derive(Debug, Drop)]
-struct SizedEntries {
-    entries: Vec<Ace>,
-    size: u64,
-}
-
-impl Model for SizedEntries {
-    ghost use Rattle.std.specs.Prelude.{◌≡◌, List};
-    ghost use Rattle.sd_acl.specs.Ace.{acl_size_of};
-    ghost use Rattle.sd_acl.specs.declared.ace.Ace.{Ace};
-
-    ghost Value = { List Ace };
-
-    ghost view = { λ s. s.entries.items };
-
-    ghost invariant = { λ s. s.size ≡ acl_size_of s.entries.items };
-}
 
 /// What a node inherits, kept once for all nodes that inherit the same. Contracts see the entries.
 #[derive(Debug, Drop)]
 pub(crate) struct Inherited {
-    list: Option<Shared<SizedEntries>>,
+    list: Option<Shared<Entries>>,
 }
 
 impl Model for Inherited {
@@ -65,8 +47,7 @@ impl Inherited {
         if entries.is_empty() {
             return Ok(Inherited::none());
         }
-        let size = acl_size(&entries);
-        let list = Some(Shared::new(alloc, SizedEntries { entries, size })?);
+        let list = Some(Shared::new(alloc, Entries::new(entries))?);
         Ok(Inherited { list })
     }
 
@@ -87,7 +68,7 @@ impl Inherited {
     {
         match &self.list {
             None => &[],
-            Some(list) => &list.get().entries,
+            Some(list) => list.get().as_slice(),
         }
     }
 
@@ -97,7 +78,7 @@ impl Inherited {
     {
         match &self.list {
             None => ACL_HEADER_BYTES,
-            Some(list) => list.get().size,
+            Some(list) => list.get().size(),
         }
     }
 }
@@ -131,7 +112,7 @@ impl WholeList {
         ensures refused { IfErr result (λ e. IsSizeError e (Some (behind_own row.now inherited))) }
     {
         // Both sizes count a header.
-        let size = acl_size(row.get().own_entries()).saturating_add(inherited.size());
+        let size = row.get().own_size().saturating_add(inherited.size());
         if size > MAX_ACL_BYTES + ACL_HEADER_BYTES {
             return Err(TreeError::Refused(EditRefusal::AclTooLarge));
         }
