@@ -7,6 +7,7 @@ ghost use Rattle.sd_tree.specs.Stored.{Boxed};
 use crate::node::{Node, Row};
 use crate::shared::Shared;
 use crate::whole::WholeList;
+use std::mem::swap;
 
 /// What an accepted edit does to the nodes.
 #[derive(Debug, Drop)]
@@ -68,9 +69,12 @@ fn rewrite(
 {
     let first = &mut nodes[at];
     first.row = row;
-    while let Some(whole) = wholes.pop() {
-        let node = &mut nodes[at + wholes.len()];
-        node.whole = whole;
+    // (the old ones are let go behind the loop: a count that goes down holds up what comes next)
+    let mut left = wholes.len();
+    while left > 0 {
+        left -= 1;
+        let node = &mut nodes[at + left];
+        swap(&mut node.whole, &mut wholes[left]);
     }
 }
 

@@ -11,7 +11,6 @@ use crate::nodes::locate;
 use crate::tree_view::TreeView;
 use crate::whole::WholeList;
 use sd_path::PathRef;
-use std::cmp::Ordering;
 
 /// How many siblings are looked at, the nearest first. A container that holds nodes of both kinds and of several owners
 /// has the next of each kind and owner near.
@@ -37,7 +36,7 @@ impl TreeView<'_> {
         if beside.is_root() || !are_alike(node.row.get(), row, by_trustees) {
             return false;
         }
-        beside.parent().compare(&path.parent()) == Ordering::Equal
+        beside.depth() == path.depth() && beside.is_within(&path.parent())
     }
 
     /// The place of the sibling right before a place, if there is one.

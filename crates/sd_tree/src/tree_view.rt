@@ -162,7 +162,7 @@ impl TreeView<'_> {
             (insert (tree_in self.now) path.now row.now)) }
     {
         let end = self.end_below(path, at);
-        let mut wholes = Vec::new(self.alloc);
+        let mut wholes = Vec::with_capacity(self.alloc, end - at)?;
         let first = self.whole_of(path, at, row)?;
         wholes.push(first)?;
         let mut last_parent = at;

@@ -1,28 +1,45 @@
-use Rattle.std.proofs.Common.{◌≡◌, subst, sym, ap, ◌∙◌, get_or, rules}
+use Rattle.std.proofs.Common.{◌≡◌, ◌+◌, ◌≤◌, List, [], ◌∷◌, ◌++◌, length, false, true, subst, sym, ap, ◌∙◌, get_or, length-append, arith, rules}
 use Rattle.std.proofs.lemmas.List.{get_or_default}
-use Rattle.sd_path.specs.Names.{up, is_root}
+use Rattle.sd_path.specs.Names.{Names, up, is_root, is_within}
+use Rattle.sd_path.proofs.Paths.{up-push, within_rest}
+use Rattle.sd_path.proofs.PathBytes.{length-up}
 use Rattle.sd_tree.specs.Sharing.{InheritOne}
 use Rattle.sd_tree.specs.Stored.{Boxed, path_of_node}
 use Rattle.sd_tree.specs.declared.node.Node.{Node}
 use Rattle.sd_tree.specs.declared.node.Row.{Row}
 use Rattle.sd_tree.proofs.OneDacl.{alike_inherit_one}
-use Rattle.sd_tree.proofs.Rows.{compared_same}
 use Rattle.sd_tree.proofs.tree_view.TreeView.is_sibling.Goals as goal
 
-node_is : (c : goal.After-eq) (b : Boxed) → c.deref-node.result.now ≡ (get_or c.args.self.now.nodes.now c.args.at b).value
-node_is c b = c.deref-node.ensures ∙ ap (λ (n : Boxed). n.value) (get_or_default c.args.self.now.nodes.now c.args.at c.index-self-at.result b c.requires.place)
+-- a path with as many names as another, below what holds that one, is held by it too
+one_more : (top rest : Names) → length rest ≡ 1 → up (top ++ rest) ≡ top
+one_more top [] e = absurd (omega arith)
+one_more top (n ∷ []) e = up-push top n
+one_more top (n ∷ m ∷ rest) e = absurd (omega arith)
 
-path_is : (c : goal.After-eq) (b : Boxed) → c.as_path_ref-beside.result ≡ path_of_node (get_or c.args.self.now.nodes.now c.args.at b)
-path_is c b = c.as_path_ref-beside.ensures ∙ ap (λ (n : Node). n.path) (node_is c b)
+same_parent : (p q : Names) → is_root p ≡ false → length p ≡ length q → is_within (up q) p ≡ true → up p ≡ up q
+same_parent p q below long inside =
+    let found = within_rest (up q) p inside in
+    let size : length p ≡ length (up q) + length found.0 = ap length found.1 ∙ length-append (up q) found.0 in
+    let some = named_once p below in
+    ap up found.1 ∙ one_more (up q) found.0 (omega (arith, size, long, some, length-up q))
+  where
+    named_once : (p : Names) → is_root p ≡ false → 1 ≤ length p
+    named_once [] h = absurd cc
+    named_once (n ∷ p) h = omega arith
 
-pub returns : goal.returns
-returns c held = record {
-  place = c.requires.place;
-  below_root = λ b. ap is_root (sym (path_is c b)) ∙ sym c.if-is_root.ensures;
-  parent = λ b.
-      let same = compared_same c.parent.result c.parent-2.result c.compare.result c.compare.ensures (sym c.eq.ensures ∙ held) in
-      ap up (sym (path_is c b)) ∙ sym c.parent.ensures ∙ same ∙ c.parent-2.ensures;
-  alike = λ b.
-      let P : Row → Type 0 = λ row. InheritOne row c.args.row.now c.args.above.now in
-      subst P (c.get.ensures ∙ ap (λ (n : Node). n.row) (node_is c b)) (alike_inherit_one _ _ c.args.above.now c.args.by_trustees (c.are_alike.ensures (search rules)) c.requires.trustees);
-}
+pub returns-then-depth : goal.returns-then-depth
+returns-then-depth c held =
+    let bs = c.args.self.now.nodes.now in
+    let node_is : (b : Boxed) → c.deref-node.result.now ≡ (get_or bs c.args.at b).value =
+    λ b. c.deref-node.ensures ∙ ap (λ (n : Boxed). n.value) (get_or_default bs c.args.at c.index-self-at.result b c.requires.place) in
+    let path_is : (b : Boxed) → c.as_path_ref-beside.result ≡ path_of_node (get_or bs c.args.at b) =
+    λ b. c.as_path_ref-beside.ensures ∙ ap (λ (n : Node). n.path) (node_is b) in
+    record {
+      place = c.requires.place;
+      below_root = λ b. ap is_root (sym (path_is b)) ∙ sym c.if-is_root.ensures;
+      parent = λ b. ap up (sym (path_is b)) ∙ same_parent _ c.args.path.now (sym c.if-is_root.ensures) (sym c.depth.ensures ∙ c.if-depth.true ∙ c.depth-2.ensures)
+          (ap (λ t. is_within t c.as_path_ref-beside.result) (sym c.parent.ensures) ∙ sym c.is_within.ensures ∙ held);
+      alike = λ b.
+          let P : Row → Type 0 = λ row. InheritOne row c.args.row.now c.args.above.now in
+          subst P (c.get.ensures ∙ ap (λ (n : Node). n.row) (node_is b)) (alike_inherit_one _ _ c.args.above.now c.args.by_trustees (c.are_alike.ensures (search rules)) c.requires.trustees);
+    }

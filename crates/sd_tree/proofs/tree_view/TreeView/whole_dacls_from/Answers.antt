@@ -19,7 +19,7 @@ whole_of-requires-clause-parent c below =
 
 pub returns-in_err-first-clause-refused : goal.returns-in_err-first-clause-refused
 returns-in_err-first-clause-refused c =
-    let p = err_from_is_err_and c.from_residual.result c.from_residual.ensures.1 in
+    let p = err_from_is_err_and c.from_residual-in_err-first.result c.from_residual-in_err-first.ensures.1 in
     rw (p.1, p.2) (large_error _ _ c.args.path.now c.args.row.now c.in_err-first.field-0.0 (row_at-insert_same _ _ _) c.in_err-first.ensures.refused)
 
 pub place_near-parent-requires-clause-there : goal.place_near-parent-requires-clause-there
