@@ -1,5 +1,6 @@
 -- What a sibling has is what a node beside it would have.
-use Rattle.std.proofs.Common.{◌≡◌, ℕ, ◌+◌, ◌-◌, ◌<◌, ◌≤◌, true, List, [], ◌∷◌, length, get_or, ◌⊎◌, Option, Some, inl, inr, sym, ap, ◌∙◌, arith}
+use Rattle.std.proofs.Common.{◌≡◌, ℕ, ◌+◌, ◌-◌, ◌<◌, ◌≤◌, true, List, [], ◌∷◌, ◌++◌, length, get_or, ◌⊎◌, Option, Some, inl, inr, refl, sym, ap, ◌∙◌, arith}
+use Rattle.std.proofs.lemmas.Bool.{false≢true}
 use Rattle.std.specs.List.{HoldsAt, AllWithin}
 use Rattle.std.specs.FinMap.{insert}
 use Rattle.sd_sid.specs.Mapping.{MappingValue}
@@ -8,10 +9,12 @@ use Rattle.sd_path.specs.Names.{Names, up, is_within}
 use Rattle.sd_tree.specs.Inheritance.{handed_on, dacl_of_row}
 use Rattle.sd_tree.specs.Plain.{dacl_here, dacl_at}
 use Rattle.sd_tree.specs.Plans.{IsRewriting, ChangesOneNode}
-use Rattle.sd_tree.specs.Refusals.{dacl_size}
+use Rattle.sd_tree.specs.Refusals.{dacl_size, own_entries}
 use Rattle.sd_tree.specs.Sharing.{IsSibling, AreMadeFor, InheritOne}
 use Rattle.sd_tree.specs.Stored.{Boxed, path_of_node, IsInOrder, tree_of, AreStanding}
-use Rattle.sd_tree.specs.Whole.{behind_own}
+use Rattle.sd_tree.specs.Whole.{behind_own, dacl_with, whole_with, inherits}
+use Rattle.sd_tree.specs.declared.node.NodeDacl.{NodeDacl}
+use Rattle.sd_tree.specs.declared.node.NodeDacl.TheVariants.{Null, List as Entries}
 use Rattle.sd_tree.specs.declared.node.Node.{Node}
 use Rattle.sd_tree.specs.declared.node.Row.{Row}
 use Rattle.sd_tree.proofs.CarriedOut.{key_at, keys_count}
@@ -38,16 +41,25 @@ sibling_whole g bs standing path row above k is-above sibling b =
     ∙ ap (λ o. dacl_here g o (dacl_at g t (up there))) (row_here bs standing.kept.order k b sibling.place)
     ∙ ap (dacl_of_row g (get_or bs k b).value.row) held ∙ behind_sibling g (get_or bs k b).value.row row above (sibling.alike b)
 
+-- a row that inherits has these behind its own entries
+with_own : (row : Row) (inherited : List Ace) → inherits row.dacl ≡ true → whole_with row inherited ≡ Some (behind_own row inherited)
+with_own row inherited h = parts row.dacl inherited h
+  where
+    parts : (d : NodeDacl) (inherited : List Ace) → inherits d ≡ true → dacl_with d inherited ≡ Some (own_entries d ++ inherited)
+    parts Null inherited h = absurd (false≢true h)
+    parts (Entries is-protected own) inherited h = refl
+
 -- a row below the same parent has its own entries before what its sibling inherits
 pub row_beside : (g : MappingValue) (beside row : Row) (above : Option (List Ace)) → InheritOne beside row above → (inherited : List Ace)
-    → inherited ≡ handed_on g row above → Some (behind_own row inherited) ≡ dacl_of_row g row above
+    → inherited ≡ handed_on g row above → whole_with row inherited ≡ dacl_of_row g row above
 row_beside g beside row above h inherited is =
-    ap (λ xs. Some (behind_own row xs)) is ∙ sym (inheriting_dacl g row above h.other_inherits)
+    with_own row inherited h.other_inherits
+    ∙ ap (λ xs. Some (behind_own row xs)) is ∙ sym (inheriting_dacl g row above h.other_inherits)
 
 pub dacl_beside : (g : MappingValue) (bs : List Boxed) → AreStanding g bs → (path : Names) (row : Row) (above : Option (List Ace)) (k : ℕ)
     → above ≡ dacl_at g (tree_of bs) (up path) → IsSibling bs path row above k → (b : Boxed) (n : Node) → n ≡ (get_or bs k b).value
     → (beside : Row) → beside ≡ n.row → (inherited : List Ace) → ((rest : List Ace) → n.whole ≡ Some (behind_own beside rest) → inherited ≡ rest)
-    → Some (behind_own row inherited) ≡ dacl_of_row g row above
+    → whole_with row inherited ≡ dacl_of_row g row above
 dacl_beside g bs standing path row above k is-above sibling b n is beside of inherited told =
     let own = of ∙ ap (λ (m : Node). m.row) is in
     let kept = ap (λ (m : Node). m.whole) is ∙ sibling_whole g bs standing path row above k is-above sibling b in

@@ -1,19 +1,22 @@
 -- How a node's whole DACL is kept: in two parts. No public contract says so.
-use Rattle.std.specs.Prelude.{Bool, false, not, List, [], ◌++◌, Option, Some, None}
+use Rattle.std.specs.Prelude.{Bool, false, not, List, ◌++◌, Option, Some, None}
 use Rattle.sd_acl.specs.declared.ace.Ace.{Ace}
 use Rattle.sd_tree.specs.Refusals.{own_entries}
 use Rattle.sd_tree.specs.declared.node.NodeDacl.{NodeDacl}
 use Rattle.sd_tree.specs.declared.node.NodeDacl.TheVariants.{Null, List as Entries}
 use Rattle.sd_tree.specs.declared.node.Row.{Row}
 
--- the entries of a list, and none where there is no list
-abbrev pub listed : Option (List Ace) → List Ace
-listed None = []
-listed (Some entries) = entries
-
 -- a row's own entries, and these behind them
 abbrev pub behind_own : Row → List Ace → List Ace
 behind_own row inherited = own_entries row.dacl ++ inherited
+
+-- a DACL with these behind its own entries; a null one has no entries
+abbrev pub dacl_with : NodeDacl → List Ace → Option (List Ace)
+dacl_with Null inherited = None
+dacl_with (Entries protected own) inherited = Some (own ++ inherited)
+
+abbrev pub whole_with : Row → List Ace → Option (List Ace)
+whole_with row inherited = dacl_with row.dacl inherited
 
 -- whether a node with this DACL inherits: it is neither null nor protected
 abbrev pub inherits : NodeDacl → Bool

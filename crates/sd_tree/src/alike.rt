@@ -7,7 +7,7 @@ ghost use Rattle.sd_tree.specs.Whole.{inherits};
 
 use crate::inherit::{is_creator_group, is_creator_owner};
 use crate::node::{NodeDacl, Row};
-use crate::whole::WholeList;
+use crate::whole::WholeDacl;
 use sd_acl::Ace;
 
 /// Whether a node with this DACL inherits: it is neither null nor protected.
@@ -28,15 +28,12 @@ fn names_creator(entries: &[Ace]) -> bool
 }
 
 /// Whether a parent's DACL has such an entry: then a child's owner and group tell in what it inherits.
-pub(crate) fn trustees_matter(above: &Option<WholeList>) -> bool
+pub(crate) fn trustees_matter(above: &WholeDacl) -> bool
     ensures { result ≡ trustees_matter above.now }
 {
-    match above {
+    match above.parts() {
         None => false,
-        Some(list) => {
-            let (own, inherited) = list.parts();
-            names_creator(own) || names_creator(inherited)
-        }
+        Some((own, inherited)) => names_creator(own) || names_creator(inherited),
     }
 }
 

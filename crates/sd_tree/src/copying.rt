@@ -6,7 +6,6 @@ ghost use Rattle.sd_tree.specs.Stored.{node_of};
 use crate::edit::Edit;
 use crate::node::Node;
 use crate::shared::Shared;
-use crate::whole::share_dacl;
 use std::alloc::{AllocError, Global};
 
 /// The same edits, in a vector of their own.
@@ -40,6 +39,6 @@ fn copy_node(alloc: Global, node: &Node) -> Result<Node, AllocError>
 {
     let path = node.path.copy(alloc)?;
     let row = node.row.share()?;
-    let whole = share_dacl(&node.whole)?;
+    let whole = node.whole.share()?;
     Ok(Node { path, row, whole })
 }

@@ -1,16 +1,18 @@
 //! What an entry hands on to a child, and the DACL of a node ([MS-DTYP] 2.5.3.4).
 
-ghost use Rattle.std.specs.Prelude.{◌≡◌, ◌++◌, ◌≤◌, OnOk, IfOk, IfErr};
+ghost use Rattle.std.specs.Prelude.{◌≡◌, ◌++◌, ◌≤◌, None, OnOk, IfOk, IfErr};
 ghost use Rattle.std.specs.List.{flat_map};
+ghost use Rattle.sd_sid.specs.Mapping.{MappingValue};
 ghost use Rattle.sd_sid.specs.Sid.{same_sid};
 ghost use Rattle.sd_tree.specs.Inheritance.{object_inherit, container_inherit, no_propagate, creator_owner, creator_group, created_by, effective_copy, waiting_copy, whole_copy, is_split, to_object, to_container, pass_on, handed_on, dacl_of_row};
 ghost use Rattle.sd_tree.specs.Refusals.{dacl_size};
 ghost use Rattle.sd_tree.specs.Sizes.{IsSizeError};
 
-use crate::node::{NodeDacl, NodeKind, Row};
+use crate::alike::inherits;
+use crate::node::{NodeKind, Row};
 use crate::refusal::TreeError;
 use crate::shared::Shared;
-use crate::whole::{Inherited, WholeList};
+use crate::whole::{Inherited, WholeDacl};
 use bitflags::Flags;
 use sd_acl::{Ace, AceFlags};
 use sd_sid::{GenericMapping, Sid};
@@ -209,14 +211,13 @@ fn handed_on(
     alloc: Global,
     mapping: &GenericMapping,
     row: &Row,
-    above: &Option<WholeList>,
+    above: &WholeDacl,
 ) -> Result<Inherited, AllocError>
     ensures { IfOk result (λ handed. handed ≡ handed_on mapping.now row.now above.now) }
 {
-    let Some(list) = above else {
-        return Ok(Inherited::none());
+    let Some((own, inherited)) = above.parts() else {
+        return Inherited::none(alloc);
     };
-    let (own, inherited) = list.parts();
     let mut handed = Vec::new(alloc);
     hand_on(&mut handed, mapping, row, own)?;
     hand_on(&mut handed, mapping, row, inherited)?;
@@ -229,19 +230,25 @@ pub(crate) fn dacl_of_row(
     alloc: Global,
     mapping: &GenericMapping,
     row: &Shared<Row>,
-    above: &Option<WholeList>,
-) -> Result<Option<WholeList>, TreeError>
+    above: &WholeDacl,
+) -> Result<WholeDacl, TreeError>
     ensures dacl { IfOk result (λ dacl. dacl ≡ dacl_of_row mapping.now row.now above.now) }
     ensures fits { OnOk result (dacl_size (dacl_of_row mapping.now row.now above.now) ≤ 65535) }
     ensures refused { IfErr result (λ error. IsSizeError error (dacl_of_row mapping.now row.now above.now)) }
 {
-    let NodeDacl::List { protected, .. } = &row.get().dacl else {
-        return Ok(None);
-    };
-    let inherited = if *protected {
-        Inherited::none()
-    } else {
+    let inherited = if inherits(&row.get().dacl) {
         handed_on(alloc, mapping, row.get(), above)?
+    } else {
+        Inherited::none(alloc)?
     };
-    Ok(Some(WholeList::new(row, inherited)?))
+    WholeDacl::new(row, inherited)
+}
+
+/// The same of the root, which stands below none.
+pub(crate) fn dacl_of_root(alloc: Global, row: &Shared<Row>) -> Result<WholeDacl, TreeError>
+    ensures dacl { IfOk result (λ dacl. (g : MappingValue) → dacl ≡ dacl_of_row g row.now None) }
+    ensures fits { (g : MappingValue) → OnOk result (dacl_size (dacl_of_row g row.now None) ≤ 65535) }
+    ensures refused { IfErr result (λ error. (g : MappingValue) → IsSizeError error (dacl_of_row g row.now None)) }
+{
+    WholeDacl::new(row, Inherited::none(alloc)?)
 }

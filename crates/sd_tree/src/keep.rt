@@ -6,26 +6,23 @@ ghost use Rattle.sd_tree.specs.declared.node.Row.{Row};
 
 use crate::entries::Entries;
 use crate::node::NodeDacl;
-use crate::whole::WholeList;
+use crate::whole::{WholeDacl, joined};
 use sd_acl::{canonicalize, explicit_of};
 use std::alloc::{AllocError, Global};
 
 /// The DACL that a node with this whole DACL gets as its own when it is protected and keeps what it had inherited:
 /// all entries as explicit ones, in canonical order ([MS-DTYP] 2.4.6, control bit PD). `None` where it is a null one,
 /// which stays.
-pub(crate) fn kept_dacl(
-    alloc: Global,
-    whole: &Option<WholeList>,
-) -> Result<Option<NodeDacl>, AllocError>
+pub(crate) fn kept_dacl(alloc: Global, whole: &WholeDacl) -> Result<Option<NodeDacl>, AllocError>
     ensures kept { IfOk result (λ kept. kept ≡ option_map kept_dacl whole.now) }
     ensures keeping { IfOk result (λ kept. MatchOption kept
         ((row : Row) → keeping whole.now row ≡ row)
         (λ dacl. (row : Row) → keeping whole.now row ≡ record row { dacl = dacl })) }
 {
-    let Some(list) = whole else {
+    let Some((own, inherited)) = whole.parts() else {
         return Ok(None);
     };
-    let explicit = explicit_of(alloc, &list.joined(alloc)?)?;
+    let explicit = explicit_of(alloc, &joined(alloc, own, inherited)?)?;
     let ordered = canonicalize(alloc, &explicit)?;
     Ok(Some(NodeDacl::List {
         protected: true,

@@ -20,7 +20,7 @@ use crate::plan::Plan;
 use crate::refusal::{EditRefusal, TreeError};
 use crate::shared::Shared;
 use crate::tree_view::TreeView;
-use crate::whole::{WholeList, share_dacl};
+use crate::whole::{WholeDacl, joined};
 use sd_acl::Ace;
 use sd_path::{Path, PathRef};
 use std::alloc::{AllocError, Global};
@@ -55,7 +55,7 @@ impl TreeView<'_> {
         target: &Path,
         from: usize,
         at: usize,
-    ) -> Result<Vec<Option<WholeList>>, TreeError>
+    ) -> Result<Vec<WholeDacl>, TreeError>
         requires standing { IsView self.now }
         requires movable { IsMovable (tree_in self.now) source.now target.now }
         requires within { from < length self.now.nodes.now }
@@ -79,11 +79,7 @@ impl TreeView<'_> {
     }
 
     /// The whole DACLs of the node at a place and of those below it, in their order, as they stand.
-    fn kept_wholes(
-        &self,
-        path: &PathRef<'_>,
-        at: usize,
-    ) -> Result<Vec<Option<WholeList>>, AllocError>
+    fn kept_wholes(&self, path: &PathRef<'_>, at: usize) -> Result<Vec<WholeDacl>, AllocError>
         requires standing { IsView self.now }
         requires within { at < length self.now.nodes.now }
         requires stands { HoldsAt (λ b. path_of_node b ≡ path.now) self.now.nodes.now at }
@@ -95,7 +91,7 @@ impl TreeView<'_> {
         let mut wholes = Vec::with_capacity(self.alloc, end - at)?;
         for k in at..end {
             let node: &Node = &self.nodes[k];
-            wholes.push(share_dacl(&node.whole)?)?;
+            wholes.push(node.whole.share()?)?;
         }
         Ok(wholes)
     }
@@ -106,7 +102,7 @@ impl TreeView<'_> {
         source: &Path,
         target: &Path,
         from: usize,
-        wholes: &[Option<WholeList>],
+        wholes: &[WholeDacl],
     ) -> Result<Vec<Box<Node>>, TreeError>
         requires standing { IsView self.now }
         requires wholes { AreMovedWholes self.now.mapping.now self.now.nodes.now
@@ -130,7 +126,7 @@ fn moved_node(
     node: &Node,
     source: &PathRef<'_>,
     target: &PathRef<'_>,
-    whole: &Option<WholeList>,
+    whole: &WholeDacl,
 ) -> Result<Box<Node>, TreeError>
     requires { is_within source.now node.now.path ≡ true }
     ensures node { IfOk result (IsMovedNode source.now target.now node.now whole.now) }
@@ -142,15 +138,12 @@ fn moved_node(
     }
     let path = node.path.moved(alloc, source, target)?;
     let row = node.row.share()?;
-    let whole = share_dacl(whole)?;
+    let whole = whole.share()?;
     Ok(Box::new(alloc, Node { path, row, whole })?)
 }
 
 /// The same whole DACLs, of which this is the first: its own entries stand in the node's row.
-fn with_first(
-    mut wholes: Vec<Option<WholeList>>,
-    first: Option<WholeList>,
-) -> Vec<Option<WholeList>>
+fn with_first(mut wholes: Vec<WholeDacl>, first: WholeDacl) -> Vec<WholeDacl>
     requires some { 0 < length wholes.items }
     requires first { (whole : Option (List Ace)) → slice_index_or wholes.items 0 whole ≡ first }
     ensures { result.items ≡ wholes.items }
@@ -160,18 +153,14 @@ fn with_first(
 }
 
 /// The row with this whole DACL as all that the node has.
-fn row_with_whole(
-    alloc: Global,
-    row: &Row,
-    whole: &Option<WholeList>,
-) -> Result<Shared<Row>, AllocError>
+fn row_with_whole(alloc: Global, row: &Row, whole: &WholeDacl) -> Result<Shared<Row>, AllocError>
     ensures { IfOk result (HasWhole whole.now) }
 {
-    let dacl = match whole {
+    let dacl = match whole.parts() {
         None => NodeDacl::Null,
-        Some(list) => NodeDacl::List {
+        Some((own, inherited)) => NodeDacl::List {
             protected: true,
-            entries: Entries::new(list.joined(alloc)?),
+            entries: Entries::new(joined(alloc, own, inherited)?),
         },
     };
     let with_whole = Row {
@@ -184,15 +173,12 @@ fn row_with_whole(
 }
 
 /// Whether both are one DACL, entry by entry, own ones and inherited ones; `true` only where they are.
-fn are_one_dacl(one: &Option<WholeList>, other: &Option<WholeList>) -> bool
+fn are_one_dacl(one: &WholeDacl, other: &WholeDacl) -> bool
     ensures { result ≡ true → one.now ≡ other.now }
 {
-    match (one, other) {
+    match (one.parts(), other.parts()) {
         (None, None) => true,
-        (Some(one), Some(other)) => {
-            let (one, other) = (one.parts(), other.parts());
-            are_one_list(one.0, other.0) && are_one_list(one.1, other.1)
-        }
+        (Some(one), Some(other)) => { are_one_list(one.0, other.0) && are_one_list(one.1, other.1) }
         _ => false,
     }
 }

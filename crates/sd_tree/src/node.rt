@@ -1,14 +1,13 @@
 //! What stands at a path.
 
 ghost use Rattle.std.specs.Prelude.{◌≡◌, IfOk};
-ghost use Rattle.sd_acl.specs.Ace.{acl_size_of};
 ghost use Rattle.sd_tree.specs.Plans.{changed_row, is_of_trustee};
 ghost use Rattle.sd_tree.specs.Refusals.{own_entries};
 
 use crate::entries::Entries;
 use crate::shared::Shared;
-use crate::whole::WholeList;
-use sd_acl::{ACL_HEADER_BYTES, Ace};
+use crate::whole::WholeDacl;
+use sd_acl::Ace;
 use sd_path::Path;
 use sd_sid::Sid;
 use std::alloc::{AllocError, Global};
@@ -86,16 +85,6 @@ impl Row {
         }
     }
 
-    /// The bytes that a list of its own entries takes ([MS-DTYP] 2.4.5, AclSize).
-    pub(crate) fn own_size(&self) -> u64
-        ensures { result ≡ acl_size_of (own_entries self.now.dacl) }
-    {
-        match &self.dacl {
-            NodeDacl::Null => ACL_HEADER_BYTES,
-            NodeDacl::List { entries, .. } => entries.size(),
-        }
-    }
-
     /// One that is equal but for the change.
     pub(crate) fn with(&self, alloc: Global, change: RowChange) -> Result<Row, AllocError>
         ensures { IfOk result (λ row. row ≡ changed_row change self.now) }
@@ -135,5 +124,5 @@ impl Row {
 pub(crate) struct Node {
     pub path: Path,
     pub row: Shared<Row>,
-    pub whole: Option<WholeList>,
+    pub whole: WholeDacl,
 }

@@ -6,7 +6,7 @@ ghost use Rattle.sd_tree.specs.Stored.{Boxed};
 
 use crate::node::{Node, Row};
 use crate::shared::Shared;
-use crate::whole::WholeList;
+use crate::whole::WholeDacl;
 use std::mem::swap;
 
 /// What an accepted edit does to the nodes.
@@ -21,7 +21,7 @@ pub(crate) enum Plan {
     Rewrite {
         at: usize,
         row: Shared<Row>,
-        wholes: Vec<Option<WholeList>>,
+        wholes: Vec<WholeDacl>,
     },
     /// The node at the place goes.
     Remove {
@@ -56,12 +56,7 @@ pub(crate) fn carry_out(nodes: &mut Vec<Box<Node>>, plan: Plan)
 }
 
 /// The node at the place gets the row, and with those right behind it its whole DACL anew.
-fn rewrite(
-    nodes: &mut Vec<Box<Node>>,
-    at: usize,
-    row: Shared<Row>,
-    mut wholes: Vec<Option<WholeList>>,
-)
+fn rewrite(nodes: &mut Vec<Box<Node>>, at: usize, row: Shared<Row>, mut wholes: Vec<WholeDacl>)
     requires place { at < vec_len nodes.old }
     requires fits { at + vec_len wholes ≤ vec_len nodes.old }
     ensures nodes { IsRewritten at row wholes.items nodes.old.items nodes.new.items }

@@ -9,7 +9,7 @@ use crate::alike::{are_alike, inherits, trustees_matter};
 use crate::node::{Node, Row};
 use crate::nodes::locate;
 use crate::tree_view::TreeView;
-use crate::whole::WholeList;
+use crate::whole::WholeDacl;
 use sd_path::PathRef;
 
 /// How many siblings are looked at, the nearest first. A container that holds nodes of both kinds and of several owners
@@ -23,7 +23,7 @@ impl TreeView<'_> {
         &self,
         path: &PathRef<'_>,
         row: &Row,
-        above: &Option<WholeList>,
+        above: &WholeDacl,
         by_trustees: bool,
         at: usize,
     ) -> bool
@@ -66,7 +66,7 @@ impl TreeView<'_> {
         &self,
         path: &PathRef<'_>,
         row: &Row,
-        above: &Option<WholeList>,
+        above: &WholeDacl,
         by_trustees: bool,
         at: usize,
     ) -> Option<usize>
@@ -90,7 +90,7 @@ impl TreeView<'_> {
         &self,
         path: &PathRef<'_>,
         row: &Row,
-        above: &Option<WholeList>,
+        above: &WholeDacl,
         at: usize,
     ) -> Option<usize>
         requires standing { IsView self.now }
@@ -114,7 +114,7 @@ impl TreeView<'_> {
         &self,
         path: &PathRef<'_>,
         row: &Row,
-        above: &Option<WholeList>,
+        above: &WholeDacl,
         at: usize,
     ) -> Option<usize>
         requires standing { IsView self.now }

@@ -15,7 +15,7 @@ ghost use Rattle.sd_tree.specs.View.{IsView, tree_in};
 use crate::copying::{copy_nodes, share_edits};
 use crate::describe::descriptor_of_node;
 use crate::edit::Edit;
-use crate::inherit::dacl_of_row;
+use crate::inherit::dacl_of_root;
 use crate::list_tests::list_refusal;
 use crate::node::{Node, NodeKind, Row};
 use crate::nodes::node_at;
@@ -227,10 +227,9 @@ impl Tree {
             Some(node) => {
                 let owner = Some(node.row.get().owner);
                 let mapping = &self.opening.mapping;
-                CheckReply::Verdict(match &node.whole {
+                CheckReply::Verdict(match node.whole.parts() {
                     None => check_parts(owner, DaclRef::Null, mapping, token, asked),
-                    Some(list) => {
-                        let (own, inherited) = list.parts();
+                    Some((own, inherited)) => {
                         check_joined(owner, own, inherited, mapping, token, asked)
                     }
                 })
@@ -329,7 +328,7 @@ fn root_node(
         dacl: root.dacl.copy(alloc)?,
     };
     let row = Shared::new(alloc, row)?;
-    let whole = dacl_of_row(alloc, mapping, &row, &None)?;
+    let whole = dacl_of_root(alloc, &row)?;
     let path = Path::root(alloc);
     Ok(Box::new(alloc, Node { path, row, whole })?)
 }

@@ -13,13 +13,13 @@ ghost use Rattle.sd_tree.specs.Stored.{path_of_node};
 ghost use Rattle.sd_tree.specs.View.{IsView, tree_in};
 ghost use Rattle.sd_tree.specs.Plans.{IsInsertion, IsRewriting, IsLargeError, IsRunBelow};
 
-use crate::inherit::dacl_of_row;
+use crate::inherit::{dacl_of_root, dacl_of_row};
 use crate::node::{Node, Row};
 use crate::nodes::locate;
 use crate::plan::Plan;
 use crate::refusal::TreeError;
 use crate::shared::Shared;
-use crate::whole::{WholeList, inherited_in};
+use crate::whole::WholeDacl;
 use sd_path::{Path, PathRef};
 use sd_sid::GenericMapping;
 use std::alloc::Global;
@@ -81,7 +81,7 @@ impl TreeView<'_> {
         path: &PathRef<'_>,
         at: usize,
         row: &Shared<Row>,
-    ) -> Result<Option<WholeList>, TreeError>
+    ) -> Result<WholeDacl, TreeError>
         requires standing { IsView self.now }
         requires place { at ≤ length self.now.nodes.now }
         requires parent { is_root path.now ≡ false → IsSome (row_at (tree_in self.now) (up path.now)) }
@@ -92,7 +92,7 @@ impl TreeView<'_> {
             (dacl_at self.now.mapping.now (insert (tree_in self.now) path.now row.now) path.now)) }
     {
         if path.is_root() {
-            return dacl_of_row(self.alloc, self.mapping, row, &None);
+            return dacl_of_root(self.alloc, row);
         }
         let parent: &Node = &self.nodes[self.place_of(&path.parent())];
         self.whole_beside(path, at, row, &parent.whole)
@@ -105,8 +105,8 @@ impl TreeView<'_> {
         path: &PathRef<'_>,
         at: usize,
         row: &Shared<Row>,
-        above: &Option<WholeList>,
-    ) -> Result<Option<WholeList>, TreeError>
+        above: &WholeDacl,
+    ) -> Result<WholeDacl, TreeError>
         requires standing { IsView self.now }
         requires place { at ≤ length self.now.nodes.now }
         requires above { above.now ≡ dacl_at self.now.mapping.now (tree_in self.now) (up path.now) }
@@ -116,8 +116,8 @@ impl TreeView<'_> {
     {
         if let Some(k) = self.sibling_around(path, row.get(), above, at) {
             let sibling: &Node = &self.nodes[k];
-            if let Some(inherited) = inherited_in(sibling.row.get(), &sibling.whole) {
-                return Ok(Some(WholeList::new(row, inherited.share()?)?));
+            if let Some(inherited) = sibling.whole.behind(sibling.row.get()) {
+                return WholeDacl::new(row, inherited.share()?);
             }
         }
         dacl_of_row(self.alloc, self.mapping, row, above)
@@ -151,7 +151,7 @@ impl TreeView<'_> {
         path: &PathRef<'_>,
         at: usize,
         row: &Shared<Row>,
-    ) -> Result<Vec<Option<WholeList>>, TreeError>
+    ) -> Result<Vec<WholeDacl>, TreeError>
         requires standing { IsView self.now }
         requires within { at < length self.now.nodes.now }
         requires stands { HoldsAt (λ b. path_of_node b ≡ path.now) self.now.nodes.now at }
@@ -191,9 +191,9 @@ impl TreeView<'_> {
         path: &PathRef<'_>,
         places: (usize, usize),
         row: &Shared<Row>,
-        above: &Option<WholeList>,
-        made: &[Option<WholeList>],
-    ) -> Result<Option<WholeList>, TreeError>
+        above: &WholeDacl,
+        made: &[WholeDacl],
+    ) -> Result<WholeDacl, TreeError>
         requires standing { IsView self.now }
         requires place { places.1 ≤ length self.now.nodes.now }
         requires made { AreMadeFor self.now.mapping.now self.now.nodes.now path.now row.now above.now places.0 made.now }
@@ -205,8 +205,8 @@ impl TreeView<'_> {
         if let Some(beside) = self.sibling_with(path, row.get(), above, k) {
             if at < beside && beside - at < made.len() {
                 let sibling: &Node = &self.nodes[beside];
-                if let Some(inherited) = inherited_in(sibling.row.get(), &made[beside - at]) {
-                    return Ok(Some(WholeList::new(row, inherited.share()?)?));
+                if let Some(inherited) = made[beside - at].behind(sibling.row.get()) {
+                    return WholeDacl::new(row, inherited.share()?);
                 }
             }
         }

@@ -1,53 +1,49 @@
-//! A node's whole list ([MS-DTYP] 2.5.3.4) in two parts: its own entries, which stand in its row, and behind them those
+//! A node's whole DACL ([MS-DTYP] 2.5.3.4) in two parts: its own entries, which stand in its row, and behind them those
 //! that it inherits, which other nodes share.
 
-ghost use Rattle.std.specs.Prelude.{◌≡◌, ◌++◌, ◌≤◌, List, [], Some, OnOk, IfOk, IfErr, IfSome};
+ghost use Rattle.std.specs.Prelude.{◌≡◌, ◌++◌, ◌≤◌, List, [], Some, None, MatchOption, OnOk, IfOk, IfErr, IfSome};
 ghost use Rattle.sd_acl.specs.Ace.{acl_size_of};
 ghost use Rattle.sd_acl.specs.declared.ace.Ace.{Ace};
-ghost use Rattle.sd_tree.specs.Refusals.{own_entries};
+ghost use Rattle.sd_tree.specs.Refusals.{dacl_size};
 ghost use Rattle.sd_tree.specs.Sizes.{IsSizeError};
-ghost use Rattle.sd_tree.specs.Whole.{behind_own};
+ghost use Rattle.sd_tree.specs.Whole.{behind_own, whole_with};
 
 use crate::entries::Entries;
-use crate::node::Row;
+use crate::node::{NodeDacl, Row};
 use crate::refusal::{EditRefusal, TreeError};
 use crate::shared::Shared;
-use sd_acl::{ACL_HEADER_BYTES, Ace, AceList, MAX_ACL_BYTES};
+use sd_acl::{ACL_HEADER_BYTES, Ace, MAX_ACL_BYTES};
 use std::alloc::{AllocError, Global};
 use std::marker::Model;
 
 /// What a node inherits, kept once for all nodes that inherit the same. Contracts see the entries.
 #[derive(Debug, Drop)]
 pub(crate) struct Inherited {
-    list: Option<Shared<Entries>>,
+    list: Shared<Entries>,
 }
 
 impl Model for Inherited {
     ghost use Rattle.std.specs.Prelude.{List};
     ghost use Rattle.sd_acl.specs.declared.ace.Ace.{Ace};
-    ghost use Rattle.sd_tree.specs.Whole.{listed};
 
     ghost Value = { List Ace };
 
-    ghost view = { λ i. listed i.list };
+    ghost view = { λ i. i.list };
 }
 
 impl Inherited {
     /// Nothing.
-    pub(crate) fn none() -> Inherited
-        ensures { result ≡ [] }
+    pub(crate) fn none(alloc: Global) -> Result<Inherited, AllocError>
+        ensures { IfOk result (λ inherited. inherited ≡ []) }
     {
-        Inherited { list: None }
+        Inherited::new(alloc, Vec::new(alloc))
     }
 
     /// These entries, for their first holder.
     pub(crate) fn new(alloc: Global, entries: Vec<Ace>) -> Result<Inherited, AllocError>
         ensures { IfOk result (λ inherited. inherited ≡ entries.items) }
     {
-        if entries.is_empty() {
-            return Ok(Inherited::none());
-        }
-        let list = Some(Shared::new(alloc, Entries::new(entries))?);
+        let list = Shared::new(alloc, Entries::new(entries))?;
         Ok(Inherited { list })
     }
 
@@ -55,10 +51,7 @@ impl Inherited {
     pub(crate) fn share(&self) -> Result<Inherited, AllocError>
         ensures { IfOk result (λ shared. shared ≡ self.now) }
     {
-        let list = match &self.list {
-            None => None,
-            Some(list) => Some(list.share()?),
-        };
+        let list = self.list.share()?;
         Ok(Inherited { list })
     }
 
@@ -66,120 +59,95 @@ impl Inherited {
     fn entries(&self) -> &[Ace]
         ensures { result.now ≡ self.now }
     {
-        match &self.list {
-            None => &[],
-            Some(list) => list.get().as_slice(),
-        }
+        self.list.get().as_slice()
     }
 
     /// The bytes that a list of them takes ([MS-DTYP] 2.4.5, AclSize).
     fn size(&self) -> u64
         ensures { result ≡ acl_size_of self.now }
     {
-        match &self.list {
-            None => ACL_HEADER_BYTES,
-            Some(list) => list.get().size(),
-        }
+        self.list.get().size()
     }
 }
 
-/// A node's whole list: the own entries of a row, and what is inherited behind them. Contracts see the one list of both.
+/// A node's whole DACL: the own entries of its row, and what is inherited behind them; a null one has none of these.
+/// Contracts see the one list of both, or None for a null one.
 #[derive(Debug, Drop)]
-pub(crate) struct WholeList {
+pub(crate) struct WholeDacl {
     row: Shared<Row>,
     inherited: Inherited,
 }
 
-impl Model for WholeList {
-    ghost use Rattle.std.specs.Prelude.{List, ◌≤◌};
-    ghost use Rattle.sd_acl.specs.Ace.{acl_size_of};
+impl Model for WholeDacl {
+    ghost use Rattle.std.specs.Prelude.{List, Option, ◌≤◌};
     ghost use Rattle.sd_acl.specs.declared.ace.Ace.{Ace};
-    ghost use Rattle.sd_tree.specs.Whole.{behind_own};
+    ghost use Rattle.sd_tree.specs.Refusals.{dacl_size};
+    ghost use Rattle.sd_tree.specs.Whole.{whole_with};
 
-    ghost Value = { List Ace };
+    ghost Value = { Option (List Ace) };
 
-    ghost view = { λ w. behind_own w.row w.inherited };
+    ghost view = { λ w. whole_with w.row w.inherited };
 
-    ghost invariant = { λ w. acl_size_of (behind_own w.row w.inherited) ≤ 65535 };
+    ghost invariant = { λ w. dacl_size (whole_with w.row w.inherited) ≤ 65535 };
 }
 
-impl WholeList {
-    /// The list of the row's own entries and these behind them; `AclTooLarge` where it would take more than 65,535 bytes
+impl WholeDacl {
+    /// The row's, with these behind its own entries; `AclTooLarge` where it would take more than 65,535 bytes
     /// ([MS-DTYP] 2.4.5).
-    pub(crate) fn new(row: &Shared<Row>, inherited: Inherited) -> Result<WholeList, TreeError>
-        ensures list { IfOk result (λ list. list ≡ behind_own row.now inherited) }
-        ensures fits { OnOk result (acl_size_of (behind_own row.now inherited) ≤ 65535) }
-        ensures refused { IfErr result (λ e. IsSizeError e (Some (behind_own row.now inherited))) }
+    pub(crate) fn new(row: &Shared<Row>, inherited: Inherited) -> Result<WholeDacl, TreeError>
+        ensures dacl { IfOk result (λ dacl. dacl ≡ whole_with row.now inherited) }
+        ensures fits { OnOk result (dacl_size (whole_with row.now inherited) ≤ 65535) }
+        ensures refused { IfErr result (λ e. IsSizeError e (whole_with row.now inherited)) }
     {
-        // Both sizes count a header.
-        let size = row.get().own_size().saturating_add(inherited.size());
-        if size > MAX_ACL_BYTES + ACL_HEADER_BYTES {
-            return Err(TreeError::Refused(EditRefusal::AclTooLarge));
+        if let NodeDacl::List { entries, .. } = &row.get().dacl {
+            // Both sizes count a header.
+            let size = entries.size().saturating_add(inherited.size());
+            if size > MAX_ACL_BYTES + ACL_HEADER_BYTES {
+                return Err(TreeError::Refused(EditRefusal::AclTooLarge));
+            }
         }
         let row = row.share()?;
-        Ok(WholeList { row, inherited })
+        Ok(WholeDacl { row, inherited })
     }
 
-    /// The own entries, and those behind them.
-    pub(crate) fn parts(&self) -> (&[Ace], &[Ace])
-        ensures parts { self.now ≡ result.0.now ++ result.1.now }
-        ensures known { acl_size_of self.now ≤ 65535 }
+    /// The own entries, and those behind them; `None` where it is a null one.
+    pub(crate) fn parts(&self) -> Option<(&[Ace], &[Ace])>
+        ensures parts { MatchOption result (self.now ≡ None) (λ parts. self.now ≡ Some (parts.0.now ++ parts.1.now)) }
+        ensures known { dacl_size self.now ≤ 65535 }
     {
-        (self.row.get().own_entries(), self.inherited.entries())
+        match &self.row.get().dacl {
+            NodeDacl::Null => None,
+            NodeDacl::List { entries, .. } => Some((entries.as_slice(), self.inherited.entries())),
+        }
     }
 
-    /// The same list, for one holder more.
-    pub(crate) fn share(&self) -> Result<WholeList, AllocError>
+    /// The same DACL, for one holder more.
+    pub(crate) fn share(&self) -> Result<WholeDacl, AllocError>
         ensures { IfOk result (λ shared. shared ≡ self.now) }
     {
         let row = self.row.share()?;
         let inherited = self.inherited.share()?;
-        Ok(WholeList { row, inherited })
+        Ok(WholeDacl { row, inherited })
     }
 
-    /// Its entries, in a vector of their own.
-    pub(crate) fn joined(&self, alloc: Global) -> Result<Vec<Ace>, AllocError>
-        ensures joined { IfOk result (λ joined. joined.items ≡ self.now) }
+    /// What stands behind a row's own entries in it; `None` where it has another number of own entries.
+    pub(crate) fn behind(&self, row: &Row) -> Option<&Inherited>
+        ensures { IfSome result (λ inherited. (rest : List Ace) → self.now ≡ Some (behind_own row.now rest)
+            → inherited.now ≡ rest) }
     {
-        let (own, inherited) = self.parts();
-        let mut joined = Vec::with_capacity(alloc, own.len() + inherited.len())?;
-        joined.extend_from_slice(own)?;
-        joined.extend_from_slice(inherited)?;
-        Ok(joined)
-    }
-
-    /// An equal list in one piece.
-    pub(crate) fn to_ace_list(&self, alloc: Global) -> Result<AceList, AllocError>
-        ensures { IfOk result (λ list. list ≡ self.now) }
-    {
-        let _fits = self.parts();
-        match AceList::new(self.joined(alloc)?) {
-            Ok(list) => Ok(list),
-            Err(_) => unreachable!(),
+        if self.row.get().own_entries().len() != row.own_entries().len() {
+            return None;
         }
+        Some(&self.inherited)
     }
 }
 
-/// The same whole DACL, for one holder more; `None` is a null one.
-pub(crate) fn share_dacl(dacl: &Option<WholeList>) -> Result<Option<WholeList>, AllocError>
-    ensures { IfOk result (λ shared. shared ≡ dacl.now) }
+/// Entries and those behind them, in a vector of their own.
+pub(crate) fn joined(alloc: Global, own: &[Ace], inherited: &[Ace]) -> Result<Vec<Ace>, AllocError>
+    ensures { IfOk result (λ joined. joined.items ≡ own.now ++ inherited.now) }
 {
-    match dacl {
-        None => Ok(None),
-        Some(list) => Ok(Some(list.share()?)),
-    }
-}
-
-/// What stands behind a row's own entries in a whole DACL; `None` where it has another number of own entries.
-pub(crate) fn inherited_in<'a>(row: &Row, whole: &'a Option<WholeList>) -> Option<&'a Inherited>
-    ensures { IfSome result (λ inherited. (rest : List Ace) → whole.now ≡ Some (behind_own row.now rest)
-        → inherited.now ≡ rest) }
-{
-    let Some(list) = whole else {
-        return None;
-    };
-    if list.row.get().own_entries().len() != row.own_entries().len() {
-        return None;
-    }
-    Some(&list.inherited)
+    let mut joined = Vec::with_capacity(alloc, own.len() + inherited.len())?;
+    joined.extend_from_slice(own)?;
+    joined.extend_from_slice(inherited)?;
+    Ok(joined)
 }

@@ -1,4 +1,4 @@
-use Rattle.std.proofs.Common.{◌≡◌, ◌≤◌, take, length, vec_len, vec_capacity}
+use Rattle.std.proofs.Common.{◌≡◌, ◌≤◌, take, length, vec_capacity}
 use Rattle.sd_tree.proofs.Rewriting.{IsRewrittenFrom}
 use Rattle.sd_tree.proofs.plan.rewrite.Given as goal
 

@@ -1,4 +1,4 @@
-use Rattle.std.proofs.Common.{◌≡◌, ◌+◌, ◌≤◌, List, [], ◌∷◌, ◌++◌, length, false, true, subst, sym, ap, ◌∙◌, get_or, length-append, arith, rules}
+use Rattle.std.proofs.Common.{◌≡◌, ◌+◌, ◌≤◌, [], ◌∷◌, ◌++◌, length, false, true, subst, sym, ap, ◌∙◌, get_or, length-append, arith, rules}
 use Rattle.std.proofs.lemmas.List.{get_or_default}
 use Rattle.sd_path.specs.Names.{Names, up, is_root, is_within}
 use Rattle.sd_path.proofs.Paths.{up-push, within_rest}

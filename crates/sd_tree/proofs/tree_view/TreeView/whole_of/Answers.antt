@@ -12,12 +12,12 @@ use Rattle.sd_tree.proofs.tree_view.TreeView.whole_of.Goals as goal
 pub returns-then-is_root-clause-whole : goal.returns-then-is_root-clause-whole
 returns-then-is_root-clause-whole c =
     let same = whole_at_root c.args.self.now.mapping.now (tree_of c.args.self.now.nodes.now) c.args.path.now c.args.row.now (sym c.if-is_root.ensures) in
-    IfOk-weaker c.dacl_of_row.result _ _ (λ whole h. h ∙ same) c.dacl_of_row.ensures.dacl
+    IfOk-weaker c.dacl_of_root.result _ _ (λ whole h. h c.args.self.now.mapping.now ∙ same) c.dacl_of_root.ensures.dacl
 
 pub returns-then-is_root-clause-refused : goal.returns-then-is_root-clause-refused
 returns-then-is_root-clause-refused c =
     let same = whole_at_root c.args.self.now.mapping.now (tree_of c.args.self.now.nodes.now) c.args.path.now c.args.row.now (sym c.if-is_root.ensures) in
-    IfErr-weaker c.dacl_of_row.result _ _ (λ e h. size_error e _ _ same h) c.dacl_of_row.ensures.refused
+    IfErr-weaker c.dacl_of_root.result _ _ (λ e h. size_error e _ _ same (h c.args.self.now.mapping.now)) c.dacl_of_root.ensures.refused
 
 below_parent : (c : goal.After-whole_beside) → dacl_of_row c.args.self.now.mapping.now c.args.row.now c.deref-parent.result.now.whole ≡ dacl_at c.args.self.now.mapping.now (insert (tree_of c.args.self.now.nodes.now) c.args.path.now c.args.row.now) c.args.path.now
 below_parent c =
