@@ -107,6 +107,18 @@ impl Desk {
         &self.published
     }
 
+    /// The tree with all edits that were accepted: those that are seen, and behind them those that wait.
+    pub fn draft(&self) -> &Tree
+        ensures opening { result.now.opening ≡ self.now.opening }
+        ensures journal { result.now.journal ≡ accepted self.now }
+    {
+        if self.draft.len() > self.published.len() {
+            &self.draft
+        } else {
+            &self.published
+        }
+    }
+
     /// How many readers there are.
     pub fn readers(&self) -> u64
         ensures { result ≡ length self.now.floors }
