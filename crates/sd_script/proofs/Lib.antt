@@ -5,7 +5,9 @@ pub mod Cutting
 pub mod Dumping
 pub mod OneOutput
 pub mod OneReading
+pub mod PathWords
 pub mod Readings
 pub mod RightNames
+pub mod Splitting
 pub mod Timely
 pub mod Words

@@ -4,6 +4,7 @@ use Rattle.std.specs.Prelude.{MatchBool, codes, if◌then◌else◌, nat_lt, nat
 use Rattle.std.specs.Str.Lines.{lines}
 use Rattle.std.proofs.lemmas.Bool.{lt-ltb, le-ltb, le-leb, lt-leb}
 use Rattle.sd_sid.specs.Mapping.{MappingValue}
+use Rattle.sd_acl.specs.declared.ace.Ace.{Ace}
 use Rattle.sd_acl.specs.Descriptor.{DescriptorValue, descriptor_of}
 use Rattle.sd_acl.specs.declared.descriptor.Descriptor.{Descriptor}
 use Rattle.sd_text.specs.Canon.{canon}
@@ -26,12 +27,17 @@ use Rattle.sd_script.specs.Dump.{IsDump}
 use Rattle.sd_script.specs.Fault.{line_of_fault}
 use Rattle.sd_script.specs.Laws.{HasOneOutput}
 use Rattle.sd_script.specs.Lines.{is_silent}
-use Rattle.sd_script.specs.Output.{is_open, mapping_of, IsOpened, IsDone, IsTold, IsAnswered, AreAnswered, closing_of}
+use Rattle.sd_script.specs.Importing.{IsImported}
+use Rattle.sd_script.specs.Output.{is_open, manner_of, IsOpened, IsDone, IsTold, IsAnswered, IsNext, AreAnswered, begun, closing_of}
 use Rattle.sd_script.specs.Reply.{check_line, counted_line, refused_line, reply_line, seen_line, shown_line, start_error_line}
 use Rattle.sd_script.specs.declared.asked.Asked.{Asked}
-use Rattle.sd_script.specs.declared.asked.Asked.TheVariants.{Opening, Asking, Explaining, Listing, Dumping}
+use Rattle.sd_script.specs.declared.asked.Asked.TheVariants.{Opening, Asking, Explaining, Listing, Dumping, Importing}
+use Rattle.sd_script.specs.declared.carried.Carried.{Carried}
+use Rattle.sd_script.specs.declared.manner.Manner.{Manner}
+use Rattle.sd_script.specs.declared.paths.PathSpelling.{PathSpelling}
 use Rattle.sd_script.specs.declared.session.Session.{Session}
 use Rattle.sd_script.specs.declared.session.Session.TheVariants.{Closed, Opened}
+use Rattle.sd_script.specs.Tally.{tallied}
 use Rattle.sd_script.specs.Why.{explained_reply, node_why_text, why_text}
 use Rattle.sd_script.specs.declared.spelling.Spelling.TheVariants.{Number}
 use Rattle.sd_check.specs.Token.{TokenValue}
@@ -158,46 +164,78 @@ no_error (starts.Root r) readers due p count none is text = let no = sym none �
 no_error starts.Memory readers due p count none is text = cc (text)
 no_error starts.Place readers due p count none is text = is
 
-opened-one : (g : MappingValue) (readers : ℕ) (root : RootSpec) (p q : List ℕ) (x y : Session) → IsOpened g readers root p x → IsOpened g readers root q y → (p ≡ q) × (x ≡ y)
-opened-one g readers root p q x y (inl one) (inl other) = (one.2 ∙ sym other.2, one.3 ∙ sym other.3)
-opened-one g readers root p q x y (inl one) (inr other) = absurd (no_error other.0 readers _ q one.0 one.1 other.1 other.2)
-opened-one g readers root p q x y (inr one) (inl other) = absurd (no_error one.0 readers _ p other.0 other.1 one.1 one.2)
-opened-one g readers root p q x y (inr one) (inr other) = (errors-one one.0 other.0 readers _ p q one.1 other.1 one.2 other.2, one.3 ∙ sym other.3)
+opened-one : (manner : Manner) (readers : ℕ) (root : RootSpec) (p q : List ℕ) (x y : Session) → IsOpened manner readers root p x → IsOpened manner readers root q y → (p ≡ q) × (x ≡ y)
+opened-one manner readers root p q x y (inl one) (inl other) = (one.2 ∙ sym other.2, one.3 ∙ sym other.3)
+opened-one manner readers root p q x y (inl one) (inr other) = absurd (no_error other.0 readers _ q one.0 one.1 other.1 other.2)
+opened-one manner readers root p q x y (inr one) (inl other) = absurd (no_error one.0 readers _ p other.0 other.1 one.1 one.2)
+opened-one manner readers root p q x y (inr one) (inr other) = (errors-one one.0 other.0 readers _ p q one.1 other.1 one.2 other.2, one.3 ∙ sym other.3)
 
 -- ---- a tree as a script
 
-dump-one : (m : Machine) (p q : List ℕ) → IsDump m p → IsDump m q → p ≡ q
-dump-one m p q (inl one) (inl other) = one.1 ∙ sym other.1
-dump-one m p q (inl one) (inr other) = absurd (other.0 one.0)
-dump-one m p q (inr one) (inl other) = absurd (one.0 other.0)
-dump-one m p q (inr one) (inr other) = one.1 ∙ sym other.1
+dump-one : (paths : PathSpelling) (m : Machine) (p q : List ℕ) → IsDump paths m p → IsDump paths m q → p ≡ q
+dump-one paths m p q (inl one) (inl other) = one.1 ∙ sym other.1
+dump-one paths m p q (inl one) (inr other) = absurd (other.0 one.0)
+dump-one paths m p q (inr one) (inl other) = absurd (one.0 other.0)
+dump-one paths m p q (inr one) (inr other) = one.1 ∙ sym other.1
+
+-- ---- imports
+
+imported-one : (m : Machine) (path : Names) (inherited : List Ace) (p q : List ℕ)
+    → IsImported m path inherited replies.Edited p → IsImported m path inherited replies.Edited q → p ≡ q
+imported-one m path inherited p q (inl one) (inl other) = one.1 ∙ sym other.1
+imported-one m path inherited p q (inl one) (inr other) = absurd (other.0 one.0)
+imported-one m path inherited p q (inr one) (inl other) = absurd (one.0 other.0)
+imported-one m path inherited p q (inr one) (inr other) = one.1 ∙ sym other.1
+
+step-one : (m : Machine) (e : Edit) (r s : Reply) (x y : Machine) (p q : List ℕ) (path : Names) (inherited : List Ace)
+    → Steps m (requests.Edit e) r x → Steps m (requests.Edit e) s y → IsImported x path inherited r p → IsImported y path inherited s q → (p ≡ q) × (x ≡ y)
+step-one m e replies.Edited replies.Edited x y p q path inherited one other first second =
+    let same = one.1 ∙ sym other.1 in
+    (imported-one y path inherited p q (subst (λ n. IsImported n path inherited replies.Edited p) same first) second, same)
+step-one m e replies.Edited (replies.Refused refusal) x y p q path inherited one other first second = absurd (let no = sym one.0 ∙ other.0 in cc (no))
+step-one m e (replies.Refused refusal) replies.Edited x y p q path inherited one other first second = absurd (let no = sym one.0 ∙ other.0 in cc (no))
+step-one m e (replies.Refused refusal) (replies.Refused later) x y p q path inherited one other first second =
+    let same = sym one.0 ∙ other.0 in
+    let told : refusal ≡ later = cc (same) in
+    let texts = sym first ∙ ap (λ r. Some (refused_line r)) told ∙ second in
+    (cc (texts), one.1 ∙ sym other.1)
+step-one m e replies.Edited replies.Memory x y p q path inherited one other first second = absurd (cc (second))
+step-one m e (replies.Refused refusal) replies.Memory x y p q path inherited one other first second = absurd (cc (second))
+step-one m e replies.Memory s x y p q path inherited one other first second = absurd (cc (first))
+step-one m e replies.Edited s x y p q path inherited one other first second = absurd other
+step-one m e (replies.Refused refusal) s x y p q path inherited one other first second = absurd other
+step-one m e r s x y p q path inherited one other first second = absurd one
 
 -- ---- the whole output
 
 done-one : (old : Session) (asked : Asked) (p q : List ℕ) (x y : Session) → IsDone old asked p x → IsDone old asked q y → (p ≡ q) × (x ≡ y)
-done-one old (Opening readers root) p q x y one other = opened-one (mapping_of old) readers root p q x y one other
-done-one (Opened m) (Asking r) p q x y one other =
+done-one old (Opening readers root) p q x y one other = opened-one (manner_of old) readers root p q x y one other
+done-one (Opened paths m) (Asking r) p q x y one other =
     let same = one_step m r one.0 one.1 p one.2 one.3 ∙ sym (one_step m r other.0 other.1 q other.2 other.3) in
-    (ap (λ (z : List ℕ × Machine). z.0) same, one.4 ∙ ap (λ (z : List ℕ × Machine). Opened z.1) same ∙ sym other.4)
-done-one (Closed g) (Asking r) p q x y one other = absurd one
-done-one (Opened m) (Explaining reader names t asked) p q x y one other =
+    (ap (λ (z : List ℕ × Machine). z.0) same, one.4 ∙ ap (λ (z : List ℕ × Machine). Opened paths z.1) same ∙ sym other.4)
+done-one (Closed manner) (Asking r) p q x y one other = absurd one
+done-one (Opened paths m) (Explaining reader names t asked) p q x y one other =
     let same = one_explained m reader names t asked one.0 one.1 p one.2 one.3 ∙ sym (one_explained m reader names t asked other.0 other.1 q other.2 other.3) in
-    (ap (λ (z : List ℕ × Machine). z.0) same, one.4 ∙ ap (λ (z : List ℕ × Machine). Opened z.1) same ∙ sym other.4)
-done-one (Closed g) (Explaining reader names t asked) p q x y one other = absurd one
-done-one (Opened m) (Listing path) p q x y one other = (one.0 ∙ sym other.0, one.1 ∙ sym other.1)
-done-one (Closed g) (Listing path) p q x y one other = absurd one
-done-one (Opened m) Dumping p q x y one other = (dump-one m p q one.0 other.0, one.1 ∙ sym other.1)
-done-one (Closed g) Dumping p q x y one other = absurd one
+    (ap (λ (z : List ℕ × Machine). z.0) same, one.4 ∙ ap (λ (z : List ℕ × Machine). Opened paths z.1) same ∙ sym other.4)
+done-one (Closed manner) (Explaining reader names t asked) p q x y one other = absurd one
+done-one (Opened paths m) (Listing path) p q x y one other = (one.0 ∙ sym other.0, one.1 ∙ sym other.1)
+done-one (Closed manner) (Listing path) p q x y one other = absurd one
+done-one (Opened paths m) Dumping p q x y one other = (dump-one paths m p q one.0 other.0, one.1 ∙ sym other.1)
+done-one (Closed manner) Dumping p q x y one other = absurd one
+done-one (Opened paths m) (Importing e path inherited) p q x y one other =
+    let stepped = step-one m e one.0 other.0 one.1 other.1 p q path inherited one.2 other.2 one.3 other.3 in
+    (stepped.0, one.4 ∙ ap (Opened paths) stepped.1 ∙ sym other.4)
+done-one (Closed manner) (Importing e path inherited) p q x y one other = absurd one
 
 told-one : (old : Session) (text p q : List ℕ) (x y : Session) → IsTold old text p x → IsTold old text q y → (p ≡ q) × (x ≡ y)
 told-one old text p q x y (inl one) (inl other) =
-    let same = line-one (is_open old) text (Ok one.0) (Ok other.0) one.1 other.1 in
+    let same = line-one (manner_of old).paths (is_open old) text (Ok one.0) (Ok other.0) one.1 other.1 in
     let asked : one.0 ≡ other.0 = cc (same) in
     done-one old other.0 p q x y (subst (λ a. IsDone old a p x) asked one.2) other.2
-told-one old text p q x y (inl one) (inr other) = absurd (let no = line-one (is_open old) text (Ok one.0) (Err other.0) one.1 other.1 in cc (no))
-told-one old text p q x y (inr one) (inl other) = absurd (let no = line-one (is_open old) text (Err one.0) (Ok other.0) one.1 other.1 in cc (no))
+told-one old text p q x y (inl one) (inr other) = absurd (let no = line-one (manner_of old).paths (is_open old) text (Ok one.0) (Err other.0) one.1 other.1 in cc (no))
+told-one old text p q x y (inr one) (inl other) = absurd (let no = line-one (manner_of old).paths (is_open old) text (Err one.0) (Ok other.0) one.1 other.1 in cc (no))
 told-one old text p q x y (inr one) (inr other) =
-    let same = line-one (is_open old) text (Err one.0) (Err other.0) one.1 other.1 in
+    let same = line-one (manner_of old).paths (is_open old) text (Err one.0) (Err other.0) one.1 other.1 in
     let fault : one.0 ≡ other.0 = cc (same) in
     (one.2 ∙ ap line_of_fault fault ∙ sym other.2, one.3 ∙ sym other.3)
 
@@ -212,12 +250,23 @@ by_silence false old text p q x y one other =
 pub answered-one : (old : Session) (text p q : List ℕ) (x y : Session) → IsAnswered old text p x → IsAnswered old text q y → (p ≡ q) × (x ≡ y)
 answered-one old text p q x y one other = by_silence (is_silent text) old text p q x y one other
 
-all-one : (old : Session) (texts : List (List ℕ)) (p q : List ℕ) → AreAnswered old texts p → AreAnswered old texts q → p ≡ q
-all-one old [] p q one other = one ∙ sym other
-all-one old (text ∷ texts) p q one other =
-    let first = answered-one old text one.0 other.0 one.1 other.1 one.3 other.3 in
-    let rest = all-one other.1 texts one.2 other.2 (subst (λ between. AreAnswered between texts one.2) first.1 one.4) other.4 in
+-- and counted
+both_same : (x y : Carried) → x.session ≡ y.session → x.tally ≡ y.tally → x ≡ y
+both_same x y session tally =
+    subst (λ u. x ≡ record { session = y.session; tally = u }) tally (subst (λ u. x ≡ record { session = u; tally = x.tally }) session refl)
+
+next-one : (old : Carried) (text p q : List ℕ) (x y : Carried) → IsNext old text p x → IsNext old text q y → (p ≡ q) × (x ≡ y)
+next-one old text p q x y one other =
+    let same = answered-one old.session text p q x.session y.session one.answered other.answered in
+    (same.0, both_same x y same.1 (one.counted ∙ ap (λ answer. tallied text answer old.tally) same.0 ∙ sym other.counted))
+
+all-one : (old : Carried) (texts : List (List ℕ)) (p q : List ℕ) (x y : Carried) → AreAnswered old texts p x → AreAnswered old texts q y → p ≡ q
+all-one old [] p q x y one other = one.0 ∙ sym other.0
+all-one old (text ∷ texts) p q x y one other =
+    let first = next-one old text one.0 other.0 one.1 other.1 one.3 other.3 in
+    let rest = all-one other.1 texts one.2 other.2 x y (subst (λ between. AreAnswered between texts one.2 x) first.1 one.4) other.4 in
     one.5 ∙ ap (λ xs. xs ++ one.2) first.0 ∙ ap (λ xs. other.0 ++ xs) rest ∙ sym other.5
 
 pub has_one_output : HasOneOutput
-has_one_output g text one other prints other_prints = all-one (Closed g) (lines text) one other prints other_prints
+has_one_output manner text one other prints other_prints =
+    all-one (begun manner) (lines text) one other prints.1.0 other_prints.1.0 prints.1.1 other_prints.1.1

@@ -15,16 +15,20 @@ use Rattle.sd_check.specs.declared.token.GroupState.TheVariants.{Enabled, DenyOn
 use Rattle.sd_tree.specs.Names.{Names}
 use Rattle.sd_tree.specs.declared.edit.Edit.TheVariants as edits
 use Rattle.sd_share.specs.declared.request.Request.TheVariants as requests
-use Rattle.sd_script.specs.Argument.{IsNumber, number, path, sid, mask, token, descriptor, node, node_of, dacl, dacl_of}
-use Rattle.sd_script.specs.Command.{CommandValue, Open, AddContainer, AddObject, SetOwner, SetGroup, SetDacl, Remove, Protect, Move, Publish, Tell, Learn, Check, Why, Show, ListNodes, Dump, asks, asks_where, command_of, edit, is_untimely, line_asks, posed, question, question_by, question_with, request}
+use Rattle.sd_script.specs.Addition.{addition, row_of}
+use Rattle.sd_script.specs.Argument.{IsNumber, number, path, sid, mask, token, descriptor, node, node_of, dacl, dacl_of, imported, import_of}
+use Rattle.sd_script.specs.Command.{CommandValue, Open, AddContainer, AddObject, SetOwner, SetGroup, SetDacl, Remove, Protect, Move, Publish, Tell, Learn, Check, Why, Show, ListNodes, Dump, ImportNode, asks, asks_where, command_of, edit, is_untimely, line_asks, posed, question, question_by, question_with, request}
 use Rattle.sd_script.specs.Fault.{Reading, SomeOr, Just, Then}
 use Rattle.sd_script.specs.Lines.{words_of}
+use Rattle.sd_script.specs.Paths.{IsPath}
 use Rattle.sd_script.specs.Word.{AreWords, IsNoWordIn, IsWord, token_of}
 use Rattle.sd_script.specs.declared.asked.Asked.{Asked}
-use Rattle.sd_script.specs.declared.asked.Asked.TheVariants.{Opening, Asking, Explaining, Listing}
+use Rattle.sd_script.specs.declared.asked.Asked.TheVariants.{Opening, Asking, Explaining, Listing, Importing}
 use Rattle.sd_script.specs.declared.asked.Question.{Question}
 use Rattle.sd_script.specs.declared.fault.LineFault.{LineFault}
 use Rattle.sd_script.specs.declared.fault.LineFault.TheVariants as faults
+use Rattle.sd_script.specs.declared.paths.PathSpelling.{PathSpelling}
+use Rattle.sd_script.specs.declared.paths.PathSpelling.TheVariants.{Plain, Percent}
 use Rattle.sd_script.specs.declared.word.Word.{Word}
 use Rattle.sd_script.specs.declared.word.Word.TheVariants.{Group, Restricting, Security, TakeOwnership}
 
@@ -58,11 +62,12 @@ Then-one first next one more r s (inr x) (inr y) =
 number-one : (word : List ℕ) → IsOne (number word)
 number-one word = SomeOr-one (IsNumber word) faults.Number (λ a b x y. sym x.1 ∙ y.1)
 
-path-one : (word : List ℕ) → IsOne (path word)
-path-one word (Ok a) (Ok b) x y = let same = sym x ∙ y in cc (same)
-path-one word (Ok a) (Err f) x y = absurd (y.0 a x)
-path-one word (Err f) (Ok a) x y = absurd (x.0 a y)
-path-one word (Err f) (Err g) x y = ap Err (x.1 ∙ sym y.1)
+one_path : (paths : PathSpelling) (word : List ℕ) (a b : Names) → IsPath paths word a → IsPath paths word b → a ≡ b
+one_path Plain word a b x y = let same = sym x ∙ y in cc (same)
+one_path Percent word a b x y = let same = sym x.3 ∙ y.3 in cc (same)
+
+path-one : (paths : PathSpelling) (word : List ℕ) → IsOne (path paths word)
+path-one paths word = SomeOr-one (IsPath paths word) faults.Path (one_path paths word)
 
 sid-one : (word : List ℕ) → IsOne (sid word)
 sid-one word = SomeOr-one (Spells sid_text word) faults.Sid (one_value sid_text word)
@@ -182,49 +187,53 @@ node-one word = Then-one (descriptor word) (λ d read. read ≡ node_of d) (desc
 dacl-one : (word : List ℕ) → IsOne (dacl word)
 dacl-one word = Then-one (descriptor word) (λ d read. read ≡ dacl_of d) (descriptor-one word) (λ d r s x y. x ∙ sym y)
 
+imported-one : (word : List ℕ) → IsOne (imported word)
+imported-one word = Then-one (descriptor word) (λ d read. read ≡ import_of d) (descriptor-one word) (λ d r s x y. x ∙ sym y)
+
 question-one : (user asked : List ℕ) (words : List (List ℕ)) → IsOne (question user asked words)
 question-one user asked words =
     Then-one (sid user) (question_by asked words) (sid-one user) (λ s.
     Then-one (mask asked) (question_with words s) (mask-one asked) (λ m.
     Then-one (token s words) (λ t. Just (record { token = t; asked = m })) (token-one s words) (λ t. Just-one _)))
 
-posed-one : (make : ℕ → Names → Question → Asked) (reader at : List ℕ) (asking : Reading Question) → IsOne asking → IsOne (posed make reader at asking)
-posed-one make reader at asking one =
-    Then-one (number reader) (λ i. Then (path at) (λ p. Then asking (λ q. Just (make i p q)))) (number-one reader) (λ i.
-    Then-one (path at) (λ p. Then asking (λ q. Just (make i p q))) (path-one at) (λ p.
+posed-one : (make : ℕ → Names → Question → Asked) (paths : PathSpelling) (reader at : List ℕ) (asking : Reading Question) → IsOne asking → IsOne (posed make paths reader at asking)
+posed-one make paths reader at asking one =
+    Then-one (number reader) (λ i. Then (path paths at) (λ p. Then asking (λ q. Just (make i p q)))) (number-one reader) (λ i.
+    Then-one (path paths at) (λ p. Then asking (λ q. Just (make i p q))) (path-one paths at) (λ p.
     Then-one asking (λ q. Just (make i p q)) one (λ q. Just-one _)))
 
-asks-one : (command : CommandValue) → IsOne (asks command)
-asks-one (Open readers text) = Then-one (number readers) (λ n. Then (node text) (λ root. Just (Opening n root))) (number-one readers) (λ n. Then-one (node text) (λ root. Just (Opening n root)) (node-one text) (λ root. Just-one _))
-asks-one (AddContainer at text) = Then-one (path at) (λ p. Then (node text) (λ n. edit (edits.AddContainer p n.owner n.group n.dacl))) (path-one at) (λ p. Then-one (node text) (λ n. edit (edits.AddContainer p n.owner n.group n.dacl)) (node-one text) (λ n. Just-one _))
-asks-one (AddObject at text) = Then-one (path at) (λ p. Then (node text) (λ n. edit (edits.AddObject p n.owner n.group n.dacl))) (path-one at) (λ p. Then-one (node text) (λ n. edit (edits.AddObject p n.owner n.group n.dacl)) (node-one text) (λ n. Just-one _))
-asks-one (SetOwner at owner) = Then-one (path at) (λ p. Then (sid owner) (λ s. edit (edits.SetOwner p s))) (path-one at) (λ p. Then-one (sid owner) (λ s. edit (edits.SetOwner p s)) (sid-one owner) (λ s. Just-one _))
-asks-one (SetGroup at group) = Then-one (path at) (λ p. Then (sid group) (λ s. edit (edits.SetGroup p s))) (path-one at) (λ p. Then-one (sid group) (λ s. edit (edits.SetGroup p s)) (sid-one group) (λ s. Just-one _))
-asks-one (SetDacl at text) = Then-one (path at) (λ p. Then (dacl text) (λ d. edit (edits.SetDacl p d))) (path-one at) (λ p. Then-one (dacl text) (λ d. edit (edits.SetDacl p d)) (dacl-one text) (λ d. Just-one _))
-asks-one (Remove at) = Then-one (path at) (λ p. edit (edits.Remove p)) (path-one at) (λ p. Just-one _)
-asks-one (Protect at) = Then-one (path at) (λ p. edit (edits.ProtectKeeping p)) (path-one at) (λ p. Just-one _)
-asks-one (Move source target) = Then-one (path source) (λ from. Then (path target) (λ to. edit (edits.Move from to))) (path-one source) (λ from. Then-one (path target) (λ to. edit (edits.Move from to)) (path-one target) (λ to. Just-one _))
-asks-one Publish = Just-one _
-asks-one Tell = Just-one _
-asks-one (Learn reader len) = Then-one (number reader) (λ i. Then (number len) (λ n. request (requests.Learn i n))) (number-one reader) (λ i. Then-one (number len) (λ n. request (requests.Learn i n)) (number-one len) (λ n. Just-one _))
-asks-one (Check reader at user asked words) = posed-one (λ i p q. Asking (requests.Check i p q.token q.asked)) reader at (question user asked words) (question-one user asked words)
-asks-one (Why reader at user asked words) = posed-one (λ i p q. Explaining i p q.token q.asked) reader at (question user asked words) (question-one user asked words)
-asks-one (Show reader at) = Then-one (number reader) (λ i. Then (path at) (λ p. request (requests.Show i p))) (number-one reader) (λ i. Then-one (path at) (λ p. request (requests.Show i p)) (path-one at) (λ p. Just-one _))
-asks-one (ListNodes at) = Then-one (path at) (λ p. Just (Listing p)) (path-one at) (λ p. Just-one _)
-asks-one Dump = Just-one _
+asks-one : (paths : PathSpelling) (command : CommandValue) → IsOne (asks paths command)
+asks-one paths (Open readers text) = Then-one (number readers) (λ n. Then (node text) (λ root. Just (Opening n root))) (number-one readers) (λ n. Then-one (node text) (λ root. Just (Opening n root)) (node-one text) (λ root. Just-one _))
+asks-one paths (AddContainer at text) = Then-one (path paths at) (λ p. Then (node text) (λ n. edit (edits.AddContainer p n.owner n.group n.dacl))) (path-one paths at) (λ p. Then-one (node text) (λ n. edit (edits.AddContainer p n.owner n.group n.dacl)) (node-one text) (λ n. Just-one _))
+asks-one paths (AddObject at text) = Then-one (path paths at) (λ p. Then (node text) (λ n. edit (edits.AddObject p n.owner n.group n.dacl))) (path-one paths at) (λ p. Then-one (node text) (λ n. edit (edits.AddObject p n.owner n.group n.dacl)) (node-one text) (λ n. Just-one _))
+asks-one paths (SetOwner at owner) = Then-one (path paths at) (λ p. Then (sid owner) (λ s. edit (edits.SetOwner p s))) (path-one paths at) (λ p. Then-one (sid owner) (λ s. edit (edits.SetOwner p s)) (sid-one owner) (λ s. Just-one _))
+asks-one paths (SetGroup at group) = Then-one (path paths at) (λ p. Then (sid group) (λ s. edit (edits.SetGroup p s))) (path-one paths at) (λ p. Then-one (sid group) (λ s. edit (edits.SetGroup p s)) (sid-one group) (λ s. Just-one _))
+asks-one paths (SetDacl at text) = Then-one (path paths at) (λ p. Then (dacl text) (λ d. edit (edits.SetDacl p d))) (path-one paths at) (λ p. Then-one (dacl text) (λ d. edit (edits.SetDacl p d)) (dacl-one text) (λ d. Just-one _))
+asks-one paths (Remove at) = Then-one (path paths at) (λ p. edit (edits.Remove p)) (path-one paths at) (λ p. Just-one _)
+asks-one paths (Protect at) = Then-one (path paths at) (λ p. edit (edits.ProtectKeeping p)) (path-one paths at) (λ p. Just-one _)
+asks-one paths (Move source target) = Then-one (path paths source) (λ from. Then (path paths target) (λ to. edit (edits.Move from to))) (path-one paths source) (λ from. Then-one (path paths target) (λ to. edit (edits.Move from to)) (path-one paths target) (λ to. Just-one _))
+asks-one paths Publish = Just-one _
+asks-one paths Tell = Just-one _
+asks-one paths (Learn reader len) = Then-one (number reader) (λ i. Then (number len) (λ n. request (requests.Learn i n))) (number-one reader) (λ i. Then-one (number len) (λ n. request (requests.Learn i n)) (number-one len) (λ n. Just-one _))
+asks-one paths (Check reader at user asked words) = posed-one (λ i p q. Asking (requests.Check i p q.token q.asked)) paths reader at (question user asked words) (question-one user asked words)
+asks-one paths (Why reader at user asked words) = posed-one (λ i p q. Explaining i p q.token q.asked) paths reader at (question user asked words) (question-one user asked words)
+asks-one paths (Show reader at) = Then-one (number reader) (λ i. Then (path paths at) (λ p. request (requests.Show i p))) (number-one reader) (λ i. Then-one (path paths at) (λ p. request (requests.Show i p)) (path-one paths at) (λ p. Just-one _))
+asks-one paths (ListNodes at) = Then-one (path paths at) (λ p. Just (Listing p)) (path-one paths at) (λ p. Just-one _)
+asks-one paths Dump = Just-one _
+asks-one paths (ImportNode kind at text) = Then-one (path paths at) (λ p. Then (imported text) (λ m. Just (Importing (addition kind p (row_of kind m.node)) p m.inherited))) (path-one paths at) (λ p. Then-one (imported text) (λ m. Just (Importing (addition kind p (row_of kind m.node)) p m.inherited)) (imported-one text) (λ m. Just-one _))
 
-by_time : (untimely : Bool) (command : CommandValue) (r s : Result Asked LineFault)
-    → MatchBool untimely (r ≡ Err faults.Open) (asks command r) → MatchBool untimely (s ≡ Err faults.Open) (asks command s) → r ≡ s
-by_time true command r s x y = x ∙ sym y
-by_time false command r s x y = asks-one command r s x y
+by_time : (paths : PathSpelling) (untimely : Bool) (command : CommandValue) (r s : Result Asked LineFault)
+    → MatchBool untimely (r ≡ Err faults.Open) (asks paths command r) → MatchBool untimely (s ≡ Err faults.Open) (asks paths command s) → r ≡ s
+by_time paths true command r s x y = x ∙ sym y
+by_time paths false command r s x y = asks-one paths command r s x y
 
-where-one : (is_open : Bool) (command : Option CommandValue) → IsOne (asks_where is_open command)
-where-one is_open None r s x y = x ∙ sym y
-where-one is_open (Some command) r s x y = by_time (is_untimely is_open command) command r s x y
+where-one : (paths : PathSpelling) (is_open : Bool) (command : Option CommandValue) → IsOne (asks_where paths is_open command)
+where-one paths is_open None r s x y = x ∙ sym y
+where-one paths is_open (Some command) r s x y = by_time paths (is_untimely is_open command) command r s x y
 
 -- a line asks for one thing, or has one fault
-pub line-one : (is_open : Bool) (text : List ℕ) → IsOne (line_asks is_open text)
-line-one is_open text r s (inl x) (inl y) = where-one is_open (command_of (words_of text)) r s x.1 y.1
-line-one is_open text r s (inl x) (inr y) = absurd (y.0 x.0)
-line-one is_open text r s (inr x) (inl y) = absurd (x.0 y.0)
-line-one is_open text r s (inr x) (inr y) = x.1 ∙ sym y.1
+pub line-one : (paths : PathSpelling) (is_open : Bool) (text : List ℕ) → IsOne (line_asks paths is_open text)
+line-one paths is_open text r s (inl x) (inl y) = where-one paths is_open (command_of (words_of text)) r s x.1 y.1
+line-one paths is_open text r s (inl x) (inr y) = absurd (y.0 x.0)
+line-one paths is_open text r s (inr x) (inl y) = absurd (x.0 y.0)
+line-one paths is_open text r s (inr x) (inr y) = x.1 ∙ sym y.1

@@ -1,8 +1,10 @@
 -- The words of a line behind its command, each read as what it stands for.
-use Rattle.std.specs.Prelude.{◌≡◌, ℕ, ◌<◌, ◌^◌, Bool, false, List, [], Option, Some, None, Result, Ok, Err}
+use Rattle.std.specs.Prelude.{◌≡◌, ℕ, ◌<◌, ◌^◌, Bool, false, List, [], filter, Option, Some, None, Result, Ok, Err}
 use Rattle.std.specs.Str.Parse.{IsNumeral, digits_value}
 use Rattle.sd_sid.specs.Sid.{SidValue}
+use Rattle.sd_acl.specs.Canonical.{canonical_order, is_explicit, is_inherited}
 use Rattle.sd_acl.specs.Descriptor.{DescriptorValue}
+use Rattle.sd_acl.specs.declared.ace.Ace.{Ace}
 use Rattle.sd_acl.specs.declared.descriptor.Dacl.{Dacl}
 use Rattle.sd_acl.specs.declared.descriptor.Dacl.TheVariants as dacls
 use Rattle.sd_text.specs.Grammar.{Spells, HasFault}
@@ -12,14 +14,16 @@ use Rattle.sd_text.specs.Rights.{mask_text}
 use Rattle.sd_text.specs.declared.fault.TextFault.{TextFault}
 use Rattle.sd_check.specs.Token.{TokenValue}
 use Rattle.sd_tree.specs.Names.{Names}
-use Rattle.sd_tree.specs.PathText.{path_of}
 use Rattle.sd_tree.specs.declared.node.NodeDacl.{NodeDacl}
 use Rattle.sd_tree.specs.declared.node.NodeDacl.TheVariants.{Null, List as Entries}
 use Rattle.sd_tree.specs.declared.opening.RootSpec.{RootSpec}
 use Rattle.sd_script.specs.Fault.{Reading, SomeOr, Then}
+use Rattle.sd_script.specs.Paths.{IsPath}
 use Rattle.sd_script.specs.Word.{IsToken, IsNoWordIn}
 use Rattle.sd_script.specs.declared.fault.LineFault.{LineFault}
 use Rattle.sd_script.specs.declared.fault.LineFault.TheVariants.{Number, Path, Sid, Sddl, Parts, Mask, Token}
+use Rattle.sd_script.specs.declared.importing.Import.{Import}
+use Rattle.sd_script.specs.declared.paths.PathSpelling.{PathSpelling}
 
 -- the decimal digits of this number, which has 64 bits
 abbrev pub IsNumber : List ℕ → ℕ → Type 0
@@ -28,8 +32,8 @@ IsNumber word n = IsNumeral 10 word × (digits_value 10 word ≡ n) × (n < 2 ^ 
 abbrev pub number : List ℕ → Reading ℕ
 number word = SomeOr (IsNumber word) Number
 
-abbrev pub path : List ℕ → Reading Names
-path word = SomeOr (λ names. path_of word ≡ Ok names) Path
+abbrev pub path : PathSpelling → List ℕ → Reading Names
+path paths word = SomeOr (IsPath paths word) Path
 
 abbrev pub sid : List ℕ → Reading SidValue
 sid word = SomeOr (Spells sid_text word) Sid
@@ -79,3 +83,28 @@ node word = Then (descriptor word) (λ d read. read ≡ node_of d)
 -- the text of a descriptor with neither
 abbrev pub dacl : List ℕ → Reading NodeDacl
 dacl word = Then (descriptor word) (λ d read. read ≡ dacl_of d)
+
+-- ---- a descriptor that a node had elsewhere
+
+-- the DACL that it gives a node: what the node had of its own, the denies first; what it had inherited is left out
+abbrev pub imported_dacl : Bool → Dacl → NodeDacl
+imported_dacl protected dacls.Absent = Entries false []
+imported_dacl protected dacls.Null = Null
+imported_dacl protected (dacls.List entries) = Entries protected (canonical_order (filter is_explicit entries))
+
+-- what the node had inherited
+abbrev pub inherited_in : Dacl → List Ace
+inherited_in dacls.Absent = []
+inherited_in dacls.Null = []
+inherited_in (dacls.List entries) = filter is_inherited entries
+
+abbrev pub with_inherited : List Ace → Result RootSpec LineFault → Result Import LineFault
+with_inherited inherited (Ok node) = Ok (record { node = node; inherited = inherited })
+with_inherited inherited (Err fault) = Err fault
+
+abbrev pub import_of : DescriptorValue → Result Import LineFault
+import_of d = with_inherited (inherited_in d.dacl) (with_parts d.owner d.group (imported_dacl d.protected d.dacl))
+
+-- the text of such a descriptor, with an owner and a group
+abbrev pub imported : List ℕ → Reading Import
+imported word = Then (descriptor word) (λ d read. read ≡ import_of d)

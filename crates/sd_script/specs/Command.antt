@@ -1,25 +1,29 @@
 -- What a line asks for.
-use Rattle.std.specs.Prelude.{◌≡◌, ℕ, Bool, not, ◌==◌, MatchBool, if◌then◌else◌, ◌⊎◌, List, [], ◌∷◌, length, Option, Some, None, Err, option_and_then, codes, bytes_eq}
+use Rattle.std.specs.Prelude.{◌≡◌, ℕ, Bool, not, ◌==◌, MatchBool, if◌then◌else◌, ◌⊎◌, List, [], ◌∷◌, length, Option, Some, None, Err, option_and_then, option_map, codes, bytes_eq}
 use Rattle.std.specs.List.{list_any}
 use Rattle.std.specs.Str.{IsUtf8}
 use Rattle.sd_sid.specs.Sid.{SidValue}
 use Rattle.sd_tree.specs.Names.{Names}
 use Rattle.sd_tree.specs.declared.edit.Edit.{Edit}
 use Rattle.sd_tree.specs.declared.edit.Edit.TheVariants as edits
+use Rattle.sd_tree.specs.declared.node.NodeKind.{NodeKind}
+use Rattle.sd_tree.specs.declared.node.NodeKind.TheVariants.{Container, Object}
 use Rattle.sd_share.specs.declared.request.Request.{Request}
 use Rattle.sd_share.specs.declared.request.Request.TheVariants as requests
-use Rattle.sd_script.specs.Argument.{number, path, sid, mask, token, node, dacl}
+use Rattle.sd_script.specs.Addition.{addition, row_of}
+use Rattle.sd_script.specs.Argument.{number, path, sid, mask, token, node, dacl, imported}
 use Rattle.sd_script.specs.Fault.{Reading, Just, Then}
 use Rattle.sd_script.specs.Lines.{words_of}
 use Rattle.sd_script.specs.Word.{texts}
 use Rattle.sd_script.specs.declared.asked.Asked.{Asked}
-use Rattle.sd_script.specs.declared.asked.Asked.TheVariants.{Opening, Asking, Explaining, Listing, Dumping}
+use Rattle.sd_script.specs.declared.asked.Asked.TheVariants.{Opening, Asking, Explaining, Listing, Dumping, Importing}
 use Rattle.sd_script.specs.declared.asked.Question.{Question}
 use Rattle.sd_script.specs.declared.command.Command.{Command}
 use Rattle.sd_script.specs.declared.command.Command.TheVariants as lent
 use Rattle.sd_script.specs.declared.command.CommandName.{CommandName}
 use Rattle.sd_script.specs.declared.command.CommandName.TheVariants as names
 use Rattle.sd_script.specs.declared.fault.LineFault.TheVariants as faults
+use Rattle.sd_script.specs.declared.paths.PathSpelling.{PathSpelling}
 
 -- ---- commands, with their words as they stand
 
@@ -40,6 +44,7 @@ pub data CommandValue : Type 0 where
   Why : List ℕ → List ℕ → List ℕ → List ℕ → List (List ℕ) → CommandValue
   Show : List ℕ → List ℕ → CommandValue
   ListNodes : List ℕ → CommandValue
+  ImportNode : NodeKind → List ℕ → List ℕ → CommandValue
   Dump : CommandValue
 
 abbrev pub command_value : Command → CommandValue
@@ -59,6 +64,7 @@ command_value (lent.Check reader path user mask words) = Check reader.now path.n
 command_value (lent.Why reader path user mask words) = Why reader.now path.now user.now mask.now (texts words.now)
 command_value (lent.Show reader path) = Show reader.now path.now
 command_value (lent.ListNodes path) = ListNodes path.now
+command_value (lent.ImportNode kind path sddl) = ImportNode kind path.now sddl.now
 command_value lent.Dump = Dump
 
 -- the command that the word names
@@ -81,6 +87,14 @@ command_named word =
     else if bytes_eq word (codes "show") then Some names.Show
     else if bytes_eq word (codes "list") then Some names.ListNodes
     else if bytes_eq word (codes "dump") then Some names.Dump
+    else if bytes_eq word (codes "import") then Some names.ImportNode
+    else None
+
+-- the kind of node that the word names
+abbrev pub kind_named : List ℕ → Option NodeKind
+kind_named word =
+    if bytes_eq word (codes "container") then Some Container
+    else if bytes_eq word (codes "object") then Some Object
     else None
 
 -- the command with these arguments, where they are as many as it takes
@@ -103,6 +117,7 @@ command_on names.Show (reader ∷ path ∷ []) = Some (Show reader path)
 command_on names.ListNodes [] = Some (ListNodes (codes "/"))
 command_on names.ListNodes (path ∷ []) = Some (ListNodes path)
 command_on names.Dump [] = Some Dump
+command_on names.ImportNode (kind ∷ path ∷ sddl ∷ []) = option_map (λ is. ImportNode is path sddl) (kind_named kind)
 command_on name arguments = None
 
 abbrev pub is_empty : List ℕ → Bool
@@ -139,38 +154,40 @@ abbrev pub question : List ℕ → List ℕ → List (List ℕ) → Reading Ques
 question user asked words = Then (sid user) (question_by asked words)
 
 -- such a question to a reader, of a path
-abbrev pub posed : (ℕ → Names → Question → Asked) → List ℕ → List ℕ → Reading Question → Reading Asked
-posed make reader at asking = Then (number reader) (λ i. Then (path at) (λ p. Then asking (λ q. Just (make i p q))))
+abbrev pub posed : (ℕ → Names → Question → Asked) → PathSpelling → List ℕ → List ℕ → Reading Question → Reading Asked
+posed make paths reader at asking = Then (number reader) (λ i. Then (path paths at) (λ p. Then asking (λ q. Just (make i p q))))
 
 -- what each command asks for
-abbrev pub asks : CommandValue → Reading Asked
-asks (Open readers sddl) = Then (number readers) (λ n. Then (node sddl) (λ root. Just (Opening n root)))
-asks (AddContainer at sddl) = Then (path at) (λ p. Then (node sddl) (λ n. edit (edits.AddContainer p n.owner n.group n.dacl)))
-asks (AddObject at sddl) = Then (path at) (λ p. Then (node sddl) (λ n. edit (edits.AddObject p n.owner n.group n.dacl)))
-asks (SetOwner at owner) = Then (path at) (λ p. Then (sid owner) (λ s. edit (edits.SetOwner p s)))
-asks (SetGroup at group) = Then (path at) (λ p. Then (sid group) (λ s. edit (edits.SetGroup p s)))
-asks (SetDacl at sddl) = Then (path at) (λ p. Then (dacl sddl) (λ d. edit (edits.SetDacl p d)))
-asks (Remove at) = Then (path at) (λ p. edit (edits.Remove p))
-asks (Protect at) = Then (path at) (λ p. edit (edits.ProtectKeeping p))
-asks (Move source target) = Then (path source) (λ from. Then (path target) (λ to. edit (edits.Move from to)))
-asks Publish = request requests.Publish
-asks Tell = request requests.Tell
-asks (Learn reader length) = Then (number reader) (λ i. Then (number length) (λ n. request (requests.Learn i n)))
-asks (Check reader at user asked words) =
-    posed (λ i p q. Asking (requests.Check i p q.token q.asked)) reader at (question user asked words)
-asks (Why reader at user asked words) =
-    posed (λ i p q. Explaining i p q.token q.asked) reader at (question user asked words)
-asks (Show reader at) = Then (number reader) (λ i. Then (path at) (λ p. request (requests.Show i p)))
-asks (ListNodes at) = Then (path at) (λ p. Just (Listing p))
-asks Dump = Just Dumping
+abbrev pub asks : PathSpelling → CommandValue → Reading Asked
+asks paths (Open readers sddl) = Then (number readers) (λ n. Then (node sddl) (λ root. Just (Opening n root)))
+asks paths (AddContainer at sddl) = Then (path paths at) (λ p. Then (node sddl) (λ n. edit (edits.AddContainer p n.owner n.group n.dacl)))
+asks paths (AddObject at sddl) = Then (path paths at) (λ p. Then (node sddl) (λ n. edit (edits.AddObject p n.owner n.group n.dacl)))
+asks paths (SetOwner at owner) = Then (path paths at) (λ p. Then (sid owner) (λ s. edit (edits.SetOwner p s)))
+asks paths (SetGroup at group) = Then (path paths at) (λ p. Then (sid group) (λ s. edit (edits.SetGroup p s)))
+asks paths (SetDacl at sddl) = Then (path paths at) (λ p. Then (dacl sddl) (λ d. edit (edits.SetDacl p d)))
+asks paths (Remove at) = Then (path paths at) (λ p. edit (edits.Remove p))
+asks paths (Protect at) = Then (path paths at) (λ p. edit (edits.ProtectKeeping p))
+asks paths (Move source target) = Then (path paths source) (λ from. Then (path paths target) (λ to. edit (edits.Move from to)))
+asks paths Publish = request requests.Publish
+asks paths Tell = request requests.Tell
+asks paths (Learn reader length) = Then (number reader) (λ i. Then (number length) (λ n. request (requests.Learn i n)))
+asks paths (Check reader at user asked words) =
+    posed (λ i p q. Asking (requests.Check i p q.token q.asked)) paths reader at (question user asked words)
+asks paths (Why reader at user asked words) =
+    posed (λ i p q. Explaining i p q.token q.asked) paths reader at (question user asked words)
+asks paths (Show reader at) = Then (number reader) (λ i. Then (path paths at) (λ p. request (requests.Show i p)))
+asks paths (ListNodes at) = Then (path paths at) (λ p. Just (Listing p))
+asks paths Dump = Just Dumping
+asks paths (ImportNode kind at sddl) =
+    Then (path paths at) (λ p. Then (imported sddl) (λ m. Just (Importing (addition kind p (row_of kind m.node)) p m.inherited)))
 
 -- ---- what a line asks for
 
-abbrev pub asks_where : Bool → Option CommandValue → Reading Asked
-asks_where is_open None read = read ≡ Err faults.Words
-asks_where is_open (Some command) read = MatchBool (is_untimely is_open command) (read ≡ Err faults.Open) (asks command read)
+abbrev pub asks_where : PathSpelling → Bool → Option CommandValue → Reading Asked
+asks_where paths is_open None read = read ≡ Err faults.Words
+asks_where paths is_open (Some command) read = MatchBool (is_untimely is_open command) (read ≡ Err faults.Open) (asks paths command read)
 
-abbrev pub line_asks : Bool → List ℕ → Reading Asked
-line_asks is_open line read =
-    (IsUtf8 line × asks_where is_open (command_of (words_of line)) read)
+abbrev pub line_asks : PathSpelling → Bool → List ℕ → Reading Asked
+line_asks paths is_open line read =
+    (IsUtf8 line × asks_where paths is_open (command_of (words_of line)) read)
     ⊎ ((IsUtf8 line → ⊥) × (read ≡ Err faults.Utf8))

@@ -12,3 +12,7 @@ pub mod Spelling
 pub mod Why
 pub mod Listing
 pub mod Dump
+pub mod Addition
+pub mod Paths
+pub mod Importing
+pub mod Tally

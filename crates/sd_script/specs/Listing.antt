@@ -1,12 +1,11 @@
 -- What `list` tells of the published tree: a line for each node at and below a path, in the order of their paths.
-use Rattle.std.specs.Prelude.{ℕ, List, [], ◌++◌, Option, Some, None, if◌then◌else◌, codes}
-use Rattle.std.specs.List.{flat_map}
+use Rattle.std.specs.Prelude.{ℕ, Bool, false, ◌&&◌, List, [], ◌++◌, Option, Some, None, if◌then◌else◌, codes}
+use Rattle.std.specs.List.{flat_map, list_any}
 use Rattle.std.specs.FinMap.{entries}
 use Rattle.sd_sid.specs.Mapping.{MappingValue}
 use Rattle.sd_acl.specs.Descriptor.{DescriptorValue}
 use Rattle.sd_text.specs.Canon.{canon}
 use Rattle.sd_tree.specs.Names.{Names, is_within}
-use Rattle.sd_tree.specs.PathText.{text_of}
 use Rattle.sd_tree.specs.Plain.{PlainTree}
 use Rattle.sd_tree.specs.Answers.{descriptor_at, kind_at}
 use Rattle.sd_tree.specs.Journal.{replay}
@@ -14,27 +13,40 @@ use Rattle.sd_tree.specs.declared.node.NodeKind.{NodeKind}
 use Rattle.sd_tree.specs.declared.node.NodeKind.TheVariants.{Container, Object}
 use Rattle.sd_tree.specs.declared.node.Row.{Row}
 use Rattle.sd_share.specs.Machine.{Machine}
-use Rattle.sd_script.specs.Answer.{line}
+use Rattle.sd_script.specs.Answer.{line, fault_line}
+use Rattle.sd_script.specs.Paths.{is_split, path_word}
+use Rattle.sd_script.specs.declared.paths.PathSpelling.{PathSpelling}
+use Rattle.sd_script.specs.declared.paths.PathSpelling.TheVariants.{Plain, Percent}
 
 abbrev pub kind_word : NodeKind → List ℕ
 kind_word Container = codes "container"
 kind_word Object = codes "object"
 
 -- a node with its whole descriptor, as `show` prints that
-abbrev pub node_line : NodeKind → Names → Option DescriptorValue → List ℕ
-node_line kind path None = []
-node_line kind path (Some d) = line (kind_word kind ++ codes " " ++ text_of path ++ codes " " ++ canon d)
+abbrev pub node_line : PathSpelling → NodeKind → Names → Option DescriptorValue → List ℕ
+node_line paths kind path None = []
+node_line paths kind path (Some d) = line (kind_word kind ++ codes " " ++ path_word paths path ++ codes " " ++ canon d)
 
-abbrev pub line_below : MappingValue → PlainTree → Names → Names × Row → List ℕ
-line_below g t top node = if is_within top node.0 then node_line node.1.kind node.0 (descriptor_at g t node.0) else []
+abbrev pub line_below : PathSpelling → MappingValue → PlainTree → Names → Names × Row → List ℕ
+line_below paths g t top node = if is_within top node.0 then node_line paths node.1.kind node.0 (descriptor_at g t node.0) else []
+
+-- the node stands at or below the path, and its own path would be more than one word
+abbrev pub is_split_below : Names → Names × Row → Bool
+is_split_below top node = is_within top node.0 && is_split node.0
+
+-- some path that is to be told can't be
+abbrev pub lacks_words : PathSpelling → PlainTree → Names → Bool
+lacks_words Plain t top = list_any (is_split_below top) (entries t)
+lacks_words Percent t top = false
 
 -- where no node stands at the path, that is told
 abbrev pub unless_none : Option NodeKind → List ℕ → List ℕ
 unless_none None text = line (codes "nonode")
 unless_none (Some kind) text = text
 
-abbrev pub listed_in : MappingValue → PlainTree → Names → List ℕ
-listed_in g t top = unless_none (kind_at t top) (flat_map (line_below g t top) (entries t))
+abbrev pub listed_in : PathSpelling → MappingValue → PlainTree → Names → List ℕ
+listed_in paths g t top = unless_none (kind_at t top)
+    (if lacks_words paths t top then fault_line (codes "name") else flat_map (line_below paths g t top) (entries t))
 
-abbrev pub list_text : Machine → Names → List ℕ
-list_text m top = listed_in m.opening.mapping (replay m.opening m.published) top
+abbrev pub list_text : PathSpelling → Machine → Names → List ℕ
+list_text paths m top = listed_in paths m.opening.mapping (replay m.opening m.published) top

@@ -1,65 +1,78 @@
 -- The output of a script.
 use Rattle.std.specs.Prelude.{◌≡◌, ◌⊎◌, ℕ, Bool, true, false, List, [], ◌∷◌, ◌++◌, Some, None, Ok, Err, MatchBool, if◌then◌else◌, codes}
 use Rattle.std.specs.Str.Lines.{lines}
-use Rattle.sd_sid.specs.Mapping.{MappingValue}
 use Rattle.sd_tree.specs.Journal.{opening_of, root_refusal}
 use Rattle.sd_tree.specs.declared.opening.RootSpec.{RootSpec}
 use Rattle.sd_share.specs.Machine.{Machine, Steps, started}
 use Rattle.sd_share.specs.Starts.{IsReaderCount, IsStartError}
 use Rattle.sd_share.specs.declared.request.Reply.{Reply}
-use Rattle.sd_share.specs.declared.request.Request.TheVariants.{Show}
+use Rattle.sd_share.specs.declared.request.Request.TheVariants.{Edit as Edits, Show}
 use Rattle.sd_share.specs.declared.start.StartError.{StartError}
 use Rattle.sd_script.specs.Command.{line_asks}
-use Rattle.sd_script.specs.Fault.{line_of_fault}
+use Rattle.sd_script.specs.Fault.{Reading, line_of_fault}
 use Rattle.sd_script.specs.Dump.{IsDump}
+use Rattle.sd_script.specs.Importing.{IsImported}
 use Rattle.sd_script.specs.Lines.{is_silent, wants_lines}
 use Rattle.sd_script.specs.Listing.{list_text}
 use Rattle.sd_script.specs.Reply.{counted_line, reply_line, start_error_line}
+use Rattle.sd_script.specs.Tally.{no_lines, tallied}
 use Rattle.sd_script.specs.Why.{explained_reply}
 use Rattle.sd_script.specs.declared.asked.Asked.{Asked}
-use Rattle.sd_script.specs.declared.asked.Asked.TheVariants.{Opening as Opens, Asking, Explaining, Listing, Dumping}
+use Rattle.sd_script.specs.declared.asked.Asked.TheVariants.{Opening as Opens, Asking, Explaining, Listing, Dumping, Importing}
+use Rattle.sd_script.specs.declared.carried.Carried.{Carried}
 use Rattle.sd_script.specs.declared.fault.LineFault.{LineFault}
+use Rattle.sd_script.specs.declared.manner.Manner.{Manner}
+use Rattle.sd_script.specs.declared.paths.PathSpelling.{PathSpelling}
 use Rattle.sd_script.specs.declared.session.Session.{Session}
 use Rattle.sd_script.specs.declared.session.Session.TheVariants.{Closed, Opened}
+use Rattle.sd_script.specs.declared.tally.Tally.{Tally}
 
 -- whether a store is open
 abbrev pub is_open : Session → Bool
-is_open (Closed g) = false
-is_open (Opened m) = true
+is_open (Closed manner) = false
+is_open (Opened paths m) = true
 
--- by which mapping a store is opened, or is open
-abbrev pub mapping_of : Session → MappingValue
-mapping_of (Closed g) = g
-mapping_of (Opened m) = m.opening.mapping
+-- in which manner a store is opened, or is open
+abbrev pub manner_of : Session → Manner
+manner_of (Closed manner) = manner
+manner_of (Opened paths m) = record { mapping = m.opening.mapping; paths = paths }
 
--- a store with this mapping and root is opened for so many readers, or refused; after a refusal none is open
-abbrev pub IsOpened : MappingValue → ℕ → RootSpec → List ℕ → Session → Type 0
-IsOpened g readers root printed new =
-    (IsReaderCount readers × (root_refusal (opening_of g root) ≡ None)
-    × (printed ≡ counted_line (codes "opened") readers) × (new ≡ Opened (started (opening_of g root) readers)))
-    ⊎ ((error : StartError) × IsStartError error readers (root_refusal (opening_of g root))
-    × (start_error_line error ≡ Some printed) × (new ≡ Closed g))
+-- what a line asks for where this stands
+abbrev pub line_asks_in : Session → List ℕ → Reading Asked
+line_asks_in s line = line_asks (manner_of s).paths (is_open s) line
 
--- what is asked is done: what is printed, and what stands then
+-- a store with this root is opened in this manner for so many readers, or refused; after a refusal none is open
+abbrev pub IsOpened : Manner → ℕ → RootSpec → List ℕ → Session → Type 0
+IsOpened manner readers root printed new =
+    (IsReaderCount readers × (root_refusal (opening_of manner.mapping root) ≡ None)
+    × (printed ≡ counted_line (codes "opened") readers) × (new ≡ Opened manner.paths (started (opening_of manner.mapping root) readers)))
+    ⊎ ((error : StartError) × IsStartError error readers (root_refusal (opening_of manner.mapping root))
+    × (start_error_line error ≡ Some printed) × (new ≡ Closed manner))
+
+-- what is asked of a store that is open is done: what is printed, and what stands then
 abbrev pub IsDone : Session → Asked → List ℕ → Session → Type 0
-IsDone old (Opens readers root) printed new = IsOpened (mapping_of old) readers root printed new
-IsDone (Opened old) (Asking request) printed new =
-    (reply : Reply) × (machine : Machine) × Steps old request reply machine × (reply_line reply ≡ Some printed) × (new ≡ Opened machine)
-IsDone (Closed g) (Asking request) printed new = ⊥
-IsDone (Opened old) (Explaining reader path token asked) printed new =
+IsDone old (Opens readers root) printed new = IsOpened (manner_of old) readers root printed new
+IsDone (Opened paths old) (Asking request) printed new =
+    (reply : Reply) × (machine : Machine) × Steps old request reply machine × (reply_line reply ≡ Some printed) × (new ≡ Opened paths machine)
+IsDone (Closed manner) (Asking request) printed new = ⊥
+IsDone (Opened paths old) (Explaining reader path token asked) printed new =
     (reply : Reply) × (machine : Machine) × Steps old (Show reader path) reply machine
-    × (explained_reply old.opening.mapping token asked reply ≡ Some printed) × (new ≡ Opened machine)
-IsDone (Closed g) (Explaining reader path token asked) printed new = ⊥
-IsDone (Opened old) (Listing path) printed new = (printed ≡ list_text old path) × (new ≡ Opened old)
-IsDone (Closed g) (Listing path) printed new = ⊥
-IsDone (Opened old) Dumping printed new = IsDump old printed × (new ≡ Opened old)
-IsDone (Closed g) Dumping printed new = ⊥
+    × (explained_reply old.opening.mapping token asked reply ≡ Some printed) × (new ≡ Opened paths machine)
+IsDone (Closed manner) (Explaining reader path token asked) printed new = ⊥
+IsDone (Opened paths old) (Listing path) printed new = (printed ≡ list_text paths old path) × (new ≡ Opened paths old)
+IsDone (Closed manner) (Listing path) printed new = ⊥
+IsDone (Opened paths old) Dumping printed new = IsDump paths old printed × (new ≡ Opened paths old)
+IsDone (Closed manner) Dumping printed new = ⊥
+IsDone (Opened paths old) (Importing edit path inherited) printed new =
+    (reply : Reply) × (machine : Machine) × Steps old (Edits edit) reply machine
+    × IsImported machine path inherited reply printed × (new ≡ Opened paths machine)
+IsDone (Closed manner) (Importing edit path inherited) printed new = ⊥
 
 -- a line that isn't silent is told what it asks for, or its fault
 abbrev pub IsTold : Session → List ℕ → List ℕ → Session → Type 0
 IsTold old line told new =
-    ((asked : Asked) × line_asks (is_open old) line (Ok asked) × IsDone old asked told new)
-    ⊎ ((fault : LineFault) × line_asks (is_open old) line (Err fault) × (told ≡ line_of_fault fault) × (new ≡ old))
+    ((asked : Asked) × line_asks_in old line (Ok asked) × IsDone old asked told new)
+    ⊎ ((fault : LineFault) × line_asks_in old line (Err fault) × (told ≡ line_of_fault fault) × (new ≡ old))
 
 -- behind what a line is told: an empty line ends the answer to one that is answered by several lines, a fault too
 abbrev pub closing_of : List ℕ → List ℕ
@@ -71,13 +84,28 @@ IsAnswered old line printed new = MatchBool (is_silent line)
     ((printed ≡ []) × (new ≡ old))
     ((told : List ℕ) × IsTold old line told new × (printed ≡ told ++ closing_of line))
 
--- one line after the other
-abbrev pub AreAnswered : Session → List (List ℕ) → List ℕ → Type 0
-AreAnswered old [] printed = printed ≡ []
-AreAnswered old (line ∷ lines) printed =
-    (first : List ℕ) × (between : Session) × (rest : List ℕ)
-    × IsAnswered old line first between × AreAnswered between lines rest × (printed ≡ first ++ rest)
+-- ---- a script, as far as it is carried out
 
--- the whole output of a script whose store has this mapping, and before which none is open
-abbrev pub Prints : MappingValue → List ℕ → List ℕ → Type 0
-Prints g text printed = AreAnswered (Closed g) (lines text) printed
+-- before the first line none is open
+abbrev pub begun : Manner → Carried
+begun manner = record { session = Closed manner; tally = no_lines }
+
+-- a line is answered, and counted
+pub record IsNext (old : Carried) (line printed : List ℕ) (new : Carried) : Type 0 where
+  pub answered : IsAnswered old.session line printed new.session
+  pub counted : new.tally ≡ tallied line printed old.tally
+
+-- one line after the other, and what stands then
+abbrev pub AreAnswered : Carried → List (List ℕ) → List ℕ → Carried → Type 0
+AreAnswered old [] printed last = (printed ≡ []) × (last ≡ old)
+AreAnswered old (line ∷ lines) printed last =
+    (first : List ℕ) × (between : Carried) × (rest : List ℕ)
+    × IsNext old line first between × AreAnswered between lines rest last × (printed ≡ first ++ rest)
+
+-- the whole output of a script that is carried out in this manner, and what is counted of it
+abbrev pub PrintsAndCounts : Manner → List ℕ → List ℕ → Tally → Type 0
+PrintsAndCounts manner text printed tally =
+    (last : Carried) × AreAnswered (begun manner) (lines text) printed last × (tally ≡ last.tally)
+
+abbrev pub Prints : Manner → List ℕ → List ℕ → Type 0
+Prints manner text printed = (tally : Tally) × PrintsAndCounts manner text printed tally

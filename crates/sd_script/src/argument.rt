@@ -1,7 +1,7 @@
 //! The words of a line after its command, each read as what it stands for.
 ghost use Rattle.std.specs.Prelude.{◌≡◌, IfOk};
 ghost use Rattle.sd_acl.specs.Descriptor.{descriptor_of};
-ghost use Rattle.sd_script.specs.Argument.{number, path as path_of_word, sid, mask, token, node, dacl, node_of, dacl_of, own_dacl};
+ghost use Rattle.sd_script.specs.Argument.{number, sid, mask, token, node, dacl, node_of, dacl_of, own_dacl};
 ghost use Rattle.sd_script.specs.Fault.{UnlessMemory};
 ghost use Rattle.sd_script.specs.Word.{texts};
 
@@ -11,7 +11,7 @@ use sd_acl::{Dacl, Descriptor};
 use sd_check::Token;
 use sd_sid::{Mask, Sid};
 use sd_text::{TextError, read_mask, read_sddl, read_sid_text};
-use sd_tree::{Entries, NodeDacl, Path, PathError, RootSpec};
+use sd_tree::{Entries, NodeDacl, RootSpec};
 use std::alloc::{AllocError, Global};
 
 /// A run of decimal digits with a value below 2^64.
@@ -24,17 +24,6 @@ pub(crate) fn number_in(word: &str) -> Result<u64, LineFault>
     match word.parse::<u64>() {
         Ok(n) => Ok(n),
         Err(_) => Err(LineFault::Number),
-    }
-}
-
-/// A path.
-pub(crate) fn path_in(alloc: Global, word: &str) -> Result<Path, Stop>
-    ensures { UnlessMemory (path_of_word word.now) result }
-{
-    match Path::read(alloc, word) {
-        Ok(path) => Ok(path),
-        Err(PathError::Memory) => Err(Stop::Memory),
-        Err(_) => Err(Stop::Fault(LineFault::Path)),
     }
 }
 
@@ -117,7 +106,7 @@ fn dacl_of(alloc: Global, descriptor: &Descriptor) -> Result<NodeDacl, Stop>
 }
 
 /// The DACL that a descriptor gives a node.
-fn own_dacl(alloc: Global, descriptor: &Descriptor) -> Result<NodeDacl, AllocError>
+pub(crate) fn own_dacl(alloc: Global, descriptor: &Descriptor) -> Result<NodeDacl, AllocError>
     ensures { IfOk result (λ given. given ≡ own_dacl descriptor.now.protected descriptor.now.dacl) }
 {
     match &descriptor.dacl {

@@ -1,16 +1,19 @@
 //! What a line asks for, and how its words are read.
 ghost use Rattle.std.specs.Prelude.{◌≡◌};
-ghost use Rattle.sd_script.specs.Command.{CommandValue, Open, AddContainer, AddObject, SetOwner, SetGroup, SetDacl, Remove, Protect, Move, Learn, Check, Why, Show, ListNodes, asks, question, command_value};
+ghost use Rattle.sd_script.specs.Command.{CommandValue, Open, AddContainer, AddObject, SetOwner, SetGroup, SetDacl, Remove, Protect, Move, Learn, Check, Why, Show, ListNodes, ImportNode, asks, question, command_value};
 ghost use Rattle.sd_script.specs.Fault.{UnlessMemory};
 ghost use Rattle.sd_script.specs.Word.{texts};
+ghost use Rattle.sd_script.specs.declared.paths.PathSpelling.{PathSpelling as Spelling};
 
-use crate::argument::{dacl_in, mask_in, node_in, number_in, path_in, sid_in, token_in};
+use crate::argument::{dacl_in, mask_in, node_in, number_in, sid_in, token_in};
 use crate::command::Command;
 use crate::fault::Stop;
+use crate::importing::{Import, addition, import_in};
+use crate::paths::{PathSpelling, path_in};
 use sd_check::Token;
 use sd_share::Request;
 use sd_sid::Mask;
-use sd_tree::{Edit, Path, RootSpec};
+use sd_tree::{Edit, Entries, NodeKind, Path, RootSpec};
 use std::alloc::Global;
 
 /// What a line asks for.
@@ -36,6 +39,12 @@ pub enum Asked {
     },
     /// The published tree, as lines of a script.
     Dumping,
+    /// A node, and whether it inherits what it had inherited elsewhere.
+    Importing {
+        edit: Edit,
+        path: Path,
+        inherited: Entries,
+    },
 }
 
 /// A token, and what is asked for it.
@@ -46,19 +55,23 @@ pub(crate) struct Question {
 }
 
 /// What a command asks for, or its first argument from the left that isn't read.
-pub(crate) fn asked_by(alloc: Global, command: Command<'_>) -> Result<Asked, Stop>
-    ensures { UnlessMemory (asks (command_value command.entry)) result }
+pub(crate) fn asked_by(
+    alloc: Global,
+    paths: PathSpelling,
+    command: Command<'_>,
+) -> Result<Asked, Stop>
+    ensures { UnlessMemory (asks paths (command_value command.entry)) result }
 {
     match command {
         Command::Open { readers, sddl } => opening(alloc, readers, sddl),
-        Command::AddContainer { path, sddl } => added_container(alloc, path, sddl),
-        Command::AddObject { path, sddl } => added_object(alloc, path, sddl),
-        Command::SetOwner { path, sid } => set_owner(alloc, path, sid),
-        Command::SetGroup { path, sid } => set_group(alloc, path, sid),
-        Command::SetDacl { path, sddl } => set_dacl(alloc, path, sddl),
-        Command::Remove { path } => removed(alloc, path),
-        Command::Protect { path } => protected(alloc, path),
-        Command::Move { source, target } => moved(alloc, source, target),
+        Command::AddContainer { path, sddl } => added_container(alloc, paths, path, sddl),
+        Command::AddObject { path, sddl } => added_object(alloc, paths, path, sddl),
+        Command::SetOwner { path, sid } => set_owner(alloc, paths, path, sid),
+        Command::SetGroup { path, sid } => set_group(alloc, paths, path, sid),
+        Command::SetDacl { path, sddl } => set_dacl(alloc, paths, path, sddl),
+        Command::Remove { path } => removed(alloc, paths, path),
+        Command::Protect { path } => protected(alloc, paths, path),
+        Command::Move { source, target } => moved(alloc, paths, source, target),
         Command::Publish => Ok(Asked::Asking(Request::Publish)),
         Command::Tell => Ok(Asked::Asking(Request::Tell)),
         Command::Learn { reader, length } => learned(reader, length),
@@ -68,32 +81,38 @@ pub(crate) fn asked_by(alloc: Global, command: Command<'_>) -> Result<Asked, Sto
             user,
             mask,
             words,
-        } => checked(alloc, reader, path, user, mask, words),
+        } => checked(alloc, paths, reader, path, user, mask, words),
         Command::Why {
             reader,
             path,
             user,
             mask,
             words,
-        } => explained(alloc, reader, path, user, mask, words),
-        Command::Show { reader, path } => shown(alloc, reader, path),
-        Command::ListNodes { path } => listed(alloc, path),
+        } => explained(alloc, paths, reader, path, user, mask, words),
+        Command::Show { reader, path } => shown(alloc, paths, reader, path),
+        Command::ListNodes { path } => listed(alloc, paths, path),
         Command::Dump => Ok(Asked::Dumping),
+        Command::ImportNode { kind, path, sddl } => importing(alloc, paths, kind, path, sddl),
     }
 }
 
 fn opening(alloc: Global, readers: &str, sddl: &str) -> Result<Asked, Stop>
-    ensures { UnlessMemory (asks (Open readers.now sddl.now)) result }
+    ensures { (paths : Spelling) → UnlessMemory (asks paths (Open readers.now sddl.now)) result }
 {
     let readers = number_in(readers)?;
     let root = node_in(alloc, sddl)?;
     Ok(Asked::Opening { readers, root })
 }
 
-fn added_container(alloc: Global, path: &str, sddl: &str) -> Result<Asked, Stop>
-    ensures { UnlessMemory (asks (AddContainer path.now sddl.now)) result }
+fn added_container(
+    alloc: Global,
+    paths: PathSpelling,
+    path: &str,
+    sddl: &str,
+) -> Result<Asked, Stop>
+    ensures { UnlessMemory (asks paths (AddContainer path.now sddl.now)) result }
 {
-    let path = path_in(alloc, path)?;
+    let path = path_in(alloc, paths, path)?;
     let RootSpec { owner, group, dacl } = node_in(alloc, sddl)?;
     Ok(Asked::Asking(Request::Edit(Edit::AddContainer {
         path,
@@ -103,10 +122,10 @@ fn added_container(alloc: Global, path: &str, sddl: &str) -> Result<Asked, Stop>
     })))
 }
 
-fn added_object(alloc: Global, path: &str, sddl: &str) -> Result<Asked, Stop>
-    ensures { UnlessMemory (asks (AddObject path.now sddl.now)) result }
+fn added_object(alloc: Global, paths: PathSpelling, path: &str, sddl: &str) -> Result<Asked, Stop>
+    ensures { UnlessMemory (asks paths (AddObject path.now sddl.now)) result }
 {
-    let path = path_in(alloc, path)?;
+    let path = path_in(alloc, paths, path)?;
     let RootSpec { owner, group, dacl } = node_in(alloc, sddl)?;
     Ok(Asked::Asking(Request::Edit(Edit::AddObject {
         path,
@@ -116,54 +135,54 @@ fn added_object(alloc: Global, path: &str, sddl: &str) -> Result<Asked, Stop>
     })))
 }
 
-fn set_owner(alloc: Global, path: &str, sid: &str) -> Result<Asked, Stop>
-    ensures { UnlessMemory (asks (SetOwner path.now sid.now)) result }
+fn set_owner(alloc: Global, paths: PathSpelling, path: &str, sid: &str) -> Result<Asked, Stop>
+    ensures { UnlessMemory (asks paths (SetOwner path.now sid.now)) result }
 {
-    let path = path_in(alloc, path)?;
+    let path = path_in(alloc, paths, path)?;
     let owner = sid_in(sid)?;
     Ok(Asked::Asking(Request::Edit(Edit::SetOwner { path, owner })))
 }
 
-fn set_group(alloc: Global, path: &str, sid: &str) -> Result<Asked, Stop>
-    ensures { UnlessMemory (asks (SetGroup path.now sid.now)) result }
+fn set_group(alloc: Global, paths: PathSpelling, path: &str, sid: &str) -> Result<Asked, Stop>
+    ensures { UnlessMemory (asks paths (SetGroup path.now sid.now)) result }
 {
-    let path = path_in(alloc, path)?;
+    let path = path_in(alloc, paths, path)?;
     let group = sid_in(sid)?;
     Ok(Asked::Asking(Request::Edit(Edit::SetGroup { path, group })))
 }
 
-fn set_dacl(alloc: Global, path: &str, sddl: &str) -> Result<Asked, Stop>
-    ensures { UnlessMemory (asks (SetDacl path.now sddl.now)) result }
+fn set_dacl(alloc: Global, paths: PathSpelling, path: &str, sddl: &str) -> Result<Asked, Stop>
+    ensures { UnlessMemory (asks paths (SetDacl path.now sddl.now)) result }
 {
-    let path = path_in(alloc, path)?;
+    let path = path_in(alloc, paths, path)?;
     let dacl = dacl_in(alloc, sddl)?;
     Ok(Asked::Asking(Request::Edit(Edit::SetDacl { path, dacl })))
 }
 
-fn removed(alloc: Global, path: &str) -> Result<Asked, Stop>
-    ensures { UnlessMemory (asks (Remove path.now)) result }
+fn removed(alloc: Global, paths: PathSpelling, path: &str) -> Result<Asked, Stop>
+    ensures { UnlessMemory (asks paths (Remove path.now)) result }
 {
-    let path = path_in(alloc, path)?;
+    let path = path_in(alloc, paths, path)?;
     Ok(Asked::Asking(Request::Edit(Edit::Remove { path })))
 }
 
-fn protected(alloc: Global, path: &str) -> Result<Asked, Stop>
-    ensures { UnlessMemory (asks (Protect path.now)) result }
+fn protected(alloc: Global, paths: PathSpelling, path: &str) -> Result<Asked, Stop>
+    ensures { UnlessMemory (asks paths (Protect path.now)) result }
 {
-    let path = path_in(alloc, path)?;
+    let path = path_in(alloc, paths, path)?;
     Ok(Asked::Asking(Request::Edit(Edit::ProtectKeeping { path })))
 }
 
-fn moved(alloc: Global, source: &str, target: &str) -> Result<Asked, Stop>
-    ensures { UnlessMemory (asks (Move source.now target.now)) result }
+fn moved(alloc: Global, paths: PathSpelling, source: &str, target: &str) -> Result<Asked, Stop>
+    ensures { UnlessMemory (asks paths (Move source.now target.now)) result }
 {
-    let source = path_in(alloc, source)?;
-    let target = path_in(alloc, target)?;
+    let source = path_in(alloc, paths, source)?;
+    let target = path_in(alloc, paths, target)?;
     Ok(Asked::Asking(Request::Edit(Edit::Move { source, target })))
 }
 
 fn learned(reader: &str, length: &str) -> Result<Asked, Stop>
-    ensures { UnlessMemory (asks (Learn reader.now length.now)) result }
+    ensures { (paths : Spelling) → UnlessMemory (asks paths (Learn reader.now length.now)) result }
 {
     let reader = number_in(reader)?;
     let length = number_in(length)?;
@@ -172,6 +191,7 @@ fn learned(reader: &str, length: &str) -> Result<Asked, Stop>
 
 fn checked(
     alloc: Global,
+    paths: PathSpelling,
     reader: &str,
     path: &str,
     user: &str,
@@ -179,10 +199,10 @@ fn checked(
     words: &[&str],
 ) -> Result<Asked, Stop>
     ensures { UnlessMemory
-        (asks (Check reader.now path.now user.now mask.now (texts words.now))) result }
+        (asks paths (Check reader.now path.now user.now mask.now (texts words.now))) result }
 {
     let reader = number_in(reader)?;
-    let path = path_in(alloc, path)?;
+    let path = path_in(alloc, paths, path)?;
     let Question { token, asked } = question_in(alloc, user, mask, words)?;
     Ok(Asked::Asking(Request::Check {
         reader,
@@ -194,6 +214,7 @@ fn checked(
 
 fn explained(
     alloc: Global,
+    paths: PathSpelling,
     reader: &str,
     path: &str,
     user: &str,
@@ -201,10 +222,10 @@ fn explained(
     words: &[&str],
 ) -> Result<Asked, Stop>
     ensures { UnlessMemory
-        (asks (Why reader.now path.now user.now mask.now (texts words.now))) result }
+        (asks paths (Why reader.now path.now user.now mask.now (texts words.now))) result }
 {
     let reader = number_in(reader)?;
-    let path = path_in(alloc, path)?;
+    let path = path_in(alloc, paths, path)?;
     let Question { token, asked } = question_in(alloc, user, mask, words)?;
     Ok(Asked::Explaining {
         reader,
@@ -224,17 +245,37 @@ fn question_in(alloc: Global, user: &str, mask: &str, words: &[&str]) -> Result<
     Ok(Question { token, asked })
 }
 
-fn shown(alloc: Global, reader: &str, path: &str) -> Result<Asked, Stop>
-    ensures { UnlessMemory (asks (Show reader.now path.now)) result }
+fn shown(alloc: Global, paths: PathSpelling, reader: &str, path: &str) -> Result<Asked, Stop>
+    ensures { UnlessMemory (asks paths (Show reader.now path.now)) result }
 {
     let reader = number_in(reader)?;
-    let path = path_in(alloc, path)?;
+    let path = path_in(alloc, paths, path)?;
     Ok(Asked::Asking(Request::Show { reader, path }))
 }
 
-fn listed(alloc: Global, path: &str) -> Result<Asked, Stop>
-    ensures { UnlessMemory (asks (ListNodes path.now)) result }
+fn listed(alloc: Global, paths: PathSpelling, path: &str) -> Result<Asked, Stop>
+    ensures { UnlessMemory (asks paths (ListNodes path.now)) result }
 {
-    let path = path_in(alloc, path)?;
+    let path = path_in(alloc, paths, path)?;
     Ok(Asked::Listing { path })
+}
+
+fn importing(
+    alloc: Global,
+    paths: PathSpelling,
+    kind: NodeKind,
+    path: &str,
+    sddl: &str,
+) -> Result<Asked, Stop>
+    ensures { UnlessMemory (asks paths (ImportNode kind path.now sddl.now)) result }
+{
+    let path = path_in(alloc, paths, path)?;
+    let Import { node, inherited } = import_in(alloc, sddl)?;
+    let added = path.copy(alloc)?;
+    let edit = addition(kind, added, node);
+    Ok(Asked::Importing {
+        edit,
+        path,
+        inherited,
+    })
 }

@@ -1,8 +1,10 @@
 //! The commands of a script, with their words as they stand.
 ghost use Rattle.std.specs.Prelude.{◌≡◌, ◌∷◌, [], option_map};
 ghost use Rattle.std.specs.List.{list_any};
-ghost use Rattle.sd_script.specs.Command.{command_named, command_of, command_on, command_value, is_empty, is_untimely};
+ghost use Rattle.sd_script.specs.Command.{command_named, command_of, command_on, command_value, is_empty, is_untimely, kind_named};
 ghost use Rattle.sd_script.specs.Word.{texts};
+
+use sd_tree::NodeKind;
 
 /// A command's name.
 #[derive(Clone, Copy, Debug, PartialEq, Eq)]
@@ -24,6 +26,7 @@ pub(crate) enum CommandName {
     Show,
     ListNodes,
     Dump,
+    ImportNode,
 }
 
 /// A command with its arguments, as many as it takes.
@@ -108,6 +111,12 @@ pub(crate) enum Command<'a> {
     },
     /// The tree is told as a script.
     Dump,
+    /// A node is added with the descriptor that it had elsewhere.
+    ImportNode {
+        kind: NodeKind,
+        path: &'a str,
+        sddl: &'a str,
+    },
 }
 
 impl CommandName {
@@ -132,6 +141,7 @@ impl CommandName {
             "show" => Some(CommandName::Show),
             "list" => Some(CommandName::ListNodes),
             "dump" => Some(CommandName::Dump),
+            "import" => Some(CommandName::ImportNode),
             _ => None,
         }
     }
@@ -178,10 +188,10 @@ fn command_on<'a>(name: CommandName, arguments: &'a [&'a str]) -> Option<Command
         [] => command_alone(name),
         [path] => command_on_one(name, path),
         [first, second] => command_on_two(name, first, second),
+        [kind, path, sddl] => command_on_three(name, kind, path, sddl),
         [reader, path, user, mask, words @ ..] => {
             command_on_question(name, reader, path, user, mask, words)
         }
-        _ => None,
     }
 }
 
@@ -237,6 +247,36 @@ fn command_on_two<'a>(name: CommandName, first: &'a str, second: &'a str) -> Opt
             reader: first,
             path: second,
         }),
+        _ => None,
+    }
+}
+
+/// The command on three arguments.
+fn command_on_three<'a>(
+    name: CommandName,
+    kind: &str,
+    path: &'a str,
+    sddl: &'a str,
+) -> Option<Command<'a>>
+    ensures { option_map command_value result
+        ≡ command_on name (kind.now ∷ path.now ∷ sddl.now ∷ []) }
+{
+    match name {
+        CommandName::ImportNode => {
+            let kind = kind_named(kind)?;
+            Some(Command::ImportNode { kind, path, sddl })
+        }
+        _ => None,
+    }
+}
+
+/// The kind of node that the word names.
+fn kind_named(word: &str) -> Option<NodeKind>
+    ensures { result ≡ kind_named word.now }
+{
+    match word {
+        "container" => Some(NodeKind::Container),
+        "object" => Some(NodeKind::Object),
         _ => None,
     }
 }

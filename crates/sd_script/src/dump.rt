@@ -18,6 +18,7 @@ use crate::asked::Asked;
 use crate::fault::Stop;
 use crate::line::read_line;
 use crate::lines::{first_line, is_silent};
+use crate::paths::{PathSpelling, path_word};
 use crate::same::{is_making, is_publishing};
 use sd_acl::Descriptor;
 use sd_text::print_sddl;
@@ -26,12 +27,17 @@ use std::alloc::{AllocError, Global};
 
 /// The lines that make the tree: an opening for so many readers, an addition for each other node, a parent before what it
 /// holds, and `publish`. `fault name` where one of them isn't read as what makes its node.
-pub(crate) fn dump_text(alloc: Global, tree: &Tree, readers: u64) -> Result<String, AllocError>
-    ensures { IfOk result (λ text. IsDumpOf readers (replay tree.now.opening tree.now.journal) (string_bytes text)) }
+pub(crate) fn dump_text(
+    alloc: Global,
+    paths: PathSpelling,
+    tree: &Tree,
+    readers: u64,
+) -> Result<String, AllocError>
+    ensures { IfOk result (λ text. IsDumpOf paths readers (replay tree.now.opening tree.now.journal) (string_bytes text)) }
 {
-    let mut text = making_lines(alloc, tree, readers)?;
+    let mut text = making_lines(alloc, paths, tree, readers)?;
     text.push_str("publish\n")?;
-    if is_read_back(alloc, tree, readers, text.as_bytes())? {
+    if is_read_back(alloc, paths, tree, readers, text.as_bytes())? {
         Ok(text)
     } else {
         fault_line(alloc, "name")
@@ -39,28 +45,39 @@ pub(crate) fn dump_text(alloc: Global, tree: &Tree, readers: u64) -> Result<Stri
 }
 
 /// The line of each node.
-fn making_lines(alloc: Global, tree: &Tree, readers: u64) -> Result<String, AllocError>
+fn making_lines(
+    alloc: Global,
+    paths: PathSpelling,
+    tree: &Tree,
+    readers: u64,
+) -> Result<String, AllocError>
     ensures { IfOk result (λ text. string_bytes text
-        ≡ making_lines_of readers (entries (replay tree.now.opening tree.now.journal))) }
+        ≡ making_lines_of paths readers (entries (replay tree.now.opening tree.now.journal))) }
 {
     let mut text = String::new(alloc);
     for index in 0..tree.node_count() {
-        let line = line_at(alloc, tree, readers, index)?;
+        let line = line_at(alloc, paths, tree, readers, index)?;
         text.push_str(&line)?;
     }
     Ok(text)
 }
 
 /// The line that makes the node of a place.
-fn line_at(alloc: Global, tree: &Tree, readers: u64, index: usize) -> Result<String, AllocError>
+fn line_at(
+    alloc: Global,
+    paths: PathSpelling,
+    tree: &Tree,
+    readers: u64,
+    index: usize,
+) -> Result<String, AllocError>
     requires { index < length (entries (replay tree.now.opening tree.now.journal)) }
     ensures { IfOk result (λ text. Some (string_bytes text) ≡ option_map
-        (λ node. making_line_of readers node.0 node.1)
+        (λ node. making_line_of paths readers node.0 node.1)
         (slice_get (entries (replay tree.now.opening tree.now.journal)) index)) }
 {
     match tree.node(index) {
         Some(node) => match tree.given(node.path)? {
-            Some((_, given)) => making_line(alloc, readers, &node, &given),
+            Some((_, given)) => making_line(alloc, paths, readers, &node, &given),
             None => unreachable!(),
         },
         None => unreachable!(),
@@ -70,20 +87,22 @@ fn line_at(alloc: Global, tree: &Tree, readers: u64, index: usize) -> Result<Str
 /// The line that makes a node with this descriptor of its own: an opening for the root, and else an addition.
 fn making_line(
     alloc: Global,
+    paths: PathSpelling,
     readers: u64,
     node: &NodeRef<'_>,
     given: &Descriptor,
 ) -> Result<String, AllocError>
     requires { descriptor_of given.now ≡ own_descriptor_of_row (listed node.now).1 }
     ensures { IfOk result (λ text. string_bytes text
-        ≡ making_line_of readers (listed node.now).0 (listed node.now).1) }
+        ≡ making_line_of paths readers (listed node.now).0 (listed node.now).1) }
 {
-    let (path, sddl) = (node.path, print_sddl(alloc, given)?);
-    if path.as_path_ref().is_root() {
+    let sddl = print_sddl(alloc, given)?;
+    if node.path.as_path_ref().is_root() {
         let text = format!(in alloc; "open {readers} {sddl}\n")?;
         return Ok(text);
     }
     let word = adding_word(node.kind);
+    let path = path_word(alloc, paths, node.path)?;
     let text = format!(in alloc; "{word} {path} {sddl}\n")?;
     Ok(text)
 }
@@ -98,9 +117,15 @@ fn adding_word(kind: NodeKind) -> &'static str
 }
 
 /// Whether the text is read as what makes the tree, line by line, and a publish.
-fn is_read_back(alloc: Global, tree: &Tree, readers: u64, text: &[u8]) -> Result<bool, AllocError>
+fn is_read_back(
+    alloc: Global,
+    paths: PathSpelling,
+    tree: &Tree,
+    readers: u64,
+    text: &[u8],
+) -> Result<bool, AllocError>
     ensures { IfOk result (λ is. Decides is
-        (IsReadBack readers (replay tree.now.opening tree.now.journal) text.now)) }
+        (IsReadBack paths readers (replay tree.now.opening tree.now.journal) text.now)) }
 {
     let mut rest = text;
     for index in 0..tree.node_count() {
@@ -108,17 +133,18 @@ fn is_read_back(alloc: Global, tree: &Tree, readers: u64, text: &[u8]) -> Result
             return Ok(false);
         }
         let (line, after) = first_line(rest);
-        if !is_read_as_node(alloc, tree, readers, index, line)? {
+        if !is_read_as_node(alloc, paths, tree, readers, index, line)? {
             return Ok(false);
         }
         rest = after;
     }
-    is_read_as_publish(alloc, tree.node_count() > 0, rest)
+    is_read_as_publish(alloc, paths, tree.node_count() > 0, rest)
 }
 
 /// Whether a line is read as what makes the node of a place; only the first is read where no store is open.
 fn is_read_as_node(
     alloc: Global,
+    paths: PathSpelling,
     tree: &Tree,
     readers: u64,
     index: usize,
@@ -126,10 +152,10 @@ fn is_read_as_node(
 ) -> Result<bool, AllocError>
     requires { index < length (entries (replay tree.now.opening tree.now.journal)) }
     ensures { (node : Names × Row) → Some node ≡ slice_get (entries (replay tree.now.opening tree.now.journal)) index
-        → IfOk result (λ is. Decides is (IsAskedBy (nat_lt 0 index) line.now (making readers node.0 node.1))) }
+        → IfOk result (λ is. Decides is (IsAskedBy paths (nat_lt 0 index) line.now (making readers node.0 node.1))) }
 {
     match tree.node(index) {
-        Some(node) => is_read_as(alloc, index > 0, line, readers, &node),
+        Some(node) => is_read_as(alloc, paths, index > 0, line, readers, &node),
         None => unreachable!(),
     }
 }
@@ -137,18 +163,19 @@ fn is_read_as_node(
 /// Whether a line is read as what makes the node.
 fn is_read_as(
     alloc: Global,
+    paths: PathSpelling,
     is_open: bool,
     line: &[u8],
     readers: u64,
     node: &NodeRef<'_>,
 ) -> Result<bool, AllocError>
     ensures { IfOk result (λ is. Decides is
-        (IsAskedBy is_open line.now (making readers (listed node.now).0 (listed node.now).1))) }
+        (IsAskedBy paths is_open line.now (making readers (listed node.now).0 (listed node.now).1))) }
 {
     if is_silent(line) {
         return Ok(false);
     }
-    match read_line(alloc, is_open, line) {
+    match read_line(alloc, paths, is_open, line) {
         Ok(asked) => Ok(is_making(&asked, readers, node)),
         Err(Stop::Fault(_)) => Ok(false),
         Err(Stop::Memory) => Err(AllocError),
@@ -156,8 +183,13 @@ fn is_read_as(
 }
 
 /// Whether a text is one line, which asks for a publish.
-fn is_read_as_publish(alloc: Global, is_open: bool, text: &[u8]) -> Result<bool, AllocError>
-    ensures { IfOk result (λ is. Decides is (AreAskedBy is_open (lines text.now) (Asking Publish ∷ []))) }
+fn is_read_as_publish(
+    alloc: Global,
+    paths: PathSpelling,
+    is_open: bool,
+    text: &[u8],
+) -> Result<bool, AllocError>
+    ensures { IfOk result (λ is. Decides is (AreAskedBy paths is_open (lines text.now) (Asking Publish ∷ []))) }
 {
     if text.is_empty() {
         return Ok(false);
@@ -166,7 +198,7 @@ fn is_read_as_publish(alloc: Global, is_open: bool, text: &[u8]) -> Result<bool,
     if !after.is_empty() || is_silent(line) {
         return Ok(false);
     }
-    match read_line(alloc, is_open, line) {
+    match read_line(alloc, paths, is_open, line) {
         Ok(asked) => Ok(is_publishing(&asked)),
         Err(Stop::Fault(_)) => Ok(false),
         Err(Stop::Memory) => Err(AllocError),

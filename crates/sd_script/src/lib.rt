@@ -6,8 +6,9 @@
 //!
 //! ```text
 //! let text = b"open 1 O:BAG:SYD:\naddo /a O:BAG:SYD:(A;;FR;;;SY)\npublish\ncheck 0 /a SY 0x1\n";
-//! let printed = script_output(alloc, &GenericMapping::file(), text)?;
-//! // printed holds "opened 1\nok\npublished 1\nseen 1 granted 0x1\n"
+//! let manner = Manner { mapping: GenericMapping::file(), paths: PathSpelling::Plain };
+//! let (printed, tally) = script_output(alloc, &manner, text)?;
+//! // printed holds "opened 1\nok\npublished 1\nseen 1 granted 0x1\n", and tally.first_fault is None
 //! ```
 //!
 //! What reads a line and what prints a reply is public, for who carries out a script in another way. The lines of verdicts
@@ -17,32 +18,42 @@
 mod answer;
 mod argument;
 mod asked;
+mod carried;
 mod command;
 mod dump;
 mod fault;
+mod importing;
 mod laws;
 mod line;
 mod lines;
 mod listing;
+mod manner;
+mod paths;
 mod reply;
 mod same;
 mod script;
 mod session;
 mod spelling;
 mod streams;
+mod tally;
 mod why;
 mod word;
 
 pub use answer::{fault_line, sddl_fault_line, verdict_line};
 pub use asked::Asked;
+pub use carried::Carried;
 pub use fault::{LineFault, Stop, line_of_fault};
+pub use importing::import_line;
 pub use laws::{texts_have_one_output, why_begins_as_check};
 pub use line::read_line;
 pub use lines::{first_line, is_silent, line_len};
+pub use manner::Manner;
+pub use paths::PathSpelling;
 pub use reply::{counted_line, reply_line, start_error_line};
 pub use script::{answer_line, script_output};
 pub use session::Session;
 pub use spelling::{Spelling, spell};
 pub use streams::run;
+pub use tally::Tally;
 pub use why::why_text;
 pub use word::{TokenError, read_token};

@@ -6,12 +6,18 @@ use crate::asked::{Asked, asked_by};
 use crate::command::command_of;
 use crate::fault::{LineFault, Stop};
 use crate::lines::words_of;
+use crate::paths::PathSpelling;
 use std::alloc::Global;
 use std::str::from_utf8;
 
-/// What a line that isn't silent asks for, where a store is open or none is; or its first fault.
-pub fn read_line(alloc: Global, is_open: bool, line: &[u8]) -> Result<Asked, Stop>
-    ensures { UnlessMemory (line_asks is_open line.now) result }
+/// What a line that isn't silent asks for, by this spelling of paths, where a store is open or none is; or its first fault.
+pub fn read_line(
+    alloc: Global,
+    paths: PathSpelling,
+    is_open: bool,
+    line: &[u8],
+) -> Result<Asked, Stop>
+    ensures { UnlessMemory (line_asks paths is_open line.now) result }
 {
     let Ok(text) = from_utf8(line) else {
         return Err(Stop::Fault(LineFault::Utf8));
@@ -23,5 +29,5 @@ pub fn read_line(alloc: Global, is_open: bool, line: &[u8]) -> Result<Asked, Sto
     if command.is_untimely(is_open) {
         return Err(Stop::Fault(LineFault::Open));
     }
-    asked_by(alloc, command)
+    asked_by(alloc, paths, command)
 }

@@ -1,87 +1,161 @@
 //! The nodes of a published tree, a line for each.
 ghost use Rattle.std.specs.Prelude.{◌≡◌, ◌++◌, ◌<◌, IfOk, OnOk, Some, [], length, if◌then◌else◌, option_map, slice_get, string_bytes};
 ghost use Rattle.std.specs.FinMap.{entries};
-ghost use Rattle.std.specs.List.{flat_map};
+ghost use Rattle.std.specs.List.{flat_map, list_any};
 ghost use Rattle.sd_acl.specs.Descriptor.{descriptor_of};
 ghost use Rattle.sd_tree.specs.Answers.{descriptor_at};
 ghost use Rattle.sd_tree.specs.Journal.{replay};
 ghost use Rattle.sd_tree.specs.Listing.{listed};
 ghost use Rattle.sd_tree.specs.Names.{is_within};
-ghost use Rattle.sd_script.specs.Listing.{kind_word as kind_word_of, line_below as line_below_of, listed_in, node_line as node_line_of};
+ghost use Rattle.sd_script.specs.Listing.{is_split_below as is_split_below_of, kind_word as kind_word_of, lacks_words as lacks_words_of, line_below as line_below_of, listed_in, node_line as node_line_of};
 
+use crate::answer::fault_line;
+use crate::paths::{PathSpelling, is_split, path_word};
 use sd_acl::Descriptor;
 use sd_text::print_sddl;
 use sd_tree::{NodeKind, NodeRef, Path, Tree};
 use std::alloc::{AllocError, Global};
 
-/// The lines of the nodes at and below a path, in the order of their paths, or `nonode` where none stands there.
-pub(crate) fn list_text(alloc: Global, tree: &Tree, top: &Path) -> Result<String, AllocError>
+/// The lines of the nodes at and below a path, in the order of their paths; `nonode` where none stands there, and `fault name`
+/// where the path of one would be more than one word.
+pub(crate) fn list_text(
+    alloc: Global,
+    paths: PathSpelling,
+    tree: &Tree,
+    top: &Path,
+) -> Result<String, AllocError>
     ensures { IfOk result (λ text. string_bytes text
-        ≡ listed_in tree.now.opening.mapping (replay tree.now.opening tree.now.journal) top.now) }
+        ≡ listed_in paths tree.now.opening.mapping (replay tree.now.opening tree.now.journal) top.now) }
 {
-    match tree.lookup(top) {
-        None => String::from_str(alloc, "nonode\n"),
-        Some(_) => lines_below(alloc, tree, top),
+    if tree.lookup(top).is_none() {
+        return String::from_str(alloc, "nonode\n");
+    }
+    if lacks_words(alloc, paths, tree, top)? {
+        return fault_line(alloc, "name");
+    }
+    lines_below(alloc, paths, tree, top)
+}
+
+/// Whether the path of some node that stands at or below this one can't be told.
+fn lacks_words(
+    alloc: Global,
+    paths: PathSpelling,
+    tree: &Tree,
+    top: &Path,
+) -> Result<bool, AllocError>
+    ensures { IfOk result (λ lacks. lacks ≡ lacks_words_of paths (replay tree.now.opening tree.now.journal) top.now) }
+{
+    match paths {
+        PathSpelling::Plain => has_split_path(alloc, tree, top),
+        PathSpelling::Percent => Ok(false),
     }
 }
 
+/// Whether the path of some node that stands at or below this one would be more than one word.
+fn has_split_path(alloc: Global, tree: &Tree, top: &Path) -> Result<bool, AllocError>
+    ensures { IfOk result (λ has. has ≡ list_any (is_split_below_of top.now)
+        (entries (replay tree.now.opening tree.now.journal))) }
+{
+    for index in 0..tree.node_count() {
+        if is_split_at(alloc, tree, top, index)? {
+            return Ok(true);
+        }
+    }
+    Ok(false)
+}
+
+/// Whether that of the node of a place would.
+fn is_split_at(alloc: Global, tree: &Tree, top: &Path, index: usize) -> Result<bool, AllocError>
+    requires { index < length (entries (replay tree.now.opening tree.now.journal)) }
+    ensures { IfOk result (λ is. Some is ≡ option_map (is_split_below_of top.now)
+        (slice_get (entries (replay tree.now.opening tree.now.journal)) index)) }
+{
+    match tree.node(index) {
+        Some(node) => is_split_below(alloc, top, &node),
+        None => unreachable!(),
+    }
+}
+
+fn is_split_below(alloc: Global, top: &Path, node: &NodeRef<'_>) -> Result<bool, AllocError>
+    ensures { IfOk result (λ is. is ≡ is_split_below_of top.now (listed node.now)) }
+{
+    if !node.path.as_path_ref().is_within(&top.as_path_ref()) {
+        return Ok(false);
+    }
+    is_split(alloc, node.path)
+}
+
 /// The lines of all nodes that stand at or below the path.
-fn lines_below(alloc: Global, tree: &Tree, top: &Path) -> Result<String, AllocError>
+fn lines_below(
+    alloc: Global,
+    paths: PathSpelling,
+    tree: &Tree,
+    top: &Path,
+) -> Result<String, AllocError>
     ensures { IfOk result (λ text. string_bytes text ≡ flat_map
-        (line_below_of tree.now.opening.mapping (replay tree.now.opening tree.now.journal) top.now)
+        (line_below_of paths tree.now.opening.mapping (replay tree.now.opening tree.now.journal) top.now)
         (entries (replay tree.now.opening tree.now.journal))) }
 {
     let mut text = String::new(alloc);
     for index in 0..tree.node_count() {
-        let line = line_at(alloc, tree, top, index)?;
+        let line = line_at(alloc, paths, tree, top, index)?;
         text.push_str(&line)?;
     }
     Ok(text)
 }
 
 /// The line of the node of a place, where it stands at or below the path, and else nothing.
-fn line_at(alloc: Global, tree: &Tree, top: &Path, index: usize) -> Result<String, AllocError>
+fn line_at(
+    alloc: Global,
+    paths: PathSpelling,
+    tree: &Tree,
+    top: &Path,
+    index: usize,
+) -> Result<String, AllocError>
     requires { index < length (entries (replay tree.now.opening tree.now.journal)) }
     ensures { IfOk result (λ text. Some (string_bytes text) ≡ option_map
-        (line_below_of tree.now.opening.mapping (replay tree.now.opening tree.now.journal) top.now)
+        (line_below_of paths tree.now.opening.mapping (replay tree.now.opening tree.now.journal) top.now)
         (slice_get (entries (replay tree.now.opening tree.now.journal)) index)) }
 {
     match tree.node(index) {
-        Some(node) => line_below(alloc, tree, top, &node),
+        Some(node) => line_below(alloc, paths, tree, top, &node),
         None => unreachable!(),
     }
 }
 
 fn line_below(
     alloc: Global,
+    paths: PathSpelling,
     tree: &Tree,
     top: &Path,
     node: &NodeRef<'_>,
 ) -> Result<String, AllocError>
-    ensures { IfOk result (λ text. string_bytes text ≡ line_below_of tree.now.opening.mapping
+    ensures { IfOk result (λ text. string_bytes text ≡ line_below_of paths tree.now.opening.mapping
         (replay tree.now.opening tree.now.journal) top.now (listed node.now)) }
 {
     if !node.path.as_path_ref().is_within(&top.as_path_ref()) {
         return Ok(String::new(alloc));
     }
     let descriptor = tree.descriptor(node.path)?;
-    node_line(alloc, node.kind, node.path, &descriptor)
+    node_line(alloc, paths, node.kind, node.path, &descriptor)
 }
 
 /// The line of a node with this descriptor.
 fn node_line(
     alloc: Global,
+    paths: PathSpelling,
     kind: NodeKind,
     path: &Path,
     descriptor: &Option<Descriptor>,
 ) -> Result<String, AllocError>
     ensures { IfOk result (λ text. string_bytes text
-        ≡ node_line_of kind path.now (option_map descriptor_of descriptor.now)) }
+        ≡ node_line_of paths kind path.now (option_map descriptor_of descriptor.now)) }
 {
     match descriptor {
         None => Ok(String::new(alloc)),
         Some(descriptor) => {
             let word = kind_word(kind);
+            let path = path_word(alloc, paths, path)?;
             let sddl = print_sddl(alloc, descriptor)?;
             let text = format!(in alloc; "{word} {path} {sddl}\n")?;
             Ok(text)

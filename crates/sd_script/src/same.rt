@@ -2,7 +2,8 @@
 ghost use Rattle.std.specs.Prelude.{◌≡◌};
 ghost use Rattle.std.specs.Bool.{Decides};
 ghost use Rattle.sd_tree.specs.Listing.{listed};
-ghost use Rattle.sd_script.specs.Dump.{addition, making, root_of};
+ghost use Rattle.sd_script.specs.Addition.{addition};
+ghost use Rattle.sd_script.specs.Dump.{making, root_of};
 ghost use Rattle.sd_script.specs.declared.asked.Asked.TheVariants.{Asking};
 ghost use Rattle.sd_share.specs.declared.request.Request.TheVariants.{Publish};
 
@@ -102,7 +103,7 @@ fn same_dacl(one: &NodeDacl, other: &NodeDacl) -> bool
 }
 
 /// Whether both lists are one, entry by entry.
-fn same_entries(one: &[Ace], other: &[Ace]) -> bool
+pub(crate) fn same_entries(one: &[Ace], other: &[Ace]) -> bool
     ensures { Decides result (one.now ≡ other.now) }
 {
     if one.len() != other.len() {

@@ -1,48 +1,61 @@
 //! The whole output of a script.
 ghost use Rattle.std.specs.Prelude.{◌≡◌, true, IfOk, string_bytes};
-ghost use Rattle.sd_script.specs.Output.{IsAnswered, IsDone, IsTold, Prints, is_open};
-ghost use Rattle.sd_script.specs.declared.asked.Asked.TheVariants.{Asking, Dumping, Explaining, Listing, Opening};
+ghost use Rattle.sd_script.specs.Output.{IsAnswered, IsDone, IsNext, IsTold, PrintsAndCounts, is_open};
+ghost use Rattle.sd_script.specs.declared.asked.Asked.TheVariants.{Asking, Dumping, Explaining, Importing, Listing, Opening};
 
 use crate::asked::Asked;
+use crate::carried::Carried;
 use crate::dump::dump_text;
 use crate::fault::{Stop, line_of_fault};
+use crate::importing::import_line;
 use crate::line::read_line;
 use crate::lines::{first_line, is_silent, wants_lines};
 use crate::listing::list_text;
+use crate::manner::Manner;
 use crate::reply::{counted_line, reply_line, start_error_line};
 use crate::session::Session;
+use crate::tally::Tally;
 use crate::why::explained_reply;
 use sd_check::Token;
 use sd_share::{Desk, Request};
-use sd_sid::{GenericMapping, Mask};
-use sd_tree::{Path, RootSpec};
+use sd_sid::Mask;
+use sd_tree::{Edit, Entries, Path, RootSpec};
 use std::alloc::{AllocError, Global};
 
-/// The whole output of a script, whose store maps generic rights so ([MS-DTYP] 2.4.3). Each line is answered by one line, and
-/// `why`, `list` and `dump` by several, an empty one the last; an empty line, and one that begins with `#`, by none. A line that
-/// can't be carried out is answered by its first fault, and the script goes on. Fails only where memory is refused.
+/// The whole output of a script that is carried out in this manner, and what is counted of its lines. Each line is answered by one
+/// line, and `why`, `list` and `dump` by several, an empty one the last; an empty line, and one that begins with `#`, by none. A line
+/// that can't be carried out is answered by its first fault, and the script goes on. Fails only where memory is refused.
 pub fn script_output(
     alloc: Global,
-    mapping: &GenericMapping,
+    manner: &Manner,
     text: &[u8],
-) -> Result<Vec<u8>, AllocError>
-    ensures { IfOk result (λ printed. Prints mapping.now text.now printed.items) }
+) -> Result<(Vec<u8>, Tally), AllocError>
+    ensures { IfOk result (λ output. PrintsAndCounts manner.now text.now output.0.items output.1) }
 {
-    let mut session = Session::Closed(*mapping);
+    let mut carried = Carried::begun(manner);
     let mut printed = Vec::new(alloc);
     let mut rest = text;
     while !rest.is_empty() {
         let (line, after) = first_line(rest);
-        let answer = answer_line(alloc, &mut session, line)?;
+        let answer = answer_line(alloc, &mut carried, line)?;
         printed.extend_from_slice(answer.as_bytes())?;
         rest = after;
     }
-    Ok(printed)
+    Ok((printed, carried.tally))
 }
 
 /// What a line, without its end, is answered by: a line, of `why`, `list` and `dump` several, an empty one the last, or nothing
-/// where it is empty or begins with `#`. Fails only where memory is refused.
-pub fn answer_line(alloc: Global, session: &mut Session, line: &[u8]) -> Result<String, AllocError>
+/// where it is empty or begins with `#`. The line is counted. Fails only where memory is refused.
+pub fn answer_line(alloc: Global, carried: &mut Carried, line: &[u8]) -> Result<String, AllocError>
+    ensures { IfOk result (λ text. IsNext carried.old line.now (string_bytes text) carried.new) }
+{
+    let answer = answer_in(alloc, &mut carried.session, line)?;
+    carried.tally = carried.tally.with(line, answer.as_bytes());
+    Ok(answer)
+}
+
+/// What a line is answered by where this stands.
+fn answer_in(alloc: Global, session: &mut Session, line: &[u8]) -> Result<String, AllocError>
     ensures { IfOk result (λ text. IsAnswered session.old line.now (string_bytes text) session.new) }
 {
     if is_silent(line) {
@@ -59,7 +72,7 @@ pub fn answer_line(alloc: Global, session: &mut Session, line: &[u8]) -> Result<
 fn told(alloc: Global, session: &mut Session, line: &[u8]) -> Result<String, AllocError>
     ensures { IfOk result (λ text. IsTold session.old line.now (string_bytes text) session.new) }
 {
-    match read_line(alloc, session.is_open(), line) {
+    match read_line(alloc, session.manner().paths, session.is_open(), line) {
         Ok(Asked::Opening { readers, root }) => open_store(alloc, session, readers, &root),
         Ok(Asked::Asking(request)) => ask(alloc, session, &request),
         Ok(
@@ -72,6 +85,13 @@ fn told(alloc: Global, session: &mut Session, line: &[u8]) -> Result<String, All
         ) => explain(alloc, session, reader, path, &token, asked),
         Ok(Asked::Listing { path }) => list(alloc, session, &path),
         Ok(Asked::Dumping) => dump(alloc, session),
+        Ok(
+            Asked::Importing {
+                edit,
+                path,
+                inherited,
+            },
+        ) => import(alloc, session, edit, &path, &inherited),
         Err(Stop::Fault(fault)) => line_of_fault(alloc, fault),
         Err(Stop::Memory) => Err(AllocError),
     }
@@ -86,14 +106,14 @@ fn open_store(
 ) -> Result<String, AllocError>
     ensures { IfOk result (λ text. IsDone session.old (Opening readers root.now) (string_bytes text) session.new) }
 {
-    let mapping = session.mapping();
-    match Desk::start(alloc, &mapping, root, readers) {
+    let manner = session.manner();
+    match Desk::start(alloc, &manner.mapping, root, readers) {
         Ok(desk) => {
-            *session = Session::Opened(desk);
+            *session = Session::Opened(manner.paths, desk);
             counted_line(alloc, "opened", readers)
         }
         Err(error) => {
-            *session = Session::Closed(mapping);
+            *session = Session::Closed(manner);
             start_error_line(alloc, error)
         }
     }
@@ -105,7 +125,7 @@ fn ask(alloc: Global, session: &mut Session, request: &Request) -> Result<String
     ensures { IfOk result (λ text. IsDone session.old (Asking request.now) (string_bytes text) session.new) }
 {
     match session {
-        Session::Opened(desk) => {
+        Session::Opened(_, desk) => {
             let reply = desk.step(request);
             reply_line(alloc, &reply)
         }
@@ -126,9 +146,9 @@ fn explain(
     requires { is_open session.old ≡ true }
     ensures { IfOk result (λ text. IsDone session.old (Explaining reader path token.now asked) (string_bytes text) session.new) }
 {
-    let mapping = session.mapping();
+    let mapping = session.manner().mapping;
     match session {
-        Session::Opened(desk) => {
+        Session::Opened(_, desk) => {
             let reply = desk.step(&Request::Show { reader, path });
             explained_reply(alloc, &mapping, token, asked, &reply)
         }
@@ -142,7 +162,7 @@ fn list(alloc: Global, session: &Session, path: &Path) -> Result<String, AllocEr
     ensures { IfOk result (λ text. IsDone session.now (Listing path.now) (string_bytes text) session.now) }
 {
     match session {
-        Session::Opened(desk) => list_text(alloc, desk.published(), path),
+        Session::Opened(paths, desk) => list_text(alloc, *paths, desk.published(), path),
         Session::Closed(_) => unreachable!(),
     }
 }
@@ -153,7 +173,29 @@ fn dump(alloc: Global, session: &Session) -> Result<String, AllocError>
     ensures { IfOk result (λ text. IsDone session.now Dumping (string_bytes text) session.now) }
 {
     match session {
-        Session::Opened(desk) => dump_text(alloc, desk.published(), desk.readers()),
+        Session::Opened(paths, desk) => {
+            dump_text(alloc, *paths, desk.published(), desk.readers())
+        },
+        Session::Closed(_) => unreachable!(),
+    }
+}
+
+/// Adds a node to the store that is open, and tells whether it inherits what it had inherited elsewhere.
+fn import(
+    alloc: Global,
+    session: &mut Session,
+    edit: Edit,
+    path: &Path,
+    inherited: &Entries,
+) -> Result<String, AllocError>
+    requires { is_open session.old ≡ true }
+    ensures { IfOk result (λ text. IsDone session.old (Importing edit path.now inherited.now) (string_bytes text) session.new) }
+{
+    match session {
+        Session::Opened(_, desk) => {
+            let reply = desk.step(&Request::Edit(edit));
+            import_line(alloc, desk.draft(), path, inherited, &reply)
+        }
         Session::Closed(_) => unreachable!(),
     }
 }

@@ -1,17 +1,18 @@
 //! What stands between two lines of a script.
 ghost use Rattle.std.specs.Prelude.{◌≡◌};
-ghost use Rattle.sd_script.specs.Output.{is_open, mapping_of};
+ghost use Rattle.sd_script.specs.Output.{is_open, manner_of};
 
+use crate::manner::Manner;
+use crate::paths::PathSpelling;
 use sd_share::Desk;
-use sd_sid::GenericMapping;
 
 /// What stands between two lines of a script.
 #[derive(Drop)]
 pub enum Session {
-    /// No store is open. One that is opened maps generic rights so ([MS-DTYP] 2.4.3).
-    Closed(GenericMapping),
-    /// This store is open.
-    Opened(Desk),
+    /// No store is open. One that is opened is opened in this manner.
+    Closed(Manner),
+    /// This store is open, and paths are spelled so.
+    Opened(PathSpelling, Desk),
 }
 
 impl Session {
@@ -19,16 +20,19 @@ impl Session {
     pub(crate) fn is_open(&self) -> bool
         ensures { result ≡ is_open self.now }
     {
-        matches!(self, Session::Opened(_))
+        matches!(self, Session::Opened(_, _))
     }
 
-    /// By which mapping a store is opened, or is open.
-    pub(crate) fn mapping(&self) -> GenericMapping
-        ensures { result ≡ mapping_of self.now }
+    /// In which manner a store is opened, or is open.
+    pub(crate) fn manner(&self) -> Manner
+        ensures { result ≡ manner_of self.now }
     {
         match self {
-            Session::Closed(mapping) => *mapping,
-            Session::Opened(desk) => *desk.published().mapping(),
+            Session::Closed(manner) => *manner,
+            Session::Opened(paths, desk) => Manner {
+                mapping: *desk.published().mapping(),
+                paths: *paths,
+            },
         }
     }
 }

@@ -1,18 +1,19 @@
 //! A script over streams.
 
-ghost use Rattle.std.specs.Prelude.{◌≡◌, ◌≢◌, ◌||◌, Err, IfErr, OnOk};
+ghost use Rattle.std.specs.Prelude.{◌≡◌, ◌≢◌, ◌||◌, Err, IfErr, IfOk};
 ghost use Rattle.sd_stream.specs.Watched.{inner_of, has_failed};
 ghost use Rattle.sd_stream.specs.Whole.{is_read_error, is_write_error, ReadsPart};
-ghost use Rattle.sd_script.specs.Output.{Prints};
+ghost use Rattle.sd_script.specs.Output.{Prints, PrintsAndCounts};
 ghost use Rattle.sd_script.specs.Run.{AppendsOutput, LeavesOutput};
 
+use crate::manner::Manner;
 use crate::script::script_output;
-use sd_sid::GenericMapping;
+use crate::tally::Tally;
 use sd_stream::{RunError, Watched, read_whole, write_whole};
 use std::alloc::Global;
 use std::io::{Read, Write};
 
-/// Reads a whole script, whose store maps generic rights so ([MS-DTYP] 2.4.3), and writes its whole output.
+/// Reads a whole script, writes its whole output in this manner, and tells what is counted of its lines.
 ///
 /// - `Read`: the reader failed; nothing was written.
 /// - `TooLong`: more than 16,777,216 bytes were read; nothing was written.
@@ -20,13 +21,14 @@ use std::io::{Read, Write};
 /// - `Memory`: memory was refused; nothing was written.
 pub fn run<R: Read, W: Write>(
     alloc: Global,
-    mapping: &GenericMapping,
+    manner: &Manner,
     reader: &mut Watched<R>,
     writer: &mut Watched<W>,
-) -> Result<(), RunError>
-    ensures ok { OnOk result (AppendsOutput (Prints mapping.now) (R.remaining (inner_of reader.old))
+) -> Result<Tally, RunError>
+    ensures ok { IfOk result (λ tally. AppendsOutput (λ text printed. PrintsAndCounts manner.now text printed tally)
+        (R.remaining (inner_of reader.old))
         (W.contents (inner_of writer.old)) (W.contents (inner_of writer.new))) }
-    ensures err { IfErr result (LeavesOutput (Prints mapping.now) (R.remaining (inner_of reader.old))
+    ensures err { IfErr result (LeavesOutput (Prints manner.now) (R.remaining (inner_of reader.old))
         (W.contents (inner_of writer.old)) (W.contents (inner_of writer.new))) }
     ensures too_long { result ≡ Err RunError.TooLong
         → ReadsPart (R.remaining (inner_of reader.old)) (R.remaining (inner_of reader.new)) RunError.TooLong }
@@ -35,6 +37,7 @@ pub fn run<R: Read, W: Write>(
     ensures write { has_failed writer.new ≡ (has_failed writer.old || is_write_error result) }
 {
     let text = read_whole(alloc, reader)?;
-    let printed = script_output(alloc, mapping, &text)?;
-    write_whole(writer, &printed)
+    let (printed, tally) = script_output(alloc, manner, &text)?;
+    write_whole(writer, &printed)?;
+    Ok(tally)
 }

@@ -2,70 +2,105 @@
 use Rattle.std.proofs.Common.{◌≡◌, ℕ, List, [], ◌∷◌, ◌++◌, length, false, true, Ok, Err, Result, refl, inl, ap, ◌∙◌, append_assoc, arith}
 use Rattle.std.specs.Prelude.{IfOk, Option, Some}
 use Rattle.std.specs.Str.Lines.{lines}
-use Rattle.sd_sid.specs.Mapping.{MappingValue}
+use Rattle.sd_acl.specs.declared.ace.Ace.{Ace}
+use Rattle.sd_tree.specs.Names.{Names}
+use Rattle.sd_tree.specs.declared.edit.Edit.{Edit}
 use Rattle.sd_tree.specs.declared.opening.Opening.{Opening}
 use Rattle.sd_tree.specs.declared.opening.RootSpec.{RootSpec}
 use Rattle.sd_tree.specs.declared.refusal.EditRefusal.{EditRefusal}
-use Rattle.sd_share.specs.Machine.{started}
+use Rattle.sd_share.specs.Machine.{Machine, Steps, started}
 use Rattle.sd_share.specs.Starts.{IsStartError}
+use Rattle.sd_share.specs.declared.request.Reply.{Reply}
+use Rattle.sd_share.specs.declared.request.Request.TheVariants as requests
 use Rattle.sd_share.specs.declared.start.StartError.{StartError}
 use Rattle.sd_share.specs.declared.start.StartError.TheVariants.{Readers, Root, Memory, Place}
 use Rattle.sd_store.specs.Errors.{IsStoreError}
 use Rattle.sd_store.specs.Sights.{StoreState}
-use Rattle.sd_script.specs.Command.{line_asks}
+use Rattle.sd_store.specs.declared.query.Query.{Query}
+use Rattle.sd_script.specs.Importing.{IsImported}
 use Rattle.sd_script.specs.Lines.{is_silent}
-use Rattle.sd_script.specs.Output.{is_open}
+use Rattle.sd_script.specs.Output.{line_asks_in}
 use Rattle.sd_script.specs.Reply.{start_error_line}
+use Rattle.sd_script.specs.Tally.{tallied}
 use Rattle.sd_script.specs.declared.asked.Asked.{Asked}
-use Rattle.sd_script.specs.declared.asked.Asked.TheVariants.{Opening as Opens}
+use Rattle.sd_script.specs.declared.asked.Asked.TheVariants.{Opening as Opens, Importing}
+use Rattle.sd_script.specs.declared.manner.Manner.{Manner}
+use Rattle.sd_script.specs.declared.paths.PathSpelling.{PathSpelling}
 use Rattle.sd_script.specs.declared.session.Session.TheVariants.{Opened}
-use Rattle.sd_script_audit.specs.Audit.{Progress, IsDoneInAudit, IsAnsweredInAudit, AreAnsweredInAudit, unopened}
+use Rattle.sd_script.specs.declared.tally.Tally.{Tally}
+use Rattle.sd_script_audit.specs.Audit.{Audited, Progress, IsDoneInAudit, IsAnsweredInAudit, IsNextInAudit, AreAnsweredInAudit, unopened}
 use Rattle.sd_script_audit.specs.Parts.{IsOpenedAndAudited, OpensStore, machine_of}
+use Rattle.sd_script_audit.specs.declared.counted.Counted.{Counted}
 
 -- a line is answered as what it asks for is
 pub done_answers : {X E : Type 0} (bytes : X → List ℕ) (r : Result X E) (workers : ℕ) (old new : Progress) (line : List ℕ) (asked : Asked)
-    → is_silent line ≡ false → line_asks (is_open old.store) line (Ok asked)
+    → is_silent line ≡ false → line_asks_in old.store line (Ok asked)
     → IfOk r (λ text. IsDoneInAudit workers old asked (bytes text) new) → IfOk r (λ text. IsAnsweredInAudit workers old line (bytes text) new)
 done_answers bytes (Ok text) workers old new line asked loud asks done = rw loud (inl (asked, asks, done))
 done_answers bytes (Err e) workers old new line asked loud asks done = tt
 
-module _ (whole : List ℕ → Type 0) (g : MappingValue) (workers : ℕ) where
+-- an import is done as it is told
+pub import_done : {X E : Type 0} (bytes : X → List ℕ) (r : Result X E) (paths : PathSpelling) (workers : ℕ) (old new : Machine) (queries : List Query)
+    (e : Edit) (path : Names) (inherited : List Ace) (reply : Reply) → Steps old (requests.Edit e) reply new
+    → IfOk r (λ text. IsImported new path inherited reply (bytes text))
+    → IfOk r (λ text. IsDoneInAudit workers (record { store = Opened paths old; queries = queries }) (Importing e path inherited) (bytes text)
+    (record { store = Opened paths new; queries = queries }))
+import_done bytes (Ok text) paths workers old new queries e path inherited reply steps told = ((reply, new, steps, told, refl), refl)
+import_done bytes (Err error) paths workers old new queries e path inherited reply steps told = tt
+
+-- what stands with no store open, where this is counted
+abbrev pub before_opening : Manner → Tally → Audited
+before_opening manner tally = record { progress = unopened manner; tally = tally }
+
+module _ (whole : List ℕ → Tally → Type 0) (manner : Manner) (workers : ℕ) where
   -- what the lines after a line add to what is printed, the line adds with them
-  pub more_answered : (rest after line : List ℕ) (old new : Progress) (out answer grown : List ℕ)
-      → ((back : List ℕ) → AreAnsweredInAudit workers old (lines rest) back → whole (out ++ back))
-      → lines rest ≡ line ∷ lines after → IsAnsweredInAudit workers old line answer new → grown ≡ out ++ answer
-      → (back : List ℕ) → AreAnsweredInAudit workers new (lines after) back → whole (grown ++ back)
-  more_answered rest after line old new out answer grown so_far cut is longer back answered =
-      rw (longer, append_assoc) (so_far (answer ++ back) (rw cut (answer, new, back, is, answered, refl)))
+  pub more_answered : (rest after line : List ℕ) (old new : Audited) (out answer grown : List ℕ)
+      → ((back : List ℕ) (tally : Tally) → AreAnsweredInAudit workers old (lines rest) back tally → whole (out ++ back) tally)
+      → lines rest ≡ line ∷ lines after → IsNextInAudit workers old line answer new → grown ≡ out ++ answer
+      → (back : List ℕ) (tally : Tally) → AreAnsweredInAudit workers new (lines after) back tally → whole (grown ++ back) tally
+  more_answered rest after line old new out answer grown so_far cut is longer back tally answered =
+      rw (longer, append_assoc) (so_far (answer ++ back) tally (rw cut (answer, new, back, is, answered, refl)))
 
   -- after the last line comes the end
-  pub all_answered : (rest out : List ℕ) (old : Progress)
-      → ((back : List ℕ) → AreAnsweredInAudit workers old (lines rest) back → whole (out ++ back))
-      → length rest ≡ 0 → (back : List ℕ) → AreAnsweredInAudit workers old [] back → whole (out ++ back)
-  all_answered [] out old so_far none back end = so_far back end
-  all_answered (x ∷ rest) out old so_far none back end = absurd (omega (arith, none))
+  pub all_answered : (rest out : List ℕ) (old : Audited)
+      → ((back : List ℕ) (tally : Tally) → AreAnsweredInAudit workers old (lines rest) back tally → whole (out ++ back) tally)
+      → length rest ≡ 0 → (back : List ℕ) (tally : Tally) → AreAnsweredInAudit workers old [] back tally → whole (out ++ back) tally
+  all_answered [] out old so_far none back tally end = so_far back tally end
+  all_answered (x ∷ rest) out old so_far none back tally end = absurd (omega (arith, none))
 
   -- an opening line, and all after it
-  pub opened_whole : (rest after line : List ℕ) (root : RootSpec) (out now new : List ℕ)
-      → ((back : List ℕ) → AreAnsweredInAudit workers (unopened g) (lines rest) back → whole (out ++ back))
-      → lines rest ≡ line ∷ lines after → OpensStore line root → now ≡ out → IsOpenedAndAudited g workers root after true now new → whole new
-  opened_whole rest after line root out now new so_far cut opens same held =
-      let opened : Progress = record { store = Opened held.1; queries = [] } in
-      let is : IsAnsweredInAudit workers (unopened g) line held.0 opened = rw (opens.0) (inl (Opens opens.1.0 root, opens.1.1, (held.3, refl))) in
-      rw (held.5, same, append_assoc) (so_far (held.0 ++ held.2) (rw cut (held.0, opened, held.2, is, held.4, refl)))
+  pub opened_whole : (rest after line : List ℕ) (root : RootSpec) (old now new : Counted)
+      → ((back : List ℕ) (tally : Tally) → AreAnsweredInAudit workers (before_opening manner old.tally) (lines rest) back tally → whole (old.printed.items ++ back) tally)
+      → lines rest ≡ line ∷ lines after → OpensStore manner.paths line root → now ≡ old
+      → IsOpenedAndAudited manner workers root line after true now new → whole new.printed.items new.tally
+  opened_whole rest after line root old now new so_far cut opens same held =
+      let opened : Progress = record { store = Opened manner.paths held.1; queries = [] } in
+      let is : IsAnsweredInAudit workers (unopened manner) line held.0 opened = rw (opens.0) (inl (Opens opens.1.0 root, opens.1.1, (held.3, refl))) in
+      let between : Audited = record { progress = opened; tally = tallied line held.0 now.tally } in
+      let next : IsNextInAudit workers (before_opening manner old.tally) line held.0 between = record {
+        answered = is;
+        counted = ap (λ (c : Counted). tallied line held.0 c.tally) same;
+      } in
+      rw (held.5, same, append_assoc) (so_far (held.0 ++ held.2) new.tally (rw cut (held.0, between, held.2, next, held.4, refl)))
 
   -- an opening line that is refused
-  pub opened_refused : (rest after line : List ℕ) (root : RootSpec) (out now new : List ℕ)
-      → ((back : List ℕ) → AreAnsweredInAudit workers (unopened g) (lines rest) back → whole (out ++ back))
-      → lines rest ≡ line ∷ lines after → OpensStore line root → now ≡ out → IsOpenedAndAudited g workers root after false now new
-      → (back : List ℕ) → AreAnsweredInAudit workers (unopened g) (lines after) back → whole (new ++ back)
-  opened_refused rest after line root out now new so_far cut opens same held =
-      more_answered rest after line (unopened g) (unopened g) out held.0 new so_far cut
-      (rw (opens.0) (inl (Opens opens.1.0 root, opens.1.1, (held.1, refl)))) (held.2 ∙ ap (λ xs. xs ++ held.0) same)
+  pub opened_refused : (rest after line : List ℕ) (root : RootSpec) (old now new : Counted)
+      → ((back : List ℕ) (tally : Tally) → AreAnsweredInAudit workers (before_opening manner old.tally) (lines rest) back tally → whole (old.printed.items ++ back) tally)
+      → lines rest ≡ line ∷ lines after → OpensStore manner.paths line root → now ≡ old
+      → IsOpenedAndAudited manner workers root line after false now new
+      → (back : List ℕ) (tally : Tally) → AreAnsweredInAudit workers (before_opening manner new.tally) (lines after) back tally → whole (new.printed.items ++ back) tally
+  opened_refused rest after line root old now new so_far cut opens same held =
+      more_answered rest after line (before_opening manner old.tally) (before_opening manner new.tally) old.printed.items held.0 new.printed.items so_far cut
+      (record {
+        answered = rw (opens.0) (inl (Opens opens.1.0 root, opens.1.1, (held.1, refl)));
+        counted = held.2 ∙ ap (λ (c : Counted). tallied line held.0 c.tally) same;
+      })
+      (held.3 ∙ ap (λ (c : Counted). c.printed.items ++ held.0) same)
 
 -- a writer that has just started stands for a machine that has
-pub machine_started : (o own : Opening) (n : ℕ) (w : StoreState) → o ≡ own → w.journal ≡ [] → w.pending ≡ [] → Opened (machine_of own n w) ≡ Opened (started o n)
-machine_started o own n w is journal pending = rw (is, journal, pending) refl
+pub machine_started : (paths : PathSpelling) (o own : Opening) (n : ℕ) (w : StoreState) → o ≡ own → w.journal ≡ [] → w.pending ≡ []
+    → Opened paths (machine_of own n w) ≡ Opened paths (started o n)
+machine_started paths o own n w is journal pending = rw (is, journal, pending) refl
 
 -- an error with a line is one of a store of one thread
 pub told_error : (e : StartError) (n : ℕ) (due : Option EditRefusal) (text : List ℕ) → IsStoreError e n due → start_error_line e ≡ Some text → IsStartError e n due

@@ -3,13 +3,16 @@ use Rattle.std.proofs.Common.{◌≡◌, ◌⊎◌, ℕ, Bool, true, false, List
 use Rattle.std.specs.Prelude.{MatchBool, codes}
 use Rattle.std.specs.List.{flat_map}
 use Rattle.std.specs.Str.Lines.{lines}
-use Rattle.sd_sid.specs.Mapping.{MappingValue}
+use Rattle.sd_acl.specs.declared.ace.Ace.{Ace}
 use Rattle.sd_tree.specs.Journal.{opening_of}
+use Rattle.sd_tree.specs.Names.{Names}
 use Rattle.sd_tree.specs.declared.edit.Edit.{Edit}
 use Rattle.sd_tree.specs.declared.opening.RootSpec.{RootSpec}
 use Rattle.sd_tree.specs.declared.refusal.EditRefusal.{EditRefusal}
-use Rattle.sd_share.specs.Machine.{Machine, due, started}
+use Rattle.sd_share.specs.Machine.{Machine, Steps, due, started, with_edit}
 use Rattle.sd_share.specs.Starts.{IsReaderCount, IsStartError}
+use Rattle.sd_share.specs.declared.request.Reply.{Reply}
+use Rattle.sd_share.specs.declared.request.Reply.TheVariants as replies
 use Rattle.sd_share.specs.declared.request.Request.{Request}
 use Rattle.sd_share.specs.declared.request.Request.TheVariants as requests
 use Rattle.sd_share.specs.declared.start.StartError.{StartError}
@@ -17,17 +20,21 @@ use Rattle.sd_share.specs.declared.start.StartError.TheVariants as starts
 use Rattle.sd_store.specs.declared.query.Query.{Query}
 use Rattle.sd_script.specs.Command.{line_asks}
 use Rattle.sd_script.specs.Fault.{line_of_fault}
+use Rattle.sd_script.specs.Importing.{IsImported}
 use Rattle.sd_script.specs.Lines.{is_silent}
-use Rattle.sd_script.specs.Output.{IsDone, IsOpened, is_open}
+use Rattle.sd_script.specs.Output.{IsDone, IsOpened, line_asks_in}
 use Rattle.sd_script.specs.Reply.{counted_line, refused_line, start_error_line}
 use Rattle.sd_script.specs.declared.asked.Asked.{Asked}
-use Rattle.sd_script.specs.declared.asked.Asked.TheVariants.{Opening as Opens, Asking, Explaining, Listing, Dumping}
+use Rattle.sd_script.specs.declared.asked.Asked.TheVariants.{Opening as Opens, Asking, Explaining, Listing, Dumping, Importing}
 use Rattle.sd_script.specs.declared.fault.LineFault.{LineFault}
+use Rattle.sd_script.specs.declared.manner.Manner.{Manner}
+use Rattle.sd_script.specs.declared.paths.PathSpelling.{PathSpelling}
 use Rattle.sd_script.specs.declared.session.Session.TheVariants as sessions
+use Rattle.sd_script.specs.declared.tally.Tally.{Tally}
 use Rattle.sd_script.proofs.OneOutput.{no_error, edited, outcome, one_step}
 use Rattle.sd_script.proofs.OneReading.{line-one}
 use Rattle.sd_script.proofs.Timely.{line_opens}
-use Rattle.sd_script_audit.specs.Audit.{Progress, IsDoneInAudit, AreAnsweredInAudit, IsEnd, answer_line, last_publish, unopened}
+use Rattle.sd_script_audit.specs.Audit.{Audited, Progress, IsDoneInAudit, IsAnsweredInAudit, AreAnsweredInAudit, IsEnd, answer_line, begun, last_publish, unopened}
 use Rattle.sd_script_audit.specs.Laws.{DifferInOpening, WorkersShowInTheOpening}
 
 -- ---- machines that differ in their readers alone
@@ -48,14 +55,46 @@ same_outcome : (x y : Machine) (r : Request) → unread_after (outcome x r) ≡ 
     → unread_after (outcome y r) ≡ unread_after (outcome (unread y) r) → unread x ≡ unread y → unread_after (outcome x r) ≡ unread_after (outcome y r)
 same_outcome x y r one other alike = one ∙ ap (λ m. unread_after (outcome m r)) alike ∙ sym other
 
+-- ---- imports into such machines
+
+imported_one : (m : Machine) (path : Names) (inherited : List Ace) (p q : List ℕ)
+    → IsImported m path inherited replies.Edited p → IsImported m path inherited replies.Edited q → p ≡ q
+imported_one m path inherited p q (inl one) (inl other) = one.1 ∙ sym other.1
+imported_one m path inherited p q (inl one) (inr other) = absurd (other.0 one.0)
+imported_one m path inherited p q (inr one) (inl other) = absurd (one.0 other.0)
+imported_one m path inherited p q (inr one) (inr other) = one.1 ∙ sym other.1
+
+same_import : (a b : Machine) (e : Edit) (r s : Reply) (x y : Machine) (p q : List ℕ) (path : Names) (inherited : List Ace) → unread a ≡ unread b
+    → Steps a (requests.Edit e) r x → Steps b (requests.Edit e) s y → IsImported x path inherited r p → IsImported y path inherited s q
+    → (p ≡ q) × (unread x ≡ unread y)
+same_import a b e replies.Edited replies.Edited x y p q path inherited alike one other first second =
+    let same : unread x ≡ unread y = ap unread one.1 ∙ ap (λ m. unread (with_edit m e)) alike ∙ sym (ap unread other.1) in
+    (imported_one y path inherited p q (subst (λ m. IsImported m path inherited replies.Edited p) same first) second, same)
+same_import a b e replies.Edited (replies.Refused later) x y p q path inherited alike one other first second =
+    absurd (let no = sym one.0 ∙ ap (λ m. due m e) alike ∙ other.0 in cc (no))
+same_import a b e (replies.Refused refusal) replies.Edited x y p q path inherited alike one other first second =
+    absurd (let no = sym one.0 ∙ ap (λ m. due m e) alike ∙ other.0 in cc (no))
+same_import a b e (replies.Refused refusal) (replies.Refused later) x y p q path inherited alike one other first second =
+    let same = sym one.0 ∙ ap (λ m. due m e) alike ∙ other.0 in
+    let told : refusal ≡ later = cc (same) in
+    let texts = sym first ∙ ap (λ r. Some (refused_line r)) told ∙ second in
+    (cc (texts), ap unread one.1 ∙ alike ∙ sym (ap unread other.1))
+same_import a b e replies.Edited replies.Memory x y p q path inherited alike one other first second = absurd (cc (second))
+same_import a b e (replies.Refused refusal) replies.Memory x y p q path inherited alike one other first second = absurd (cc (second))
+same_import a b e replies.Memory s x y p q path inherited alike one other first second = absurd (cc (first))
+same_import a b e replies.Edited s x y p q path inherited alike one other first second = absurd other
+same_import a b e (replies.Refused refusal) s x y p q path inherited alike one other first second = absurd other
+same_import a b e r s x y p q path inherited alike one other first second = absurd one
+
 -- ---- stores that differ in their readers alone
 
 -- both are open
 pub record AreAlike (a b : Progress) : Type 0 where
+  pub paths : PathSpelling
   pub one : Machine
   pub other : Machine
-  pub one_is : a.store ≡ sessions.Opened one
-  pub other_is : b.store ≡ sessions.Opened other
+  pub one_is : a.store ≡ sessions.Opened paths one
+  pub other_is : b.store ≡ sessions.Opened paths other
   pub alike : unread one ≡ unread other
   pub queries : a.queries ≡ b.queries
 
@@ -72,11 +111,32 @@ module _ (a b : Progress) (alike : AreAlike a b) where
       ∙ sym (ap unread_after (one_step alike.other r second.0 second.1 q second.2 second.3)) in (
         ap (λ (x : List ℕ × Machine). x.0) same,
         record {
+          paths = alike.paths;
           one = first.1;
           other = second.1;
           one_is = first.4;
           other_is = second.4;
           alike = ap (λ (x : List ℕ × Machine). x.1) same;
+          queries = one.1 ∙ alike.queries ∙ sym other.1;
+        },
+      )
+
+  -- an import into both stores
+  imports_alike : (e : Edit) (path : Names) (inherited : List Ace) (p q : List ℕ) (c d : Progress)
+      → IsDone a.store (Importing e path inherited) p c.store × (c.queries ≡ a.queries)
+      → IsDone b.store (Importing e path inherited) q d.store × (d.queries ≡ b.queries) → (p ≡ q) × AreAlike c d
+  imports_alike e path inherited p q c d one other =
+      let first = subst (λ s. IsDone s (Importing e path inherited) p c.store) alike.one_is one.0 in
+      let second = subst (λ s. IsDone s (Importing e path inherited) q d.store) alike.other_is other.0 in
+      let same = same_import alike.one alike.other e first.0 second.0 first.1 second.1 p q path inherited alike.alike first.2 second.2 first.3 second.3 in (
+        same.0,
+        record {
+          paths = alike.paths;
+          one = first.1;
+          other = second.1;
+          one_is = first.4;
+          other_is = second.4;
+          alike = same.1;
           queries = one.1 ∙ alike.queries ∙ sym other.1;
         },
       )
@@ -96,6 +156,7 @@ module _ (a b : Progress) (alike : AreAlike a b) where
   done_alike n m (requests.Check reader path token asked) p q c d one other = (
     one.0 ∙ sym other.0,
     record {
+      paths = alike.paths;
       one = alike.one;
       other = alike.other;
       one_is = ap (λ (x : Progress). x.store) one.1 ∙ alike.one_is;
@@ -112,37 +173,38 @@ module _ (a b : Progress) (alike : AreAlike a b) where
 -- a line that isn't silent is answered
 abbrev Loud : ℕ → Progress → List ℕ → List ℕ → Progress → Type 0
 Loud n a text p c =
-    ((asked : Asked) × line_asks (is_open a.store) text (Ok asked) × IsDoneInAudit n a asked p c)
-    ⊎ ((fault : LineFault) × line_asks (is_open a.store) text (Err fault) × (p ≡ line_of_fault fault) × (c ≡ a))
+    ((asked : Asked) × line_asks_in a.store text (Ok asked) × IsDoneInAudit n a asked p c)
+    ⊎ ((fault : LineFault) × line_asks_in a.store text (Err fault) × (p ≡ line_of_fault fault) × (c ≡ a))
 
 module _ (n m : ℕ) (text : List ℕ) where
-  asking_alike : (a b : Progress) (asked : Asked) (p q : List ℕ) (c d : Progress) → AreAlike a b → line_asks true text (Ok asked)
+  asking_alike : (a b : Progress) (asked : Asked) (p q : List ℕ) (c d : Progress) → (alike : AreAlike a b) → line_asks alike.paths true text (Ok asked)
       → IsDoneInAudit n a asked p c → IsDoneInAudit m b asked q d → (p ≡ q) × AreAlike c d
-  asking_alike a b (Opens readers root) p q c d alike asks one other = absurd (let no = line_opens true text (Opens readers root) asks in cc (no))
+  asking_alike a b (Opens readers root) p q c d alike asks one other = absurd (let no = line_opens alike.paths true text (Opens readers root) asks in cc (no))
   asking_alike a b (Asking r) p q c d alike asks one other = done_alike a b alike n m r p q c d one other
   asking_alike a b (Explaining reader path token asked) p q c d alike asks one other = stay_alike a b alike _ p q c d one other
   asking_alike a b (Listing path) p q c d alike asks one other = stay_alike a b alike _ p q c d one other
   asking_alike a b Dumping p q c d alike asks one other = stay_alike a b alike _ p q c d one other
+  asking_alike a b (Importing e path inherited) p q c d alike asks one other = imports_alike a b alike e path inherited p q c d one other
 
   loud_alike : (a b : Progress) (p q : List ℕ) (c d : Progress) → AreAlike a b → Loud n a text p c → Loud m b text q d → (p ≡ q) × AreAlike c d
   loud_alike a b p q c d alike (inl one) (inl other) =
-      let first = subst (λ s. line_asks (is_open s) text (Ok one.0)) alike.one_is one.1 in
-      let second = subst (λ s. line_asks (is_open s) text (Ok other.0)) alike.other_is other.1 in
-      let same = line-one true text (Ok one.0) (Ok other.0) first second in
+      let first = subst (λ s. line_asks_in s text (Ok one.0)) alike.one_is one.1 in
+      let second = subst (λ s. line_asks_in s text (Ok other.0)) alike.other_is other.1 in
+      let same = line-one alike.paths true text (Ok one.0) (Ok other.0) first second in
       let asked : one.0 ≡ other.0 = cc (same) in
       asking_alike a b other.0 p q c d alike second (subst (λ x. IsDoneInAudit n a x p c) asked one.2) other.2
   loud_alike a b p q c d alike (inl one) (inr other) = absurd (
-      let first = subst (λ s. line_asks (is_open s) text (Ok one.0)) alike.one_is one.1 in
-      let second = subst (λ s. line_asks (is_open s) text (Err other.0)) alike.other_is other.1 in
-      let no = line-one true text (Ok one.0) (Err other.0) first second in cc (no))
+      let first = subst (λ s. line_asks_in s text (Ok one.0)) alike.one_is one.1 in
+      let second = subst (λ s. line_asks_in s text (Err other.0)) alike.other_is other.1 in
+      let no = line-one alike.paths true text (Ok one.0) (Err other.0) first second in cc (no))
   loud_alike a b p q c d alike (inr one) (inl other) = absurd (
-      let first = subst (λ s. line_asks (is_open s) text (Err one.0)) alike.one_is one.1 in
-      let second = subst (λ s. line_asks (is_open s) text (Ok other.0)) alike.other_is other.1 in
-      let no = line-one true text (Err one.0) (Ok other.0) first second in cc (no))
+      let first = subst (λ s. line_asks_in s text (Err one.0)) alike.one_is one.1 in
+      let second = subst (λ s. line_asks_in s text (Ok other.0)) alike.other_is other.1 in
+      let no = line-one alike.paths true text (Err one.0) (Ok other.0) first second in cc (no))
   loud_alike a b p q c d alike (inr one) (inr other) =
-      let first = subst (λ s. line_asks (is_open s) text (Err one.0)) alike.one_is one.1 in
-      let second = subst (λ s. line_asks (is_open s) text (Err other.0)) alike.other_is other.1 in
-      let same = line-one true text (Err one.0) (Err other.0) first second in
+      let first = subst (λ s. line_asks_in s text (Err one.0)) alike.one_is one.1 in
+      let second = subst (λ s. line_asks_in s text (Err other.0)) alike.other_is other.1 in
+      let same = line-one alike.paths true text (Err one.0) (Err other.0) first second in
       let fault : one.0 ≡ other.0 = cc (same) in
       stay_alike a b alike (line_of_fault other.0) p q c d (one.2 ∙ ap line_of_fault fault, one.3) (other.2, other.3)
 
@@ -157,21 +219,21 @@ end_of x queries =
     ++ flat_map (answer_line x.opening (x.published ++ x.pending)) queries
 
 -- what is printed from an open store on
-all_alike : (n m : ℕ) (texts : List (List ℕ)) (a b : Progress) (p q : List ℕ) → AreAlike a b
-    → AreAnsweredInAudit n a texts p → AreAnsweredInAudit m b texts q → p ≡ q
-all_alike n m [] a b p q alike one other =
-    let first : p ≡ end_of alike.one a.queries = subst (λ s. IsEnd s a.queries p) alike.one_is one in
-    let second : q ≡ end_of alike.other b.queries = subst (λ s. IsEnd s b.queries q) alike.other_is other in
-    first ∙ ap (λ x. end_of x a.queries) alike.alike ∙ ap (end_of alike.other) alike.queries ∙ sym second
-all_alike n m (text ∷ texts) a b p q alike one other =
-    let first = by_silence n m text (is_silent text) a b one.0 other.0 one.1 other.1 alike one.3 other.3 in
-    let rest = all_alike n m texts one.1 other.1 one.2 other.2 first.1 one.4 other.4 in
+all_alike : (n m : ℕ) (texts : List (List ℕ)) (a b : Audited) (p q : List ℕ) (x y : Tally) → AreAlike a.progress b.progress
+    → AreAnsweredInAudit n a texts p x → AreAnsweredInAudit m b texts q y → p ≡ q
+all_alike n m [] a b p q x y alike one other =
+    let first : p ≡ end_of alike.one a.progress.queries = subst (λ s. IsEnd s a.progress.queries p) alike.one_is one.0 in
+    let second : q ≡ end_of alike.other b.progress.queries = subst (λ s. IsEnd s b.progress.queries q) alike.other_is other.0 in
+    first ∙ ap (λ x. end_of x a.progress.queries) alike.alike ∙ ap (end_of alike.other) alike.queries ∙ sym second
+all_alike n m (text ∷ texts) a b p q x y alike one other =
+    let first = by_silence n m text (is_silent text) a.progress b.progress one.0 other.0 one.1.progress other.1.progress alike one.3.answered other.3.answered in
+    let rest = all_alike n m texts one.1 other.1 one.2 other.2 x y first.1 one.4 other.4 in
     one.5 ∙ ap (λ xs. xs ++ one.2) first.0 ∙ ap (λ xs. other.0 ++ xs) rest ∙ sym other.5
 
 -- ---- before a store is open
 
-progress_is : (g : MappingValue) (a : Progress) → a.store ≡ sessions.Closed g → a.queries ≡ [] → a ≡ unopened g
-progress_is g a store queries =
+progress_is : (manner : Manner) (a : Progress) → a.store ≡ sessions.Closed manner → a.queries ≡ [] → a ≡ unopened manner
+progress_is manner a store queries =
     subst (λ s. a ≡ record { store = s; queries = [] }) store (subst (λ (xs : List Query). a ≡ record { store = a.store; queries = xs }) queries refl)
 
 -- an error with a line, of a number of readers that a store can have
@@ -183,21 +245,22 @@ root_error (starts.Root r) n due p count is text = (r, is.1, text)
 root_error starts.Memory n due p count is text = absurd (cc (text))
 root_error starts.Place n due p count is text = absurd is
 
-module _ (g : MappingValue) (n m : ℕ) (some : IsReaderCount n) (others : IsReaderCount m) where
+module _ (manner : Manner) (n m : ℕ) (some : IsReaderCount n) (others : IsReaderCount m) where
   -- no store is open afterwards, or both are
   abbrev Opened : List ℕ → List ℕ → Progress → Progress → Type 0
   Opened p q c d =
-      ((p ≡ q) × (c ≡ unopened g) × (d ≡ unopened g))
+      ((p ≡ q) × (c ≡ unopened manner) × (d ≡ unopened manner))
       ⊎ ((p ≡ counted_line (codes "opened") n) × (q ≡ counted_line (codes "opened") m) × AreAlike c d)
 
-  opening : (root : RootSpec) (p q : List ℕ) (c d : Progress) → IsOpened g n root p c.store × (c.queries ≡ [])
-      → IsOpened g m root q d.store × (d.queries ≡ []) → Opened p q c d
+  opening : (root : RootSpec) (p q : List ℕ) (c d : Progress) → IsOpened manner n root p c.store × (c.queries ≡ [])
+      → IsOpened manner m root q d.store × (d.queries ≡ []) → Opened p q c d
   opening root p q c d (inl one, none) (inl other, nothing) = inr (
     one.2,
     other.2,
     record {
-      one = started (opening_of g root) n;
-      other = started (opening_of g root) m;
+      paths = manner.paths;
+      one = started (opening_of manner.mapping root) n;
+      other = started (opening_of manner.mapping root) m;
       one_is = one.3;
       other_is = other.3;
       alike = refl;
@@ -213,32 +276,34 @@ module _ (g : MappingValue) (n m : ℕ) (some : IsReaderCount n) (others : IsRea
       let refusals : first.0 ≡ second.0 = cc (dues) in
       let texts = sym first.2 ∙ ap (λ r. Some (refused_line r)) refusals ∙ second.2 in
       let same : p ≡ q = cc (texts) in
-      inl (same, progress_is g c one.3 none, progress_is g d other.3 nothing)
+      inl (same, progress_is manner c one.3 none, progress_is manner d other.3 nothing)
 
   module _ (text : List ℕ) where
-    opening_asked : (asked : Asked) (p q : List ℕ) (c d : Progress) → line_asks false text (Ok asked)
-        → IsDoneInAudit n (unopened g) asked p c → IsDoneInAudit m (unopened g) asked q d → Opened p q c d
+    opening_asked : (asked : Asked) (p q : List ℕ) (c d : Progress) → line_asks manner.paths false text (Ok asked)
+        → IsDoneInAudit n (unopened manner) asked p c → IsDoneInAudit m (unopened manner) asked q d → Opened p q c d
     opening_asked (Opens readers root) p q c d asks one other = opening root p q c d one other
-    opening_asked (Asking r) p q c d asks one other = absurd (let no = line_opens false text (Asking r) asks in cc (no))
+    opening_asked (Asking r) p q c d asks one other = absurd (let no = line_opens manner.paths false text (Asking r) asks in cc (no))
     opening_asked (Explaining reader path token asked) p q c d asks one other =
-        absurd (let no = line_opens false text (Explaining reader path token asked) asks in cc (no))
-    opening_asked (Listing path) p q c d asks one other = absurd (let no = line_opens false text (Listing path) asks in cc (no))
-    opening_asked Dumping p q c d asks one other = absurd (let no = line_opens false text Dumping asks in cc (no))
+        absurd (let no = line_opens manner.paths false text (Explaining reader path token asked) asks in cc (no))
+    opening_asked (Listing path) p q c d asks one other = absurd (let no = line_opens manner.paths false text (Listing path) asks in cc (no))
+    opening_asked Dumping p q c d asks one other = absurd (let no = line_opens manner.paths false text Dumping asks in cc (no))
+    opening_asked (Importing e path inherited) p q c d asks one other =
+        absurd (let no = line_opens manner.paths false text (Importing e path inherited) asks in cc (no))
 
-    loud_unopened : (p q : List ℕ) (c d : Progress) → Loud n (unopened g) text p c → Loud m (unopened g) text q d → Opened p q c d
+    loud_unopened : (p q : List ℕ) (c d : Progress) → Loud n (unopened manner) text p c → Loud m (unopened manner) text q d → Opened p q c d
     loud_unopened p q c d (inl one) (inl other) =
-        let same = line-one false text (Ok one.0) (Ok other.0) one.1 other.1 in
+        let same = line-one manner.paths false text (Ok one.0) (Ok other.0) one.1 other.1 in
         let asked : one.0 ≡ other.0 = cc (same) in
-        opening_asked other.0 p q c d other.1 (subst (λ x. IsDoneInAudit n (unopened g) x p c) asked one.2) other.2
-    loud_unopened p q c d (inl one) (inr other) = absurd (let no = line-one false text (Ok one.0) (Err other.0) one.1 other.1 in cc (no))
-    loud_unopened p q c d (inr one) (inl other) = absurd (let no = line-one false text (Err one.0) (Ok other.0) one.1 other.1 in cc (no))
+        opening_asked other.0 p q c d other.1 (subst (λ x. IsDoneInAudit n (unopened manner) x p c) asked one.2) other.2
+    loud_unopened p q c d (inl one) (inr other) = absurd (let no = line-one manner.paths false text (Ok one.0) (Err other.0) one.1 other.1 in cc (no))
+    loud_unopened p q c d (inr one) (inl other) = absurd (let no = line-one manner.paths false text (Err one.0) (Ok other.0) one.1 other.1 in cc (no))
     loud_unopened p q c d (inr one) (inr other) =
-        let same = line-one false text (Err one.0) (Err other.0) one.1 other.1 in
+        let same = line-one manner.paths false text (Err one.0) (Err other.0) one.1 other.1 in
         let fault : one.0 ≡ other.0 = cc (same) in
         inl (one.2 ∙ ap line_of_fault fault ∙ sym other.2, one.3, other.3)
 
-    unopened_by_silence : (silent : Bool) (p q : List ℕ) (c d : Progress) → MatchBool silent ((p ≡ []) × (c ≡ unopened g)) (Loud n (unopened g) text p c)
-        → MatchBool silent ((q ≡ []) × (d ≡ unopened g)) (Loud m (unopened g) text q d) → Opened p q c d
+    unopened_by_silence : (silent : Bool) (p q : List ℕ) (c d : Progress) → MatchBool silent ((p ≡ []) × (c ≡ unopened manner)) (Loud n (unopened manner) text p c)
+        → MatchBool silent ((q ≡ []) × (d ≡ unopened manner)) (Loud m (unopened manner) text q d) → Opened p q c d
     unopened_by_silence true p q c d one other = inl (one.0 ∙ sym other.0, one.1, other.1)
     unopened_by_silence false p q c d one other = loud_unopened p q c d one other
 
@@ -252,22 +317,28 @@ module _ (g : MappingValue) (n m : ℕ) (some : IsReaderCount n) (others : IsRea
     other ∙ ap (λ zs. first ++ zs) differ.3 ∙ simp append_assoc,
   )
 
-  after_opening : (texts : List (List ℕ)) (p q first second xs ys : List ℕ) (c d : Progress) → p ≡ first ++ xs → q ≡ second ++ ys → Opened first second c d
-      → AreAnsweredInAudit n c texts xs → AreAnsweredInAudit m d texts ys
-      → (AreAnsweredInAudit n (unopened g) texts xs → AreAnsweredInAudit m (unopened g) texts ys → DifferInOpening n m xs ys) → DifferInOpening n m p q
-  after_opening texts p q first second xs ys c d one other (inl same) answered answers rest =
-      after_line second p q xs ys (one ∙ ap (λ zs. zs ++ xs) same.0) other
-      (rest (subst (λ e. AreAnsweredInAudit n e texts xs) same.1 answered) (subst (λ e. AreAnsweredInAudit m e texts ys) same.2 answers))
-  after_opening texts p q first second xs ys c d one other (inr opened) answered answers rest =
-      let same = all_alike n m texts c d xs ys opened.2 answered answers in
+  after_opening : (texts : List (List ℕ)) (p q first second xs ys : List ℕ) (c d : Audited) (x y : Tally) → p ≡ first ++ xs → q ≡ second ++ ys
+      → Opened first second c.progress d.progress → AreAnsweredInAudit n c texts xs x → AreAnsweredInAudit m d texts ys y
+      → (c.progress ≡ unopened manner → d.progress ≡ unopened manner → DifferInOpening n m xs ys) → DifferInOpening n m p q
+  after_opening texts p q first second xs ys c d x y one other (inl same) answered answers rest =
+      after_line second p q xs ys (one ∙ ap (λ zs. zs ++ xs) same.0) other (rest same.1 same.2)
+  after_opening texts p q first second xs ys c d x y one other (inr opened) answered answers rest =
+      let same = all_alike n m texts c d xs ys x y opened.2 answered answers in
       inr ([], ys, one ∙ ap (λ zs. zs ++ xs) opened.0 ∙ ap (λ zs. counted_line (codes "opened") n ++ zs) same, other ∙ ap (λ zs. zs ++ ys) opened.1)
 
-  all_differ : (texts : List (List ℕ)) (p q : List ℕ) → AreAnsweredInAudit n (unopened g) texts p → AreAnsweredInAudit m (unopened g) texts q → DifferInOpening n m p q
-  all_differ [] p q one other = inl (one ∙ sym other)
-  all_differ (text ∷ texts) p q one other =
-      after_opening texts p q one.0 other.0 one.2 other.2 one.1 other.1 one.5 other.5
-      (unopened_by_silence text (is_silent text) one.0 other.0 one.1 other.1 one.3 other.3) one.4 other.4
-      (λ answered answers. all_differ texts one.2 other.2 answered answers)
+  all_differ : (texts : List (List ℕ)) (a b : Audited) (p q : List ℕ) (x y : Tally) → a.progress ≡ unopened manner → b.progress ≡ unopened manner
+      → AreAnsweredInAudit n a texts p x → AreAnsweredInAudit m b texts q y → DifferInOpening n m p q
+  all_differ [] a b p q x y closed shut one other =
+      let first : p ≡ [] = subst (λ (e : Progress). IsEnd e.store e.queries p) closed one.0 in
+      let second : q ≡ [] = subst (λ (e : Progress). IsEnd e.store e.queries q) shut other.0 in
+      inl (first ∙ sym second)
+  all_differ (text ∷ texts) a b p q x y closed shut one other =
+      after_opening texts p q one.0 other.0 one.2 other.2 one.1 other.1 x y one.5 other.5
+      (unopened_by_silence text (is_silent text) one.0 other.0 one.1.progress other.1.progress
+      (subst (λ e. IsAnsweredInAudit n e text one.0 one.1.progress) closed one.3.answered)
+      (subst (λ e. IsAnsweredInAudit m e text other.0 other.1.progress) shut other.3.answered)) one.4 other.4
+      (λ still yet. all_differ texts one.1 other.1 one.2 other.2 x y still yet one.4 other.4)
 
 pub workers_show_in_the_opening : WorkersShowInTheOpening
-workers_show_in_the_opening g n m text one other some others prints other_prints = all_differ g n m some others (lines text) one other prints other_prints
+workers_show_in_the_opening manner n m text one other some others prints other_prints =
+    all_differ manner n m some others (lines text) (begun manner) (begun manner) one other prints.0 other_prints.0 refl refl prints.1 other_prints.1

@@ -3,7 +3,6 @@
 use Rattle.std.specs.Prelude.{◌≡◌, ◌⊎◌, ℕ, List, [], ◌∷◌, ◌++◌, length, Ok, Err, MatchBool, codes}
 use Rattle.std.specs.List.{flat_map}
 use Rattle.std.specs.Str.Lines.{lines}
-use Rattle.sd_sid.specs.Mapping.{MappingValue}
 use Rattle.sd_tree.specs.declared.edit.Edit.{Edit}
 use Rattle.sd_tree.specs.declared.opening.Opening.{Opening}
 use Rattle.sd_share.specs.Machine.{accepted}
@@ -11,25 +10,27 @@ use Rattle.sd_share.specs.declared.request.Request.TheVariants.{Check, Tell, Lea
 use Rattle.sd_store.specs.Audits.{reply_by}
 use Rattle.sd_store.specs.declared.query.Query.{Query}
 use Rattle.sd_script.specs.Answer.{fault_line}
-use Rattle.sd_script.specs.Command.{line_asks}
 use Rattle.sd_script.specs.Fault.{line_of_fault}
 use Rattle.sd_script.specs.Lines.{is_silent}
-use Rattle.sd_script.specs.Output.{IsDone, IsOpened, is_open, mapping_of}
+use Rattle.sd_script.specs.Output.{IsDone, IsOpened, line_asks_in, manner_of}
 use Rattle.sd_script.specs.Reply.{check_line, counted_line, seen_line}
+use Rattle.sd_script.specs.Tally.{no_lines, tallied}
 use Rattle.sd_script.specs.declared.asked.Asked.{Asked}
 use Rattle.sd_script.specs.declared.asked.Asked.TheVariants.{Opening as Opens, Asking, Explaining, Listing, Dumping}
 use Rattle.sd_script.specs.declared.fault.LineFault.{LineFault}
+use Rattle.sd_script.specs.declared.manner.Manner.{Manner}
 use Rattle.sd_script.specs.declared.session.Session.{Session}
 use Rattle.sd_script.specs.declared.session.Session.TheVariants.{Closed, Opened}
+use Rattle.sd_script.specs.declared.tally.Tally.{Tally}
 
 -- what stands between two lines: the store, where one is open, and the queries so far
 pub record Progress : Type 0 where
   pub store : Session
   pub queries : List Query
 
--- no store is open, one is opened with this mapping, and nothing was asked
-abbrev pub unopened : MappingValue → Progress
-unopened g = record { store = Closed g; queries = [] }
+-- no store is open, one is opened in this manner, and nothing was asked
+abbrev pub unopened : Manner → Progress
+unopened manner = record { store = Closed manner; queries = [] }
 
 -- of what only a script does a fault is told
 abbrev pub IsForScripts : Progress → List ℕ → Progress → Type 0
@@ -38,7 +39,7 @@ IsForScripts old printed new = (printed ≡ fault_line (codes "audit")) × (new 
 -- what is asked is done as in a script, but that a store is opened for the workers, that a check is kept, and that an
 -- audit tells, teaches, shows, explains, lists and dumps nothing
 abbrev pub IsDoneInAudit : ℕ → Progress → Asked → List ℕ → Progress → Type 0
-IsDoneInAudit workers old (Opens readers root) printed new = IsOpened (mapping_of old.store) workers root printed new.store × (new.queries ≡ old.queries)
+IsDoneInAudit workers old (Opens readers root) printed new = IsOpened (manner_of old.store) workers root printed new.store × (new.queries ≡ old.queries)
 IsDoneInAudit workers old (Asking (Check reader path token asked)) printed new =
     (printed ≡ []) × (new ≡ record { store = old.store; queries = old.queries ++ record { path = path; token = token; asked = asked } ∷ [] })
 IsDoneInAudit workers old (Asking Tell) printed new = IsForScripts old printed new
@@ -53,8 +54,8 @@ IsDoneInAudit workers old asked printed new = IsDone old.store asked printed new
 abbrev pub IsAnsweredInAudit : ℕ → Progress → List ℕ → List ℕ → Progress → Type 0
 IsAnsweredInAudit workers old line printed new = MatchBool (is_silent line)
     ((printed ≡ []) × (new ≡ old))
-    (((asked : Asked) × line_asks (is_open old.store) line (Ok asked) × IsDoneInAudit workers old asked printed new)
-    ⊎ ((fault : LineFault) × line_asks (is_open old.store) line (Err fault) × (printed ≡ line_of_fault fault) × (new ≡ old)))
+    (((asked : Asked) × line_asks_in old.store line (Ok asked) × IsDoneInAudit workers old asked printed new)
+    ⊎ ((fault : LineFault) × line_asks_in old.store line (Err fault) × (printed ≡ line_of_fault fault) × (new ≡ old)))
 
 -- what a last publish prints, where edits wait
 abbrev pub last_publish : List Edit → ℕ → List ℕ
@@ -67,18 +68,36 @@ answer_line opening journal query = seen_line (length journal) (check_line (repl
 
 -- behind the last line: where a store is open, all that was accepted is published and told, and answers each query
 abbrev pub IsEnd : Session → List Query → List ℕ → Type 0
-IsEnd (Closed g) queries printed = printed ≡ []
-IsEnd (Opened m) queries printed =
+IsEnd (Closed manner) queries printed = printed ≡ []
+IsEnd (Opened paths m) queries printed =
     printed ≡ last_publish m.pending (length (accepted m)) ++ counted_line (codes "told") (length (accepted m))
     ++ flat_map (answer_line m.opening (accepted m)) queries
 
--- one line after the other, and then the end
-abbrev pub AreAnsweredInAudit : ℕ → Progress → List (List ℕ) → List ℕ → Type 0
-AreAnsweredInAudit workers old [] printed = IsEnd old.store old.queries printed
-AreAnsweredInAudit workers old (line ∷ lines) printed =
-    (first : List ℕ) × (between : Progress) × (rest : List ℕ)
-    × IsAnsweredInAudit workers old line first between × AreAnsweredInAudit workers between lines rest × (printed ≡ first ++ rest)
+-- ---- an audit, as far as it is carried out
 
--- the whole output of an audit by so many workers, of a store with this mapping
-abbrev pub PrintsAudit : MappingValue → ℕ → List ℕ → List ℕ → Type 0
-PrintsAudit g workers text printed = AreAnsweredInAudit workers (unopened g) (lines text) printed
+pub record Audited : Type 0 where
+  pub progress : Progress
+  pub tally : Tally
+
+-- before the first line none is open
+abbrev pub begun : Manner → Audited
+begun manner = record { progress = unopened manner; tally = no_lines }
+
+-- a line is answered, and counted: a check that is kept by what it is answered by at its place, which is nothing
+pub record IsNextInAudit (workers : ℕ) (old : Audited) (line printed : List ℕ) (new : Audited) : Type 0 where
+  pub answered : IsAnsweredInAudit workers old.progress line printed new.progress
+  pub counted : new.tally ≡ tallied line printed old.tally
+
+-- one line after the other, and then the end, which is no line's answer and isn't counted
+abbrev pub AreAnsweredInAudit : ℕ → Audited → List (List ℕ) → List ℕ → Tally → Type 0
+AreAnsweredInAudit workers old [] printed tally = IsEnd old.progress.store old.progress.queries printed × (tally ≡ old.tally)
+AreAnsweredInAudit workers old (line ∷ lines) printed tally =
+    (first : List ℕ) × (between : Audited) × (rest : List ℕ)
+    × IsNextInAudit workers old line first between × AreAnsweredInAudit workers between lines rest tally × (printed ≡ first ++ rest)
+
+-- the whole output of an audit by so many workers that is carried out in this manner, and what is counted of it
+abbrev pub PrintsAuditAndCounts : Manner → ℕ → List ℕ → List ℕ → Tally → Type 0
+PrintsAuditAndCounts manner workers text printed tally = AreAnsweredInAudit workers (begun manner) (lines text) printed tally
+
+abbrev pub PrintsAudit : Manner → ℕ → List ℕ → List ℕ → Type 0
+PrintsAudit manner workers text printed = (tally : Tally) × PrintsAuditAndCounts manner workers text printed tally

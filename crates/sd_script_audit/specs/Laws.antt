@@ -1,8 +1,8 @@
 -- What follows from the output of an audit.
 use Rattle.std.specs.Prelude.{◌≡◌, ◌⊎◌, ℕ, List, ◌++◌, codes}
-use Rattle.sd_sid.specs.Mapping.{MappingValue}
 use Rattle.sd_share.specs.Starts.{IsReaderCount}
 use Rattle.sd_script.specs.Reply.{counted_line}
+use Rattle.sd_script.specs.declared.manner.Manner.{Manner}
 use Rattle.sd_script_audit.specs.Audit.{PrintsAudit}
 
 -- two outputs are equal, or differ in the line of an opening alone
@@ -16,5 +16,5 @@ DifferInOpening n m one other =
 -- audits of one text by n workers and by m differ in their opening alone; so by one number of workers it has one output
 abbrev pub WorkersShowInTheOpening : Type 0
 WorkersShowInTheOpening =
-    (g : MappingValue) (n m : ℕ) (text one other : List ℕ) → IsReaderCount n → IsReaderCount m
-    → PrintsAudit g n text one → PrintsAudit g m text other → DifferInOpening n m one other
+    (manner : Manner) (n m : ℕ) (text one other : List ℕ) → IsReaderCount n → IsReaderCount m
+    → PrintsAudit manner n text one → PrintsAudit manner m text other → DifferInOpening n m one other

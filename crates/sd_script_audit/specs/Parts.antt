@@ -2,7 +2,6 @@
 use Rattle.std.specs.Prelude.{◌≡◌, ℕ, true, false, List, [], ◌++◌, length, replicate, Bool, Ok, codes}
 use Rattle.std.specs.List.{flat_map}
 use Rattle.std.specs.Str.Lines.{lines}
-use Rattle.sd_sid.specs.Mapping.{MappingValue}
 use Rattle.sd_tree.specs.declared.opening.Opening.{Opening}
 use Rattle.sd_tree.specs.declared.opening.RootSpec.{RootSpec}
 use Rattle.sd_share.specs.Machine.{Machine}
@@ -13,31 +12,43 @@ use Rattle.sd_script.specs.Command.{line_asks}
 use Rattle.sd_script.specs.Lines.{is_silent}
 use Rattle.sd_script.specs.Output.{IsOpened}
 use Rattle.sd_script.specs.Reply.{check_line, counted_line, seen_line}
+use Rattle.sd_script.specs.Tally.{tallied}
 use Rattle.sd_script.specs.declared.asked.Asked.TheVariants.{Opening as Opens}
+use Rattle.sd_script.specs.declared.manner.Manner.{Manner}
+use Rattle.sd_script.specs.declared.paths.PathSpelling.{PathSpelling}
 use Rattle.sd_script.specs.declared.session.Session.TheVariants.{Closed, Opened}
-use Rattle.sd_script_audit.specs.Audit.{Progress, AreAnsweredInAudit, last_publish}
+use Rattle.sd_script.specs.declared.tally.Tally.{Tally}
+use Rattle.sd_script_audit.specs.Audit.{Audited, Progress, AreAnsweredInAudit, last_publish}
+use Rattle.sd_script_audit.specs.declared.counted.Counted.{Counted}
 
 -- the machine of a writer, whose readers have seen nothing
 abbrev pub machine_of : Opening → ℕ → StoreState → Machine
 machine_of opening readers writer = record { opening = opening; published = writer.journal; pending = writer.pending; floors = replicate readers [] }
 
 -- a store that is open, and the queries so far
-abbrev pub progress : Opening → ℕ → StoreState → List Query → Progress
-progress opening readers writer queries = record { store = Opened (machine_of opening readers writer); queries = queries }
+abbrev pub progress : PathSpelling → Opening → ℕ → StoreState → List Query → Progress
+progress paths opening readers writer queries = record { store = Opened paths (machine_of opening readers writer); queries = queries }
+
+-- and what is counted so far
+abbrev pub audited : PathSpelling → Opening → ℕ → StoreState → List Query → Tally → Audited
+audited paths opening readers writer queries tally = record { progress = progress paths opening readers writer queries; tally = tally }
 
 -- the line opens a store with this root, where none is open
-abbrev pub OpensStore : List ℕ → RootSpec → Type 0
-OpensStore line root = (is_silent line ≡ false) × ((readers : ℕ) × line_asks false line (Ok (Opens readers root)))
+abbrev pub OpensStore : PathSpelling → List ℕ → RootSpec → Type 0
+OpensStore paths line root = (is_silent line ≡ false) × ((readers : ℕ) × line_asks paths false line (Ok (Opens readers root)))
 
 -- an opening line was answered, and where a store was then open, so were the lines after it and the end
-abbrev pub IsOpenedAndAudited : MappingValue → ℕ → RootSpec → List ℕ → Bool → List ℕ → List ℕ → Type 0
-IsOpenedAndAudited g workers root after true old new =
+abbrev pub IsOpenedAndAudited : Manner → ℕ → RootSpec → List ℕ → List ℕ → Bool → Counted → Counted → Type 0
+IsOpenedAndAudited manner workers root line after true old new =
     (first : List ℕ) × (machine : Machine) × (rest : List ℕ)
-    × IsOpened g workers root first (Opened machine)
-    × AreAnsweredInAudit workers (record { store = Opened machine; queries = [] }) (lines after) rest
-    × (new ≡ old ++ first ++ rest)
-IsOpenedAndAudited g workers root after false old new =
-    (first : List ℕ) × IsOpened g workers root first (Closed g) × (new ≡ old ++ first)
+    × IsOpened manner workers root first (Opened manner.paths machine)
+    × AreAnsweredInAudit workers
+    (record { progress = record { store = Opened manner.paths machine; queries = [] }; tally = tallied line first old.tally })
+    (lines after) rest new.tally
+    × (new.printed.items ≡ old.printed.items ++ first ++ rest)
+IsOpenedAndAudited manner workers root line after false old new =
+    (first : List ℕ) × IsOpened manner workers root first (Closed manner)
+    × (new.tally ≡ tallied line first old.tally) × (new.printed.items ≡ old.printed.items ++ first)
 
 -- what the last publish and the notice print
 abbrev pub last_lines : StoreState → List ℕ

@@ -5,40 +5,46 @@ ghost use Rattle.std.specs.Str.Lines.{lines};
 ghost use Rattle.sd_share.specs.Machine.{Steps};
 ghost use Rattle.sd_share.specs.declared.request.Request.TheVariants as asked;
 ghost use Rattle.sd_script_audit.specs.Audit.{AreAnsweredInAudit, IsAnsweredInAudit, IsDoneInAudit};
-ghost use Rattle.sd_script_audit.specs.Parts.{machine_of, progress};
+ghost use Rattle.sd_script_audit.specs.Parts.{audited, machine_of, progress};
+ghost use Rattle.sd_script.specs.declared.paths.PathSpelling.{PathSpelling as Spelling};
+ghost use Rattle.sd_script.specs.declared.tally.Tally.{Tally};
+ghost use Rattle.sd_store.specs.declared.query.Query.{Query as Kept};
 ghost use Rattle.sd_script.specs.Answer.{fault_line as fault_line_of};
-ghost use Rattle.sd_script.specs.declared.asked.Asked.TheVariants.{Asking};
+ghost use Rattle.sd_script.specs.declared.asked.Asked.TheVariants.{Asking, Importing};
 
+use crate::counted::Counted;
 use sd_script::{
-    Asked, Stop, fault_line, first_line, is_silent, line_of_fault, read_line, reply_line,
+    Asked, PathSpelling, Stop, fault_line, first_line, import_line, is_silent, line_of_fault,
+    read_line, reply_line,
 };
 use sd_share::{Reply, Request};
 use sd_store::{EditError, Naming, PublishError, Query, StoreWriter};
-use sd_tree::Edit;
+use sd_tree::{Edit, Entries, Path};
 use std::alloc::{AllocError, Global};
 use std::sync::Wait;
 
-/// Answers the lines, and keeps the queries among them.
+/// Answers the lines and counts them, and keeps the queries among them.
 pub(crate) fn collect_queries<J: Naming, T: Wait>(
     rt: &T,
     alloc: Global,
+    paths: PathSpelling,
     writer: &mut StoreWriter<J>,
     text: &[u8],
     queries: &mut Vec<Query>,
-    printed: &mut Vec<u8>,
+    counted: &mut Counted,
 ) -> Result<(), AllocError>
     requires queries { queries.old.items ≡ [] }
-    requires printed { printed.old.items ≡ [] }
-    ensures { (workers : ℕ) → OnOk result ((back : List ℕ)
-        → AreAnsweredInAudit workers (progress J.opening workers writer.new queries.new.items) [] back
-        → AreAnsweredInAudit workers (progress J.opening workers writer.old []) (lines text.now)
-        (printed.new.items ++ back)) }
+    requires printed { counted.old.printed.items ≡ [] }
+    ensures { (workers : ℕ) → OnOk result ((back : List ℕ) (tally : Tally)
+        → AreAnsweredInAudit workers (audited paths J.opening workers writer.new queries.new.items counted.new.tally) [] back tally
+        → AreAnsweredInAudit workers (audited paths J.opening workers writer.old [] counted.old.tally) (lines text.now)
+        (counted.new.printed.items ++ back) tally) }
 {
     let mut rest = text;
     while !rest.is_empty() {
         let (line, after) = first_line(rest);
-        let answer = answer_line(rt, alloc, writer, queries, line)?;
-        printed.extend_from_slice(answer.as_bytes())?;
+        let answer = answer_line(rt, alloc, paths, writer, queries, line)?;
+        counted.answer(line, answer.as_bytes())?;
         rest = after;
     }
     Ok(())
@@ -48,19 +54,27 @@ pub(crate) fn collect_queries<J: Naming, T: Wait>(
 fn answer_line<J: Naming, T: Wait>(
     rt: &T,
     alloc: Global,
+    paths: PathSpelling,
     writer: &mut StoreWriter<J>,
     queries: &mut Vec<Query>,
     line: &[u8],
 ) -> Result<String, AllocError>
     ensures { (workers : ℕ) → IfOk result (λ text. IsAnsweredInAudit workers
-        (progress J.opening workers writer.old queries.old.items) line.now (string_bytes text)
-        (progress J.opening workers writer.new queries.new.items)) }
+        (progress paths J.opening workers writer.old queries.old.items) line.now (string_bytes text)
+        (progress paths J.opening workers writer.new queries.new.items)) }
 {
     if is_silent(line) {
         return Ok(String::new(alloc));
     }
-    match read_line(alloc, true, line) {
+    match read_line(alloc, paths, true, line) {
         Ok(Asked::Asking(request)) => answer_request(rt, alloc, writer, queries, request),
+        Ok(
+            Asked::Importing {
+                edit,
+                path,
+                inherited,
+            },
+        ) => import(alloc, writer, &edit, &path, &inherited),
         Ok(Asked::Explaining { .. } | Asked::Listing { .. } | Asked::Dumping) => {
             only_in_scripts(alloc)
         }
@@ -78,9 +92,9 @@ fn answer_request<J: Naming, T: Wait>(
     queries: &mut Vec<Query>,
     request: Request,
 ) -> Result<String, AllocError>
-    ensures { (workers : ℕ) → IfOk result (λ text. IsDoneInAudit workers
-        (progress J.opening workers writer.old queries.old.items) (Asking request) (string_bytes text)
-        (progress J.opening workers writer.new queries.new.items)) }
+    ensures { (paths : Spelling) (workers : ℕ) → IfOk result (λ text. IsDoneInAudit workers
+        (progress paths J.opening workers writer.old queries.old.items) (Asking request) (string_bytes text)
+        (progress paths J.opening workers writer.new queries.new.items)) }
 {
     match request {
         Request::Edit(edit) => reply_line(alloc, &edit_reply(writer, &edit)),
@@ -96,6 +110,22 @@ fn answer_request<J: Naming, T: Wait>(
         }
         Request::Tell | Request::Learn { .. } | Request::Show { .. } => only_in_scripts(alloc),
     }
+}
+
+/// What an import is answered by: the edit is made, and the tree of all edits that were accepted tells the rest.
+fn import<J: Naming>(
+    alloc: Global,
+    writer: &mut StoreWriter<J>,
+    edit: &Edit,
+    path: &Path,
+    inherited: &Entries,
+) -> Result<String, AllocError>
+    ensures { (paths : Spelling) (workers : ℕ) (queries : List Kept) → IfOk result (λ text. IsDoneInAudit workers
+        (progress paths J.opening workers writer.old queries) (Importing edit.now path.now inherited.now) (string_bytes text)
+        (progress paths J.opening workers writer.new queries)) }
+{
+    let reply = edit_reply(writer, edit);
+    import_line(alloc, writer.draft(), path, inherited, &reply)
 }
 
 /// What is told of a command that only a script carries out.

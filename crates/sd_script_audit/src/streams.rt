@@ -1,13 +1,13 @@
 //! An audit over streams.
 
-ghost use Rattle.std.specs.Prelude.{◌≡◌, ◌||◌, Err, IfErr, OnOk};
+ghost use Rattle.std.specs.Prelude.{◌≡◌, ◌||◌, Err, IfErr, IfOk};
 ghost use Rattle.sd_stream.specs.Watched.{inner_of, has_failed};
 ghost use Rattle.sd_stream.specs.Whole.{is_read_error, is_write_error, ReadsPart};
-ghost use Rattle.sd_script_audit.specs.Audit.{PrintsAudit};
+ghost use Rattle.sd_script_audit.specs.Audit.{PrintsAudit, PrintsAuditAndCounts};
 ghost use Rattle.sd_script.specs.Run.{AppendsOutput, LeavesOutput};
 
 use crate::output::audit_output;
-use sd_sid::GenericMapping;
+use sd_script::{Manner, Tally};
 use sd_store::Gate;
 use sd_stream::{RunError, Watched, read_whole, write_whole};
 use std::alloc::Global;
@@ -16,8 +16,8 @@ use std::sync::Wait;
 use std::thread::Threads;
 
 /// Reads a whole script, and writes its whole output as an audit's: its checks are answered at the end, by all that was
-/// published, dealt among so many workers, 1 to 64. Its store maps generic rights so ([MS-DTYP] 2.4.3). `OpenGate` lets each check
-/// through.
+/// published, dealt among so many workers, 1 to 64. It is carried out in this manner, and what is counted of its lines is told.
+/// `OpenGate` lets each check through.
 ///
 /// - `Read`: the reader failed; nothing was written.
 /// - `TooLong`: more than 16,777,216 bytes were read; nothing was written.
@@ -29,14 +29,15 @@ pub fn run_audit<T: Threads + Wait + Sync, R: Read, W: Write, G: Gate + Sync>(
     rt: &T,
     alloc: Global,
     workers: u64,
-    mapping: &GenericMapping,
+    manner: &Manner,
     reader: &mut Watched<R>,
     writer: &mut Watched<W>,
     gate: &G,
-) -> Result<(), RunError>
-    ensures ok { OnOk result (AppendsOutput (PrintsAudit mapping.now workers) (R.remaining (inner_of reader.old))
+) -> Result<Tally, RunError>
+    ensures ok { IfOk result (λ tally. AppendsOutput (λ text printed. PrintsAuditAndCounts manner.now workers text printed tally)
+        (R.remaining (inner_of reader.old))
         (W.contents (inner_of writer.old)) (W.contents (inner_of writer.new))) }
-    ensures err { IfErr result (LeavesOutput (PrintsAudit mapping.now workers) (R.remaining (inner_of reader.old))
+    ensures err { IfErr result (LeavesOutput (PrintsAudit manner.now workers) (R.remaining (inner_of reader.old))
         (W.contents (inner_of writer.old)) (W.contents (inner_of writer.new))) }
     ensures too_long { result ≡ Err RunError.TooLong
         → ReadsPart (R.remaining (inner_of reader.old)) (R.remaining (inner_of reader.new)) RunError.TooLong }
@@ -44,6 +45,7 @@ pub fn run_audit<T: Threads + Wait + Sync, R: Read, W: Write, G: Gate + Sync>(
     ensures write { has_failed writer.new ≡ (has_failed writer.old || is_write_error result) }
 {
     let text = read_whole(alloc, reader)?;
-    let printed = audit_output(rt, alloc, workers, mapping, &text, gate)?;
-    write_whole(writer, &printed)
+    let (printed, tally) = audit_output(rt, alloc, workers, manner, &text, gate)?;
+    write_whole(writer, &printed)?;
+    Ok(tally)
 }

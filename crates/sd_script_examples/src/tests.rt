@@ -5,4 +5,16 @@ mod each;
 mod scripts;
 mod serving;
 mod streams;
+mod tallies;
 mod trees;
+
+use sd_script::{Manner, PathSpelling};
+use sd_sid::GenericMapping;
+
+/// With the generic rights of files, and paths as they are.
+fn plain() -> Manner {
+    Manner {
+        mapping: GenericMapping::file(),
+        paths: PathSpelling::Plain,
+    }
+}

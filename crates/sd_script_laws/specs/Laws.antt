@@ -7,6 +7,8 @@ use Rattle.sd_share.specs.Starts.{IsReaderCount}
 use Rattle.sd_script.specs.Answer.{fault_line}
 use Rattle.sd_script.specs.Output.{IsAnswered, IsDone}
 use Rattle.sd_script.specs.declared.asked.Asked.TheVariants.{Dumping}
+use Rattle.sd_script.specs.declared.manner.Manner.{Manner}
+use Rattle.sd_script.specs.declared.paths.PathSpelling.{PathSpelling}
 use Rattle.sd_script.specs.declared.session.Session.{Session}
 use Rattle.sd_script.specs.declared.session.Session.TheVariants.{Closed, Opened}
 
@@ -29,9 +31,13 @@ pub record IsSameAgain (m again : Machine) : Type 0 where
   pub nothing_waits : again.pending ≡ []
   pub readers : length again.floors ≡ length m.floors
 
+-- no store is open yet, and paths are spelled as where the dump was told
+abbrev pub same_manner : PathSpelling → Machine → Manner
+same_manner paths m = record { mapping = m.opening.mapping; paths = paths }
+
 -- where what is told isn't the fault
 abbrev pub DumpMakesTheTreeAgain : Type 0
 DumpMakesTheTreeAgain =
-    (m : Machine) (printed : List ℕ) (new : Session) → IsSound m → IsDone (Opened m) Dumping printed new → printed ≢ fault_line (codes "name")
-    → (again : Machine) × IsSameAgain m again × Reaches (Closed m.opening.mapping) (lines printed) (Opened again)
-    × ((other : Session) → Reaches (Closed m.opening.mapping) (lines printed) other → other ≡ Opened again)
+    (paths : PathSpelling) (m : Machine) (printed : List ℕ) (new : Session) → IsSound m → IsDone (Opened paths m) Dumping printed new → printed ≢ fault_line (codes "name")
+    → (again : Machine) × IsSameAgain m again × Reaches (Closed (same_manner paths m)) (lines printed) (Opened paths again)
+    × ((other : Session) → Reaches (Closed (same_manner paths m)) (lines printed) other → other ≡ Opened paths again)

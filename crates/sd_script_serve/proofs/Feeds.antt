@@ -3,10 +3,9 @@ use Rattle.std.proofs.Common.{◌≡◌, ℕ, ◌<◌, List, [], ◌∷◌, ◌+
 use Rattle.std.specs.List.{slice_split}
 use Rattle.std.specs.Str.Lines.{lines, lines_of_parts, strip_carriage_return}
 use Rattle.std.proofs.lemmas.List.Splits.{slice_split_at, slice_split_none, length-slice_split}
-use Rattle.sd_sid.specs.Mapping.{MappingValue}
-use Rattle.sd_script.specs.Output.{IsAnswered, Prints}
-use Rattle.sd_script.specs.declared.session.Session.{Session}
-use Rattle.sd_script.specs.declared.session.Session.TheVariants.{Closed}
+use Rattle.sd_script.specs.Output.{IsNext, Prints, begun}
+use Rattle.sd_script.specs.declared.carried.Carried.{Carried}
+use Rattle.sd_script.specs.declared.manner.Manner.{Manner}
 use Rattle.sd_script.proofs.Cutting.{feeds, before_others, last_part}
 use Rattle.sd_script_serve.specs.Serve.{Advances, HasNoFeed, IsEnded}
 
@@ -24,29 +23,30 @@ pub heads : (one other : List ℕ) (ones others : List (List ℕ)) → one ∷ o
 heads one other ones others e = cc
 
 -- nothing is answered by nothing
-pub advances_none : (old : Session) → Advances old [] [] old
-advances_none old rest back answered = answered
+pub advances_none : (old : Carried) → Advances old [] [] old
+advances_none old rest back last answered = answered
 
 -- one more line is answered
-pub advances_line : (old mid new : Session) (ended printed line answer first behind : List ℕ)
+pub advances_line : (old mid new : Carried) (ended printed line answer first behind : List ℕ)
     → Advances old ended printed mid → HasNoFeed line → lines (line ++ 10 ∷ []) ≡ first ∷ lines behind
-    → IsAnswered mid first answer new → Advances old (ended ++ (line ++ 10 ∷ [])) (printed ++ answer) new
-advances_line old mid new ended printed line answer first behind so_far none cut is rest back answered =
+    → IsNext mid first answer new → Advances old (ended ++ (line ++ 10 ∷ [])) (printed ++ answer) new
+advances_line old mid new ended printed line answer first behind so_far none cut is rest back last answered =
     let head : strip_carriage_return line ≡ first = heads _ _ _ _ (sym (lines_ended line [] none) ∙ cut) in
     rw (append_assoc ended (line ++ 10 ∷ []) rest, append_assoc line (10 ∷ []) rest, append_assoc printed answer back)
-    (so_far (line ++ 10 ∷ rest) (answer ++ back)
+    (so_far (line ++ 10 ∷ rest) (answer ++ back) last
     (rw (lines_ended line rest none, head) (answer, new, back, is, answered, refl)))
 
 -- what two stretches put before what is left, one behind the other
-pub advances_both : (old mid new : Session) (ended more printed said : List ℕ)
+pub advances_both : (old mid new : Carried) (ended more printed said : List ℕ)
     → Advances old ended printed mid → Advances mid more said new → Advances old (ended ++ more) (printed ++ said) new
-advances_both old mid new ended more printed said first second rest back answered =
+advances_both old mid new ended more printed said first second rest back last answered =
     rw (append_assoc ended more rest, append_assoc printed said back)
-    (first (more ++ rest) (said ++ back) (second rest back answered))
+    (first (more ++ rest) (said ++ back) last (second rest back last answered))
 
 -- the whole output of what has ended
-pub ended_prints : (g : MappingValue) (ended printed : List ℕ) (new : Session) → Advances (Closed g) ended printed new → Prints g ended printed
-ended_prints g ended printed new so_far = rw (append-nil ended, append-nil printed) at (so_far [] [] refl)
+pub ended_prints : (manner : Manner) (ended printed : List ℕ) (new : Carried) → Advances (begun manner) ended printed new → Prints manner ended printed
+ended_prints manner ended printed new so_far =
+    (new.tally, (new, rw (append-nil ended, append-nil printed) at (so_far [] [] new (refl, refl)), refl))
 
 pub ended_line : (ended line : List ℕ) → IsEnded (ended ++ (line ++ 10 ∷ []))
 ended_line ended line = inr (ended ++ line, sym (append_assoc ended line (10 ∷ [])))

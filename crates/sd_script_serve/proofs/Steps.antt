@@ -1,5 +1,5 @@
 -- What one answer, or one error, makes of what was answered before.
-use Rattle.std.proofs.Common.{◌≡◌, ℕ, ◌+◌, ◌<◌, ◌-◌, false, not, List, [], ◌∷◌, ◌++◌, length, length-take, take, drop, get_or, take-append-drop, Option, Result, Ok, Err, IfErr, OnOk, OnErr, refl, sym, ◌∙◌, ap, append_assoc, append-nil, arith}
+use Rattle.std.proofs.Common.{◌≡◌, ℕ, ◌+◌, ◌<◌, ◌-◌, Bool, true, false, ◌||◌, not, List, [], ◌∷◌, ◌++◌, length, length-take, take, drop, get_or, take-append-drop, Option, Result, Ok, Err, IfErr, OnOk, OnErr, refl, sym, ◌∙◌, ap, append_assoc, append-nil, arith}
 use Rattle.std.specs.List.{position_or_len}
 use Rattle.std.specs.Io.KnownBytes.{Appends}
 use Rattle.std.specs.Str.Lines.{lines}
@@ -12,7 +12,7 @@ use Rattle.std.proofs.lemmas.List.Sums.{prefix_len_passes, prefix_len_stops}
 use Rattle.sd_stream.specs.Whole.{AppendsBeginning}
 use Rattle.sd_stream.specs.declared.error.RunError.{RunError}
 use Rattle.sd_stream.specs.declared.error.RunError.TheVariants.{Read, TooLong, Write, Memory, Thread}
-use Rattle.sd_script.specs.declared.session.Session.{Session}
+use Rattle.sd_script.specs.declared.carried.Carried.{Carried}
 use Rattle.sd_script.proofs.Cutting.{feeds}
 use Rattle.sd_script_serve.specs.Serve.{Advances, AnswersAll, AnswersFirst, FailsFirst, FailsLast, HasNoFeed, IsEnded, IsGrowthError, StopsIn}
 use Rattle.sd_script_serve.proofs.Feeds.{advances_line, ended_line, heads, lines_last}
@@ -73,6 +73,11 @@ beginning_after a b c before text first second = record {
   appended = Appends-trans a b c before second.done first second.appended;
 }
 
+-- a writer that didn't fail, and hadn't before
+pub not_failed : (now before first : Bool) → now ≡ (before || false) → before ≡ first → now ≡ first
+not_failed now true first is so_far = is ∙ so_far
+not_failed now false first is so_far = is ∙ so_far
+
 -- ---- answers of one line
 
 pub on_ok : {T : Type 0} {P Q : Type 0} → (r : Result T RunError) → OnOk r P → (P → Q) → OnOk r Q
@@ -89,19 +94,19 @@ if_write Q (Ok x) is given make = tt
 if_write Q (Err e) is given make = rw is (make given)
 
 -- a text of one line that hasn't ended is answered by its first line
-pub all_of_first : (before after : Session) (text : List ℕ) (Wrote : List ℕ → Type 0)
-    → HasNoFeed text → 0 < length text → AnswersFirst before text after Wrote → AnswersAll before text Wrote
+pub all_of_first : (before after : Carried) (text : List ℕ) (Wrote : List ℕ → Type 0)
+    → HasNoFeed text → 0 < length text → AnswersFirst before text after Wrote → AnswersAll before text after Wrote
 all_of_first before after text Wrote none some a =
     let whole : lines text ≡ text ∷ [] = lines_last text none some in
     let is : text ≡ a.line = heads _ _ _ _ (sym whole ∙ a.first) in
     record {
       printed = a.printed;
-      answered = rw whole (a.printed, after, [], rw is a.answered, refl, sym (append-nil a.printed));
+      answered = rw whole (a.printed, after, [], rw is a.answered, (refl, refl), sym (append-nil a.printed));
       wrote = a.wrote;
     }
 
-pub last_fails : (before after : Session) (text : List ℕ) (old new : Option (List ℕ)) → HasNoFeed text → 0 < length text
-    → (e : RunError) → FailsFirst before text after old new e → FailsLast before text old new e
+pub last_fails : (before after : Carried) (text : List ℕ) (old new : Option (List ℕ)) → HasNoFeed text → 0 < length text
+    → (e : RunError) → FailsFirst before text after old new e → FailsLast before text after old new e
 last_fails before after text old new none some Read fails = fails
 last_fails before after text old new none some TooLong fails = fails
 last_fails before after text old new none some Write fails = all_of_first before after text (AppendsBeginning old new) none some fails
@@ -110,7 +115,7 @@ last_fails before after text old new none some Thread fails = fails
 
 -- ---- errors between two reads
 
-pub growth_stops : (before mid : Session) (line bytes ended printed grown more : List ℕ) (old new : Option (List ℕ))
+pub growth_stops : (before mid : Carried) (line bytes ended printed grown more : List ℕ) (old new : Option (List ℕ))
     → line ++ bytes ≡ ended ++ (grown ++ more) → IsEnded ended → HasNoFeed grown → Advances before ended printed mid → Appends old new printed
     → (e : RunError) → IsGrowthError grown e → StopsIn before line bytes old new e
 growth_stops before mid line bytes ended printed grown more old new parts whole none so_far appended Read fails = absurd fails
@@ -139,7 +144,7 @@ growth_stops before mid line bytes ended printed grown more old new parts whole 
 }
 growth_stops before mid line bytes ended printed grown more old new parts whole none so_far appended Thread fails = absurd fails
 
-pub answer_stops : (before mid after : Session) (line bytes ended printed grown more : List ℕ) (old now new : Option (List ℕ))
+pub answer_stops : (before mid after : Carried) (line bytes ended printed grown more : List ℕ) (old now new : Option (List ℕ))
     → line ++ bytes ≡ ended ++ (grown ++ 10 ∷ more) → IsEnded ended → HasNoFeed grown → Advances before ended printed mid → Appends old now printed
     → (e : RunError) → FailsFirst mid (grown ++ 10 ∷ []) after now new e → StopsIn before line bytes old new e
 answer_stops before mid after line bytes ended printed grown more old now new parts whole none so_far appended Read fails = absurd fails

@@ -6,9 +6,9 @@ use Rattle.sd_stream.specs.Whole.{AppendsBeginning}
 use Rattle.sd_stream.specs.declared.error.RunError.{RunError}
 use Rattle.sd_stream.specs.declared.error.RunError.TheVariants.{Read, TooLong, Write, Memory, Thread}
 use Rattle.sd_stream.specs.declared.input.TheConstants.{MAX_INPUT_BYTES}
-use Rattle.sd_sid.specs.Mapping.{MappingValue}
-use Rattle.sd_script.specs.Output.{IsAnswered, AreAnswered, Prints}
-use Rattle.sd_script.specs.declared.session.Session.{Session}
+use Rattle.sd_script.specs.Output.{IsNext, AreAnswered, Prints}
+use Rattle.sd_script.specs.declared.carried.Carried.{Carried}
+use Rattle.sd_script.specs.declared.manner.Manner.{Manner}
 
 -- there is no line feed in the bytes
 abbrev pub HasNoFeed : List ℕ → Type 0
@@ -21,14 +21,14 @@ IsEnded text = (text ≡ []) ⊎ ((front : List ℕ) × (text ≡ front ++ 10 �
 -- ---- what a reader of known bytes has lost, and a writer of known bytes got
 
 -- the lines that ended are answered, and what came behind them isn't
-pub record AnswersLines (g : MappingValue) (Behind : List ℕ → Type 0) (input left old new : Option (List ℕ)) : Type 0 where
+pub record AnswersLines (manner : Manner) (Behind : List ℕ → Type 0) (input left old new : Option (List ℕ)) : Type 0 where
   pub ended : List ℕ
   pub behind : List ℕ
   pub printed : List ℕ
   pub consumed : Consumes input left (ended ++ behind)
   pub whole : IsEnded ended
   pub rest : Behind behind
-  pub output : Prints g ended printed
+  pub output : Prints manner ended printed
   pub appended : Appends old new printed
 
 -- more than the longest line, and no line feed
@@ -36,32 +36,32 @@ abbrev pub IsLong : List ℕ → Type 0
 IsLong behind = (line : List ℕ) × (more : List ℕ) × (behind ≡ line ++ more) × HasNoFeed line × (MAX_INPUT_BYTES < length line)
 
 -- a beginning of the answers to what was read of the script, up to the end of a line or to its own end
-pub record AnswersPart (g : MappingValue) (input left old new : Option (List ℕ)) : Type 0 where
+pub record AnswersPart (manner : Manner) (input left old new : Option (List ℕ)) : Type 0 where
   pub text : List ℕ
   pub behind : List ℕ
   pub printed : List ℕ
   pub consumed : Consumes input left (text ++ behind)
   pub whole : IsEnded text ⊎ IsAtEnd left
-  pub output : Prints g text printed
+  pub output : Prints manner text printed
   pub beginning : AppendsBeginning old new printed
 
 -- what stands where a run ended by an error. The reader failed in a line that hadn't ended
-abbrev pub LeavesAnswers : MappingValue → Option (List ℕ) → Option (List ℕ) → Option (List ℕ) → Option (List ℕ) → RunError → Type 0
-LeavesAnswers g input left old new Read = AnswersLines g HasNoFeed input left old new
-LeavesAnswers g input left old new TooLong = AnswersLines g IsLong input left old new
-LeavesAnswers g input left old new Write = AnswersPart g input left old new
-LeavesAnswers g input left old new Memory = AnswersLines g (λ behind. ⊤) input left old new
-LeavesAnswers g input left old new Thread = ⊥
+abbrev pub LeavesAnswers : Manner → Option (List ℕ) → Option (List ℕ) → Option (List ℕ) → Option (List ℕ) → RunError → Type 0
+LeavesAnswers manner input left old new Read = AnswersLines manner HasNoFeed input left old new
+LeavesAnswers manner input left old new TooLong = AnswersLines manner IsLong input left old new
+LeavesAnswers manner input left old new Write = AnswersPart manner input left old new
+LeavesAnswers manner input left old new Memory = AnswersLines manner (λ behind. ⊤) input left old new
+LeavesAnswers manner input left old new Thread = ⊥
 
 -- ---- between two reads
 
 -- whatever the lines behind it are answered by, the text puts this before it
-abbrev pub Advances : Session → List ℕ → List ℕ → Session → Type 0
+abbrev pub Advances : Carried → List ℕ → List ℕ → Carried → Type 0
 Advances old text printed new =
-    (rest : List ℕ) (back : List ℕ) → AreAnswered new (lines rest) back → AreAnswered old (lines (text ++ rest)) (printed ++ back)
+    (rest back : List ℕ) (last : Carried) → AreAnswered new (lines rest) back last → AreAnswered old (lines (text ++ rest)) (printed ++ back) last
 
 -- of a line's beginning and the bytes behind it the lines that ended are answered, and a line's beginning is left
-pub record Takes (before : Session) (line bytes : List ℕ) (after : Session) (begun : List ℕ) (old new : Option (List ℕ)) : Type 0 where
+pub record Takes (before : Carried) (line bytes : List ℕ) (after : Carried) (begun : List ℕ) (old new : Option (List ℕ)) : Type 0 where
   pub ended : List ℕ
   pub printed : List ℕ
   pub parts : line ++ bytes ≡ ended ++ begun
@@ -71,11 +71,11 @@ pub record Takes (before : Session) (line bytes : List ℕ) (after : Session) (b
   pub appended : Appends old new printed
 
 -- the same, up to where an error came
-pub record TakesPart (Behind : List ℕ → Type 0) (Wrote : List ℕ → Type 0) (before : Session) (line bytes : List ℕ) : Type 0 where
+pub record TakesPart (Behind : List ℕ → Type 0) (Wrote : List ℕ → Type 0) (before : Carried) (line bytes : List ℕ) : Type 0 where
   pub ended : List ℕ
   pub behind : List ℕ
   pub printed : List ℕ
-  pub after : Session
+  pub after : Carried
   pub parts : line ++ bytes ≡ ended ++ behind
   pub whole : IsEnded ended
   pub rest : Behind behind
@@ -83,7 +83,7 @@ pub record TakesPart (Behind : List ℕ → Type 0) (Wrote : List ℕ → Type 0
   pub wrote : Wrote printed
 
 -- what stands where an error came between two reads
-abbrev pub StopsIn : Session → List ℕ → List ℕ → Option (List ℕ) → Option (List ℕ) → RunError → Type 0
+abbrev pub StopsIn : Carried → List ℕ → List ℕ → Option (List ℕ) → Option (List ℕ) → RunError → Type 0
 StopsIn before line bytes old new Read = ⊥
 StopsIn before line bytes old new TooLong = TakesPart IsLong (Appends old new) before line bytes
 StopsIn before line bytes old new Write = TakesPart (λ behind. ⊤) (AppendsBeginning old new) before line bytes
@@ -93,16 +93,16 @@ StopsIn before line bytes old new Thread = ⊥
 -- ---- of one line
 
 -- the first line of the text is answered by this
-pub record AnswersFirst (before : Session) (text : List ℕ) (after : Session) (Wrote : List ℕ → Type 0) : Type 0 where
+pub record AnswersFirst (before : Carried) (text : List ℕ) (after : Carried) (Wrote : List ℕ → Type 0) : Type 0 where
   pub line : List ℕ
   pub behind : List ℕ
   pub printed : List ℕ
   pub first : lines text ≡ line ∷ lines behind
-  pub answered : IsAnswered before line printed after
+  pub answered : IsNext before line printed after
   pub wrote : Wrote printed
 
 -- the line isn't answered, or not whole
-abbrev pub FailsFirst : Session → List ℕ → Session → Option (List ℕ) → Option (List ℕ) → RunError → Type 0
+abbrev pub FailsFirst : Carried → List ℕ → Carried → Option (List ℕ) → Option (List ℕ) → RunError → Type 0
 FailsFirst before text after old new Read = ⊥
 FailsFirst before text after old new TooLong = ⊥
 FailsFirst before text after old new Write = AnswersFirst before text after (AppendsBeginning old new)
@@ -110,17 +110,17 @@ FailsFirst before text after old new Memory = Keeps old new
 FailsFirst before text after old new Thread = ⊥
 
 -- all lines of the text are answered by this
-pub record AnswersAll (before : Session) (text : List ℕ) (Wrote : List ℕ → Type 0) : Type 0 where
+pub record AnswersAll (before : Carried) (text : List ℕ) (after : Carried) (Wrote : List ℕ → Type 0) : Type 0 where
   pub printed : List ℕ
-  pub answered : AreAnswered before (lines text) printed
+  pub answered : AreAnswered before (lines text) printed after
   pub wrote : Wrote printed
 
-abbrev pub FailsLast : Session → List ℕ → Option (List ℕ) → Option (List ℕ) → RunError → Type 0
-FailsLast before text old new Read = ⊥
-FailsLast before text old new TooLong = ⊥
-FailsLast before text old new Write = AnswersAll before text (AppendsBeginning old new)
-FailsLast before text old new Memory = Keeps old new
-FailsLast before text old new Thread = ⊥
+abbrev pub FailsLast : Carried → List ℕ → Carried → Option (List ℕ) → Option (List ℕ) → RunError → Type 0
+FailsLast before text after old new Read = ⊥
+FailsLast before text after old new TooLong = ⊥
+FailsLast before text after old new Write = AnswersAll before text after (AppendsBeginning old new)
+FailsLast before text after old new Memory = Keeps old new
+FailsLast before text after old new Thread = ⊥
 
 -- bytes that a line didn't grow by: it would be too long, or memory was refused
 abbrev pub IsGrowthError : List ℕ → RunError → Type 0

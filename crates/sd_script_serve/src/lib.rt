@@ -8,7 +8,8 @@
 //! ```text
 //! let mut reader = Watched::new(rt.reader());
 //! let mut writer = Watched::new(io::writer(&rt));
-//! serve(alloc, &mut reader, &mut writer)?;
+//! let manner = Manner { mapping: GenericMapping::file(), paths: PathSpelling::Plain };
+//! let tally = serve(alloc, &manner, &mut reader, &mut writer)?;
 //! ```
 #![tactic(auto)]
 

@@ -1,15 +1,14 @@
 //! A script over streams, line by line.
 
-ghost use Rattle.std.specs.Prelude.{◌≡◌, ◌≢◌, ◌||◌, Err, IfErr, OnOk};
+ghost use Rattle.std.specs.Prelude.{◌≡◌, ◌≢◌, ◌||◌, Err, IfErr, IfOk};
 ghost use Rattle.sd_stream.specs.Watched.{inner_of, has_failed};
 ghost use Rattle.sd_stream.specs.Whole.{is_read_error, is_write_error};
-ghost use Rattle.sd_script.specs.Output.{Prints};
+ghost use Rattle.sd_script.specs.Output.{PrintsAndCounts};
 ghost use Rattle.sd_script.specs.Run.{AppendsOutput};
 ghost use Rattle.sd_script_serve.specs.Serve.{LeavesAnswers};
 
 use crate::ended::{answer_ended, answer_last};
-use sd_script::Session;
-use sd_sid::GenericMapping;
+use sd_script::{Carried, Manner, Tally};
 use sd_stream::{RunError, Watched};
 use std::alloc::Global;
 use std::io::{Read, Write};
@@ -17,8 +16,8 @@ use std::io::{Read, Write};
 /// The bytes that one read is asked for.
 const BUFFER_BYTES: usize = 8192;
 
-/// Reads a script line by line, whose store maps generic rights so ([MS-DTYP] 2.4.3), and writes and flushes the answer to each
-/// before more is read. The last line may lack its line feed; it is answered at the end. There is no limit on the number of lines.
+/// Reads a script line by line, and writes and flushes the answer to each in this manner before more is read; and tells what is
+/// counted of its lines. The last line may lack its line feed; it is answered at the end. There is no limit on the number of lines.
 ///
 /// - `Read`: the reader failed; the lines that had ended are answered.
 /// - `TooLong`: a line has more than 16,777,216 bytes; those before it are answered.
@@ -26,25 +25,29 @@ const BUFFER_BYTES: usize = 8192;
 /// - `Memory`: memory was refused; the lines before one that had ended are answered.
 pub fn serve<R: Read, W: Write>(
     alloc: Global,
-    mapping: &GenericMapping,
+    manner: &Manner,
     reader: &mut Watched<R>,
     writer: &mut Watched<W>,
-) -> Result<(), RunError>
-    ensures ok { OnOk result (AppendsOutput (Prints mapping.now) (R.remaining (inner_of reader.old))
+) -> Result<Tally, RunError>
+    ensures ok { IfOk result (λ tally. AppendsOutput (λ text printed. PrintsAndCounts manner.now text printed tally)
+        (R.remaining (inner_of reader.old))
         (W.contents (inner_of writer.old)) (W.contents (inner_of writer.new))) }
-    ensures err { IfErr result (LeavesAnswers mapping.now (R.remaining (inner_of reader.old)) (R.remaining (inner_of reader.new))
+    ensures err { IfErr result (LeavesAnswers manner.now (R.remaining (inner_of reader.old)) (R.remaining (inner_of reader.new))
         (W.contents (inner_of writer.old)) (W.contents (inner_of writer.new))) }
     ensures read { has_failed reader.new ≡ (has_failed reader.old || is_read_error result) }
     ensures write { has_failed writer.new ≡ (has_failed writer.old || is_write_error result) }
 {
-    let mut session = Session::Closed(*mapping);
+    let mut carried = Carried::begun(manner);
     let mut line = Vec::new(alloc);
     let mut buffer = [0u8; BUFFER_BYTES];
     for _ in 0..u64::MAX {
         match reader.read(&mut buffer) {
             Err(_) => return Err(RunError::Read),
-            Ok(0) => return answer_last(alloc, &mut session, &line, writer),
-            Ok(count) => answer_ended(alloc, &mut session, &mut line, &buffer[..count], writer)?,
+            Ok(0) => {
+                answer_last(alloc, &mut carried, &line, writer)?;
+                return Ok(carried.tally);
+            }
+            Ok(count) => answer_ended(alloc, &mut carried, &mut line, &buffer[..count], writer)?,
         }
     }
     // (no run gets here)

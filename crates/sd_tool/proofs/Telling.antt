@@ -7,19 +7,20 @@ use Rattle.std.specs.Borrow.{Bor}
 use Rattle.sd_stream.specs.Whole.{AppendsBeginning, ReadsPart}
 use Rattle.sd_stream.specs.declared.error.RunError.{RunError}
 use Rattle.sd_stream.specs.declared.error.RunError.TheVariants.{Read, TooLong, Write, Memory, Thread}
-use Rattle.sd_script.specs.Output.{Prints}
+use Rattle.sd_script.specs.Output.{PrintsAndCounts}
 use Rattle.sd_script.specs.Run.{AppendsOutput, IsOutput, LeavesOutput}
-use Rattle.sd_sid.specs.Mapping.{MappingValue}
-use Rattle.sd_script_audit.specs.Audit.{PrintsAudit}
+use Rattle.sd_script.specs.declared.manner.Manner.{Manner}
+use Rattle.sd_script.specs.declared.tally.Tally.{Tally}
+use Rattle.sd_script_audit.specs.Audit.{PrintsAuditAndCounts}
 use Rattle.sd_script_serve.specs.Serve.{LeavesAnswers}
 use Rattle.sd_tool.specs.Answer.{AnswerValue, Answers, IsBadValue}
 use Rattle.sd_tool.specs.CommandLine.{CommandLineValue, InvocationValue, IsAudit, Verdict, Why, Lint, Print, ToBinary, FromBinary, Script, Serve, Audit, Each, Help, Version, reading, runs_script}
 use Rattle.sd_tool.specs.Options.{AreSettings, HasBadValue, OptionsValue}
 use Rattle.sd_tool.specs.declared.answer.Outcome.{Outcome}
-use Rattle.sd_tool.specs.declared.answer.Outcome.TheVariants.{Done}
 use Rattle.sd_tool.specs.declared.options.BadValue.{BadValue}
 use Rattle.sd_tool.specs.declared.options.Settings.{Settings}
 use Rattle.sd_tool.specs.Output.{AppendsAnswerTo, AppendsPartOfAnswer, IsDue, LeavesAfter, LeavesAfterFailure, LeavesAnswerTo, LeavesAtFailure, LeavesByLine, blames_reader, blames_writer, error_line, failure_text}
+use Rattle.sd_tool.specs.Scripts.{IsToldOfScript, manner_of, script_outcome}
 use Rattle.sd_tool.specs.Status.{failure_status, outcome_status}
 use Rattle.sd_tool.specs.declared.perform.Ended.{Ended}
 use Rattle.sd_tool.specs.declared.failure.Failure.{Failure}
@@ -76,35 +77,49 @@ words_leave words input left old new line (Run error) asked leaves = inr (line, 
 
 -- ---- an output that is the answer to a line
 
-module _ (line : CommandLineValue) (prints : List ℕ → List ℕ → Type 0) (input : Option (List ℕ))
-    (answers : (printed : List ℕ) → IsOutput prints input printed → Answers input line (record { printed = printed; told = []; outcome = Done })) where
-  pub output_answers : (old new : Option (List ℕ)) → AppendsOutput prints input old new → AppendsAnswerTo line input old new [] 0
-  output_answers old new out = record { text = out.printed; outcome = Done; answers = answers out.printed out.output; ended = refl; appended = out.appended }
+module _ (line : CommandLineValue) (counts : List ℕ → List ℕ → Tally → Type 0) (strict : Bool) (input : Option (List ℕ))
+    (answers : (tally : Tally) (printed told : List ℕ) → IsOutput (λ text printed. counts text printed tally) input printed → IsToldOfScript strict tally told
+    → Answers input line (record { printed = printed; told = told; outcome = script_outcome strict tally })) where
+  pub output_answers : (tally : Tally) (told : List ℕ) (old new : Option (List ℕ)) → IsToldOfScript strict tally told
+      → AppendsOutput (λ text printed. counts text printed tally) input old new → AppendsAnswerTo line input old new told (outcome_status (script_outcome strict tally))
+  output_answers tally told old new says out = record {
+    text = out.printed;
+    outcome = script_outcome strict tally;
+    answers = answers tally out.printed told out.output says;
+    ended = refl;
+    appended = out.appended;
+  }
 
   -- what an error leaves of the output, it leaves of the answer
-  pub output_leaves : (old new : Option (List ℕ)) (error : RunError) → LeavesOutput prints input old new error → LeavesAnswerTo line input old new error
+  pub output_leaves : (old new : Option (List ℕ)) (error : RunError) → LeavesOutput (λ text printed. (tally : Tally) × counts text printed tally) input old new error
+      → LeavesAnswerTo line input old new error
   output_leaves old new Read leaves = leaves
   output_leaves old new TooLong leaves = leaves
-  output_leaves old new Write part = record {
-    answer = record { printed = part.printed; told = []; outcome = Done };
-    answers = answers part.printed part.output;
-    beginning = part.beginning;
-  }
+  output_leaves old new Write part =
+      let text = part.output.0 in
+      let tally = part.output.2.0 in record {
+        answer = record { printed = part.printed; told = []; outcome = script_outcome strict tally };
+        answers = answers tally part.printed [] (text, part.output.1, part.output.2.1) (inr refl);
+        beginning = part.beginning;
+      }
   output_leaves old new Memory leaves = leaves
   output_leaves old new Thread leaves = leaves
 
 module _ (options : OptionsValue) (settings : Settings) (said : AreSettings options settings) (input : Option (List ℕ)) where
-  pub script_answers : (printed : List ℕ) → IsOutput (Prints settings.mapping) input printed
-      → Answers input (record { options = options; invocation = Script }) (record { printed = printed; told = []; outcome = Done })
-  script_answers printed is = inl (settings, said, (is, refl, refl))
+  pub script_answers : (tally : Tally) (printed told : List ℕ) → IsOutput (λ text printed. PrintsAndCounts (manner_of settings) text printed tally) input printed
+      → IsToldOfScript settings.strict tally told
+      → Answers input (record { options = options; invocation = Script }) (record { printed = printed; told = told; outcome = script_outcome settings.strict tally })
+  script_answers tally printed told is says = inl (settings, said, (tally, is, says, refl))
 
-  pub served_answers : (printed : List ℕ) → IsOutput (Prints settings.mapping) input printed
-      → Answers input (record { options = options; invocation = Serve }) (record { printed = printed; told = []; outcome = Done })
-  served_answers printed is = inl (settings, said, (is, refl, refl))
+  pub served_answers : (tally : Tally) (printed told : List ℕ) → IsOutput (λ text printed. PrintsAndCounts (manner_of settings) text printed tally) input printed
+      → IsToldOfScript settings.strict tally told
+      → Answers input (record { options = options; invocation = Serve }) (record { printed = printed; told = told; outcome = script_outcome settings.strict tally })
+  served_answers tally printed told is says = inl (settings, said, (tally, is, says, refl))
 
-  pub audit_answers : (workers : ℕ) (printed : List ℕ) → IsOutput (PrintsAudit settings.mapping workers) input printed
-      → Answers input (record { options = options; invocation = Audit workers }) (record { printed = printed; told = []; outcome = Done })
-  audit_answers workers printed is = inl (settings, said, (is, refl, refl))
+  pub audit_answers : (workers : ℕ) (tally : Tally) (printed told : List ℕ)
+      → IsOutput (λ text printed. PrintsAuditAndCounts (manner_of settings) workers text printed tally) input printed → IsToldOfScript settings.strict tally told
+      → Answers input (record { options = options; invocation = Audit workers }) (record { printed = printed; told = told; outcome = script_outcome settings.strict tally })
+  audit_answers workers tally printed told is says = inl (settings, said, (tally, is, says, refl))
 
 -- ---- an answer that is printed
 
@@ -149,8 +164,8 @@ bad_answers input options Version bad answer runs has is = absurd (cc (runs))
 -- ---- line by line
 
 -- too long a line is too much that was read
-pub served_too_much : (g : MappingValue) (input left old new : Option (List ℕ)) → LeavesAnswers g input left old new TooLong → ReadsPart input left TooLong
-served_too_much g input left old new leaves =
+pub served_too_much : (manner : Manner) (input left old new : Option (List ℕ)) → LeavesAnswers manner input left old new TooLong → ReadsPart input left TooLong
+served_too_much manner input left old new leaves =
     let parts = leaves.rest in
     let long : length (leaves.ended ++ leaves.behind) ≡ length leaves.ended + (length parts.0 + length parts.1) =
     length-append leaves.ended leaves.behind ∙ ap (λ n. length leaves.ended + n) (ap length parts.2 ∙ length-append parts.0 parts.1) in

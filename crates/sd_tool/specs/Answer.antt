@@ -27,13 +27,15 @@ use Rattle.sd_check.specs.Token.{TokenValue}
 use Rattle.sd_script.specs.Answer.{line, verdict_line, fault_line, sddl_fault_line}
 use Rattle.sd_script.specs.Why.{why_text}
 use Rattle.sd_script.specs.Word.{texts}
-use Rattle.sd_script.specs.Output.{Prints}
+use Rattle.sd_script.specs.Output.{PrintsAndCounts}
 use Rattle.sd_script.specs.Run.{IsOutput}
-use Rattle.sd_script_audit.specs.Audit.{PrintsAudit}
+use Rattle.sd_script.specs.declared.tally.Tally.{Tally}
+use Rattle.sd_script_audit.specs.Audit.{PrintsAuditAndCounts}
 use Rattle.sd_each.specs.Answers.{AreAnswered}
 use Rattle.sd_each.specs.Lines.{lines_of}
 use Rattle.sd_each.specs.declared.ending.Ending.{Ending}
 use Rattle.sd_tool.specs.Bytes.{bytes_read, form_name, has_sacl, without_sacl}
+use Rattle.sd_tool.specs.Scripts.{IsToldOfScript, manner_of, script_outcome}
 use Rattle.sd_tool.specs.CommandLine.{CommandLineValue, InvocationValue, Verdict as AsksVerdict, Why as AsksWhy, Lint, Print, ToBinary, FromBinary, Script as AsksScript, Serve as AsksServe, Audit as AsksAudit, Each as AsksEach, Help, Version, RequestValue, WhyOfLine, LintOfLine, of_line}
 use Rattle.sd_tool.specs.Lint.{dacl_lines, or_clean, lint_outcome}
 use Rattle.sd_tool.specs.Options.{OptionsValue, AreSettings, HasBadValue}
@@ -206,12 +208,15 @@ AnswersFromBinary settings written answer = AnswersDecoded settings (bytes_read 
 
 -- the output of the script on the input
 abbrev pub AnswersScript : Option (List ℕ) → Settings → AnswerValue → Type 0
-AnswersScript input settings answer = IsOutput (Prints settings.mapping) input answer.printed × (answer.told ≡ []) × (answer.outcome ≡ Done)
+AnswersScript input settings answer =
+    (tally : Tally) × IsOutput (λ text printed. PrintsAndCounts (manner_of settings) text printed tally) input answer.printed
+    × IsToldOfScript settings.strict tally answer.told × (answer.outcome ≡ script_outcome settings.strict tally)
 
 -- the output of the audit of the script on the input
 abbrev pub AnswersAudit : ℕ → Option (List ℕ) → Settings → AnswerValue → Type 0
 AnswersAudit workers input settings answer =
-    IsOutput (PrintsAudit settings.mapping workers) input answer.printed × (answer.told ≡ []) × (answer.outcome ≡ Done)
+    (tally : Tally) × IsOutput (λ text printed. PrintsAuditAndCounts (manner_of settings) workers text printed tally) input answer.printed
+    × IsToldOfScript settings.strict tally answer.told × (answer.outcome ≡ script_outcome settings.strict tally)
 
 -- ---- command lines
 

@@ -217,9 +217,24 @@ maps Serve = true
 maps (Audit workers) = true
 maps invocation = false
 
+-- whether what is asked for is a script, at once, line by line or as an audit
+abbrev pub runs_script : InvocationValue → Bool
+runs_script Script = true
+runs_script Serve = true
+runs_script (Audit workers) = true
+runs_script invocation = false
+
 -- whether at most one option spells bytes, and that where bytes are read
 abbrev pub spells_bytes : InvocationValue → OptionsValue → Bool
 spells_bytes invocation options = if reads_bytes invocation then not (options.base64 && options.loose) else not (options.base64 || options.loose)
+
+-- whether the options of scripts alone are for one
+abbrev pub keeps_to_scripts : InvocationValue → OptionsValue → Bool
+keeps_to_scripts invocation options = runs_script invocation || not (options.percent || options.strict)
+
+-- and those that spell bytes for bytes
+abbrev pub suits : InvocationValue → OptionsValue → Bool
+suits invocation options = keeps_to_scripts invocation options && spells_bytes invocation options
 
 -- whether each of the options is for what is asked
 abbrev pub takes : InvocationValue → OptionsValue → Bool
@@ -228,7 +243,7 @@ takes invocation options =
     && (reads_text invocation || is_none options.domain)
     && (maps invocation || is_none options.mapping)
     && (reads_text invocation || reads_bytes invocation || not options.without_sacl)
-    && spells_bytes invocation options
+    && suits invocation options
 
 abbrev pub with_options : OptionsValue → InvocationValue → Option CommandLineValue
 with_options options invocation = if takes (asked_by invocation) options then Some (record { options = options; invocation = invocation }) else None
@@ -275,13 +290,6 @@ is_script (ToBinary sddl) = false
 is_script (FromBinary bytes) = false
 is_script (Help command) = false
 is_script Version = false
-
--- whether what is asked for is a script, at once, line by line or as an audit
-abbrev pub runs_script : InvocationValue → Bool
-runs_script Script = true
-runs_script Serve = true
-runs_script (Audit workers) = true
-runs_script invocation = false
 
 -- the words ask for what is answered from the input
 abbrev pub asks_input : List (Bor (List ℕ)) → Bool

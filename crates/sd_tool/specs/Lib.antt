@@ -9,3 +9,4 @@ pub mod Status
 pub mod Told
 pub mod Lint
 pub mod Words
+pub mod Scripts

@@ -5,11 +5,13 @@ use Rattle.sd_text.specs.Domain.{domain_sid}
 use Rattle.sd_text.specs.Grammar.{Spells}
 use Rattle.sd_text.specs.Sid.{sid_text}
 use Rattle.sd_text.specs.declared.domain.Domain.{Domain}
+use Rattle.sd_script.specs.declared.paths.PathSpelling.{PathSpelling}
+use Rattle.sd_script.specs.declared.paths.PathSpelling.TheVariants as paths
 use Rattle.sd_script.specs.declared.spelling.Spelling.{Spelling}
 use Rattle.sd_script.specs.declared.spelling.Spelling.TheVariants.{Number, Names as ByNames}
 use Rattle.sd_tool.specs.Mapping.{GivesMapping, GivesNoMapping}
 use Rattle.sd_tool.specs.declared.options.Flag.{Flag}
-use Rattle.sd_tool.specs.declared.options.Flag.TheVariants.{Names, WithoutSacl, Base64, Loose}
+use Rattle.sd_tool.specs.declared.options.Flag.TheVariants.{Names, WithoutSacl, Base64, Loose, Percent, Strict}
 use Rattle.sd_tool.specs.declared.options.Setting.{Setting}
 use Rattle.sd_tool.specs.declared.options.Setting.TheVariants.{InDomain, Mapping}
 use Rattle.sd_tool.specs.declared.options.ByteForm.{ByteForm}
@@ -25,6 +27,8 @@ pub record OptionsValue : Type 0 where
   pub without_sacl : Bool
   pub base64 : Bool
   pub loose : Bool
+  pub percent : Bool
+  pub strict : Bool
   pub domain : Option (List ℕ)
   pub mapping : Option (List ℕ)
 
@@ -34,12 +38,23 @@ options_of options = record {
   without_sacl = options.without_sacl;
   base64 = options.base64;
   loose = options.loose;
+  percent = options.percent;
+  strict = options.strict;
   domain = option_map (λ text. text.now) options.domain;
   mapping = option_map (λ text. text.now) options.mapping;
 }
 
 abbrev pub no_options : OptionsValue
-no_options = record { names = false; without_sacl = false; base64 = false; loose = false; domain = None; mapping = None }
+no_options = record {
+  names = false;
+  without_sacl = false;
+  base64 = false;
+  loose = false;
+  percent = false;
+  strict = false;
+  domain = None;
+  mapping = None;
+}
 
 -- the option without a value that the word names
 abbrev pub flag_named : List ℕ → Option Flag
@@ -48,7 +63,9 @@ flag_named word =
     else (if bytes_eq word (codes "--without-sacl") then Some WithoutSacl
     else (if bytes_eq word (codes "--base64") then Some Base64
     else (if bytes_eq word (codes "--loose") then Some Loose
-    else None)))
+    else (if bytes_eq word (codes "--percent") then Some Percent
+    else (if bytes_eq word (codes "--strict") then Some Strict
+    else None)))))
 
 -- the option with a value that the word names
 abbrev pub setting_named : List ℕ → Option Setting
@@ -63,6 +80,8 @@ with_flag options Names = if options.names then None else Some (record options {
 with_flag options WithoutSacl = if options.without_sacl then None else Some (record options { without_sacl = true })
 with_flag options Base64 = if options.base64 then None else Some (record options { base64 = true })
 with_flag options Loose = if options.loose then None else Some (record options { loose = true })
+with_flag options Percent = if options.percent then None else Some (record options { percent = true })
+with_flag options Strict = if options.strict then None else Some (record options { strict = true })
 
 abbrev pub with_setting : OptionsValue → Setting → List ℕ → Option OptionsValue
 with_setting options InDomain value = if is_some options.domain then None else Some (record options { domain = Some value })
@@ -97,6 +116,10 @@ spelling_of options = if options.names then ByNames else Number
 abbrev pub byte_form_of : OptionsValue → ByteForm
 byte_form_of options = if options.base64 then forms.Base64 else if options.loose then forms.Loose else forms.Hex
 
+-- how the paths of a script are spelled
+abbrev pub paths_of : OptionsValue → PathSpelling
+paths_of options = if options.percent then paths.Percent else paths.Plain
+
 -- the text is the SID of this domain, or neither is there
 abbrev pub GivesDomain : Option (List ℕ) → Option Domain → Type 0
 GivesDomain None None = ⊤
@@ -115,6 +138,8 @@ pub record AreSettings (options : OptionsValue) (settings : Settings) : Type 0 w
   pub mapping : GivesMapping options.mapping settings.mapping
   pub without_sacl : settings.without_sacl ≡ options.without_sacl
   pub bytes : settings.bytes ≡ byte_form_of options
+  pub paths : settings.paths ≡ paths_of options
+  pub strict : settings.strict ≡ options.strict
 
 -- the value of an option isn't read: the domain's, or else the mapping's
 abbrev pub HasBadValue : OptionsValue → BadValue → Type 0

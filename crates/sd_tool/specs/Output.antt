@@ -12,6 +12,7 @@ use Rattle.sd_each.specs.declared.ending.Ending.{Ending}
 use Rattle.sd_tool.specs.Answer.{AnswerValue, Answers, AnswersLine}
 use Rattle.sd_tool.specs.CommandLine.{CommandLineValue, RequestValue, Each, Serve, reading, IsAudit, IsUnread}
 use Rattle.sd_tool.specs.Options.{AreSettings}
+use Rattle.sd_tool.specs.Scripts.{manner_of}
 use Rattle.sd_tool.specs.Status.{outcome_status}
 use Rattle.sd_tool.specs.declared.answer.Outcome.{Outcome}
 use Rattle.sd_tool.specs.declared.options.Settings.{Settings}
@@ -47,7 +48,7 @@ pub record LeavesServed (line : CommandLineValue) (input left old new : Option (
   pub settings : Settings
   pub asked : line.invocation ≡ Serve
   pub said : AreSettings line.options settings
-  pub answers : LeavesAnswers settings.mapping input left old new error
+  pub answers : LeavesAnswers (manner_of settings) input left old new error
 
 -- the answers to the lines of an input, as far as it came
 pub record LeavesEach (line : CommandLineValue) (input left old new : Option (List ℕ)) (error : RunError) : Type 0 where

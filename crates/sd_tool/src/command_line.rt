@@ -1,6 +1,6 @@
 //! The reading of a command line: what its words ask for.
 ghost use Rattle.std.specs.Prelude.{◌≡◌, Some, false, option_map};
-ghost use Rattle.sd_tool.specs.CommandLine.{Each, Help, asked_by as asked_of, arguments_in as arguments_of, command_in as command_at, command_line_of, command_named, command_on as command_of, count_of, each_in as each_at, each_on as each_of, explains as explains_of, help_on as help_of, invocation_of, of_line as invocation_on, request_in as request_at, request_of, request_on as request_by, is_help_flag as is_help_flag_of, is_script, maps as maps_of, reading, reads_bytes as reads_bytes_of, reads_text as reads_text_of, run_by as run_of, shown_by as shown_of, spells_bytes as spells_bytes_of, takes, workers_of};
+ghost use Rattle.sd_tool.specs.CommandLine.{Each, Help, asked_by as asked_of, arguments_in as arguments_of, command_in as command_at, command_line_of, command_named, command_on as command_of, count_of, each_in as each_at, each_on as each_of, explains as explains_of, help_on as help_of, invocation_of, of_line as invocation_on, request_in as request_at, request_of, request_on as request_by, is_help_flag as is_help_flag_of, is_script, keeps_to_scripts as keeps_to_scripts_of, maps as maps_of, reading, reads_bytes as reads_bytes_of, reads_text as reads_text_of, run_by as run_of, runs_script as runs_script_of, shown_by as shown_of, spells_bytes as spells_bytes_of, suits as suits_of, takes, workers_of};
 ghost use Rattle.sd_tool.specs.Options.{options_of};
 
 use crate::options::{Options, options_in};
@@ -158,7 +158,21 @@ impl<'a> Invocation<'a> {
             && (self.reads_text() || options.domain.is_none())
             && (self.maps() || options.mapping.is_none())
             && (self.reads_text() || self.reads_bytes() || !options.without_sacl)
-            && self.spells_bytes(options)
+            && self.suits(options)
+    }
+
+    /// Whether the options of scripts alone are for one, and those that spell bytes for bytes.
+    fn suits(self, options: Options<'_>) -> bool
+        ensures { result ≡ suits_of (invocation_of self.entry) (options_of options.entry) }
+    {
+        self.keeps_to_scripts(options) && self.spells_bytes(options)
+    }
+
+    /// Whether the options of scripts alone are for one.
+    fn keeps_to_scripts(self, options: Options<'_>) -> bool
+        ensures { result ≡ keeps_to_scripts_of (invocation_of self.entry) (options_of options.entry) }
+    {
+        self.runs_script() || !(options.percent || options.strict)
     }
 
     /// Whether at most one option spells bytes, and that where bytes are read.
@@ -198,6 +212,16 @@ impl<'a> Invocation<'a> {
         ensures { result ≡ reads_bytes_of (invocation_of self.entry) }
     {
         matches!(self, Invocation::FromBinary { .. })
+    }
+
+    /// Whether it is a script, at once, line by line or as an audit.
+    fn runs_script(self) -> bool
+        ensures { result ≡ runs_script_of (invocation_of self.entry) }
+    {
+        matches!(
+            self,
+            Invocation::Script | Invocation::Serve | Invocation::Audit { .. }
+        )
     }
 
     /// Whether generic rights are mapped ([MS-DTYP] 2.4.3).

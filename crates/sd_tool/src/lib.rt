@@ -25,6 +25,7 @@ mod mapping;
 mod options;
 mod perform;
 mod program;
+mod scripts;
 mod shown;
 mod told;
 mod verdict;
@@ -33,7 +34,7 @@ mod words;
 
 pub use laws::{dashes_keep_texts, each_asks_the_command, help_stands_alone};
 pub use program::drive;
-pub use sd_script::run;
+pub use sd_script::{Manner, PathSpelling, Tally, run};
 pub use sd_script_audit::run_audit;
 pub use sd_sid::GenericMapping;
 pub use sd_store::{Gate, OpenGate};

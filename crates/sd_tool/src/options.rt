@@ -3,10 +3,11 @@ ghost use Rattle.std.specs.Prelude.{◌≡◌, IfErr, IfNone, IfOk, IfSome, opti
 ghost use Rattle.sd_text.specs.Domain.{domain_sid};
 ghost use Rattle.sd_text.specs.Grammar.{Spells};
 ghost use Rattle.sd_text.specs.Sid.{sid_text};
-ghost use Rattle.sd_tool.specs.Options.{AreSettings, GivesDomain, HasBadValue, IsNoDomain, byte_form_of, no_options, flag_named, setting_named, options_in as options_at, options_of, parted, spelling_of, with_flag as with_flag_of, with_setting as with_setting_of};
+ghost use Rattle.sd_tool.specs.Scripts.{manner_of};
+ghost use Rattle.sd_tool.specs.Options.{AreSettings, GivesDomain, HasBadValue, IsNoDomain, byte_form_of, no_options, flag_named, setting_named, options_in as options_at, options_of, parted, paths_of, spelling_of, with_flag as with_flag_of, with_setting as with_setting_of};
 
 use crate::mapping::mapping_given;
-use sd_script::Spelling;
+use sd_script::{Manner, PathSpelling, Spelling};
 use sd_sid::GenericMapping;
 use sd_text::{Domain, read_sid_text};
 
@@ -21,6 +22,10 @@ pub(crate) enum Flag {
     Base64,
     /// `--loose`.
     Loose,
+    /// `--percent`.
+    Percent,
+    /// `--strict`.
+    Strict,
 }
 
 /// An option whose value is the next word.
@@ -63,6 +68,10 @@ pub(crate) struct Options<'a> {
     pub(crate) base64: bool,
     /// `--loose`: bytes in hexadecimal with signs between them.
     pub(crate) loose: bool,
+    /// `--percent`: `%` and two hexadecimal digits stand for a byte of a script's path.
+    pub(crate) percent: bool,
+    /// `--strict`: a script's first fault or refusal is told, and the status is 1.
+    pub(crate) strict: bool,
     /// `--domain SID`: the aliases of a domain are read as SIDs of this one.
     pub(crate) domain: Option<&'a str>,
     /// `--mapping KIND`: what the generic rights stand for.
@@ -82,6 +91,22 @@ pub(crate) struct Settings {
     pub(crate) without_sacl: bool,
     /// How bytes are spelled.
     pub(crate) bytes: ByteForm,
+    /// How the paths of a script are spelled.
+    pub(crate) paths: PathSpelling,
+    /// Whether a script's fault or refusal is told by the status.
+    pub(crate) strict: bool,
+}
+
+impl Settings {
+    /// How a script is carried out.
+    pub(crate) fn manner(&self) -> Manner
+        ensures { result ≡ manner_of self.now }
+    {
+        Manner {
+            mapping: self.mapping,
+            paths: self.paths,
+        }
+    }
 }
 
 impl Flag {
@@ -93,6 +118,8 @@ impl Flag {
             "--without-sacl" => Some(Flag::WithoutSacl),
             "--base64" => Some(Flag::Base64),
             "--loose" => Some(Flag::Loose),
+            "--percent" => Some(Flag::Percent),
+            "--strict" => Some(Flag::Strict),
             _ => None,
         }
     }
@@ -120,6 +147,8 @@ impl<'a> Options<'a> {
             without_sacl: false,
             base64: false,
             loose: false,
+            percent: false,
+            strict: false,
             domain: None,
             mapping: None,
         }
@@ -155,6 +184,20 @@ impl<'a> Options<'a> {
                 true => None,
                 false => Some(Options {
                     loose: true,
+                    ..self
+                }),
+            },
+            Flag::Percent => match self.percent {
+                true => None,
+                false => Some(Options {
+                    percent: true,
+                    ..self
+                }),
+            },
+            Flag::Strict => match self.strict {
+                true => None,
+                false => Some(Options {
+                    strict: true,
                     ..self
                 }),
             },
@@ -198,6 +241,8 @@ impl<'a> Options<'a> {
             mapping,
             without_sacl: self.without_sacl,
             bytes: self.byte_form(),
+            paths: self.paths(),
+            strict: self.strict,
         })
     }
 
@@ -224,6 +269,16 @@ impl<'a> Options<'a> {
             ByteForm::Loose
         } else {
             ByteForm::Hex
+        }
+    }
+
+    fn paths(self) -> PathSpelling
+        ensures { result ≡ paths_of (options_of self.entry) }
+    {
+        if self.percent {
+            PathSpelling::Percent
+        } else {
+            PathSpelling::Plain
         }
     }
 

@@ -1,5 +1,5 @@
 //! A command line, carried out over streams.
-ghost use Rattle.std.specs.Prelude.{◌≡◌, ◌≢◌, ◌||◌, ℕ, [], true, false, Err, IfErr, IfOk, OnOk, string_bytes};
+ghost use Rattle.std.specs.Prelude.{◌≡◌, ◌≢◌, ◌||◌, ℕ, List, [], true, false, Err, IfErr, IfOk, string_bytes};
 ghost use Rattle.std.specs.Io.KnownBytes.{Appends};
 ghost use Rattle.sd_stream.specs.Watched.{has_failed, inner_of};
 ghost use Rattle.sd_stream.specs.Whole.{AppendsBeginning, ReadsPart, is_read_error, is_write_error};
@@ -7,6 +7,7 @@ ghost use Rattle.sd_tool.specs.Answer.{answer_of};
 ghost use Rattle.sd_tool.specs.CommandLine.{Audit, Each, command_line_of, invocation_of, is_script, request_of, runs_script};
 ghost use Rattle.sd_tool.specs.Options.{AreSettings, options_of};
 ghost use Rattle.sd_tool.specs.Output.{AppendsAnswerTo, LeavesAfter, LeavesAfterFailure, blames_reader, blames_writer};
+ghost use Rattle.sd_tool.specs.Scripts.{IsToldOfScript, script_outcome as script_outcome_of};
 ghost use Rattle.sd_tool.specs.Status.{outcome_status};
 
 use crate::answer::{Answer, Outcome, answer_to, bad_value};
@@ -14,8 +15,9 @@ use crate::command_line::{CommandLine, Invocation, Request};
 use crate::each::{Question, answer_each};
 use crate::failure::Failure;
 use crate::options::{Options, Settings};
+use crate::scripts::{script_outcome, told_of_script};
 use sd_each::Ending;
-use sd_script::run;
+use sd_script::{Tally, run};
 use sd_script_audit::run_audit;
 use sd_script_serve::serve;
 use sd_store::OpenGate;
@@ -98,8 +100,11 @@ fn perform_script<T: Threads + Wait + Sync, R: Read, W: Write>(
 {
     match line.options.settings() {
         Ok(settings) => {
-            run_under(rt, alloc, &settings, line, reader, writer)?;
-            Ok(Ended::quiet(alloc, Outcome::Done))
+            let tally = run_under(rt, alloc, &settings, line, reader, writer)?;
+            Ok(Ended {
+                told: told_of_script(alloc, settings.strict, &tally),
+                outcome: script_outcome(settings.strict, &tally),
+            })
         }
         Err(bad) => print(bad_value(alloc, bad)?, writer),
     }
@@ -113,11 +118,12 @@ fn run_under<T: Threads + Wait + Sync, R: Read, W: Write>(
     line: CommandLine<'_>,
     reader: &mut Watched<R>,
     writer: &mut Watched<W>,
-) -> Result<(), RunError>
+) -> Result<Tally, RunError>
     requires said { AreSettings (options_of line.options) settings.now }
     requires script { runs_script (invocation_of line.invocation) ≡ true }
-    ensures ok { OnOk result (AppendsAnswerTo (command_line_of line.entry) (R.remaining (inner_of reader.old))
-        (W.contents (inner_of writer.old)) (W.contents (inner_of writer.new)) [] 0) }
+    ensures ok { IfOk result (λ tally. (told : List ℕ) → IsToldOfScript settings.now.strict tally told
+        → AppendsAnswerTo (command_line_of line.entry) (R.remaining (inner_of reader.old))
+        (W.contents (inner_of writer.old)) (W.contents (inner_of writer.new)) told (outcome_status (script_outcome_of settings.now.strict tally))) }
     ensures err { IfErr result (LeavesAfter (command_line_of line.entry) (R.remaining (inner_of reader.old)) (R.remaining (inner_of reader.new))
         (W.contents (inner_of writer.old)) (W.contents (inner_of writer.new))) }
     ensures read { has_failed reader.new ≡ (has_failed reader.old || is_read_error result) }
@@ -126,12 +132,12 @@ fn run_under<T: Threads + Wait + Sync, R: Read, W: Write>(
         → ReadsPart (R.remaining (inner_of reader.old)) (R.remaining (inner_of reader.new)) RunError.TooLong }
     ensures thread { result ≡ Err RunError.Thread → (workers : ℕ) × (invocation_of line.entry.invocation ≡ Audit workers) }
 {
-    let mapping = &settings.mapping;
+    let manner = settings.manner();
     match line.invocation {
-        Invocation::Script => run(alloc, mapping, reader, writer),
-        Invocation::Serve => serve(alloc, mapping, reader, writer),
+        Invocation::Script => run(alloc, &manner, reader, writer),
+        Invocation::Serve => serve(alloc, &manner, reader, writer),
         Invocation::Audit { workers } => {
-            run_audit(rt, alloc, workers, mapping, reader, writer, &OpenGate)
+            run_audit(rt, alloc, workers, &manner, reader, writer, &OpenGate)
         }
         _ => unreachable!(),
     }

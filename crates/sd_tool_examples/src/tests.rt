@@ -9,7 +9,9 @@ mod streams;
 mod told;
 mod usage;
 
-use sd_tool::{GenericMapping, OpenGate, RunError, Watched, drive, run_audit};
+use sd_tool::{
+    GenericMapping, Manner, OpenGate, PathSpelling, RunError, Tally, Watched, drive, run_audit,
+};
 use std::alloc::{AllocError, Global};
 use std::io;
 use std::io::{Read, Write};

@@ -120,13 +120,16 @@ Each line is a command, and is answered by a line; an empty line and one that be
   show I PATH                          asks, as reader I, for the node's descriptor
   list [PATH]                          tells the published nodes at and below the path, or all of them
   dump                                 tells the published tree as lines of a script that makes it
+  import container PATH SDDL           adds a node by the descriptor that it had elsewhere: inherited
+  import object PATH SDDL              entries are left out, and the others put into order
 
 Generic rights are mapped as files', or as '--mapping' before 'script' tells: 'sdstore help verdict'
-has the kinds.
+has the kinds. With '--percent' before it '%' and two hexadecimal digits stand for a byte of a path.
 
 Statuses:
   0  the script was carried out to its end, whatever its lines were answered
-  1  the fault of the option's value was printed, and the input not read
+  1  with '--strict' before it a line had a fault or was refused, and standard error tells the first;
+     or the fault of an option's value was printed, and the input not read
   2  the words aren't a command line
   3  memory was wanting, the input wasn't read or has more than 16777216 bytes, or the output
      didn't take the answer
@@ -137,11 +140,12 @@ Example:
 const SERVE_NOTES: &str = "\
 Each line is answered as by 'sdstore script', when it is read and before the next: a program may
 ask a line, wait for its answer and ask the next. There is no limit on the number of lines.
-'--mapping' stands before 'serve', as before 'script'.
+'--mapping', '--percent' and '--strict' stand before 'serve', as before 'script'.
 
 Statuses:
   0  the input ended, whatever its lines were answered
-  1  the fault of the option's value was printed, and the input not read
+  1  with '--strict' before it a line had a fault or was refused, and standard error tells the first;
+     or the fault of an option's value was printed, and the input not read
   2  the words aren't a command line
   3  memory was wanting, the input wasn't read, a line has more than 16777216 bytes, or the output
      didn't take an answer; the lines before are answered
@@ -154,12 +158,13 @@ Each line is answered as by 'sdstore script', but that
   open N SDDL                          opens the store for as many readers as there are workers
   check I PATH USER MASK [WORD]...     is kept, whatever its reader, and answered at the end
   tell, learn I L, why .., show I PATH, list, dump are faults
-At the end all edits are published, and each check is answered by them, in order. '--mapping' stands
-before 'audit', as before 'script'.
+At the end all edits are published, and each check is answered by them, in order. '--mapping',
+'--percent' and '--strict' stand before 'audit', as before 'script'.
 
 Statuses:
   0  the audit was carried out to its end, whatever its lines were answered
-  1  the fault of the option's value was printed, and the input not read
+  1  with '--strict' before it a line had a fault or was refused, and standard error tells the first;
+     or the fault of an option's value was printed, and the input not read
   2  the words aren't a command line
   3  memory was wanting, the input wasn't read or has more than 16777216 bytes, the output didn't
      take the answer, or the workers got no answers
@@ -216,6 +221,14 @@ const LOOSE: &str = "\
 Before 'frombin': the bytes are in hexadecimal, with '0x', tabs, spaces, commas, backslashes and line
 ends between them";
 
+const PERCENT: &str = "\
+Before 'script', 'serve' and 'audit': '%' and two hexadecimal digits stand for a byte of a path, in
+what is read and in what is printed";
+
+const STRICT: &str = "\
+Before 'script', 'serve' and 'audit': where a line has a fault or is refused the status is 1, and
+standard error tells the first such line";
+
 const MAPPING: &str = "\
 Before 'verdict', 'why', 'lint', 'script', 'serve' and 'audit': what generic rights stand for: those
 of a file (as without this option), of a key of the registry, of a service or of a process, or
@@ -229,8 +242,8 @@ SIDs of the domain with this SID, S-1-5-21 and three more numbers, as S-1-5-21-1
 const OPTIONS: &str = "\
 an option stands before the command, once, and its value is the next word: '--names' is for 'why' \
 alone, '--base64' or '--loose' for 'frombin', '--mapping' for 'verdict', 'why', 'lint', 'script', \
-'serve' and 'audit', '--domain' for the first three, 'print' and 'tobin', and '--without-sacl' for \
-these and 'frombin'";
+'serve' and 'audit', '--percent' and '--strict' for the last three, '--domain' for the first three, \
+'print' and 'tobin', and '--without-sacl' for these and 'frombin'";
 
 // What is told of words that `clap` would answer with help or the version.
 const STANDS_ALONE: &str = "\
@@ -351,6 +364,8 @@ fn sdstore<'a>(alloc: Global) -> Result<Command<'a>, AllocError> {
         .arg(flag(alloc, "without-sacl").help(WITHOUT_SACL))?
         .arg(flag(alloc, "base64").help(BASE64))?
         .arg(flag(alloc, "loose").help(LOOSE))?
+        .arg(flag(alloc, "percent").help(PERCENT))?
+        .arg(flag(alloc, "strict").help(STRICT))?
         .arg(setting(alloc, "domain", "SID").help(DOMAIN))?
         .arg(setting(alloc, "mapping", "KIND").help(MAPPING))?
         .subcommand(verdict_command(alloc)?)?

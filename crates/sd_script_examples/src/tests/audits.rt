@@ -1,7 +1,8 @@
 //! Whole audits, each with its whole output.
 
+use super::plain;
+use sd_script::Tally;
 use sd_script_audit::run_audit;
-use sd_sid::GenericMapping;
 use sd_store::{Gate, OpenGate};
 use sd_stream::{RunError, Watched};
 use std::alloc::AllocGlobal;
@@ -70,19 +71,11 @@ fn audited<T: Threads + Wait + Sync + AllocGlobal, G: Gate + Sync>(
     workers: u64,
     script: &str,
     gate: &G,
-) -> (Result<(), RunError>, Vec<u8>) {
+) -> (Result<Tally, RunError>, Vec<u8>) {
     let alloc = rt.alloc();
     let mut reader = Watched::new(script.as_bytes());
     let mut writer = Watched::new(Vec::new(alloc));
-    let ended = run_audit(
-        rt,
-        alloc,
-        workers,
-        &GenericMapping::file(),
-        &mut reader,
-        &mut writer,
-        gate,
-    );
+    let ended = run_audit(rt, alloc, workers, &plain(), &mut reader, &mut writer, gate);
     (ended, writer.into_inner())
 }
 
@@ -90,7 +83,7 @@ fn audited<T: Threads + Wait + Sync + AllocGlobal, G: Gate + Sync>(
 fn prints_the_output_of_audits(rt: HostRuntime) {
     for (workers, script, output) in &AUDITS {
         let (ended, printed) = audited(&rt, *workers, script, &OpenGate);
-        assert_eq!(rt; ended, Ok(()), "{script}");
+        assert!(rt; ended.is_ok(), "{script}");
         assert_eq!(rt; printed.as_slice(), output.as_bytes(), "{script}");
     }
 }
@@ -109,7 +102,7 @@ impl Gate for Closed {
 #[test]
 fn tells_of_a_closed_gate(rt: HostRuntime) {
     let (ended, printed) = audited(&rt, 2, AUDIT, &Closed);
-    assert_eq!(rt; ended, Err(RunError::Thread));
+    assert_eq!(rt; ended.err(), Some(RunError::Thread));
     assert!(rt; printed.is_empty());
 }
 
@@ -142,7 +135,7 @@ fn each_worker_comes(rt: HostRuntime) -> Result<(), Fail> {
             came: AtomicU64::new(0),
         };
         let (ended, _) = audited(&rt, workers, script.as_str(), &gate);
-        assert_eq!(rt; ended, Ok(()));
+        assert!(rt; ended.is_ok());
         assert_eq!(rt; gate.came.load(Ordering::SeqCst), bits, "{workers}");
     }
     Ok(())

@@ -1,10 +1,11 @@
 //! Whole scripts, each with its whole output.
 
+use super::plain;
 use sd_acl::Verdict;
 use sd_script::{
-    Asked, LineFault, Spelling, Stop, TokenError, counted_line, fault_line, first_line, is_silent,
-    line_of_fault, read_line, read_token, reply_line, script_output, sddl_fault_line, spell,
-    start_error_line, verdict_line, why_text,
+    Asked, LineFault, PathSpelling, Spelling, Stop, TokenError, counted_line, fault_line,
+    first_line, is_silent, line_of_fault, read_line, read_token, reply_line, script_output,
+    sddl_fault_line, spell, start_error_line, verdict_line, why_text,
 };
 use sd_share::{Reply, Request, StartError};
 use sd_sid::{GenericMapping, Mask};
@@ -70,7 +71,7 @@ static SCRIPTS: [(&str, &str); 11] = [
 #[test]
 fn prints_the_output_of_scripts(rt: HostRuntime) -> Result<(), Fail> {
     for (script, output) in &SCRIPTS {
-        let printed = script_output(rt.alloc(), &GenericMapping::file(), script.as_bytes())?;
+        let (printed, _) = script_output(rt.alloc(), &plain(), script.as_bytes())?;
         assert_eq!(rt; printed.as_slice(), output.as_bytes(), "{script}");
     }
     Ok(())
@@ -97,7 +98,7 @@ fn refuses_what_lies_too_deep(rt: HostRuntime) -> Result<(), Fail> {
             output.push_str("ok\n")?;
         }
         output.push_str(last)?;
-        let printed = script_output(rt.alloc(), &GenericMapping::file(), script.as_bytes())?;
+        let (printed, _) = script_output(rt.alloc(), &plain(), script.as_bytes())?;
         assert_eq!(rt; printed.as_slice(), output.as_bytes(), "{depth}");
     }
     Ok(())
@@ -127,7 +128,7 @@ fn refuses_lists_that_are_too_large(rt: HostRuntime) -> Result<(), Fail> {
     ];
     for (count, output) in rows {
         let script = heirs_of(rt.alloc(), count)?;
-        let printed = script_output(rt.alloc(), &GenericMapping::file(), script.as_bytes())?;
+        let (printed, _) = script_output(rt.alloc(), &plain(), script.as_bytes())?;
         assert_eq!(rt; printed.as_slice(), output.as_bytes(), "{count}");
     }
     Ok(())
@@ -135,11 +136,7 @@ fn refuses_lists_that_are_too_large(rt: HostRuntime) -> Result<(), Fail> {
 
 #[test]
 fn lines_that_are_no_text(rt: HostRuntime) -> Result<(), Fail> {
-    let printed = script_output(
-        rt.alloc(),
-        &GenericMapping::file(),
-        b"\xFF\n#\xFF\nwhy \xFF\ntell",
-    )?;
+    let (printed, _) = script_output(rt.alloc(), &plain(), b"\xFF\n#\xFF\nwhy \xFF\ntell")?;
     assert_eq!(rt;
         printed.as_slice(),
         b"fault utf8\nfault utf8\n\nfault open\n".as_slice()
@@ -180,7 +177,7 @@ fn lines_one_by_one(rt: HostRuntime) {
     assert_eq!(rt; after, b"publish\n".as_slice());
     assert!(rt; is_silent(b"# tell") && is_silent(b""));
     assert!(rt; !is_silent(b" "));
-    let asked = read_line(rt.alloc(), true, b"learn 1 2");
+    let asked = read_line(rt.alloc(), PathSpelling::Plain, true, b"learn 1 2");
     assert!(rt;
         matches!(
             asked,
@@ -192,7 +189,7 @@ fn lines_one_by_one(rt: HostRuntime) {
     );
     assert!(rt;
         matches!(
-            read_line(rt.alloc(), false, b"learn 1 2"),
+            read_line(rt.alloc(), PathSpelling::Plain, false, b"learn 1 2"),
             Err(Stop::Fault(LineFault::Open))
         )
     );

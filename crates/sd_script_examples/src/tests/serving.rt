@@ -1,6 +1,6 @@
 //! Scripts that come in pieces of every length, that break off at every byte, and lines as long as one may be.
+use super::plain;
 use sd_script_serve::serve;
-use sd_sid::GenericMapping;
 use sd_stream::{MAX_INPUT_BYTES, RunError, Watched};
 use std::alloc::{AllocError, Global};
 use std::io;
@@ -92,13 +92,8 @@ fn answers_pieces_of_every_length(rt: HostRuntime) {
         });
         let mut writer = Watched::new(Vec::new(rt.alloc()));
         assert_eq!(rt;
-            serve(
-                rt.alloc(),
-                &GenericMapping::file(),
-                &mut reader,
-                &mut writer
-            ),
-            Ok(()),
+            serve(rt.alloc(), &plain(), &mut reader, &mut writer).err(),
+            None,
             "by {size}"
         );
         assert!(rt; writer.into_inner() == wanted, "by {size}");
@@ -116,13 +111,8 @@ fn answers_what_had_ended_before_the_reader_failed(rt: HostRuntime) {
             fails_at,
         });
         let mut writer = Watched::new(Vec::new(rt.alloc()));
-        let answer = serve(
-            rt.alloc(),
-            &GenericMapping::file(),
-            &mut reader,
-            &mut writer,
-        );
-        assert_eq!(rt; answer, Err(RunError::Read), "at {fails_at}");
+        let answer = serve(rt.alloc(), &plain(), &mut reader, &mut writer);
+        assert_eq!(rt; answer.err(), Some(RunError::Read), "at {fails_at}");
         assert!(rt; reader.failed() && !writer.failed(), "at {fails_at}");
         let wanted = answers(rt.alloc(), fails_at).expect(&rt, "memory is there");
         assert!(rt; writer.into_inner() == wanted, "at {fails_at}");
@@ -161,13 +151,8 @@ fn answers_the_longest_line_and_no_longer(rt: HostRuntime) {
         });
         let mut writer = Watched::new(Vec::new(rt.alloc()));
         assert_eq!(rt;
-            serve(
-                rt.alloc(),
-                &GenericMapping::file(),
-                &mut reader,
-                &mut writer
-            ),
-            ends,
+            serve(rt.alloc(), &plain(), &mut reader, &mut writer).err(),
+            ends.err(),
             "{left}"
         );
         assert_eq!(rt; writer.into_inner().as_slice(), wanted, "{left}");
@@ -203,13 +188,8 @@ fn writes_a_beginning_where_the_writer_fails(rt: HostRuntime) {
             taken: Vec::new(rt.alloc()),
             room,
         });
-        let answer = serve(
-            rt.alloc(),
-            &GenericMapping::file(),
-            &mut reader,
-            &mut writer,
-        );
-        assert_eq!(rt; answer, Err(RunError::Write), "room for {room}");
+        let answer = serve(rt.alloc(), &plain(), &mut reader, &mut writer);
+        assert_eq!(rt; answer.err(), Some(RunError::Write), "room for {room}");
         assert!(rt; writer.failed() && !reader.failed(), "room for {room}");
         assert_eq!(rt; writer.into_inner().taken.as_slice(), &whole[..room]);
     }

@@ -82,19 +82,23 @@ impl Way {
         reader: &mut Watched<R>,
         writer: &mut Watched<W>,
     ) -> &'static str {
-        let (alloc, files) = (rt.alloc(), GenericMapping::file());
+        let alloc = rt.alloc();
+        let manner = Manner {
+            mapping: GenericMapping::file(),
+            paths: PathSpelling::Plain,
+        };
         match self {
-            Way::Script => name_of(sd_tool::run(alloc, &files, reader, writer)),
-            Way::Audit => name_of(run_audit(rt, alloc, 2, &files, reader, writer, &OpenGate)),
+            Way::Script => name_of(sd_tool::run(alloc, &manner, reader, writer)),
+            Way::Audit => name_of(run_audit(rt, alloc, 2, &manner, reader, writer, &OpenGate)),
             Way::ScriptCommand => driven(rt, &["sdstore", "script"], reader, writer),
             Way::AuditCommand => driven(rt, &["sdstore", "audit", "2"], reader, writer),
         }
     }
 }
 
-fn name_of(ended: Result<(), RunError>) -> &'static str {
+fn name_of(ended: Result<Tally, RunError>) -> &'static str {
     match ended {
-        Ok(()) => "well",
+        Ok(_) => "well",
         Err(error) => error.name(),
     }
 }

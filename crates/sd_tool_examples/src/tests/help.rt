@@ -3,7 +3,11 @@
 use super::*;
 
 /// Words that aren't a command line, and what is told of them.
-const REFUSED: [(&[&str], &str); 25] = [
+const REFUSED: [(&[&str], &str); 26] = [
+    (
+        &["sdstore", "--strict", "lint", "D:"],
+        "'--percent' and '--strict' for the last three",
+    ),
     (
         &["sdstore", "--names", "print", "D:"],
         "'--names' is for 'why' alone",

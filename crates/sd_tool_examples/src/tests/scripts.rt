@@ -153,3 +153,86 @@ fn maps_as_the_option_tells(rt: HostRuntime) {
         assert_eq!(rt; ended.status, 0, "{words:?}");
     }
 }
+
+/// What `--strict` makes of a fault and of a refusal, and what standard error is told of a script.
+#[test]
+fn tells_the_first_fault_where_that_is_asked_for(rt: HostRuntime) {
+    let fault = b"open 1 O:BAG:SYD:\n#\nfrob\naddo /a D:\n";
+    let refusal = b"\nopen 1 O:BAG:SYD:\nremove /a\n";
+    let well = b"open 1 O:BAG:SYD:\nlearn 0 0\n";
+    let rows: [(&[&str], &[u8], &str, u8); 9] = [
+        (
+            &["sdstore", "--strict", "script"],
+            fault,
+            "sdstore: line 3: a fault or a refusal\n",
+            1,
+        ),
+        (
+            &["sdstore", "--strict", "serve"],
+            refusal,
+            "sdstore: line 3: a fault or a refusal\n",
+            1,
+        ),
+        (
+            &["sdstore", "--strict", "audit", "2"],
+            refusal,
+            "sdstore: line 3: a fault or a refusal\n",
+            1,
+        ),
+        (
+            &["sdstore", "--strict", "audit", "2"],
+            well,
+            "sdstore: line 2: a fault or a refusal\n",
+            1,
+        ),
+        (&["sdstore", "--strict", "script"], well, "", 0),
+        (&["sdstore", "script"], fault, "", 0),
+        (
+            &["sdstore", "serve"],
+            b"\xEF\xBB\xBFtell\n",
+            "sdstore: line 1: it begins with a byte order mark\n",
+            0,
+        ),
+        (
+            &["sdstore", "--strict", "script"],
+            b"\xEF\xBB\xBFopen 1 O:BAG:SYD:\nopen 1 O:BAG:SYD:\nimport object /a O:BAG:SYD:(A;ID;FR;;;WD)\n",
+            "sdstore: line 1: it begins with a byte order mark\nsdstore: line 3: the node inherits otherwise than its descriptor says\nsdstore: line 1: a fault or a refusal\n",
+            1,
+        ),
+        (
+            &["sdstore", "audit", "1"],
+            b"open 1 O:BAG:SYD:\nimport object /a O:BAG:SYD:\nimport object /b O:BAG:SYD:(A;ID;FR;;;WD)\n",
+            "sdstore: line 3: the node inherits otherwise than its descriptor says\n",
+            0,
+        ),
+    ];
+    for (words, script, told, status) in rows {
+        let ended = run_over(&rt, words, script);
+        assert_eq!(rt; ended.errors.as_slice(), told.as_bytes(), "{words:?}");
+        assert_eq!(rt; ended.status, status, "{words:?}");
+    }
+}
+
+#[test]
+fn spells_paths_by_percent_where_that_is_asked_for(rt: HostRuntime) {
+    let script = b"open 1 O:BAG:SYD:\naddo /a%20b O:BAG:SYD:\npublish\nlist\n";
+    let rows: [(&[&str], &str); 3] = [
+        (
+            &["sdstore", "--percent", "script"],
+            "opened 1\nok\npublished 1\ncontainer / O:BAG:SYD:AI\nobject /a%20b O:BAG:SYD:AI\n\n",
+        ),
+        (
+            &["sdstore", "serve"],
+            "opened 1\nok\npublished 1\ncontainer / O:BAG:SYD:AI\nobject /a%20b O:BAG:SYD:AI\n\n",
+        ),
+        (
+            &["sdstore", "--percent", "audit", "1"],
+            "opened 1\nok\npublished 1\nfault audit\ntold 1\n",
+        ),
+    ];
+    for (words, output) in rows {
+        let ended = run_over(&rt, words, script.as_slice());
+        assert_eq!(rt; ended.output.as_slice(), output.as_bytes(), "{words:?}");
+        assert_eq!(rt; ended.status, 0, "{words:?}");
+    }
+}

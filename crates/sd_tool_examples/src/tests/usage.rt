@@ -38,7 +38,10 @@ fn expect_both(
 
 #[test]
 fn both_read_commands(rt: HostRuntime) -> Result<(), AllocError> {
-    let rows: [&[&str]; 71] = [
+    let rows: [&[&str]; 74] = [
+        &["--percent", "script"],
+        &["--strict", "--percent", "serve"],
+        &["--mapping", "key", "--strict", "audit", "1"],
         &["--mapping", "key", "script"],
         &["--mapping", "key", "serve"],
         &["--mapping", "key", "audit", "--", "1"],
@@ -168,7 +171,9 @@ fn both_read_help_and_version(rt: HostRuntime) -> Result<(), AllocError> {
 }
 
 /// Words that are no command line.
-const REFUSED: [&[&str]; 65] = [
+const REFUSED: [&[&str]; 67] = [
+    &["--percent", "--percent", "script"],
+    &["--strict", "--strict", "script"],
     &["--loose", "--loose", "frombin", "00"],
     &["each"],
     &["each", "-0"],
@@ -296,7 +301,9 @@ fn gives_no_help_beside_other_words(rt: HostRuntime) -> Result<(), AllocError> {
 // An option is for the commands that take it, and help takes none; `clap` takes one before any command.
 #[test]
 fn takes_options_before_their_commands_alone(rt: HostRuntime) -> Result<(), AllocError> {
-    let rows: [&[&str]; 18] = [
+    let rows: [&[&str]; 20] = [
+        &["--percent", "print", "D:"],
+        &["--strict", "each", "print"],
         &["--without-sacl", "script"],
         &["--loose", "script"],
         &["--base64", "tobin", "D:"],

@@ -1,7 +1,7 @@
 use Rattle.sd_script.proofs.asked.asked_by.Goals as goal
 
 pub returns-in-Open : goal.returns-in-Open
-returns-in-Open c = rw (c.in-Open.is) c.opening.ensures
+returns-in-Open c = rw (c.in-Open.is) (c.opening.ensures c.args.paths)
 
 pub returns-in-AddContainer : goal.returns-in-AddContainer
 returns-in-AddContainer c = rw (c.in-AddContainer.is) c.added_container.ensures
@@ -26,3 +26,9 @@ returns-in-Why c = rw (c.in-Why.is) c.explained.ensures
 
 pub returns-in-ListNodes : goal.returns-in-ListNodes
 returns-in-ListNodes c = rw (c.in-ListNodes.is) c.listed.ensures
+
+pub returns-in-Learn : goal.returns-in-Learn
+returns-in-Learn c = rw (c.in-Learn.is) (c.learned.ensures c.args.paths)
+
+pub returns-in-ImportNode : goal.returns-in-ImportNode
+returns-in-ImportNode c = rw (c.in-ImportNode.is) c.importing.ensures

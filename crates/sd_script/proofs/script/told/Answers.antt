@@ -1,30 +1,37 @@
 -- Where a line asks something of a store, one is open.
 use Rattle.std.proofs.Common.{refl}
-use Rattle.sd_script.specs.declared.asked.Asked.TheVariants.{Asking, Dumping, Explaining, Listing}
+use Rattle.sd_script.specs.declared.asked.Asked.TheVariants.{Asking, Dumping, Explaining, Importing, Listing}
 use Rattle.sd_script.proofs.Timely.{open_where_asked}
 use Rattle.sd_script.proofs.script.told.Goals as goal
 
 pub ask-requires : goal.ask-requires
 ask-requires c =
     let asked = rw (c.in-Ok-Asking.field-0-is) at c.in-Ok-Asking.ensures in
-    let standing = rw (c.is_open.ensures) at asked in
+    let standing = rw (c.is_open.ensures, c.manner.ensures) at asked in
     open_where_asked c.args.session.now c.args.line.now (Asking c.in-Ok-Asking.request) refl standing
 
 pub explain-requires : goal.explain-requires
 explain-requires c =
     let asked = rw (c.in-Ok-Explaining.field-0-is) at c.in-Ok-Explaining.ensures in
-    let standing = rw (c.is_open.ensures) at asked in
+    let standing = rw (c.is_open.ensures, c.manner.ensures) at asked in
     let explaining = Explaining c.in-Ok-Explaining.reader c.in-Ok-Explaining.path c.in-Ok-Explaining.token c.in-Ok-Explaining.asked in
     open_where_asked c.args.session.now c.args.line.now explaining refl standing
 
 pub list-requires : goal.list-requires
 list-requires c =
     let asked = rw (c.in-Ok-Listing.field-0-is) at c.in-Ok-Listing.ensures in
-    let standing = rw (c.is_open.ensures) at asked in
+    let standing = rw (c.is_open.ensures, c.manner.ensures) at asked in
     open_where_asked c.args.session.now c.args.line.now (Listing c.in-Ok-Listing.path) refl standing
 
 pub dump-requires : goal.dump-requires
 dump-requires c =
     let asked = rw (c.in-Ok-Dumping.field-0-is) at c.in-Ok-Dumping.ensures in
-    let standing = rw (c.is_open.ensures) at asked in
+    let standing = rw (c.is_open.ensures, c.manner.ensures) at asked in
     open_where_asked c.args.session.now c.args.line.now Dumping refl standing
+
+pub import-requires : goal.import-requires
+import-requires c =
+    let asked = rw (c.in-Ok-Importing.field-0-is) at c.in-Ok-Importing.ensures in
+    let standing = rw (c.is_open.ensures, c.manner.ensures) at asked in
+    let importing = Importing c.in-Ok-Importing.edit c.in-Ok-Importing.path c.in-Ok-Importing.inherited in
+    open_where_asked c.args.session.now c.args.line.now importing refl standing

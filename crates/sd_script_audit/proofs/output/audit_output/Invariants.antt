@@ -2,19 +2,22 @@
 -- is about: the one with that root, of the history that it takes.
 use Rattle.std.proofs.Common.{ℕ, List, ◌++◌, length}
 use Rattle.std.specs.Str.Lines.{lines}
-use Rattle.sd_script_audit.specs.Audit.{AreAnsweredInAudit, PrintsAudit, unopened}
+use Rattle.sd_script.specs.declared.tally.Tally.{Tally}
+use Rattle.sd_script_audit.specs.Audit.{AreAnsweredInAudit, PrintsAuditAndCounts}
 use Rattle.sd_tree.specs.Journal.{opening_of}
+use Rattle.sd_script_audit.proofs.LinesInOrder.{before_opening}
 use Rattle.sd_script_audit.proofs.output.audit_output.Given as goal
 
 abbrev pub ghosts-open_and_audit-J-Naming : goal.ghosts-open_and_audit-J-Naming
-ghosts-open_and_audit-J-Naming g a = record { opening = opening_of a.mapping.now a.root.now }
+ghosts-open_and_audit-J-Naming g a = record { opening = opening_of a.manner.now.mapping a.root.now }
 
 abbrev pub ghosts-open_and_audit-J-Chain : goal.ghosts-open_and_audit-J-Chain
 ghosts-open_and_audit-J-Chain g a = record { book = a.history.book; first = a.history.first }
 
 abbrev pub invariant-loop-rest : goal.invariant-loop-rest
-invariant-loop-rest g l = (back : List ℕ)
-    → AreAnsweredInAudit l.workers (unopened l.mapping) (lines l.rest) back → PrintsAudit l.mapping l.workers l.initial.rest (l.printed.items ++ back)
+invariant-loop-rest g l = (back : List ℕ) (tally : Tally)
+    → AreAnsweredInAudit l.workers (before_opening l.manner l.counted.tally) (lines l.rest) back tally
+    → PrintsAuditAndCounts l.manner l.workers l.initial.rest (l.counted.printed.items ++ back) tally
 
 abbrev pub decreases-loop-rest : goal.decreases-loop-rest
 decreases-loop-rest g l = length l.rest

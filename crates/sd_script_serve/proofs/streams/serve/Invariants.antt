@@ -2,7 +2,7 @@
 use Rattle.std.proofs.Common.{◌≡◌, ℕ, List, ◌++◌}
 use Rattle.std.specs.Io.KnownBytes.{Appends, Consumes}
 use Rattle.sd_stream.specs.Watched.{inner_of, has_failed}
-use Rattle.sd_script.specs.declared.session.Session.TheVariants.{Closed}
+use Rattle.sd_script.specs.Output.{begun}
 use Rattle.sd_script_serve.specs.Serve.{Advances, HasNoFeed, IsEnded}
 use Rattle.sd_script_serve.proofs.streams.serve.Given as goal
 
@@ -13,7 +13,7 @@ invariant-loop g l = record {
   consumed : Consumes (g.R.Read.remaining (inner_of l.initial.reader)) (g.R.Read.remaining (inner_of l.reader)) (ended ++ l.line.items);
   whole : IsEnded ended;
   unended : HasNoFeed l.line.items;
-  advances : Advances (Closed l.mapping) ended printed l.session;
+  advances : Advances (begun l.manner) ended printed l.carried;
   appended : Appends (g.W.Write.contents (inner_of l.initial.writer)) (g.W.Write.contents (inner_of l.writer)) printed;
   read : has_failed l.reader ≡ has_failed l.initial.reader;
   written : has_failed l.writer ≡ has_failed l.initial.writer;

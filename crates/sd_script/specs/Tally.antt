@@ -1,0 +1,38 @@
+-- What is counted of a script's lines, beside what they are answered by.
+use Rattle.std.specs.Prelude.{ℕ, ◌+◌, ◌-◌, ◌^◌, Bool, false, ◌&&◌, ◌||◌, ◌==◌, nat_eq, List, [], ◌∷◌, min, Option, Some, None, if◌then◌else◌, codes, bytes_eq}
+use Rattle.std.specs.List.{starts_with}
+use Rattle.std.specs.Option.{option_or}
+use Rattle.sd_script.specs.Answer.{line}
+use Rattle.sd_script.specs.declared.tally.Tally.{Tally}
+
+abbrev pub no_lines : Tally
+no_lines = record { lines = 0; first_fault = None; first_difference = None; begins_with_mark = false }
+
+-- the answer tells a fault or a refusal
+abbrev pub tells_fault : List ℕ → Bool
+tells_fault answer = starts_with nat_eq answer (codes "fault ") || starts_with nat_eq answer (codes "refused ")
+
+-- the answer tells that an imported node inherits otherwise than it did
+abbrev pub tells_difference : List ℕ → Bool
+tells_difference answer = bytes_eq answer (line (codes "ok differs"))
+
+-- UTF-8's byte order mark
+abbrev pub has_mark : List ℕ → Bool
+has_mark text = starts_with nat_eq text (0xEF ∷ 0xBB ∷ 0xBF ∷ [])
+
+-- the next line's number, as far as 64 bits count
+abbrev pub next_number : Tally → ℕ
+next_number t = min (t.lines + 1) (2 ^ 64 - 1)
+
+-- the line where this holds of it, if none was before it
+abbrev pub first_of : Option ℕ → Bool → ℕ → Option ℕ
+first_of before holds number = option_or before (if holds then Some number else None)
+
+-- with one line more, and what it is answered by
+abbrev pub tallied : List ℕ → List ℕ → Tally → Tally
+tallied text answer t = record {
+  lines = next_number t;
+  first_fault = first_of t.first_fault (tells_fault answer) (next_number t);
+  first_difference = first_of t.first_difference (tells_difference answer) (next_number t);
+  begins_with_mark = t.begins_with_mark || (t.lines == 0 && has_mark text);
+}

@@ -1,0 +1,74 @@
+//! What is counted of a script's lines, beside what they are answered by.
+ghost use Rattle.std.specs.Prelude.{◌≡◌};
+ghost use Rattle.sd_script.specs.Tally.{first_of, has_mark, no_lines, tallied, tells_difference, tells_fault};
+
+/// What is told of a script beside its output. Lines are counted from 1, as far as 64 bits count.
+#[derive(Clone, Copy, Debug, PartialEq, Eq)]
+pub struct Tally {
+    /// How many lines were answered.
+    pub lines: u64,
+    /// The first line that had a fault or was refused.
+    pub first_fault: Option<u64>,
+    /// The first line by which a node was imported that inherits otherwise than it did.
+    pub first_difference: Option<u64>,
+    /// Whether the first line begins with UTF-8's byte order mark.
+    pub begins_with_mark: bool,
+}
+
+impl Tally {
+    /// Of no line.
+    pub fn of_no_lines() -> Tally
+        ensures { result ≡ no_lines }
+    {
+        Tally {
+            lines: 0,
+            first_fault: None,
+            first_difference: None,
+            begins_with_mark: false,
+        }
+    }
+
+    /// With one line more, and what it is answered by.
+    pub fn with(self, line: &[u8], answer: &[u8]) -> Tally
+        ensures { result ≡ tallied line.now answer.now self }
+    {
+        let number = self.lines.saturating_add(1);
+        Tally {
+            lines: number,
+            first_fault: first_of(self.first_fault, tells_fault(answer), number),
+            first_difference: first_of(self.first_difference, tells_difference(answer), number),
+            begins_with_mark: self.begins_with_mark || (self.lines == 0 && has_mark(line)),
+        }
+    }
+}
+
+/// The line where this holds of it, if none was before it.
+fn first_of(before: Option<u64>, holds: bool, number: u64) -> Option<u64>
+    ensures { result ≡ first_of before holds number }
+{
+    match before {
+        None if holds => Some(number),
+        _ => before,
+    }
+}
+
+/// Whether the answer tells a fault or a refusal.
+fn tells_fault(answer: &[u8]) -> bool
+    ensures { result ≡ tells_fault answer.now }
+{
+    answer.starts_with(b"fault ") || answer.starts_with(b"refused ")
+}
+
+/// Whether the answer tells that an imported node inherits otherwise than it did.
+fn tells_difference(answer: &[u8]) -> bool
+    ensures { result ≡ tells_difference answer.now }
+{
+    answer == b"ok differs\n".as_slice()
+}
+
+/// Whether the text begins with UTF-8's byte order mark.
+fn has_mark(text: &[u8]) -> bool
+    ensures { result ≡ has_mark text.now }
+{
+    text.starts_with(b"\xEF\xBB\xBF")
+}
