@@ -90,6 +90,21 @@ def list_refusal(dacl):
     return "NotCanonical" if "AD" in kinds else None
 
 
+def own_entries(entries):
+    """Those that weren't inherited, the denies first."""
+    own = [e for e in entries if not e.flags & ID]
+    return [e for e in own if e.kind == "D"] + [e for e in own if e.kind == "A"]
+
+
+def path_word(path, percent, at_will=lambda: False):
+    """How a line spells the path: as it is, or by `%` what has to be, and what else is to be."""
+    text = "/" + "/".join(path)
+    if not percent:
+        return text
+    stays = [b == 0x2F or (0x21 <= b < 0x7F and b != 0x25 and not at_will()) for b in text.encode()]
+    return "".join(chr(b) if stay else "%%%02X" % b for b, stay in zip(text.encode(), stays))
+
+
 @dataclass
 class Tree:
     nodes: dict
@@ -182,17 +197,17 @@ class Tree:
         words = "NO_ACCESS_CONTROL" if node.dacl is None else "P" if protected else ""
         return "O:%sG:%sD:%s%s" % (sid_text(node.owner), sid_text(node.group), words, "".join(map(entry_text, own)))
 
-    def listed(self, top):
+    def listed(self, top, percent):
         """The lines of `list`, of the nodes at and below the path."""
         kinds = {True: "container", False: "object"}
         below = [path for path in sorted(self.nodes) if path[: len(top)] == top]
-        return ["%s /%s %s" % (kinds[self.nodes[path].is_container], "/".join(path), self.shown(path)) for path in below]
+        return ["%s %s %s" % (kinds[self.nodes[path].is_container], path_word(path, percent), self.shown(path)) for path in below]
 
-    def dumped(self, readers):
+    def dumped(self, readers, percent):
         """The lines of `dump`."""
         edits = {True: "addc", False: "addo"}
         below = [path for path in sorted(self.nodes) if path]
-        added = ["%s /%s %s" % (edits[self.nodes[path].is_container], "/".join(path), self.given(path)) for path in below]
+        added = ["%s %s %s" % (edits[self.nodes[path].is_container], path_word(path, percent), self.given(path)) for path in below]
         return ["open %d %s" % (readers, self.given(()))] + added + ["publish"]
 
 
