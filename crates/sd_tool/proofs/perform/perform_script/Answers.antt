@@ -13,6 +13,6 @@ returns-in_ok-bad_value-in-Err-clause-err g c = print_fails c.print.result _ _ _
 pub returns-in_ok-bad_value-in-Err-clause-ok : goal.returns-in_ok-bad_value-in-Err-clause-ok
 returns-in_ok-bad_value-in-Err-clause-ok g c = IfOk-weaker c.print.result _ _
     (λ ended is. print_answers _ _ _ _ _ _ _
-        (bad_answers _ (options_of c.args.line.options) (invocation_of c.args.line.invocation) c.in-Err.bad _ c.requires c.in-Err.ensures.bad
-        c.in_ok-bad_value-in-Err.ensures.ok) is.0 is.1 is.2)
+    (bad_answers _ (options_of c.args.line.options) (invocation_of c.args.line.invocation) c.in-Err.bad _ c.requires c.in-Err.ensures.bad
+    c.in_ok-bad_value-in-Err.ensures.ok) is.0 is.1 is.2)
     c.print.ensures.ok
