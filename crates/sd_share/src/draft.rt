@@ -1,9 +1,9 @@
 //! The tree that takes the edits, which may lag behind the published one.
 
-ghost use Rattle.std.specs.Prelude.{◌≡◌, ◌+◌, ◌<◌, ◌++◌, [], length, take, OnOk, OnErr, MatchResult};
+ghost use Rattle.std.specs.Prelude.{◌≡◌, ◌++◌, [], OnOk, OnErr};
 ghost use Rattle.sd_share.specs.Kept.{AreInLine, waiting};
 
-use sd_tree::{Tree, TreeError};
+use sd_tree::Tree;
 use std::alloc::AllocError;
 
 /// Where the draft lags behind the published tree, it gets the edits that it lacks.
@@ -17,29 +17,8 @@ pub(crate) fn catch_up(published: &Tree, draft: &mut Tree) -> Result<(), AllocEr
         ++ waiting published.now.journal draft.old.journal) }
     ensures lags { OnErr result (waiting published.now.journal draft.old.journal ≡ []) }
 {
-    let behind = draft.len();
-    let end = published.len();
-    if end <= behind {
+    if published.len() <= draft.len() {
         return Ok(());
     }
-    for place in behind..end {
-        follow(published, draft, place)?;
-    }
-    Ok(())
-}
-
-/// The draft gets the next of the published edits. Nothing refuses it at its place.
-fn follow(published: &Tree, draft: &mut Tree, place: u64) -> Result<(), AllocError>
-    requires within { place < length published.now.journal }
-    requires opening { draft.old.opening ≡ published.now.opening }
-    requires beginning { draft.old.journal ≡ take place published.now.journal }
-    ensures opening { draft.new.opening ≡ draft.old.opening }
-    ensures journal { MatchResult result (λ _. draft.new.journal ≡ take (place + 1) published.now.journal)
-        (λ _. draft.new.journal ≡ draft.old.journal) }
-{
-    match draft.apply_shared(&published.journal()[place as usize]) {
-        Ok(()) => Ok(()),
-        Err(TreeError::Refused(_)) => unreachable!(),
-        Err(TreeError::Memory) => Err(AllocError),
-    }
+    draft.catch_up(published)
 }

@@ -2,6 +2,7 @@ pub mod Adding
 pub mod Below
 pub mod Beside
 pub mod CarriedOut
+pub mod Catching
 pub mod Children
 pub mod Closed
 pub mod Dacls

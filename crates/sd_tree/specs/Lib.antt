@@ -1,7 +1,9 @@
 pub mod Answers
+pub mod Catching
 pub mod Closed
 pub mod Descriptors
 pub mod Edits
+pub mod History
 pub mod Inheritance
 pub mod Journal
 pub mod Listing

@@ -14,6 +14,7 @@
 #![tactic(auto)]
 
 mod alike;
+mod catching_up;
 mod copying;
 mod describe;
 mod edit;

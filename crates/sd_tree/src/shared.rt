@@ -1,6 +1,6 @@
 //! Values that nodes, journals, plans and trees share.
 
-ghost use Rattle.std.specs.Prelude.{◌≡◌, IfOk};
+ghost use Rattle.std.specs.Prelude.{◌≡◌, IfOk, MatchResult};
 
 use std::alloc::{AllocError, Global};
 use std::marker::Model;
@@ -27,6 +27,26 @@ impl<T: Drop> Shared<T> {
     {
         let value = Arc::new(alloc, value)?;
         Ok(Shared { value })
+    }
+
+    /// The value, for its first holder; it comes back where memory for it is refused.
+    pub fn try_new(alloc: Global, value: T) -> Result<Shared<T>, T>
+        ensures { MatchResult result (λ shared. shared ≡ value) (λ back. back ≡ value) }
+    {
+        match Arc::new(alloc, value) {
+            Ok(value) => Ok(Shared { value }),
+            Err(refused) => Err(refused.value),
+        }
+    }
+
+    /// The value, of its last holder; of another one the same comes back.
+    pub fn try_unwrap(self) -> Result<T, Shared<T>>
+        ensures { MatchResult result (λ value. value ≡ self) (λ back. back ≡ self) }
+    {
+        match Arc::try_unwrap(self.value) {
+            Ok(value) => Ok(value),
+            Err(value) => Err(Shared { value }),
+        }
     }
 
     /// The same value, for one holder more. `AllocError` only where its count of holders is full.

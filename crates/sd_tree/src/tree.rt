@@ -45,10 +45,10 @@ pub enum CheckReply {
 /// Contracts see the opening, the journal, and for how many edits and nodes there is room.
 #[derive(Drop)]
 pub struct Tree {
-    alloc: Global,
-    opening: Opening,
-    journal: Vec<Shared<Edit>>,
-    nodes: Vec<Box<Node>>,
+    pub(crate) alloc: Global,
+    pub(crate) opening: Opening,
+    pub(crate) journal: Vec<Shared<Edit>>,
+    pub(crate) nodes: Vec<Box<Node>>,
 }
 
 impl Model for Tree {
