@@ -1,5 +1,5 @@
 -- What contracts see of a writer and of a checker.
-use Rattle.std.specs.Prelude.{◌≡◌, ℕ, ◌<◌, ◌⊎◌, List, [], length, Option}
+use Rattle.std.specs.Prelude.{◌≡◌, ℕ, ◌<◌, ◌⊎◌, List, [], length, drop, Option}
 use Rattle.sd_tree.specs.declared.edit.Edit.{Edit}
 use Rattle.sd_share.specs.declared.request.Answer.{Answer}
 use Rattle.sd_store.specs.declared.error.AuditError.{AuditError}
@@ -24,8 +24,13 @@ pub record StoreState : Type 0 where
   pub marks : List ℕ
   pub pending : List Edit
 
+-- what all accepted edits have beyond the published ones
+abbrev pub beyond : List Edit → List Edit → List Edit
+beyond published all = drop (length published) all
+
+-- by the writer's view and all accepted edits
 abbrev pub state_of : View → List Edit → StoreState
-state_of v pending = record { journal = v.journal; marks = v.marks; pending = pending }
+state_of v all = record { journal = v.journal; marks = v.marks; pending = beyond v.journal all }
 
 abbrev pub blank : StoreState
 blank = record { journal = []; marks = []; pending = [] }

@@ -101,8 +101,9 @@ impl<J: Naming> Checker<J> {
             }
             Ok(reading) => {
                 let published = reading.get();
-                let seen = published.tree.len();
-                let reply = published.tree.check(path, token, asked);
+                let tree = published.tree.get();
+                let seen = tree.len();
+                let reply = tree.check(path, token, asked);
                 let front = published.front.again();
                 self.seat = Some(reading.leave());
                 raise::<J>(&mut self.front, &mut self.seen, front, seen)?;
@@ -136,8 +137,9 @@ impl<J: Naming> Checker<J> {
             }
             Ok(reading) => {
                 let published = reading.get();
-                let seen = published.tree.len();
-                let found = published.tree.descriptor(path);
+                let tree = published.tree.get();
+                let seen = tree.len();
+                let found = tree.descriptor(path);
                 let front = published.front.again();
                 self.seat = Some(reading.leave());
                 let Ok(descriptor) = found else {
@@ -191,8 +193,9 @@ impl<J: Naming> Checker<J> {
             }
             Ok(reading) => {
                 let published = reading.get();
-                let seen = published.tree.len();
-                let filled = answers.fill(&published.tree, queries, paths);
+                let tree = published.tree.get();
+                let seen = tree.len();
+                let filled = answers.fill(tree, queries, paths);
                 let front = published.front.again();
                 self.seat = Some(reading.leave());
                 filled.map_err(|_| ShowError::Memory)?;

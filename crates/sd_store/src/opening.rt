@@ -17,7 +17,8 @@ use crate::writer::StoreWriter;
 use sd_history::{Front, Opened};
 use sd_share::{MAX_READERS, StartError};
 use sd_sid::GenericMapping;
-use sd_tree::{Edit, RootSpec, Tree};
+use sd_snapshot::Snapshots;
+use sd_tree::{Edit, RootSpec, Shared, Tree};
 use std::alloc::{AllocError, Global};
 use std::sync::Wait;
 
@@ -44,14 +45,15 @@ pub fn start<J: Naming, R: Wait>(
     if readers < 1 || MAX_READERS < readers {
         return Err(StartError::Readers);
     }
-    let draft = Tree::opening(alloc, mapping, root)?;
+    let mut snapshots = Snapshots::of(alloc, Tree::opening(alloc, mapping, root)?)?;
+    let tree = snapshots.snapshot()?;
     let pencil = history.named::<J>();
     let front = pencil.front();
-    let cell = opened::<J>(alloc, &draft, &front, readers)?;
+    let cell = opened::<J>(alloc, &tree, &front, readers)?;
     match seated(alloc, &cell, &front, readers) {
         Ok(checkers) => {
             let writer = StoreWriter {
-                draft,
+                snapshots,
                 pencil,
                 cell: Some(cell),
                 published: 0,
@@ -68,7 +70,7 @@ pub fn start<J: Naming, R: Wait>(
 /// The shared store of a tree without an edit, with room for so many readers.
 fn opened<J: Naming>(
     alloc: Global,
-    tree: &Tree,
+    tree: &Shared<Tree>,
     front: &Front<Edit>,
     readers: u64,
 ) -> Result<Cell<J>, AllocError>
@@ -84,13 +86,17 @@ fn opened<J: Naming>(
 }
 
 /// What is published before any publish.
-fn first_published(alloc: Global, tree: &Tree, front: &Front<Edit>) -> Result<Published, AllocError>
+fn first_published(
+    alloc: Global,
+    tree: &Shared<Tree>,
+    front: &Front<Edit>,
+) -> Result<Published, AllocError>
     ensures tree { IfOk result (λ p. (p.tree.opening ≡ tree.now.opening) × (p.tree.journal ≡ tree.now.journal)) }
     ensures marks { IfOk result (λ p. p.marks.items ≡ 0 ∷ []) }
     ensures front { IfOk result (λ p. p.front ≡ front.now) }
 {
     Ok(Published {
-        tree: tree.copy()?,
+        tree: tree.share()?,
         marks: vec![in alloc; 0]?,
         front: front.again(),
     })

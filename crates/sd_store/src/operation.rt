@@ -1,21 +1,21 @@
 //! What a publish is made of.
 
 use sd_history::Front;
-use sd_tree::{Edit, Opening, Shared};
+use sd_tree::{Edit, Opening, Shared, Tree};
 use std::collections::LinkedList;
 
-/// One operation on the published tree. Those that wait are one publish.
+/// One operation on what is published: a tree is shown. Those that wait are one publish: mostly one, and more where
+/// publishes were refused.
 #[derive(Drop)]
-pub(crate) enum Operation {
-    /// The edit joins the journal. The first edit of a publish opens it.
-    Add { edit: Shared<Edit>, opens: bool },
-    /// A publish of no edits.
-    Open,
-    /// The front of the history that the journal then is.
-    Show(Front<Edit>),
+pub(crate) struct Operation {
+    pub tree: Shared<Tree>,
+    /// The front of the history that its journal is.
+    pub front: Front<Edit>,
+    /// Whether it is the first of its publish, which makes the mark.
+    pub opens: bool,
 }
 
-/// What the two copies of the published tree have in common. No value of it is made.
+/// What the two copies of what is published have in common. No value of it is made.
 pub(crate) struct Facts {
     pub opening: Opening,
     pub journal: LinkedList<Edit>,

@@ -5,13 +5,13 @@ ghost use Rattle.std.specs.Prelude.{◌≡◌};
 use crate::operation::{Facts, Operation};
 use left_right::Absorb;
 use sd_history::Front;
-use sd_tree::{Edit, Tree};
+use sd_tree::{Edit, Shared, Tree};
 use std::alloc::AllocError;
 
-/// One of the two copies of what is published.
+/// One of the two copies of what is published. The tree itself is no copy: both have the writer's.
 #[derive(Drop)]
 pub(crate) struct Published {
-    pub tree: Tree,
+    pub tree: Shared<Tree>,
     /// 0, and then the journal's length after each publish.
     pub marks: Vec<u64>,
     /// Of the history of accepted edits, the beginning that the journal is.
@@ -37,21 +37,15 @@ impl Absorb<Operation> for Published {
         operation: &Operation,
         _other: &Published,
     ) -> Result<(), AllocError> {
-        match operation {
-            Operation::Add { edit, opens: true } => {
-                self.marks.reserve(1)?;
-                self.tree.apply_shared(edit).map_err(|_| AllocError)?;
-                self.marks.push_reserved(self.tree.len());
-            }
-            Operation::Add { edit, opens: false } => {
-                self.tree.apply_shared(edit).map_err(|_| AllocError)?;
-                if let Some(last) = self.marks.last_mut() {
-                    *last = self.tree.len();
-                }
-            }
-            Operation::Open => self.marks.push(self.tree.len())?,
-            Operation::Show(front) => self.front = front.again(),
+        let tree = operation.tree.share()?;
+        let length = tree.get().len();
+        if operation.opens {
+            self.marks.push(length)?;
+        } else if let Some(last) = self.marks.last_mut() {
+            *last = length;
         }
+        self.tree = tree;
+        self.front = operation.front.again();
         Ok(())
     }
 }

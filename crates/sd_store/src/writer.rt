@@ -7,10 +7,11 @@ ghost use Rattle.sd_store.specs.Errors.{IsEditError};
 use crate::error::{EditError, PublishError};
 use crate::naming::Naming;
 use crate::notice::{Listed, Notice};
-use crate::publishing::{add, publish_all};
+use crate::publishing::publish_all;
 use crate::rule::Cell;
 use boxcar::tag::Tag;
 use sd_history::Pencil;
+use sd_snapshot::Snapshots;
 use sd_tree::{Edit, Tree};
 use std::marker::{Model, PhantomData};
 use std::sync::Wait;
@@ -19,11 +20,11 @@ use std::{fmt, mem};
 /// The writer of a store. It isn't `Drop`: end it by `end`. Contracts see the published journal, its marks, and the
 /// edits that wait.
 pub struct StoreWriter<J: Naming> {
-    /// The tree with all edits that were accepted.
-    pub(crate) draft: Tree,
+    /// The tree with all edits that were accepted. Readers are shown its snapshots.
+    pub(crate) snapshots: Snapshots,
     /// What writes the history of accepted edits.
     pub(crate) pencil: Pencil<Edit, J>,
-    /// The shared store; away during a publish alone. The operations that wait in it are the edits that wait.
+    /// The shared store; away during a publish alone.
     pub(crate) cell: Option<Cell<J>>,
     /// The length of the published journal.
     pub(crate) published: u64,
@@ -33,22 +34,19 @@ impl<J: Naming> Model for StoreWriter<J> {
     ghost use Rattle.std.specs.Prelude.{◌≡◌, ◌++◌, length, drop, MatchOption};
     ghost use Rattle.std.specs.Option.{option_map_or};
     ghost use Rattle.left_right.specs.Sides.{view as client_of};
-    ghost use Rattle.sd_store.specs.Marks.{edits_of};
     ghost use Rattle.sd_store.specs.Rules.{naming, IsReady};
-    ghost use Rattle.sd_store.specs.Sights.{StoreState, state_of, blank};
+    ghost use Rattle.sd_store.specs.Sights.{StoreState, state_of, blank, beyond};
 
     ghost Value = { StoreState };
 
-    ghost view = { λ w. option_map_or
-        (λ c. state_of (client_of c.desk.place) (edits_of (drop c.behind c.log.items)))
-        w.cell blank };
+    ghost view = { λ w. option_map_or (λ c. state_of (client_of c.desk.place) w.snapshots.journal) w.cell blank };
 
     ghost invariant = { λ w. MatchOption w.cell ⊥ (λ c.
         IsReady (naming J.opening J.book J.first)
         (client_of c.desk.place) c.desk.shown.value (drop c.behind c.log.items)
-        × (w.draft.opening ≡ J.opening)
-        × (w.draft.journal ≡ c.desk.shown.value.tree.journal ++ edits_of (drop c.behind c.log.items))
-        × (w.pencil ≡ w.draft.journal)
+        × (w.snapshots.opening ≡ J.opening)
+        × (w.snapshots.journal ≡ c.desk.shown.value.tree.journal ++ beyond c.desk.shown.value.tree.journal w.snapshots.journal)
+        × (w.pencil ≡ w.snapshots.journal)
         × (w.published ≡ length c.desk.shown.value.tree.journal)) };
 }
 
@@ -75,15 +73,8 @@ impl<J: Naming> StoreWriter<J> {
         ensures refused { IfErr result (λ e.
             IsEditError e (refusal J.opening (self.old.journal ++ self.old.pending) edit.now)) }
     {
-        let prepared = self.draft.prepare(edit)?;
-        let Some(cell) = &mut self.cell else {
-            unreachable!()
-        };
-        if add(cell, prepared.edit()).is_err() {
-            return Err(EditError::Memory);
-        }
+        self.snapshots.edit(edit)?;
         self.pencil.write(edit);
-        self.draft.commit(prepared);
         Ok(())
     }
 
@@ -97,12 +88,15 @@ impl<J: Naming> StoreWriter<J> {
         ensures pending { OnOk result (self.new.pending ≡ []) }
         ensures refused { IfErr result (λ _. self.new ≡ self.old) }
     {
-        let length = self.draft.len();
+        let length = self.snapshots.tree().len();
         let front = self.pencil.front();
+        let Ok(tree) = self.snapshots.snapshot() else {
+            return Err(PublishError::Memory);
+        };
         let Some(cell) = self.cell.take() else {
             unreachable!()
         };
-        let (cell, done) = publish_all(rt, cell, front);
+        let (cell, done) = publish_all(rt, cell, tree, front);
         match mem::replace(&mut self.cell, Some(cell)) {
             None => {}
             Some(_) => unreachable!(),
@@ -139,7 +133,7 @@ impl<J: Naming> StoreWriter<J> {
         ensures opening { result.now.opening ≡ J.opening }
         ensures journal { result.now.journal ≡ self.now.journal ++ self.now.pending }
     {
-        &self.draft
+        self.snapshots.tree()
     }
 
     /// The length of the published journal.
@@ -153,14 +147,14 @@ impl<J: Naming> StoreWriter<J> {
     pub fn pending_len(&self) -> u64
         ensures { result ≡ length self.now.pending }
     {
-        self.draft.len() - self.published
+        self.snapshots.tree().len() - self.published
     }
 
     /// Ends the store. Edits that wait are dropped. It waits for readers that are in the midst of a check; each later
     /// check answers `Gone`.
     pub fn end<R: Wait>(self, rt: &R) {
         let StoreWriter {
-            draft: _draft,
+            snapshots: _snapshots,
             pencil: _pencil,
             cell,
             published: _,
