@@ -64,19 +64,38 @@ static void build(long nodes, long edits)
     }
 }
 
+/* How long so many edits and their publish take; the view before it is freed then, or kept. */
+static double edits_and_publish(long nodes, long first, int edits, hudarin_view *kept)
+{
+    double from = now();
+    long at;
+    for (at = 0; at < edits; at++) {
+        edit(HUDARIN_EDIT_SET_OWNER, 1 + (first + at) % (nodes - 1), sid, sid_length);
+    }
+    publish(kept);
+    return now() - from;
+}
+
 static void publishes(long nodes, int edits)
 {
     double took = 0;
-    long turn, at;
+    long turn;
     for (turn = -4; turn < TURNS; turn++) {
-        double one;
-        for (at = 0; at < edits; at++) {
-            edit(HUDARIN_EDIT_SET_OWNER, 1 + (turn + 4 + at) % (nodes - 1), sid, sid_length);
-        }
-        one = publish(NULL);
+        double one = edits_and_publish(nodes, turn + 4, edits, NULL);
         took += turn < 0 ? 0 : one;
     }
-    printf("a publish after %d edits, old views freed: %.0f\n", edits, took / TURNS);
+    printf("%d edits and their publish, old views freed: %.0f\n", edits, took / TURNS);
+}
+
+static void publishes_alone(long nodes)
+{
+    double took = 0;
+    long turn;
+    for (turn = 0; turn < TURNS; turn++) {
+        edit(HUDARIN_EDIT_SET_OWNER, 1 + turn % (nodes - 1), sid, sid_length);
+        took += publish(NULL);
+    }
+    printf("a publish: %.0f\n", took / TURNS);
 }
 
 /* A walk of the view, each node's path and then what was given to it; and a store that goes back. */
@@ -125,13 +144,15 @@ int main(int count, char **words)
     sid_length = (size_t)hudarin_sid_text_to_bytes("SY", 2, sid, sizeof sid).length;
     HOLDS(hudarin_keep_token(sid, sid_length, NULL, 0, NULL, 0, NULL, 0, 0, &token).status == HUDARIN_OK);
     build(nodes, edits);
+    publish(NULL);
     for (at = 0; at < 3; at++) {
-        took += publish(&old[at]);
+        took += edits_and_publish(nodes, at, 1, &old[at]);
     }
-    printf("a publish that copies: %.0f\n", took / 3);
+    printf("an edit and its publish, old views kept: %.0f\n", took / 3);
     for (at = 0; at < 3; at++) {
         hudarin_free(&old[at].kept);
     }
+    publishes_alone(nodes);
     publishes(nodes, 1);
     publishes(nodes, 64);
     checks();

@@ -2,9 +2,9 @@
  * Four threads that check by views of a store, beside a writer that edits it and publishes. Each edit gives a node another list,
  * which grants a mask made of the edit's number in the journal, so each answer is compared with what its own length says.
  *
- * A publish takes over the tree of a view that nobody has any more: that a thread's last look at it comes before is the doing of a
- * count in the library, which valgrind's helgrind and drd take for no order. For them LOCKED_ENDS is 1: a view ends, and a publish is
- * made, while the lock is held, whose order they know. Checks, edits and shares are made as ever.
+ * The first edit behind a publish takes over the tree of a view that nobody has any more: that a thread's last look at it comes before is
+ * the doing of a count in the library, which valgrind's helgrind and drd take for no order. For them LOCKED_ENDS is 1: a view ends, and
+ * edits and publishes are made, while the lock is held, whose order they know. Checks and shares are made as ever.
  */
 #include "tally.h"
 #include <pthread.h>
@@ -44,15 +44,19 @@ static hudarin_view held(void)
     return own;
 }
 
-static void end(hudarin_view *view)
+/* The lock, where an order is wanted that helgrind and drd know. */
+static void ordered(int (*take_or_give)(pthread_mutex_t *))
 {
     if (LOCKED_ENDS) {
-        pthread_mutex_lock(&lock);
+        take_or_give(&lock);
     }
+}
+
+static void end(hudarin_view *view)
+{
+    ordered(pthread_mutex_lock);
     hudarin_free(&view->kept);
-    if (LOCKED_ENDS) {
-        pthread_mutex_unlock(&lock);
-    }
+    ordered(pthread_mutex_unlock);
 }
 
 /* What a thread found: answers that were wrong, a length that went back, and how many lengths it met. */
@@ -87,15 +91,17 @@ static int edited(hudarin_store *store, uint32_t kind, const char *owners, uint6
     char sddl[80];
     int length = snprintf(sddl, sizeof sddl, "%sD:P(A;;0x%x;;;WD)", owners, (unsigned)mask_after(edits));
     size_t size = (size_t)hudarin_sddl_to_bytes(sddl, (size_t)length, bytes, sizeof bytes).length;
-    return hudarin_store_edit(store, kind, "/a", 2, bytes, size).status == HUDARIN_OK;
+    int is_made;
+    ordered(pthread_mutex_lock);
+    is_made = hudarin_store_edit(store, kind, "/a", 2, bytes, size).status == HUDARIN_OK;
+    ordered(pthread_mutex_unlock);
+    return is_made;
 }
 
 static void publish(hudarin_store *store, uint64_t edits)
 {
     hudarin_view next = HUDARIN_NOTHING, before;
-    if (LOCKED_ENDS) {
-        pthread_mutex_lock(&lock);
-    }
+    ordered(pthread_mutex_lock);
     HOLDS(hudarin_store_publish(store, &next).length == edits && next.kept.is_there);
     if (!LOCKED_ENDS) {
         pthread_mutex_lock(&lock);

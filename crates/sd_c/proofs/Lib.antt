@@ -1,4 +1,4 @@
-pub mod Before
+pub mod Reasons
 pub mod Loop
 mod RestrictingLoop
 pub mod Front

@@ -3,6 +3,7 @@ use Rattle.std.specs.Prelude.{◌≡◌, ◌⊎◌, ℕ, ◌==◌, List, Option,
 use Rattle.std.specs.Arc.{arc_value}
 use Rattle.sd_acl.specs.Descriptor.{DescriptorValue, descriptor_of}
 use Rattle.sd_check.specs.Token.{TokenValue}
+use Rattle.sd_tree.specs.History.{History, history_of}
 use Rattle.sd_wire.specs.Reading.{descriptor_read}
 use Rattle.sd_c.specs.declared.answer.CheckAnswer.{CheckAnswer}
 use Rattle.sd_c.specs.declared.answer.Written.{Written}
@@ -14,7 +15,6 @@ use Rattle.sd_c.specs.declared.refusal.Refusal.{Refusal}
 use Rattle.sd_c.specs.declared.stop.NotRead.{NotRead}
 use Rattle.sd_c.specs.declared.stop.NotRead.TheVariants.{DescriptorHandle, TokenHandle}
 use Rattle.sd_c.specs.Answer.{not_read, unread}
-use Rattle.sd_c.specs.Store.{History, history_of}
 use Rattle.sd_c.specs.Request.{◌>>=◌, RequestValue, mapping_read}
 use Rattle.sd_c.specs.Written.{not_written, refused}
 
@@ -40,7 +40,7 @@ token_in (kinds.View v) = Err TokenHandle
 abbrev pub store_in : Kept → Option History
 store_in (kinds.Descriptor d) = None
 store_in (kinds.Token t) = None
-store_in (kinds.Store s) = Some (history_of s.value.draft)
+store_in (kinds.Store s) = Some s.value
 store_in (kinds.View v) = None
 
 -- of a view the tree as it was published
@@ -48,7 +48,7 @@ abbrev pub view_in : Kept → Option History
 view_in (kinds.Descriptor d) = None
 view_in (kinds.Token t) = None
 view_in (kinds.Store s) = None
-view_in (kinds.View v) = Some (history_of (arc_value v))
+view_in (kinds.View v) = Some (history_of v)
 
 -- what two things that are kept ask of a check
 unfoldable pub asked_of : Kept → Kept → Mapping → Result RequestValue NotRead

@@ -4,7 +4,6 @@ pub mod Written
 pub mod InDomain
 pub mod Length
 pub mod Handle
-pub mod Store
 pub mod NotDone
 pub mod Edits
 pub mod Kept

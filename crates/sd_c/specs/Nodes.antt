@@ -7,6 +7,7 @@ use Rattle.sd_path.specs.PathText.{path_of, text_of}
 use Rattle.sd_wire.specs.Writing.{wire_of}
 use Rattle.sd_tree.specs.Answers.{given_at}
 use Rattle.sd_tree.specs.Descriptors.{own_descriptor_of_row, own_list}
+use Rattle.sd_tree.specs.History.{History}
 use Rattle.sd_tree.specs.Journal.{replay}
 use Rattle.sd_tree.specs.declared.node.NodeKind.{NodeKind}
 use Rattle.sd_tree.specs.declared.node.NodeKind.TheVariants.{Container, Object}
@@ -19,7 +20,6 @@ use Rattle.sd_c.specs.declared.not_done.NotDone.TheVariants as reasons
 use Rattle.sd_c.specs.declared.not_done.PathArgument.TheVariants as arguments
 use Rattle.sd_c.specs.Edits.{IsNoPath, IsNode}
 use Rattle.sd_c.specs.Kept.{view_in}
-use Rattle.sd_c.specs.Store.{History}
 use Rattle.sd_c.specs.Views.{not_told}
 use Rattle.sd_c.specs.Written.{Writes}
 

@@ -1,5 +1,6 @@
 -- What the calls over stores answer, and what they leave in the handles.
-use Rattle.std.specs.Prelude.{◌≡◌, ◌⊎◌, ℕ, List, [], length, Option, Some, None, IsSome, Ok, Err}
+use Rattle.std.specs.Prelude.{◌≡◌, ◌⊎◌, ℕ, List, [], ◌∷◌, ◌++◌, length, Option, Some, None, IsSome, Ok, Err}
+use Rattle.sd_tree.specs.History.{History}
 use Rattle.sd_tree.specs.Journal.{refusal, root_refusal}
 use Rattle.sd_tree.specs.declared.edit.Edit.{Edit}
 use Rattle.sd_tree.specs.declared.opening.Opening.{Opening}
@@ -20,7 +21,6 @@ use Rattle.sd_c.specs.Kept.{IsSame, store_in, view_in}
 use Rattle.sd_c.specs.Length.{length_told}
 use Rattle.sd_c.specs.NotDone.{not_done}
 use Rattle.sd_c.specs.Request.{mapping_read}
-use Rattle.sd_c.specs.Store.{History, with_edit}
 use Rattle.sd_c.specs.Written.{not_written}
 
 -- the handle shows what it showed: an edit that isn't made may have made room for itself
@@ -63,6 +63,10 @@ Begins root mapping old new answer =
     ⊎ ((old.is_there ≡ 1) × (new ≡ old) × (answer ≡ not_done reasons.StoreHandle))
 
 -- ---- edits
+
+-- one more edit
+abbrev pub with_edit : History → Edit → History
+with_edit h edit = record h { journal = h.journal ++ edit ∷ [] }
 
 -- the edit that the arguments say has joined the store's journal, which nothing refused
 abbrev pub IsEdited : ℕ → List ℕ → List ℕ → Kept → Kept → Type 0

@@ -1,12 +1,12 @@
 -- What the calls over views answer: by the rules, for the journal that was published when the view was made.
 use Rattle.std.specs.Prelude.{◌≡◌, ◌⊎◌, ℕ, List, length, Some, None, Ok, Err}
-use Rattle.std.specs.Arc.{arc_value}
 use Rattle.sd_check.specs.Token.{TokenValue}
 use Rattle.sd_path.specs.Names.{Names}
 use Rattle.sd_path.specs.PathText.{path_of}
 use Rattle.sd_acl.specs.Descriptor.{DescriptorValue}
 use Rattle.sd_wire.specs.Writing.{wire_of}
 use Rattle.sd_tree.specs.Answers.{answer, descriptor_at}
+use Rattle.sd_tree.specs.History.{History}
 use Rattle.sd_tree.specs.Journal.{replay}
 use Rattle.sd_tree.specs.declared.tree.CheckReply.{CheckReply}
 use Rattle.sd_tree.specs.declared.tree.CheckReply.TheVariants.{Verdict, NoNode}
@@ -25,7 +25,6 @@ use Rattle.sd_c.specs.Edits.{IsNoPath}
 use Rattle.sd_c.specs.Kept.{token_in, view_in}
 use Rattle.sd_c.specs.Length.{length_told}
 use Rattle.sd_c.specs.NotDone.{not_done}
-use Rattle.sd_c.specs.Store.{History}
 use Rattle.sd_c.specs.Written.{Writes, not_written}
 
 -- ---- a check
@@ -67,8 +66,8 @@ Asks view path token asked told =
 abbrev pub length_in : Kept → Written
 length_in (kinds.Descriptor d) = not_written 11 0 0
 length_in (kinds.Token t) = not_written 11 0 0
-length_in (kinds.Store s) = length_told (length s.value.draft.journal)
-length_in (kinds.View v) = length_told (length (arc_value v).journal)
+length_in (kinds.Store s) = length_told (length s.value.journal)
+length_in (kinds.View v) = length_told (length v.journal)
 
 abbrev pub TellsLength : Handle → Written → Type 0
 TellsLength handle told =

@@ -26,7 +26,6 @@ mod refusal;
 mod request;
 mod sharing;
 mod stop;
-mod store;
 mod stores;
 mod text;
 mod trim;
@@ -47,7 +46,6 @@ pub use nodes::{NodeAnswer, hudarin_view_node, hudarin_view_own, own_forms_come_
 pub use not_done::{NotDone, PathArgument};
 pub use over_bytes::hudarin_check_bytes;
 pub use sharing::hudarin_share;
-pub use store::Store;
 pub use stores::{
     hudarin_store_edit, hudarin_store_judge, hudarin_store_open, hudarin_store_publish,
     hudarin_store_revert,

@@ -85,7 +85,7 @@ fn own_at(alloc: Global, kept: &Kept, path: &[u8]) -> Result<(Vec<u8>, NodeKind)
         return Err(NotDone::ViewHandle);
     };
     let path = path_of(alloc, PathArgument::Path, path)?;
-    match tree.given(&path)? {
+    match tree.get().given(&path)? {
         Some((kind, descriptor)) => Ok((write_descriptor(alloc, &descriptor)?, kind)),
         None => Err(NotDone::NoNode),
     }
@@ -98,7 +98,7 @@ fn path_at(alloc: Global, kept: &Kept, place: u64) -> Result<(String, NodeKind),
     let Kept::View(tree) = kept else {
         return Err(NotDone::ViewHandle);
     };
-    match tree.node(place as usize) {
+    match tree.get().node(place as usize) {
         Some(node) => {
             let path = node.path;
             Ok((format!(in alloc; "{path}")?, node.kind))

@@ -40,7 +40,7 @@ fn shared(alloc: Global, kept: &Kept) -> Result<Option<Box<Kept>>, AllocError>
     let second = match kept {
         Kept::Descriptor(descriptor) => Kept::Descriptor(Arc::try_clone(descriptor)?),
         Kept::Token(token) => Kept::Token(Arc::try_clone(token)?),
-        Kept::View(tree) => Kept::View(Arc::try_clone(tree)?),
+        Kept::View(tree) => Kept::View(tree.share()?),
         Kept::Store(_) => return Ok(None),
     };
     may_cross(&second);

@@ -1,8 +1,8 @@
 //! The calls over a store: one writer's, behind a handle.
 
 ghost use Rattle.std.specs.Prelude.{◌≡◌, ◌⊎◌, None, Some, IfErr, IfOk, MatchOption, MatchResult, OnOk};
+ghost use Rattle.sd_tree.specs.History.{history_of};
 ghost use Rattle.sd_c.specs.Kept.{IsSame, Stays, store_in, view_in};
-ghost use Rattle.sd_c.specs.Store.{history_of};
 ghost use Rattle.sd_c.specs.Publishing.{Begins, Edits, IsAllowed, IsBegun, IsEdited, IsNotBegun, IsNotEdited, IsReverted, IsViewOf, Judges, Publishes, Reverts, tree_reason};
 
 use crate::answer::{CheckAnswer, HANDLE, MEMORY, OK, Written, length_told, not_written, unread};
@@ -11,7 +11,7 @@ use crate::handle::{Handle, Kept};
 use crate::mapping::Mapping;
 use crate::not_done::{NotDone, not_done};
 use crate::request::mapping_of;
-use crate::store::Store;
+use sd_snapshot::Snapshots;
 use sd_tree::{Tree, TreeError};
 use std::alloc::{AllocError, Global};
 
@@ -56,7 +56,7 @@ fn opened(alloc: Global, root: &[u8], mapping: Mapping) -> Result<Box<Kept>, Not
 fn boxed_store(alloc: Global, tree: Tree) -> Result<Box<Kept>, AllocError>
     ensures { IfOk result (λ kept. store_in kept.value ≡ Some (history_of tree)) }
 {
-    let store = Box::new(alloc, Store::new(alloc, tree))?;
+    let store = Box::new(alloc, Snapshots::of(alloc, tree)?)?;
     Ok(Box::new(alloc, Kept::Store(store))?)
 }
 
@@ -145,7 +145,7 @@ fn judged(alloc: Global, kept: &Kept, kind: u32, path: &[u8], value: &[u8]) -> R
         return Err(NotDone::StoreHandle);
     };
     let edit = edit_of(alloc, kind, path, value)?;
-    match store.draft.judge(&edit)? {
+    match store.tree().judge(&edit)? {
         None => Ok(()),
         Some(refusal) => Err(NotDone::Refused(refusal)),
     }
@@ -188,8 +188,8 @@ fn published(alloc: Global, kept: &mut Kept) -> Result<Option<(Box<Kept>, u64)>,
     let Kept::Store(store) = kept else {
         return Ok(None);
     };
-    let tree = store.publish()?;
-    let length = tree.len();
+    let tree = store.snapshot()?;
+    let length = tree.get().len();
     let view = Box::new(alloc, Kept::View(tree))?;
     Ok(Some((view, length)))
 }
@@ -213,7 +213,7 @@ pub extern "C" fn hudarin_store_revert(
         store.put(first);
         return not_written(HANDLE, 0, 0);
     };
-    let answer = match reverted(&mut first, &second) {
+    let answer = match reverted(alloc, &mut first, &second) {
         Ok(Some(length)) => length_told(length),
         Ok(None) => not_written(HANDLE, 0, 0),
         Err(AllocError) => not_written(MEMORY, 0, 0),
@@ -224,7 +224,7 @@ pub extern "C" fn hudarin_store_revert(
 }
 
 /// The store that is kept shows what the view does, where they are such; how long that journal is.
-fn reverted(first: &mut Kept, second: &Kept) -> Result<Option<u64>, AllocError>
+fn reverted(alloc: Global, first: &mut Kept, second: &Kept) -> Result<Option<u64>, AllocError>
     ensures { MatchResult result (λ told. MatchOption told
         (((store_in first.old ≡ None) ⊎ (view_in second.now ≡ None)) × IsSame first.old first.new)
         (λ length. IsReverted first.old first.new second.now length))
@@ -236,6 +236,7 @@ fn reverted(first: &mut Kept, second: &Kept) -> Result<Option<u64>, AllocError>
     let Kept::View(tree) = second else {
         return Ok(None);
     };
-    store.revert(tree)?;
+    let tree = tree.get();
+    **store = Snapshots::of(alloc, tree.copy()?)?;
     Ok(Some(tree.len()))
 }

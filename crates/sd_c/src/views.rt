@@ -1,8 +1,8 @@
 //! The calls over views: trees as they were published, which threads share.
 
 ghost use Rattle.std.specs.Prelude.{◌≡◌, IfErr, IfOk};
+ghost use Rattle.sd_tree.specs.History.{history_of};
 ghost use Rattle.sd_c.specs.Kept.{Stays};
-ghost use Rattle.sd_c.specs.Store.{history_of};
 ghost use Rattle.sd_c.specs.Views.{Asks, IsAnswered, IsFormAt, IsNoFormAt, IsNotAsked, TellsLength, WritesNode, length_in, not_told, reply_given, unasked, view_answer};
 
 use crate::answer::{CheckAnswer, HANDLE, Written, length_told, not_written, verdict_given, write};
@@ -81,7 +81,7 @@ fn asked_of(
         return Err(NotDone::TokenHandle);
     };
     let path = path_of(alloc, PathArgument::Path, path)?;
-    Ok(answer_in(tree, &path, token, asked))
+    Ok(answer_in(tree.get(), &path, token, asked))
 }
 
 fn answer_in(tree: &Tree, path: &Path, token: &Token, asked: u32) -> ViewAnswer
@@ -120,8 +120,8 @@ fn length_in(kept: &Kept) -> Written
     ensures { result ≡ length_in kept.now }
 {
     match kept {
-        Kept::Store(store) => length_told(store.draft.len()),
-        Kept::View(tree) => length_told(tree.len()),
+        Kept::Store(store) => length_told(store.tree().len()),
+        Kept::View(tree) => length_told(tree.get().len()),
         Kept::Descriptor(_) | Kept::Token(_) => not_written(HANDLE, 0, 0),
     }
 }
@@ -157,7 +157,7 @@ fn form_at(alloc: Global, kept: &Kept, path: &[u8]) -> Result<Vec<u8>, NotDone>
         return Err(NotDone::ViewHandle);
     };
     let path = path_of(alloc, PathArgument::Path, path)?;
-    match tree.descriptor(&path)? {
+    match tree.get().descriptor(&path)? {
         Some(descriptor) => Ok(write_descriptor(alloc, &descriptor)?),
         None => Err(NotDone::NoNode),
     }

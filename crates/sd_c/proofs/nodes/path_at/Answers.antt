@@ -1,10 +1,9 @@
 use Rattle.std.proofs.Common.{rules}
-use Rattle.std.specs.Arc.{arc_value}
 use Rattle.sd_tree.specs.Listing.{listed}
-use Rattle.sd_c.specs.Store.{history_of}
+use Rattle.sd_tree.specs.History.{history_of}
 use Rattle.sd_c.proofs.nodes.path_at.Goals as goal
 
 pub returns-in_ok-format-in-Some-clause-ok : goal.returns-in_ok-format-in-Some-clause-ok
 returns-in_ok-format-in-Some-clause-ok c =
     let node = listed c.in-Some.node in
-    (history_of (arc_value c.in-View.tree), node.0, node.1, search rules, search rules, search rules, search rules)
+    (history_of c.in-View.tree, node.0, node.1, search rules, search rules, search rules, search rules)

@@ -1,17 +1,16 @@
 use Rattle.std.proofs.Common.{rules, inr, sym, subst}
 use Rattle.sd_tree.specs.Journal.{refusal}
-use Rattle.sd_c.specs.Store.{history_of}
 use Rattle.sd_c.specs.Publishing.{IsNotEdited}
-use Rattle.sd_c.proofs.Before.{told_reason}
+use Rattle.sd_c.proofs.Reasons.{told_reason}
 use Rattle.sd_c.proofs.stores.edited.Goals as goal
 
 pub returns-in-Ok : goal.returns-in-Ok
-returns-in-Ok c = (history_of c.in-Store.store.value.draft, c.in_ok-edit.edit, search rules, search rules, search rules, search rules)
+returns-in-Ok c = (c.in-Store.store.value, c.in_ok-edit.edit, search rules, search rules, search rules, search rules)
 
 pub returns : goal.returns
 returns c =
     let a = c.args in
-    let h = history_of c.in-Store.store.value.draft in
+    let h = c.in-Store.store.value in
     let edit = c.in_ok-edit.edit in
     let reason = told_reason c.in-Err.e (refusal h.opening h.journal edit) search rules in (
       subst (IsNotEdited a.kind a.path.now a.value.now a.kept.now) (sym c.reason_of.ensures)

@@ -1,7 +1,7 @@
 use Rattle.std.proofs.Common.{rules, inr, sym, subst}
 use Rattle.sd_tree.specs.Journal.{opening_of, root_refusal}
 use Rattle.sd_c.specs.Publishing.{IsNotBegun}
-use Rattle.sd_c.proofs.Before.{told_reason}
+use Rattle.sd_c.proofs.Reasons.{told_reason}
 use Rattle.sd_c.proofs.stores.opened.Goals as goal
 
 pub returns-clause-err : goal.returns-clause-err
