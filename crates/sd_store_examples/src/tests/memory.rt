@@ -1,6 +1,6 @@
 //! A store that is refused memory is as it was, and goes on: each request of each step in turn.
 
-use super::refusals::{MEMORY, MOST, Refusal};
+use super::refusals::{MEMORY, MOST, Refusal, is_fault};
 use super::stage::{Ended, Refused, played};
 use super::told::Told;
 use super::*;
@@ -54,7 +54,8 @@ fn each_step_is_refused_in_turn(rt: HostRuntime) {
     }
 }
 
-/// Whether the step's request was refused.
+/// Whether the step's request was refused. Where later ones are refused too the step wants memory, unless a refusal of its
+/// edit is found without any.
 fn is_refused<R: Abort + AllocGlobal + Threads + Wait>(
     rt: &R,
     at: usize,
@@ -70,7 +71,9 @@ fn is_refused<R: Abort + AllocGlobal + Threads + Wait>(
     let Ended { told, was_refused } = ended.expect(rt, "memory is there");
     let words = texts(alloc, &told).expect(rt, "memory is there");
     let is_memory = was_refused && words.get(at).is_some_and(|word| word.as_str() == MEMORY);
-    assert!(rt; is_memory || !(was_refused && refusal.lasts), "{refused:?}");
+    let is_refusal = STORY.get(at).is_some_and(|(_, wanted)| is_fault(wanted));
+    let may_go_on = !(was_refused && refusal.lasts) || is_refusal;
+    assert!(rt; is_memory || may_go_on, "{refused:?}");
     let due = due(alloc, at, is_memory).expect(rt, "memory is there");
     assert!(rt;
         are(&words[..due.len().min(words.len())], &due),

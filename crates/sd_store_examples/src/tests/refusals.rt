@@ -110,7 +110,7 @@ fn is_refused<C: Call>(
 }
 
 /// Whether a call that is told so has found something wrong: the number of a fault, a refusal, or a list too large.
-fn is_fault(wanted: &str) -> bool {
+pub(super) fn is_fault(wanted: &str) -> bool {
     let has_number = wanted
         .as_bytes()
         .first()
