@@ -172,13 +172,28 @@ class _Mask(ctypes.Structure):
     _fields_ = [("status", _U32), ("fault", _U32), ("place", _U64), ("mask", _U32)]
 
 
-def _load():
+class _Version(ctypes.Structure):
+    _fields_ = [("major", _U32), ("minor", _U32), ("patch", _U32)]
+
+
+def _found_library():
+    """The library, where it has what this module calls: another major version may answer otherwise, and an earlier minor one lacks calls."""
     beside = os.path.join(os.path.dirname(os.path.abspath(__file__)), "..", "out", "libhudarin.so.0")
     named = os.environ.get("HUDARIN_LIBRARY") or (beside if os.path.exists(beside) else "libhudarin.so.0")
     try:
         library = ctypes.CDLL(named)
-    except OSError as e:
+        library.hudarin_version.argtypes, library.hudarin_version.restype = [], _Version
+    except (OSError, AttributeError) as e:
         raise ImportError(f"{named}: {e}; it is named by HUDARIN_LIBRARY, else made by bindings/build, else the system's") from e
+    told = library.hudarin_version()
+    major, minor, _ = (int(number) for number in __version__.split("."))
+    if told.major != major or told.minor < minor:
+        raise ImportError(f"{named}: it is version {told.major}.{told.minor}.{told.patch}, and {__version__} is wanted")
+    return library
+
+
+def _load():
+    library = _found_library()
     given = [ctypes.c_char_p, _SIZE]
     room = [ctypes.c_void_p, _SIZE]
     for name in (
