@@ -5,6 +5,9 @@
 #![tactic(auto)]
 
 mod command_name;
+mod commands;
+mod description;
+mod notes;
 mod usage;
 
 pub use command_name::CommandName;

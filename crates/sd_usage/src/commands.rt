@@ -1,0 +1,268 @@
+//! The commands of the program, and the options before them: what help tells of each.
+
+use crate::command_name::CommandName;
+use crate::description::{Argument, Description, Form};
+use crate::notes::{
+    AUDIT_NOTES, EACH_NOTES, FROM_BINARY_NOTES, LINT_NOTES, NOTES, PRINT_NOTES, SCRIPT_NOTES,
+    SERVE_NOTES, TO_BINARY_NOTES, VERDICT_NOTES, WHY_NOTES,
+};
+
+const DESCRIPTOR: &str = "The descriptor in SDDL";
+
+const USER: &str = "The user's SID: in full, as S-1-5-21-1-2-3-1001, or an alias, as SY";
+
+const MASK: &str = "\
+The rights that are asked for, spelled as the rights of an entry: names without a space, as
+FR or RCWD, or a number below 2^32, hexadecimal (0x1f01ff), octal (01777) or decimal (2032127)";
+
+const WORD: &str = "\
+What the token has beside the user:
+SID           an enabled group
+SID=deny      a group that counts for deny entries only
+SID=off       a group that counts for nothing
+SID=restrict  a restricting SID, no group: access is asked a second time for these alone
++security     SeSecurityPrivilege
++take         SeTakeOwnershipPrivilege";
+
+const NAMES: &str = "Before 'why': tells rights by their names, as FR+WD in place of 0x160089";
+
+const WITHOUT_SACL: &str = "\
+Before a command that reads a descriptor: leaves out a section S: of audit and label entries, or the
+SACL in bytes, and tells of it on standard error";
+
+const BASE64: &str = "Before 'frombin': the bytes are in base64";
+
+const LOOSE: &str = "\
+Before 'frombin': the bytes are in hexadecimal, with '0x', tabs, spaces, commas, backslashes and line
+ends between them";
+
+const PERCENT: &str = "\
+Before 'script', 'serve' and 'audit': '%' and two hexadecimal digits stand for a byte of a path, in
+what is read and in what is printed";
+
+const STRICT: &str = "\
+Before 'script', 'serve' and 'audit': where a line has a fault or is refused the status is 1, and
+standard error tells the first such line";
+
+const MAPPING: &str = "\
+Before 'verdict', 'why', 'lint', 'script', 'serve' and 'audit': what generic rights stand for: those
+of a file (as without this option), of a key of the registry, of a service or of a process, or
+R,W,X,A, the four masks of GR, GW, GX and GA";
+
+const DOMAIN: &str = "\
+Before a command that reads SDDL: the aliases of a domain's accounts and groups, as DA, are read as
+SIDs of the domain with this SID, S-1-5-21 and three more numbers, as S-1-5-21-1-2-3";
+
+/// All commands, in the order in which help tells them.
+pub(crate) const COMMANDS: [CommandName; 10] = [
+    CommandName::Verdict,
+    CommandName::Why,
+    CommandName::Lint,
+    CommandName::Print,
+    CommandName::ToBinary,
+    CommandName::FromBinary,
+    CommandName::Script,
+    CommandName::Serve,
+    CommandName::Audit,
+    CommandName::Each,
+];
+
+/// The program.
+pub(crate) const PROGRAM: Description = Description {
+    name: "sdstore",
+    about: "Windows security descriptors and access checks by [MS-DTYP]",
+    usage: "sdstore [OPTIONS] <COMMAND>",
+    notes: NOTES,
+    spaces_help: false,
+};
+
+/// The options, which stand before a command.
+pub(crate) static OPTIONS: [Argument; 8] = [
+    Argument {
+        name: "names",
+        form: Form::Flag,
+        help: NAMES,
+    },
+    Argument {
+        name: "without-sacl",
+        form: Form::Flag,
+        help: WITHOUT_SACL,
+    },
+    Argument {
+        name: "base64",
+        form: Form::Flag,
+        help: BASE64,
+    },
+    Argument {
+        name: "loose",
+        form: Form::Flag,
+        help: LOOSE,
+    },
+    Argument {
+        name: "percent",
+        form: Form::Flag,
+        help: PERCENT,
+    },
+    Argument {
+        name: "strict",
+        form: Form::Flag,
+        help: STRICT,
+    },
+    Argument {
+        name: "domain",
+        form: Form::Setting("SID"),
+        help: DOMAIN,
+    },
+    Argument {
+        name: "mapping",
+        form: Form::Setting("KIND"),
+        help: MAPPING,
+    },
+];
+
+static REQUEST: [Argument; 4] = [
+    Argument {
+        name: "SDDL",
+        form: Form::Word,
+        help: DESCRIPTOR,
+    },
+    Argument {
+        name: "USER",
+        form: Form::Word,
+        help: USER,
+    },
+    Argument {
+        name: "MASK",
+        form: Form::Word,
+        help: MASK,
+    },
+    Argument {
+        name: "WORD",
+        form: Form::Words,
+        help: WORD,
+    },
+];
+
+static TEXT: [Argument; 1] = [Argument {
+    name: "SDDL",
+    form: Form::Word,
+    help: DESCRIPTOR,
+}];
+
+static BYTES: [Argument; 1] = [Argument {
+    name: "BYTES",
+    form: Form::Word,
+    help: "The bytes of the descriptor, in hexadecimal",
+}];
+
+static WORKERS: [Argument; 1] = [Argument {
+    name: "N",
+    form: Form::Word,
+    help: "The number of workers, 1 to 64, in one or two decimal digits",
+}];
+
+static QUESTION: [Argument; 3] = [
+    Argument {
+        name: "zero",
+        form: Form::Letter('0'),
+        help: "Lines end by zero bytes",
+    },
+    Argument {
+        name: "COMMAND",
+        form: Form::Word,
+        help: "verdict, why, lint, print, tobin or frombin",
+    },
+    Argument {
+        name: "ARG",
+        form: Form::Words,
+        help: "The command's arguments, but for the descriptor",
+    },
+];
+
+impl CommandName {
+    pub(crate) fn description(self) -> Description {
+        match self {
+            CommandName::Verdict => Description {
+                name: "verdict",
+                about: "Prints whether a descriptor grants a mask to a user",
+                usage: "sdstore [OPTIONS] verdict [--] <SDDL> <USER> <MASK> [WORD]...",
+                notes: VERDICT_NOTES,
+                spaces_help: true,
+            },
+            CommandName::Why => Description {
+                name: "why",
+                about: "Prints whether a descriptor grants a mask to a user, and why",
+                usage: "sdstore [OPTIONS] why [--] <SDDL> <USER> <MASK> [WORD]...",
+                notes: WHY_NOTES,
+                spaces_help: true,
+            },
+            CommandName::Lint => Description {
+                name: "lint",
+                about: "Prints what is doubtful in a descriptor's DACL",
+                usage: "sdstore [OPTIONS] lint [--] <SDDL>",
+                notes: LINT_NOTES,
+                spaces_help: false,
+            },
+            CommandName::Print => Description {
+                name: "print",
+                about: "Prints a descriptor in canonical SDDL",
+                usage: "sdstore [OPTIONS] print [--] <SDDL>",
+                notes: PRINT_NOTES,
+                spaces_help: false,
+            },
+            CommandName::ToBinary => Description {
+                name: "tobin",
+                about: "Prints a descriptor in self-relative form, in hexadecimal",
+                usage: "sdstore [OPTIONS] tobin [--] <SDDL>",
+                notes: TO_BINARY_NOTES,
+                spaces_help: false,
+            },
+            CommandName::FromBinary => Description {
+                name: "frombin",
+                about: "Prints a descriptor in self-relative form as canonical SDDL",
+                usage: "sdstore [OPTIONS] frombin [--] <BYTES>",
+                notes: FROM_BINARY_NOTES,
+                spaces_help: false,
+            },
+            CommandName::Script => Description {
+                name: "script",
+                about: "Carries out the script on standard input: builds a tree of nodes, edits it and asks",
+                usage: "sdstore [OPTIONS] script",
+                notes: SCRIPT_NOTES,
+                spaces_help: false,
+            },
+            CommandName::Serve => Description {
+                name: "serve",
+                about: "Answers each line of the script on standard input when it is read",
+                usage: "sdstore [OPTIONS] serve",
+                notes: SERVE_NOTES,
+                spaces_help: false,
+            },
+            CommandName::Audit => Description {
+                name: "audit",
+                about: "Carries out the script on standard input, and answers its checks at the end",
+                usage: "sdstore [OPTIONS] audit [--] <N>",
+                notes: AUDIT_NOTES,
+                spaces_help: false,
+            },
+            CommandName::Each => Description {
+                name: "each",
+                about: "Does what a command does, with each line of standard input as the descriptor",
+                usage: "sdstore [OPTIONS] each [-0] <COMMAND> [--] [ARG]...",
+                notes: EACH_NOTES,
+                spaces_help: false,
+            },
+        }
+    }
+
+    pub(crate) fn arguments(self) -> &'static [Argument] {
+        match self {
+            CommandName::Verdict | CommandName::Why => &REQUEST,
+            CommandName::Lint | CommandName::Print | CommandName::ToBinary => &TEXT,
+            CommandName::FromBinary => &BYTES,
+            CommandName::Script | CommandName::Serve => &[],
+            CommandName::Audit => &WORKERS,
+            CommandName::Each => &QUESTION,
+        }
+    }
+}

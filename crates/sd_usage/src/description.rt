@@ -1,0 +1,73 @@
+//! What `clap` is told of a command line.
+
+use clap::{Arg, ArgAction, Command};
+use std::alloc::{AllocError, Global};
+
+/// The program, or one of its commands.
+#[derive(Clone, Copy)]
+pub(crate) struct Description {
+    pub name: &'static str,
+    pub about: &'static str,
+    pub usage: &'static str,
+    /// What its help ends with.
+    pub notes: &'static str,
+    /// Whether the help of an argument begins a line of its own.
+    pub spaces_help: bool,
+}
+
+/// An argument of a command, or an option.
+#[derive(Clone, Copy)]
+pub(crate) struct Argument {
+    pub name: &'static str,
+    pub form: Form,
+    pub help: &'static str,
+}
+
+/// How an argument is written.
+#[derive(Clone, Copy)]
+pub(crate) enum Form {
+    /// An option of that name, without a value.
+    Flag,
+    /// An option of that name, whose value is the next word: what the value is called.
+    Setting(&'static str),
+    /// An option of one letter.
+    Letter(char),
+    /// A word, taken as it stands.
+    Word,
+    /// Any number of words.
+    Words,
+}
+
+impl Description {
+    pub(crate) fn command<'a>(
+        self,
+        alloc: Global,
+        arguments: &[Argument],
+    ) -> Result<Command<'a>, AllocError> {
+        let mut command = Command::new(alloc, self.name)
+            .about(self.about)
+            .override_usage(self.usage)
+            .after_help(self.notes)
+            .next_line_help(self.spaces_help);
+        for argument in arguments {
+            command = command.arg(argument.described(alloc))?;
+        }
+        Ok(command)
+    }
+}
+
+impl Argument {
+    fn described<'a>(self, alloc: Global) -> Arg<'a> {
+        let argument = Arg::new(alloc, self.name).help(self.help);
+        match self.form {
+            Form::Flag => argument.long(self.name).action(ArgAction::SetTrue),
+            Form::Setting(value) => argument
+                .long(self.name)
+                .value_name(value)
+                .allow_hyphen_values(true),
+            Form::Letter(letter) => argument.short(letter).action(ArgAction::SetTrue),
+            Form::Word => argument.required(true).allow_hyphen_values(true),
+            Form::Words => argument.num_args(0..).allow_hyphen_values(true),
+        }
+    }
+}
