@@ -2,55 +2,57 @@
 
 use super::*;
 
+/// A descriptor, a user, a mask and a word, and what is told of the first that isn't read.
+const UNREAD: [(&str, &str, &str, &str, &str); 8] = [
+    (
+        "O:DA",
+        "SY",
+        "FR",
+        "SY",
+        "sdstore: SDDL: 6 DomainAlias at 2\n",
+    ),
+    (
+        "D:",
+        "DU",
+        "FR",
+        "SY",
+        "sdstore: USER: 6 DomainAlias at 0\n",
+    ),
+    ("D:", "S-1-5-", "FR", "SY", "sdstore: USER: 1 Syntax at 6\n"),
+    ("D:", "SY", "FRzz", "SY", "sdstore: MASK: 1 Syntax at 2\n"),
+    (
+        "D:",
+        "SY",
+        "FR",
+        "BU=no",
+        "sdstore: WORD 2, \"BU=no\": no such state\n",
+    ),
+    (
+        "D:",
+        "SY",
+        "FR",
+        "+all",
+        "sdstore: WORD 2, \"+all\": no such privilege\n",
+    ),
+    (
+        "D:",
+        "SY",
+        "FR",
+        "ZZ=off",
+        "sdstore: WORD 2, \"ZZ=off\": 5 UnknownAlias at 0\n",
+    ),
+    (
+        "D:",
+        "SY",
+        "FR",
+        "S\n\u{1b}",
+        "sdstore: WORD 2, \"S\\u{a}\\u{1b}\": 1 Syntax at 0\n",
+    ),
+];
+
 #[test]
 fn tells_which_argument_is_not_read(rt: HostRuntime) {
-    let rows = [
-        (
-            "O:DA",
-            "SY",
-            "FR",
-            "SY",
-            "sdstore: SDDL: 6 DomainAlias at 2\n",
-        ),
-        (
-            "D:",
-            "DU",
-            "FR",
-            "SY",
-            "sdstore: USER: 6 DomainAlias at 0\n",
-        ),
-        ("D:", "S-1-5-", "FR", "SY", "sdstore: USER: 1 Syntax at 6\n"),
-        ("D:", "SY", "FRzz", "SY", "sdstore: MASK: 1 Syntax at 2\n"),
-        (
-            "D:",
-            "SY",
-            "FR",
-            "BU=no",
-            "sdstore: WORD 2, \"BU=no\": no such state\n",
-        ),
-        (
-            "D:",
-            "SY",
-            "FR",
-            "+all",
-            "sdstore: WORD 2, \"+all\": no such privilege\n",
-        ),
-        (
-            "D:",
-            "SY",
-            "FR",
-            "ZZ=off",
-            "sdstore: WORD 2, \"ZZ=off\": 5 UnknownAlias at 0\n",
-        ),
-        (
-            "D:",
-            "SY",
-            "FR",
-            "S\n\u{1b}",
-            "sdstore: WORD 2, \"S\\u{a}\\u{1b}\": 1 Syntax at 0\n",
-        ),
-    ];
-    for (sddl, user, mask, word, told) in rows {
+    for (sddl, user, mask, word, told) in UNREAD {
         let words = ["sdstore", "verdict", sddl, user, mask, "BU=deny", word];
         let ended = run(&rt, &words);
         assert_eq!(rt; ended.errors.as_slice(), told.as_bytes(), "{word:?}");
@@ -59,66 +61,68 @@ fn tells_which_argument_is_not_read(rt: HostRuntime) {
     }
 }
 
+/// Words, the fault that is answered, and what is told of it.
+const UNREAD_VALUES: [(&[&str], &str, &str); 11] = [
+    (
+        &["sdstore", "--domain", "SY", "print", "D:"],
+        "fault domain\n",
+        "sdstore: --domain: no domain\n",
+    ),
+    (
+        &["sdstore", "--domain", "x", "print", "D:"],
+        "fault domain\n",
+        "sdstore: --domain: 1 Syntax at 0\n",
+    ),
+    (
+        &["sdstore", "--mapping", "File", "lint", "D:"],
+        "fault mapping\n",
+        "sdstore: --mapping: no such mapping\n",
+    ),
+    (
+        &["sdstore", "--mapping", "File", "script"],
+        "fault mapping\n",
+        "sdstore: --mapping: no such mapping\n",
+    ),
+    (
+        &["sdstore", "--loose", "frombin", "0x01, 0"],
+        "fault hex\n",
+        "sdstore: BYTES: no bytes at 6\n",
+    ),
+    (
+        &["sdstore", "--loose", "frombin", "0x010x00"],
+        "fault hex\n",
+        "sdstore: BYTES: no bytes at 0\n",
+    ),
+    (
+        &["sdstore", "frombin", "01zz"],
+        "fault hex\n",
+        "sdstore: BYTES: no digit at 2\n",
+    ),
+    (
+        &["sdstore", "frombin", "010"],
+        "fault hex\n",
+        "sdstore: BYTES: no second digit at 3\n",
+    ),
+    (
+        &["sdstore", "frombin", "01"],
+        "fault wire 1 Short\n",
+        "sdstore: BYTES: 1 Short\n",
+    ),
+    (
+        &["sdstore", "--base64", "frombin", "A*=="],
+        "fault base64\n",
+        "sdstore: BYTES: no digit at 1\n",
+    ),
+    (
+        &["sdstore", "--base64", "frombin", "AAA"],
+        "fault base64\n",
+        "sdstore: BYTES: no padding at 3\n",
+    ),
+];
+
 #[test]
 fn tells_of_options_and_bytes(rt: HostRuntime) {
-    let rows: [(&[&str], &str, &str); 11] = [
-        (
-            &["sdstore", "--domain", "SY", "print", "D:"],
-            "fault domain\n",
-            "sdstore: --domain: no domain\n",
-        ),
-        (
-            &["sdstore", "--domain", "x", "print", "D:"],
-            "fault domain\n",
-            "sdstore: --domain: 1 Syntax at 0\n",
-        ),
-        (
-            &["sdstore", "--mapping", "File", "lint", "D:"],
-            "fault mapping\n",
-            "sdstore: --mapping: no such mapping\n",
-        ),
-        (
-            &["sdstore", "--mapping", "File", "script"],
-            "fault mapping\n",
-            "sdstore: --mapping: no such mapping\n",
-        ),
-        (
-            &["sdstore", "--loose", "frombin", "0x01, 0"],
-            "fault hex\n",
-            "sdstore: BYTES: no bytes at 6\n",
-        ),
-        (
-            &["sdstore", "--loose", "frombin", "0x010x00"],
-            "fault hex\n",
-            "sdstore: BYTES: no bytes at 0\n",
-        ),
-        (
-            &["sdstore", "frombin", "01zz"],
-            "fault hex\n",
-            "sdstore: BYTES: no digit at 2\n",
-        ),
-        (
-            &["sdstore", "frombin", "010"],
-            "fault hex\n",
-            "sdstore: BYTES: no second digit at 3\n",
-        ),
-        (
-            &["sdstore", "frombin", "01"],
-            "fault wire 1 Short\n",
-            "sdstore: BYTES: 1 Short\n",
-        ),
-        (
-            &["sdstore", "--base64", "frombin", "A*=="],
-            "fault base64\n",
-            "sdstore: BYTES: no digit at 1\n",
-        ),
-        (
-            &["sdstore", "--base64", "frombin", "AAA"],
-            "fault base64\n",
-            "sdstore: BYTES: no padding at 3\n",
-        ),
-    ];
-    for (words, line, told) in rows {
+    for (words, line, told) in UNREAD_VALUES {
         expect_told(&rt, words, line, told);
     }
 }
@@ -240,33 +244,35 @@ fn maps_by_four_masks(rt: HostRuntime) {
     expect(&rt, &words, "empty\n", 1);
 }
 
+/// Values of `--mapping` that are no four masks.
+const NO_MASKS: [&str; 21] = [
+    "",
+    ",",
+    ",,",
+    "0x1",
+    "1,2,4",
+    "1,2,4,8,",
+    "1,2,4,8,0",
+    "1,2,,8,",
+    "1, 2,4,8",
+    "1;2;4;8",
+    "x,2,4,8",
+    "1,y,4,8",
+    "1,2,z,8",
+    "1,2,4,w",
+    "0x200000,2,4,8",
+    "1,GW,4,8",
+    "1,2,0x2000000,8",
+    "1,2,4,GA",
+    "file,2,4,8",
+    "key,",
+    "FR,FW,FX,0x100000000",
+];
+
 // Another number of masks, one that isn't spelled so, or one beyond 0x1FFFFF: as a generic right, or MAXIMUM_ALLOWED.
 #[test]
 fn refuses_other_masks(rt: HostRuntime) {
-    let rows = [
-        "",
-        ",",
-        ",,",
-        "0x1",
-        "1,2,4",
-        "1,2,4,8,",
-        "1,2,4,8,0",
-        "1,2,,8,",
-        "1, 2,4,8",
-        "1;2;4;8",
-        "x,2,4,8",
-        "1,y,4,8",
-        "1,2,z,8",
-        "1,2,4,w",
-        "0x200000,2,4,8",
-        "1,GW,4,8",
-        "1,2,0x2000000,8",
-        "1,2,4,GA",
-        "file,2,4,8",
-        "key,",
-        "FR,FW,FX,0x100000000",
-    ];
-    for masks in rows {
+    for masks in NO_MASKS {
         let words = ["sdstore", "--mapping", masks, "lint", "D:"];
         expect_told(
             &rt,

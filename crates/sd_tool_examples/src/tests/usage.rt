@@ -36,136 +36,140 @@ fn expect_both(
     Ok(())
 }
 
+/// Words that ask for a command.
+const COMMANDS: [&[&str]; 74] = [
+    &["--percent", "script"],
+    &["--strict", "--percent", "serve"],
+    &["--mapping", "key", "--strict", "audit", "1"],
+    &["--mapping", "key", "script"],
+    &["--mapping", "key", "serve"],
+    &["--mapping", "key", "audit", "--", "1"],
+    &["--loose", "--without-sacl", "frombin", "00"],
+    &["--mapping", "1,2,4,8", "each", "verdict", "SY", "0x1"],
+    &["each", "print"],
+    &["each", "-0", "print"],
+    &["each", "lint", "--"],
+    &["each", "verdict", "SY", "0x1", "BU", "+take"],
+    &["each", "-0", "frombin"],
+    &["--names", "each", "why", "SY", "0x1"],
+    &["--without-sacl", "print", "D:"],
+    &["--without-sacl", "frombin", "--base64"],
+    &["--base64", "--without-sacl", "frombin", "AA=="],
+    &["--mapping", "key", "verdict", "D:", "SY", "0x1"],
+    &[
+        "--mapping",
+        "--mapping",
+        "--names",
+        "why",
+        "--",
+        "-h",
+        "SY",
+        "0x1",
+    ],
+    &["--mapping", "", "--domain", "", "lint", "--mapping"],
+    &["--names", "why", "D:", "SY", "0x1"],
+    &["--names", "why", "--", "-h", "SY", "0x1", "--names"],
+    &["--names", "why", "--names", "--names", "--names"],
+    &["--domain", "S-1-5-21-1-2-3", "verdict", "D:", "DA", "0x1"],
+    &["--domain", "", "print", "D:"],
+    &["--domain", "--names", "--names", "why", "D:", "SY", "0x1"],
+    &["--names", "--domain", "-h", "why", "--", "-h", "SY", "0x1"],
+    &["--domain", "--domain", "lint", "--domain"],
+    &["tobin", "--domain"],
+    &["why", "--names", "SY", "0x1"],
+    &["why", "D:", "SY", "0x1", "--names"],
+    &["verdict", "--names", "--names", "--names"],
+    &["lint", "D:"],
+    &["lint", "--", "-h"],
+    &["why", "D:", "SY", "0x1"],
+    &["why", "--", "-h", "SY", "0x1", "4", "--help"],
+    &["verdict", "D:", "SY", "0x1"],
+    &["verdict", "D:", "SY", "0x1", "4"],
+    &["verdict", "D:", "SY", "0x1", "4", "5"],
+    &["verdict", "D:", "SY", "0x1", "4", "5", "6"],
+    &["verdict", "D:", "SY", "0x1", "4", "5", "6", "7"],
+    &["verdict", "D:", "SY", "0x1", "4", "5", "6", "7", "8"],
+    &["verdict", "D:", "SY", "0x1", "4", "5", "6", "7", "8", "9"],
+    &[
+        "verdict", "D:", "SY", "0x1", "4", "5", "6", "7", "8", "9", "10",
+    ],
+    &["verdict", "", "", ""],
+    &["verdict", "", "", "", ""],
+    &["verdict", "help", "help", "help", "help"],
+    &["verdict", "-x", "--y", "-z", "-"],
+    &["verdict", "-V", "--version", "-V"],
+    &["verdict", "D:", "SY", "0x1", "+take", "--help"],
+    &["verdict", "--", "D:", "SY", "0x1"],
+    &["verdict", "--", "-h", "SY", "0x1"],
+    &["verdict", "--", "--help", "SY", "0x1"],
+    &["verdict", "--", "--", "SY", "0x1"],
+    &["verdict", "--", "--", "--", "--", "--"],
+    &["print", "D:"],
+    &["print", ""],
+    &["print", "-"],
+    &["print", "help"],
+    &["print", "-V"],
+    &["print", "--version"],
+    &["print", "-hx"],
+    &["print", "--", "D:"],
+    &["print", "--", "-h"],
+    &["print", "--", "--"],
+    &["tobin", "--", "--help"],
+    &["frombin", "-01"],
+    &["script"],
+    &["script", "--"],
+    &["serve"],
+    &["serve", "--"],
+    &["audit", "2"],
+    &["audit", "64"],
+    &["audit", "--", "01"],
+];
+
 #[test]
 fn both_read_commands(rt: HostRuntime) -> Result<(), AllocError> {
-    let rows: [&[&str]; 74] = [
-        &["--percent", "script"],
-        &["--strict", "--percent", "serve"],
-        &["--mapping", "key", "--strict", "audit", "1"],
-        &["--mapping", "key", "script"],
-        &["--mapping", "key", "serve"],
-        &["--mapping", "key", "audit", "--", "1"],
-        &["--loose", "--without-sacl", "frombin", "00"],
-        &["--mapping", "1,2,4,8", "each", "verdict", "SY", "0x1"],
-        &["each", "print"],
-        &["each", "-0", "print"],
-        &["each", "lint", "--"],
-        &["each", "verdict", "SY", "0x1", "BU", "+take"],
-        &["each", "-0", "frombin"],
-        &["--names", "each", "why", "SY", "0x1"],
-        &["--without-sacl", "print", "D:"],
-        &["--without-sacl", "frombin", "--base64"],
-        &["--base64", "--without-sacl", "frombin", "AA=="],
-        &["--mapping", "key", "verdict", "D:", "SY", "0x1"],
-        &[
-            "--mapping",
-            "--mapping",
-            "--names",
-            "why",
-            "--",
-            "-h",
-            "SY",
-            "0x1",
-        ],
-        &["--mapping", "", "--domain", "", "lint", "--mapping"],
-        &["--names", "why", "D:", "SY", "0x1"],
-        &["--names", "why", "--", "-h", "SY", "0x1", "--names"],
-        &["--names", "why", "--names", "--names", "--names"],
-        &["--domain", "S-1-5-21-1-2-3", "verdict", "D:", "DA", "0x1"],
-        &["--domain", "", "print", "D:"],
-        &["--domain", "--names", "--names", "why", "D:", "SY", "0x1"],
-        &["--names", "--domain", "-h", "why", "--", "-h", "SY", "0x1"],
-        &["--domain", "--domain", "lint", "--domain"],
-        &["tobin", "--domain"],
-        &["why", "--names", "SY", "0x1"],
-        &["why", "D:", "SY", "0x1", "--names"],
-        &["verdict", "--names", "--names", "--names"],
-        &["lint", "D:"],
-        &["lint", "--", "-h"],
-        &["why", "D:", "SY", "0x1"],
-        &["why", "--", "-h", "SY", "0x1", "4", "--help"],
-        &["verdict", "D:", "SY", "0x1"],
-        &["verdict", "D:", "SY", "0x1", "4"],
-        &["verdict", "D:", "SY", "0x1", "4", "5"],
-        &["verdict", "D:", "SY", "0x1", "4", "5", "6"],
-        &["verdict", "D:", "SY", "0x1", "4", "5", "6", "7"],
-        &["verdict", "D:", "SY", "0x1", "4", "5", "6", "7", "8"],
-        &["verdict", "D:", "SY", "0x1", "4", "5", "6", "7", "8", "9"],
-        &[
-            "verdict", "D:", "SY", "0x1", "4", "5", "6", "7", "8", "9", "10",
-        ],
-        &["verdict", "", "", ""],
-        &["verdict", "", "", "", ""],
-        &["verdict", "help", "help", "help", "help"],
-        &["verdict", "-x", "--y", "-z", "-"],
-        &["verdict", "-V", "--version", "-V"],
-        &["verdict", "D:", "SY", "0x1", "+take", "--help"],
-        &["verdict", "--", "D:", "SY", "0x1"],
-        &["verdict", "--", "-h", "SY", "0x1"],
-        &["verdict", "--", "--help", "SY", "0x1"],
-        &["verdict", "--", "--", "SY", "0x1"],
-        &["verdict", "--", "--", "--", "--", "--"],
-        &["print", "D:"],
-        &["print", ""],
-        &["print", "-"],
-        &["print", "help"],
-        &["print", "-V"],
-        &["print", "--version"],
-        &["print", "-hx"],
-        &["print", "--", "D:"],
-        &["print", "--", "-h"],
-        &["print", "--", "--"],
-        &["tobin", "--", "--help"],
-        &["frombin", "-01"],
-        &["script"],
-        &["script", "--"],
-        &["serve"],
-        &["serve", "--"],
-        &["audit", "2"],
-        &["audit", "64"],
-        &["audit", "--", "01"],
-    ];
-    expect_both(&rt, &rows, ByClap::Command, ByClap::Command)
+    expect_both(&rt, &COMMANDS, ByClap::Command, ByClap::Command)
 }
+
+/// Words that ask for help.
+const HELP: [&[&str]; 33] = [
+    &["help", "each"],
+    &["each", "--help"],
+    &["-h"],
+    &["--help"],
+    &["help"],
+    &["help", "help"],
+    &["help", "verdict"],
+    &["help", "why"],
+    &["help", "lint"],
+    &["lint", "-h"],
+    &["lint", "--help"],
+    &["help", "print"],
+    &["help", "tobin"],
+    &["help", "frombin"],
+    &["verdict", "-h"],
+    &["verdict", "--help"],
+    &["why", "-h"],
+    &["why", "--help"],
+    &["print", "-h"],
+    &["print", "--help"],
+    &["tobin", "-h"],
+    &["tobin", "--help"],
+    &["frombin", "-h"],
+    &["frombin", "--help"],
+    &["help", "script"],
+    &["script", "-h"],
+    &["script", "--help"],
+    &["help", "serve"],
+    &["serve", "-h"],
+    &["serve", "--help"],
+    &["help", "audit"],
+    &["audit", "-h"],
+    &["audit", "--help"],
+];
 
 #[test]
 fn both_read_help_and_version(rt: HostRuntime) -> Result<(), AllocError> {
-    let rows: [&[&str]; 33] = [
-        &["help", "each"],
-        &["each", "--help"],
-        &["-h"],
-        &["--help"],
-        &["help"],
-        &["help", "help"],
-        &["help", "verdict"],
-        &["help", "why"],
-        &["help", "lint"],
-        &["lint", "-h"],
-        &["lint", "--help"],
-        &["help", "print"],
-        &["help", "tobin"],
-        &["help", "frombin"],
-        &["verdict", "-h"],
-        &["verdict", "--help"],
-        &["why", "-h"],
-        &["why", "--help"],
-        &["print", "-h"],
-        &["print", "--help"],
-        &["tobin", "-h"],
-        &["tobin", "--help"],
-        &["frombin", "-h"],
-        &["frombin", "--help"],
-        &["help", "script"],
-        &["script", "-h"],
-        &["script", "--help"],
-        &["help", "serve"],
-        &["serve", "-h"],
-        &["serve", "--help"],
-        &["help", "audit"],
-        &["audit", "-h"],
-        &["audit", "--help"],
-    ];
-    expect_both(&rt, &rows, ByClap::Help, ByClap::Help)?;
+    expect_both(&rt, &HELP, ByClap::Help, ByClap::Help)?;
     let rows: [&[&str]; 2] = [&["-V"], &["--version"]];
     expect_both(&rt, &rows, ByClap::Version, ByClap::Version)
 }
@@ -275,55 +279,59 @@ fn takes_later_dashes_as_arguments(rt: HostRuntime) -> Result<(), AllocError> {
     expect_both(&rt, &rows, ByClap::Nothing, ByClap::Command)
 }
 
+/// Words in which `clap` sees a flag for help, and which are no command line.
+const HELP_BESIDE_OTHERS: [&[&str]; 14] = [
+    &["-h", "-h"],
+    &["-hh"],
+    &["-hV"],
+    &["--help", "print"],
+    &["-h", "print", "D:"],
+    &["verdict", "-h", "SY"],
+    &["verdict", "--help", "SY"],
+    &["verdict", "D:", "-h"],
+    &["verdict", "D:", "--help"],
+    &["verdict", "-hh"],
+    &["print", "-h", "-h"],
+    &["print", "-h", "D:"],
+    &["print", "D:", "--help"],
+    &["tobin", "--help", ""],
+];
+
 #[test]
 fn gives_no_help_beside_other_words(rt: HostRuntime) -> Result<(), AllocError> {
-    let rows: [&[&str]; 14] = [
-        &["-h", "-h"],
-        &["-hh"],
-        &["-hV"],
-        &["--help", "print"],
-        &["-h", "print", "D:"],
-        &["verdict", "-h", "SY"],
-        &["verdict", "--help", "SY"],
-        &["verdict", "D:", "-h"],
-        &["verdict", "D:", "--help"],
-        &["verdict", "-hh"],
-        &["print", "-h", "-h"],
-        &["print", "-h", "D:"],
-        &["print", "D:", "--help"],
-        &["tobin", "--help", ""],
-    ];
-    expect_both(&rt, &rows, ByClap::Nothing, ByClap::Help)?;
+    expect_both(&rt, &HELP_BESIDE_OTHERS, ByClap::Nothing, ByClap::Help)?;
     let rows: [&[&str]; 4] = [&["-V", "-V"], &["-VV"], &["-Vh"], &["--version", "x"]];
     expect_both(&rt, &rows, ByClap::Nothing, ByClap::Version)
 }
 
+/// Options before commands that don't take them.
+const MISPLACED: [&[&str]; 20] = [
+    &["--percent", "print", "D:"],
+    &["--strict", "each", "print"],
+    &["--without-sacl", "script"],
+    &["--loose", "script"],
+    &["--base64", "tobin", "D:"],
+    &["--mapping", "key", "print", "D:"],
+    &["--base64", "--loose", "frombin", "00"],
+    &["--domain", "x", "frombin", "00"],
+    &["--domain", "x", "script"],
+    &["--domain", "x", "serve"],
+    &["--domain", "x", "audit", "1"],
+    &["--domain=x", "print", "D:"],
+    &["--domain", "x", "--names", "print", "D:"],
+    &["--names", "verdict", "D:", "SY", "0x1"],
+    &["--names", "lint", "D:"],
+    &["--names", "print", "D:"],
+    &["--names", "tobin", "D:"],
+    &["--names", "frombin", "00"],
+    &["--names", "script"],
+    &["--names", "audit", "1"],
+];
+
 // An option is for the commands that take it, and help takes none; `clap` takes one before any command.
 #[test]
 fn takes_options_before_their_commands_alone(rt: HostRuntime) -> Result<(), AllocError> {
-    let rows: [&[&str]; 20] = [
-        &["--percent", "print", "D:"],
-        &["--strict", "each", "print"],
-        &["--without-sacl", "script"],
-        &["--loose", "script"],
-        &["--base64", "tobin", "D:"],
-        &["--mapping", "key", "print", "D:"],
-        &["--base64", "--loose", "frombin", "00"],
-        &["--domain", "x", "frombin", "00"],
-        &["--domain", "x", "script"],
-        &["--domain", "x", "serve"],
-        &["--domain", "x", "audit", "1"],
-        &["--domain=x", "print", "D:"],
-        &["--domain", "x", "--names", "print", "D:"],
-        &["--names", "verdict", "D:", "SY", "0x1"],
-        &["--names", "lint", "D:"],
-        &["--names", "print", "D:"],
-        &["--names", "tobin", "D:"],
-        &["--names", "frombin", "00"],
-        &["--names", "script"],
-        &["--names", "audit", "1"],
-    ];
-    expect_both(&rt, &rows, ByClap::Nothing, ByClap::Command)?;
+    expect_both(&rt, &MISPLACED, ByClap::Nothing, ByClap::Command)?;
     let rows: [&[&str]; 5] = [
         &["--domain", "x", "--help"],
         &["--names", "--help"],
@@ -336,22 +344,24 @@ fn takes_options_before_their_commands_alone(rt: HostRuntime) -> Result<(), Allo
     expect_both(&rt, &rows, ByClap::Nothing, ByClap::Version)
 }
 
+/// Numbers of workers that there aren't.
+const NO_WORKERS: [&[&str]; 11] = [
+    &["audit", ""],
+    &["audit", "0"],
+    &["audit", "00"],
+    &["audit", "65"],
+    &["audit", "001"],
+    &["audit", "-1"],
+    &["audit", "+1"],
+    &["audit", "1 "],
+    &["audit", "1/"],
+    &["audit", "two"],
+    &["audit", "18446744073709551616"],
+];
+
 #[test]
 fn clap_knows_no_numbers(rt: HostRuntime) -> Result<(), AllocError> {
-    let rows: [&[&str]; 11] = [
-        &["audit", ""],
-        &["audit", "0"],
-        &["audit", "00"],
-        &["audit", "65"],
-        &["audit", "001"],
-        &["audit", "-1"],
-        &["audit", "+1"],
-        &["audit", "1 "],
-        &["audit", "1/"],
-        &["audit", "two"],
-        &["audit", "18446744073709551616"],
-    ];
-    expect_both(&rt, &rows, ByClap::Nothing, ByClap::Command)
+    expect_both(&rt, &NO_WORKERS, ByClap::Nothing, ByClap::Command)
 }
 
 // `clap` doesn't know how many arguments the command of `each` has.
