@@ -120,6 +120,7 @@ pub(crate) static OPTIONS: [Argument; 8] = [
     },
 ];
 
+// What stands behind each command.
 static REQUEST: [Argument; 4] = [
     Argument {
         name: "SDDL",
@@ -179,82 +180,104 @@ static QUESTION: [Argument; 3] = [
     },
 ];
 
+const VERDICT: Description = Description {
+    name: "verdict",
+    about: "Prints whether a descriptor grants a mask to a user",
+    usage: "sdstore [OPTIONS] verdict [--] <SDDL> <USER> <MASK> [WORD]...",
+    notes: VERDICT_NOTES,
+    spaces_help: true,
+};
+
+const WHY: Description = Description {
+    name: "why",
+    about: "Prints whether a descriptor grants a mask to a user, and why",
+    usage: "sdstore [OPTIONS] why [--] <SDDL> <USER> <MASK> [WORD]...",
+    notes: WHY_NOTES,
+    spaces_help: true,
+};
+
+const LINT: Description = Description {
+    name: "lint",
+    about: "Prints what is doubtful in a descriptor's DACL",
+    usage: "sdstore [OPTIONS] lint [--] <SDDL>",
+    notes: LINT_NOTES,
+    spaces_help: false,
+};
+
+const PRINT: Description = Description {
+    name: "print",
+    about: "Prints a descriptor in canonical SDDL",
+    usage: "sdstore [OPTIONS] print [--] <SDDL>",
+    notes: PRINT_NOTES,
+    spaces_help: false,
+};
+
+const TO_BINARY: Description = Description {
+    name: "tobin",
+    about: "Prints a descriptor in self-relative form, in hexadecimal",
+    usage: "sdstore [OPTIONS] tobin [--] <SDDL>",
+    notes: TO_BINARY_NOTES,
+    spaces_help: false,
+};
+
+const FROM_BINARY: Description = Description {
+    name: "frombin",
+    about: "Prints a descriptor in self-relative form as canonical SDDL",
+    usage: "sdstore [OPTIONS] frombin [--] <BYTES>",
+    notes: FROM_BINARY_NOTES,
+    spaces_help: false,
+};
+
+const SCRIPT: Description = Description {
+    name: "script",
+    about: "Carries out the script on standard input: builds a tree of nodes, edits it and asks",
+    usage: "sdstore [OPTIONS] script",
+    notes: SCRIPT_NOTES,
+    spaces_help: false,
+};
+
+const SERVE: Description = Description {
+    name: "serve",
+    about: "Answers each line of the script on standard input when it is read",
+    usage: "sdstore [OPTIONS] serve",
+    notes: SERVE_NOTES,
+    spaces_help: false,
+};
+
+const AUDIT: Description = Description {
+    name: "audit",
+    about: "Carries out the script on standard input, and answers its checks at the end",
+    usage: "sdstore [OPTIONS] audit [--] <N>",
+    notes: AUDIT_NOTES,
+    spaces_help: false,
+};
+
+const EACH: Description = Description {
+    name: "each",
+    about: "Does what a command does, with each line of standard input as the descriptor",
+    usage: "sdstore [OPTIONS] each [-0] <COMMAND> [--] [ARG]...",
+    notes: EACH_NOTES,
+    spaces_help: false,
+};
+
 impl CommandName {
+    /// What help tells of it.
     pub(crate) fn description(self) -> Description {
         match self {
-            CommandName::Verdict => Description {
-                name: "verdict",
-                about: "Prints whether a descriptor grants a mask to a user",
-                usage: "sdstore [OPTIONS] verdict [--] <SDDL> <USER> <MASK> [WORD]...",
-                notes: VERDICT_NOTES,
-                spaces_help: true,
-            },
-            CommandName::Why => Description {
-                name: "why",
-                about: "Prints whether a descriptor grants a mask to a user, and why",
-                usage: "sdstore [OPTIONS] why [--] <SDDL> <USER> <MASK> [WORD]...",
-                notes: WHY_NOTES,
-                spaces_help: true,
-            },
-            CommandName::Lint => Description {
-                name: "lint",
-                about: "Prints what is doubtful in a descriptor's DACL",
-                usage: "sdstore [OPTIONS] lint [--] <SDDL>",
-                notes: LINT_NOTES,
-                spaces_help: false,
-            },
-            CommandName::Print => Description {
-                name: "print",
-                about: "Prints a descriptor in canonical SDDL",
-                usage: "sdstore [OPTIONS] print [--] <SDDL>",
-                notes: PRINT_NOTES,
-                spaces_help: false,
-            },
-            CommandName::ToBinary => Description {
-                name: "tobin",
-                about: "Prints a descriptor in self-relative form, in hexadecimal",
-                usage: "sdstore [OPTIONS] tobin [--] <SDDL>",
-                notes: TO_BINARY_NOTES,
-                spaces_help: false,
-            },
-            CommandName::FromBinary => Description {
-                name: "frombin",
-                about: "Prints a descriptor in self-relative form as canonical SDDL",
-                usage: "sdstore [OPTIONS] frombin [--] <BYTES>",
-                notes: FROM_BINARY_NOTES,
-                spaces_help: false,
-            },
-            CommandName::Script => Description {
-                name: "script",
-                about: "Carries out the script on standard input: builds a tree of nodes, edits it and asks",
-                usage: "sdstore [OPTIONS] script",
-                notes: SCRIPT_NOTES,
-                spaces_help: false,
-            },
-            CommandName::Serve => Description {
-                name: "serve",
-                about: "Answers each line of the script on standard input when it is read",
-                usage: "sdstore [OPTIONS] serve",
-                notes: SERVE_NOTES,
-                spaces_help: false,
-            },
-            CommandName::Audit => Description {
-                name: "audit",
-                about: "Carries out the script on standard input, and answers its checks at the end",
-                usage: "sdstore [OPTIONS] audit [--] <N>",
-                notes: AUDIT_NOTES,
-                spaces_help: false,
-            },
-            CommandName::Each => Description {
-                name: "each",
-                about: "Does what a command does, with each line of standard input as the descriptor",
-                usage: "sdstore [OPTIONS] each [-0] <COMMAND> [--] [ARG]...",
-                notes: EACH_NOTES,
-                spaces_help: false,
-            },
+            CommandName::Verdict => VERDICT,
+            CommandName::Why => WHY,
+            CommandName::Lint => LINT,
+            CommandName::Print => PRINT,
+            CommandName::ToBinary => TO_BINARY,
+            CommandName::FromBinary => FROM_BINARY,
+            CommandName::Script => SCRIPT,
+            CommandName::Serve => SERVE,
+            CommandName::Audit => AUDIT,
+            CommandName::Each => EACH,
         }
     }
 
+    /// What stands behind it.
     pub(crate) fn arguments(self) -> &'static [Argument] {
         match self {
             CommandName::Verdict | CommandName::Why => &REQUEST,

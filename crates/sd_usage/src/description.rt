@@ -39,6 +39,7 @@ pub(crate) enum Form {
 }
 
 impl Description {
+    /// The command, with these arguments.
     pub(crate) fn command<'a>(
         self,
         alloc: Global,
@@ -57,6 +58,7 @@ impl Description {
 }
 
 impl Argument {
+    // As `clap` takes it.
     fn described<'a>(self, alloc: Global) -> Arg<'a> {
         let argument = Arg::new(alloc, self.name).help(self.help);
         match self.form {
