@@ -88,27 +88,45 @@ impl Read for Pieces {
     }
 }
 
-fn in_pieces(input: &'static [u8], size: usize, until_failure: usize) -> Watched<Pieces> {
-    Watched::new(Pieces {
-        input,
-        size,
-        until_failure,
-    })
+/// How a run ended: its answer, whether a stream failed, and the writer.
+#[derive(Drop)]
+struct Ended<W: Drop> {
+    answer: Result<bool, RunError>,
+    is_read_failed: bool,
+    is_write_failed: bool,
+    writer: W,
+}
+
+fn asked<A: Answers, R: Read + Drop, W: Write + Drop>(
+    alloc: Global,
+    answers: &A,
+    ending: Ending,
+    reader: R,
+    writer: W,
+) -> Ended<W> {
+    let (mut reader, mut writer) = (Watched::new(reader), Watched::new(writer));
+    let answer = each(alloc, answers, ending, &mut reader, &mut writer);
+    Ended {
+        answer,
+        is_read_failed: reader.failed(),
+        is_write_failed: writer.failed(),
+        writer: writer.into_inner(),
+    }
 }
 
 #[test]
 fn answers_pieces_of_every_length(rt: HostRuntime) {
     for (ending, input, wanted, is_refused) in INPUTS {
         for size in 1..=input.len() + 1 {
-            let mut reader = in_pieces(input, size, usize::MAX);
-            let mut writer = Watched::new(Vec::new(rt.alloc()));
-            let answer = each(rt.alloc(), &Brackets, ending, &mut reader, &mut writer);
-            assert_eq!(rt; answer, Ok(is_refused), "{input:?} by {size}");
-            assert_eq!(rt;
-                writer.into_inner().as_slice(),
-                wanted,
-                "{input:?} by {size}"
-            );
+            let reader = Pieces {
+                input,
+                size,
+                until_failure: usize::MAX,
+            };
+            let alloc = rt.alloc();
+            let ended = asked(alloc, &Brackets, ending, reader, Vec::new(alloc));
+            assert_eq!(rt; ended.answer, Ok(is_refused), "{input:?} by {size}");
+            assert_eq!(rt; ended.writer.as_slice(), wanted, "{input:?} by {size}");
         }
     }
 }
@@ -119,24 +137,21 @@ const ENDS: [(usize, &[u8]); 3] = [(5, b"[a]\n[!b]\n"), (2, b"[a]\n"), (0, b"")]
 #[test]
 fn answers_what_had_ended_before_the_reader_failed(rt: HostRuntime) {
     for until_failure in 0..=6 {
-        let mut reader = in_pieces(b"a\n!b\nc\n", 2, until_failure);
-        let mut writer = Watched::new(Vec::new(rt.alloc()));
-        let answer = each(
-            rt.alloc(),
-            &Brackets,
-            Ending::Feed,
-            &mut reader,
-            &mut writer,
-        );
-        assert_eq!(rt; answer, Err(RunError::Read), "at {until_failure}");
-        assert!(rt; reader.failed() && !writer.failed(), "at {until_failure}");
-        let ended = ENDS.iter().find(|(end, _)| *end <= until_failure);
-        let wanted = ended.map_or(&b""[..], |(_, wanted)| *wanted);
-        assert_eq!(rt;
-            writer.into_inner().as_slice(),
-            wanted,
+        let reader = Pieces {
+            input: b"a\n!b\nc\n",
+            size: 2,
+            until_failure,
+        };
+        let alloc = rt.alloc();
+        let ended = asked(alloc, &Brackets, Ending::Feed, reader, Vec::new(alloc));
+        assert_eq!(rt; ended.answer, Err(RunError::Read), "at {until_failure}");
+        assert!(rt;
+            ended.is_read_failed && !ended.is_write_failed,
             "at {until_failure}"
         );
+        let row = ENDS.iter().find(|(end, _)| *end <= until_failure);
+        let wanted = row.map_or(&b""[..], |(_, wanted)| *wanted);
+        assert_eq!(rt; ended.writer.as_slice(), wanted, "at {until_failure}");
     }
 }
 
@@ -196,15 +211,15 @@ fn tells_a_line_that_is_too_long(rt: HostRuntime) {
         (b"\xef\xbb\xbf", MAX_INPUT_BYTES + 1, b"", b"L"),
     ];
     for (before, left, behind, wanted) in rows {
-        let mut reader = Watched::new(Letters {
+        let reader = Letters {
             before,
             left,
             behind,
-        });
-        let mut writer = Watched::new(Vec::new(rt.alloc()));
-        let answer = each(rt.alloc(), &Lengths, Ending::Feed, &mut reader, &mut writer);
-        assert_eq!(rt; answer, Ok(wanted.contains(&b'L')), "{left}");
-        assert_eq!(rt; writer.into_inner().as_slice(), wanted, "{left}");
+        };
+        let alloc = rt.alloc();
+        let ended = asked(alloc, &Lengths, Ending::Feed, reader, Vec::new(alloc));
+        assert_eq!(rt; ended.answer, Ok(wanted.contains(&b'L')), "{left}");
+        assert_eq!(rt; ended.writer.as_slice(), wanted, "{left}");
     }
 }
 
@@ -231,20 +246,21 @@ impl Write for Full {
 fn writes_a_beginning_where_the_writer_fails(rt: HostRuntime) {
     let whole = b"[a]\n[b]\n[c]\n";
     for room in 0..whole.len() {
-        let mut reader = in_pieces(b"a\nb\nc", 2, usize::MAX);
-        let mut writer = Watched::new(Full {
+        let reader = Pieces {
+            input: b"a\nb\nc",
+            size: 2,
+            until_failure: usize::MAX,
+        };
+        let writer = Full {
             taken: Vec::new(rt.alloc()),
             room,
-        });
-        let answer = each(
-            rt.alloc(),
-            &Brackets,
-            Ending::Feed,
-            &mut reader,
-            &mut writer,
+        };
+        let ended = asked(rt.alloc(), &Brackets, Ending::Feed, reader, writer);
+        assert_eq!(rt; ended.answer, Err(RunError::Write), "room for {room}");
+        assert!(rt;
+            ended.is_write_failed && !ended.is_read_failed,
+            "room for {room}"
         );
-        assert_eq!(rt; answer, Err(RunError::Write), "room for {room}");
-        assert!(rt; writer.failed() && !reader.failed(), "room for {room}");
-        assert_eq!(rt; writer.into_inner().taken.as_slice(), &whole[..room]);
+        assert_eq!(rt; ended.writer.taken.as_slice(), &whole[..room]);
     }
 }

@@ -1,17 +1,18 @@
 //! Whole scripts, each with its whole output.
 
-use super::plain;
-use sd_acl::Verdict;
+use super::{plain, printed};
+use sd_acl::{Descriptor, Verdict};
+use sd_check::Token;
 use sd_script::{
     Asked, LineFault, PathSpelling, Spelling, Stop, TokenError, counted_line, fault_line,
-    first_line, is_silent, line_of_fault, read_line, read_token, reply_line, script_output,
-    sddl_fault_line, spell, start_error_line, verdict_line, why_text,
+    first_line, is_silent, line_of_fault, read_line, read_token, reply_line, sddl_fault_line,
+    spell, start_error_line, verdict_line, why_text,
 };
 use sd_share::{Reply, Request, StartError};
-use sd_sid::{GenericMapping, Mask};
+use sd_sid::{GenericMapping, Mask, Sid};
 use sd_text::{TextFault, read_sddl, read_sid_text};
 use std::alloc::{AllocError, Global};
-use std::test::Fail;
+use std::process::Abort;
 
 /// Scripts, and what they print.
 static SCRIPTS: [(&str, &str); 11] = [
@@ -68,13 +69,17 @@ static SCRIPTS: [(&str, &str); 11] = [
     ),
 ];
 
+/// Stops the test unless the script prints this.
+fn prints(rt: &(impl Abort + AllocGlobal), script: &[u8], output: &[u8]) {
+    let printed = printed(rt, &plain(), script);
+    assert_eq!(rt; printed.as_slice(), output, "{script:?}");
+}
+
 #[test]
-fn prints_the_output_of_scripts(rt: HostRuntime) -> Result<(), Fail> {
+fn prints_the_output_of_scripts(rt: HostRuntime) {
     for (script, output) in &SCRIPTS {
-        let (printed, _) = script_output(rt.alloc(), &plain(), script.as_bytes())?;
-        assert_eq!(rt; printed.as_slice(), output.as_bytes(), "{script}");
+        prints(&rt, script.as_bytes(), output.as_bytes());
     }
-    Ok(())
 }
 
 /// An object below so many containers, one below the other.
@@ -89,19 +94,23 @@ fn objects_below(alloc: Global, depth: usize) -> Result<String, AllocError> {
     Ok(script)
 }
 
-#[test]
-fn refuses_what_lies_too_deep(rt: HostRuntime) -> Result<(), Fail> {
-    for (depth, last) in [(63, "ok\n"), (64, "refused 10 TooDeep\n")] {
-        let script = objects_below(rt.alloc(), depth)?;
-        let mut output = String::from_str(rt.alloc(), "opened 1\n")?;
-        for _ in 0..depth {
-            output.push_str("ok\n")?;
-        }
-        output.push_str(last)?;
-        let (printed, _) = script_output(rt.alloc(), &plain(), script.as_bytes())?;
-        assert_eq!(rt; printed.as_slice(), output.as_bytes(), "{depth}");
+/// What such a script prints, whose last line is this.
+fn answers_below(alloc: Global, depth: usize, last: &str) -> Result<String, AllocError> {
+    let mut output = String::from_str(alloc, "opened 1\n")?;
+    for _ in 0..depth {
+        output.push_str("ok\n")?;
     }
-    Ok(())
+    output.push_str(last)?;
+    Ok(output)
+}
+
+#[test]
+fn refuses_what_lies_too_deep(rt: HostRuntime) {
+    for (depth, last) in [(63, "ok\n"), (64, "refused 10 TooDeep\n")] {
+        let script = objects_below(rt.alloc(), depth).expect(&rt, "memory");
+        let output = answers_below(rt.alloc(), depth, last).expect(&rt, "memory");
+        prints(&rt, script.as_bytes(), output.as_bytes());
+    }
 }
 
 /// A script over a root with so many entries of 20 bytes that objects inherit: an object that inherits them, with one more
@@ -117,7 +126,7 @@ fn heirs_of(alloc: Global, count: usize) -> Result<String, AllocError> {
 }
 
 #[test]
-fn refuses_lists_that_are_too_large(rt: HostRuntime) -> Result<(), Fail> {
+fn refuses_lists_that_are_too_large(rt: HostRuntime) {
     // 8 bytes and 3,276 times 20 are 65,528, and the limit is 65,535.
     let rows = [
         (3275, "opened 1\nok\nok\nrefused 9 AclTooLarge\n"),
@@ -127,60 +136,87 @@ fn refuses_lists_that_are_too_large(rt: HostRuntime) -> Result<(), Fail> {
         ),
     ];
     for (count, output) in rows {
-        let script = heirs_of(rt.alloc(), count)?;
-        let (printed, _) = script_output(rt.alloc(), &plain(), script.as_bytes())?;
-        assert_eq!(rt; printed.as_slice(), output.as_bytes(), "{count}");
+        let script = heirs_of(rt.alloc(), count).expect(&rt, "memory");
+        prints(&rt, script.as_bytes(), output.as_bytes());
     }
-    Ok(())
 }
 
 #[test]
-fn lines_that_are_no_text(rt: HostRuntime) -> Result<(), Fail> {
-    let (printed, _) = script_output(rt.alloc(), &plain(), b"\xFF\n#\xFF\nwhy \xFF\ntell")?;
-    assert_eq!(rt;
-        printed.as_slice(),
-        b"fault utf8\nfault utf8\n\nfault open\n".as_slice()
+fn lines_that_are_no_text(rt: HostRuntime) {
+    prints(
+        &rt,
+        b"\xFF\n#\xFF\nwhy \xFF\ntell",
+        b"fault utf8\nfault utf8\n\nfault open\n",
     );
-    Ok(())
+}
+
+/// Stops the test unless what was made is a text, which is the one that is wanted.
+fn says(rt: &impl Abort, made: Result<String, AllocError>, want: &str) {
+    let text = made.expect(rt, "memory");
+    assert_eq!(rt; text.as_str(), want);
+}
+
+fn fault_of(alloc: Global, what: &str) -> Result<String, AllocError> {
+    fault_line(alloc, what)
+}
+
+fn sddl_fault_of(alloc: Global, fault: TextFault, place: u64) -> Result<String, AllocError> {
+    sddl_fault_line(alloc, fault, place)
+}
+
+fn verdict_of(alloc: Global, verdict: Verdict) -> Result<String, AllocError> {
+    verdict_line(alloc, verdict)
 }
 
 #[test]
-fn lines_of_faults_and_verdicts(rt: HostRuntime) -> Result<(), Fail> {
-    let line = fault_line(rt.alloc(), "sid")?;
-    assert_eq!(rt; line.as_str(), "fault sid\n");
-    let line = sddl_fault_line(rt.alloc(), TextFault::DomainAlias, 2)?;
-    assert_eq!(rt; line.as_str(), "fault sddl 6 DomainAlias at 2\n");
-    let line = verdict_line(rt.alloc(), Verdict::Granted(Mask(0x1F01FF)))?;
-    assert_eq!(rt; line.as_str(), "granted 0x1f01ff\n");
-    Ok(())
+fn lines_of_faults_and_verdicts(rt: HostRuntime) {
+    says(&rt, fault_of(rt.alloc(), "sid"), "fault sid\n");
+    says(
+        &rt,
+        sddl_fault_of(rt.alloc(), TextFault::DomainAlias, 2),
+        "fault sddl 6 DomainAlias at 2\n",
+    );
+    says(
+        &rt,
+        verdict_of(rt.alloc(), Verdict::Granted(Mask(0x1F01FF))),
+        "granted 0x1f01ff\n",
+    );
+}
+
+fn sid(rt: &impl Abort, text: &str) -> Sid {
+    read_sid_text(text).expect(rt, "a SID")
+}
+
+fn token(alloc: Global, user: Sid, words: &[&str]) -> Result<Token, TokenError> {
+    read_token(alloc, user, words)
 }
 
 #[test]
-fn tokens_of_words(rt: HostRuntime) -> Result<(), Fail> {
-    let user = read_sid_text("SY")?;
-    let words = ["BU", "WD=deny", "+take"];
-    assert!(rt; read_token(rt.alloc(), user, &words).is_ok());
-    let words = ["BU", "WD=none"];
+fn tokens_of_words(rt: HostRuntime) {
+    let user = sid(&rt, "SY");
+    assert!(rt; token(rt.alloc(), user, &["BU", "WD=deny", "+take"]).is_ok());
     assert!(rt;
         matches!(
-            read_token(rt.alloc(), user, &words),
+            token(rt.alloc(), user, &["BU", "WD=none"]),
             Err(TokenError::NoWord { place: 1 })
         )
     );
-    Ok(())
+}
+
+fn line(alloc: Global, is_open: bool, line: &[u8]) -> Result<Asked, Stop> {
+    read_line(alloc, PathSpelling::Plain, is_open, line)
 }
 
 #[test]
 fn lines_one_by_one(rt: HostRuntime) {
-    let (line, after) = first_line(b"tell\r\npublish\n");
-    assert_eq!(rt; line, b"tell".as_slice());
+    let (first, after) = first_line(b"tell\r\npublish\n");
+    assert_eq!(rt; first, b"tell".as_slice());
     assert_eq!(rt; after, b"publish\n".as_slice());
     assert!(rt; is_silent(b"# tell") && is_silent(b""));
     assert!(rt; !is_silent(b" "));
-    let asked = read_line(rt.alloc(), PathSpelling::Plain, true, b"learn 1 2");
     assert!(rt;
         matches!(
-            asked,
+            line(rt.alloc(), true, b"learn 1 2"),
             Ok(Asked::Asking(Request::Learn {
                 reader: 1,
                 length: 2
@@ -189,64 +225,88 @@ fn lines_one_by_one(rt: HostRuntime) {
     );
     assert!(rt;
         matches!(
-            read_line(rt.alloc(), PathSpelling::Plain, false, b"learn 1 2"),
+            line(rt.alloc(), false, b"learn 1 2"),
             Err(Stop::Fault(LineFault::Open))
         )
     );
 }
 
-#[test]
-fn lines_of_replies(rt: HostRuntime) -> Result<(), Fail> {
-    let line = reply_line(rt.alloc(), &Reply::Learned(3))?;
-    assert_eq!(rt; line.as_str(), "learned 3\n");
-    let line = start_error_line(rt.alloc(), StartError::Readers)?;
-    assert_eq!(rt; line.as_str(), "refused readers\n");
-    let line = counted_line(rt.alloc(), "opened", 64)?;
-    assert_eq!(rt; line.as_str(), "opened 64\n");
-    let line = line_of_fault(rt.alloc(), LineFault::Parts)?;
-    assert_eq!(rt; line.as_str(), "fault parts\n");
-    Ok(())
+fn reply_of(alloc: Global, reply: &Reply) -> Result<String, AllocError> {
+    reply_line(alloc, reply)
+}
+
+fn start_error_of(alloc: Global, error: StartError) -> Result<String, AllocError> {
+    start_error_line(alloc, error)
+}
+
+fn count_of(alloc: Global, word: &str, count: u64) -> Result<String, AllocError> {
+    counted_line(alloc, word, count)
+}
+
+fn line_fault_of(alloc: Global, fault: LineFault) -> Result<String, AllocError> {
+    line_of_fault(alloc, fault)
 }
 
 #[test]
-fn masks_by_number_and_by_names(rt: HostRuntime) -> Result<(), AllocError> {
-    let rows = [
-        (0x0016_0089, "0x160089", "FR+WD"),
-        (0x001F_01FF, "0x1f01ff", "FA"),
-        (0x0012_019F, "0x12019f", "FW+FR"),
-        (0x0012_0289, "0x120289", "FR+0x200"),
-        (0xF010_0000, "0xf0100000", "GR+GW+GX+GA+0x100000"),
-        (0x0100_0000, "0x1000000", "0x1000000"),
-        (0, "0x0", "0x0"),
-    ];
-    for (mask, number, names) in rows {
-        let text = spell(rt.alloc(), Spelling::Number, Mask(mask))?;
-        assert_eq!(rt; text.as_str(), number);
-        let text = spell(rt.alloc(), Spelling::Names, Mask(mask))?;
-        assert_eq!(rt; text.as_str(), names);
+fn lines_of_replies(rt: HostRuntime) {
+    says(&rt, reply_of(rt.alloc(), &Reply::Learned(3)), "learned 3\n");
+    let readers = start_error_of(rt.alloc(), StartError::Readers);
+    says(&rt, readers, "refused readers\n");
+    says(&rt, count_of(rt.alloc(), "opened", 64), "opened 64\n");
+    let parts = line_fault_of(rt.alloc(), LineFault::Parts);
+    says(&rt, parts, "fault parts\n");
+}
+
+/// Masks, by number and by names.
+const MASKS: [(u32, &str, &str); 7] = [
+    (0x0016_0089, "0x160089", "FR+WD"),
+    (0x001F_01FF, "0x1f01ff", "FA"),
+    (0x0012_019F, "0x12019f", "FW+FR"),
+    (0x0012_0289, "0x120289", "FR+0x200"),
+    (0xF010_0000, "0xf0100000", "GR+GW+GX+GA+0x100000"),
+    (0x0100_0000, "0x1000000", "0x1000000"),
+    (0, "0x0", "0x0"),
+];
+
+fn spelled(alloc: Global, spelling: Spelling, mask: u32) -> Result<String, AllocError> {
+    spell(alloc, spelling, Mask(mask))
+}
+
+#[test]
+fn masks_by_number_and_by_names(rt: HostRuntime) {
+    for (mask, number, names) in MASKS {
+        says(&rt, spelled(rt.alloc(), Spelling::Number, mask), number);
+        says(&rt, spelled(rt.alloc(), Spelling::Names, mask), names);
     }
-    Ok(())
+}
+
+fn descriptor(rt: &(impl Abort + AllocGlobal), text: &str) -> Descriptor {
+    match read_sddl(rt.alloc(), text) {
+        Ok(descriptor) => descriptor,
+        Err(_) => panic!(rt; "SDDL"),
+    }
+}
+
+/// Why a mask is granted to the user, by names.
+fn reasons(
+    alloc: Global,
+    descriptor: &Descriptor,
+    token: &Token,
+    asked: Mask,
+) -> Result<String, AllocError> {
+    let mapping = GenericMapping::file();
+    why_text(alloc, &mapping, Spelling::Names, descriptor, token, asked)
 }
 
 #[test]
-fn lines_of_reasons(rt: HostRuntime) -> Result<(), Fail> {
-    let descriptor = read_sddl(rt.alloc(), "O:BAD:(A;;0x160089;;;BU)")
-        .ok()
-        .ok_or("SDDL")?;
-    let user = read_sid_text("BU").ok().ok_or("a SID")?;
-    let token = read_token(rt.alloc(), user, &[]).ok().ok_or("a token")?;
-    let asked = Mask(0x0016_0089);
-    let text = why_text(
-        rt.alloc(),
-        &GenericMapping::file(),
-        Spelling::Names,
-        &descriptor,
-        &token,
-        asked,
-    )?;
-    assert_eq!(rt;
-        text.as_str(),
-        "granted FR+WD\ngranted FR+WD by entry 1 (A;;0x160089;;;BU) as S-1-5-32-545\n"
+fn lines_of_reasons(rt: HostRuntime) {
+    let descriptor = descriptor(&rt, "O:BAD:(A;;0x160089;;;BU)");
+    let Ok(token) = token(rt.alloc(), sid(&rt, "BU"), &[]) else {
+        panic!(&rt; "a token")
+    };
+    says(
+        &rt,
+        reasons(rt.alloc(), &descriptor, &token, Mask(0x0016_0089)),
+        "granted FR+WD\ngranted FR+WD by entry 1 (A;;0x160089;;;BU) as S-1-5-32-545\n",
     );
-    Ok(())
 }

@@ -76,46 +76,64 @@ fn answers(alloc: Global, bytes: usize) -> Result<Vec<u8>, AllocError> {
     Ok(printed)
 }
 
+/// The script, in pieces of so many bytes, up to a failure.
+fn in_pieces(rt: &(impl Abort + AllocGlobal), size: usize, fails_at: usize) -> Pieces {
+    Pieces {
+        script: script(rt.alloc()).expect(rt, "memory is there"),
+        at: 0,
+        size,
+        fails_at,
+    }
+}
+
+/// How a run ended: its error, whether a stream failed, and the writer.
+#[derive(Drop)]
+struct Ended<W: Drop> {
+    error: Option<RunError>,
+    is_read_failed: bool,
+    is_write_failed: bool,
+    writer: W,
+}
+
+fn served<R: Read + Drop, W: Write + Drop>(alloc: Global, reader: R, writer: W) -> Ended<W> {
+    let (mut reader, mut writer) = (Watched::new(reader), Watched::new(writer));
+    let answer = serve(alloc, &plain(), &mut reader, &mut writer);
+    Ended {
+        error: answer.err(),
+        is_read_failed: reader.failed(),
+        is_write_failed: writer.failed(),
+        writer: writer.into_inner(),
+    }
+}
+
 #[test]
 fn answers_pieces_of_every_length(rt: HostRuntime) {
-    let script = script(rt.alloc()).expect(&rt, "memory is there");
-    let mut wanted = answers(rt.alloc(), script.len()).expect(&rt, "memory is there");
+    let length = script(rt.alloc()).expect(&rt, "memory is there").len();
+    let mut wanted = answers(rt.alloc(), length).expect(&rt, "memory is there");
     wanted
         .extend_from_slice(b"learned 1\n")
         .expect(&rt, "memory is there");
-    for size in 1..=script.len() {
-        let mut reader = Watched::new(Pieces {
-            script: Vec::from_slice(rt.alloc(), &script).expect(&rt, "memory is there"),
-            at: 0,
-            size,
-            fails_at: usize::MAX,
-        });
-        let mut writer = Watched::new(Vec::new(rt.alloc()));
-        assert_eq!(rt;
-            serve(rt.alloc(), &plain(), &mut reader, &mut writer).err(),
-            None,
-            "by {size}"
-        );
-        assert!(rt; writer.into_inner() == wanted, "by {size}");
+    for size in 1..=length {
+        let reader = in_pieces(&rt, size, usize::MAX);
+        let ended = served(rt.alloc(), reader, Vec::new(rt.alloc()));
+        assert_eq!(rt; ended.error, None, "by {size}");
+        assert!(rt; ended.writer == wanted, "by {size}");
     }
 }
 
 #[test]
 fn answers_what_had_ended_before_the_reader_failed(rt: HostRuntime) {
-    let script = script(rt.alloc()).expect(&rt, "memory is there");
-    for fails_at in 0..=script.len() {
-        let mut reader = Watched::new(Pieces {
-            script: Vec::from_slice(rt.alloc(), &script).expect(&rt, "memory is there"),
-            at: 0,
-            size: 7,
-            fails_at,
-        });
-        let mut writer = Watched::new(Vec::new(rt.alloc()));
-        let answer = serve(rt.alloc(), &plain(), &mut reader, &mut writer);
-        assert_eq!(rt; answer.err(), Some(RunError::Read), "at {fails_at}");
-        assert!(rt; reader.failed() && !writer.failed(), "at {fails_at}");
+    let length = script(rt.alloc()).expect(&rt, "memory is there").len();
+    for fails_at in 0..=length {
+        let reader = in_pieces(&rt, 7, fails_at);
+        let ended = served(rt.alloc(), reader, Vec::new(rt.alloc()));
+        assert_eq!(rt; ended.error, Some(RunError::Read), "at {fails_at}");
+        assert!(rt;
+            ended.is_read_failed && !ended.is_write_failed,
+            "at {fails_at}"
+        );
         let wanted = answers(rt.alloc(), fails_at).expect(&rt, "memory is there");
-        assert!(rt; writer.into_inner() == wanted, "at {fails_at}");
+        assert!(rt; ended.writer == wanted, "at {fails_at}");
     }
 }
 
@@ -140,22 +158,22 @@ impl Read for Letters {
 
 #[test]
 fn answers_the_longest_line_and_no_longer(rt: HostRuntime) {
-    let rows: [(usize, &[u8], Result<(), RunError>); 2] = [
-        (MAX_INPUT_BYTES, b"fault open\nfault words\n", Ok(())),
-        (MAX_INPUT_BYTES + 1, b"fault open\n", Err(RunError::TooLong)),
+    let rows: [(usize, &[u8], Option<RunError>); 2] = [
+        (MAX_INPUT_BYTES, b"fault open\nfault words\n", None),
+        (
+            MAX_INPUT_BYTES + 1,
+            b"fault open\n",
+            Some(RunError::TooLong),
+        ),
     ];
-    for (left, wanted, ends) in rows {
-        let mut reader = Watched::new(Letters {
+    for (left, wanted, error) in rows {
+        let reader = Letters {
             line: b"publish\n",
             left,
-        });
-        let mut writer = Watched::new(Vec::new(rt.alloc()));
-        assert_eq!(rt;
-            serve(rt.alloc(), &plain(), &mut reader, &mut writer).err(),
-            ends.err(),
-            "{left}"
-        );
-        assert_eq!(rt; writer.into_inner().as_slice(), wanted, "{left}");
+        };
+        let ended = served(rt.alloc(), reader, Vec::new(rt.alloc()));
+        assert_eq!(rt; ended.error, error, "{left}");
+        assert_eq!(rt; ended.writer.as_slice(), wanted, "{left}");
     }
 }
 
@@ -183,14 +201,16 @@ fn writes_a_beginning_where_the_writer_fails(rt: HostRuntime) {
     let script = script(rt.alloc()).expect(&rt, "memory is there");
     let whole = answers(rt.alloc(), script.len()).expect(&rt, "memory is there");
     for room in 0..whole.len() {
-        let mut reader = Watched::new(script.as_slice());
-        let mut writer = Watched::new(Full {
+        let writer = Full {
             taken: Vec::new(rt.alloc()),
             room,
-        });
-        let answer = serve(rt.alloc(), &plain(), &mut reader, &mut writer);
-        assert_eq!(rt; answer.err(), Some(RunError::Write), "room for {room}");
-        assert!(rt; writer.failed() && !reader.failed(), "room for {room}");
-        assert_eq!(rt; writer.into_inner().taken.as_slice(), &whole[..room]);
+        };
+        let ended = served(rt.alloc(), script.as_slice(), writer);
+        assert_eq!(rt; ended.error, Some(RunError::Write), "room for {room}");
+        assert!(rt;
+            ended.is_write_failed && !ended.is_read_failed,
+            "room for {room}"
+        );
+        assert_eq!(rt; ended.writer.taken.as_slice(), &whole[..room]);
     }
 }

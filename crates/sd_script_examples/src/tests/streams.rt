@@ -102,62 +102,103 @@ impl Read for LineEnds {
     }
 }
 
+/// What a whole input was read as, whether its reader failed, and that reader.
+#[derive(Drop)]
+struct Input<R: Drop> {
+    answer: Result<Vec<u8>, RunError>,
+    is_failed: bool,
+    reader: R,
+}
+
+fn all_read<R: Read + Drop>(alloc: Global, reader: R) -> Input<R> {
+    let mut reader = Watched::new(reader);
+    let answer = read_whole(alloc, &mut reader);
+    Input {
+        answer,
+        is_failed: reader.failed(),
+        reader: reader.into_inner(),
+    }
+}
+
 #[test]
 fn reads_one_byte_at_a_time(rt: HostRuntime) {
-    let mut reader = Watched::new(SlowReader {
+    let reader = SlowReader {
         calls: 0,
         fails_at: NEVER,
         fault: ErrorKind::Interrupted,
-    });
-    let text = read_whole(rt.alloc(), &mut reader).expect(&rt, "memory is there");
+    };
+    let input = all_read(rt.alloc(), reader);
+    assert!(rt; !input.is_failed);
+    assert_eq!(rt; input.reader.calls, SCRIPT.len() + 1);
+    let text = input.answer.expect(&rt, "memory is there");
     assert_eq!(rt; text.as_slice(), SCRIPT);
-    assert!(rt; !reader.failed());
-    assert_eq!(rt; reader.into_inner().calls, SCRIPT.len() + 1);
 }
 
 #[test]
 fn ends_at_the_read_that_fails(rt: HostRuntime) {
     for fault in [ErrorKind::BrokenPipe, ErrorKind::Interrupted] {
         for fails_at in 0..=SCRIPT.len() {
-            let mut reader = Watched::new(SlowReader {
+            let reader = SlowReader {
                 calls: 0,
                 fails_at,
                 fault,
-            });
-            let answer = read_whole(rt.alloc(), &mut reader);
-            assert!(rt; matches!(answer, Err(RunError::Read)), "at {fails_at}");
-            assert!(rt; reader.failed(), "at {fails_at}");
-            assert_eq!(rt; reader.into_inner().calls, fails_at + 1);
+            };
+            let input = all_read(rt.alloc(), reader);
+            assert!(rt;
+                matches!(input.answer, Err(RunError::Read)),
+                "at {fails_at}"
+            );
+            assert!(rt; input.is_failed, "at {fails_at}");
+            assert_eq!(rt; input.reader.calls, fails_at + 1);
         }
     }
 }
 
 #[test]
 fn reads_no_more_than_the_longest_input(rt: HostRuntime) {
-    let mut longest = Watched::new(LineEnds {
+    let longest = LineEnds {
         left: MAX_INPUT_BYTES,
-    });
-    let text = read_whole(rt.alloc(), &mut longest).expect(&rt, "memory is there");
+    };
+    let longest = all_read(rt.alloc(), longest);
+    assert!(rt; !longest.is_failed);
+    let text = longest.answer.expect(&rt, "memory is there");
     assert_eq!(rt; text.len(), 16_777_216);
     assert!(rt; text.iter().all(|byte| *byte == b'\n'));
-    assert!(rt; !longest.failed());
 
-    let mut longer = Watched::new(LineEnds {
+    let longer = LineEnds {
         left: MAX_INPUT_BYTES + 1,
-    });
-    let answer = read_whole(rt.alloc(), &mut longer);
-    assert!(rt; matches!(answer, Err(RunError::TooLong)));
-    assert!(rt; !longer.failed());
+    };
+    let longer = all_read(rt.alloc(), longer);
+    assert!(rt; matches!(longer.answer, Err(RunError::TooLong)));
+    assert!(rt; !longer.is_failed);
+}
+
+/// How a whole output was written, whether its writer failed, and that writer.
+#[derive(Drop)]
+struct Output {
+    answer: Result<(), RunError>,
+    is_failed: bool,
+    writer: SlowWriter,
+}
+
+fn all_written(writer: SlowWriter, bytes: &[u8]) -> Output {
+    let mut writer = Watched::new(writer);
+    let answer = write_whole(&mut writer, bytes);
+    Output {
+        answer,
+        is_failed: writer.failed(),
+        writer: writer.into_inner(),
+    }
 }
 
 #[test]
 fn writes_one_byte_at_a_time(rt: HostRuntime) {
-    let mut writer = Watched::new(SlowWriter::failing_at(rt.alloc(), NEVER, Fault::Refuses));
-    assert_eq!(rt; write_whole(&mut writer, SCRIPT), Ok(()));
-    assert!(rt; !writer.failed());
-    let writer = writer.into_inner();
-    assert_eq!(rt; writer.taken.as_slice(), SCRIPT);
-    assert_eq!(rt; writer.flushes, 1);
+    let writer = SlowWriter::failing_at(rt.alloc(), NEVER, Fault::Refuses);
+    let output = all_written(writer, SCRIPT);
+    assert_eq!(rt; output.answer, Ok(()));
+    assert!(rt; !output.is_failed);
+    assert_eq!(rt; output.writer.taken.as_slice(), SCRIPT);
+    assert_eq!(rt; output.writer.flushes, 1);
 }
 
 #[test]
@@ -165,23 +206,28 @@ fn ends_at_the_write_that_fails(rt: HostRuntime) {
     for fault in [Fault::Refuses, Fault::IsInterrupted, Fault::TakesNothing] {
         // The last of these calls is the flush.
         for fails_at in 0..=SCRIPT.len() {
-            let mut writer = Watched::new(SlowWriter::failing_at(rt.alloc(), fails_at, fault));
-            let answer = write_whole(&mut writer, SCRIPT);
-            assert_eq!(rt; answer, Err(RunError::Write), "{fault:?} at {fails_at}");
-            assert!(rt; writer.failed(), "{fault:?} at {fails_at}");
-            let taken = writer.into_inner().taken;
-            assert_eq!(rt; taken.as_slice(), &SCRIPT[..fails_at]);
+            let writer = SlowWriter::failing_at(rt.alloc(), fails_at, fault);
+            let output = all_written(writer, SCRIPT);
+            assert_eq!(rt;
+                output.answer,
+                Err(RunError::Write),
+                "{fault:?} at {fails_at}"
+            );
+            assert!(rt; output.is_failed, "{fault:?} at {fails_at}");
+            assert_eq!(rt; output.writer.taken.as_slice(), &SCRIPT[..fails_at]);
         }
     }
 }
 
 #[test]
 fn a_write_of_nothing_may_take_nothing(rt: HostRuntime) {
-    let mut writer = Watched::new(SlowWriter::failing_at(rt.alloc(), NEVER, Fault::Refuses));
+    let writer = SlowWriter::failing_at(rt.alloc(), NEVER, Fault::Refuses);
+    let mut writer = Watched::new(writer);
     assert_eq!(rt; writer.write(b"").ok(), Some(0));
     assert!(rt; !writer.failed());
-    assert_eq!(rt; write_whole(&mut writer, b""), Ok(()));
-    assert!(rt; !writer.failed());
+    let output = all_written(writer.into_inner(), b"");
+    assert_eq!(rt; output.answer, Ok(()));
+    assert!(rt; !output.is_failed);
 }
 
 fn one_byte(alloc: Global) -> Result<Vec<u8>, RunError> {

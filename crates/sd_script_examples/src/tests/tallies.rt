@@ -6,7 +6,7 @@ use sd_script_audit::run_audit;
 use sd_script_serve::serve;
 use sd_store::OpenGate;
 use sd_stream::Watched;
-use std::process::Abort;
+use std::alloc::Global;
 use std::sync::Wait;
 use std::thread::Threads;
 
@@ -70,22 +70,33 @@ const TALLIES: [(&[u8], Tally); 7] = [
     ),
 ];
 
-/// Stops the test unless this is counted.
-fn counts(rt: &(impl Abort + AllocGlobal + Threads + Wait + Sync), script: &[u8], wanted: Tally) {
-    let alloc = rt.alloc();
-    let (_, at_once) = script_output(alloc, &plain(), script).expect(rt, "memory");
-    assert_eq!(rt; at_once, wanted);
+fn counted_at_once(alloc: Global, script: &[u8]) -> Option<Tally> {
+    match script_output(alloc, &plain(), script) {
+        Ok((_, tally)) => Some(tally),
+        Err(_) => None,
+    }
+}
+
+fn counted_line_by_line(alloc: Global, script: &[u8]) -> Option<Tally> {
     let (mut reader, mut writer) = (Watched::new(script), Watched::new(Vec::new(alloc)));
-    let served = serve(alloc, &plain(), &mut reader, &mut writer);
-    assert_eq!(rt; served.ok(), Some(wanted));
+    serve(alloc, &plain(), &mut reader, &mut writer).ok()
+}
+
+fn counted_as_an_audit<T: Threads + Wait + Sync>(
+    rt: &T,
+    alloc: Global,
+    script: &[u8],
+) -> Option<Tally> {
     let (mut reader, mut writer) = (Watched::new(script), Watched::new(Vec::new(alloc)));
-    let audited = run_audit(rt, alloc, 1, &plain(), &mut reader, &mut writer, &OpenGate);
-    assert_eq!(rt; audited.ok(), Some(wanted));
+    run_audit(rt, alloc, 1, &plain(), &mut reader, &mut writer, &OpenGate).ok()
 }
 
 #[test]
 fn counts_lines(rt: HostRuntime) {
     for (script, wanted) in TALLIES {
-        counts(&rt, script, wanted);
+        let wanted = Some(wanted);
+        assert_eq!(rt; counted_at_once(rt.alloc(), script), wanted);
+        assert_eq!(rt; counted_line_by_line(rt.alloc(), script), wanted);
+        assert_eq!(rt; counted_as_an_audit(&rt, rt.alloc(), script), wanted);
     }
 }

@@ -1,7 +1,7 @@
 //! What `list` and `dump` tell of a tree, and that a dump makes it again.
 
-use super::plain;
-use sd_script::{Carried, Manner, PathSpelling, Session, answer_line, script_output};
+use super::{plain, printed};
+use sd_script::{Carried, Manner, PathSpelling, Session, answer_line};
 use sd_share::{Desk, Request};
 use sd_sid::{GenericMapping, Sid};
 use sd_tree::{Edit, Entries, NodeDacl, Path, RootSpec};
@@ -40,8 +40,7 @@ fn prints_in(
 ) {
     let text = format!(in rt.alloc(); "{script}{lines}").expect(rt, "memory");
     let wanted = format!(in rt.alloc(); "{answers}{more}").expect(rt, "memory");
-    let printed = script_output(rt.alloc(), manner, text.as_bytes());
-    let (printed, _) = printed.expect(rt, "memory");
+    let printed = printed(rt, manner, text.as_bytes());
     assert!(rt; printed.as_slice() == wanted.as_bytes(), "{text}");
 }
 

@@ -82,18 +82,36 @@ impl Way {
         reader: &mut Watched<R>,
         writer: &mut Watched<W>,
     ) -> &'static str {
-        let alloc = rt.alloc();
-        let manner = Manner {
-            mapping: GenericMapping::file(),
-            paths: PathSpelling::Plain,
-        };
         match self {
-            Way::Script => name_of(sd_tool::run(alloc, &manner, reader, writer)),
-            Way::Audit => name_of(run_audit(rt, alloc, 2, &manner, reader, writer, &OpenGate)),
+            Way::Script => by_script(rt.alloc(), reader, writer),
+            Way::Audit => by_audit(rt, reader, writer),
             Way::ScriptCommand => driven(rt, &["sdstore", "script"], reader, writer),
             Way::AuditCommand => driven(rt, &["sdstore", "audit", "2"], reader, writer),
         }
     }
+}
+
+fn plain() -> Manner {
+    Manner {
+        mapping: GenericMapping::file(),
+        paths: PathSpelling::Plain,
+    }
+}
+
+fn by_script<R: Read, W: Write>(
+    alloc: Global,
+    reader: &mut Watched<R>,
+    writer: &mut Watched<W>,
+) -> &'static str {
+    name_of(sd_tool::run(alloc, &plain(), reader, writer))
+}
+
+fn by_audit<T: AllocGlobal + Threads + Wait + Sync, R: Read, W: Write>(
+    rt: &T,
+    reader: &mut Watched<R>,
+    writer: &mut Watched<W>,
+) -> &'static str {
+    name_of(run_audit(rt, rt.alloc(), 2, &plain(), reader, writer, &OpenGate))
 }
 
 fn name_of(ended: Result<Tally, RunError>) -> &'static str {

@@ -52,23 +52,50 @@ impl Write for Failing {
     }
 }
 
+/// What the words end with over these writers.
+#[derive(Drop)]
+struct Streams<W: Drop, E: Drop> {
+    status: u8,
+    writer: W,
+    errors: E,
+}
+
+fn driven<T: AllocGlobal + Threads + Wait + Sync, W: Write + Drop, E: Write + Drop>(
+    rt: &T,
+    words: &[&str],
+    writer: W,
+    errors: E,
+) -> Streams<W, E> {
+    let mut reader = Watched::new(io::empty());
+    let (mut writer, mut errors) = (Watched::new(writer), Watched::new(errors));
+    let status = drive(rt, rt.alloc(), words, &mut reader, &mut writer, &mut errors);
+    Streams {
+        status,
+        writer: writer.into_inner(),
+        errors: errors.into_inner(),
+    }
+}
+
+/// What a mask that isn't read ends with.
+fn refused<T: AllocGlobal + Threads + Wait + Sync>(
+    rt: &T,
+    calls: u64,
+    fault: Fault,
+) -> Streams<Failing, Vec<u8>> {
+    let words = ["sdstore", "verdict", "D:", USER, "zz"];
+    let writer = Failing::after(rt.alloc(), calls, fault);
+    driven(rt, &words, writer, Vec::new(rt.alloc()))
+}
+
 #[test]
 fn tells_of_a_writer_that_fails(rt: HostRuntime) {
-    let words = ["sdstore", "verdict", "D:", USER, "zz"];
     for fault in [Fault::Refuses, Fault::IsInterrupted, Fault::TakesNothing] {
         for calls in 0..11 {
-            let mut writer = Watched::new(Failing::after(rt.alloc(), calls, fault));
-            let mut errors = Watched::new(Vec::new(rt.alloc()));
-            let input = &mut Watched::new(io::empty());
-            let status = drive(&rt, rt.alloc(), &words, input, &mut writer, &mut errors);
-            assert_eq!(rt; status, 3, "{fault:?} after {calls}");
-            assert_eq!(rt;
-                errors.into_inner().as_slice(),
-                b"sdstore: write\n".as_slice()
-            );
-            let writer = writer.into_inner();
-            assert_eq!(rt; writer.taken.len() as u64, calls, "{fault:?}");
-            assert!(rt; b"fault mask\n".starts_with(writer.taken.as_slice()));
+            let ended = refused(&rt, calls, fault);
+            assert_eq!(rt; ended.status, 3, "{fault:?} after {calls}");
+            assert_eq!(rt; ended.errors.as_slice(), b"sdstore: write\n".as_slice());
+            assert_eq!(rt; ended.writer.taken.len() as u64, calls, "{fault:?}");
+            assert!(rt; b"fault mask\n".starts_with(ended.writer.taken.as_slice()));
         }
     }
 }
@@ -76,28 +103,20 @@ fn tells_of_a_writer_that_fails(rt: HostRuntime) {
 // The line has eleven bytes, so the twelfth call is the flush.
 #[test]
 fn tells_of_a_flush_that_fails(rt: HostRuntime) {
-    let words = ["sdstore", "verdict", "D:", USER, "zz"];
     for (fault, status) in [(Fault::Refuses, 3), (Fault::TakesNothing, 1)] {
-        let mut writer = Watched::new(Failing::after(rt.alloc(), 11, fault));
-        let mut errors = Watched::new(Vec::new(rt.alloc()));
-        let input = &mut Watched::new(io::empty());
-        let ended = drive(&rt, rt.alloc(), &words, input, &mut writer, &mut errors);
-        assert_eq!(rt; ended, status, "{fault:?}");
-        let writer = writer.into_inner();
-        assert_eq!(rt; writer.taken.as_slice(), b"fault mask\n".as_slice());
+        let ended = refused(&rt, 11, fault);
+        assert_eq!(rt; ended.status, status, "{fault:?}");
+        assert_eq!(rt; ended.writer.taken.as_slice(), b"fault mask\n".as_slice());
     }
 }
 
 #[test]
 fn keeps_the_status_where_errors_fail(rt: HostRuntime) {
-    let mut errors = Watched::new(Failing::after(rt.alloc(), 0, Fault::Refuses));
-    let mut output = Watched::new(Vec::new(rt.alloc()));
-    let input = &mut Watched::new(io::empty());
-    let words = ["sdstore", "frob"];
-    let unread = drive(&rt, rt.alloc(), &words, input, &mut output, &mut errors);
-    assert_eq!(rt; unread, 2);
-    let mut writer = Watched::new(Failing::after(rt.alloc(), 0, Fault::Refuses));
-    let words = ["sdstore", "--help"];
-    let failed = drive(&rt, rt.alloc(), &words, input, &mut writer, &mut errors);
-    assert_eq!(rt; failed, 3);
+    let errors = Failing::after(rt.alloc(), 0, Fault::Refuses);
+    let unread = driven(&rt, &["sdstore", "frob"], Vec::new(rt.alloc()), errors);
+    assert_eq!(rt; unread.status, 2);
+    let writer = Failing::after(rt.alloc(), 0, Fault::Refuses);
+    let errors = Failing::after(rt.alloc(), 0, Fault::Refuses);
+    let failed = driven(&rt, &["sdstore", "--help"], writer, errors);
+    assert_eq!(rt; failed.status, 3);
 }
