@@ -1,4 +1,6 @@
 //! A store of many threads that is led and asked step by step.
+//!
+//! What a test calls of a store it calls by a helper that promises nothing: the proof of a test then carries no journal along.
 
 mod audits;
 mod beside;

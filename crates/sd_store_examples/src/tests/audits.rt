@@ -130,11 +130,24 @@ fn audited_at<J: Naming + Send + Sync, G: Gate + Sync, R: Threads + Wait + Sync>
     requires history { (history.book ≡ J.book) × (history.first ≡ J.first) }
     requires opening { opening_of mapping.now root.now ≡ J.opening }
 {
-    let (mut writer, mut checkers) = start::<J, R>(
-        rt, alloc, history, mapping, root, checkers,
-    ).ok()?;
+    let store = start::<J, R>(rt, alloc, history, mapping, root, checkers).ok()?;
+    reported(rt, alloc, store, edits, queries, gate, seen, refusal)
+}
+
+/// The same of a store that has started.
+fn reported<J: Naming + Send + Sync, G: Gate + Sync, R: Threads + Wait + Sync>(
+    rt: &R,
+    alloc: Global,
+    store: (StoreWriter<J>, Vec<Checker<J>>),
+    edits: Vec<Ready>,
+    queries: &[Query],
+    gate: &G,
+    seen: Vec<u64>,
+    refusal: Option<Refusal>,
+) -> Option<Report> {
+    let (mut writer, mut checkers) = store;
     let told = published(rt, &mut writer, edits);
-    let mut notice = writer.tell();
+    let mut notice = tell(&mut writer);
     if let Some(refusal) = refusal {
         refusal.begin(alloc);
     }
@@ -145,19 +158,28 @@ fn audited_at<J: Naming + Send + Sync, G: Gate + Sync, R: Threads + Wait + Sync>
         None => None,
     };
     writer.end(rt);
-    let mut seen = seen;
-    for checker in &checkers {
-        let _ = seen.push(checker.seen());
-    }
     if !told {
         return None;
     }
     Some(Report {
         answers,
-        seen,
+        seen: seen_by(seen, &checkers),
         was_refused,
         again,
     })
+}
+
+fn tell<J: Naming>(writer: &mut StoreWriter<J>) -> Notice<J> {
+    writer.tell()
+}
+
+/// What each checker has seen; there is room for it.
+fn seen_by<J: Naming>(room: Vec<u64>, checkers: &[Checker<J>]) -> Vec<u64> {
+    let mut seen = room;
+    for checker in checkers {
+        let _ = seen.push(checker.seen());
+    }
+    seen
 }
 
 /// An audit by the checkers, which there are 1 to 64 of.
@@ -178,13 +200,19 @@ fn asked<J: Naming + Send + Sync, G: Gate + Sync, R: Threads + Sync>(
 /// Makes the edits, and publishes them.
 fn published<J: Naming, R: Wait>(rt: &R, writer: &mut StoreWriter<J>, edits: Vec<Ready>) -> bool {
     for step in edits {
-        if let Ready::Edit(edit) = step {
-            if writer.edit(&edit).is_err() {
-                return false;
-            }
+        if !is_made(writer, step) {
+            return false;
         }
     }
     writer.publish(rt).is_ok()
+}
+
+/// Whether the edit is accepted. A step that is no edit isn't made.
+fn is_made<J: Naming>(writer: &mut StoreWriter<J>, step: Ready) -> bool {
+    match step {
+        Ready::Edit(edit) => writer.edit(&edit).is_ok(),
+        _ => true,
+    }
 }
 
 fn queries(alloc: Global, questions: &[Question]) -> Option<Vec<Query>> {

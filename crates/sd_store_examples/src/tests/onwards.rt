@@ -77,7 +77,7 @@ fn away<J: Naming + Send + Sync + 'static, R: Threads>(
 
 /// An edit that is published by itself, and how long the journal then is.
 fn changed<J: Naming, R: Wait>(rt: &R, alloc: Global, writer: &mut StoreWriter<J>) -> Option<u64> {
-    writer.edit(&edit(alloc, AFTER)?).ok()?;
+    edited(alloc, writer, AFTER)?;
     writer.publish(rt).ok()
 }
 
@@ -98,7 +98,16 @@ fn old_store<J: Naming + Send + Sync + 'static, R: Threads + Wait>(
     requires history { (history.book ≡ J.book) × (history.first ≡ J.first) }
     requires opening { opening_of mapping.now root.now ≡ J.opening }
 {
-    let (mut writer, checkers) = start::<J, R>(rt, alloc, history, mapping, root, READERS).ok()?;
+    let store = start::<J, R>(rt, alloc, history, mapping, root, READERS).ok()?;
+    succeeded(rt, alloc, store)
+}
+
+fn succeeded<J: Naming + Send + Sync + 'static, R: Threads + Wait>(
+    rt: &R,
+    alloc: Global,
+    store: (StoreWriter<J>, Vec<Checker<J>>),
+) -> Option<bool> {
+    let (mut writer, checkers) = store;
     let right = begun(rt, alloc, &mut writer, checkers);
     writer.end(rt);
     right
@@ -112,11 +121,16 @@ fn begun<J: Naming + Send + Sync + 'static, R: Threads + Wait>(
     checkers: Vec<Checker<J>>,
 ) -> Option<bool> {
     for step in BEFORE {
-        old.edit(&edit(alloc, step)?).ok()?;
+        edited(alloc, old, step)?;
     }
     old.publish(rt).ok()?;
     let beginning = shortest(old.draft(), alloc).ok()?;
     next_store::<J, Brand, R>(rt, alloc, old, checkers, Opened::new(), &beginning)
+}
+
+fn edited<J: Naming>(alloc: Global, writer: &mut StoreWriter<J>, step: Step) -> Option<()> {
+    let edit = edit(alloc, step)?;
+    writer.edit(&edit).ok()
 }
 
 /// The next store starts while the readers of the old one check.
@@ -136,18 +150,37 @@ fn next_store<
     requires opening { opening_of J.opening.mapping beginning.now.root ≡ K.opening }
     requires makes { Makes K.opening beginning.now.edits.items (replay J.opening old.old.journal) }
 {
+    let threads = all_away(rt, alloc, checkers)?;
+    let next = succeed::<J, K, R>(rt, alloc, old, history, beginning, READERS).ok()?;
+    both(rt, alloc, old, threads, next)
+}
+
+fn all_away<J: Naming + Send + Sync + 'static, R: Threads>(
+    rt: &R,
+    alloc: Global,
+    checkers: Vec<Checker<J>>,
+) -> Option<Vec<JoinHandle<Worker<J>>>> {
     let mut threads = Vec::with_capacity(alloc, checkers.len()).ok()?;
     for checker in checkers {
         threads.push(away(rt, alloc, checker)?).ok()?;
     }
-    let (mut next, checkers, mut succession) = succeed::<J, K, R>(
-        rt, alloc, old, history, beginning, READERS,
-    ).ok()?;
+    Some(threads)
+}
+
+/// What the readers of both stores are answered, up to the end of the next one's writer.
+fn both<J: Naming + Send + Sync + 'static, K: Naming + Send + Sync + 'static, R: Threads + Wait>(
+    rt: &R,
+    alloc: Global,
+    old: &mut StoreWriter<J>,
+    threads: Vec<JoinHandle<Worker<J>>>,
+    next: (StoreWriter<K>, Vec<Checker<K>>, Succession<J, K>),
+) -> Option<bool> {
+    let (mut writer, checkers, mut succession) = next;
     let right = match all_over(rt, alloc, threads, checkers, &mut succession) {
-        Some(pairs) => are_apart(rt, alloc, old, &mut next, pairs, &mut succession),
+        Some(pairs) => are_apart(rt, alloc, old, &mut writer, pairs, &mut succession),
         None => None,
     };
-    next.end(rt);
+    writer.end(rt);
     right
 }
 
@@ -166,10 +199,8 @@ fn over<J: Naming, K: Naming + Send + Sync + 'static, R: Threads>(
         ..
     } = before;
     let mut after = after;
-    let Ok(()) = succession.hand_over(&mut old, &mut after) else {
-        return None;
-    };
-    let first = succession.check(&mut after, &query(alloc)?);
+    let query = query(alloc)?;
+    let first = handed(succession, &mut old, &mut after, &query)?;
     let Worker {
         checker: next,
         errand: asked,
@@ -179,6 +210,19 @@ fn over<J: Naming, K: Naming + Send + Sync + 'static, R: Threads>(
         && first == answered(FIRST, GRANTED)
         && are_all(&asked, answered(FIRST, GRANTED));
     if right { Some((old, next)) } else { None }
+}
+
+/// The reader's first answer by the next store. Nothing where it doesn't go over.
+fn handed<J: Naming, K: Naming>(
+    succession: &mut Succession<J, K>,
+    old: &mut Checker<J>,
+    after: &mut Checker<K>,
+    query: &Query,
+) -> Option<Result<Answer, Gone>> {
+    match succession.hand_over(old, after) {
+        Ok(()) => Some(succession.check(after, query)),
+        Err(Ahead) => None,
+    }
 }
 
 /// The readers go over, one after the other, while the others check.
@@ -209,7 +253,7 @@ fn are_apart<J: Naming, K: Naming, R: Wait>(
     pairs: Vec<(Checker<J>, Checker<K>)>,
     succession: &mut Succession<J, K>,
 ) -> Option<bool> {
-    let Query { path, token, asked } = query(alloc)?;
+    let query = query(alloc)?;
     let mut pairs = pairs;
     let (mut before, mut after) = pairs.pop()?;
     let lengths = (succession.last_length(), succession.first_length());
@@ -217,10 +261,22 @@ fn are_apart<J: Naming, K: Naming, R: Wait>(
     Some(
         lengths == (LAST, FIRST)
             && published == (LAST + 1, FIRST + 1)
-            && before.check(&path, &token, asked) == answered(LAST + 1, DENIED)
-            && after.check(&path, &token, asked) == answered(FIRST + 1, DENIED)
-            && succession.hand_over(&mut before, &mut after) == Err(Ahead),
+            && asked(&mut before, &query) == answered(LAST + 1, DENIED)
+            && asked(&mut after, &query) == answered(FIRST + 1, DENIED)
+            && is_ahead(succession, &mut before, &mut after),
     )
+}
+
+fn asked<J: Naming>(checker: &mut Checker<J>, query: &Query) -> Result<Answer, Gone> {
+    checker.check(&query.path, &query.token, query.asked)
+}
+
+fn is_ahead<J: Naming, K: Naming>(
+    succession: &mut Succession<J, K>,
+    before: &mut Checker<J>,
+    after: &mut Checker<K>,
+) -> bool {
+    succession.hand_over(before, after) == Err(Ahead)
 }
 
 #[test]

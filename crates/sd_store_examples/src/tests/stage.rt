@@ -8,6 +8,7 @@ use super::step::{Ready, Step, all_ready, root};
 use super::threads::{Errand, Worker, sent};
 use super::told::Told;
 use sd_history::Opened;
+use sd_share::StartError;
 use sd_sid::GenericMapping;
 use sd_store::{
     Checker, EditError, Gone, Naming, Notice, PublishError, ShowError, StoreWriter, start,
@@ -113,34 +114,66 @@ fn run_at<J: Naming + Send + Sync + 'static, R: Threads + Wait>(
     requires history { (history.book ≡ J.book) × (history.first ≡ J.first) }
     requires opening { opening_of mapping.now root.now ≡ J.opening }
 {
-    let mut stage: Stage<J> = Stage {
-        readers: Vec::with_capacity(alloc, readers as usize).ok()?,
-        notices: Vec::with_capacity(alloc, before.len()).ok()?,
-        told: Vec::with_capacity(alloc, before.len() + after.len() + 1).ok()?,
-        was_refused: false,
-    };
+    let mut stage = empty(alloc, readers, before.len(), after.len())?;
     begin(alloc, refused, None);
-    let store = start::<J, R>(rt, alloc, history, mapping, root, readers);
+    let store = opened::<J, R>(rt, alloc, history, mapping, root, readers);
     stage.end(alloc, refused, None);
     match store {
-        Err(error) => {
-            let _ = stage.told.push(Told::NotStarted(error));
-        }
+        Err(error) => stage.tells(Told::NotStarted(error)),
         Ok((writer, checkers)) => {
             stage.seat(checkers);
             led(rt, alloc, writer, &mut stage, refused, before);
-            for step in after {
-                let told = stage.asked(rt, step);
-                let _ = stage.told.push(told);
-            }
+            asked_after(rt, &mut stage, after);
         }
     }
+    Some(cleared(stage))
+}
+
+/// A stage with room for so many readers, and for what so many steps are told.
+fn empty<J: Naming>(alloc: Global, readers: u64, before: usize, after: usize) -> Option<Stage<J>> {
+    Some(Stage {
+        readers: Vec::with_capacity(alloc, readers as usize).ok()?,
+        notices: Vec::with_capacity(alloc, before).ok()?,
+        told: Vec::with_capacity(alloc, before.saturating_add(after).saturating_add(1)).ok()?,
+        was_refused: false,
+    })
+}
+
+/// The store, without a promise: what stands on it here looks at answers alone.
+fn opened<J: Naming, R: Wait>(
+    rt: &R,
+    alloc: Global,
+    history: Opened<Edit>,
+    mapping: &GenericMapping,
+    root: &RootSpec,
+    readers: u64,
+) -> Result<(StoreWriter<J>, Vec<Checker<J>>), StartError>
+    requires history { (history.book ≡ J.book) × (history.first ≡ J.first) }
+    requires opening { opening_of mapping.now root.now ≡ J.opening }
+{
+    start::<J, R>(rt, alloc, history, mapping, root, readers)
+}
+
+/// The steps after the writer ended.
+fn asked_after<J: Naming + Send + Sync + 'static, R: Threads>(
+    rt: &R,
+    stage: &mut Stage<J>,
+    steps: Vec<Ready>,
+) {
+    for step in steps {
+        let told = stage.asked(rt, step);
+        stage.tells(told);
+    }
+}
+
+/// What is left when all have gone.
+fn cleared<J: Naming>(stage: Stage<J>) -> Ended {
     let Stage {
         told,
         was_refused,
         ..
     } = stage;
-    Some(Ended { told, was_refused })
+    Ended { told, was_refused }
 }
 
 /// From here on the request is refused, where that is the step.
@@ -164,17 +197,35 @@ fn led<J: Naming + Send + Sync + 'static, R: Threads + Wait>(
     let mut writer = writer;
     for (number, step) in steps.into_iter().enumerate() {
         begin(alloc, refused, Some(number));
-        let told = match step {
-            Ready::Edit(edit) => edited(&mut writer, &edit),
-            Ready::Publish => published(rt, &mut writer),
-            Ready::Lengths => Told::Lengths(writer.published_len(), writer.pending_len()),
-            Ready::Tell => stage.noticed(writer.tell()),
-            asked => stage.asked(rt, asked),
-        };
+        let told = stepped(rt, &mut writer, stage, step);
         stage.end(alloc, refused, Some(number));
-        let _ = stage.told.push(told);
+        stage.tells(told);
     }
     writer.end(rt);
+}
+
+/// What a step before the writer's end is told.
+fn stepped<J: Naming + Send + Sync + 'static, R: Threads + Wait>(
+    rt: &R,
+    writer: &mut StoreWriter<J>,
+    stage: &mut Stage<J>,
+    step: Ready,
+) -> Told {
+    match step {
+        Ready::Edit(edit) => edited(writer, &edit),
+        Ready::Publish => published(rt, writer),
+        Ready::Lengths => lengths(writer),
+        Ready::Tell => stage.noticed(tell(writer)),
+        asked => stage.asked(rt, asked),
+    }
+}
+
+fn lengths<J: Naming>(writer: &StoreWriter<J>) -> Told {
+    Told::Lengths(writer.published_len(), writer.pending_len())
+}
+
+fn tell<J: Naming>(writer: &mut StoreWriter<J>) -> Notice<J> {
+    writer.tell()
 }
 
 fn edited<J: Naming>(writer: &mut StoreWriter<J>, edit: &Edit) -> Told {
@@ -209,6 +260,10 @@ impl<J: Naming> Stage<J> {
         if refused.is_some_and(|refused| refused.step == step) {
             self.was_refused = Refusal::ended(alloc);
         }
+    }
+
+    fn tells(&mut self, told: Told) {
+        let _ = self.told.push(told);
     }
 
     fn seat(&mut self, checkers: Vec<Checker<J>>) {

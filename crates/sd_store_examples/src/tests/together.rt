@@ -14,6 +14,7 @@ use sd_store::{Answers, Checker, Naming, Query, ShowError, StoreWriter, start};
 use sd_tree::{CheckReply, Edit, Path, RootSpec};
 use std::marker::Brand;
 use std::thread;
+use std::thread::JoinHandle;
 
 const PUBLISHES: u64 = 20;
 
@@ -63,14 +64,16 @@ impl<J: Naming> Asker<J> {
 
     /// Asks once.
     fn ask(&mut self) {
-        let seen = self
-            .checker
-            .check_all(&self.queries, &self.paths, &mut self.answers);
-        self.right &= match seen {
+        self.right &= match self.asked() {
             Ok(seen) => seen % 2 == 0 && are_by(seen, &self.answers),
             Err(ShowError::Memory) => self.answers.checks.is_empty(),
             Err(ShowError::Gone) => false,
         };
+    }
+
+    fn asked(&mut self) -> Result<u64, ShowError> {
+        self.checker
+            .check_all(&self.queries, &self.paths, &mut self.answers)
     }
 
     fn done(self) -> Asker<J> {
@@ -142,7 +145,16 @@ fn started<J: Naming + Send + Sync + 'static, R: Threads + Wait>(
     requires history { (history.book ≡ J.book) × (history.first ≡ J.first) }
     requires opening { opening_of mapping.now root.now ≡ J.opening }
 {
-    let (mut writer, checkers) = start::<J, R>(rt, alloc, history, mapping, root, 3).ok()?;
+    let store = start::<J, R>(rt, alloc, history, mapping, root, 3).ok()?;
+    ended(rt, alloc, store)
+}
+
+fn ended<J: Naming + Send + Sync + 'static, R: Threads + Wait>(
+    rt: &R,
+    alloc: Global,
+    store: (StoreWriter<J>, Vec<Checker<J>>),
+) -> Option<bool> {
+    let (mut writer, checkers) = store;
     let right = beside(rt, alloc, &mut writer, checkers);
     writer.end(rt);
     right
@@ -155,26 +167,59 @@ fn beside<J: Naming + Send + Sync + 'static, R: Threads + Wait>(
     writer: &mut StoreWriter<J>,
     checkers: Vec<Checker<J>>,
 ) -> Option<bool> {
-    let mut threads = Vec::with_capacity(alloc, checkers.len()).ok()?;
-    for checker in checkers {
-        let asker = Asker::new(alloc, checker)?;
-        threads
-            .push(thread::spawn(rt, move || asker.done()).ok()?)
-            .ok()?;
-    }
+    let threads = all_away(rt, alloc, checkers)?;
     for publish in 1..=PUBLISHES {
-        for node in NODES {
-            writer.edit(&edit(alloc, change(publish, node))?).ok()?;
-        }
-        writer.publish(rt).ok()?;
+        published(rt, alloc, writer, publish)?;
     }
     let mut right = true;
     for thread in threads {
-        let mut asker = thread.join(rt);
-        asker.ask();
-        right &= asker.right && asker.checker.seen() == 2 * PUBLISHES;
+        right &= is_right(thread.join(rt));
     }
     Some(right)
+}
+
+fn all_away<J: Naming + Send + Sync + 'static, R: Threads>(
+    rt: &R,
+    alloc: Global,
+    checkers: Vec<Checker<J>>,
+) -> Option<Vec<JoinHandle<Asker<J>>>> {
+    let mut threads = Vec::with_capacity(alloc, checkers.len()).ok()?;
+    for checker in checkers {
+        let asker = Asker::new(alloc, checker)?;
+        threads.push(away(rt, asker)?).ok()?;
+    }
+    Some(threads)
+}
+
+fn away<J: Naming + Send + Sync + 'static, R: Threads>(
+    rt: &R,
+    asker: Asker<J>,
+) -> Option<JoinHandle<Asker<J>>> {
+    thread::spawn(rt, move || asker.done()).ok()
+}
+
+/// Both nodes are changed, and one publish shows it.
+fn published<J: Naming, R: Wait>(
+    rt: &R,
+    alloc: Global,
+    writer: &mut StoreWriter<J>,
+    publish: u64,
+) -> Option<u64> {
+    for node in NODES {
+        edited(writer, &edit(alloc, change(publish, node))?)?;
+    }
+    writer.publish(rt).ok()
+}
+
+fn edited<J: Naming>(writer: &mut StoreWriter<J>, edit: &Edit) -> Option<()> {
+    writer.edit(edit).ok()
+}
+
+/// Whether all that the checker was answered in its thread was right, and what it is answered now.
+fn is_right<J: Naming>(asker: Asker<J>) -> bool {
+    let mut asker = asker;
+    asker.ask();
+    asker.right && asker.checker.seen() == 2 * PUBLISHES
 }
 
 #[test]

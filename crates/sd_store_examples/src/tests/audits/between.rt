@@ -72,9 +72,23 @@ fn audited_beside_at<J: Naming + Send + Sync, R: Threads + Wait + Sync>(
     requires history { (history.book ≡ J.book) × (history.first ≡ J.first) }
     requires opening { opening_of mapping.now root.now ≡ J.opening }
 {
-    let (mut writer, mut checkers) = start::<J, R>(rt, alloc, history, mapping, root, 1).ok()?;
+    let store = start::<J, R>(rt, alloc, history, mapping, root, 1).ok()?;
+    both(rt, alloc, store, first, next, queries, gate)
+}
+
+/// What the two do on a store that has started.
+fn both<J: Naming + Send + Sync, R: Threads + Wait + Sync>(
+    rt: &R,
+    alloc: Global,
+    store: (StoreWriter<J>, Vec<Checker<J>>),
+    first: Vec<Ready>,
+    next: Vec<Ready>,
+    queries: &[Query],
+    gate: &Between,
+) -> Option<Vec<Answer>> {
+    let (mut writer, mut checkers) = store;
     let told = published(rt, &mut writer, first);
-    let mut notice = writer.tell();
+    let mut notice = tell(&mut writer);
     let (done, answers) = join(
         rt,
         || goes_on(rt, &mut writer, next, gate),

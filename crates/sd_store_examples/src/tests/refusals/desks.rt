@@ -42,18 +42,22 @@ impl Call for Stepped {
     fn ready(&mut self, alloc: Global) -> Result<(), AllocError> {
         self.desk = started(alloc)?;
         for request in &self.before {
-            let _ = self.desk.step(request);
+            let _ = replied(&mut self.desk, request);
         }
         Ok(())
     }
 
     fn made(&mut self, _alloc: Global) -> Reply {
-        self.desk.step(&self.request)
+        replied(&mut self.desk, &self.request)
     }
 
     fn told(&mut self, alloc: Global, answer: Reply) -> Result<String, AllocError> {
         reply_text(alloc, answer)
     }
+}
+
+fn replied(desk: &mut Desk, request: &Request) -> Reply {
+    desk.step(request)
 }
 
 /// A desk with two readers.
@@ -165,7 +169,7 @@ impl Call for Whole {
 
     fn told(&mut self, alloc: Global, answer: Made) -> Result<String, AllocError> {
         match answer {
-            Made::Started(Ok(mut desk)) => reply_text(alloc, desk.step(&Request::Tell)),
+            Made::Started(Ok(mut desk)) => reply_text(alloc, replied(&mut desk, &Request::Tell)),
             Made::Started(Err(StartError::Memory)) => String::from_str(alloc, MEMORY),
             Made::Started(Err(error)) => format!(in alloc; "{error:?}"),
             Made::Ran(Ok(mut replies)) => match replies.pop() {

@@ -139,9 +139,9 @@ impl Call for Edited {
 
     fn made(&mut self, alloc: Global) -> Done {
         match self.way {
-            Way::Judge => Done::Judged(self.tree.judge(&self.edit)),
+            Way::Judge => Done::Judged(judged(&self.tree, &self.edit)),
             Way::Prepare => Done::Prepared(prepared(&mut self.tree, &self.edit)),
-            Way::Apply => Done::Applied(self.tree.apply(&self.edit)),
+            Way::Apply => Done::Applied(applied(&mut self.tree, &self.edit)),
             Way::Copy => Done::Copied(self.edit.copy(alloc)),
         }
     }
@@ -179,6 +179,21 @@ fn outcome(alloc: Global, edit: &Edit, answer: Done) -> Result<String, AllocErro
         }
         _ => String::from_str(alloc, MEMORY),
     }
+}
+
+fn judged(tree: &Tree, edit: &Edit) -> Result<Option<EditRefusal>, AllocError> {
+    tree.judge(edit)
+}
+
+fn applied(tree: &mut Tree, edit: &Edit) -> Result<(), TreeError> {
+    tree.apply(edit)
+}
+
+/// Applies the edit that the step makes.
+fn stepped(alloc: Global, tree: &mut Tree, step: Step) -> Result<(), Fail> {
+    let edit = edit(alloc, step).ok_or("an edit")?;
+    applied(tree, &edit)?;
+    Ok(())
 }
 
 /// Prepares the edit, and commits nothing.
@@ -222,11 +237,15 @@ fn text_of(alloc: Global, tree: &Tree) -> Result<String, AllocError> {
 /// The tree of those containers.
 fn tree(alloc: Global) -> Result<Tree, Fail> {
     let root = root(alloc, ADMINISTRATORS, 1).ok_or("a root")?;
-    let mut tree = Tree::opening(alloc, &GenericMapping::file(), &root)?;
+    let mut tree = opened(alloc, &root)?;
     for step in CONTAINERS {
-        tree.apply(&edit(alloc, step).ok_or("an edit")?)?;
+        stepped(alloc, &mut tree, step)?;
     }
     Ok(tree)
+}
+
+fn opened(alloc: Global, root: &RootSpec) -> Result<Tree, TreeError> {
+    Tree::opening(alloc, &GenericMapping::file(), root)
 }
 
 /// The edit of the tree in each way.
@@ -266,7 +285,7 @@ fn edits_too_deep(rt: HostRuntime) -> Result<(), Fail> {
     let alloc = rt.alloc();
     let mut tree = tree(alloc)?;
     for names in 2..=64 {
-        tree.apply(&edit(alloc, Step::Nested(names)).ok_or("an edit")?)?;
+        stepped(alloc, &mut tree, Step::Nested(names))?;
     }
     expect_all(&rt, &tree, (Step::Nested(65), "/a", "refused 10 TooDeep"))
 }
@@ -293,7 +312,7 @@ fn object(alloc: Global, number: u64) -> Result<Edit, Fail> {
 fn full(alloc: Global) -> Result<Tree, Fail> {
     let mut tree = tree(alloc)?;
     for number in 0..OBJECTS {
-        tree.apply(&object(alloc, number)?)?;
+        applied(&mut tree, &object(alloc, number)?)?;
     }
     Ok(tree)
 }
@@ -321,10 +340,10 @@ fn is_refused_full(
     refusal: Refusal,
 ) -> bool {
     refusal.begin(rt.alloc());
-    let applied = tree.apply(edit);
+    let answer = applied(tree, edit);
     let was_refused = Refusal::ended(rt.alloc());
-    let is_full = applied == Err(TreeError::Refused(EditRefusal::NodesFull));
-    let is_memory = was_refused && applied == Err(TreeError::Memory);
+    let is_full = answer == Err(TreeError::Refused(EditRefusal::NodesFull));
+    let is_memory = was_refused && answer == Err(TreeError::Memory);
     assert!(rt; is_full || is_memory, "{refusal:?}");
     assert_eq!(rt; tree.len(), 65_535);
     was_refused
@@ -334,8 +353,7 @@ fn is_refused_full(
 fn early_refusals_take_no_memory(rt: HostRuntime) -> Result<(), Fail> {
     let alloc = rt.alloc();
     let mut tree = tree(alloc)?;
-    let object = edit(alloc, Step::Object("/o", "D:")).ok_or("an edit")?;
-    tree.apply(&object)?;
+    stepped(alloc, &mut tree, Step::Object("/o", "D:"))?;
     for (step, wanted) in EARLY {
         refuses_early(&rt, &mut tree, step, wanted)?;
     }
@@ -353,9 +371,9 @@ fn refuses_early(
     let alloc = rt.alloc();
     let edit = edit(alloc, step).ok_or("an edit")?;
     Refusal::ALL.begin(alloc);
-    let is_judged = tree.judge(&edit) == Ok(Some(wanted));
-    let is_prepared = tree.prepare(&edit).err() == Some(TreeError::Refused(wanted));
-    let is_applied = tree.apply(&edit) == Err(TreeError::Refused(wanted));
+    let is_judged = judged(tree, &edit) == Ok(Some(wanted));
+    let is_prepared = prepared(tree, &edit) == Err(TreeError::Refused(wanted));
+    let is_applied = applied(tree, &edit) == Err(TreeError::Refused(wanted));
     let was_refused = Refusal::ended(alloc);
     let found = (is_judged, is_prepared, is_applied, was_refused);
     assert_eq!(rt; found, (true, true, true, false), "{step:?}");
@@ -406,9 +424,7 @@ impl Call for Whole {
 
     fn made(&mut self, alloc: Global) -> Made {
         match self {
-            Whole::Opening(root) => {
-                Made::Opened(Tree::opening(alloc, &GenericMapping::file(), root))
-            }
+            Whole::Opening(root) => Made::Opened(opened(alloc, root)),
             Whole::Copying(tree) => Made::Copied(tree.copy()),
             Whole::Describing(tree, path) => Made::Described(tree.descriptor(path)),
         }
