@@ -14,6 +14,7 @@ mod ace;
 mod canonical;
 mod descriptor;
 mod flags;
+mod lent;
 mod list;
 mod verdict;
 
@@ -21,5 +22,6 @@ pub use ace::{Ace, AceKind};
 pub use canonical::{canonicalize, denies_stand_first, explicit_of, is_canonical};
 pub use descriptor::{Dacl, Descriptor};
 pub use flags::AceFlags;
+pub use lent::AceRef;
 pub use list::{ACL_HEADER_BYTES, AceList, AclTooLarge, MAX_ACL_BYTES, acl_size};
 pub use verdict::Verdict;

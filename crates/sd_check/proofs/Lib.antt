@@ -3,6 +3,7 @@ pub mod Given
 pub mod Filters
 pub mod Answered
 pub mod OneWalk
+pub mod NextEntry
 pub mod LawProofs
 pub mod MoreGranted
 pub mod RestrictionProofs

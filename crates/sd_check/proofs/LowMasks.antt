@@ -8,6 +8,7 @@ use Rattle.sd_sid.specs.Mapping.{MappingValue, mapped, is_mapped}
 use Rattle.sd_sid.proofs.Masks.{is_mask_of, mask_of-alike}
 use Rattle.sd_acl.specs.Verdict.{reserved_of, without_maximum, judged, missing_of, plain_verdict}
 use Rattle.sd_acl.specs.declared.verdict.Verdict.TheVariants.{Granted, Denied}
+use Rattle.sd_check.specs.Steps.{walked_bits}
 
 -- such a mask has no place from 21 on
 pub high_place : (q b : ℕ) → q < 2 ^ 21 → 21 ≤ b → holds q b ≡ false
@@ -56,3 +57,7 @@ pub judged_plainly : (g : MappingValue) (p : ℕ → Bool) (most q : ℕ) → (q
     → judged g p most q ≡ cond (missing_of p q == 0) (Granted q) (Denied (missing_of p q))
 judged_plainly g p most q some small =
     rw (some, nothing_reserved q small, high_place q 25 small (omega arith), mapped_to_itself g q small, some) refl
+
+-- a list is asked for no other bits
+pub walked_low : (g : MappingValue) (q : ℕ) → q < 2 ^ 21 → walked_bits g q ≡ q
+walked_low g q small = rw (high_place q 25 small (omega arith), mapped_to_itself g q small) refl

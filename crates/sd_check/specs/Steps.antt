@@ -1,5 +1,5 @@
 -- A check whose entries come one at a time: what those so far have come to.
-use Rattle.std.specs.Prelude.{◌≡◌, ℕ, true, false, ◌&&◌, ◌||◌, cond, List, ◌++◌, Option}
+use Rattle.std.specs.Prelude.{◌≡◌, ℕ, ◌<◌, true, false, not, ◌&&◌, ◌||◌, cond, List, ◌++◌, Option}
 use Rattle.sd_sid.specs.Mask.{holds, mask_of}
 use Rattle.sd_sid.specs.Mapping.{MappingValue, mapped}
 use Rattle.sd_sid.specs.Sid.{SidValue}
@@ -27,6 +27,10 @@ owners_in t owner wanted = mask_of (λ b. holds wanted b && is_implied (is_owner
 abbrev pub PassComesTo : (Ace → ℕ) → List Ace → ℕ → ℕ → Settled → ℕ → Type 0
 PassComesTo mask seen rights owners settled kept =
     (rest : List Ace) → outcome mask is_limit (seen ++ rest) rights 0 owners ≡ outcome mask is_limit rest settled.undecided settled.allowed kept
+
+-- an entry further on can tell a pass nothing: no bit is undecided, nor any that the owner keeps and isn't allowed
+abbrev pub IsOver : Settled → ℕ → Type 0
+IsOver settled kept = (b : ℕ) → b < 32 → (holds settled.undecided b || (holds kept b && not (holds settled.allowed b))) ≡ false
 
 -- the entries so far come to this, in each pass
 pub record ComesTo (owner : Option SidValue) (g : MappingValue) (t : TokenValue) (r : ℕ) (seen : List Ace) (found : Found) : Type 0 where

@@ -33,7 +33,7 @@ pub(crate) enum LentDacl<'a> {
 }
 
 /// READ_CONTROL and WRITE_DAC, which are the owner's.
-const OWNERS_RIGHTS: Mask = Mask(0x0006_0000);
+pub(crate) const OWNERS_RIGHTS: Mask = Mask(0x0006_0000);
 
 /// What SeTakeOwnershipPrivilege grants.
 const WRITE_OWNER: Mask = Mask(0x0008_0000);

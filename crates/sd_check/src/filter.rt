@@ -1,12 +1,16 @@
 //! Which SIDs a token may stand for: most entries speak of none of them, and one look tells.
 
-ghost use Rattle.std.specs.Prelude.{◌≡◌, ◌<◌, true};
+ghost use Rattle.std.specs.Prelude.{◌≡◌, ◌<◌, ◌/◌, ◌%◌, ◌==◌, true, slice_index};
+ghost use Rattle.std.specs.Int.{bit_at};
 ghost use Rattle.sd_sid.specs.Sid.{SidValue, owner_rights};
 ghost use Rattle.sd_check.specs.Filter.{IsFilterOf, HoldsEach, filter_place, may_hold};
 
 use crate::token::GroupState;
 use sd_acl::AceKind;
-use sd_sid::Sid;
+use sd_sid::{Sid, SidRef};
+
+/// The places of a filter.
+const PLACES: usize = 1024;
 
 /// A set of 1,024 bits, of which each SID has one. Where a SID's bit isn't set, the SID isn't in.
 #[derive(Clone, Copy, Debug)]
@@ -67,7 +71,23 @@ impl Filter {
     pub(crate) fn may_hold(&self, sid: &Sid) -> bool
         ensures { result ≡ may_hold self.now.words sid.now }
     {
-        let place = place_of(sid);
+        self.is_set(place_of(sid))
+    }
+
+    /// The same of a SID that is lent from its bytes.
+    #[inline(always)]
+    pub(crate) fn may_hold_lent(&self, sid: &SidRef<'_>) -> bool
+        ensures { result ≡ may_hold self.now.words sid.now }
+    {
+        self.is_set(sid.last_sub() as usize % PLACES)
+    }
+
+    /// Whether the bit at the place is set.
+    #[inline(always)]
+    fn is_set(&self, place: usize) -> bool
+        requires { place < 1024 }
+        ensures { result ≡ (bit_at (slice_index self.now.words (place / 64)) (place % 64) == 1) }
+    {
         (self.words[place / 64] >> (place % 64)) & 1 == 1
     }
 }
@@ -79,5 +99,5 @@ fn place_of(sid: &Sid) -> usize
     ensures small { result < 1024 }
 {
     let subs = sid.subs();
-    subs[subs.len() - 1] as usize % 1024
+    subs[subs.len() - 1] as usize % PLACES
 }

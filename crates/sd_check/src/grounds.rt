@@ -62,7 +62,7 @@ pub fn implied_to(owner: &Option<Sid>, dacl: DaclRef<'_>, token: &Token) -> Impl
 }
 
 /// Whether the token stands for the owner, as it would for an allow entry, in each pass.
-fn is_owner(owner: &Option<Sid>, token: &Token) -> bool
+pub(crate) fn is_owner(owner: &Option<Sid>, token: &Token) -> bool
     ensures { result ≡ is_owner token.now owner.now }
 {
     match owner {

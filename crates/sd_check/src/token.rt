@@ -7,7 +7,7 @@ ghost use Rattle.sd_check.specs.Token.{stands_for, a_group_stands_for, counts, i
 
 use crate::filter::Filter;
 use sd_acl::AceKind;
-use sd_sid::Sid;
+use sd_sid::{Sid, SidRef};
 use std::marker::Model;
 
 /// How a group of a token counts: Windows says it by SE_GROUP_ENABLED and SE_GROUP_USE_FOR_DENY_ONLY.
@@ -132,6 +132,16 @@ impl Token {
         self.filter.may_hold(sid)
     }
 
+    /// The same of a SID that is lent from its bytes.
+    #[inline(always)]
+    pub(crate) fn may_matter_lent(&self, sid: &SidRef<'_>) -> bool
+        ensures first { result ≡ false → (kind : AceKind) → stands_for self.now kind sid.now ≡ false }
+        ensures again { result ≡ false → is_restricting self.now sid.now ≡ false }
+        ensures owner_rights { result ≡ false → same_sid sid.now owner_rights ≡ false }
+    {
+        self.filter.may_hold_lent(sid)
+    }
+
     /// Whether restricting SIDs stand in the token.
     #[inline]
     pub fn is_restricted(&self) -> bool
@@ -169,6 +179,14 @@ impl Token {
         ensures { result ≡ stands_for self.now kind sid.now }
     {
         self.user.is(sid) || self.a_group_stands_for(kind, sid)
+    }
+
+    /// The same of a SID that is lent from its bytes.
+    #[inline(always)]
+    pub(crate) fn has_lent(&self, kind: AceKind, sid: &SidRef<'_>) -> bool
+        ensures { result ≡ stands_for self.now kind sid.now }
+    {
+        self.has(kind, &sid.copied())
     }
 
     // Most tokens have many groups, and most groups are none of an entry's: four at a turn halve what the turns cost.

@@ -12,8 +12,8 @@ ghost use Rattle.sd_check.specs.Walk.{mask_that_applies, is_limit, outcome};
 
 use crate::access::Access;
 use crate::token::Token;
-use sd_acl::{Ace, AceKind};
-use sd_sid::{Mask, Sid};
+use sd_acl::{Ace, AceKind, AceRef};
+use sd_sid::{GenericMapping, Mask, Sid};
 
 /// The lowest of the generic rights, GENERIC_ALL ([MS-DTYP] 2.4.3): a mask below has none of them.
 const FIRST_GENERIC: u32 = 0x1000_0000;
@@ -63,35 +63,6 @@ pub(crate) struct Settled {
     pub allowed: Mask,
 }
 
-impl WalkedTwice {
-    /// What the first pass has come to.
-    #[inline(always)]
-    pub(crate) fn once(self) -> Walked
-        ensures { (result.undecided ≡ self.first.undecided) × (result.allowed ≡ self.first.allowed) × (result.kept ≡ self.kept) }
-    {
-        Walked {
-            undecided: self.first.undecided,
-            allowed: self.first.allowed,
-            kept: self.kept,
-        }
-    }
-
-    /// The same, where the first pass has come to this.
-    #[inline(always)]
-    pub(crate) fn with(self, once: Walked) -> WalkedTwice
-        ensures { (result.first.undecided ≡ once.undecided) × (result.first.allowed ≡ once.allowed) × (result.kept ≡ once.kept) }
-    {
-        WalkedTwice {
-            first: Settled {
-                undecided: once.undecided,
-                allowed: once.allowed,
-            },
-            second: self.second,
-            kept: once.kept,
-        }
-    }
-}
-
 impl Settled {
     /// Nothing is settled of these bits.
     #[inline(always)]
@@ -106,7 +77,7 @@ impl Settled {
 
     /// Whether an entry further on can tell nothing: no bit is undecided, nor any that the owner keeps and isn't allowed.
     #[inline]
-    fn is_over(&self, kept: Mask) -> bool
+    pub(crate) fn is_over(&self, kept: Mask) -> bool
         ensures { result ≡ true → (b : ℕ) → b < 32 → (holds self.now.undecided b || (holds kept b && not (holds self.now.allowed b))) ≡ false }
     {
         self.undecided.union(kept.minus(self.allowed)).is_empty()
@@ -122,7 +93,7 @@ impl Settled {
 
     /// What is settled after an entry of the kind that takes part with the mask: it decides what was undecided of it.
     #[inline]
-    fn after(&self, kind: AceKind, mask: Mask) -> Settled
+    pub(crate) fn after(&self, kind: AceKind, mask: Mask) -> Settled
         ensures undecided { let decided = mask_of (λ b. holds mask b && holds self.now.undecided b) 32 in
             result.undecided ≡ mask_of (λ b. holds self.now.undecided b && not (holds decided b)) 32 }
         ensures allowed { let decided = mask_of (λ b. holds mask b && holds self.now.undecided b) 32 in
@@ -163,6 +134,29 @@ pub(crate) fn limits_owner(entry: &Ace) -> bool
     !entry.is_inherit_only() && entry.sid.is_owner_rights()
 }
 
+/// The same of an entry that is lent from its bytes.
+#[inline(always)]
+pub(crate) fn limits_owner_lent(entry: &AceRef<'_>) -> bool
+    ensures { result ≡ is_limit entry.now }
+{
+    !entry.is_inherit_only() && entry.sid().is_owner_rights()
+}
+
+/// What an entry takes part with in the second pass, that of the restricting SIDs.
+pub(crate) fn mask_that_applies_again(
+    token: &Token,
+    owner: &Option<Sid>,
+    mapping: &GenericMapping,
+    entry: &Ace,
+) -> Mask
+    ensures { result ≡ mask_that_applies mapping.now (applies_again token.now owner.now) entry.now }
+{
+    let applies = !entry.is_inherit_only()
+        && applies_again_to(token, owner, entry.kind, &entry.sid);
+    let mask = mapping.map(entry.mask);
+    mask.when(applies)
+}
+
 impl Access<'_> {
     /// What an entry takes part with: its mapped mask, or nothing where it is inherit-only or doesn't apply.
     #[inline(always)]
@@ -180,23 +174,13 @@ impl Access<'_> {
 
     /// The mapped mask: most have no generic right, and stay as they are.
     #[inline(always)]
-    fn map(&self, mask: Mask) -> Mask
+    pub(crate) fn map(&self, mask: Mask) -> Mask
         ensures { result ≡ mapped self.now.mapping.now mask }
     {
         if mask.bits() < FIRST_GENERIC {
             return mask;
         }
         self.mapping.map(mask)
-    }
-
-    /// The same in the second pass, that of the restricting SIDs.
-    fn mask_that_applies_again(&self, entry: &Ace) -> Mask
-        ensures { result ≡ mask_that_applies self.now.mapping.now (applies_again self.now.token.now self.now.owner.now) entry.now }
-    {
-        let applies = !entry.is_inherit_only()
-            && applies_again_to(self.token, self.owner, entry.kind, &entry.sid);
-        let mask = self.mapping.map(entry.mask);
-        mask.when(applies)
     }
 
     /// Whether one look tells that an entry has no part in the check, in either pass, as most entries of a long list
@@ -233,7 +217,7 @@ impl Access<'_> {
     /// The walk, further over these entries. It ends as soon as what stands behind can tell nothing, of a bit or of the
     /// owner.
     #[inline(always)]
-    pub(crate) fn walk_on(&self, entries: &[Ace], before: Walked) -> Walked
+    fn walk_on(&self, entries: &[Ace], before: Walked) -> Walked
         ensures { let mask = mask_that_applies self.now.mapping.now (applies self.now.token.now self.now.owner.now) in
             (rest : List Ace) → outcome mask is_limit (entries.now ++ rest) before.undecided before.allowed before.kept
             ≡ outcome mask is_limit rest result.undecided result.allowed result.kept }
@@ -304,7 +288,7 @@ impl Access<'_> {
     }
 
     /// That walk, further over these entries.
-    pub(crate) fn walk_on_for_both(&self, entries: &[Ace], before: WalkedTwice) -> WalkedTwice
+    fn walk_on_for_both(&self, entries: &[Ace], before: WalkedTwice) -> WalkedTwice
         ensures first { let mask = mask_that_applies self.now.mapping.now (applies self.now.token.now self.now.owner.now) in
             (rest : List Ace) → outcome mask is_limit (entries.now ++ rest) before.first.undecided before.first.allowed before.kept
             ≡ outcome mask is_limit rest result.first.undecided result.first.allowed result.kept }
@@ -327,7 +311,7 @@ impl Access<'_> {
                 continue;
             }
             let mask = self.mask_that_applies(entry);
-            let mask_again = self.mask_that_applies_again(entry);
+            let mask_again = mask_that_applies_again(self.token, self.owner, self.mapping, entry);
             first = first.after(entry.kind, mask);
             second = second.after(entry.kind, mask_again);
             kept = kept.when(!limits_owner(entry));

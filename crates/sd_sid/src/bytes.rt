@@ -5,11 +5,9 @@ ghost use Rattle.std.specs.Int.{w32, to_le_bytes};
 ghost use Rattle.std.specs.List.{flat_map};
 ghost use Rattle.sd_sid.specs.SidBytes.{u32_at, u32s_at, authority_of, sid_reading, bytes_of_sid, SidsComeBack, SidsStand};
 
+use crate::lent::{REVISION, SidRef};
 use crate::sid::{MAX_SUBS, Sid, SidError};
 use std::alloc::{AllocError, Global};
-
-/// The only revision of a SID ([MS-DTYP] 2.4.2.2, Revision).
-const REVISION: u8 = 1;
 
 /// What stands before the sub-authorities: the revision, their number, and six bytes of authority.
 pub const SID_HEADER_BYTES: usize = 8;
@@ -18,32 +16,19 @@ pub const SID_HEADER_BYTES: usize = 8;
 /// `Short` where there are fewer than 8 bytes; then `Revision` where the first isn't 1, `Count` where the second
 /// isn't 1 to 15, and `Short` where the sub-authorities pass the end. Takes no memory.
 #[inline(always)]
-#[tactic(auto, unfolding(crate::specs::SidBytes::sid_reading))]
 pub fn read_sid(bytes: &[u8]) -> Result<(Sid, u64), SidError>
     ensures read { result ≡ sid_reading bytes.now }
     ensures size { IfOk result (λ x. (x.1 ≡ 8 + 4 * length x.0.subs) × (x.1 ≤ length bytes.now)) }
 {
-    if bytes.len() < SID_HEADER_BYTES {
-        return Err(SidError::Short);
+    match SidRef::read(bytes) {
+        Ok((sid, size)) => Ok((sid.copied(), size)),
+        Err(fault) => Err(fault),
     }
-    if bytes[0] != REVISION {
-        return Err(SidError::Revision);
-    }
-    let count = bytes[1] as usize;
-    if count == 0 || count > MAX_SUBS {
-        return Err(SidError::Count);
-    }
-    let size = SID_HEADER_BYTES + 4 * count;
-    if bytes.len() < size {
-        return Err(SidError::Short);
-    }
-    let sid = Sid::of_padded(authority_in(bytes), subs_of(bytes, count), count);
-    Ok((sid, size as u64))
 }
 
 /// The six bytes of authority, the most significant first.
 #[inline(always)]
-fn authority_in(bytes: &[u8]) -> u64
+pub(crate) fn authority_in(bytes: &[u8]) -> u64
     requires { 8 ≤ length bytes.now }
     ensures authority { result ≡ authority_of bytes.now }
     ensures small { result < 2 ^ 48 }
@@ -55,7 +40,7 @@ fn authority_in(bytes: &[u8]) -> u64
 
 /// The sub-authorities, four bytes each, the least significant first; zeros behind them.
 #[inline(always)]
-fn subs_of(bytes: &[u8], count: usize) -> [u32; MAX_SUBS]
+pub(crate) fn subs_of(bytes: &[u8], count: usize) -> [u32; MAX_SUBS]
     requires few { count ≤ 15 }
     requires room { 8 + 4 * count ≤ length bytes.now }
     ensures subs { take count result ≡ u32s_at bytes.now 8 count }
@@ -65,6 +50,18 @@ fn subs_of(bytes: &[u8], count: usize) -> [u32; MAX_SUBS]
     if count == 5 {
         return five_subs_of(bytes);
     }
+    each_sub_of(bytes, count)
+}
+
+/// The same, one behind the other.
+#[inline(always)]
+fn each_sub_of(bytes: &[u8], count: usize) -> [u32; MAX_SUBS]
+    requires few { count ≤ 15 }
+    requires room { 8 + 4 * count ≤ length bytes.now }
+    ensures subs { take count result ≡ u32s_at bytes.now 8 count }
+    ensures padding { drop count result ≡ replicate (15 - count) 0 }
+    ensures words { All (λ sub. sub < 2 ^ 32) result }
+{
     let mut subs = [0; MAX_SUBS];
     for k in 0..count {
         subs[k] = sub_at(bytes, SID_HEADER_BYTES + 4 * k);
@@ -92,7 +89,7 @@ fn five_subs_of(bytes: &[u8]) -> [u32; MAX_SUBS]
 
 /// The sub-authority at a place.
 #[inline(always)]
-fn sub_at(bytes: &[u8], at: usize) -> u32
+pub(crate) fn sub_at(bytes: &[u8], at: usize) -> u32
     requires { at + 4 ≤ length bytes.now }
     ensures { result ≡ u32_at bytes.now at }
 {

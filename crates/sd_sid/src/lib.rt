@@ -11,11 +11,13 @@
 #![tactic(auto)]
 
 mod bytes;
+mod lent;
 mod mapping;
 mod mask;
 mod sid;
 
 pub use bytes::{SID_HEADER_BYTES, push_sid, read_sid, sid_bytes, sids_come_back, sids_stand};
+pub use lent::SidRef;
 pub use mapping::{BadMapping, GenericMapping, OBJECT_RIGHTS};
 pub use mask::Mask;
 pub use sid::{AUTHORITY_LIMIT, MAX_SUBS, Sid, SidError, sids_compare_by_value};

@@ -17,6 +17,7 @@ use crate::list::{push_list, read_list};
 use crate::number::read_u32;
 use crate::trustee::{push_trustee, read_trustee, trustee_len};
 use sd_acl::{Dacl, Descriptor, acl_size};
+use sd_sid::SidRef;
 use std::alloc::{AllocError, Global};
 
 /// The descriptor that the bytes hold, or the first test that they don't pass ([MS-DTYP] 2.4.6): header, owner, group,
@@ -41,8 +42,8 @@ fn read_parts(alloc: Global, bytes: &[u8]) -> Result<Descriptor, WireError>
     let group = read_trustee(bytes, read_u32(bytes, GROUP_PLACE) as usize)?;
     if !has_bits(control, DACL_PRESENT) {
         return Ok(Descriptor {
-            owner,
-            group,
+            owner: SidRef::copied_from(&owner),
+            group: SidRef::copied_from(&group),
             dacl: Dacl::Absent,
             protected: false,
             auto_req: false,
@@ -51,8 +52,8 @@ fn read_parts(alloc: Global, bytes: &[u8]) -> Result<Descriptor, WireError>
     }
     let dacl = read_dacl(alloc, bytes, read_u32(bytes, DACL_PLACE) as usize)?;
     Ok(Descriptor {
-        owner,
-        group,
+        owner: SidRef::copied_from(&owner),
+        group: SidRef::copied_from(&group),
         dacl,
         protected: has_bits(control, DACL_PROTECTED),
         auto_req: has_bits(control, DACL_AUTO_INHERIT_REQUIRED),

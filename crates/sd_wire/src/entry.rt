@@ -9,7 +9,7 @@ use crate::fault::WireFault;
 use crate::number::{read_u16, read_u32};
 use crate::trustee::read_sid_at;
 use bitflags::Flags;
-use sd_acl::{Ace, AceFlags, AceKind};
+use sd_acl::{Ace, AceFlags, AceKind, AceRef};
 use sd_sid::{Mask, SID_HEADER_BYTES, push_sid};
 
 /// AceType of an allow ([MS-DTYP] 2.4.4.1, ACCESS_ALLOWED_ACE_TYPE).
@@ -33,7 +33,7 @@ pub(crate) const MIN_ENTRY_BYTES: usize = SID_PLACE + SID_HEADER_BYTES;
 // cost.
 #[inline(always)]
 #[tactic(auto, unfolding(crate::specs::Reading::entry_read))]
-pub fn read_entry(bytes: &[u8], place: usize, end: usize) -> Result<(Ace, usize), WireFault>
+pub fn read_entry(bytes: &[u8], place: usize, end: usize) -> Result<(AceRef<'_>, usize), WireFault>
     requires place { place ≤ end }
     requires end { end ≤ length bytes.now }
     ensures read { result ≡ entry_read bytes.now place end }
@@ -50,13 +50,10 @@ pub fn read_entry(bytes: &[u8], place: usize, end: usize) -> Result<(Ace, usize)
     if size < MIN_ENTRY_BYTES {
         return Err(WireFault::EntrySize);
     }
-    let entry = Ace {
-        kind,
-        flags: AceFlags::from_bits_retain(bytes[place + 1] & AceFlags::NAMED_BITS),
-        mask: Mask(read_u32(bytes, place + HEADER_BYTES)),
-        sid: read_sid_at(bytes, place + SID_PLACE, place + size)?,
-    };
-    Ok((entry, size))
+    let flags = AceFlags::from_bits_retain(bytes[place + 1] & AceFlags::NAMED_BITS);
+    let mask = Mask(read_u32(bytes, place + HEADER_BYTES));
+    let sid = read_sid_at(bytes, place + SID_PLACE, place + size)?;
+    Ok((AceRef::new(kind, flags, mask, sid), size))
 }
 
 /// Whether a type stands for an allow or a deny.

@@ -79,7 +79,7 @@ fn read_entries(
     for _ in 0..count {
         let (entry, size) = read_entry(bytes, at, end)?;
         // An entry that was read takes MIN_ENTRY_BYTES at least, so it's one of those that memory was taken for.
-        entries.push_reserved(entry);
+        entries.push_reserved(entry.copied());
         at += size;
     }
     Ok(entries)

@@ -11,12 +11,12 @@ use crate::header::{
 use crate::list::find_entries;
 use crate::number::read_u32;
 use crate::trustee::read_trustee;
-use sd_sid::Sid;
+use sd_sid::SidRef;
 
 /// What a check wants of a descriptor: its owner, and where its DACL stands.
-#[derive(Clone, Copy)]
-pub struct Parts {
-    pub owner: Option<Sid>,
+#[derive(Drop)]
+pub struct Parts<'a> {
+    pub owner: Option<SidRef<'a>>,
     pub dacl: DaclPlace,
 }
 
@@ -42,7 +42,7 @@ pub struct EntryPlaces {
 /// The parts of the descriptor that the bytes hold, or the first test that they don't pass ([MS-DTYP] 2.4.6), of
 /// those that `read_descriptor` makes before the first entry's, in the same order. Takes no memory.
 #[tactic(auto, unfolding(crate::specs::Reading::descriptor_read))]
-pub fn read_parts(bytes: &[u8]) -> Result<Parts, WireFault>
+pub fn read_parts(bytes: &[u8]) -> Result<Parts<'_>, WireFault>
     ensures ok { IfOk result (λ parts. ArePartsOf bytes.now parts) }
     ensures err { IfErr result (λ fault. descriptor_read bytes.now ≡ Err fault) }
 {

@@ -6,17 +6,17 @@ ghost use Rattle.sd_wire.specs.Writing.{trustee_part};
 
 use crate::fault::WireFault;
 use crate::header::leads_outside;
-use sd_sid::{SID_HEADER_BYTES, Sid, push_sid, read_sid};
+use sd_sid::{SID_HEADER_BYTES, Sid, SidRef, push_sid};
 
 /// The SID at a place, which doesn't pass an end.
 #[inline(always)]
-pub(crate) fn read_sid_at(bytes: &[u8], place: usize, end: usize) -> Result<Sid, WireFault>
+pub(crate) fn read_sid_at(bytes: &[u8], place: usize, end: usize) -> Result<SidRef<'_>, WireFault>
     requires place { place ≤ end }
     requires end { end ≤ length bytes.now }
     ensures read { result ≡ sid_read bytes.now place end }
     ensures size { IfOk result (λ sid. place + (8 + 4 * length sid.subs) ≤ end) }
 {
-    match read_sid(&bytes[place..end]) {
+    match SidRef::read(&bytes[place..end]) {
         Ok((sid, _)) => Ok(sid),
         Err(_) => Err(WireFault::BadSid),
     }
@@ -24,7 +24,7 @@ pub(crate) fn read_sid_at(bytes: &[u8], place: usize, end: usize) -> Result<Sid,
 
 /// The owner or the group at its offset, none where that is 0.
 #[tactic(auto, unfolding(crate::specs::Reading::trustee_read))]
-pub(crate) fn read_trustee(bytes: &[u8], offset: usize) -> Result<Option<Sid>, WireFault>
+pub(crate) fn read_trustee(bytes: &[u8], offset: usize) -> Result<Option<SidRef<'_>>, WireFault>
     requires { offset < 2 ^ 32 }
     ensures { result ≡ trustee_read bytes.now offset }
 {

@@ -1,12 +1,14 @@
 //! The check over bytes.
 
 ghost use Rattle.std.specs.Prelude.{◌≡◌, ◌≤◌, length};
+ghost use Rattle.sd_check.specs.Check.{verdict};
+ghost use Rattle.sd_check.specs.Dacl.{entries_of};
 ghost use Rattle.sd_wire.specs.Reading.{entries_read};
 ghost use Rattle.sd_wire_check.specs.Checked.{checked, entries_checked};
 
 use sd_check::{DaclRef, Question, Token, Verdict, check_parts};
-use sd_sid::{GenericMapping, Mask};
-use sd_wire::{DaclPlace, EntryPlaces, WireFault, read_entry, read_parts};
+use sd_sid::{GenericMapping, Mask, SidRef};
+use sd_wire::{DaclPlace, EntryPlaces, Parts, WireFault, read_entry, read_parts};
 
 /// The verdict on a request ([MS-DTYP] 2.5.3.2), for the descriptor that the bytes hold, or the first test that they
 /// don't pass ([MS-DTYP] 2.4.6): what `read_descriptor` and then `check` answer where there is memory. Takes none.
@@ -18,21 +20,41 @@ pub fn check_bytes(
 ) -> Result<Verdict, WireFault>
     ensures { result ≡ checked bytes.now mapping.now token.now asked }
 {
-    let parts = read_parts(bytes)?;
-    let dacl = match parts.dacl {
-        DaclPlace::Absent => DaclRef::Absent,
-        DaclPlace::Null => DaclRef::Null,
+    let Parts { owner, dacl } = read_parts(bytes)?;
+    match dacl {
+        DaclPlace::Absent => {
+            let dacl = DaclRef::Absent;
+            Ok(check_no_list(&owner, dacl, mapping, token, asked))
+        }
+        DaclPlace::Null => {
+            let dacl = DaclRef::Null;
+            Ok(check_no_list(&owner, dacl, mapping, token, asked))
+        }
         DaclPlace::List(entries) => {
             let question = Question {
-                owner: &parts.owner,
+                owner: &owner,
                 mapping,
                 token,
                 asked,
             };
-            return check_entries(bytes, entries, &question);
+            check_entries(bytes, entries, &question)
         }
-    };
-    Ok(check_parts(parts.owner, dacl, mapping, token, asked))
+    }
+}
+
+// Most descriptors have a list, and what comes of none stays out of their way.
+#[inline(never)]
+fn check_no_list(
+    owner: &Option<SidRef<'_>>,
+    dacl: DaclRef<'_>,
+    mapping: &GenericMapping,
+    token: &Token,
+    asked: Mask,
+) -> Verdict
+    ensures { result ≡ verdict owner.now (entries_of dacl.entry) mapping.now token.now asked }
+{
+    let owner = SidRef::copied_from(owner);
+    check_parts(owner, dacl, mapping, token, asked)
 }
 
 /// The answer to the question, for a list whose entries stand there, or the first test that one of them doesn't pass.

@@ -1,9 +1,10 @@
 //! A check over bytes, and bytes that hold no descriptor.
 
-use super::{restricted_to, same, sid};
-use sd_check::{GroupState, Token, Verdict};
+use super::{holds, restricted_to, same, sid};
+use sd_acl::{AceFlags, AceKind, AceRef};
+use sd_check::{GroupState, Question, Token, Verdict};
 use sd_sid::{GenericMapping, Mask, Sid};
-use sd_wire::WireFault;
+use sd_wire::{WireFault, read_entry};
 use sd_wire_check::check_bytes;
 use std::process::Abort;
 
@@ -62,13 +63,116 @@ fn both_passes_of_a_restricted_token_answer(rt: HostRuntime) {
     same(&rt, "nobody", answered(&WORKED, &nobody, 0x1), Ok(denied));
 }
 
-/// The worked bytes with another one at a place.
-fn changed(place: usize, value: u8) -> [u8; 96] {
+/// The worked bytes with others at these places.
+fn changed(changes: &[(usize, u8)]) -> [u8; 96] {
     let mut bytes = WORKED;
-    if let Some(byte) = bytes.get_mut(place) {
-        *byte = value;
+    for (place, value) in changes {
+        if let Some(byte) = bytes.get_mut(*place) {
+            *byte = *value;
+        }
     }
     bytes
+}
+
+/// That the entry denies Everyone 0x2.
+fn denies_everyone(rt: &(impl Abort + AllocGlobal), entry: &AceRef<'_>) {
+    let everyone = sid(rt, 1, &[0]);
+    same(rt, "kind", entry.kind(), AceKind::Deny);
+    same(rt, "mask", entry.mask(), Mask(0x2));
+    same(rt, "whom it is for", entry.sid().copied(), everyone);
+    let copied = entry.copied();
+    same(rt, "copied kind", copied.kind, AceKind::Deny);
+    same(rt, "copied mask", copied.mask, Mask(0x2));
+    same(rt, "copied SID", copied.sid, everyone);
+}
+
+#[test]
+fn an_entry_is_lent_from_its_bytes(rt: HostRuntime) {
+    let (entry, size) = read_entry(&WORKED, 56, 96).expect(&rt, "an entry");
+    same(&rt, "size", size, 20);
+    holds(&rt, "effective", !entry.is_inherit_only());
+    denies_everyone(&rt, &entry);
+    let again = entry.again();
+    denies_everyone(&rt, &again);
+    let sid = entry.sid().again();
+    let waiting = AceRef::new(AceKind::Deny, AceFlags::IO, Mask(0x2), sid);
+    holds(&rt, "inherit-only", waiting.is_inherit_only());
+    denies_everyone(&rt, &waiting);
+}
+
+/// The second entry for OWNER RIGHTS, S-1-3-4, and its mask as 0x1.
+const FOR_OWNER_RIGHTS: [(usize, u8); 2] = [(91, 3), (92, 4)];
+
+const FOR_READ_DATA: [(usize, u8); 3] = [(80, 1), (81, 0), (82, 0)];
+
+/// READ_CONTROL and 0x1.
+const WANTED: u32 = 0x0002_0001;
+
+/// The owner's bytes are looked at where the request or an entry makes that matter.
+#[test]
+fn the_owner_is_asked_for_where_it_matters(rt: HostRuntime) {
+    let everyone = (sid(&rt, 1, &[0]), GroupState::Enabled);
+    let administrators = (sid(&rt, 5, &[32, 544]), GroupState::Enabled);
+    let owner = restricted_to(&rt, &[everyone, administrators], &[]);
+    let other = token(&rt, &[]);
+    let limited = changed(&FOR_OWNER_RIGHTS);
+    let answer = answered(&limited, &owner, WANTED);
+    same(
+        &rt,
+        "OWNER RIGHTS",
+        answer,
+        Ok(Verdict::Granted(Mask(WANTED))),
+    );
+    let answer = answered(&limited, &other, WANTED);
+    let denied = Verdict::Denied {
+        missing: Mask(WANTED),
+    };
+    same(&rt, "not the owner", answer, Ok(denied));
+    let narrow = changed(&FOR_READ_DATA);
+    let answer = answered(&narrow, &owner, WANTED);
+    same(
+        &rt,
+        "the owner's",
+        answer,
+        Ok(Verdict::Granted(Mask(WANTED))),
+    );
+    let answer = answered(&narrow, &other, WANTED);
+    let denied = Verdict::Denied {
+        missing: Mask(0x0002_0000),
+    };
+    same(&rt, "no other's", answer, Ok(denied));
+}
+
+/// The verdict where the entries at these places come, one at a time.
+fn answered_after(question: &Question<'_>, places: &[usize]) -> Verdict {
+    let mut found = question.begin();
+    for place in places {
+        if let Ok((entry, _)) = read_entry(&WORKED, (*place).min(96), 96) {
+            found = question.after(found, &entry);
+        }
+    }
+    question.verdict(found)
+}
+
+const ONE_AT_A_TIME: [(&[usize], u32); 3] = [(&[], 0x3), (&[56], 0x3), (&[56, 76], 0x2)];
+
+#[test]
+fn entries_come_one_at_a_time(rt: HostRuntime) {
+    let owner = None;
+    let mapping = GenericMapping::file();
+    let token = token(&rt, &[]);
+    let question = Question {
+        owner: &owner,
+        mapping: &mapping,
+        token: &token,
+        asked: Mask(0x3),
+    };
+    for (places, missing) in &ONE_AT_A_TIME {
+        let denied = Verdict::Denied {
+            missing: Mask(*missing),
+        };
+        same(&rt, places.len(), answered_after(&question, places), denied);
+    }
 }
 
 /// The places of the byte that says that a list is there, and of the list's offset.
@@ -78,7 +182,7 @@ const NO_LIST: [usize; 2] = [2, 16];
 fn a_list_that_is_absent_or_null_grants_each_right(rt: HostRuntime) {
     let token = token(&rt, &[]);
     for place in &NO_LIST {
-        let answer = answered(&changed(*place, 0), &token, 0x2);
+        let answer = answered(&changed(&[(*place, 0)]), &token, 0x2);
         same(&rt, *place, answer, Ok(Verdict::Granted(Mask(0x2))));
     }
 }
@@ -107,7 +211,7 @@ fn is_fault(
     fault: WireFault,
 ) {
     for asked in &ASKED {
-        let answer = answered(&changed(place, value), token, *asked);
+        let answer = answered(&changed(&[(place, value)]), token, *asked);
         same(rt, format_args!("{value} at {place}"), answer, Err(fault));
     }
 }

@@ -1,7 +1,7 @@
 //! Values of SIDs, masks and mappings, from the standard's tables.
 
 use super::{holds, same, sid};
-use sd_sid::{BadMapping, GenericMapping, Mask, Sid, SidError, read_sid, sid_bytes};
+use sd_sid::{BadMapping, GenericMapping, Mask, Sid, SidError, SidRef, read_sid, sid_bytes};
 use std::process::Abort;
 
 const NO_SIDS: [(u64, &[u32], SidError); 4] = [
@@ -133,4 +133,31 @@ fn bytes_that_are_no_sid(rt: HostRuntime) {
         let of = format_args!("{revision}, {count} in {len} bytes");
         same(&rt, of, read_sid(cut), Err(*want));
     }
+}
+
+/// S-1-5-21-1-2-3-1001, and a byte behind it.
+const ACCOUNT: [u8; 29] = [
+    1, 5, 0, 0, 0, 0, 0, 5, 21, 0, 0, 0, 1, 0, 0, 0, 2, 0, 0, 0, 3, 0, 0, 0, 0xe9, 3, 0, 0, 9,
+];
+
+#[test]
+fn a_sid_that_is_lent_from_its_bytes(rt: HostRuntime) {
+    let account = sid(&rt, 5, &[21, 1, 2, 3, 1001]);
+    let (lent, size) = SidRef::read(&ACCOUNT).expect(&rt, "a SID");
+    same(&rt, "size", size, 28);
+    same(&rt, "relative identifier", lent.last_sub(), 1001);
+    same(&rt, "copied", lent.copied(), account);
+    holds(&rt, "no OWNER RIGHTS", !lent.is_owner_rights());
+    same(&rt, "again", lent.again().copied(), account);
+    same(&rt, "lent", SidRef::copied_from(&Some(lent)), Some(account));
+    same(&rt, "none", SidRef::copied_from(&None), None);
+}
+
+/// S-1-3-4.
+const OWNER_RIGHTS: [u8; 12] = [1, 1, 0, 0, 0, 0, 0, 3, 4, 0, 0, 0];
+
+#[test]
+fn owner_rights_lent_from_their_bytes(rt: HostRuntime) {
+    let (lent, _) = SidRef::read(&OWNER_RIGHTS).expect(&rt, "a SID");
+    holds(&rt, "S-1-3-4", lent.is_owner_rights());
 }

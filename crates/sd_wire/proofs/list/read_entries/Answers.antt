@@ -1,5 +1,5 @@
 -- Each turn reads the next entry, or ends with its fault.
-use Rattle.std.proofs.Common.{◌≡◌, ◌+◌, ◌-◌, ◌/◌, ◌<◌, ◌≤◌, ◌++◌, ◌∷◌, [], min, sym, ◌∙◌, arith, sum_by}
+use Rattle.std.proofs.Common.{◌≡◌, ◌+◌, ◌-◌, ◌/◌, ◌<◌, ◌≤◌, ◌++◌, ◌∷◌, [], min, sym, ap, ◌∙◌, arith, sum_by}
 use Rattle.std.proofs.lemmas.Result.{err_from_is_err_and}
 use Rattle.std.proofs.lemmas.List.Sums.{sum_by_push}
 use Rattle.sd_acl.specs.Ace.{ace_size}
@@ -22,7 +22,7 @@ push_reserved-requires c =
 
 pub loop-preserved : goal.loop-preserved
 loop-preserved c =
-    let pushed : c.push_reserved.new.self.items ≡ c.loop.entries.items ++ c.in_ok-entry.entry ∷ [] = c.push_reserved.ensures.items in
+    let pushed : c.push_reserved.new.self.items ≡ c.loop.entries.items ++ c.in_ok-entry.entry ∷ [] = c.push_reserved.ensures.items ∙ ap (λ e. c.loop.entries.items ++ e ∷ []) c.copied.ensures in
     let so_far = goes_on c.args.bytes.now c.loop.at c.args.end c.args.count c.loop.counter c.loop.entries.items c.in_ok-entry.entry c.in_ok-entry.size (entries_read c.args.bytes.now c.args.place c.args.end c.args.count) c.loop-test.true (sym c.in_ok-entry.ensures.read) c.loop.invariant.0 in
     let room : ace_size c.in_ok-entry.entry ≤ c.in_ok-entry.size = c.in_ok-entry.ensures.size.0 in
     let within : c.loop.at + c.in_ok-entry.size ≤ c.args.end = c.in_ok-entry.ensures.size.1 in

@@ -17,12 +17,9 @@ returns c =
     let g = ask.mapping.now in
     let t = ask.token.now in
     let owner = ask.owner.now in
-    let access = c.access.result in
     let bits = walked_bits g ask.asked in
     let rights : c.common-rights.result ≡ rights_in bits = c.common-rights.ensures ∙ ap rights_in c.walked_bits-wanted.ensures in
-    let kept : c.owners_rights.result ≡ owners_in t owner bits =
-    c.owners_rights.ensures ∙ ap (λ q. owners_in access.token.now access.owner.now q) c.walked_bits-wanted.ensures
-    ∙ ap (λ who. owners_in who access.owner.now bits) c.access.ensures.token ∙ ap (λ whose. owners_in t whose bits) c.access.ensures.owner in
+    let kept : c.owners_rights.result ≡ owners_in t owner bits = c.owners_rights.ensures ∙ ap (owners_in t owner) c.walked_bits-wanted.ensures in
     record {
       first = λ rest. nothing_comes (mask_that_applies g (applies t owner)) rest (rights_in bits) (owners_in t owner bits) _ _ _ (c.nothing_of.ensures.0 ∙ rights) c.nothing_of.ensures.1 kept;
       second = λ restricted rest. nothing_comes (mask_that_applies g (applies_again t owner)) rest (rights_in bits) (owners_in t owner bits) _ _ _ (c.nothing_of-2.ensures.0 ∙ rights) c.nothing_of-2.ensures.1 kept;

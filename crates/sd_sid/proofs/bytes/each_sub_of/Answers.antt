@@ -4,7 +4,7 @@ use Rattle.std.proofs.lemmas.List.{get_or-drop, get_or-replicate, length-replica
 use Rattle.std.proofs.lemmas.List.FromFn.{fill_by_all}
 use Rattle.std.proofs.lemmas.Grind.{same_number_lists}
 use Rattle.sd_sid.specs.SidBytes.{u32_at}
-use Rattle.sd_sid.proofs.bytes.subs_of.Goals as goal
+use Rattle.sd_sid.proofs.bytes.each_sub_of.Goals as goal
 
 pub returns-clause-subs : goal.returns-clause-subs
 returns-clause-subs c =
