@@ -11,7 +11,7 @@ use crate::mapping::Mapping;
 use crate::stop::{NotRead, Stop};
 use sd_acl::Descriptor;
 use sd_check::{GroupState, Privileges, Token};
-use sd_sid::{GenericMapping, Mask, SID_HEADER_BYTES, Sid, read_sid};
+use sd_sid::{GenericMapping, Mask, SID_HEADER_BYTES, Sid, SidRef, read_sid};
 use sd_wire::{WireError, read_descriptor};
 use std::alloc::Global;
 
@@ -81,11 +81,15 @@ fn state_of(number: u32) -> Option<GroupState>
 /// The group at the front of the bytes, and how many of them its SID takes.
 #[inline(always)]
 #[tactic(auto, unfolding(crate::specs::Request::group_read))]
-fn group_of(bytes: &[u8], number: u32, at: usize) -> Result<((Sid, GroupState), usize), NotRead>
+fn group_of(
+    bytes: &[u8],
+    number: u32,
+    at: usize,
+) -> Result<((SidRef<'_>, GroupState), usize), NotRead>
     ensures read { result ≡ group_read bytes.now number at }
     ensures size { IfOk result (λ x. x.1 ≤ length bytes.now) }
 {
-    match read_sid(bytes) {
+    match SidRef::read(bytes) {
         Ok((sid, size)) => match state_of(number) {
             Some(state) => Ok(((sid, state), size as usize)),
             None => Err(NotRead::State { at: at as u64 }),
@@ -109,10 +113,8 @@ fn groups_of(alloc: Global, bytes: &[u8], states: &[u32]) -> Result<Vec<(Sid, Gr
     for at in 0..states.len() {
         let (group, size) = group_of(rest, states[at], at)?;
         let (sid, state) = group;
-        // The pair is made anew, in its place: where it is handed on whole, what fills it up behind its state is copied too, in two
-        // parts that overlap, and each group waits for that.
         groups.reserve(1)?;
-        groups.push_reserved((sid, state));
+        groups.push_reserved((sid.copied(), state));
         rest = &rest[size..];
     }
     if !rest.is_empty() {
