@@ -1,6 +1,7 @@
 pub mod LowMasks
 pub mod Given
-pub mod Filters
+pub mod Places
+pub mod Chains
 pub mod Answered
 pub mod OneWalk
 pub mod NextEntry

@@ -1,5 +1,5 @@
 pub mod Token
-pub mod Filter
+pub mod Index
 pub mod Check
 pub mod Dacl
 pub mod Grounds

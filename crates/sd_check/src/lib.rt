@@ -14,8 +14,8 @@
 #![tactic(auto)]
 
 mod access;
-mod filter;
 mod grounds;
+mod index;
 mod laws;
 mod request;
 mod steps;

@@ -5,7 +5,7 @@ ghost use Rattle.sd_sid.specs.Sid.{same_sid, owner_rights};
 ghost use Rattle.sd_acl.specs.declared.ace.AceKind.{AceKind};
 ghost use Rattle.sd_check.specs.Token.{stands_for, a_group_stands_for, counts, is_restricted, is_restricting};
 
-use crate::filter::Filter;
+use crate::index::Index;
 use sd_acl::AceKind;
 use sd_sid::{Sid, SidRef};
 use std::marker::Model;
@@ -51,7 +51,7 @@ pub struct Token {
     user: Sid,
     groups: Vec<(Sid, GroupState)>,
     privileges: Privileges,
-    filter: Filter,
+    index: Index,
     // (last, so that what every check looks at stands close together)
     restricting: Vec<Sid>,
 }
@@ -61,14 +61,15 @@ impl Model for Token {
 
     ghost Value = { TokenValue };
 
-    ghost use Rattle.std.specs.Prelude.{◌≡◌, true};
+    ghost use Rattle.std.specs.Prelude.{◌≡◌, true, length};
     ghost use Rattle.sd_sid.specs.Sid.{owner_rights};
-    ghost use Rattle.sd_check.specs.Filter.{IsFilterOf, HoldsEach, may_hold};
+    ghost use Rattle.sd_check.specs.Index.{HoldsEach, IsIndex, IsIndexOfEach, may_hold};
 
     ghost view = { λ t. record { user = t.user; groups = t.groups.items; restricting = t.restricting.items; privileges = t.privileges } };
 
-    ghost invariant = { λ t. IsFilterOf t.filter.words t.user t.groups.items
-        × HoldsEach t.filter.words t.restricting.items × (may_hold t.filter.words owner_rights ≡ true) };
+    ghost invariant = { λ t. IsIndexOfEach t.index.heads t.user t.groups.items
+        × HoldsEach t.index.heads t.restricting.items × (may_hold t.index.heads owner_rights ≡ true)
+        × IsIndex t.index.heads t.index.nexts t.user t.groups.items (length t.groups.items) };
 }
 
 impl GroupState {
@@ -105,12 +106,13 @@ impl Token {
     ) -> Token
         ensures { result ≡ record { user = user; groups = groups.items; restricting = restricting.items; privileges = privileges } }
     {
-        let filter = Filter::new(&user, &groups).with_each(&restricting);
+        let mut index = Index::new(&user, &groups);
+        index.mark_each(&restricting);
         Token {
             user,
             groups,
             privileges,
-            filter,
+            index,
             restricting,
         }
     }
@@ -129,7 +131,7 @@ impl Token {
         ensures again { result ≡ false → is_restricting self.now sid.now ≡ false }
         ensures owner_rights { result ≡ false → same_sid sid.now owner_rights ≡ false }
     {
-        self.filter.may_hold(sid)
+        self.index.may_hold(sid)
     }
 
     /// The same of a SID that is lent from its bytes.
@@ -139,7 +141,7 @@ impl Token {
         ensures again { result ≡ false → is_restricting self.now sid.now ≡ false }
         ensures owner_rights { result ≡ false → same_sid sid.now owner_rights ≡ false }
     {
-        self.filter.may_hold_lent(sid)
+        self.index.may_hold_lent(sid)
     }
 
     /// Whether restricting SIDs stand in the token.
@@ -173,12 +175,12 @@ impl Token {
         self.may_matter(sid) && self.has(kind, sid)
     }
 
-    // Most entries end at the filter, and what comes behind it stays out of the walk.
+    // Most entries have no link at their place, and the chains stay out of the walk.
     #[inline(never)]
     pub(crate) fn has(&self, kind: AceKind, sid: &Sid) -> bool
         ensures { result ≡ stands_for self.now kind sid.now }
     {
-        self.user.is(sid) || self.a_group_stands_for(kind, sid)
+        self.index.stands_for(&self.user, &self.groups, kind, sid)
     }
 
     /// The same of a SID that is lent from its bytes.
@@ -188,38 +190,4 @@ impl Token {
     {
         self.has(kind, &sid.copied())
     }
-
-    // Most tokens have many groups, and most groups are none of an entry's: four at a turn halve what the turns cost.
-    fn a_group_stands_for(&self, kind: AceKind, sid: &Sid) -> bool
-        ensures { result ≡ a_group_stands_for self.now.groups kind sid.now }
-    {
-        let mut rest = self.groups.as_slice();
-        'fours: while let [first, second, third, fourth, behind @ ..] = rest {
-            if stands_for(first, kind, sid)
-                || stands_for(second, kind, sid)
-                || stands_for(third, kind, sid)
-                || stands_for(fourth, kind, sid)
-            {
-                return true;
-            }
-            rest = behind;
-        }
-        one_stands_for(rest, kind, sid)
-    }
-}
-
-/// Whether one of the groups has the SID, and counts for an entry of the kind.
-fn one_stands_for(groups: &[(Sid, GroupState)], kind: AceKind, sid: &Sid) -> bool
-    ensures { result ≡ a_group_stands_for groups.now kind sid.now }
-{
-    groups.iter().any(|place| stands_for(place, kind, sid))
-}
-
-/// Whether the group has the SID, and counts for an entry of the kind.
-#[inline(always)]
-fn stands_for(place: &(Sid, GroupState), kind: AceKind, sid: &Sid) -> bool
-    ensures { result ≡ (same_sid place.now.0 sid.now && counts kind place.now.1) }
-{
-    let (group, state) = place;
-    group.is(sid) && state.counts(kind)
 }

@@ -1,0 +1,167 @@
+-- The chains of a token's index: one more group, one more SID at a place, and a walk along a chain.
+use Rattle.std.proofs.Common.{◌≡◌, ℕ, suc, zero, ◌+◌, ◌<◌, ◌≤◌, ◌⊎◌, inl, inr, Bool, true, false, ◌||◌, List, [], ◌∷◌, length, get_or, set, drop, refl, sym, ◌∙◌, ap, subst, arith, length-set, replicate}
+use Rattle.std.specs.List.{list_any}
+use Rattle.std.proofs.lemmas.Bool.{cases_eq, cases_lt}
+use Rattle.std.proofs.lemmas.List.{get_or-set_other, get_or_default, get_or-replicate, length-replicate}
+use Rattle.std.proofs.lemmas.Grind.{get_or-set_at}
+use Rattle.std.proofs.Math.ListN.{get_or-eq_default}
+use Rattle.sd_sid.specs.Sid.{SidValue}
+use Rattle.sd_acl.specs.declared.ace.AceKind.TheVariants.{Deny}
+use Rattle.sd_check.specs.declared.token.GroupState.{GroupState}
+use Rattle.sd_check.specs.Index.{OnChain, here, behind, IsIndex, place_of}
+use Rattle.sd_check.specs.Token.{counts}
+
+-- ---- one chain
+
+pub next_on_chain : (nexts : List ℕ) {m k : ℕ} → OnChain nexts (suc m) k → (k ≡ m) ⊎ OnChain nexts (get_or nexts m 0) k
+next_on_chain nexts here = inl refl
+next_on_chain nexts (behind c) = inr c
+
+pub none_at_end : (nexts : List ℕ) {k : ℕ} → OnChain nexts zero k → ⊥
+none_at_end nexts h = elim h [ ]
+
+-- the user is the last of a chain
+pub user_is_last : (nexts : List ℕ) → ((j : ℕ) → get_or nexts j 0 ≤ j) → (link k : ℕ) → link ≤ 1 → OnChain nexts link (suc k) → ⊥
+user_is_last nexts back zero k le c = none_at_end nexts c
+user_is_last nexts back (suc zero) k le c = elim (next_on_chain nexts c) as (λ _. ⊥) [
+  | inl same ↦ omega (arith, same)
+  | inr further ↦ none_at_end nexts (subst (λ n. OnChain nexts n (suc k)) (let end : get_or nexts 0 0 ≡ 0 = omega (arith, back 0) in end) further)
+]
+user_is_last nexts back (suc (suc m)) k le c = omega (arith, le)
+
+-- a chain stays where the next link of a later member is written
+kept_chain : (nexts : List ℕ) (m v : ℕ) → ((j : ℕ) → get_or nexts j 0 ≤ j) → {link k : ℕ} → link ≤ m → OnChain nexts link k → OnChain (set nexts m v) link k
+kept_chain nexts m v back le here = here
+kept_chain nexts m v back {link = suc link} {k = k} le (behind c) =
+    let least : get_or nexts link 0 ≤ m = omega (arith, back link, le) in
+    let other : get_or (set nexts m v) link 0 ≡ get_or nexts link 0 = get_or-set_other nexts m link v 0 (λ (e : link ≡ m). omega (arith, e, le)) in
+    behind (subst (λ n. OnChain (set nexts m v) n k) (sym other) (kept_chain nexts m v back least c))
+
+-- where a member heads the chain of a place, and what headed it is next, each place's chain leads where it led
+linked : (heads nexts : List ℕ) (at m v : ℕ) → at < length heads → m < length nexts → v ≡ suc m
+    → ((j : ℕ) → get_or nexts j 0 ≤ j) → ((p : ℕ) → get_or heads p 0 ≤ m)
+    → (q k : ℕ) → OnChain nexts (get_or heads q 0) k → OnChain (set nexts m (get_or heads at 0)) (get_or (set heads at v) q 0) k
+linked heads nexts at m v fits room is_v back starts q k c =
+    let P : ℕ → Type 0 = λ link. OnChain (set nexts m (get_or heads at 0)) link k in
+    let old : P (get_or heads q 0) = kept_chain nexts m (get_or heads at 0) back (starts q) c in
+    elim (cases_eq q at) as (λ _. P (get_or (set heads at v) q 0)) [
+      | inl e ↦
+          let link : suc m ≡ get_or (set heads at v) q 0 = sym (get_or-set_at heads at q v 0 e fits ∙ is_v) in
+          let next : get_or heads q 0 ≡ get_or (set nexts m (get_or heads at 0)) m 0 =
+          ap (λ p. get_or heads p 0) e ∙ sym (get_or-set_at nexts m m (get_or heads at 0) 0 refl room) in
+          subst P link (behind (subst P next old))
+      | inr ne ↦ subst P (sym (get_or-set_other heads at q v 0 ne)) old
+    ]
+
+-- a link that is written is as small as the others
+at_most : (xs : List ℕ) (at v n : ℕ) → at < length xs → v ≤ n → ((p : ℕ) → get_or xs p 0 ≤ n) → (p : ℕ) → get_or (set xs at v) p 0 ≤ n
+at_most xs at v n fits small all p = elim (cases_eq p at) as (λ _. get_or (set xs at v) p 0 ≤ n) [
+  | inl e ↦ let now : get_or (set xs at v) p 0 ≡ v = get_or-set_at xs at p v 0 e fits in omega (arith, now, small)
+  | inr ne ↦ let now : get_or (set xs at v) p 0 ≡ get_or xs p 0 = get_or-set_other xs at p v 0 ne in omega (arith, now, all p)
+]
+
+-- ---- the index
+
+zeros : (n p : ℕ) → get_or {A = ℕ} (replicate n 0) p 0 ≡ 0
+zeros n p = elim (cases_lt p n) as (λ _. get_or {A = ℕ} (replicate n 0) p 0 ≡ 0) [
+  | inl low ↦ get_or-replicate {A = ℕ} n p 0 0 low
+  | inr high ↦ get_or-eq_default {A = ℕ} (replicate n 0) 0 (let long : length {A = ℕ} (replicate n 0) ≤ p = omega (arith, length-replicate {A = ℕ} n 0, high) in long)
+]
+
+-- of the user alone
+pub index_of_user : (user : SidValue) (groups : List (SidValue × GroupState)) (at : ℕ) → at < 1024 → at ≡ place_of user
+    → IsIndex (set (set (replicate 1024 0) 4 1) at 1) (replicate 255 0) user groups 0
+index_of_user user groups at fits is_at =
+    let none : List ℕ = replicate 1024 0 in
+    let one : List ℕ = set none 4 1 in
+    let size : length none ≡ 1024 = length-replicate {A = ℕ} 1024 0 in
+    let size_one : length one ≡ 1024 = length-set none 4 1 ∙ size in
+    let inside : at < length one = omega (arith, size_one, fits) in
+    let least : (p : ℕ) → get_or none p 0 ≤ 1 = λ p. omega (arith, zeros 1024 p) in
+    let least_one : (p : ℕ) → get_or one p 0 ≤ 1 = at_most none 4 1 1 (omega (arith, size)) (omega arith) least in
+    let least_two : (p : ℕ) → get_or (set one at 1) p 0 ≤ 1 = at_most one at 1 1 inside (omega arith) least_one in
+    let link : 1 ≡ get_or (set one at 1) (place_of user) 0 = sym (get_or-set_at one at (place_of user) 1 0 (sym is_at) inside) in
+    record {
+      places = length-set one at 1 ∙ size_one;
+      room = length-replicate {A = ℕ} 255 0;
+      starts = λ p. omega (arith, least_two p);
+      within = λ p. omega (arith, least_two p);
+      goes_back = λ i. omega (arith, zeros 255 i);
+      to_user = subst (λ n. OnChain (replicate 255 0) n 0) link here;
+      to_group = λ k d low. absurd (omega (arith, low));
+    }
+
+module _ (user : SidValue) (groups : List (SidValue × GroupState)) where
+  -- with one more group, which counts
+  pub index_more : (heads nexts : List ℕ) (i at v : ℕ) (sid : SidValue) → i < 254 → at < 1024 → at ≡ place_of sid → v ≡ i + 2
+      → ((d : SidValue × GroupState) → (get_or groups i d).0 ≡ sid)
+      → IsIndex heads nexts user groups i → IsIndex (set heads at v) (set nexts (i + 1) (get_or heads at 0)) user groups (i + 1)
+  index_more heads nexts i at v sid low place is_at is_v is index =
+      let fits : at < length heads = omega (arith, index.places, place) in
+      let room : i + 1 < length nexts = omega (arith, index.room, low) in
+      let led = linked heads nexts at (i + 1) v fits room (let e : v ≡ suc (i + 1) = omega (arith, is_v) in e) index.goes_back index.starts in
+      record {
+        places = length-set heads at v ∙ index.places;
+        room = length-set nexts (i + 1) (get_or heads at 0) ∙ index.room;
+        starts = at_most heads at v (i + 1 + 1) fits (omega (arith, is_v)) (λ p. omega (arith, index.starts p));
+        within = at_most heads at v 255 fits (omega (arith, is_v, low)) index.within;
+        goes_back = λ j. elim (cases_eq j (i + 1)) as (λ _. get_or (set nexts (i + 1) (get_or heads at 0)) j 0 ≤ j) [
+          | inl e ↦ let now : get_or (set nexts (i + 1) (get_or heads at 0)) j 0 ≡ get_or heads at 0 = get_or-set_at nexts (i + 1) j (get_or heads at 0) 0 e room in
+              omega (arith, now, e, index.starts at)
+          | inr ne ↦ let now : get_or (set nexts (i + 1) (get_or heads at 0)) j 0 ≡ get_or nexts j 0 = get_or-set_other nexts (i + 1) j (get_or heads at 0) 0 ne in
+              omega (arith, now, index.goes_back j)
+        ];
+        to_user = led (place_of user) 0 index.to_user;
+        to_group = λ k d below few counted.
+            let P : ℕ → ℕ → Type 0 = λ link k. OnChain (set nexts (i + 1) (get_or heads at 0)) link (suc k) in
+            let q = place_of (get_or groups k d).0 in
+            elim (cases_eq k i) as (λ _. P (get_or (set heads at v) q 0) k) [
+              | inl e ↦
+                  let same : q ≡ at = ap (λ n. place_of (get_or groups n d).0) e ∙ ap place_of (is d) ∙ sym is_at in
+                  let link : suc (suc k) ≡ get_or (set heads at v) q 0 =
+                  sym (get_or-set_at heads at q v 0 same fits ∙ (let sum : v ≡ suc (suc k) = omega (arith, is_v, e) in sum)) in
+                  subst (λ n. P n k) link here
+              | inr ne ↦ led q (suc k) (index.to_group k d (omega (arith, below, ne)) few counted)
+            ];
+      }
+
+  -- with one more group, which counts for nothing
+  pub index_skips : (heads nexts : List ℕ) (i : ℕ) (group : SidValue × GroupState) → i < length groups → group ≡ get_or groups i group → counts Deny group.1 ≡ false
+      → IsIndex heads nexts user groups i → IsIndex heads nexts user groups (i + 1)
+  index_skips heads nexts i group inside is none index = record {
+    places = index.places;
+    room = index.room;
+    starts = λ p. omega (arith, index.starts p);
+    within = index.within;
+    goes_back = index.goes_back;
+    to_user = index.to_user;
+    to_group = λ k d below few counted. elim (cases_eq k i) as (λ _. OnChain nexts (get_or heads (place_of (get_or groups k d).0) 0) (suc k)) [
+      | inl e ↦ absurd (
+          let clash : true ≡ false =
+          sym counted ∙ ap (λ n. counts Deny (get_or groups n d).1) e ∙ ap (λ (g : SidValue × GroupState). counts Deny g.1) (get_or_default groups i d group inside ∙ sym is) ∙ none in
+          cc)
+      | inr ne ↦ index.to_group k d (omega (arith, below, ne)) few counted
+    ];
+  }
+
+  -- with one more group, beyond those that chains lead to
+  pub index_beyond : (heads nexts : List ℕ) (i : ℕ) → 254 ≤ i → IsIndex heads nexts user groups i → IsIndex heads nexts user groups (i + 1)
+  index_beyond heads nexts i many index = record {
+    places = index.places;
+    room = index.room;
+    starts = λ p. omega (arith, index.starts p);
+    within = index.within;
+    goes_back = index.goes_back;
+    to_user = index.to_user;
+    to_group = λ k d below few counted. index.to_group k d (omega (arith, few, many)) few counted;
+  }
+
+-- ---- the end of a walk
+
+-- where none of the first m passes the test, only the others can
+pub none_of_first : {A : Type 0} (p : A → Bool) (m : ℕ) (xs : List A) → ((k : ℕ) (d : A) → k < length xs → k < m → p (get_or xs k d) ≡ true → ⊥) → list_any p xs ≡ list_any p (drop m xs)
+none_of_first p zero xs h = refl
+none_of_first p (suc m) [] h = refl
+none_of_first p (suc m) (x ∷ xs) h =
+    let first : (b : Bool) → p x ≡ b → b ≡ false = λ b is. elim b as (λ v. p x ≡ v → v ≡ false) [ true ↦ λ yes. absurd (h 0 x (omega arith) (omega arith) yes) | false ↦ λ no. refl ] is in
+    ap (λ t. t || list_any p xs) (first (p x) refl) ∙ none_of_first p m xs (λ k d low few yes. h (suc k) d (omega (arith, low)) (omega (arith, few)) yes)
