@@ -1,4 +1,5 @@
-//! Worked examples of SIDs, lists, texts, bytes, checks and reasons: tests, and no library of their own.
+//! Tests of SIDs, lists, bytes and checks that the program can't run; those that it can are rows of
+//! `tests/descriptors`. There is no library.
 #![tactic(auto)]
 
 #[cfg(test)]

@@ -1,14 +1,9 @@
-//! What no clause says of the crates below the tree: that calls which take memory succeed where it is there, printed texts, and
-//! values of the standard and of other programs.
+//! Calls that the program doesn't make, and answers by the thousand beside rules that are written out again.
 //!
 //! What a test makes and compares comes from helpers that promise nothing: the proof of a test then carries no value along.
 
 mod bit_by_bit;
 mod canonical;
-mod checks;
-mod checks_of_bytes;
-mod lists;
-mod reasons;
 mod sids;
 mod texts;
 mod wire;

@@ -2,7 +2,7 @@
 
 use super::{holds, same, sid};
 use bitflags::Flags;
-use sd_acl::{Ace, AceFlags, AceKind, canonicalize, denies_stand_first, explicit_of, is_canonical};
+use sd_acl::{Ace, AceFlags, AceKind, denies_stand_first, is_canonical};
 use sd_sid::Mask;
 use std::process::Abort;
 
@@ -25,14 +25,6 @@ fn entry(rt: &(impl Abort + AllocGlobal), row: Row) -> Ace {
         mask: Mask(mask),
         sid: sid(rt, 1, &[0]),
     }
-}
-
-fn entries(rt: &(impl Abort + AllocGlobal), rows: &[Row]) -> Vec<Ace> {
-    let mut entries = Vec::new(rt.alloc());
-    for row in rows {
-        entries.push(entry(rt, *row)).expect(rt, "memory");
-    }
-    entries
 }
 
 /// The entries of these letters: `d` is a deny, `a` an allow, and a capital one is inherited.
@@ -82,47 +74,4 @@ fn tells_the_canonical_order(rt: HostRuntime) {
             *wanted,
         );
     }
-}
-
-fn shown(entries: &[Ace], place: usize) -> Option<Row> {
-    let entry = entries.get(place)?;
-    Some((entry.kind, entry.flags.bits(), entry.mask.bits()))
-}
-
-/// That the entries are these and no more.
-fn are(rt: &(impl Abort + AllocGlobal), entries: &[Ace], rows: &[Row]) {
-    for (place, wanted) in rows.iter().enumerate() {
-        same(rt, place, shown(entries, place), Some(*wanted));
-    }
-    same(rt, "their number", entries.len(), rows.len());
-}
-
-const MIXED: [Row; 4] = [
-    (AceKind::Allow, 0x47, 1),
-    (AceKind::Deny, 0x1B, 2),
-    (AceKind::Allow, 0x57, 4),
-    (AceKind::Deny, 0x0B, 8),
-];
-
-const ORDERED: [Row; 4] = [
-    (AceKind::Deny, 0x1B, 2),
-    (AceKind::Deny, 0x0B, 8),
-    (AceKind::Allow, 0x47, 1),
-    (AceKind::Allow, 0x57, 4),
-];
-
-const EXPLICIT: [Row; 4] = [
-    (AceKind::Allow, 0x47, 1),
-    (AceKind::Deny, 0x0B, 2),
-    (AceKind::Allow, 0x47, 4),
-    (AceKind::Deny, 0x0B, 8),
-];
-
-#[test]
-fn orders_and_clears(rt: HostRuntime) {
-    let mixed = entries(&rt, &MIXED);
-    let ordered = canonicalize(rt.alloc(), &mixed).expect(&rt, "memory");
-    are(&rt, &ordered, &ORDERED);
-    let explicit = explicit_of(rt.alloc(), &mixed).expect(&rt, "memory");
-    are(&rt, &explicit, &EXPLICIT);
 }

@@ -1,9 +1,5 @@
-//! Descriptors as bytes, and bytes that hold none.
+//! A descriptor's bytes with each other value of each byte.
 
-use super::{holds, same, sid};
-use bitflags::Flags;
-use sd_acl::{Ace, AceFlags, AceKind, Dacl, Descriptor};
-use sd_sid::Mask;
 use sd_wire::*;
 use std::process::Abort;
 
@@ -17,16 +13,6 @@ const WORKED: [u8; 76] = [
     0x00, 0x00, 0x14, 0x00, 0xff, 0x01, 0x1f, 0x00, 0x01, 0x01, 0x00, 0x00, 0x00, 0x00, 0x00, 0x01,
     0x00, 0x00, 0x00, 0x00,
 ];
-
-/// The worked descriptor's entry: everyone is allowed all of a file's rights.
-fn everyone_all(rt: &(impl Abort + AllocGlobal)) -> Ace {
-    Ace {
-        kind: AceKind::Allow,
-        flags: AceFlags::empty(),
-        mask: Mask(0x001F_01FF),
-        sid: sid(rt, 1, &[0]),
-    }
-}
 
 /// What the worked descriptor is with another byte at a place.
 #[derive(Clone, Copy, Debug)]
@@ -76,47 +62,6 @@ fn changed(place: usize, value: u8) -> [u8; 76] {
     bytes
 }
 
-fn read(rt: &(impl Abort + AllocGlobal), bytes: &[u8]) -> Descriptor {
-    read_descriptor(rt.alloc(), bytes).expect(rt, "a descriptor")
-}
-
-/// Why bytes aren't read.
-fn fault(rt: &(impl Abort + AllocGlobal), bytes: &[u8]) -> Option<WireError> {
-    read_descriptor(rt.alloc(), bytes).err()
-}
-
-fn entries(descriptor: &Descriptor) -> Option<&[Ace]> {
-    match &descriptor.dacl {
-        Dacl::List(list) => Some(list.entries()),
-        Dacl::Absent | Dacl::Null => None,
-    }
-}
-
-/// That a descriptor is written as these bytes.
-fn is_written(rt: &(impl Abort + AllocGlobal), descriptor: &Descriptor, bytes: &[u8]) {
-    let written = write_descriptor(rt.alloc(), descriptor).expect(rt, "memory");
-    holds(rt, "it is written so", written.as_slice() == bytes);
-}
-
-#[test]
-fn the_worked_descriptor_and_back(rt: HostRuntime) {
-    let descriptor = read(&rt, &WORKED);
-    same(
-        &rt,
-        "owner",
-        descriptor.owner,
-        Some(sid(&rt, 5, &[32, 544])),
-    );
-    same(&rt, "group", descriptor.group, Some(sid(&rt, 5, &[18])));
-    holds(&rt, "not protected", !descriptor.protected);
-    holds(&rt, "no auto_req", !descriptor.auto_req);
-    holds(&rt, "not auto_inherited", !descriptor.auto_inherited);
-    let wanted = [everyone_all(&rt)];
-    same(&rt, "list", entries(&descriptor), Some(wanted.as_slice()));
-    is_written(&rt, &descriptor, &WORKED);
-    same(&rt, "length", wire_len(&descriptor), 76);
-}
-
 /// That the worked descriptor with another byte at a place has its answer.
 fn has_its_answer(rt: &(impl Abort + AllocGlobal), place: usize, value: u8) {
     let answer = read_descriptor(rt.alloc(), &changed(place, value));
@@ -141,62 +86,4 @@ fn every_byte_of_any_value_has_its_answer(rt: HostRuntime) {
             has_its_answer(&rt, place, value);
         }
     }
-}
-
-#[test]
-fn a_part_at_an_odd_offset_is_read_there(rt: HostRuntime) {
-    let odd = [
-        0x01, 0x00, 0x00, 0x80, 0x15, 0, 0, 0, 0, 0, 0, 0, 0, 0, 0, 0, 0, 0, 0, 0, 0xff, 0x01,
-        0x01, 0, 0, 0, 0, 0, 0x05, 0x12, 0, 0, 0,
-    ];
-    let system = Some(sid(&rt, 5, &[18]));
-    same(&rt, "owner", read(&rt, &odd).owner, system);
-}
-
-/// A list alone, whose size is 65,528 and whose count is 3,276, and so many entries of 20 bytes.
-fn full_list(rt: &(impl Abort + AllocGlobal), number: u32) -> Vec<u8> {
-    let header = [
-        1, 0, 4, 0x80, 0, 0, 0, 0, 0, 0, 0, 0, 0, 0, 0, 0, 0x14, 0, 0, 0, 2, 0, 0xf8, 0xff, 0xcc,
-        0x0c, 0, 0,
-    ];
-    let mut bytes = Vec::from_slice(rt.alloc(), &header).expect(rt, "memory");
-    for _ in 0..number {
-        bytes.extend_from_slice(&WORKED[56..]).expect(rt, "memory");
-    }
-    bytes
-}
-
-/// Of entries of 20 bytes 3,276 fit a list, and come back.
-#[test]
-fn the_largest_list_comes_back(rt: HostRuntime) {
-    let bytes = full_list(&rt, 3276);
-    is_written(&rt, &read(&rt, &bytes), &bytes);
-}
-
-/// One more, and a size that wraps to 12: the list ends there.
-#[test]
-fn a_list_ends_at_its_size(rt: HostRuntime) {
-    let mut bytes = full_list(&rt, 3277);
-    assert!(rt; bytes.len() > 28);
-    bytes[22..25].copy_from_slice(&[12, 0, 0xcd]);
-    let wanted = Some(WireError::Fault(WireFault::EntrySize));
-    same(&rt, "a size of 12", fault(&rt, &bytes), wanted);
-}
-
-#[test]
-fn a_count_without_room_is_a_fault(rt: HostRuntime) {
-    // AclSize 8 and AceCount 65,535.
-    let mut bytes = WORKED;
-    bytes[50..54].copy_from_slice(&[8, 0, 0xff, 0xff]);
-    let wanted = Some(WireError::Fault(WireFault::EntrySize));
-    same(&rt, "no room", fault(&rt, &bytes), wanted);
-}
-
-#[test]
-fn faults_are_shown_by_their_names(rt: HostRuntime) {
-    same(&rt, "number", WireFault::BadSid.number(), 6);
-    same(&rt, "name", WireFault::BadSid.name(), "BadSid");
-    let error = WireError::Fault(WireFault::BadSid);
-    let shown = error.to_string(rt.alloc()).expect(&rt, "memory");
-    same(&rt, "shown", shown.as_str(), "BadSid");
 }
