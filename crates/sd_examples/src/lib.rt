@@ -1,4 +1,5 @@
-//! Worked examples of trees, told in SDDL: tests that stand on the tree and on the texts, and no library of their own.
+//! Tests of trees, written in SDDL, that the program can't run; those that it can are rows of `tests/trees`. There is
+//! no library.
 #![tactic(auto)]
 
 #[cfg(test)]

@@ -1,21 +1,13 @@
-//! A tree that is edited and asked row by row.
+//! A tree that is edited and asked row by row, where no command of the program does the same.
 //!
 //! What a test makes and compares comes from helpers that promise nothing: the proof of a test then carries no value along.
 
 mod copying;
-mod desks;
 mod full;
-mod handing_on;
-mod inheriting;
-mod keeping;
-mod limits;
 mod may_read;
-mod moving;
 mod numbers;
 mod paths;
-mod refusing;
 mod renewing;
-mod stepping;
 
 use sd_acl::{Dacl, Descriptor, Verdict};
 use sd_check::{GroupState, Privileges, Token};
@@ -37,8 +29,6 @@ enum Act {
     Keep,
     Move,
     Show,
-    Given,
-    Count,
     Check,
 }
 
@@ -55,13 +45,7 @@ fn holds(rt: &impl Abort, said: &str, so: bool) {
     assert!(rt; so, "{said}");
 }
 
-/// That each row is answered as it says, in a tree whose root has the DACL of a text.
-fn answers(rt: &(impl Abort + AllocGlobal), root: &str, rows: &[Row]) {
-    let mut tree = opened(rt, root);
-    answers_in(rt, &mut tree, rows);
-}
-
-/// The same in a tree that is there.
+/// That each row is answered as it says, in a tree.
 fn answers_in(rt: &(impl Abort + AllocGlobal), tree: &mut Tree, rows: &[Row]) {
     for (act, path, text, wanted) in rows {
         tells(rt, tree, *act, path, text, wanted);
@@ -114,8 +98,6 @@ fn answer(
 ) -> String {
     match act {
         Act::Show => shown(rt, tree, path),
-        Act::Given => given_to(rt, tree, path),
-        Act::Count => counted(rt, tree, path),
         Act::Check => copied(rt, checked(rt, tree, path, text)),
         edited => done(rt, tree, edited, path, text),
     }
@@ -243,34 +225,6 @@ fn shown(rt: &(impl Abort + AllocGlobal), tree: &Tree, path: &str) -> String {
     }
 }
 
-/// The kind of the node, and the text of what was given to it, or `nonode`.
-fn given_to(rt: &(impl Abort + AllocGlobal), tree: &Tree, path: &str) -> String {
-    match tree.given(&path_of(rt, path)).expect(rt, "memory") {
-        None => copied(rt, "nonode"),
-        Some((kind, descriptor)) => {
-            let text = printed(rt, &descriptor);
-            format!(in rt.alloc(); "{kind:?} {text}").expect(rt, "memory")
-        }
-    }
-}
-
-/// The number of entries in the DACL of the node, or `nonode`.
-fn counted(rt: &(impl Abort + AllocGlobal), tree: &Tree, path: &str) -> String {
-    match descriptor_at(rt, tree, path) {
-        None => copied(rt, "nonode"),
-        Some(descriptor) => number_of(rt, &descriptor.dacl),
-    }
-}
-
-fn number_of(rt: &(impl Abort + AllocGlobal), dacl: &Dacl) -> String {
-    match dacl {
-        Dacl::List(list) => {
-            format!(in rt.alloc(); "{}", list.entries().len()).expect(rt, "memory")
-        }
-        Dacl::Absent | Dacl::Null => copied(rt, "no list"),
-    }
-}
-
 /// The user S-1-5-21-1-2-3-1001 in BUILTIN\Users.
 fn token(rt: &(impl Abort + AllocGlobal)) -> Token {
     let groups = [(sid_of(rt, "BU"), GroupState::Enabled)];
@@ -299,10 +253,6 @@ fn checked(rt: &(impl Abort + AllocGlobal), tree: &Tree, path: &str, text: &str)
 /// That so many edits are in a tree's journal.
 fn has_edits(rt: &impl Abort, tree: &Tree, wanted: u64) {
     same(rt, "the journal's length", tree.len(), wanted);
-}
-
-fn copy_of(rt: &impl Abort, tree: &Tree) -> Tree {
-    tree.copy().expect(rt, "memory")
 }
 
 /// A text, and so many times another behind it.

@@ -1,7 +1,7 @@
 //! Copies of what a tree is made of.
 
 use super::*;
-use sd_tree::{NodeKind, Opening};
+use sd_tree::Opening;
 
 const ACTS: [Act; 8] = [
     Act::Container,
@@ -79,21 +79,4 @@ fn entries_are_given_back(rt: HostRuntime) {
     holds(&rt, "FX", shown.as_str().contains("Mask(1179808)"));
     let given = debug(&rt, &entries.into_vec());
     same(&rt, "given back", given.as_str(), shown.as_str());
-}
-
-/// That such a node stands there.
-fn is_there(rt: &impl Abort, tree: &Tree, path: &Path, kind: NodeKind) {
-    same(rt, "its kind", tree.lookup(path), Some(kind));
-}
-
-fn copied_path(rt: &(impl Abort + AllocGlobal), text: &str) -> Path {
-    path_of(rt, text).copy(rt.alloc()).expect(rt, "memory")
-}
-
-#[test]
-fn kinds_are_looked_up(rt: HostRuntime) {
-    let mut tree = opened(&rt, "D:");
-    tells(&rt, &mut tree, Act::Object, "/o", "D:", "ok");
-    is_there(&rt, &tree, &path_of(&rt, "/o"), NodeKind::Object);
-    is_there(&rt, &tree, &copied_path(&rt, "/"), NodeKind::Container);
 }

@@ -8,19 +8,7 @@ fn fault(rt: &impl AllocGlobal, text: &str) -> Option<PathError> {
     Path::read(rt.alloc(), text).err()
 }
 
-const NO_PATHS: [&str; 9] = ["", "a", "a/b", "//", "/a/", "/a//b", "//a", "/\0", "/a\0b"];
-
 const PATHS: [&str; 7] = ["/", "/a", "/a/b", "/.", "/..", "/a/../b", "/grüße/日本"];
-
-#[test]
-fn a_path_begins_with_a_slash_and_has_no_empty_name(rt: HostRuntime) {
-    for text in &NO_PATHS {
-        same(&rt, *text, fault(&rt, text), Some(PathError::Syntax));
-    }
-    for text in &PATHS {
-        same(&rt, *text, fault(&rt, text), None);
-    }
-}
 
 /// Texts made of a beginning, a piece that is repeated, and an end; and why they aren't read.
 const EDGES: [(&str, &str, u64, &str, Option<PathError>); 6] = [
