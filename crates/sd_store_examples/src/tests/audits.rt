@@ -4,7 +4,6 @@ ghost use Rattle.std.specs.Prelude.{◌≡◌};
 ghost use Rattle.sd_tree.specs.Journal.{opening_of};
 
 mod between;
-mod dealt;
 mod gates;
 mod refused;
 
