@@ -6,7 +6,6 @@
 
 mod desks;
 mod trees;
-mod values;
 
 use std::alloc::{AllocError, AllocGlobal, Global};
 use std::process::Abort;
