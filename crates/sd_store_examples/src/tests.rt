@@ -5,7 +5,6 @@
 mod audits;
 mod beside;
 mod client;
-mod limits;
 mod memory;
 mod onwards;
 mod opening;
