@@ -8,6 +8,7 @@ mod may_read;
 mod numbers;
 mod paths;
 mod renewing;
+mod stepping;
 
 use sd_acl::{Dacl, Descriptor, Verdict};
 use sd_check::{GroupState, Privileges, Token};
@@ -253,6 +254,10 @@ fn checked(rt: &(impl Abort + AllocGlobal), tree: &Tree, path: &str, text: &str)
 /// That so many edits are in a tree's journal.
 fn has_edits(rt: &impl Abort, tree: &Tree, wanted: u64) {
     same(rt, "the journal's length", tree.len(), wanted);
+}
+
+fn copy_of(rt: &impl Abort, tree: &Tree) -> Tree {
+    tree.copy().expect(rt, "memory")
 }
 
 /// A text, and so many times another behind it.
