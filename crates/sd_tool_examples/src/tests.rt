@@ -1,7 +1,6 @@
 //! The command line over streams in memory: what it prints, where, and with which status.
 
 mod each_call;
-mod scripts;
 mod streams;
 mod usage;
 
@@ -13,7 +12,6 @@ use std::io;
 use std::io::{Read, Write};
 use std::process::Abort;
 use std::sync::Wait;
-use std::test::Fail;
 use std::thread::Threads;
 
 const USER: &str = "S-1-5-21-1-2-3-1001";
