@@ -1,6 +1,6 @@
 //! Inputs of every kind of line, that come in pieces of every length and break off at every byte.
 use sd_each::*;
-use sd_stream::{MAX_INPUT_BYTES, RunError, Watched};
+use sd_stream::{RunError, Watched};
 use std::alloc::{AllocError, Global};
 use std::io;
 use std::io::{ErrorKind, Read, Write};
@@ -152,74 +152,6 @@ fn answers_what_had_ended_before_the_reader_failed(rt: HostRuntime) {
         let row = ENDS.iter().find(|(end, _)| *end <= until_failure);
         let wanted = row.map_or(&b""[..], |(_, wanted)| *wanted);
         assert_eq!(rt; ended.writer.as_slice(), wanted, "at {until_failure}");
-    }
-}
-
-/// A reader of so many letters, and behind them of other lines.
-#[derive(Drop)]
-struct Letters {
-    before: &'static [u8],
-    left: usize,
-    behind: &'static [u8],
-}
-
-impl Read for Letters {
-    fn read(&mut self, buf: &mut [u8]) -> io::Result<usize> {
-        let count = self.before.len().min(buf.len());
-        if count > 0 {
-            buf[..count].copy_from_slice(&self.before[..count]);
-            self.before = &self.before[count..];
-            return Ok(count);
-        }
-        let count = buf.len().min(self.left);
-        buf[..count].fill(b'a');
-        self.left -= count;
-        if count > 0 {
-            return Ok(count);
-        }
-        let count = self.behind.len().min(buf.len());
-        buf[..count].copy_from_slice(&self.behind[..count]);
-        self.behind = &self.behind[count..];
-        Ok(count)
-    }
-}
-
-/// Answers a line by a letter: whether it is too long.
-#[derive(Debug)]
-struct Lengths;
-
-impl Answers for Lengths {
-    ghost answers = { λ _ line printed is_refused. Unit {0} };
-
-    fn answer(
-        &self,
-        _: Global,
-        line: Option<&[u8]>,
-        text: &mut Vec<u8>,
-    ) -> Result<bool, AllocError> {
-        text.push(if line.is_none() { b'L' } else { b'.' })?;
-        Ok(line.is_none())
-    }
-}
-
-#[test]
-fn tells_a_line_that_is_too_long(rt: HostRuntime) {
-    // A mark and a carriage return don't count.
-    let rows: [(&[u8], usize, &[u8], &[u8]); 3] = [
-        (b"x\n", MAX_INPUT_BYTES + 1, b"\nb\nc", b".L.."),
-        (b"\xef\xbb\xbf", MAX_INPUT_BYTES, b"\r\nb", b".."),
-        (b"\xef\xbb\xbf", MAX_INPUT_BYTES + 1, b"", b"L"),
-    ];
-    for (before, left, behind, wanted) in rows {
-        let reader = Letters {
-            before,
-            left,
-            behind,
-        };
-        let alloc = rt.alloc();
-        let ended = asked(alloc, &Lengths, Ending::Feed, reader, Vec::new(alloc));
-        assert_eq!(rt; ended.answer, Ok(wanted.contains(&b'L')), "{left}");
-        assert_eq!(rt; ended.writer.as_slice(), wanted, "{left}");
     }
 }
 

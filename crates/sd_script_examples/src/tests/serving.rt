@@ -1,7 +1,7 @@
-//! Scripts that come in pieces of every length, that break off at every byte, and lines as long as one may be.
+//! Scripts that come in pieces of every length, and that break off at every byte.
 use super::plain;
 use sd_script_serve::serve;
-use sd_stream::{MAX_INPUT_BYTES, RunError, Watched};
+use sd_stream::{RunError, Watched};
 use std::alloc::{AllocError, Global};
 use std::io;
 use std::io::{ErrorKind, Read, Write};
@@ -134,46 +134,6 @@ fn answers_what_had_ended_before_the_reader_failed(rt: HostRuntime) {
         );
         let wanted = answers(rt.alloc(), fails_at).expect(&rt, "memory is there");
         assert!(rt; ended.writer == wanted, "at {fails_at}");
-    }
-}
-
-/// A reader of a line of a script, and behind it of so many letters without an end.
-#[derive(Drop)]
-struct Letters {
-    line: &'static [u8],
-    left: usize,
-}
-
-impl Read for Letters {
-    fn read(&mut self, buf: &mut [u8]) -> io::Result<usize> {
-        let first = self.line.len().min(buf.len());
-        buf[..first].copy_from_slice(&self.line[..first]);
-        self.line = &self.line[first..];
-        let count = (buf.len() - first).min(self.left);
-        buf[first..first + count].fill(b'a');
-        self.left -= count;
-        Ok(first + count)
-    }
-}
-
-#[test]
-fn answers_the_longest_line_and_no_longer(rt: HostRuntime) {
-    let rows: [(usize, &[u8], Option<RunError>); 2] = [
-        (MAX_INPUT_BYTES, b"fault open\nfault words\n", None),
-        (
-            MAX_INPUT_BYTES + 1,
-            b"fault open\n",
-            Some(RunError::TooLong),
-        ),
-    ];
-    for (left, wanted, error) in rows {
-        let reader = Letters {
-            line: b"publish\n",
-            left,
-        };
-        let ended = served(rt.alloc(), reader, Vec::new(rt.alloc()));
-        assert_eq!(rt; ended.error, error, "{left}");
-        assert_eq!(rt; ended.writer.as_slice(), wanted, "{left}");
     }
 }
 

@@ -1,5 +1,4 @@
-//! Streams that give and take one byte at a call, that fail at each of their calls in turn, and an
-//! input as long as one may be.
+//! Streams that give and take one byte at a call, and that fail at each of their calls in turn.
 use sd_stream::*;
 use std::alloc::{AllocError, Global};
 use std::io;
@@ -85,23 +84,6 @@ impl Write for SlowWriter {
     }
 }
 
-/// A reader of so many line ends, as many at a call as there is room for.
-#[derive(Drop)]
-struct LineEnds {
-    left: usize,
-}
-
-impl Read for LineEnds {
-    fn read(&mut self, buf: &mut [u8]) -> io::Result<usize> {
-        let count = buf.len().min(self.left);
-        for place in 0..count {
-            buf[place] = b'\n';
-        }
-        self.left -= count;
-        Ok(count)
-    }
-}
-
 /// What a whole input was read as, whether its reader failed, and that reader.
 #[derive(Drop)]
 struct Input<R: Drop> {
@@ -152,25 +134,6 @@ fn ends_at_the_read_that_fails(rt: HostRuntime) {
             assert_eq!(rt; input.reader.calls, fails_at + 1);
         }
     }
-}
-
-#[test]
-fn reads_no_more_than_the_longest_input(rt: HostRuntime) {
-    let longest = LineEnds {
-        left: MAX_INPUT_BYTES,
-    };
-    let longest = all_read(rt.alloc(), longest);
-    assert!(rt; !longest.is_failed);
-    let text = longest.answer.expect(&rt, "memory is there");
-    assert_eq!(rt; text.len(), 16_777_216);
-    assert!(rt; text.iter().all(|byte| *byte == b'\n'));
-
-    let longer = LineEnds {
-        left: MAX_INPUT_BYTES + 1,
-    };
-    let longer = all_read(rt.alloc(), longer);
-    assert!(rt; matches!(longer.answer, Err(RunError::TooLong)));
-    assert!(rt; !longer.is_failed);
 }
 
 /// How a whole output was written, whether its writer failed, and that writer.

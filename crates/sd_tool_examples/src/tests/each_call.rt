@@ -1,5 +1,5 @@
-//! Streams that give and take one byte at a call, and fail at each of their calls in turn; and an input as long as one
-//! may be. So it is of a script and of an audit, and of the commands for them.
+//! Streams that give and take one byte at a call, and fail at each of their calls in turn. So it is of a script and of an
+//! audit, and of the commands for them.
 
 use super::*;
 use std::io::ErrorKind;
@@ -277,27 +277,4 @@ fn a_write_that_fails_ends_the_run(rt: HostRuntime) {
             }
         }
     }
-}
-
-/// So many line ends are read, and no more.
-fn expect_longest(rt: &(impl Abort + AllocGlobal + Threads + Wait + Sync), way: Way) {
-    for (length, wanted) in [(16_777_216, "well"), (16_777_217, "TooLong")] {
-        let mut reader = Watched::new(io::repeat(b'\n').take(length));
-        let mut writer = Watched::new(Vec::new(rt.alloc()));
-        let name = way.ended(rt, &mut reader, &mut writer);
-        assert_eq!(rt; name, wanted, "{way:?}");
-        assert!(rt; writer.into_inner().is_empty(), "{way:?}");
-    }
-}
-
-#[test]
-fn a_script_may_be_so_long(rt: HostRuntime) {
-    expect_longest(&rt, Way::Script);
-    expect_longest(&rt, Way::ScriptCommand);
-}
-
-#[test]
-fn an_audit_may_be_so_long(rt: HostRuntime) {
-    expect_longest(&rt, Way::Audit);
-    expect_longest(&rt, Way::AuditCommand);
 }
