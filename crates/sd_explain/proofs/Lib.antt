@@ -1,4 +1,7 @@
 pub mod Findings
+pub mod Noted
+pub mod AllFound
+pub mod Asked
 pub mod Bits
 pub mod Causes
 pub mod Told

@@ -1,4 +1,5 @@
 pub mod Reasons
+pub mod Findings
 pub mod Parts
 pub mod Laws
 pub mod Dead

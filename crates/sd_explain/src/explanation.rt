@@ -9,7 +9,7 @@ ghost use Rattle.sd_explain.specs.Parts.{reason_in, is_of_share, bits_of, told_v
 use crate::question::Question;
 use crate::reason::{Cause, Reason, Share};
 use sd_acl::{Dacl, Descriptor, Verdict};
-use sd_check::{DaclRef, Token};
+use sd_check::{DaclRef, Pass, Token};
 use sd_sid::{GenericMapping, Mask, Sid};
 
 /// The places of a mask: 0 to 31.
@@ -50,9 +50,14 @@ pub fn explain(
         mapping,
         token,
     };
+    let rights = question.rights(asked);
+    let given = question.given();
+    let first = question.findings(Pass::First, rights);
+    let second = question.findings_again(rights);
     let mut reasons = [None; 32];
     for place in 0..PLACES {
-        reasons[place as usize] = question.reason(asked, place);
+        let listed = question.listed_cause(first[place as usize], second[place as usize]);
+        reasons[place as usize] = question.reason(asked, place, given, listed);
     }
     Explanation { reasons }
 }

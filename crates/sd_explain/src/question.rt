@@ -1,17 +1,23 @@
 //! Who asks, of what, and why each bit is granted or denied to them.
 
-ghost use Rattle.std.specs.Prelude.{◌≡◌, ◌<◌, true, if◌then◌else◌};
+ghost use Rattle.std.specs.Prelude.{◌≡◌, ◌<◌, ℕ, true, length, slice_index_or, None, if◌then◌else◌};
 ghost use Rattle.sd_acl.specs.Ace.{is_allow};
+ghost use Rattle.sd_acl.specs.Verdict.{without_maximum};
+ghost use Rattle.sd_sid.specs.Mapping.{mapped};
 ghost use Rattle.sd_sid.specs.Mask.{holds};
-ghost use Rattle.sd_acl.specs.Verdict.{decides};
 ghost use Rattle.sd_check.specs.Dacl.{entries_of};
 ghost use Rattle.sd_check.specs.Grounds.{applies_in, implied_of};
-ghost use Rattle.sd_explain.specs.Reasons.{finding_of, listed_cause as listed_cause_of, given_or as given_or_of, granting_or as granting_or_of, high_cause as high_cause_of, named_cause as named_cause_of, maximum_cause as maximum_cause_of, reason_at};
+ghost use Rattle.sd_check.specs.Steps.{rights_in, walked_bits};
+ghost use Rattle.sd_check.specs.Token.{applies_again, is_restricted};
+ghost use Rattle.sd_check.specs.Walk.{mask_that_applies};
+ghost use Rattle.sd_explain.specs.Reasons.{finding_of, given_or as given_or_of, granting_or as granting_or_of, high_cause as high_cause_of, named_cause as named_cause_of, maximum_cause as maximum_cause_of, reason_at};
+ghost use Rattle.sd_explain.specs.Findings.{IsFoundIn, IsListed};
 
+use crate::explanation::PLACES;
 use crate::reason::{Cause, Finding, Reason};
 use sd_acl::{Ace, AceKind};
 use sd_check::{DaclRef, Implied, Pass, Token, implied_to, takes_part};
-use sd_sid::{GenericMapping, Mask, Sid};
+use sd_sid::{GenericMapping, Mask, OBJECT_RIGHTS, Sid};
 
 /// The bits of a request that no check answers.
 const RESERVED: Mask = Mask(0x0CE0_0000);
@@ -79,105 +85,188 @@ fn high_cause(given: Implied, place: u32) -> Cause
     }
 }
 
-impl Question<'_> {
-    /// Whether the entry settles the bit in the pass, where no earlier one does.
-    fn settles(&self, pass: Pass, entry: &Ace, place: u32) -> bool
-        requires { place < 32 }
-        ensures { result ≡ decides self.now.mapping.now (applies_in pass self.now.token.now self.now.owner.now) place entry.now }
-    {
-        takes_part(self.token, self.owner, pass, entry) && self.mapping.map(entry.mask).holds(place)
-    }
-
-    /// What the pass over the entries finds for the bit.
-    fn finding(&self, entries: &[Ace], pass: Pass, place: u32) -> Finding
-        requires { place < 32 }
-        ensures { result ≡ finding_of self.now.mapping.now (applies_in pass self.now.token.now self.now.owner.now) entries.now place }
-    {
-        for (index, entry) in entries.iter().enumerate() {
-            if self.settles(pass, entry, place) {
-                return found(entry.kind, index);
-            }
+/// Writes the finding at the places that were decided.
+fn note(findings: &mut [Finding; 32], decided: Mask, finding: Finding)
+    requires { length findings.old ≡ 32 }
+    ensures size { length findings.new ≡ 32 }
+    ensures at { (b : ℕ) → b < 32
+        → slice_index_or findings.new b Finding.NoEntry
+        ≡ (if holds decided b then finding else slice_index_or findings.old b Finding.NoEntry) }
+{
+    for place in 0..PLACES {
+        if decided.holds(place) {
+            findings[place as usize] = finding;
         }
-        Finding::NoEntry
+    }
+}
+
+impl Question<'_> {
+    /// What the entry settles in the pass, where no earlier one does: its mapped mask, or nothing.
+    fn part(&self, pass: Pass, entry: &Ace) -> Mask
+        ensures { result ≡ mask_that_applies self.now.mapping.now (applies_in pass self.now.token.now self.now.owner.now) entry.now }
+    {
+        if !takes_part(self.token, self.owner, pass, entry) {
+            return Mask(0);
+        }
+        self.mapping.map(entry.mask)
     }
 
-    /// What the list says of the bit, in each pass.
-    fn listed_cause(&self, entries: &[Ace], place: u32) -> Cause
-        requires { place < 32 }
-        ensures { result ≡ listed_cause_of self.now.owner.now entries.now self.now.mapping.now self.now.token.now place }
+    /// What the pass over the entries finds for each of the bits, in one walk.
+    fn findings_in(&self, entries: &[Ace], pass: Pass, bits: Mask) -> [Finding; 32]
+        ensures size { length result ≡ 32 }
+        ensures found { (b : ℕ) → b < 32 → holds bits b ≡ true
+            → slice_index_or result b Finding.NoEntry
+            ≡ finding_of self.now.mapping.now (applies_in pass self.now.token.now self.now.owner.now) entries.now b }
     {
-        let first = self.finding(entries, Pass::First, place);
+        let mut findings = [Finding::NoEntry; 32];
+        let mut undecided = bits;
+        for (index, entry) in entries.iter().enumerate() {
+            if undecided.is_empty() {
+                return findings;
+            }
+            let decided = self.part(pass, entry).common(undecided);
+            if decided.is_empty() {
+                continue;
+            }
+            note(&mut findings, decided, found(entry.kind, index));
+            undecided = undecided.minus(decided);
+        }
+        findings
+    }
+
+    /// The same for the list, where there is one.
+    pub(crate) fn findings(&self, pass: Pass, bits: Mask) -> [Finding; 32]
+        ensures size { length result ≡ 32 }
+        ensures found { let applies = applies_in pass self.now.token.now self.now.owner.now in
+            IsFoundIn self.now.mapping.now applies (entries_of self.now.dacl) bits result }
+    {
+        match self.dacl {
+            DaclRef::Absent => [Finding::NoEntry; 32],
+            DaclRef::Null => [Finding::NoEntry; 32],
+            DaclRef::List(entries) => self.findings_in(entries, pass, bits),
+        }
+    }
+
+    /// What the second pass finds; nothing for a token that isn't restricted.
+    pub(crate) fn findings_again(&self, bits: Mask) -> [Finding; 32]
+        ensures size { length result ≡ 32 }
+        ensures found { let applies = applies_again self.now.token.now self.now.owner.now in
+            is_restricted self.now.token.now ≡ true
+            → IsFoundIn self.now.mapping.now applies (entries_of self.now.dacl) bits result }
+    {
         if self.token.is_restricted() {
-            Cause::Restricted(first, self.finding(entries, Pass::Second, place))
+            self.findings(Pass::Second, bits)
+        } else {
+            [Finding::NoEntry; 32]
+        }
+    }
+
+    /// The cause of a bit for which the passes find this.
+    pub(crate) fn listed_cause(&self, first: Finding, second: Finding) -> Cause
+        ensures { result ≡ (if is_restricted self.now.token.now then Cause.Restricted first second else Cause.Listed first) }
+    {
+        if self.token.is_restricted() {
+            Cause::Restricted(first, second)
         } else {
             Cause::Listed(first)
         }
     }
 
     /// What is granted without an entry.
-    fn given(&self) -> Implied
+    pub(crate) fn given(&self) -> Implied
         ensures { result ≡ implied_of self.now.owner.now (entries_of self.now.dacl) self.now.token.now }
     {
         implied_to(self.owner, self.dacl, self.token)
     }
 
+    /// The request without MAXIMUM_ALLOWED, with its generic rights mapped.
+    fn wanted(&self, asked: Mask) -> Mask
+        ensures { result ≡ mapped self.now.mapping.now (without_maximum asked) }
+    {
+        self.mapping.map(asked.minus(MAXIMUM_ALLOWED))
+    }
+
+    /// The bits that the list is asked for.
+    pub(crate) fn rights(&self, asked: Mask) -> Mask
+        ensures { result ≡ rights_in (walked_bits self.now.mapping.now asked) }
+    {
+        let wanted = self.wanted(asked);
+        if asked.holds(MAXIMUM_PLACE) {
+            wanted.union(OBJECT_RIGHTS).common(OBJECT_RIGHTS)
+        } else {
+            wanted.common(OBJECT_RIGHTS)
+        }
+    }
+
     /// Why a bit that the request names is granted or denied.
-    fn named_cause(&self, place: u32) -> Cause
-        requires { place < 32 }
+    fn named_cause(&self, place: u32, given: Implied, listed: Cause) -> Cause
+        requires given { given ≡ implied_of self.now.owner.now (entries_of self.now.dacl) self.now.token.now }
+        requires listed { place < 21
+            → IsListed self.now.owner.now (entries_of self.now.dacl) self.now.mapping.now self.now.token.now place listed }
         ensures { result ≡ named_cause_of self.now.owner.now (entries_of self.now.dacl) self.now.mapping.now self.now.token.now place }
     {
         if place >= RIGHTS_END {
-            return high_cause(self.given(), place);
+            return high_cause(given, place);
         }
         match self.dacl {
             DaclRef::Absent => Cause::NoList,
             DaclRef::Null => Cause::NoList,
-            DaclRef::List(entries) => {
-                granting_or(self.given(), place, self.listed_cause(entries, place))
-            }
+            DaclRef::List(_) => granting_or(given, place, listed),
         }
     }
 
     /// Why MAXIMUM_ALLOWED takes the bit in, or leaves it out.
-    fn maximum_cause(&self, place: u32) -> Cause
-        requires { place < 32 }
+    fn maximum_cause(&self, place: u32, given: Implied, listed: Cause) -> Cause
+        requires place { place < 32 }
+        requires given { given ≡ implied_of self.now.owner.now (entries_of self.now.dacl) self.now.token.now }
+        requires listed { place < 21
+            → IsListed self.now.owner.now (entries_of self.now.dacl) self.now.mapping.now self.now.token.now place listed }
         ensures { result ≡ maximum_cause_of self.now.owner.now (entries_of self.now.dacl) self.now.mapping.now self.now.token.now place }
     {
         match self.dacl {
-            DaclRef::Absent => self.maximum_cause_without_a_list(place),
-            DaclRef::Null => self.maximum_cause_without_a_list(place),
-            DaclRef::List(_) => self.named_cause(place),
+            DaclRef::Absent => self.maximum_cause_without_a_list(place, given),
+            DaclRef::Null => self.maximum_cause_without_a_list(place, given),
+            DaclRef::List(_) => self.named_cause(place, given, listed),
         }
     }
 
     /// The same where there is no list: what GENERIC_ALL stands for, and what is granted without an entry.
-    fn maximum_cause_without_a_list(&self, place: u32) -> Cause
-        requires { place < 32 }
+    fn maximum_cause_without_a_list(&self, place: u32, given: Implied) -> Cause
+        requires place { place < 32 }
+        requires given { given ≡ implied_of self.now.owner.now None self.now.token.now }
         ensures { result ≡ maximum_cause_of self.now.owner.now None self.now.mapping.now self.now.token.now place }
     {
         if self.mapping.all().holds(place) {
             return Cause::NoList;
         }
-        let given = implied_to(self.owner, DaclRef::Absent, self.token);
         given_or(given, place, Cause::BeyondAll)
     }
 
-    /// The reason of the bit in the answer to the request, where it has a part in it.
-    pub(crate) fn reason(&self, asked: Mask, place: u32) -> Option<Reason>
-        requires { place < 32 }
+    /// The reason of the bit in the answer to the request, where it has a part in it; `listed` is what the list says of it,
+    /// where the list is asked for it.
+    pub(crate) fn reason(
+        &self,
+        asked: Mask,
+        place: u32,
+        given: Implied,
+        listed: Cause,
+    ) -> Option<Reason>
+        requires place { place < 32 }
+        requires given { given ≡ implied_of self.now.owner.now (entries_of self.now.dacl) self.now.token.now }
+        requires listed { holds (rights_in (walked_bits self.now.mapping.now asked)) place ≡ true
+            → IsListed self.now.owner.now (entries_of self.now.dacl) self.now.mapping.now self.now.token.now place listed }
         ensures { result ≡ reason_at self.now.owner.now (entries_of self.now.dacl) self.now.mapping.now self.now.token.now asked place }
     {
         let reserved = asked.common(RESERVED);
         if !reserved.is_empty() {
             return reserved_reason(reserved, place);
         }
-        let wanted = self.mapping.map(asked.minus(MAXIMUM_ALLOWED));
-        if wanted.holds(place) {
-            let cause = self.named_cause(place);
+        if self.wanted(asked).holds(place) {
+            let cause = self.named_cause(place, given, listed);
             return Some(Reason { named: true, cause });
         }
         if asked.holds(MAXIMUM_PLACE) && place < RIGHTS_END {
-            let cause = self.maximum_cause(place);
+            let cause = self.maximum_cause(place, given, listed);
             return Some(Reason {
                 named: false,
                 cause,
