@@ -3,8 +3,8 @@
 
     examples/serve/ask.py PROGRAM [CHECKS]
 
-Opens a store, makes some files in it, and asks so many checks one after the other, each with its answer before the next.
-Each answer is compared with what the file's entry says; at the end it prints how many were asked, and their time.
+Opens a store, makes some files in it, and asks CHECKS checks, each after the answer to the one before. Each answer is
+compared with what the file's entry says; at the end it prints how many were asked, and their time.
 """
 
 import contextlib
@@ -14,7 +14,7 @@ import time
 
 
 def line_of(*words: str) -> str:
-    """The line of these words. ValueError: one of them, as it came from outside, would be no word, or more than one."""
+    """The line of these words. ValueError: one of them, as it came from outside, is empty or would be several words."""
     for word in words:
         if not word or any(mark in word for mark in " \n\r"):
             raise ValueError("not one word: %r" % word)
@@ -22,7 +22,7 @@ def line_of(*words: str) -> str:
 
 
 class Server:
-    """A store that another process keeps. Lines are those of a script."""
+    """A store in another process. Lines are those of a script."""
 
     def __init__(self, program: str) -> None:
         self._process = subprocess.Popen([program, "serve"], stdin=subprocess.PIPE, stdout=subprocess.PIPE)
@@ -34,8 +34,9 @@ class Server:
         self.close()
 
     def ask(self, line: str) -> str:
-        """The answer to one line: one line, or to `why`, `list` and `dump` several. ValueError: it isn't one line that is answered. EOFError: the server
-        has ended."""
+        """The answer to a line: one line, or several to `why`, `list` and `dump`.
+
+        ValueError: it isn't one line that has an answer. EOFError: the server has ended."""
         if not line or line[0] == "#" or "\n" in line or line[-1] == "\r":
             raise ValueError("not one line that is answered: %r" % line)
         try:
@@ -49,14 +50,14 @@ class Server:
         return "\n".join(lines)
 
     def _line(self) -> str:
-        """The next line that comes."""
+        """The next line of the answer."""
         line = self._process.stdout.readline()
         if not line.endswith(b"\n"):
             raise EOFError("the server has ended")
         return line[:-1].decode()
 
     def close(self) -> int:
-        """Ends the server, and answers its status."""
+        """Ends the server, and returns its status."""
         with contextlib.suppress(BrokenPipeError):
             self._process.stdin.close()
         self._process.stdout.close()

@@ -1,17 +1,18 @@
 # shellcheck shell=bash
 # Asks `sdstore serve` from Bash: source this, then `serve_with PROGRAM`, and `ask LINE` for each line of a script. The
-# answer stands in `answer`: one line, or to `why`, `list` and `dump` several. `ask` fails where the line is no question or the program has ended; `end_serving` ends it.
+# answer is in `answer`: one line, or several to `why`, `list` and `dump`. `ask` fails where the line has no answer, or
+# where the program has ended; `end_serving` ends it.
 
 # serve_with PROGRAM: starts it.
 serve_with() {
     coproc SERVING { exec "$1" serve; }
 }
 
-# ask LINE: sets `answer` to what the line is answered by.
+# ask LINE: sets `answer` to the answer to the line.
 ask() {
     local line
     answer=
-    # One line alone is a question; a silent one has no answer to wait for.
+    # Only one line is a question; an empty one or a comment has no answer to wait for.
     case $1 in
     '' | '#'* | *$'\n'* | *$'\r') return 2 ;;
     esac
@@ -27,7 +28,7 @@ ask() {
     return 1
 }
 
-# end_serving: no more lines come. Answers the program's status.
+# end_serving: ends the input. Returns the program's status.
 end_serving() {
     local ending=$SERVING_PID
     exec {SERVING[1]}>&-
