@@ -1,23 +1,26 @@
 /*
  * Hudarin: Windows security descriptors, and access checks on them by [MS-DTYP].
  *
- * Threads: any number of threads may make any of these calls at once, but each handle is one thread's at a time: a call that takes
- * one also changes it, and may be given no handle twice. It is handed to another thread as other memory is, by a lock,
- * a queue or the start of a thread. hudarin_token_share and its siblings make another handle of the same.
+ * Threads: any number of threads may make any of these calls at once, but each handle is used by one thread at a
+ * time: a call that takes one also changes it, and may be given no handle twice. It goes to another thread as other
+ * memory does, by a lock, a queue or the start of a thread. hudarin_token_share and its siblings make another handle
+ * of the same object.
  *
- * Rooms: a room that is written lies apart from everything else that its call is given, and nobody else reads or writes
- * it, nor writes what the call reads, before the call returns.
+ * Buffers: an output buffer (`room`) overlaps nothing else that its call is given. Until the call returns nobody else
+ * reads or writes it, or writes what the call reads.
  *
- * Pointers: each is what it says, so many elements from there on, and may be NULL where it says 0; NULL with another length
- * is any bad pointer, and so is NULL for a handle's. A length is at most PTRDIFF_MAX bytes. Pointers to uint32_t are aligned.
- * The library is proved for callers that keep to these three rules; that they do, nothing proves.
+ * Pointers: each points to as many elements as its length says, and may be NULL if that is 0. NULL with another
+ * length, or for a handle, is undefined behavior, as any other bad pointer is. A length is at most PTRDIFF_MAX bytes.
+ * Pointers to uint32_t are aligned. The library is proved for callers that keep these three rules; nothing proves
+ * that they do.
  *
- * Memory comes from the program's malloc, realloc and free; behind a call only what a handle keeps stays taken. No call is
- * made from a signal handler, or in the child of a fork of a program with threads before it runs another program.
+ * Memory comes from the program's malloc, realloc and free. After a call only what handles keep stays allocated. No
+ * call is made from a signal handler, or in the child of a fork of a program with threads before it runs another
+ * program.
  *
- * Whatever the bytes, texts and numbers are, each call returns, with one of the statuses below. Where the status isn't
- * HUDARIN_OK nothing was written or kept. docs/C.md tells each call at length, docs/FORMATS.md the texts, the bytes and their faults,
- * docs/CHECK.md the rules of the check.
+ * For any bytes, texts and numbers each call returns, with one of the statuses below. Where the status isn't
+ * HUDARIN_OK nothing was written or kept. docs/C.md describes each call, docs/FORMATS.md the texts, the bytes and
+ * their faults, docs/CHECK.md the rules of the check.
  */
 #ifndef HUDARIN_H
 #define HUDARIN_H
@@ -29,16 +32,16 @@
 extern "C" {
 #endif
 
-/* ---- The version that this header is of; hudarin_version tells the library's */
+/* ---- The header's version; hudarin_version returns the library's */
 
 #define HUDARIN_VERSION_MAJOR 0u
 #define HUDARIN_VERSION_MINOR 1u
 #define HUDARIN_VERSION_PATCH 0u
 
-/* An answer that nobody looks at is a mistake, and a compiler that can tell says so. */
+/* Ignoring an answer is a mistake, of which GCC and Clang warn. */
 #if defined(__GNUC__)
 #define HUDARIN_ANSWERS __attribute__((warn_unused_result))
-/* A handle's pointer is never NULL; these arguments are such, counted from 1. */
+/* The arguments, counted from 1, that point to handles and are never NULL. */
 #define HUDARIN_NONNULL(...) __attribute__((nonnull(__VA_ARGS__)))
 #else
 #define HUDARIN_ANSWERS
@@ -48,37 +51,37 @@ extern "C" {
 /* ---- Statuses */
 
 #define HUDARIN_OK 0u
-/* Memory ran out. The same call may go well later. */
+/* Out of memory. The same call may succeed later. */
 #define HUDARIN_MEMORY 1u
-/* The room is too small. The answer's `length` tells how many bytes are wanted. */
+/* The buffer is too small. The answer's `length` is the number of bytes required. */
 #define HUDARIN_ROOM 2u
-/* A text isn't UTF-8 from the byte `place` on. */
+/* A text isn't UTF-8: `place` is the number of valid bytes at its front. */
 #define HUDARIN_UTF8 3u
-/* A text has the fault HUDARIN_TEXT_.. at the byte `place`. */
+/* A text is invalid: the fault is HUDARIN_TEXT_.., at the byte offset `place`. */
 #define HUDARIN_TEXT 4u
 /* Bytes hold no descriptor: the fault is HUDARIN_WIRE_... */
 #define HUDARIN_WIRE 5u
-/* Bytes don't begin with a SID: the fault is HUDARIN_SID_... */
+/* Bytes don't start with a SID: the fault is HUDARIN_SID_... Of groups and restricting SIDs `place` is the index. */
 #define HUDARIN_SID 6u
-/* Behind as many groups as there are states, more bytes stand. `place` is the number of states. */
+/* More bytes follow the groups than there are states for. `place` is the number of states. */
 #define HUDARIN_BEHIND_GROUPS 7u
-/* The state of the group `place` is none of HUDARIN_GROUP_... */
+/* The state of the group with the index `place` is none of HUDARIN_GROUP_... */
 #define HUDARIN_STATE 8u
 /* A bit is none of HUDARIN_PRIVILEGE_... */
 #define HUDARIN_PRIVILEGES 9u
 /* A mask of the mapping has a bit beyond 0x001FFFFF. */
 #define HUDARIN_MAPPING 10u
-/* A handle keeps nothing, or not what is wanted of it; or it is to keep something and keeps something already. */
+/* A handle keeps nothing, or an object of another kind; or one that must be empty is in use. */
 #define HUDARIN_HANDLE 11u
-/* The number is none of HUDARIN_EDIT_.., or the edit has a value and takes none. */
+/* The number is none of HUDARIN_EDIT_.., or the edit takes no value and has one. */
 #define HUDARIN_EDIT 12u
 /* A text is no path: the fault is HUDARIN_PATH_... */
 #define HUDARIN_PATH 13u
-/* A descriptor lacks an owner or a group where both are wanted, or has one where a DACL alone is. */
+/* A descriptor lacks an owner or a group where both are required, or has one where only a DACL may be. */
 #define HUDARIN_PARTS 14u
-/* The tree refuses the edit: the fault is HUDARIN_REFUSED_... */
+/* The tree refuses the edit, or its root: the fault is HUDARIN_REFUSED_... */
 #define HUDARIN_REFUSED 15u
-/* No node stands at the path. */
+/* There is no node at the path. */
 #define HUDARIN_NO_NODE 16u
 /* A SID is no domain's, which is S-1-5-21 and three more sub-authorities. */
 #define HUDARIN_DOMAIN 17u
@@ -136,7 +139,7 @@ extern "C" {
 #define HUDARIN_REFUSED_JOURNAL_FULL 12u
 #define HUDARIN_REFUSED_INTO_ITSELF 13u
 
-/* ---- Arguments of a check, by which an answer names the one that isn't read */
+/* ---- Arguments of a check: the number of the invalid one, in an answer's `argument` */
 
 #define HUDARIN_ARGUMENT_DESCRIPTOR 1u
 #define HUDARIN_ARGUMENT_USER 2u
@@ -147,7 +150,7 @@ extern "C" {
 #define HUDARIN_ARGUMENT_MAPPING 7u
 /* The handle of a token; that of a descriptor is HUDARIN_ARGUMENT_DESCRIPTOR. */
 #define HUDARIN_ARGUMENT_TOKEN 8u
-/* Those of the calls over stores and views: handles, an edit's number, its path, and what it brings. */
+/* Those of the calls over stores and views: handles, an edit's number, its path, and its value. */
 #define HUDARIN_ARGUMENT_STORE 9u
 #define HUDARIN_ARGUMENT_VIEW 10u
 #define HUDARIN_ARGUMENT_EDIT 11u
@@ -156,20 +159,20 @@ extern "C" {
 
 /* ---- Verdicts */
 
-/* All that was asked for is granted; `mask` is it, with its generic rights mapped. With MAXIMUM_ALLOWED: all that is. */
+/* All that was requested is granted: `mask`, with its generic rights mapped. With MAXIMUM_ALLOWED: all that can be. */
 #define HUDARIN_GRANTED 1u
-/* Just the bits of `mask` aren't granted. */
+/* Exactly the bits of `mask` aren't granted. */
 #define HUDARIN_DENIED 2u
-/* Just the bits of `mask` are reserved, and no check answers them. */
+/* Exactly the bits of `mask` are reserved, and no check grants them. */
 #define HUDARIN_RESERVED 3u
-/* Nothing was asked for. */
+/* Nothing was requested. */
 #define HUDARIN_EMPTY_REQUEST 4u
 
 /* ---- Causes: why bits are granted or denied */
 
 /* The DACL is absent or null: it grants the object's own rights and the standard ones. */
 #define HUDARIN_CAUSE_NO_LIST 1u
-/* The list: `first` tells what the pass of the user and the groups found, `second` that of the restricting SIDs. */
+/* The list: `first` is the finding for the user and the groups, `second` that for the restricting SIDs. */
 #define HUDARIN_CAUSE_LIST 2u
 /* READ_CONTROL or WRITE_DAC, granted to the owner. */
 #define HUDARIN_CAUSE_OWNER 3u
@@ -178,21 +181,21 @@ extern "C" {
 /* ACCESS_SYSTEM_SECURITY, granted by SeSecurityPrivilege, or denied without it. */
 #define HUDARIN_CAUSE_SECURITY 5u
 #define HUDARIN_CAUSE_NO_SECURITY 6u
-/* MAXIMUM_ALLOWED takes in no more than GENERIC_ALL where there is no list, and this is beyond it. */
+/* Without a list MAXIMUM_ALLOWED includes no more than GENERIC_ALL, and this is beyond it. */
 #define HUDARIN_CAUSE_BEYOND_ALL 7u
 /* The bits are reserved. */
 #define HUDARIN_CAUSE_RESERVED 8u
 
-/* ---- What a pass over the list found: 0 where there was no such pass */
+/* ---- What a pass over the list found: 0 without such a pass */
 
-/* An allow entry settles the bits. */
+/* An allow entry decides the bits. */
 #define HUDARIN_FINDING_ALLOWED 1u
-/* A deny entry settles the bits. */
+/* A deny entry decides the bits. */
 #define HUDARIN_FINDING_DENIED 2u
 /* No entry does. */
 #define HUDARIN_FINDING_NO_ENTRY 3u
 
-/* ---- States of a group: the attributes of Windows, of which a caller keeps these two bits. Both at once are refused. */
+/* ---- States of a group: of the attributes of Windows these two bits. Both at once are rejected. */
 
 #define HUDARIN_GROUP_DISABLED 0x0u
 /* SE_GROUP_ENABLED */
@@ -207,17 +210,17 @@ extern "C" {
 /* SeTakeOwnershipPrivilege: grants WRITE_OWNER. */
 #define HUDARIN_PRIVILEGE_TAKE_OWNERSHIP 0x2u
 
-/* ---- Rooms that always suffice, in bytes */
+/* ---- Buffer sizes that always suffice, in bytes */
 
 /* Of a SID, and of its text. */
 #define HUDARIN_SID_BYTES 68u
 #define HUDARIN_SID_TEXT_BYTES 183u
 /* Of a descriptor. */
 #define HUDARIN_DESCRIPTOR_BYTES 65688u
-/* Of a path's text: 128 names of 255 bytes, each led by a slash. */
+/* Of a path's text: 128 names of 255 bytes, each after a slash. */
 #define HUDARIN_PATH_BYTES 32768u
 
-/* ---- What goes in and comes out */
+/* ---- Arguments and answers */
 
 /* What the four generic rights stand for. */
 typedef struct hudarin_mapping {
@@ -228,31 +231,34 @@ typedef struct hudarin_mapping {
 } hudarin_mapping;
 
 /* The mappings of files, of registry keys, of services and of processes, for an initializer, as Windows has them:
- * FILE_GENERIC_READ .. FILE_ALL_ACCESS, KEY_READ .. KEY_ALL_ACCESS, and so on to SERVICE_ALL_ACCESS and PROCESS_ALL_ACCESS. */
+ * FILE_GENERIC_READ .. FILE_ALL_ACCESS, KEY_READ .. KEY_ALL_ACCESS, and so on to SERVICE_ALL_ACCESS and
+ * PROCESS_ALL_ACCESS. */
 #define HUDARIN_FILE_MAPPING { 0x00120089u, 0x00120116u, 0x001200a0u, 0x001f01ffu }
 #define HUDARIN_KEY_MAPPING { 0x00020019u, 0x00020006u, 0x00020019u, 0x000f003fu }
 #define HUDARIN_SERVICE_MAPPING { 0x0002008du, 0x00020002u, 0x00020170u, 0x000f01ffu }
 #define HUDARIN_PROCESS_MAPPING { 0x00020410u, 0x00020beau, 0x00121001u, 0x001fffffu }
 
-/* What a check answers. */
+/* The answer of a check, an edit, hudarin_keep_token and hudarin_store_open. `place` is, of HUDARIN_SID and
+ * HUDARIN_STATE, the index of the group or restricting SID, from 0; of HUDARIN_BEHIND_GROUPS the number of states; of
+ * HUDARIN_UTF8 the number of valid bytes at the front of the path. */
 typedef struct hudarin_verdict {
-    uint32_t status;   /* HUDARIN_OK, HUDARIN_MEMORY, or why an argument isn't read */
-    uint32_t argument; /* which: HUDARIN_ARGUMENT_.., else 0 */
-    uint32_t fault;    /* HUDARIN_WIRE_.. or HUDARIN_SID_.., else 0 */
+    uint32_t status;   /* HUDARIN_OK, or why there is no verdict, or the edit isn't made */
+    uint32_t argument; /* the invalid argument: HUDARIN_ARGUMENT_.., else 0 */
+    uint32_t fault;    /* HUDARIN_WIRE_.., HUDARIN_SID_.., HUDARIN_PATH_.. or HUDARIN_REFUSED_.., else 0 */
     uint32_t kind;     /* with HUDARIN_OK the verdict: HUDARIN_GRANTED .., else 0 */
-    uint64_t place;    /* the group that isn't read or has no state, or the restricting SID, counted from 0, else 0 */
+    uint64_t place;    /* as above, else 0 */
     uint32_t mask;     /* of the verdict */
 } hudarin_verdict;
 
-/* What a check by a view answers. */
+/* The answer of a check by a view. */
 typedef struct hudarin_view_verdict {
-    hudarin_verdict answer; /* as that of hudarin_check_kept, or HUDARIN_PATH, HUDARIN_UTF8, HUDARIN_NO_NODE, HUDARIN_MEMORY */
-    uint64_t length;        /* with HUDARIN_OK and HUDARIN_NO_NODE how many edits the view's tree has, else 0 */
+    hudarin_verdict answer; /* that of hudarin_check_kept, or HUDARIN_PATH, _UTF8, _NO_NODE or _MEMORY */
+    uint64_t length;        /* with HUDARIN_OK and HUDARIN_NO_NODE the number of edits of the view's tree, else 0 */
 } hudarin_view_verdict;
 
 /* What a pass over the list found for the bits of a part. */
 typedef struct hudarin_finding {
-    uint64_t entry; /* the first entry that settles them, counted from 0; 0 where there is none */
+    uint64_t entry; /* the index of the first entry that decides them, from 0; 0 where there is none */
     uint32_t kind;  /* HUDARIN_FINDING_.., else 0 */
 } hudarin_finding;
 
@@ -265,27 +271,27 @@ typedef struct hudarin_part {
     hudarin_finding second; /* of a restricted token */
 } hudarin_part;
 
-/* What an explanation answers. */
+/* The answer of an explanation. */
 typedef struct hudarin_explanation {
     hudarin_verdict answer;  /* that of hudarin_check_kept */
-    hudarin_part parts[32];  /* at each place from 0 the part whose least bit that is */
+    hudarin_part parts[32];  /* at the index of each bit the part whose lowest bit it is */
 } hudarin_explanation;
 
-/* What a call answers that writes, or that tells a length. */
+/* The answer of a call that writes, keeps or shares, or returns a length. */
 typedef struct hudarin_written {
     uint32_t status;
-    uint32_t fault;  /* HUDARIN_TEXT_.., HUDARIN_WIRE_.. or HUDARIN_SID_.., else 0 */
-    uint64_t place;  /* of HUDARIN_TEXT and HUDARIN_UTF8 the byte, counted from 0, else 0 */
-    uint64_t length; /* with HUDARIN_OK the bytes that were written, with HUDARIN_ROOM those that are wanted, else 0 */
+    uint32_t fault;  /* HUDARIN_TEXT_.., HUDARIN_WIRE_.., HUDARIN_SID_.. or HUDARIN_PATH_.., else 0 */
+    uint64_t place;  /* of HUDARIN_TEXT the fault's byte offset, of HUDARIN_UTF8 the number of valid bytes, else 0 */
+    uint64_t length; /* with HUDARIN_OK the bytes written, or what the call says; with HUDARIN_ROOM the bytes required; else 0 */
 } hudarin_written;
 
-/* What the taking of a descriptor out of a blob answers. */
+/* The answer of hudarin_descriptor_trim. */
 typedef struct hudarin_trimmed {
     hudarin_written written;
     uint32_t left_out; /* HUDARIN_LEFT_OUT_.., joined by |; 0 unless the status is HUDARIN_OK or HUDARIN_ROOM */
 } hudarin_trimmed;
 
-/* What a call answers that tells a node. */
+/* The answer of a call that returns a node. */
 typedef struct hudarin_node {
     hudarin_written written;
     uint32_t kind; /* HUDARIN_CONTAINER or HUDARIN_OBJECT; 0 unless the status is HUDARIN_OK or HUDARIN_ROOM */
@@ -298,26 +304,26 @@ typedef struct hudarin_node {
 /* The resource manager's byte, which no descriptor keeps. */
 #define HUDARIN_LEFT_OUT_MANAGER 0x2u
 
-/* What the reading of a mask answers. */
+/* The answer of hudarin_mask_from_text. */
 typedef struct hudarin_mask {
     uint32_t status; /* HUDARIN_OK, HUDARIN_UTF8 or HUDARIN_TEXT */
     uint32_t fault;  /* HUDARIN_TEXT_.., else 0 */
-    uint64_t place;  /* the byte, counted from 0, else 0 */
+    uint64_t place;  /* of HUDARIN_TEXT the fault's byte offset, of HUDARIN_UTF8 the number of valid bytes, else 0 */
     uint32_t mask;
 } hudarin_mask;
 
 /*
- * What is kept between calls, or nothing. It stands in the handles below, one type for each kind, so that a compiler refuses one in
- * the place of another. Nobody but the calls below writes its fields.
+ * What is kept between calls, or nothing: the content of the handles below, which are a type for each kind, so that a
+ * compiler rejects one in the place of another. Only the calls below write its fields.
  */
 typedef struct hudarin_kept {
     void *at;
-    uint32_t is_there; /* 1 where something is kept, else 0 */
+    uint32_t is_there; /* 1 if something is kept, else 0 */
 } hudarin_kept;
 
 /*
- * A handle begins as HUDARIN_NOTHING, for an initializer. It may be moved in memory, and of two copies one alone is used from
- * then on. What it keeps is freed by hudarin_free(&handle.kept) alone.
+ * A handle starts as HUDARIN_NOTHING, by an initializer. It may be moved in memory; of two copies only one is used
+ * from then on. Only hudarin_free(&handle.kept) frees what it keeps.
  */
 #define HUDARIN_NOTHING { { NULL, 0u } }
 
@@ -341,24 +347,25 @@ typedef struct hudarin_view {
     hudarin_kept kept;
 } hudarin_view;
 
-/* What a version is made of. */
+/* A version. */
 typedef struct hudarin_library {
-    uint32_t major; /* another one may change what stands */
+    uint32_t major; /* another one may change what exists */
     uint32_t minor; /* another one adds to it */
-    uint32_t patch; /* another one mends it */
+    uint32_t patch; /* another one fixes it */
 } hudarin_library;
 
 /* The library's version. */
 HUDARIN_ANSWERS hudarin_library hudarin_version(void);
 
-/* Whether all that was asked for is granted. A caller that looks at this alone lets nobody in whom no verdict lets in. */
+/* Whether all that was requested is granted. Testing only this never admits a user who wasn't granted access (fail
+ * closed). */
 static inline int hudarin_is_granted(hudarin_verdict answer)
 {
     return answer.status == HUDARIN_OK && answer.kind == HUDARIN_GRANTED;
 }
 
-/* The state of a group by the attributes that Windows keeps with it: one that counts for denies alone does whether it is enabled
- * or not, and of the others the enabled ones count. */
+/* The state of a group with these Windows attributes: SE_GROUP_USE_FOR_DENY_ONLY wins, whether it is enabled or not;
+ * of the others the enabled ones count. */
 static inline uint32_t hudarin_group_state(uint32_t attributes)
 {
     return (attributes & HUDARIN_GROUP_DENY_ONLY) != 0 ? HUDARIN_GROUP_DENY_ONLY : attributes & HUDARIN_GROUP_ENABLED;
@@ -367,11 +374,12 @@ static inline uint32_t hudarin_group_state(uint32_t attributes)
 /* ---- The check */
 
 /*
- * The verdict on `asked`, for the self-relative descriptor in `descriptor`, a user whose SID begins `user`, and groups whose
- * SIDs stand in `groups` one behind the other, with a state for each. `restricting` has SIDs one behind the other, to its end:
- * where there are some the token is restricted, and what the descriptor's list grants is what it grants to the user and the
- * groups and, asked again, to these SIDs alone. The arguments are read in their order, and the first that isn't read
- * answers. A user is in no group but those that are given: neither in Everyone nor in Authenticated Users.
+ * The verdict on `asked`, for the self-relative descriptor at the front of `descriptor`, the user whose SID is at the
+ * front of `user`, and the groups whose SIDs are concatenated in `groups`, with a state for each. `restricting` has
+ * SIDs, concatenated, to its end: if there are some the token is restricted, and the descriptor's list grants what it
+ * grants both to the user and the groups and, in a second pass, to these SIDs alone. The arguments are parsed in
+ * their order, and the first invalid one is reported. A user is in no group but the given ones: neither in Everyone
+ * nor in Authenticated Users.
  */
 HUDARIN_ANSWERS hudarin_verdict hudarin_check(const void *descriptor, size_t descriptor_length,
                                               const void *user, size_t user_length,
@@ -380,27 +388,28 @@ HUDARIN_ANSWERS hudarin_verdict hudarin_check(const void *descriptor, size_t des
                                               const void *restricting, size_t restricting_length,
                                               uint32_t privileges, hudarin_mapping mapping, uint32_t asked);
 
-/* ---- Descriptors. A text is UTF-8 without a zero behind it, both as it is given and as it is written. */
+/* ---- Descriptors. A text is UTF-8 and not zero-terminated, both as an argument and as a result. */
 
 /* The self-relative form of the descriptor that the SDDL text spells. */
 HUDARIN_ANSWERS hudarin_written hudarin_sddl_to_bytes(const char *text, size_t text_length, void *room, size_t room_length);
 
-/* The same, where the aliases of a domain's accounts and groups, as DA and DU, stand for those of the domain whose SID begins
- * `domain`. Without a domain they are HUDARIN_TEXT_DOMAIN_ALIAS. */
+/* The same, with the aliases of a domain's accounts and groups, such as DA and DU: those of the domain whose SID is
+ * at the front of `domain`. Without a domain they are HUDARIN_TEXT_DOMAIN_ALIAS. */
 HUDARIN_ANSWERS hudarin_written hudarin_sddl_to_bytes_in(const void *domain, size_t domain_length, const char *text, size_t text_length,
                                                          void *room, size_t room_length);
 
-/* The canonical SDDL text of the descriptor that stands at the front of the bytes. */
+/* The canonical SDDL text of the descriptor at the front of the bytes. */
 HUDARIN_ANSWERS hudarin_written hudarin_bytes_to_sddl(const void *bytes, size_t bytes_length, char *room, size_t room_length);
 
 /* The canonical SDDL text of the descriptor that the SDDL text spells. */
 HUDARIN_ANSWERS hudarin_written hudarin_sddl_canonical(const char *text, size_t text_length, char *room, size_t room_length);
 
-/* How many bytes the descriptor takes that stands at the front of the bytes: up to the end of its last part. */
+/* The length of the descriptor at the front of the bytes: up to the end of its last part. */
 HUDARIN_ANSWERS hudarin_written hudarin_descriptor_length(const void *bytes, size_t bytes_length);
 
-/* The one self-relative form of the descriptor whose header stands at `place` in a blob from whose front its offsets count, as in
- * Samba's security.NTACL. Where `leaves_sacl` is 0 a SACL is HUDARIN_WIRE_HAS_SACL, and else it is left out. */
+/* The one self-relative form of the descriptor whose header is at the offset `place` of a blob from whose front its
+ * offsets count, as in Samba's security.NTACL. If `leaves_sacl` is 0 a SACL is HUDARIN_WIRE_HAS_SACL, else it is left
+ * out. */
 HUDARIN_ANSWERS hudarin_trimmed hudarin_descriptor_trim(const void *blob, size_t blob_length, uint64_t place, uint32_t leaves_sacl,
                                                         void *room, size_t room_length);
 
@@ -409,28 +418,28 @@ HUDARIN_ANSWERS hudarin_trimmed hudarin_descriptor_trim(const void *blob, size_t
 /* The bytes of the SID that the text spells, in full or by an alias of two letters. */
 HUDARIN_ANSWERS hudarin_written hudarin_sid_text_to_bytes(const char *text, size_t text_length, void *room, size_t room_length);
 
-/* The same, for the aliases of the domain whose SID begins `domain` too. */
+/* The same, also for the aliases of the domain whose SID is at the front of `domain`. */
 HUDARIN_ANSWERS hudarin_written hudarin_sid_text_to_bytes_in(const void *domain, size_t domain_length, const char *text,
                                                              size_t text_length, void *room, size_t room_length);
 
-/* The text of the SID at the front of the bytes: its alias where it has one, else in full. */
+/* The text of the SID at the front of the bytes: its alias if it has one, else in full. */
 HUDARIN_ANSWERS hudarin_written hudarin_sid_bytes_to_text(const void *bytes, size_t bytes_length, char *room, size_t room_length);
 
 /* The mask that the text spells: a number, or names of rights. */
 HUDARIN_ANSWERS hudarin_mask hudarin_mask_from_text(const char *text, size_t text_length);
 
-/* ---- Handles, for callers that ask often */
+/* ---- Handles, for callers that check often */
 
 /* Keeps the descriptor that the SDDL text spells. The answer's `length` is 0. */
 HUDARIN_ANSWERS hudarin_written hudarin_keep_sddl(const char *text, size_t text_length, hudarin_descriptor *descriptor)
     HUDARIN_NONNULL(3);
 
-/* Keeps the descriptor that stands at the front of the bytes. The answer's `length` is 0. */
+/* Keeps the descriptor at the front of the bytes. The answer's `length` is 0. */
 HUDARIN_ANSWERS hudarin_written hudarin_keep_bytes(const void *bytes, size_t bytes_length, hudarin_descriptor *descriptor)
     HUDARIN_NONNULL(3);
 
-/* Keeps the token of a user, groups with their states, restricting SIDs, and privileges, which are read as hudarin_check
- * reads them. With HUDARIN_OK the answer's `kind` and `mask` are 0. */
+/* Keeps the token of a user, groups with their states, restricting SIDs, and privileges, parsed as by hudarin_check.
+ * With HUDARIN_OK the answer's `kind` and `mask` are 0. */
 HUDARIN_ANSWERS hudarin_verdict hudarin_keep_token(const void *user, size_t user_length,
                                                    const void *groups, size_t groups_length,
                                                    const uint32_t *states, size_t state_count,
@@ -438,27 +447,28 @@ HUDARIN_ANSWERS hudarin_verdict hudarin_keep_token(const void *user, size_t user
                                                    uint32_t privileges, hudarin_token *token)
     HUDARIN_NONNULL(10);
 
-/* The verdict on `asked`, for a descriptor and a token that are kept, and stay so. Takes no memory. */
+/* The verdict on `asked`, for a kept descriptor and a kept token, which stay. Takes no memory. */
 HUDARIN_ANSWERS hudarin_verdict hudarin_check_kept(hudarin_descriptor *descriptor, hudarin_token *token, hudarin_mapping mapping,
                                                    uint32_t asked)
     HUDARIN_NONNULL(1, 2);
 
-/* The verdict on `asked`, for the self-relative descriptor at the front of the bytes and a token that is kept, and stays so:
- * what hudarin_keep_bytes and then hudarin_check_kept answer. The token's handle is tested first, then the mapping, then the
- * bytes. Takes no memory. */
+/* The verdict on `asked`, for the self-relative descriptor at the front of the bytes and a kept token, which stays:
+ * what hudarin_keep_bytes and then hudarin_check_kept answer. The token's handle is tested first, then the mapping,
+ * then the bytes. Takes no memory. */
 HUDARIN_ANSWERS hudarin_verdict hudarin_check_bytes(const void *descriptor, size_t descriptor_length, hudarin_token *token,
                                                     hudarin_mapping mapping, uint32_t asked)
     HUDARIN_NONNULL(3);
 
-/* Why that verdict is what it is: each bit of the mapped request is in one part, with MAXIMUM_ALLOWED each bit of 0x001fffff
- * too, and the verdict follows from the parts. There are no parts unless the status is HUDARIN_OK. Takes no memory. */
+/* The reasons for hudarin_check_kept's verdict: each bit of the mapped request is in one part, with MAXIMUM_ALLOWED
+ * each bit of 0x001fffff too, and the verdict follows from the parts. There are no parts unless the status is
+ * HUDARIN_OK. Takes no memory. */
 HUDARIN_ANSWERS hudarin_explanation hudarin_explain(hudarin_descriptor *descriptor, hudarin_token *token, hudarin_mapping mapping,
                                                     uint32_t asked)
     HUDARIN_NONNULL(1, 2);
 
-/* Keeps behind `other` what `handle` keeps, as for another thread: nothing of it is copied, and it is freed with the last of its
- * handles. HUDARIN_HANDLE where `handle` keeps nothing or a store, or `other` something already. The answer's `length` is 0. The
- * three below are the same for each kind. */
+/* Makes `other` another handle of what `handle` keeps, as for another thread: nothing is copied, and the object is
+ * freed with its last handle. HUDARIN_HANDLE if `handle` keeps nothing or a store, or `other` is in use. The answer's
+ * `length` is 0. The three below do the same for each kind. */
 HUDARIN_ANSWERS hudarin_written hudarin_share(hudarin_kept *handle, hudarin_kept *other)
     HUDARIN_NONNULL(1, 2);
 
@@ -480,34 +490,34 @@ static inline HUDARIN_ANSWERS hudarin_written hudarin_view_share(hudarin_view *h
     return hudarin_share(&handle->kept, &other->kept);
 }
 
-/* ---- A store: a tree of containers and objects, where each inherits from what holds it. One handle has it. A view is its tree as
- * it was published, and any number of handles share one, each thread its own. A path is UTF-8: "/" is the root, and else each name is
- * led by "/". */
+/* ---- A store: a tree of containers and objects, each of which inherits from its parent. It has one handle. A view
+ * is its tree as it was published; any number of handles share it, one or more for each thread. A path is UTF-8: "/"
+ * for the root, else each name after a "/". */
 
-/* The edits, and what each brings as its value. */
+/* The edits, and the value of each. */
 
-/* A container or an object is added at the path: a self-relative descriptor with an owner, a group and its own DACL. */
+/* Adds a container or an object at the path: a self-relative descriptor with an owner, a group and its own DACL. */
 #define HUDARIN_EDIT_ADD_CONTAINER 1u
 #define HUDARIN_EDIT_ADD_OBJECT 2u
-/* The node gets an owner or a group: its SID. */
+/* Sets the node's owner or group: a SID. */
 #define HUDARIN_EDIT_SET_OWNER 3u
 #define HUDARIN_EDIT_SET_GROUP 4u
-/* The node gets a DACL of its own: a self-relative descriptor without an owner and a group. */
+/* Sets the node's own DACL: a self-relative descriptor without an owner and a group. */
 #define HUDARIN_EDIT_SET_DACL 5u
-/* A node without children goes: nothing. */
+/* Removes a node without children: no value, and any other length than 0 is HUDARIN_EDIT. */
 #define HUDARIN_EDIT_REMOVE 6u
-/* The node is protected, and what it had inherited becomes its own: nothing. */
+/* Protects the node, and makes what it had inherited its own: no value, and any other length than 0 is HUDARIN_EDIT. */
 #define HUDARIN_EDIT_PROTECT_KEEPING 7u
-/* The node and all below it go to a free path: that path. */
+/* Moves the node and all below it to a free path: that path. */
 #define HUDARIN_EDIT_MOVE 8u
 
-/* Keeps a store whose tree is the root alone: a container with the descriptor's owner, group and own DACL. The mapping is that of
- * all nodes. With HUDARIN_OK the answer's `kind` and `mask` are 0. */
+/* Opens a store whose tree is the root alone: a container with the descriptor's owner, group and own DACL. The
+ * mapping is that of all nodes. With HUDARIN_OK the answer's `kind` and `mask` are 0. */
 HUDARIN_ANSWERS hudarin_verdict hudarin_store_open(const void *root, size_t root_length, hudarin_mapping mapping, hudarin_store *store)
     HUDARIN_NONNULL(4);
 
-/* Makes an edit: HUDARIN_EDIT_.., the path of its node, and its value. It joins the store's journal, and no view shows it before the
- * next publish. Where the status isn't HUDARIN_OK nothing has changed. */
+/* Makes an edit: HUDARIN_EDIT_.., the path of its node, and its value. It joins the store's journal, and is in no
+ * view before the next publish. Unless the status is HUDARIN_OK nothing has changed. */
 HUDARIN_ANSWERS hudarin_verdict hudarin_store_edit(hudarin_store *store, uint32_t edit, const char *path, size_t path_length,
                                                    const void *value, size_t value_length)
     HUDARIN_NONNULL(1);
@@ -517,22 +527,22 @@ HUDARIN_ANSWERS hudarin_verdict hudarin_store_judge(hudarin_store *store, uint32
                                                     const void *value, size_t value_length)
     HUDARIN_NONNULL(1);
 
-/* Keeps behind `view` the store's tree with all its edits, which never changes again; `length` tells how many they are. */
+/* Makes `view` the store's tree with all its edits, which never changes again; `length` is the number of edits. */
 HUDARIN_ANSWERS hudarin_written hudarin_store_publish(hudarin_store *store, hudarin_view *view)
     HUDARIN_NONNULL(1, 2);
 
-/* The store's tree is again that of the view, and its journal the view's, whose length is told: edits behind it are gone. So several
- * edits are made all or none, where the last view that was published is kept for that. Where the status isn't HUDARIN_OK nothing
+/* Makes the store's tree and journal those of the view again; `length` is the number of its edits, and later ones are
+ * gone. With the last published view this makes several edits all or none. Unless the status is HUDARIN_OK nothing
  * has changed. */
 HUDARIN_ANSWERS hudarin_written hudarin_store_revert(hudarin_store *store, hudarin_view *view)
     HUDARIN_NONNULL(1, 2);
 
-/* How many edits the journal of a store has, or of a view: `length`. */
+/* The number of edits in the journal of a store, or of a view: `length`. */
 HUDARIN_ANSWERS hudarin_written hudarin_journal_length(hudarin_kept *store_or_view)
     HUDARIN_NONNULL(1);
 
-/* The verdict on `asked`, for the node of the path in the tree that the view shows, and how many edits that has. Takes memory for
- * the path. HUDARIN_NO_NODE where no node stands there. */
+/* The verdict on `asked`, for the path's node in the view's tree, and the number of that tree's edits. Takes memory
+ * for the path. HUDARIN_NO_NODE if there is no node. */
 HUDARIN_ANSWERS hudarin_view_verdict hudarin_view_check(hudarin_view *view, const char *path, size_t path_length, hudarin_token *token,
                                                         uint32_t asked)
     HUDARIN_NONNULL(1, 4);
@@ -542,22 +552,22 @@ HUDARIN_ANSWERS hudarin_written hudarin_view_descriptor(hudarin_view *view, cons
                                                         size_t room_length)
     HUDARIN_NONNULL(1);
 
-/* What was given to the path's node, without what it inherits: the self-relative form of a descriptor with its owner, its group and
- * its own DACL, which is what an edit brings that adds it; and its kind. */
+/* What the path's node was given, without what it inherits: the self-relative form of a descriptor with its owner,
+ * its group and its own DACL, the value of an edit that adds it; and its kind. */
 HUDARIN_ANSWERS hudarin_node hudarin_view_own(hudarin_view *view, const char *path, size_t path_length, void *room, size_t room_length)
     HUDARIN_NONNULL(1);
 
-/* The path of the node that stands so many places behind the root in the order of the paths, and its kind: each node stands at one
- * place, behind what holds it. HUDARIN_NO_NODE behind the last one. */
+/* The path of the node at this index in path order, and its kind: the root is at 0, and each node at one index, after
+ * its parent. HUDARIN_NO_NODE after the last one. */
 HUDARIN_ANSWERS hudarin_node hudarin_view_node(hudarin_view *view, uint64_t place, char *room, size_t room_length)
     HUDARIN_NONNULL(1);
 
 /* ---- The end of a handle */
 
-/* Frees what the handle keeps, where it keeps something; it is HUDARIN_NOTHING behind that, and may keep again. */
+/* Frees what the handle keeps, if anything. It is HUDARIN_NOTHING after that, and may be used again. */
 void hudarin_release(hudarin_kept *handle) HUDARIN_NONNULL(1);
 
-/* The same; NULL is let be. */
+/* The same; NULL is ignored. */
 static inline void hudarin_free(hudarin_kept *handle)
 {
     if (handle != NULL) {
