@@ -282,7 +282,7 @@ typedef struct hudarin_written {
     uint32_t status;
     uint32_t fault;  /* HUDARIN_TEXT_.., HUDARIN_WIRE_.., HUDARIN_SID_.. or HUDARIN_PATH_.., else 0 */
     uint64_t place;  /* of HUDARIN_TEXT the fault's byte offset, of HUDARIN_UTF8 the number of valid bytes, else 0 */
-    uint64_t length; /* with HUDARIN_OK the bytes written, or what the call says; with HUDARIN_ROOM the bytes required; else 0 */
+    uint64_t length; /* with HUDARIN_OK as the call says, with HUDARIN_ROOM the bytes required, else 0 */
 } hudarin_written;
 
 /* The answer of hudarin_descriptor_trim. */
