@@ -195,7 +195,7 @@ extern "C" {
 /* No entry does. */
 #define HUDARIN_FINDING_NO_ENTRY 3u
 
-/* ---- States of a group: of the attributes of Windows these two bits. Both at once are rejected. */
+/* ---- States of a group. They are two bits of the attributes of Windows; both at once are rejected. */
 
 #define HUDARIN_GROUP_DISABLED 0x0u
 /* SE_GROUP_ENABLED */
@@ -490,9 +490,9 @@ static inline HUDARIN_ANSWERS hudarin_written hudarin_view_share(hudarin_view *h
     return hudarin_share(&handle->kept, &other->kept);
 }
 
-/* ---- A store: a tree of containers and objects, each of which inherits from its parent. It has one handle. A view
- * is its tree as it was published; any number of handles share it, one or more for each thread. A path is UTF-8: "/"
- * for the root, else each name after a "/". */
+/* ---- A store. It is a tree of containers and objects, each of which inherits from its parent. It has one handle. A
+ * view is its tree as it was published; any number of handles share it, one or more for each thread. A path is UTF-8:
+ * "/" for the root, else each name after a "/". */
 
 /* The edits, and the value of each. */
 
