@@ -353,7 +353,8 @@ def mask(text: str) -> int:
 
 
 class Verdict(NamedTuple):
-    """The answer of a check: ``kind`` is "granted", "denied", "reserved" or "empty"."""
+    """The result of a check, which is true if all that was asked for is granted, and false otherwise: ``kind`` is "granted",
+    "denied", "reserved" or "empty"."""
 
     kind: str
     mask: int
@@ -361,6 +362,9 @@ class Verdict(NamedTuple):
     @property
     def is_granted(self) -> bool:
         """Whether all that was asked for is granted."""
+        return self.kind == "granted"
+
+    def __bool__(self) -> bool:
         return self.kind == "granted"
 
     def __str__(self) -> str:
@@ -373,7 +377,8 @@ Data = Union[bytes, bytearray, memoryview, SupportsBytes]
 
 class Part(NamedTuple):
     """Bits of a request with one cause, which is ``why`` in words. ``entry`` is the first entry of the list that settles them,
-    counted from 1, and ``restricting_entry`` that of a restricted token's second pass; None where no entry does."""
+    counted from 1, and ``restricting_entry`` that of a restricted token's second pass; None where no entry does. It is true if
+    they are granted."""
 
     is_granted: bool
     mask: int
@@ -381,15 +386,27 @@ class Part(NamedTuple):
     restricting_entry: Optional[int]
     why: str
 
+    def __bool__(self) -> bool:
+        return self.is_granted
+
     def __str__(self) -> str:
         return f"{'granted' if self.is_granted else 'denied'} {self.mask:#x} {self.why}"
 
 
 class Explanation(NamedTuple):
-    """A verdict, and the parts that it follows from, in the order of their least bits."""
+    """A verdict, and the parts that it follows from, in the order of their lowest bits. It is true if all that was asked for is
+    granted, and false otherwise."""
 
     verdict: Verdict
     parts: Tuple[Part, ...]
+
+    @property
+    def is_granted(self) -> bool:
+        """Whether all that was asked for is granted."""
+        return self.verdict.is_granted
+
+    def __bool__(self) -> bool:
+        return self.verdict.is_granted
 
     def __str__(self) -> str:
         return "\n".join(str(line) for line in (self.verdict, *self.parts))
