@@ -254,6 +254,16 @@ class Refused(ValueError):
         words = (self.argument, self.status, self.fault or None, self.name)
         super().__init__(f"{' '.join(str(word) for word in words if word is not None)} at {self.place}")
 
+    def __reduce__(self):
+        return _refused_again, (type(self), self.args, self.__dict__)
+
+
+def _refused_again(kind, arguments, fields):
+    """A refusal that was pickled or copied."""
+    refused = kind.__new__(kind, *arguments)
+    refused.__dict__.update(fields)
+    return refused
+
 
 def _number(value, what):
     """The value, where it is a number of 32 bits: ctypes would cut any other down to one, and another mask would be asked for."""
@@ -463,6 +473,9 @@ class Sid:
     def __hash__(self) -> int:
         return hash(self._bytes)
 
+    def __reduce__(self):
+        return type(self), (self._bytes,)
+
 
 #: A group that is enabled, or one with its state.
 Group = Union[Sid, Tuple[Sid, int]]
@@ -489,6 +502,9 @@ class _Held:
 
     def __exit__(self, *_: object) -> None:
         self.close()
+
+    def __reduce__(self):
+        raise TypeError(f"a {type(self).__name__} can't be copied or pickled: it holds memory of the library")
 
     def __del__(self) -> None:
         if hasattr(self, "_turn"):
@@ -564,6 +580,9 @@ class Descriptor:
 
     def __hash__(self) -> int:
         return hash(self._bytes)
+
+    def __reduce__(self):
+        return type(self), (self._bytes,)
 
     def check(
         self,
