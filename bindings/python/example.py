@@ -1,4 +1,4 @@
-"""Who may do what with a file, and what a refusal looks like."""
+"""Who may do what with a file, the parts of its descriptor, and what a refusal says."""
 
 from hudarin import DENY_ONLY, Descriptor, Refused, Sid, mask
 
@@ -7,12 +7,19 @@ user = Sid.from_text("S-1-5-21-1-2-3-1001")
 groups = [Sid.from_text("BU"), (Sid.from_text("BA"), DENY_ONLY)]
 
 print(len(bytes(descriptor)), "bytes:", descriptor)
+print("owner:", descriptor.owner, "group:", descriptor.group)
+for entry in descriptor.entries or ():
+    print(entry.kind, hex(entry.mask), entry.sid)
+
+# A verdict is true if all that was asked for is granted.
+print("may read" if descriptor.check(user, groups, asked=0x1) else "may not read")
+print("may write" if descriptor.check(user, groups, asked="FW") else "may not write")
 print("read:", descriptor.check(user, groups, asked=0x1))
 print("write:", descriptor.check(user, groups, asked=0x2))
 print("all that is granted:", descriptor.check(user, groups, asked=0x02000000))
-print("GR, as nobody's friend:", descriptor.check(user, asked=mask("GR")))
+print("GR, without groups:", descriptor.check(user, asked=mask("GR")))
 
-# What stands behind a descriptor or a SID is left out.
+# Bytes after a descriptor or a SID are ignored.
 print(bytes(Descriptor(bytes(descriptor) + b"more")) == bytes(descriptor))
 print(repr(Sid(bytes(user) + b"more")), Sid(bytes(user) + b"more") == user)
 

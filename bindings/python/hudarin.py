@@ -1,13 +1,21 @@
-"""Windows security descriptors, and access checks on them by [MS-DTYP], from the proved library Hudarin.
+"""Windows security descriptors, and access checks on them by [MS-DTYP], by the proved library libhudarin.
 
     >>> from hudarin import Descriptor, Sid
     >>> readers = Descriptor.from_sddl("O:BAG:SYD:(A;;FR;;;BU)")
-    >>> str(readers.check(Sid.from_text("S-1-5-21-1-2-3-1001"), [Sid.from_text("BU")], asked=0x1))
-    'granted 0x1'
+    >>> verdict = readers.check(Sid.from_text("S-1-5-21-1-2-3-1001"), [Sid.from_text("BU")], asked="FR")
+    >>> bool(verdict), str(verdict)
+    (True, 'granted 0x120089')
 
-The shared library is the one that the environment's HUDARIN_LIBRARY names, else that of bindings/build beside this file,
-else the system's. Any number of threads may use this module: its objects never change, but that what the library keeps is closed,
-and a Store is edited.
+A ``Sid`` and a ``Descriptor`` are values: they never change, and are compared, copied and pickled by their bytes. A
+``Token``, a ``KeptDescriptor``, a ``Store`` and a ``View`` hold memory of the library until they are closed, and can't
+be copied. Any number of threads may use this module.
+
+A value of the wrong type is a TypeError. A number out of range is a ValueError. What the library rejects is a
+``Refused``, which is a ValueError too. Out of memory is a MemoryError.
+
+The shared library is the one that the environment variable HUDARIN_LIBRARY names. Without it: of a checkout the one
+that bindings/build made, of an installation the one of the same prefix, and else the one that the system's loader
+finds.
 """
 
 import ctypes
@@ -15,14 +23,52 @@ import itertools
 import os
 import re
 import threading
-from typing import Iterable, Iterator, NamedTuple, Optional, SupportsBytes, Tuple, Union
+from typing import Any, Callable, ContextManager, Iterable, Iterator, NamedTuple, NoReturn, Optional, SupportsBytes
+from typing import Tuple, Type, TypeVar, Union
 
 __version__ = "0.1.0"
+
+__all__ = [
+    "ARGUMENTS",
+    "CAUSES",
+    "DENY_ONLY",
+    "DISABLED",
+    "Data",
+    "Descriptor",
+    "ENABLED",
+    "Entry",
+    "Explanation",
+    "FAULTS",
+    "FILES",
+    "FLAGS",
+    "Group",
+    "Judge",
+    "KEYS",
+    "KeptDescriptor",
+    "Mask",
+    "Node",
+    "PROCESSES",
+    "Part",
+    "Refused",
+    "SECURITY",
+    "SERVICES",
+    "STATUSES",
+    "Sid",
+    "Store",
+    "TAKE_OWNERSHIP",
+    "Token",
+    "VERDICTS",
+    "Verdict",
+    "View",
+    "mask",
+]
 
 _SIZE = ctypes.c_size_t
 _U32 = ctypes.c_uint32
 _U64 = ctypes.c_uint64
 
+#: The statuses of the library by number. The number 4 is a text with a fault: "sddl" here, and of a SID's text "sid",
+#: of a mask's text "mask".
 STATUSES = {
     1: "memory",
     2: "room",
@@ -59,7 +105,8 @@ ARGUMENTS = {
     13: "value",
 }
 
-#: The faults of a text, of a descriptor's bytes, of a SID's and of a path, and why a tree refuses an edit, by their numbers.
+#: The names of faults, by status and in the order of their numbers, which count from 1: of a text (SDDL, a SID or a
+#: mask), of a descriptor's bytes, of a SID's bytes, of a path, and of an edit that the tree refuses.
 FAULTS = {
     "sddl": ("Syntax", "HasSacl", "EntryKind", "ObjectGuid", "UnknownAlias", "DomainAlias", "Range", "AclTooLarge"),
     "wire": (
@@ -106,14 +153,16 @@ CAUSES = {
 DISABLED, ENABLED, DENY_ONLY = 0x0, 0x4, 0x10
 #: The privileges, joined by |.
 SECURITY, TAKE_OWNERSHIP = 0x1, 0x2
-#: The mappings of files, of registry keys, of services and of processes: what GENERIC_READ, GENERIC_WRITE, GENERIC_EXECUTE and
-#: GENERIC_ALL stand for.
+#: The flags of an entry, by their names in SDDL.
+FLAGS = {"OI": 0x1, "CI": 0x2, "NP": 0x4, "IO": 0x8, "ID": 0x10, "SA": 0x40, "FA": 0x80}
+#: The generic mappings of files, registry keys, services and processes: the masks of GENERIC_READ, GENERIC_WRITE,
+#: GENERIC_EXECUTE and GENERIC_ALL.
 FILES = (0x120089, 0x120116, 0x1200A0, 0x1F01FF)
 KEYS = (0x20019, 0x20006, 0x20019, 0xF003F)
 SERVICES = (0x2008D, 0x20002, 0x20170, 0xF01FF)
 PROCESSES = (0x20410, 0x20BEA, 0x121001, 0x1FFFFF)
 
-_ROOM, _NO_NODE = 2, 16
+_MEMORY, _ROOM, _TEXT, _HANDLE, _NO_NODE = 1, 2, 4, 11, 16
 _CONTAINER = 1
 _DESCRIPTOR_BYTES = 65688
 _BY_THE_LIST = 2
@@ -176,64 +225,78 @@ class _Version(ctypes.Structure):
     _fields_ = [("major", _U32), ("minor", _U32), ("patch", _U32)]
 
 
-def _found_library():
-    """The library, where it has what this module calls: another major version may answer otherwise, and an earlier minor one lacks calls."""
-    beside = os.path.join(os.path.dirname(os.path.abspath(__file__)), "..", "out", "libhudarin.so.0")
-    named = os.environ.get("HUDARIN_LIBRARY") or (beside if os.path.exists(beside) else "libhudarin.so.0")
+def _named_library() -> str:
+    """The library's path, or its soname for the system's loader. A path counts only where this file is in a folder of a
+    checkout or of an installation, so that no library of a folder that anybody may write is loaded."""
+    name = "libhudarin.so.0"
+    folder, file = os.path.split(os.path.abspath(__file__))
+    if file == "__init__.py":
+        folder = os.path.dirname(folder)
+    path = name
+    if folder.endswith(os.path.join("", "bindings", "python")):
+        path = os.path.join(os.path.dirname(folder), "out", name)
+    elif os.path.basename(folder) in ("dist-packages", "site-packages"):
+        path = os.path.join(os.path.dirname(os.path.dirname(folder)), name)
+    return path if os.path.exists(path) else name
+
+
+def _found_library() -> ctypes.CDLL:
+    """The library, if it has the calls of this module. Another major version may return other results, and an earlier
+    minor version lacks calls."""
+    named = os.environ.get("HUDARIN_LIBRARY") or _named_library()
     try:
         library = ctypes.CDLL(named)
         library.hudarin_version.argtypes, library.hudarin_version.restype = [], _Version
     except (OSError, AttributeError) as e:
-        raise ImportError(f"{named}: {e}; it is named by HUDARIN_LIBRARY, else made by bindings/build, else the system's") from e
-    told = library.hudarin_version()
+        made = "HUDARIN_LIBRARY names another library, and bindings/build makes one"
+        raise ImportError(f"{named}: {e}; {made}") from e
+    found = library.hudarin_version()
     major, minor, _ = (int(number) for number in __version__.split("."))
-    if told.major != major or told.minor < minor:
-        raise ImportError(f"{named}: it is version {told.major}.{told.minor}.{told.patch}, and {__version__} is wanted")
+    if found.major != major or found.minor < minor:
+        version = f"{found.major}.{found.minor}.{found.patch}"
+        raise ImportError(f"{named}: it is version {version}, and {__version__} is required")
     return library
 
 
-def _load():
+def _load() -> ctypes.CDLL:
     library = _found_library()
-    given = [ctypes.c_char_p, _SIZE]
-    room = [ctypes.c_void_p, _SIZE]
-    for name in (
-        "sddl_to_bytes",
-        "bytes_to_sddl",
-        "sddl_canonical",
-        "sid_text_to_bytes",
-        "sid_bytes_to_text",
-    ):
-        call = getattr(library, "hudarin_" + name)
-        call.argtypes, call.restype = given + room, _Written
-    for call in (library.hudarin_sddl_to_bytes_in, library.hudarin_sid_text_to_bytes_in):
-        call.argtypes, call.restype = given * 2 + room, _Written
-    library.hudarin_descriptor_length.argtypes = given
-    library.hudarin_descriptor_length.restype = _Written
-    library.hudarin_descriptor_trim.argtypes = given + [_U64, _U32] + room
-    library.hudarin_descriptor_trim.restype = _Trimmed
-    library.hudarin_mask_from_text.argtypes = given
-    library.hudarin_mask_from_text.restype = _Mask
-    token = given * 2 + [ctypes.POINTER(_U32), _SIZE] + given + [_U32]
+    given: Any = [ctypes.c_char_p, _SIZE]
+    room: Any = [ctypes.c_void_p, _SIZE]
     kept = ctypes.POINTER(_Kept)
-    library.hudarin_check.argtypes = given + token + [_Mapping, _U32]
-    library.hudarin_check.restype = _Verdict
-    library.hudarin_keep_bytes.argtypes, library.hudarin_keep_bytes.restype = given + [kept], _Written
-    library.hudarin_keep_token.argtypes, library.hudarin_keep_token.restype = token + [kept], _Verdict
-    library.hudarin_check_kept.argtypes, library.hudarin_check_kept.restype = [kept, kept, _Mapping, _U32], _Verdict
-    library.hudarin_check_bytes.argtypes, library.hudarin_check_bytes.restype = given + [kept, _Mapping, _U32], _Verdict
-    library.hudarin_explain.argtypes, library.hudarin_explain.restype = [kept, kept, _Mapping, _U32], _Explanation
-    library.hudarin_share.argtypes, library.hudarin_share.restype = [kept, kept], _Written
-    library.hudarin_store_open.argtypes, library.hudarin_store_open.restype = given + [_Mapping, kept], _Verdict
-    for call in (library.hudarin_store_edit, library.hudarin_store_judge):
-        call.argtypes, call.restype = [kept, _U32] + given * 2, _Verdict
-    library.hudarin_store_publish.argtypes, library.hudarin_store_publish.restype = [kept, kept], _Written
-    library.hudarin_view_check.argtypes, library.hudarin_view_check.restype = [kept] + given + [kept, _U32], _ViewVerdict
-    library.hudarin_view_descriptor.argtypes, library.hudarin_view_descriptor.restype = [kept] + given + room, _Written
-    library.hudarin_view_own.argtypes, library.hudarin_view_own.restype = [kept] + given + room, _NodeAnswer
-    library.hudarin_view_node.argtypes, library.hudarin_view_node.restype = [kept, _U64] + room, _NodeAnswer
-    library.hudarin_store_revert.argtypes, library.hudarin_store_revert.restype = [kept, kept], _Written
-    library.hudarin_journal_length.argtypes, library.hudarin_journal_length.restype = [kept], _Written
-    library.hudarin_release.argtypes, library.hudarin_release.restype = [kept], None
+    token: Any = given * 2 + [ctypes.POINTER(_U32), _SIZE] + given + [_U32]
+    request: Any = [_Mapping, _U32]
+    calls = {
+        "sddl_to_bytes": (given + room, _Written),
+        "bytes_to_sddl": (given + room, _Written),
+        "sid_text_to_bytes": (given + room, _Written),
+        "sid_bytes_to_text": (given + room, _Written),
+        "sddl_to_bytes_in": (given * 2 + room, _Written),
+        "sid_text_to_bytes_in": (given * 2 + room, _Written),
+        "descriptor_length": (given, _Written),
+        "descriptor_trim": (given + [_U64, _U32] + room, _Trimmed),
+        "mask_from_text": (given, _Mask),
+        "check": (given + token + request, _Verdict),
+        "keep_bytes": (given + [kept], _Written),
+        "keep_token": (token + [kept], _Verdict),
+        "check_kept": ([kept, kept] + request, _Verdict),
+        "check_bytes": (given + [kept] + request, _Verdict),
+        "explain": ([kept, kept] + request, _Explanation),
+        "share": ([kept, kept], _Written),
+        "store_open": (given + [_Mapping, kept], _Verdict),
+        "store_edit": ([kept, _U32] + given * 2, _Verdict),
+        "store_judge": ([kept, _U32] + given * 2, _Verdict),
+        "store_publish": ([kept, kept], _Written),
+        "store_revert": ([kept, kept], _Written),
+        "view_check": ([kept] + given + [kept, _U32], _ViewVerdict),
+        "view_descriptor": ([kept] + given + room, _Written),
+        "view_own": ([kept] + given + room, _NodeAnswer),
+        "view_node": ([kept, _U64] + room, _NodeAnswer),
+        "journal_length": ([kept], _Written),
+        "release": ([kept], None),
+    }
+    for name, (arguments, result) in calls.items():
+        call = getattr(library, "hudarin_" + name)
+        call.argtypes, call.restype = arguments, result
     return library
 
 
@@ -241,96 +304,114 @@ _library = _load()
 
 
 class Refused(ValueError):
-    """A call was refused: ``status`` is a name of STATUSES, ``fault`` the fault's number and ``name`` its name, where it has one,
-    ``place`` its byte in a text or the index of a group or of a restricting SID, and ``argument`` the name of a check's argument,
-    or None."""
+    """The library rejected an argument."""
 
-    def __init__(self, answer):
-        self.status: str = STATUSES[answer.status]
-        self.fault: int = answer.fault
-        self.name: Optional[str] = FAULTS[self.status][self.fault - 1] if self.fault else None
-        self.place: int = answer.place
-        self.argument: Optional[str] = ARGUMENTS.get(getattr(answer, "argument", 0))
-        words = (self.argument, self.status, self.fault or None, self.name)
-        super().__init__(f"{' '.join(str(word) for word in words if word is not None)} at {self.place}")
+    #: Why, by a name of ``STATUSES``; of a text that is no mask "mask", of one that is no SID "sid".
+    status: str
+    #: The fault's number, or 0 if the status has none.
+    fault: int
+    #: The fault's name in ``FAULTS``, or None.
+    name: Optional[str]
+    #: Of a text the offset of the fault in bytes, of groups and restricting SIDs the index; otherwise 0.
+    place: int
+    #: The name of the argument in ``ARGUMENTS``, or None.
+    argument: Optional[str]
 
-    def __reduce__(self):
-        return _refused_again, (type(self), self.args, self.__dict__)
+    def __init__(
+        self, status: str, fault: int = 0, name: Optional[str] = None, place: int = 0, argument: Optional[str] = None
+    ) -> None:
+        self.status, self.fault, self.name, self.place, self.argument = status, fault, name, place, argument
+        words = (argument, status, fault or None, name)
+        super().__init__(f"{' '.join(str(word) for word in words if word is not None)} at {place}")
 
-
-def _refused_again(kind, arguments, fields):
-    """A refusal that was pickled or copied."""
-    refused = kind.__new__(kind, *arguments)
-    refused.__dict__.update(fields)
-    return refused
-
-
-def _number(value, what):
-    """The value, where it is a number of 32 bits: ctypes would cut any other down to one, and another mask would be asked for."""
-    if not isinstance(value, int) or isinstance(value, bool):
-        raise TypeError(f"{what}: a number is wanted, and {value!r} isn't one")
-    if not 0 <= value < 1 << 32:
-        raise ValueError(f"{what}: {value:#x} isn't a number of 32 bits")
-    return value
+    def __reduce__(self) -> Tuple[Any, ...]:
+        return type(self), (self.status, self.fault, self.name, self.place, self.argument), self.__dict__
 
 
-# The mapping of files, by which most checks are asked, is made once: to make one takes longer than a check.
-def _mapping(masks, files=FILES, of_files=_Mapping(*FILES)):
-    if masks is files:
-        return of_files
-    masks = tuple(masks)
-    if len(masks) != 4:
-        raise ValueError(f"mapping: four masks are wanted, and not {len(masks)}")
-    return _Mapping(*(_number(one, "mapping") for one in masks))
+#: What the bytes of a SID or of a descriptor are taken from.
+Data = Union[bytes, bytearray, memoryview, SupportsBytes]
+#: A mask: a number, or a text as ``mask`` parses it.
+Mask = Union[int, str]
 
 
-def _sid(value, what):
-    return bytes(_wanted(value, Sid, what))
-
-
-def _wanted(value, kind, what):
-    if not isinstance(value, kind):
-        raise TypeError(f"{what}: a {kind.__name__} is wanted, and {value!r} isn't one")
-    return value
-
-
-def _text(value):
-    if not isinstance(value, str):
-        raise TypeError(f"a text is wanted, and {value!r} isn't one")
-    return value.encode("utf-8", "surrogateescape")
-
-
-def _data(value):
-    if not (isinstance(value, (bytearray, memoryview)) or hasattr(type(value), "__bytes__")):
-        raise TypeError(f"bytes are wanted, and {value!r} isn't made of them")
-    return bytes(value)
-
-
-def _refuse(answer):
-    if answer.status == 1:
+def _refuse(answer: Any, kind: str = "sddl", argument: Optional[str] = None) -> NoReturn:
+    """Raises what the answer of the library says. ``kind`` names a text with a fault, and ``argument`` the argument if
+    the answer doesn't."""
+    if answer.status == _MEMORY:
         raise MemoryError
-    raise Refused(answer)
+    status = kind if answer.status == _TEXT else STATUSES[answer.status]
+    names = FAULTS["sddl"] if answer.status == _TEXT else FAULTS.get(status, ())
+    name = names[answer.fault - 1] if answer.fault else None
+    raise Refused(status, answer.fault, name, answer.place, ARGUMENTS.get(getattr(answer, "argument", 0), argument))
 
 
-def _held(answer):
-    """The answer, where its status is OK."""
+def _checked(answer: Any, kind: str = "sddl", argument: Optional[str] = None) -> Any:
+    """The answer, if its status is OK."""
     if answer.status != 0:
-        _refuse(answer)
+        _refuse(answer, kind, argument)
     return answer
 
 
-def _token(user, groups, privileges, restricting):
-    """What a token is made of, as the library takes it."""
-    pairs = [group if isinstance(group, tuple) else (group, ENABLED) for group in groups]
-    sids = b"".join(_sid(sid, "groups") for sid, _ in pairs)
-    states = (_U32 * len(pairs))(*(_number(state, "states") for _, state in pairs))
-    who = _sid(user, "user")
-    again = b"".join(_sid(sid, "restricting") for sid in restricting)
-    return who, len(who), sids, len(sids), states, len(pairs), again, len(again), _number(privileges, "privileges")
+def _number(value: object, what: str, bits: int = 32) -> int:
+    """The value, if it is a number of so many bits: ctypes would cut off the higher bits of another."""
+    if not isinstance(value, int) or isinstance(value, bool):
+        raise TypeError(f"{what}: expected an int, not {value!r}")
+    if not 0 <= value < 1 << bits:
+        raise ValueError(f"{what}: {value:#x} is no number of {bits} bits")
+    return value
 
 
-def _filled(call):
-    """What the call writes, in a room that is made as large as it wants, and its answer."""
+_T = TypeVar("_T")
+
+
+def _of_type(value: object, kind: Type[_T], what: str) -> _T:
+    if not isinstance(value, kind):
+        raise TypeError(f"{what}: expected a {kind.__name__}, not {value!r}")
+    return value
+
+
+def _text(value: object) -> bytes:
+    """The text in UTF-8. A surrogate, which UTF-8 doesn't have, becomes bytes that the library rejects."""
+    if not isinstance(value, str):
+        raise TypeError(f"expected a str, not {value!r}")
+    return value.encode("utf-8", "surrogatepass")
+
+
+def _data(value: object) -> bytes:
+    if isinstance(value, bytes):
+        return value
+    if isinstance(value, (bytearray, memoryview)) or hasattr(type(value), "__bytes__"):
+        return bytes(value)  # type: ignore[call-overload, no-any-return]
+    raise TypeError(f"expected bytes, not {value!r}")
+
+
+def mask(text: str) -> int:
+    """The mask that the text spells: names of rights, as "FR" or "RCWD", or a number, as "0x1f01ff"."""
+    given = _text(text)
+    return int(_checked(_library.hudarin_mask_from_text(given, len(given)), "mask").mask)
+
+
+def _mask(value: object, what: str) -> int:
+    return mask(value) if isinstance(value, str) else _number(value, what)
+
+
+# The mapping of files, which most checks use, is made once: making one takes longer than a check.
+def _mapping(masks: Iterable[Mask], files: Iterable[Mask] = FILES, of_files: _Mapping = _Mapping(*FILES)) -> _Mapping:
+    if masks is files:
+        return of_files
+    if isinstance(masks, (str, bytes)):
+        raise TypeError(f"mapping: expected four masks, not {masks!r}")
+    given = tuple(masks)
+    if len(given) != 4:
+        raise ValueError(f"mapping: expected four masks, not {len(given)}")
+    return _Mapping(*(_mask(one, "mapping") for one in given))
+
+
+def _filled(
+    call: Callable[[Any, int], Any], kind: str = "sddl", argument: Optional[Callable[[Any], str]] = None
+) -> Tuple[bytes, Any]:
+    """What the call writes into a room, and its answer. A room that is too small is replaced by one of the length that
+    the answer says."""
     length = 256
     while True:
         room = ctypes.create_string_buffer(length)
@@ -339,34 +420,32 @@ def _filled(call):
         if written.status == 0:
             return room.raw[: written.length], answer
         if written.status != _ROOM:
-            _refuse(written)
+            _refuse(written, kind, argument(written) if argument else None)
         length = written.length
 
 
-def _written(call, given, *before):
-    """What the call writes, by what is given."""
-    return _filled(lambda room, length: call(*before, given, len(given), room, length))[0]
+def _written(call: Callable[..., Any], given: bytes, kind: str = "sddl") -> bytes:
+    """What the call writes for these bytes."""
+    return _filled(lambda room, length: call(given, len(given), room, length), kind)[0]
 
 
-def _spelled(call, call_in, text, domain):
-    """What the call writes of the text; where there is a domain its aliases are read, by the other call."""
-    if domain is None:
-        return _written(call, _text(text))
-    given = _sid(domain, "domain")
-    return _written(call_in, _text(text), given, len(given))
-
-
-def mask(text: str) -> int:
-    """The mask that the text spells: a number, or names of rights."""
+def _spelled(name: str, text: str, domain: Optional["Sid"], kind: str) -> bytes:
+    """What the call of that name writes for the text; with a domain, its sibling for the aliases of domains."""
     given = _text(text)
-    return _held(_library.hudarin_mask_from_text(given, len(given))).mask
+    call = getattr(_library, name)
+    if domain is None:
+        return _written(call, given, kind)
+    of_domain = getattr(_library, name + "_in")
+    sid = bytes(_of_type(domain, Sid, "domain"))
+    return _filled(lambda room, length: of_domain(sid, len(sid), given, len(given), room, length), kind)[0]
 
 
 class Verdict(NamedTuple):
-    """The result of a check, which is true if all that was asked for is granted, and false otherwise: ``kind`` is "granted",
-    "denied", "reserved" or "empty"."""
+    """The result of a check. It is true if all that was asked for is granted, and false otherwise."""
 
+    #: "granted", "denied", "reserved" or "empty".
     kind: str
+    #: If granted: the request with its generic rights mapped. If denied or reserved: just the bits that are.
     mask: int
 
     @property
@@ -381,19 +460,16 @@ class Verdict(NamedTuple):
         return self.kind if self.kind == "empty" else f"{self.kind} {self.mask:#x}"
 
 
-#: What bytes are taken from.
-Data = Union[bytes, bytearray, memoryview, SupportsBytes]
-
-
 class Part(NamedTuple):
-    """Bits of a request with one cause, which is ``why`` in words. ``entry`` is the first entry of the list that settles them,
-    counted from 1, and ``restricting_entry`` that of a restricted token's second pass; None where no entry does. It is true if
-    they are granted."""
+    """Bits of a request that are granted or denied for one reason. It is true if they are granted."""
 
     is_granted: bool
     mask: int
+    #: The first entry of the list that decides them, counted from 1, or None.
     entry: Optional[int]
+    #: The same in the second pass of a restricted token.
     restricting_entry: Optional[int]
+    #: The reason in words.
     why: str
 
     def __bool__(self) -> bool:
@@ -404,10 +480,10 @@ class Part(NamedTuple):
 
 
 class Explanation(NamedTuple):
-    """A verdict, and the parts that it follows from, in the order of their lowest bits. It is true if all that was asked for is
-    granted, and false otherwise."""
+    """A verdict, and why. It is true if all that was asked for is granted, and false otherwise."""
 
     verdict: Verdict
+    #: The verdict follows from these. They are in the order of their lowest bits.
     parts: Tuple[Part, ...]
 
     @property
@@ -422,17 +498,21 @@ class Explanation(NamedTuple):
         return "\n".join(str(line) for line in (self.verdict, *self.parts))
 
 
-def _entry(finding):
+def _verdict(answer: Any) -> Verdict:
+    return Verdict(VERDICTS[answer.kind], answer.mask)
+
+
+def _entry(finding: Any) -> Optional[int]:
     return None if finding.kind in (_NO_PASS, _NO_ENTRY) else finding.entry + 1
 
 
-def _found(finding, entries):
-    """What a pass found, in words."""
+def _found(finding: Any, entries: Tuple[str, ...]) -> str:
+    """What a pass over the list found, in words."""
     number = _entry(finding)
     return "by no entry" if number is None else f"by entry {number} {entries[number - 1]}"
 
 
-def _part(part, entries):
+def _part(part: Any, entries: Tuple[str, ...]) -> Part:
     if part.cause != _BY_THE_LIST:
         why = CAUSES[part.cause]
     elif part.second.kind == _NO_PASS:
@@ -442,26 +522,56 @@ def _part(part, entries):
     return Part(part.granted == 1, part.mask, _entry(part.first), _entry(part.second), why)
 
 
-class Sid:
-    """A security identifier, by its bytes."""
+_S = TypeVar("_S", bound="_Bytes")
+
+
+class _Bytes:
+    """A value that is its bytes."""
 
     __slots__ = ("_bytes",)
 
-    def __init__(self, data: Data) -> None:
-        """The SID at the front of the bytes; what stands behind it is left out."""
-        self._bytes = _written(_library.hudarin_sid_text_to_bytes, _written(_library.hudarin_sid_bytes_to_text, _data(data)))
+    _bytes: bytes
 
     @classmethod
-    def from_text(cls, text: str, domain: Optional["Sid"] = None) -> "Sid":
-        """The SID that the text spells, in full or by an alias of two letters: of a ``domain``'s accounts and groups where that is given."""
-        sid = cls.__new__(cls)
-        sid._bytes = _spelled(_library.hudarin_sid_text_to_bytes, _library.hudarin_sid_text_to_bytes_in, text, domain)
-        return sid
+    def _of(cls: Type[_S], data: bytes) -> _S:
+        """The value of these bytes, which the library has tested or written."""
+        made = object.__new__(cls)
+        made._bytes = data
+        return made
 
     def __bytes__(self) -> bytes:
         return self._bytes
 
+    def __hash__(self) -> int:
+        return hash(self._bytes)
+
+    def __copy__(self: _S) -> _S:
+        return self
+
+    def __deepcopy__(self: _S, memo: object) -> _S:
+        return self
+
+    def __reduce__(self) -> Tuple[Any, ...]:
+        return type(self), (self._bytes,)
+
+
+class Sid(_Bytes):
+    """A security identifier: ``Sid(data)`` is the one at the front of the bytes. Bytes after it are ignored."""
+
+    __slots__ = ()
+
+    def __new__(cls, data: Data) -> "Sid":
+        text = _written(_library.hudarin_sid_bytes_to_text, _data(data))
+        return cls._of(_written(_library.hudarin_sid_text_to_bytes, text, "sid"))
+
+    @classmethod
+    def from_text(cls, text: str, domain: Optional["Sid"] = None) -> "Sid":
+        """The SID that the text spells, in full ("S-1-5-18") or by an alias ("SY"). With a ``domain`` the aliases of a
+        domain's accounts and groups, as "DA", are SIDs of that domain."""
+        return cls._of(_spelled("hudarin_sid_text_to_bytes", text, domain, "sid"))
+
     def __str__(self) -> str:
+        """The SID's alias if it has one, otherwise the SID in full."""
         return _written(_library.hudarin_sid_bytes_to_text, self._bytes).decode()
 
     def __repr__(self) -> str:
@@ -470,103 +580,166 @@ class Sid:
     def __eq__(self, other: object) -> bool:
         return isinstance(other, Sid) and self._bytes == other._bytes
 
-    def __hash__(self) -> int:
-        return hash(self._bytes)
-
-    def __reduce__(self):
-        return type(self), (self._bytes,)
+    __hash__ = _Bytes.__hash__
 
 
-#: A group that is enabled, or one with its state.
+#: A group that is enabled, or a group with its state.
 Group = Union[Sid, Tuple[Sid, int]]
 
 
+def _pair(group: object) -> Tuple[bytes, int]:
+    """A group's bytes and its state."""
+    if not isinstance(group, tuple):
+        return bytes(_of_type(group, Sid, "groups")), ENABLED
+    if len(group) != 2:
+        raise TypeError(f"groups: expected a Sid or a pair of a Sid and a state, not {group!r}")
+    return bytes(_of_type(group[0], Sid, "groups")), _number(group[1], "states")
+
+
+def _token(
+    user: Sid, groups: Iterable[Group], privileges: int, restricting: Iterable[Sid]
+) -> Tuple[Any, ...]:
+    """A token as arguments of the library."""
+    pairs = [_pair(group) for group in groups]
+    sids = b"".join(sid for sid, _ in pairs)
+    states = (_U32 * len(pairs))(*(state for _, state in pairs))
+    who = bytes(_of_type(user, Sid, "user"))
+    again = b"".join(bytes(_of_type(sid, Sid, "restricting")) for sid in restricting)
+    return who, len(who), sids, len(sids), states, len(pairs), again, len(again), _number(privileges, "privileges")
+
+
+_H = TypeVar("_H", bound="_Held")
+
+
 class _Held:
-    """What the library keeps, until ``close`` or the end of a ``with``. Threads may use one at once, and take turns at it."""
+    """Memory of the library, until ``close`` or the end of a ``with``. Threads may use one object at once: they take
+    turns."""
 
     __slots__ = ("_kept", "_turn")
 
-    def __init__(self) -> None:
-        self._kept, self._turn = _Kept(), threading.Lock()
+    #: What the library calls such an argument.
+    _argument = ""
+    #: Why it can't be copied, and what to do instead.
+    _uncopied = "it holds memory of the library"
+
+    _kept: _Kept
+    _turn: ContextManager[Any]
+
+    def __new__(cls: Type[_H], *_arguments: object, **_named: object) -> _H:
+        # A second call of __init__ finds the memory here, and the library refuses to keep more.
+        held = object.__new__(cls)
+        held._kept, held._turn = _Kept(), threading.RLock()
+        return held
 
     def close(self) -> None:
-        """Frees what is kept; a second time does nothing."""
+        """Frees the memory. A second call does nothing."""
         with self._turn:
             _library.hudarin_release(self._kept)
 
-    def _shared(self, other):
-        """The other one, which keeps the same from now on."""
+    def _share(self: _H) -> _H:
+        """Another object that holds the same."""
+        other = type(self).__new__(type(self))
         with self._turn:
-            _held(_library.hudarin_share(self._kept, other._kept))
+            _checked(_library.hudarin_share(self._kept, other._kept), argument=self._argument)
         return other
+
+    def __enter__(self: _H) -> _H:
+        return self
 
     def __exit__(self, *_: object) -> None:
         self.close()
-
-    def __reduce__(self):
-        raise TypeError(f"a {type(self).__name__} can't be copied or pickled: it holds memory of the library")
 
     def __del__(self) -> None:
         if hasattr(self, "_turn"):
             self.close()
 
+    def __reduce__(self) -> NoReturn:
+        raise TypeError(f"a {type(self).__name__} can't be copied or pickled: {self._uncopied}")
+
 
 class Token(_Held):
-    """A user, groups and privileges, read once for many checks: ``with Token(user, groups) as token: ..``, or until ``close``.
-    Its arguments are those of ``Descriptor.check``. Threads may use one at once, and take turns at it; ``share`` makes another of the
-    same, which they needn't wait for."""
+    """A user, groups and privileges, prepared for many checks: ``with Token(user, groups) as token: ..``, or until
+    ``close``. Its arguments are those of ``Descriptor.check``. Threads take turns at it, or use a ``share`` each."""
 
     __slots__ = ()
+
+    _argument = "token"
+    _uncopied = "share makes another"
 
     def __init__(
         self, user: Sid, groups: Iterable[Group] = (), privileges: int = 0, restricting: Iterable[Sid] = ()
     ) -> None:
-        super().__init__()
-        _held(_library.hudarin_keep_token(*_token(user, groups, privileges, restricting), self._kept))
-
-    def __enter__(self) -> "Token":
-        return self
+        given = _token(user, groups, privileges, restricting)
+        with self._turn:
+            _checked(_library.hudarin_keep_token(*given, self._kept), argument=self._argument)
 
     def share(self) -> "Token":
-        """Another token of the same, which is closed by itself."""
-        other = Token.__new__(Token)
-        _Held.__init__(other)
-        return self._shared(other)
+        """Another token of the same user, groups and privileges, which is closed by itself."""
+        return self._share()
 
 
-class Descriptor:
-    """A security descriptor, by its self-relative form."""
+class Entry(NamedTuple):
+    """An entry of a descriptor's list."""
 
-    __slots__ = ("_bytes",)
+    #: "allow" or "deny".
+    kind: str
+    #: The numbers of ``FLAGS``, joined by |.
+    flags: int
+    mask: int
+    sid: Sid
+    #: The entry in SDDL, as "(A;OICI;FR;;;BU)".
+    text: str
 
-    def __init__(self, data: Data) -> None:
-        """The descriptor at the front of the bytes, which are kept up to the end of its last part."""
+    def __str__(self) -> str:
+        return self.text
+
+
+# The parts of a canonical text (docs/FORMATS.md), and of an entry in it.
+_SID_TEXT = r"S-1-[0-9a-fx-]+|[A-Z]{2}"
+_SECTIONS = re.compile(
+    rf"(?:O:(?P<owner>{_SID_TEXT}))?(?:G:(?P<group>{_SID_TEXT}))?(?:D:(?P<words>[A-Z_]*)(?P<entries>(?:\([^()]*\))*))?"
+)
+_ENTRY = re.compile(rf"\((?P<kind>[AD]);(?P<flags>(?:[A-Z]{{2}})*);(?P<mask>\w+);;;(?P<sid>{_SID_TEXT})\)")
+
+
+def _entry_of(text: str) -> Entry:
+    found = _ENTRY.fullmatch(text)
+    if found is None:
+        raise AssertionError(f"no entry of a canonical text: {text}")
+    flags = sum(FLAGS[found["flags"][at : at + 2]] for at in range(0, len(found["flags"]), 2))
+    kind = "allow" if found["kind"] == "A" else "deny"
+    return Entry(kind, flags, mask(found["mask"]), Sid.from_text(found["sid"]), text)
+
+
+class Descriptor(_Bytes):
+    """A security descriptor: ``Descriptor(data)`` is the one at the front of the bytes, which are in self-relative
+    form. It keeps them up to the end of its last part. A SACL is ``Refused``, unless ``leaves_sacl`` is True: then
+    it is left out, and the bytes are those that ``from_sddl`` makes."""
+
+    __slots__ = ()
+
+    def __new__(cls, data: Data, leaves_sacl: bool = False) -> "Descriptor":
         given = _data(data)
-        self._bytes = given[: _held(_library.hudarin_descriptor_length(given, len(given))).length]
+        if _of_type(leaves_sacl, bool, "leaves_sacl"):
+            return cls.from_blob(given, 0, True)[0]
+        return cls._of(given[: _checked(_library.hudarin_descriptor_length(given, len(given))).length])
 
     @classmethod
     def from_sddl(cls, text: str, domain: Optional[Sid] = None) -> "Descriptor":
-        """The descriptor that the SDDL text spells, the aliases of a ``domain``'s accounts and groups too where that is given."""
-        descriptor = cls.__new__(cls)
-        descriptor._bytes = _spelled(_library.hudarin_sddl_to_bytes, _library.hudarin_sddl_to_bytes_in, text, domain)
-        return descriptor
+        """The descriptor that the SDDL text spells. With a ``domain`` the aliases of a domain's accounts and groups, as
+        "DA", are SIDs of that domain."""
+        return cls._of(_spelled("hudarin_sddl_to_bytes", text, domain, "sddl"))
 
     @classmethod
     def from_blob(cls, data: Data, place: int, leaves_sacl: bool = False) -> Tuple["Descriptor", int]:
-        """The descriptor whose header stands at the place in a blob from whose front its offsets count, as in Samba's security.NTACL, and
-        what is left out of it: 1 for a SACL, which is refused unless ``leaves_sacl``, and 2 for the resource manager's byte."""
-        if not isinstance(place, int) or isinstance(place, bool):
-            raise TypeError(f"place: a number is wanted, and {place!r} isn't one")
-        if not 0 <= place < 1 << 64:
-            raise ValueError(f"place: {place} isn't a number of 64 bits")
+        """The descriptor whose header is at the offset ``place`` of a blob, where its own offsets count from the blob's
+        front, as in Samba's security.NTACL; and what is left out of it: 1 for a SACL, 2 for the resource manager's
+        byte, 3 for both. A SACL is ``Refused``, unless ``leaves_sacl`` is True."""
         given, room = _data(data), ctypes.create_string_buffer(_DESCRIPTOR_BYTES)
-        told = _library.hudarin_descriptor_trim(given, len(given), place, 1 if leaves_sacl else 0, room, len(room))
-        descriptor = cls.__new__(cls)
-        descriptor._bytes = room.raw[: _held(told.written).length]
-        return descriptor, told.left_out
-
-    def __bytes__(self) -> bytes:
-        return self._bytes
+        leave = 1 if _of_type(leaves_sacl, bool, "leaves_sacl") else 0
+        at = _number(place, "place", 64)
+        trimmed = _library.hudarin_descriptor_trim(given, len(given), at, leave, room, len(room))
+        return cls._of(room.raw[: _checked(trimmed.written).length]), trimmed.left_out
 
     def __str__(self) -> str:
         """The canonical SDDL text."""
@@ -578,259 +751,309 @@ class Descriptor:
     def __eq__(self, other: object) -> bool:
         return isinstance(other, Descriptor) and self._bytes == other._bytes
 
-    def __hash__(self) -> int:
-        return hash(self._bytes)
+    __hash__ = _Bytes.__hash__
 
-    def __reduce__(self):
-        return type(self), (self._bytes,)
+    def _sections(self) -> "re.Match[str]":
+        found = _SECTIONS.fullmatch(str(self))
+        if found is None:
+            raise AssertionError(f"no canonical text: {self}")
+        return found
+
+    # The library has no calls for the parts. They are cut out of its canonical text, and it parses each.
+
+    @property
+    def owner(self) -> Optional[Sid]:
+        """The owner, or None. It is cut out of the canonical text, since the library has no call for it."""
+        text = self._sections()["owner"]
+        return None if text is None else Sid.from_text(text)
+
+    @property
+    def group(self) -> Optional[Sid]:
+        """The group, or None. It is cut out of the canonical text, since the library has no call for it."""
+        text = self._sections()["group"]
+        return None if text is None else Sid.from_text(text)
+
+    @property
+    def entries(self) -> Optional[Tuple[Entry, ...]]:
+        """The entries of the DACL in their order. None if there is no list (an absent or a null DACL), which grants
+        everything; an empty list grants nothing. They are cut out of the canonical text, since the library has no
+        call for them."""
+        found = self._sections()
+        if found["words"] is None or "NO_ACCESS_CONTROL" in found["words"]:
+            return None
+        return tuple(_entry_of(text) for text in _entry_texts(found["entries"]))
 
     def check(
         self,
         user: Sid,
         groups: Iterable[Group] = (),
-        asked: int = 0,
+        asked: Mask = 0,
         privileges: int = 0,
-        mapping: Iterable[int] = FILES,
+        mapping: Iterable[Mask] = FILES,
         restricting: Iterable[Sid] = (),
     ) -> Verdict:
-        """The verdict on ``asked`` for a user, a Sid. Each group is a Sid, which is enabled, or a pair of a Sid and its state.
-        No group is added: neither Everyone nor Authenticated Users. With ``restricting`` Sids the list has to grant to the user
-        and the groups and, asked again, to these Sids alone. Another number than one of 32 bits is a ValueError, and what
-        isn't a number (a bool too) or a Sid a TypeError."""
+        """Whether the descriptor grants ``asked`` to the user: a mask as a number, or as a text as "FR". The verdict is
+        true if it does. A group is a ``Sid``, which is enabled, or a pair of a Sid and its state. No group is added:
+        neither Everyone nor Authenticated Users. With ``restricting`` SIDs the list has to grant twice: to the user
+        and the groups, and to these SIDs alone. ``mapping`` has the masks of the four generic rights."""
         token = _token(user, groups, privileges, restricting)
-        answer = _held(_library.hudarin_check(self._bytes, len(self._bytes), *token, _mapping(mapping), _number(asked, "asked")))
-        return Verdict(VERDICTS[answer.kind], answer.mask)
+        request = _mapping(mapping), _mask(asked, "asked")
+        return _verdict(_checked(_library.hudarin_check(self._bytes, len(self._bytes), *token, *request)))
 
-    def check_by(self, token: Token, asked: int = 0, mapping: Iterable[int] = FILES) -> Verdict:
-        """The verdict on ``asked`` for a ``Token``, straight over the descriptor's bytes. One that was closed is a ``Refused``."""
-        _wanted(token, Token, "token")
-        request = _mapping(mapping), _number(asked, "asked")
+    def check_by(self, token: Token, asked: Mask = 0, mapping: Iterable[Mask] = FILES) -> Verdict:
+        """The same for a ``Token``. A closed one is ``Refused``."""
+        _of_type(token, Token, "token")
+        request = _mapping(mapping), _mask(asked, "asked")
         with token._turn:
             answer = _library.hudarin_check_bytes(self._bytes, len(self._bytes), token._kept, *request)
-        return Verdict(VERDICTS[_held(answer).kind], answer.mask)
+        return _verdict(_checked(answer))
 
     def explain(
         self,
         user: Sid,
         groups: Iterable[Group] = (),
-        asked: int = 0,
+        asked: Mask = 0,
         privileges: int = 0,
-        mapping: Iterable[int] = FILES,
+        mapping: Iterable[Mask] = FILES,
         restricting: Iterable[Sid] = (),
     ) -> Explanation:
-        """Why ``check`` answers as it does, with the same arguments: an ``Explanation``."""
+        """The verdict of ``check`` with the same arguments, and why."""
         with KeptDescriptor(self) as kept, Token(user, groups, privileges, restricting) as token:
             return kept.explain(token, asked, mapping)
 
 
+def _entry_texts(text: str) -> Tuple[str, ...]:
+    """The entries of a canonical text: each is from a bracket to the next."""
+    return tuple(re.findall(r"\([^()]*\)", text))
+
+
 class KeptDescriptor(_Held):
-    """A ``Descriptor``, read once for many checks: ``with KeptDescriptor(descriptor) as kept: ..``, or until ``close``. Threads may use
-    one at once, and take turns at it; ``share`` makes another of the same, which they needn't wait for."""
+    """A ``Descriptor``, prepared for many checks: ``with KeptDescriptor(descriptor) as kept: ..``, or until ``close``.
+    Threads take turns at it, or use a ``share`` each."""
 
-    __slots__ = ("descriptor",)
+    __slots__ = ("_descriptor",)
 
-    #: What is kept.
-    descriptor: Descriptor
+    _argument = "descriptor"
+    _uncopied = "share makes another"
+
+    _descriptor: Descriptor
 
     def __init__(self, descriptor: Descriptor) -> None:
-        given = bytes(_wanted(descriptor, Descriptor, "descriptor"))
-        super().__init__()
-        self.descriptor = descriptor
-        _held(_library.hudarin_keep_bytes(given, len(given), self._kept))
+        given = bytes(_of_type(descriptor, Descriptor, "descriptor"))
+        with self._turn:
+            _checked(_library.hudarin_keep_bytes(given, len(given), self._kept), argument=self._argument)
+            self._descriptor = descriptor
 
-    def __enter__(self) -> "KeptDescriptor":
-        return self
+    @property
+    def descriptor(self) -> Descriptor:
+        """What it was made of."""
+        return self._descriptor
 
     def share(self) -> "KeptDescriptor":
-        """Another one of the same, which is closed by itself."""
-        other = KeptDescriptor.__new__(KeptDescriptor)
-        _Held.__init__(other)
-        other.descriptor = self.descriptor
-        return self._shared(other)
+        """Another one of the same descriptor, which is closed by itself."""
+        other = self._share()
+        other._descriptor = self._descriptor
+        return other
 
-    def check(self, token: Token, asked: int = 0, mapping: Iterable[int] = FILES) -> Verdict:
-        """The verdict on ``asked`` for a ``Token``. What was closed, of the two, is a ``Refused``."""
-        answer = _held(self._asked(_library.hudarin_check_kept, token, asked, mapping))
-        return Verdict(VERDICTS[answer.kind], answer.mask)
+    def check(self, token: Token, asked: Mask = 0, mapping: Iterable[Mask] = FILES) -> Verdict:
+        """Whether the descriptor grants ``asked``, as ``Descriptor.check`` says. If it or the token is closed:
+        ``Refused``."""
+        return _verdict(_checked(self._asked(_library.hudarin_check_kept, token, asked, mapping)))
 
-    def explain(self, token: Token, asked: int = 0, mapping: Iterable[int] = FILES) -> Explanation:
-        """Why ``check`` answers as it does: an ``Explanation``."""
+    def explain(self, token: Token, asked: Mask = 0, mapping: Iterable[Mask] = FILES) -> Explanation:
+        """The same verdict, and why."""
         explained = self._asked(_library.hudarin_explain, token, asked, mapping)
-        answer = _held(explained.answer)
-        # In a canonical text each entry is what stands between a pair of brackets.
-        entries = re.findall(r"\([^()]*\)", str(self.descriptor))
-        parts = tuple(_part(part, entries) for part in explained.parts if part.mask != 0)
-        return Explanation(Verdict(VERDICTS[answer.kind], answer.mask), parts)
+        verdict = _verdict(_checked(explained.answer))
+        entries = _entry_texts(str(self._descriptor))
+        return Explanation(verdict, tuple(_part(part, entries) for part in explained.parts if part.mask != 0))
 
-    def _asked(self, call, token, asked, mapping):
-        """What the call answers, by what is kept here and by the token."""
-        _wanted(token, Token, "token")
-        request = _mapping(mapping), _number(asked, "asked")
+    def _asked(self, call: Callable[..., Any], token: Token, asked: Mask, mapping: Iterable[Mask]) -> Any:
+        _of_type(token, Token, "token")
+        request = _mapping(mapping), _mask(asked, "asked")
         with self._turn, token._turn:
             return call(self._kept, token._kept, *request)
 
 
 class Node(NamedTuple):
-    """A node of a view: its path, whether it is a container, and what was given to it, without what it inherits."""
+    """A node of a view."""
 
     path: str
     is_container: bool
+    #: Its owner, its group and its own DACL, without what it inherits.
     own: Descriptor
 
 
 class View(_Held):
-    """The tree of a ``Store`` as it was published, which never changes: ``with store.publish() as view: ..``, or until ``close``.
-    Threads may use one at once, and take turns at it; ``share`` makes another of the same, which they needn't wait for."""
+    """The tree of a ``Store`` at a publish. It never changes: ``with store.publish() as view: ..``, or until ``close``.
+    Threads take turns at it, or use a ``share`` each."""
 
     __slots__ = ()
 
-    def __enter__(self) -> "View":
-        return self
+    _argument = "view"
+    _uncopied = "share makes another"
 
-    def check(self, path: str, token: Token, asked: int = 0) -> Verdict:
-        """The verdict on ``asked`` for the node of the path. A ``Refused`` where no node stands there."""
+    def check(self, path: str, token: Token, asked: Mask = 0) -> Verdict:
+        """Whether the node of the path grants ``asked``, with the mapping of the store. Without such a node:
+        ``Refused``."""
         given = _text(path)
-        _wanted(token, Token, "token")
-        _number(asked, "asked")
+        _of_type(token, Token, "token")
+        bits = _mask(asked, "asked")
         with self._turn, token._turn:
-            told = _library.hudarin_view_check(self._kept, given, len(given), token._kept, asked)
-        return Verdict(VERDICTS[_held(told.answer).kind], told.answer.mask)
+            checked = _library.hudarin_view_check(self._kept, given, len(given), token._kept, bits)
+        return _verdict(_checked(checked.answer))
 
     def descriptor(self, path: str) -> Descriptor:
         """The descriptor of the node of the path, with the entries that it inherits."""
-        with self._turn:
-            return Descriptor(_written(_library.hudarin_view_descriptor, _text(path), self._kept))
+        return Descriptor(self._of_path(_library.hudarin_view_descriptor, path)[0])
 
     def own(self, path: str) -> Node:
-        """The node of the path, with what was given to it: the descriptor that an addition of it brings."""
+        """The node of the path. An addition with its own descriptor makes the same node."""
+        form, answer = self._of_path(_library.hudarin_view_own, path)
+        return Node(path, answer.kind == _CONTAINER, Descriptor(form))
+
+    def _of_path(self, call: Callable[..., Any], path: str) -> Tuple[bytes, Any]:
         given = _text(path)
         with self._turn:
-            form, told = _filled(lambda *room: _library.hudarin_view_own(self._kept, given, len(given), *room))
-        return Node(path, told.kind == _CONTAINER, Descriptor(form))
+            return _filled(
+                lambda *room: call(self._kept, given, len(given), *room),
+                argument=lambda written: self._argument if written.status == _HANDLE else "path",
+            )
 
     def nodes(self) -> Iterator[Node]:
-        """Each node, in the order of their paths: behind what holds it, and the root first."""
+        """Each node, in the order of the paths: the root first, and each node after its parent."""
         for place in itertools.count():
             try:
-                with self._turn:
-                    path, _ = _filled(lambda *room: _library.hudarin_view_node(self._kept, place, *room))
+                path = self._path_at(place)
             except Refused as refused:
                 if refused.status == STATUSES[_NO_NODE]:
                     return
                 raise
             yield self.own(path.decode())
 
+    def _path_at(self, place: int) -> bytes:
+        with self._turn:
+            return _filled(
+                lambda *room: _library.hudarin_view_node(self._kept, place, *room),
+                argument=lambda _: self._argument,
+            )[0]
+
     def share(self) -> "View":
         """Another view of the same tree, which is closed by itself."""
-        return self._shared(View())
+        return self._share()
 
     def __len__(self) -> int:
-        """How many edits its tree has."""
-        with self._turn:
-            return _held(_library.hudarin_journal_length(self._kept)).length
+        """The number of edits of its tree."""
+        return _journal_length(self)
 
     def __bool__(self) -> bool:
         return True
 
 
+def _journal_length(held: _Held) -> int:
+    with held._turn:
+        return int(_checked(_library.hudarin_journal_length(held._kept), argument=held._argument).length)
+
+
 class _Edits:
-    """The edits of a tree, each by its number, its path and its value."""
+    """The edits of a tree. One that the tree refuses is ``Refused``, and changes nothing."""
 
     __slots__ = ()
 
-    def _edit(self, edit, path, value=b""):
+    def _edit(self, edit: int, path: str, value: bytes = b"") -> None:
         raise NotImplementedError
 
     def add_container(self, path: str, descriptor: Descriptor) -> None:
         """Adds a container with the descriptor's owner, group and own DACL."""
-        self._edit(_ADD_CONTAINER, path, bytes(_wanted(descriptor, Descriptor, "descriptor")))
+        self._edit(_ADD_CONTAINER, path, bytes(_of_type(descriptor, Descriptor, "descriptor")))
 
     def add_object(self, path: str, descriptor: Descriptor) -> None:
         """Adds an object with the descriptor's owner, group and own DACL."""
-        self._edit(_ADD_OBJECT, path, bytes(_wanted(descriptor, Descriptor, "descriptor")))
+        self._edit(_ADD_OBJECT, path, bytes(_of_type(descriptor, Descriptor, "descriptor")))
 
     def set_owner(self, path: str, owner: Sid) -> None:
-        """Gives the node an owner."""
-        self._edit(_SET_OWNER, path, _sid(owner, "owner"))
+        """Sets the node's owner."""
+        self._edit(_SET_OWNER, path, bytes(_of_type(owner, Sid, "owner")))
 
     def set_group(self, path: str, group: Sid) -> None:
-        """Gives the node a group."""
-        self._edit(_SET_GROUP, path, _sid(group, "group"))
+        """Sets the node's group."""
+        self._edit(_SET_GROUP, path, bytes(_of_type(group, Sid, "group")))
 
     def set_dacl(self, path: str, descriptor: Descriptor) -> None:
-        """Gives the node the descriptor's DACL as its own; the descriptor has neither owner nor group."""
-        self._edit(_SET_DACL, path, bytes(_wanted(descriptor, Descriptor, "descriptor")))
+        """Sets the node's own DACL to the descriptor's. The descriptor must have neither owner nor group."""
+        self._edit(_SET_DACL, path, bytes(_of_type(descriptor, Descriptor, "descriptor")))
 
     def remove(self, path: str) -> None:
         """Removes a node without children."""
         self._edit(_REMOVE, path)
 
     def protect_keeping(self, path: str) -> None:
-        """Protects the node; what it had inherited becomes its own."""
+        """Protects the node from inheritance. The entries that it inherited become its own."""
         self._edit(_PROTECT_KEEPING, path)
 
     def move(self, source: str, target: str) -> None:
-        """Moves the node and all below it to a free path."""
+        """Moves the node and all below it to the target, a path without a node."""
         self._edit(_MOVE, source, _text(target))
 
 
 class Store(_Held, _Edits):
-    """A tree of containers and objects that inherit: ``with Store(root) as store: ..``, or until ``close``. Its edits are in no view
-    before the next ``publish``, and one that is refused changes nothing. Threads may use one at once, and take turns at it."""
+    """A tree of containers and objects that inherit entries: ``with Store(root) as store: ..``, or until ``close``. No
+    view has its edits before the next ``publish``. Threads take turns at it."""
 
     __slots__ = ()
 
-    def __init__(self, root: Descriptor, mapping: Iterable[int] = FILES) -> None:
-        """The tree of the root alone, a container with the descriptor's owner, group and DACL."""
-        super().__init__()
-        given = bytes(_wanted(root, Descriptor, "root"))
-        _held(_library.hudarin_store_open(given, len(given), _mapping(mapping), self._kept))
+    _argument = "store"
 
-    def __enter__(self) -> "Store":
-        return self
+    def __init__(self, root: Descriptor, mapping: Iterable[Mask] = FILES) -> None:
+        """The tree of the root alone: a container with the descriptor's owner, group and own DACL."""
+        given = bytes(_of_type(root, Descriptor, "root"))
+        masks = _mapping(mapping)
+        with self._turn:
+            _checked(_library.hudarin_store_open(given, len(given), masks, self._kept), argument=self._argument)
 
-    def _edit(self, edit, path, value=b""):
+    def _edit(self, edit: int, path: str, value: bytes = b"") -> None:
         self._call(_library.hudarin_store_edit, edit, path, value)
 
-    def _call(self, call, edit, path, value):
+    def _call(self, call: Callable[..., Any], edit: int, path: str, value: bytes) -> None:
         given = _text(path)
         with self._turn:
-            _held(call(self._kept, edit, given, len(given), value, len(value)))
+            _checked(call(self._kept, edit, given, len(given), value, len(value)))
 
     @property
     def judge(self) -> "Judge":
-        """Its edits are refused as those of the store would be, and make nothing: ``store.judge.remove(path)``."""
+        """The edits of the store, of which none is made: ``store.judge.remove(path)`` is ``Refused`` if
+        ``store.remove(path)`` would be."""
         return Judge(self)
 
     def revert(self, view: View) -> None:
-        """The tree is again that of the view, and has its edits alone: so several edits are made all or none."""
-        _wanted(view, View, "view")
+        """Makes the tree that of the view, and its edits the view's. So several edits can be made all or none."""
+        _of_type(view, View, "view")
         with self._turn, view._turn:
-            _held(_library.hudarin_store_revert(self._kept, view._kept))
+            closed = self._argument if self._kept.is_there == 0 else view._argument
+            _checked(_library.hudarin_store_revert(self._kept, view._kept), argument=closed)
 
     def publish(self) -> View:
         """A view of the tree with all its edits."""
         view = View()
         with self._turn:
-            _held(_library.hudarin_store_publish(self._kept, view._kept))
+            _checked(_library.hudarin_store_publish(self._kept, view._kept), argument=self._argument)
         return view
 
     def __len__(self) -> int:
-        """How many edits its tree has, those too that no view shows."""
-        with self._turn:
-            return _held(_library.hudarin_journal_length(self._kept)).length
+        """The number of edits of its tree, pending ones too."""
+        return _journal_length(self)
 
     def __bool__(self) -> bool:
         return True
 
 
 class Judge(_Edits):
-    """What the edits of a ``Store`` would be refused for: each is a ``Refused``, or None where it would be made. Nothing changes."""
+    """The edits of a ``Store``, of which none is made. Each is ``Refused`` if the store would refuse it, and otherwise
+    returns None."""
 
     __slots__ = ("_store",)
 
     def __init__(self, store: Store) -> None:
-        self._store = store
+        self._store = _of_type(store, Store, "store")
 
-    def _edit(self, edit, path, value=b""):
+    def _edit(self, edit: int, path: str, value: bytes = b"") -> None:
         self._store._call(_library.hudarin_store_judge, edit, path, value)

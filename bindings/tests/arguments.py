@@ -1,20 +1,34 @@
-"""What hudarin.py hands on: numbers of 32 bits, four masks, Sids, texts and bytes, and nothing else. The last line is
-'N passed, M failed'."""
+"""What hudarin.py passes to the library: numbers of 32 bits, four masks, SIDs, texts and bytes, and nothing else; and
+the results of checks, explanations, stores and views. The last line is 'N passed, M failed'."""
 
 import os
 import sys
 import threading
 
-sys.path.insert(0, os.path.join(os.path.dirname(os.path.abspath(__file__)), "..", "python"))
+HERE = os.path.dirname(os.path.abspath(__file__))
+sys.path[:0] = [HERE, os.path.join(HERE, "..", "python")]
 
-from hudarin import ENABLED, FILES, KEYS, TAKE_OWNERSHIP, Descriptor, KeptDescriptor, Refused, Sid, Store, Token, mask  # noqa: E402
+from hudarin import (  # noqa: E402
+    ENABLED,
+    FILES,
+    KEYS,
+    TAKE_OWNERSHIP,
+    Descriptor,
+    KeptDescriptor,
+    Refused,
+    Sid,
+    Store,
+    Token,
+    mask,
+)
+from tally import close, gives, raises  # noqa: E402
 
 USER = Sid.from_text("S-1-5-21-1-2-3-1001")
 EVERYONE = Sid.from_text("WD")
 OPEN = Descriptor.from_sddl("D:(A;;0x1;;;S-1-5-21-1-2-3-1001)")
 HELD = Descriptor.from_sddl("D:(A;;0x1;;;WD)")
 
-#: Not numbers of 32 bits: cut down to them, each but the last three would be asked for, and granted.
+#: No numbers of 32 bits. Cut down to 32 bits, most of them would be granted.
 NUMBERS = [
     (-1, ValueError),
     (-0xFFFFFFFF, ValueError),
@@ -25,46 +39,25 @@ NUMBERS = [
     (True, TypeError),
     (1.0, TypeError),
     (None, TypeError),
-    ("1", TypeError),
     (b"\x01", TypeError),
 ]
-
-passed = failed = 0
-
-
-def raises(place, wanted, call):
-    global passed, failed
-    try:
-        answer = call()
-    except Exception as e:  # noqa: BLE001
-        answer = e
-    if type(answer) is wanted:
-        passed += 1
-    else:
-        failed += 1
-        print(f"{place}: {wanted.__name__} is wanted, and not {answer!r}")
-
-
-def gives(place, wanted, call):
-    global passed, failed
-    answer = call()
-    if answer == wanted:
-        passed += 1
-    else:
-        failed += 1
-        print(f"{place}: {wanted!r} is wanted, and not {answer!r}")
-
 
 for number, wanted in NUMBERS:
     raises(f"asked {number!r}", wanted, lambda: OPEN.check(USER, asked=number))
     raises(f"state {number!r}", wanted, lambda: HELD.check(USER, [(EVERYONE, number)], asked=0x1))
     raises(f"privileges {number!r}", wanted, lambda: OPEN.check(USER, asked=0x1, privileges=number))
+    raises(f"a token's state {number!r}", wanted, lambda: Token(USER, [(EVERYONE, number)]))
+    raises(f"a token's privileges {number!r}", wanted, lambda: Token(USER, privileges=number))
     for place in range(4):
         masks = FILES[:place] + (number,) + FILES[place + 1 :]
         raises(f"mask {place} {number!r}", wanted, lambda: OPEN.check(USER, asked=0x1, mapping=masks))
 
-for masks, wanted in [((), ValueError), (FILES[:3], ValueError), (FILES + (0,), ValueError), (None, TypeError), (7, TypeError)]:
+MAPPINGS = [((), ValueError), (FILES[:3], ValueError), (FILES + (0,), ValueError), (None, TypeError), (7, TypeError)]
+for masks, wanted in MAPPINGS:
     raises(f"mapping {masks!r}", wanted, lambda: OPEN.check(USER, asked=0x1, mapping=masks))
+# A text is a mask, and neither a state nor privileges.
+raises("a state by a text", TypeError, lambda: HELD.check(USER, [(EVERYONE, "4")], asked=0x1))
+raises("privileges by a text", TypeError, lambda: OPEN.check(USER, asked=0x1, privileges="1"))
 
 for other in (bytes(USER), str(USER), 5, None, (USER, ENABLED)):
     raises(f"user {other!r}", TypeError, lambda: OPEN.check(other, asked=0x1))
@@ -80,13 +73,13 @@ for other in ("D:", 5, None, [1, 2, 3]):
     raises(f"bytes {other!r}", TypeError, lambda: Descriptor(other))
     raises(f"SID bytes {other!r}", TypeError, lambda: Sid(other))
 
-# The largest numbers get to the library, which answers.
+# The largest numbers reach the library.
 gives("all reserved", "reserved 0xce00000", lambda: str(OPEN.check(USER, asked=0xFFFFFFFF)))
 raises("the largest state", Refused, lambda: HELD.check(USER, [(EVERYONE, 0xFFFFFFFF)], asked=0x1))
 raises("the largest privileges", Refused, lambda: OPEN.check(USER, asked=0x1, privileges=0xFFFFFFFF))
 raises("the largest mask", Refused, lambda: OPEN.check(USER, asked=0x1, mapping=(0, 0, 0, 0xFFFFFFFF)))
 
-# What a refusal tells: the argument and the status, the fault with its name, and where.
+# What a refusal says: the argument and the status, the fault with its name, and the place.
 def refusal(call):
     try:
         call()
@@ -105,15 +98,18 @@ gives(
     lambda: str(Descriptor.from_sddl("O:LAG:DUD:(A;;FA;;;DA)", DOMAIN)),
 )
 gives("a SID of no domain", ("domain at 0", None), lambda: refusal(lambda: Descriptor.from_sddl("O:DA", USER)))
-gives("a fault behind an alias of a domain", ("sddl 5 UnknownAlias at 6", "UnknownAlias"), lambda: refusal(lambda: Descriptor.from_sddl("O:DAG:QQ", DOMAIN)))
+UNKNOWN = ("sddl 5 UnknownAlias at 6", "UnknownAlias")
+gives("a fault after an alias of a domain", UNKNOWN, lambda: refusal(lambda: Descriptor.from_sddl("O:DAG:QQ", DOMAIN)))
 raises("a domain that is no Sid", TypeError, lambda: Sid.from_text("DA", "S-1-5-21-7-8-9"))
-gives("a fault of a text", ("sddl 6 DomainAlias at 2", "DomainAlias"), lambda: refusal(lambda: Descriptor.from_sddl("O:DA")))
+NO_DOMAIN = ("sddl 6 DomainAlias at 2", "DomainAlias")
+gives("a fault of a text", NO_DOMAIN, lambda: refusal(lambda: Descriptor.from_sddl("O:DA")))
 gives("a fault of bytes", ("wire 1 Short at 0", "Short"), lambda: refusal(lambda: Descriptor(b"")))
 gives("a fault of a SID", ("sid 3 Short at 0", "Short"), lambda: refusal(lambda: Sid(b"\x01\x01")))
-gives("an argument", ("states state at 0", None), lambda: refusal(lambda: HELD.check(USER, [(EVERYONE, 0x14)], asked=0x1)))
-raises("a text that has no bytes", UnicodeEncodeError, lambda: Descriptor.from_sddl("\ud800"))
+STATE = ("states state at 0", None)
+gives("an argument", STATE, lambda: refusal(lambda: HELD.check(USER, [(EVERYONE, 0x14)], asked=0x1)))
+gives("a text that isn't UTF-8", ("utf8 at 2", None), lambda: refusal(lambda: Descriptor.from_sddl("O:\ud800")))
 
-# Reasons: what an explanation is asked of is tested as a check's arguments are, and told as it is worked by hand.
+# Reasons: the arguments of an explanation are tested as those of a check, and the reasons are as worked by hand.
 for number, wanted in NUMBERS:
     raises(f"explained {number!r}", wanted, lambda: OPEN.explain(USER, asked=number))
 raises("a group without a state", Refused, lambda: OPEN.explain(USER, [(EVERYONE, 0x14)], asked=0x1))
@@ -123,28 +119,31 @@ gives(
     "denied 0x2\ngranted 0x1 by entry 1 (A;;0x1;;;S-1-5-21-1-2-3-1001)\ndenied 0x2 by no entry",
     lambda: str(OPEN.explain(USER, asked=0x3)),
 )
-gives("entries count from 1", [(True, 0x1, 1, None), (False, 0x2, None, None)], lambda: [x[:4] for x in OPEN.explain(USER, asked=0x3).parts])
-gives("two passes", [(False, 0x1, 1, None)], lambda: [x[:4] for x in HELD.explain(USER, [EVERYONE], asked=0x1, restricting=[USER]).parts])
+PARTS = [(True, 0x1, 1, None), (False, 0x2, None, None)]
+gives("entries count from 1", PARTS, lambda: [x[:4] for x in OPEN.explain(USER, asked=0x3).parts])
+RESTRICTED = HELD.explain(USER, [EVERYONE], asked=0x1, restricting=[USER])
+gives("two passes", [(False, 0x1, 1, None)], lambda: [x[:4] for x in RESTRICTED.parts])
 gives("an empty request", (("empty", 0), ()), lambda: OPEN.explain(USER))
 
-# A token that is kept answers as one that is read anew, until it is closed.
+# A check by a token has the verdict of one by its parts, until the token is closed.
 with Token(USER, [EVERYONE]) as token:
     for asked in (0x1, 0x3, 0x80000000, 0, 0xFFFFFFFF):
         for one in (OPEN, HELD):
             gives(f"kept {asked:#x}", one.check(USER, [EVERYONE], asked=asked), lambda: one.check_by(token, asked))
     for number, wanted in NUMBERS:
         raises(f"by a token {number!r}", wanted, lambda: HELD.check_by(token, number))
-    raises("a mapping beyond a list's rights, by a token", Refused, lambda: HELD.check_by(token, 1, (0, 0, 0, 0x200000)))
+    raises("a mapping beyond a list's rights", Refused, lambda: HELD.check_by(token, 1, (0, 0, 0, 0x200000)))
 raises("a token that was closed", Refused, lambda: HELD.check_by(token, 0x1))
 gives("a token that is closed twice", None, token.close)
 raises("no token", TypeError, lambda: HELD.check_by(USER, 0x1))
 raises("a token without a state", Refused, lambda: Token(USER, [(EVERYONE, 0x14)]))
 raises("a token of no Sid", TypeError, lambda: Token("BA"))
-gives("keys are mapped as keys", "granted 0x20019", lambda: str(Descriptor.from_sddl("D:NO_ACCESS_CONTROL").check(USER, asked=0x80000000, mapping=KEYS)))
+NULL = Descriptor.from_sddl("D:NO_ACCESS_CONTROL")
+gives("keys are mapped as keys", "granted 0x20019", lambda: str(NULL.check(USER, asked=0x80000000, mapping=KEYS)))
 gives("equal descriptors", 1, lambda: len({OPEN, Descriptor(bytes(OPEN)), Descriptor(bytes(OPEN) + b"more")}))
 gives("another descriptor", False, lambda: OPEN == HELD or OPEN == bytes(OPEN))
 
-# A descriptor that is kept: the worked lines of README.md, until it is closed. What shares it is closed by itself.
+# A kept descriptor: the worked lines of README.md, until it is closed. A share of it is closed by itself.
 WORKED = Descriptor.from_sddl("O:BAG:SYD:(D;;FW;;;BU)(A;;FR;;;BU)")
 WHY = """denied 0x130116
 granted 0x89 by entry 2 (A;;FR;;;BU)
@@ -160,26 +159,26 @@ with Token(USER, [Sid.from_text("BU")], TAKE_OWNERSHIP) as token:
         for number, wanted in NUMBERS:
             raises(f"by a kept descriptor {number!r}", wanted, lambda: kept.check(token, number))
             raises(f"why, by a kept descriptor {number!r}", wanted, lambda: kept.explain(token, number))
-            raises(f"mask 0 {number!r}, by a kept descriptor", wanted, lambda: kept.check(token, 0x1, (number, 0, 0, 0)))
+            raises(f"mask 0 {number!r}, kept", wanted, lambda: kept.check(token, 0x1, (number, 0, 0, 0)))
         for one in (USER, None, kept, bytes(USER)):
             raises(f"by a kept descriptor, token {one!r}", TypeError, lambda: kept.check(one, 0x1))
             raises(f"why, by a kept descriptor, token {one!r}", TypeError, lambda: kept.explain(one, 0x1))
         raises("three masks, by a kept descriptor", ValueError, lambda: kept.check(token, 0x1, FILES[:3]))
         raises("a mapping beyond a kept list's rights", Refused, lambda: kept.check(token, 0x1, (0, 0, 0, 0x200000)))
-        raises("why, by a mapping beyond a kept list's rights", Refused, lambda: kept.explain(token, 0x1, (0, 0, 0, 0x200000)))
+        raises("why, by such a mapping", Refused, lambda: kept.explain(token, 0x1, (0, 0, 0, 0x200000)))
         kept.close()
         gives("a descriptor that was closed", CLOSED, lambda: refusal(lambda: kept.check(token, 0x1)))
         gives("why, by one that was closed", CLOSED, lambda: refusal(lambda: kept.explain(token, 0x1)))
         raises("a share of a descriptor that was closed", Refused, kept.share)
-        gives("a share, behind the first", "denied 0x130116", lambda: str(other.check(token, 0x1B019F)))
+        gives("a share, after the first", "denied 0x130116", lambda: str(other.check(token, 0x1B019F)))
         gives("a descriptor that is closed twice", None, kept.close)
     shared = token.share()
 raises("a share of a token that was closed", Refused, token.share)
 with KeptDescriptor(WORKED) as kept, shared:
     gives("a share of a token", "denied 0x130116", lambda: str(kept.check(shared, 0x1B019F)))
     gives("a token that was closed", ("token handle at 0", None), lambda: refusal(lambda: kept.check(token, 0x1)))
-with KeptDescriptor(Descriptor.from_sddl("D:NO_ACCESS_CONTROL")) as kept, Token(USER) as token:
-    gives("keys are mapped as keys, by a kept descriptor", "granted 0x20019", lambda: str(kept.check(token, 0x80000000, KEYS)))
+with KeptDescriptor(NULL) as kept, Token(USER) as token:
+    gives("keys are mapped as keys, kept", "granted 0x20019", lambda: str(kept.check(token, 0x80000000, KEYS)))
 for one in (bytes(WORKED), str(WORKED), None, 5, USER):
     raises(f"to keep {one!r}", TypeError, lambda: KeptDescriptor(one))
 
@@ -204,8 +203,9 @@ gives("threads at one token", [], lambda: wrong)
 # Restricting Sids only take away.
 gives("not restricted", "granted 0x1", lambda: str(HELD.check(USER, [EVERYONE], asked=0x1)))
 gives("restricted to the user", "denied 0x1", lambda: str(HELD.check(USER, [EVERYONE], asked=0x1, restricting=[USER])))
-gives("restricted to everyone too", "granted 0x1", lambda: str(HELD.check(USER, [EVERYONE], asked=0x1, restricting=[USER, EVERYONE])))
-gives("restricted to everyone, in no group", "denied 0x1", lambda: str(HELD.check(USER, asked=0x1, restricting=[EVERYONE])))
+BOTH = [USER, EVERYONE]
+gives("and to everyone", "granted 0x1", lambda: str(HELD.check(USER, [EVERYONE], asked=0x1, restricting=BOTH)))
+gives("to everyone, in no group", "denied 0x1", lambda: str(HELD.check(USER, asked=0x1, restricting=[EVERYONE])))
 
 
 def refusal(call):
@@ -216,7 +216,7 @@ def refusal(call):
         return e.status, e.name, e.argument
 
 
-# A store, and what its views show: each as it was published.
+# A store and its views, each with the tree of its publish.
 ROOT = Descriptor.from_sddl("O:SYG:SYD:(A;OICI;FR;;;S-1-5-21-1-2-3-1001)")
 NODE = Descriptor.from_sddl("O:BAG:SYD:")
 with Store(ROOT) as store, Token(USER) as token:
@@ -245,24 +245,29 @@ with Store(ROOT) as store, Token(USER) as token:
             raises(f"by a view {number!r}", wanted, lambda: second.check("/b/o", token, number))
         gives(
             "its nodes",
-            [("/", True, "O:SYG:SYD:(A;OICI;FR;;;S-1-5-21-1-2-3-1001)"), ("/b", True, "O:BAG:SYD:P(A;OICI;0x2;;;WD)"), ("/b/o", False, "O:BAG:BUD:P(A;;0x2;;;WD)")],
+            [
+                ("/", True, "O:SYG:SYD:(A;OICI;FR;;;S-1-5-21-1-2-3-1001)"),
+                ("/b", True, "O:BAG:SYD:P(A;OICI;0x2;;;WD)"),
+                ("/b/o", False, "O:BAG:BUD:P(A;;0x2;;;WD)"),
+            ],
             lambda: [(node.path, node.is_container, str(node.own)) for node in second.nodes()],
         )
         gives("one of them", second.own("/b/o"), lambda: list(second.nodes())[2])
-        gives("no such node", ("no node", None, None), lambda: refusal(lambda: second.own("/a")))
+        gives("no such node", ("no node", None, "path"), lambda: refusal(lambda: second.own("/a")))
         store.remove("/b/o")
         raises("a revert to no view", TypeError, lambda: store.revert(token))
         gives("a store that goes back", (None, 7), lambda: (store.revert(second), len(store)))
-    gives("a revert to a view that was closed", ("handle", None, None), lambda: refusal(lambda: store.revert(second)))
-    gives("nodes of a view that was closed", ("handle", None, None), lambda: refusal(lambda: list(second.nodes())))
+    gives("a revert to a view that was closed", ("handle", None, "view"), lambda: refusal(lambda: store.revert(second)))
+    gives("nodes of a view that was closed", ("handle", None, "view"), lambda: refusal(lambda: list(second.nodes())))
     raises("a revert to a token", TypeError, lambda: store.revert(token))
     raises("a token that is a view", TypeError, lambda: first.check("/", second, 0x1))
     raises("a token that is a store", TypeError, lambda: HELD.check_by(store, 0x1))
     store.remove("/b/o")
     gives("an edit that would be made", (None, 8), lambda: (store.judge.add_object("/q", NODE), len(store)))
-    gives("an edit that wouldn't", ("refused", "NoParent", None), lambda: refusal(lambda: store.judge.add_object("/x/y", NODE)))
+    no_parent = ("refused", "NoParent", None)
+    gives("an edit that wouldn't", no_parent, lambda: refusal(lambda: store.judge.add_object("/x/y", NODE)))
     raises("an owner that is no Sid, judged", TypeError, lambda: store.judge.set_owner("/b", "BA"))
-    gives("a parent that isn't there", ("refused", "NoParent", None), lambda: refusal(lambda: store.add_object("/x/y", NODE)))
+    gives("a parent that isn't there", no_parent, lambda: refusal(lambda: store.add_object("/x/y", NODE)))
     gives("no path", ("path", "Syntax", "path"), lambda: refusal(lambda: store.remove("b")))
     gives("no target", ("path", "Syntax", "value"), lambda: refusal(lambda: store.move("/b", "b")))
     gives("no owner", ("parts", None, "value"), lambda: refusal(lambda: store.add_object("/q", HELD)))
@@ -273,4 +278,4 @@ with Store(ROOT) as store, Token(USER) as token:
 gives("a store that was closed", ("handle", None, "store"), lambda: refusal(lambda: store.remove("/b")))
 gives("a root without an owner", ("parts", None, "value"), lambda: refusal(lambda: Store(HELD)))
 
-print(f"{passed} passed, {failed} failed")
+sys.exit(close())

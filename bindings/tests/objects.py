@@ -1,4 +1,5 @@
-"""How the objects of hudarin.py behave in Python: truth, copies and pickles. The last line is 'N passed, M failed'.
+"""How the objects of hudarin.py behave in Python: truth, copies, pickles and a second __init__; the parts of a
+descriptor, masks by names, which mistake raises what, and SACLs. The last line is 'N passed, M failed'.
 
 The module is that of the folder `python` beside this one, or else the one that Python finds.
 """
@@ -13,7 +14,10 @@ from typing import Any, Callable, List, Optional, Tuple
 HERE = os.path.dirname(os.path.abspath(__file__))
 sys.path[:0] = [HERE, os.path.join(HERE, "..", "python")]
 
+import hudarin  # noqa: E402
 from hudarin import (  # noqa: E402
+    FILES,
+    FLAGS,
     Descriptor,
     Explanation,
     KeptDescriptor,
@@ -23,6 +27,8 @@ from hudarin import (  # noqa: E402
     Store,
     Token,
     Verdict,
+    View,
+    mask,
 )
 from tally import close, gives, holds, raises  # noqa: E402
 
@@ -66,6 +72,7 @@ VALUES = {
     "a Descriptor": READERS,
     "a Verdict": Verdict("denied", 0x2),
     "an Explanation": READERS.explain(USER, [USERS], 0x3),
+    "an Entry": (READERS.entries or ())[0],
 }
 
 
@@ -125,9 +132,176 @@ def pool() -> None:
         asked = (USER, [USERS], 0x2)
         gives("a pool's verdict", Verdict("denied", 0x2), lambda: workers.apply(READERS.check, asked))
 
+
+def again() -> None:
+    """A second __init__ neither changes a value nor leaks memory."""
+    with Token(USER, [USERS]) as token, KeptDescriptor(READERS) as kept, Store(ROOT) as store:
+        handle = ("handle", 0, None, 0)
+        inits: List[Tuple[Any, Any, str]] = [(token, USER, "token"), (kept, ROOT, "descriptor"), (store, ROOT, "store")]
+        for held, given, name in inits:
+            gives(f"a {name}, again", handle + (name,), lambda: refused(lambda: held.__init__(given)))
+        gives("a kept one, after that", (READERS, "granted 0x1"), lambda: (kept.descriptor, str(kept.check(token, 1))))
+    value: Any
+    for value in (Sid(bytes(USER)), Descriptor(bytes(READERS))):
+        same = bytes(value)
+        value.__init__(bytes(ROOT))
+        gives(f"{value!r}, again", same, lambda: bytes(value))
+    gives("a view of nothing", ("handle", 0, None, 0, "view"), lambda: refused(lambda: View().own("/")))
+
+
+def parts() -> None:
+    """The owner, the group and the entries are those of the text, in any order of the parts' bytes."""
+    text = "O:S-1-5-21-1-2-3-1001G:BUD:PARAI(D;OICINPIOIDSAFA;0x30000;;;WD)(A;;FA;;;S-1-0x000100000000-7)(A;;0x0;;;BG)"
+    one = Descriptor.from_sddl(text)
+    gives("owner and group", (USER, USERS), lambda: (one.owner, one.group))
+    entries = one.entries or ()
+    gives(
+        "entries",
+        [("deny", 0xDF, 0x30000, "WD"), ("allow", 0, 0x1F01FF, "S-1-0x000100000000-7"), ("allow", 0, 0, "BG")],
+        lambda: [(each.kind, each.flags, each.mask, str(each.sid)) for each in entries],
+    )
+    gives("their texts", text[text.index("(") :], lambda: "".join(str(each) for each in entries))
+    gives("their flags", 0xDF, lambda: sum(FLAGS.values()))
+    for letters, flag in FLAGS.items():
+        gives(letters, flag, lambda: (Descriptor.from_sddl(f"D:(A;{letters};FR;;;WD)").entries or ())[0].flags)
+    shapes: List[Tuple[str, Tuple[Any, Any, Any]]] = [
+        ("", (None, None, None)),
+        ("O:BG", (Sid.from_text("BG"), None, None)),
+        ("G:BG", (None, Sid.from_text("BG"), None)),
+        ("O:BGG:BG", (Sid.from_text("BG"), Sid.from_text("BG"), None)),
+        ("D:", (None, None, ())),
+        ("D:P", (None, None, ())),
+        ("D:NO_ACCESS_CONTROL", (None, None, None)),
+        ("D:PAINO_ACCESS_CONTROL", (None, None, None)),
+    ]
+    for text, wanted in shapes:
+        one = Descriptor.from_sddl(text)
+        gives(f"the parts of {text!r}", wanted, lambda: (one.owner, one.group, one.entries))
+    # The list in front of the group, which is the owner's bytes too: [MS-DTYP] 2.4.6 leaves the order open.
+    written = bytes(Descriptor.from_sddl("O:BAD:(A;;FA;;;WD)"))
+    acl, sid = written[36:], written[20:36]
+    offsets = b"".join(at.to_bytes(4, "little") for at in (20 + len(acl), 20 + len(acl), 0, 20))
+    turned = written[:4] + offsets + acl + sid
+    gives("parts that share bytes", ("BA", "BA", ["(A;;FA;;;WD)"]), lambda: _of(Descriptor(turned)))
+    many = Descriptor.from_sddl("D:" + 3276 * "(A;;FA;;;WD)")
+    gives("the longest list", 3276, lambda: len(many.entries or ()))
+
+
+def _of(one: Descriptor) -> Tuple[str, str, List[str]]:
+    return str(one.owner), str(one.group), [str(each) for each in one.entries or ()]
+
+
+def names() -> None:
+    """A mask is a number or names of rights, wherever one is asked for."""
+    with Token(USER, [USERS]) as token, KeptDescriptor(READERS) as kept, Store(ROOT) as store, store.publish() as view:
+        asks: List[Tuple[str, Callable[[Any], Any]]] = [
+            ("check", lambda asked: READERS.check(USER, [USERS], asked)),
+            ("check_by", lambda asked: READERS.check_by(token, asked)),
+            ("kept", lambda asked: kept.check(token, asked)),
+            ("explain", lambda asked: READERS.explain(USER, [USERS], asked).verdict),
+            ("kept.explain", lambda asked: kept.explain(token, asked).verdict),
+            ("view", lambda asked: view.check("/", token, asked)),
+        ]
+        for name, ask in asks:
+            for text in ("FR", "0x1", "FW", "RCWD", "0x80000000", "fr", "01", ""):
+                gives(f"{name} {text!r}", ask(mask(text)), lambda: ask(text))
+            gives(f"{name} by no right", ("mask", 1, "Syntax", 0, None), lambda: refused(lambda: ask("X")))
+            gives(f"{name} by 33 bits", ("mask", 7, "Range", 0, None), lambda: refused(lambda: ask("0x100000000")))
+            gives(f"{name} by no text", ("utf8", 0, None, 1, None), lambda: refused(lambda: ask("F\ud800")))
+    full = Descriptor.from_sddl("D:(A;;GR;;;BU)")
+    of_files, of_keys = ("FR", "FW", "FX", "FA"), ("KR", 0, "", "KA")
+    gives("a mapping by names", "granted 0x120089", lambda: str(full.check(USER, [USERS], "GR", mapping=of_files)))
+    gives("a mapping by both", "granted 0x20019", lambda: str(full.check(USER, [USERS], "GR", mapping=of_keys)))
+    texts: List[Any] = ["1234", bytes(4)]
+    for wrong in texts:
+        raises(f"the mapping {wrong!r}", TypeError, lambda: full.check(USER, [USERS], "GR", mapping=wrong))
+
+
+def one_exception() -> None:
+    """One kind of mistake is one exception, whichever call finds it."""
+    gives("a SID's text", ("sid", 1, "Syntax", 0, None), lambda: refused(lambda: Sid.from_text("alice")))
+    gives("an alias of a domain", ("sid", 6, "DomainAlias", 0, None), lambda: refused(lambda: Sid.from_text("DA")))
+    gives("a SID's bytes", ("sid", 3, "Short", 0, None), lambda: refused(lambda: Sid(b"\x01\x01")))
+    gives("a mask's text", ("mask", 1, "Syntax", 0, None), lambda: refused(lambda: mask("alice")))
+    gives("a descriptor's text", ("sddl", 1, "Syntax", 0, None), lambda: refused(lambda: Descriptor.from_sddl("alice")))
+    texts: List[Tuple[str, Callable[[str], Any]]] = [
+        ("SDDL", Descriptor.from_sddl),
+        ("SDDL in a domain", lambda text: Descriptor.from_sddl(text, Sid.from_text("S-1-5-21-7-8-9"))),
+        ("a SID", Sid.from_text),
+        ("a mask", mask),
+    ]
+    for name, call in texts:
+        for text in ("\ud800", "\udcff", "\udfff"):
+            gives(f"{name}, {text!a}", ("utf8", 0, None, 0, None), lambda: refused(lambda: call(text)))
+    written = bytes(READERS)
+    unsure: List[Any] = ["no", 1, 0, None]
+    for leaves in unsure:
+        raises(f"leaves_sacl={leaves!r}", TypeError, lambda: Descriptor(written, leaves))
+        raises(f"from_blob, leaves_sacl={leaves!r}", TypeError, lambda: Descriptor.from_blob(written, 0, leaves))
+    groups: List[Any] = [(), (USERS,), (USERS, 0x4, 0x4)]
+    for group in groups:
+        raises(f"the group {group}", TypeError, lambda: Token(USER, [group]))
+    places: List[Tuple[Any, Any]] = [(-1, ValueError), (1 << 64, ValueError), ("0", TypeError), (True, TypeError)]
+    for place, kind in places:
+        raises(f"the place {place!r}", kind, lambda: Descriptor.from_blob(written, place))
+    with Token(USER, [USERS]) as token, Store(ROOT) as store, store.publish() as view:
+        finds: List[Tuple[str, Callable[[Any], Any]]] = [
+            ("check", lambda path: view.check(path, token, "FR")),
+            ("own", lambda path: view.own(path)),
+            ("descriptor", lambda path: view.descriptor(path)),
+        ]
+        for name, find in finds:
+            gives(f"{name}, no node", ("no node", 0, None, 0, "path"), lambda: refused(lambda: find("/x")))
+            gives(f"{name}, no path", ("path", 1, "Syntax", 0, "path"), lambda: refused(lambda: find("x")))
+            gives(f"{name}, no text", ("utf8", 0, None, 1, "path"), lambda: refused(lambda: find("/\udcff")))
+            raises(f"{name}, bytes", TypeError, lambda: find(b"/"))
+            view.close()
+            gives(f"{name}, closed", ("handle", 0, None, 0, "view"), lambda: refused(lambda: find("/")))
+            view = store.publish()
+        closed = ("handle", 0, None, 0)
+        view.close()
+        gives("revert to a closed view", closed + ("view",), lambda: refused(lambda: store.revert(view)))
+        gives("nodes of a closed view", closed + ("view",), lambda: refused(lambda: list(view.nodes())))
+        gives("the length of a closed view", closed + ("view",), lambda: refused(lambda: len(view)))
+        gives("a share of a closed view", closed + ("view",), lambda: refused(view.share))
+        other = store.publish()
+        store.close()
+        asks: List[Tuple[str, Callable[[], Any]]] = [
+            ("publish", store.publish),
+            ("revert", lambda: store.revert(other)),
+            ("length", lambda: len(store)),
+            ("edit", lambda: store.remove("/x")),
+            ("judge", lambda: store.judge.remove("/x")),
+        ]
+        for name, ask in asks:
+            gives(f"{name} of a closed store", closed + ("store",), lambda: refused(ask))
+    raises("a judge of no store", TypeError, lambda: hudarin.Judge(READERS))  # type: ignore[arg-type]
+
+
+def sacls() -> None:
+    """A SACL is refused, or left out by one keyword."""
+    # Behind the header, as Windows writes it: an empty SACL, and the rest of READERS.
+    written = bytes(READERS)
+    head, rest = bytearray(written[:20]), written[20:]
+    for at in (4, 8, 16):
+        head[at : at + 4] = (int.from_bytes(head[at : at + 4], "little") + 8).to_bytes(4, "little")
+    head[2], head[12] = head[2] | 0x10, 20
+    with_sacl = bytes(head) + b"\x02\x00\x08\x00\x00\x00\x00\x00" + rest
+    wire = ("wire", 4, "HasSacl", 0, None)
+    gives("a SACL", wire, lambda: refused(lambda: Descriptor(with_sacl)))
+    gives("a SACL, not left out", wire, lambda: refused(lambda: Descriptor(with_sacl, leaves_sacl=False)))
+    gives("a SACL, left out", READERS, lambda: Descriptor(with_sacl, leaves_sacl=True))
+    gives("no SACL, left out", READERS, lambda: Descriptor(written, leaves_sacl=True))
+    gives("more after it", READERS, lambda: Descriptor(with_sacl + b"more", leaves_sacl=True))
+    gives("out of a blob", (READERS, 1), lambda: Descriptor.from_blob(with_sacl, 0, leaves_sacl=True))
+    gives("out of a blob, refused", wire, lambda: refused(lambda: Descriptor.from_blob(with_sacl, 0)))
+
+
 def main() -> int:
-    for test in (truth, copies, refusals, pool):
+    for test in (truth, copies, refusals, pool, again, parts, names, one_exception, sacls):
         test()
+    gives("all names of the module", [], lambda: [name for name in hudarin.__all__ if not hasattr(hudarin, name)])
+    gives("the mapping of files", FILES, lambda: (mask("FR"), mask("FW"), mask("FX"), mask("FA")))
     return close()
 
 

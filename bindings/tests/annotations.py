@@ -1,0 +1,60 @@
+"""Uses of hudarin.py for mypy alone: it reports a fault on just the lines that ignore one. Nothing here is run."""
+
+from typing import Iterator, Optional, Tuple
+
+from hudarin import (
+    DENY_ONLY,
+    FILES,
+    Descriptor,
+    Entry,
+    Explanation,
+    KeptDescriptor,
+    Node,
+    Refused,
+    Sid,
+    Store,
+    Token,
+    Verdict,
+    View,
+    mask,
+)
+
+user: Sid = Sid.from_text("SY")
+groups = [user, (user, DENY_ONLY)]
+descriptor: Descriptor = Descriptor.from_sddl("D:", domain=user)
+verdict: Verdict = descriptor.check(user, [user, (user, DENY_ONLY)], asked="FR", mapping=FILES, restricting=[user])
+why: Explanation = descriptor.explain(user, asked=0x1, mapping=("FR", "FW", 0, "FA"))
+kind: str = verdict.kind
+bits: int = mask("FR") | verdict.mask
+owner: Optional[Sid] = descriptor.owner
+entries: Optional[Tuple[Entry, ...]] = descriptor.entries
+blob: Tuple[Descriptor, int] = Descriptor.from_blob(memoryview(b""), 0, leaves_sacl=True)
+copied: Descriptor = Descriptor(descriptor, leaves_sacl=True)
+
+with Token(user, [user], restricting=[user]) as token, KeptDescriptor(descriptor) as kept, Store(descriptor) as store:
+    by: Verdict = kept.check(token.share(), "FR") if descriptor.check_by(token, 0x1) else kept.share().check(token, 0)
+    with store.publish() as view, view.share() as other:
+        seen: View = other
+        nodes: Iterator[Node] = view.nodes()
+        count: int = len(view) + len(store)
+        store.judge.move("/a", "/b")
+
+try:
+    mask("")
+except Refused as e:
+    said: Tuple[str, int, Optional[str], int, Optional[str]] = (e.status, e.fault, e.name, e.place, e.argument)
+
+Sid.from_text(b"SY")  # type: ignore[arg-type]
+Sid("SY")  # type: ignore[arg-type]
+Descriptor.from_sddl("D:", domain="SY")  # type: ignore[arg-type]
+descriptor.check("SY")  # type: ignore[arg-type]
+descriptor.check(user, ["WD"])  # type: ignore[list-item]
+descriptor.check(user, asked=1.0)  # type: ignore[arg-type]
+descriptor.check_by(user)  # type: ignore[arg-type]
+sid: Sid = descriptor.owner  # type: ignore[assignment]
+copied.owner = user  # type: ignore[misc]
+mask(1)  # type: ignore[arg-type]
+store.add_object("/a", "D:")  # type: ignore[arg-type]
+store.revert(token)  # type: ignore[arg-type]
+view.check("/a", user)  # type: ignore[arg-type]
+verdict.missing  # type: ignore[attr-defined]
