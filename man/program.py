@@ -1,4 +1,4 @@
-"""What the program's help says, as data: nothing that is written of it is told anywhere else."""
+"""The program's help as data, the one source of the manual page and of the completions."""
 
 import re
 import subprocess
@@ -6,8 +6,8 @@ from dataclasses import dataclass, field
 
 
 @dataclass
-class Told:
-    """An option, an argument or a command, and what is told of it, line by line."""
+class Described:
+    """An option, an argument or a command, and its description line by line."""
 
     shape: str
     lines: list[str] = field(default_factory=list)
@@ -18,51 +18,51 @@ class Told:
 
     @property
     def names(self) -> list[str]:
-        """Of an option its names, as --help and -h; of a command its one."""
+        """Of an option its names, as --help and -h; of a command its name."""
         return [each.split(" ")[0] for each in self.shape.split(", ")]
 
     @property
     def value(self) -> str:
-        """Of an option what its value is called, or nothing."""
+        """Of an option the name of its value, or nothing."""
         found = re.search(r"<([^>]*)>", self.shape)
         return found[1] if found else ""
 
     @property
     def values(self) -> list[str]:
-        """What the value may be, where the help lists it."""
+        """The possible values, if the help lists them with the option."""
         found = re.search(r"\[possible values: ([^\]]*)\]", self.text)
         return found[1].split(", ") if found else []
 
 
 @dataclass
 class Help:
-    """The help on a command, or on the program."""
+    """The help of a command, or of the program."""
 
     about: str
     usage: str
-    commands: list[Told]
-    arguments: list[Told]
-    options: list[Told]
+    commands: list[Described]
+    arguments: list[Described]
+    options: list[Described]
     notes: str
 
 
-def _entries(lines: list[str]) -> list[Told]:
-    """What a block of the help tells: an entry is set in by less than eight, and what continues it by more."""
-    entries: list[Told] = []
+def _entries(lines: list[str]) -> list[Described]:
+    """The entries of a block of the help. The first line of each is indented by less than eight, the others by more."""
+    entries: list[Described] = []
     for each in lines:
         text = each.strip()
         if len(each) - len(each.lstrip()) >= 8:
             entries[-1].lines.append(text)
             continue
-        shape, *told = re.split(r" {2,}", text, maxsplit=1)
-        entries.append(Told(shape, told))
+        shape, *described = re.split(r" {2,}", text, maxsplit=1)
+        entries.append(Described(shape, described))
     return entries
 
 
 def read_help(text: str) -> Help:
     about, rest = text.split("\n\nUsage: ", 1)
     usage, _, rest = rest.partition("\n")
-    blocks: dict[str, list[Told]] = {"Commands": [], "Arguments": [], "Options": []}
+    blocks: dict[str, list[Described]] = {"Commands": [], "Arguments": [], "Options": []}
     while found := re.match(r"\n*(Commands|Arguments|Options):\n((?: +\S.*\n?)+)", rest):
         blocks[found[1]] = _entries(found[2].splitlines())
         rest = rest[found.end() :]
@@ -70,7 +70,7 @@ def read_help(text: str) -> Help:
 
 
 class Program:
-    """The built program, asked for its help and its version."""
+    """The built program, which is run for its help and its version."""
 
     def __init__(self, path: str) -> None:
         self._path = path
@@ -79,6 +79,39 @@ class Program:
         self.names = [each.shape for each in self.help.commands if each.shape != "help"]
         self.commands = {name: read_help(self._says("help", name)) for name in self.names}
 
+    def values_of(self, option: Described) -> list[str]:
+        """The possible values of an option, where the help lists them: with the option, or those of --mapping in the
+        table of the generic rights."""
+        if "--mapping" in option.names:
+            return re.findall(r"^  ([a-z]+) +GR 0x", self.commands["verdict"].notes, re.MULTILINE)
+        return option.values
+
+    @property
+    def words(self) -> dict[str, list[str]]:
+        """By command, those of its arguments that the help lists by their whole names, as +take."""
+        named = {}
+        for name, command in self.commands.items():
+            lines = [line.split()[0] for each in command.arguments for line in each.lines if line.startswith("+")]
+            if lines:
+                named[name] = lines
+        return named
+
+    @property
+    def inner(self) -> dict[str, list[str]]:
+        """By command that takes a command as its first argument, as `each` does, those that it takes."""
+        taken = {}
+        for name, command in self.commands.items():
+            for each in command.arguments:
+                if each.shape == "<COMMAND>":
+                    taken[name] = [word for word in re.findall("[a-z]+", each.text) if word in self.names]
+        return taken
+
+    @property
+    def flags(self) -> dict[str, list[str]]:
+        """By such a command, its own options but for help."""
+        flags = {name: [flag for each in self.commands[name].options for flag in each.names] for name in self.inner}
+        return {name: [flag for flag in each if flag not in ("-h", "--help")] for name, each in flags.items()}
+
     def _says(self, *words: str) -> str:
-        said = subprocess.run([self._path, *words], stdin=subprocess.DEVNULL, capture_output=True, check=True, text=True)
-        return said.stdout
+        command = [self._path, *words]
+        return subprocess.run(command, stdin=subprocess.DEVNULL, capture_output=True, check=True, text=True).stdout
