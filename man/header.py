@@ -1,4 +1,4 @@
-"""What bindings/hudarin.h declares, with the comments that stand before it."""
+"""The declarations of bindings/hudarin.h, with the comments before them."""
 
 import re
 import textwrap
@@ -7,7 +7,7 @@ from dataclasses import dataclass, field
 
 @dataclass
 class Item:
-    """A call, a type or a constant: its name, its declaration line by line, and what is told of it."""
+    """A call, a type or a constant: its name, its declaration line by line, and its comment."""
 
     name: str
     lines: list[str]
@@ -41,13 +41,13 @@ _PIECE = re.compile(
 
 
 def _plain(comment: str) -> str:
-    """A comment's text, its paragraphs behind empty lines."""
+    """A comment's text, with an empty line between two paragraphs."""
     lines = [re.sub(r"^\s*\* ?", "", each).strip() for each in comment.strip().splitlines()]
     return re.sub(r"(?<!\n)\n(?!\n)", " ", "\n".join(lines)).strip()
 
 
 def _call(found: re.Match) -> list[str]:
-    """The declaration without the word that wants the answer looked at, in lines that a terminal holds."""
+    """The declaration without HUDARIN_ANSWERS, in lines that fit a terminal."""
     text = (found["inline"] or "") + found["call"].replace("HUDARIN_ANSWERS ", "") + ";"
     wrap = textwrap.TextWrapper(72, subsequent_indent="    ", break_long_words=False, break_on_hyphens=False)
     return wrap.wrap(" ".join(text.split()))
@@ -61,9 +61,9 @@ def read_header(text: str) -> Header:
         if found["comment"] is not None:
             comment = _plain(found["comment"])
             if comment.startswith("---- "):
-                title, _, told = comment[5:].partition(". ")
+                title, _, rest_of_it = comment[5:].partition(". ")
                 title, _, more = title.partition(": ")
-                header.sections.append(Section(title, " ".join(each for each in (more, told) if each)))
+                header.sections.append(Section(title, " ".join(each for each in (more, rest_of_it) if each)))
                 comment = ""
             continue
         if found["constant"] and found["constant"] != "HUDARIN_ANSWERS":

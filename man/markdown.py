@@ -6,12 +6,12 @@ from textwrap import indent
 import roff
 
 _SPAN = re.compile(r"`(?P<code>[^`]*)`|\*\*(?P<bold>[^*]+)\*\*|\*(?P<soft>[^*\s][^*]*)\*|\[(?P<link>[^\]]+)\]\([^)]+\)")
-# How many columns of a terminal a table may take.
+# The greatest width of a table, in columns of a terminal.
 _ROOM = 68
 
 
 def inline(text: str, width: int = 10**6) -> str:
-    """A line's spans, for a column of this width: code and bold letters are bold, a link is its text."""
+    """A line's spans, for a column of this width: code and bold text are bold, a link is its text."""
     made, at = [], 0
     for found in _SPAN.finditer(text):
         made.append(_words(text[at : found.start()], width))
@@ -36,8 +36,8 @@ def _width(cell: str) -> int:
 
 
 def _widths(rows: list[list[str]], longest: list[int]) -> list[int]:
-    """How many columns each cell of a row has: its longest text's, where all fit, else at least what its words want, and a
-    share of what is left."""
+    """The width of each column: that of its longest text, if all fit; otherwise at least that of its longest word, and
+    a share of the rest."""
     room = _ROOM - 3 * (len(longest) - 1)
     if sum(longest) <= room:
         return longest
@@ -78,15 +78,15 @@ def _block(lines: list[str]) -> list[str]:
     if found := re.match(r"(- |\d+\. )", text):
         made = []
         for each in re.split(r"\n(?=- |\d+\. )", text):
-            mark, _, told = each.partition(" ")
+            mark, _, rest = each.partition(" ")
             tag = "\\(bu" if mark == "-" else mark
-            made += [".IP %s 3" % tag, roff.line(inline(" ".join(told.split())))]
+            made += [".IP %s 3" % tag, roff.line(inline(" ".join(rest.split())))]
         return made
     return [".PP", roff.line(inline(" ".join(text.split())))]
 
 
 def page(text: str) -> list[str]:
-    """The page behind its title and its list of headings, which the manual's reader has no use for."""
+    """The page without its title and its list of headings, which a manual page doesn't have."""
     made: list[str] = []
     text = re.sub(r"\A# .*\n", "", text)
     text = re.sub(r"(^- \[.*\]\(#.*\)\n)+", "", text, flags=re.MULTILINE)
@@ -106,7 +106,7 @@ def page(text: str) -> list[str]:
 
 
 def _parts(lines: list[str]) -> list[str]:
-    """The lines of a block, a table apart from what stands before it."""
+    """The lines of a block: a table, and the lines before it."""
     at = next((at for at, each in enumerate(lines) if each.startswith("|")), 0)
     before = _block(lines[:at]) if at else []
     return before + _block(lines[at:])
