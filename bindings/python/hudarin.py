@@ -226,14 +226,14 @@ class _Version(ctypes.Structure):
 
 
 def _named_library() -> str:
-    """The library's path, or its soname for the system's loader. A path counts only where this file is in a folder of a
-    checkout or of an installation, so that no library of a folder that anybody may write is loaded."""
+    """The library's path, if this file is in a checkout or an installation, else its soname for the system's loader.
+    (Beside a copy of this file anybody may have put a library.)"""
     name = "libhudarin.so.0"
     folder, file = os.path.split(os.path.abspath(__file__))
     if file == "__init__.py":
         folder = os.path.dirname(folder)
     path = name
-    if folder.endswith(os.path.join("", "bindings", "python")):
+    if folder.endswith(os.path.join(os.sep, "bindings", "python")):
         path = os.path.join(os.path.dirname(folder), "out", name)
     elif os.path.basename(folder) in ("dist-packages", "site-packages"):
         path = os.path.join(os.path.dirname(os.path.dirname(folder)), name)
