@@ -24,7 +24,7 @@ import os
 import re
 import threading
 from typing import Any, Callable, ContextManager, Iterable, Iterator, NamedTuple, NoReturn, Optional, SupportsBytes
-from typing import Tuple, Type, TypeVar, Union
+from typing import Tuple, Type, TypeVar, Union, cast
 
 __version__ = "0.1.0"
 
@@ -378,10 +378,8 @@ def _text(value: object) -> bytes:
 
 
 def _data(value: object) -> bytes:
-    if isinstance(value, bytes):
-        return value
-    if isinstance(value, (bytearray, memoryview)) or hasattr(type(value), "__bytes__"):
-        return bytes(value)  # type: ignore[call-overload, no-any-return]
+    if isinstance(value, (bytes, bytearray, memoryview)) or hasattr(type(value), "__bytes__"):
+        return bytes(cast(SupportsBytes, value))
     raise TypeError(f"expected bytes, not {value!r}")
 
 

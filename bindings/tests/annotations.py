@@ -44,17 +44,17 @@ try:
 except Refused as e:
     said: Tuple[str, int, Optional[str], int, Optional[str]] = (e.status, e.fault, e.name, e.place, e.argument)
 
-Sid.from_text(b"SY")  # type: ignore[arg-type]
-Sid("SY")  # type: ignore[arg-type]
-Descriptor.from_sddl("D:", domain="SY")  # type: ignore[arg-type]
-descriptor.check("SY")  # type: ignore[arg-type]
-descriptor.check(user, ["WD"])  # type: ignore[list-item]
-descriptor.check(user, asked=1.0)  # type: ignore[arg-type]
-descriptor.check_by(user)  # type: ignore[arg-type]
-sid: Sid = descriptor.owner  # type: ignore[assignment]
-copied.owner = user  # type: ignore[misc]
-mask(1)  # type: ignore[arg-type]
-store.add_object("/a", "D:")  # type: ignore[arg-type]
-store.revert(token)  # type: ignore[arg-type]
-view.check("/a", user)  # type: ignore[arg-type]
-verdict.missing  # type: ignore[attr-defined]
+Sid.from_text(b"SY")  # type: ignore
+Sid("SY")  # type: ignore
+Descriptor.from_sddl("D:", domain="SY")  # type: ignore
+descriptor.check("SY")  # type: ignore
+descriptor.check(user, ["WD"])  # type: ignore
+descriptor.check(user, asked=1.0)  # type: ignore
+descriptor.check_by(user)  # type: ignore
+sid: Sid = descriptor.owner  # type: ignore
+copied.owner = user  # type: ignore
+mask(1)  # type: ignore
+store.add_object("/a", "D:")  # type: ignore
+store.revert(token)  # type: ignore
+view.check("/a", user)  # type: ignore
+verdict.missing  # type: ignore
