@@ -594,9 +594,7 @@ def _pair(group: object) -> Tuple[bytes, int]:
     return bytes(_of_type(group[0], Sid, "groups")), _number(group[1], "states")
 
 
-def _token(
-    user: Sid, groups: Iterable[Group], privileges: int, restricting: Iterable[Sid]
-) -> Tuple[Any, ...]:
+def _token(user: Sid, groups: Iterable[Group], privileges: int, restricting: Iterable[Sid]) -> Tuple[Any, ...]:
     """A token as arguments of the library."""
     pairs = [_pair(group) for group in groups]
     sids = b"".join(sid for sid, _ in pairs)
@@ -773,9 +771,9 @@ class Descriptor(_Bytes):
 
     @property
     def entries(self) -> Optional[Tuple[Entry, ...]]:
-        """The entries of the DACL in their order. None if there is no list (an absent or a null DACL), which grants
-        everything; an empty list grants nothing. They are cut out of the canonical text, since the library has no
-        call for them."""
+        """The entries of the DACL in their order. None if there is no list, but an absent or a null DACL, which grants
+        the standard rights and the object's own to everyone. An empty list has no entries, and grants nothing by
+        itself. They are cut out of the canonical text, since the library has no call for them."""
         found = self._sections()
         if found["words"] is None or "NO_ACCESS_CONTROL" in found["words"]:
             return None
