@@ -261,19 +261,19 @@ def _found_library() -> ctypes.CDLL:
 def _load() -> ctypes.CDLL:
     library = _found_library()
     given: Any = [ctypes.c_char_p, _SIZE]
-    room: Any = [ctypes.c_void_p, _SIZE]
+    buffer: Any = [ctypes.c_void_p, _SIZE]
     kept = ctypes.POINTER(_Kept)
     token: Any = given * 2 + [ctypes.POINTER(_U32), _SIZE] + given + [_U32]
     request: Any = [_Mapping, _U32]
     calls = {
-        "sddl_to_bytes": (given + room, _Written),
-        "bytes_to_sddl": (given + room, _Written),
-        "sid_text_to_bytes": (given + room, _Written),
-        "sid_bytes_to_text": (given + room, _Written),
-        "sddl_to_bytes_in": (given * 2 + room, _Written),
-        "sid_text_to_bytes_in": (given * 2 + room, _Written),
+        "sddl_to_bytes": (given + buffer, _Written),
+        "bytes_to_sddl": (given + buffer, _Written),
+        "sid_text_to_bytes": (given + buffer, _Written),
+        "sid_bytes_to_text": (given + buffer, _Written),
+        "sddl_to_bytes_in": (given * 2 + buffer, _Written),
+        "sid_text_to_bytes_in": (given * 2 + buffer, _Written),
         "descriptor_length": (given, _Written),
-        "descriptor_trim": (given + [_U64, _U32] + room, _Trimmed),
+        "descriptor_trim": (given + [_U64, _U32] + buffer, _Trimmed),
         "mask_from_text": (given, _Mask),
         "check": (given + token + request, _Verdict),
         "keep_bytes": (given + [kept], _Written),
@@ -288,9 +288,9 @@ def _load() -> ctypes.CDLL:
         "store_publish": ([kept, kept], _Written),
         "store_revert": ([kept, kept], _Written),
         "view_check": ([kept] + given + [kept, _U32], _ViewVerdict),
-        "view_descriptor": ([kept] + given + room, _Written),
-        "view_own": ([kept] + given + room, _NodeAnswer),
-        "view_node": ([kept, _U64] + room, _NodeAnswer),
+        "view_descriptor": ([kept] + given + buffer, _Written),
+        "view_own": ([kept] + given + buffer, _NodeAnswer),
+        "view_node": ([kept, _U64] + buffer, _NodeAnswer),
         "journal_length": ([kept], _Written),
         "release": ([kept], None),
     }
@@ -408,15 +408,15 @@ def _mapping(masks: Iterable[Mask], files: Iterable[Mask] = FILES, of_files: _Ma
 def _filled(
     call: Callable[[Any, int], Any], kind: str = "sddl", argument: Optional[Callable[[Any], str]] = None
 ) -> Tuple[bytes, Any]:
-    """What the call writes into a room, and its answer. A room that is too small is replaced by one of the length that
-    the answer says."""
+    """What the call writes into a buffer, and its answer. A buffer that is too small is replaced by one of the length
+    that the answer says."""
     length = 256
     while True:
-        room = ctypes.create_string_buffer(length)
-        answer = call(room, length)
+        buffer = ctypes.create_string_buffer(length)
+        answer = call(buffer, length)
         written = getattr(answer, "written", answer)
         if written.status == 0:
-            return room.raw[: written.length], answer
+            return buffer.raw[: written.length], answer
         if written.status != _ROOM:
             _refuse(written, kind, argument(written) if argument else None)
         length = written.length
@@ -424,7 +424,7 @@ def _filled(
 
 def _written(call: Callable[..., Any], given: bytes, kind: str = "sddl") -> bytes:
     """What the call writes for these bytes."""
-    return _filled(lambda room, length: call(given, len(given), room, length), kind)[0]
+    return _filled(lambda buffer, length: call(given, len(given), buffer, length), kind)[0]
 
 
 def _spelled(name: str, text: str, domain: Optional["Sid"], kind: str) -> bytes:
@@ -435,7 +435,7 @@ def _spelled(name: str, text: str, domain: Optional["Sid"], kind: str) -> bytes:
         return _written(call, given, kind)
     of_domain = getattr(_library, name + "_in")
     sid = bytes(_of_type(domain, Sid, "domain"))
-    return _filled(lambda room, length: of_domain(sid, len(sid), given, len(given), room, length), kind)[0]
+    return _filled(lambda buffer, length: of_domain(sid, len(sid), given, len(given), buffer, length), kind)[0]
 
 
 class Verdict(NamedTuple):
@@ -731,11 +731,11 @@ class Descriptor(_Bytes):
         """The descriptor whose header is at the offset ``place`` of a blob, where its own offsets count from the blob's
         front, as in Samba's security.NTACL; and what is left out of it: 1 for a SACL, 2 for the resource manager's
         byte, 3 for both. A SACL is ``Refused``, unless ``leaves_sacl`` is True."""
-        given, room = _data(data), ctypes.create_string_buffer(_DESCRIPTOR_BYTES)
+        given, buffer = _data(data), ctypes.create_string_buffer(_DESCRIPTOR_BYTES)
         leave = 1 if _of_type(leaves_sacl, bool, "leaves_sacl") else 0
         at = _number(place, "place", 64)
-        trimmed = _library.hudarin_descriptor_trim(given, len(given), at, leave, room, len(room))
-        return cls._of(room.raw[: _checked(trimmed.written).length]), trimmed.left_out
+        trimmed = _library.hudarin_descriptor_trim(given, len(given), at, leave, buffer, len(buffer))
+        return cls._of(buffer.raw[: _checked(trimmed.written).length]), trimmed.left_out
 
     def __str__(self) -> str:
         """The canonical SDDL text."""
@@ -911,7 +911,7 @@ class View(_Held):
         given = _text(path)
         with self._turn:
             return _filled(
-                lambda *room: call(self._kept, given, len(given), *room),
+                lambda *buffer: call(self._kept, given, len(given), *buffer),
                 argument=lambda written: self._argument if written.status == _HANDLE else "path",
             )
 
@@ -929,7 +929,7 @@ class View(_Held):
     def _path_at(self, place: int) -> bytes:
         with self._turn:
             return _filled(
-                lambda *room: _library.hudarin_view_node(self._kept, place, *room),
+                lambda *buffer: _library.hudarin_view_node(self._kept, place, *buffer),
                 argument=lambda _: self._argument,
             )[0]
 
