@@ -85,7 +85,7 @@ def copies() -> None:
             gives(f"{name}, pickled by {protocol}", value, lambda: pickle.loads(pickle.dumps(value, protocol)))
     gives("a Sid, hashed", hash(USER), lambda: hash(pickle.loads(pickle.dumps(USER))))
     # The library tests the bytes of a pickle again.
-    broken = pickle.dumps(USER, 2).replace(bytes(USER)[:2], b"\x01\x0f")
+    broken = pickle.dumps(USER, 4).replace(bytes(USER)[:2], b"\x01\x0f")
     gives("the bytes of a pickle", "sid", lambda: (refused(lambda: pickle.loads(broken)) or ("loaded",))[0])
     with Token(USER, [USERS]) as token, KeptDescriptor(READERS) as kept, Store(ROOT) as store, store.publish() as view:
         for held in (token, kept, store, view):
@@ -219,7 +219,7 @@ def names() -> None:
 
 def one_exception() -> None:
     """One kind of mistake is one exception, whichever call finds it."""
-    gives("a SID's text", ("sid", 1, "Syntax", 0, None), lambda: refused(lambda: Sid.from_text("alice")))
+    gives("a SID's text", ("sid", 5, "UnknownAlias", 0, None), lambda: refused(lambda: Sid.from_text("alice")))
     gives("an alias of a domain", ("sid", 6, "DomainAlias", 0, None), lambda: refused(lambda: Sid.from_text("DA")))
     gives("a SID's bytes", ("sid", 3, "Short", 0, None), lambda: refused(lambda: Sid(b"\x01\x01")))
     gives("a mask's text", ("mask", 1, "Syntax", 0, None), lambda: refused(lambda: mask("alice")))
