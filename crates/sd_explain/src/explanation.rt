@@ -50,14 +50,14 @@ pub fn explain(
         mapping,
         token,
     };
-    let rights = question.rights(asked);
+    let wanted = question.wanted(asked);
+    let rights = question.rights(asked, wanted);
     let given = question.given();
     let first = question.findings(Pass::First, rights);
     let second = question.findings_again(rights);
     let mut reasons = [None; 32];
     for place in 0..PLACES {
-        let listed = question.listed_cause(first[place as usize], second[place as usize]);
-        reasons[place as usize] = question.reason(asked, place, given, listed);
+        reasons[place as usize] = question.reason(asked, wanted, place, given, &first, &second);
     }
     Explanation { reasons }
 }

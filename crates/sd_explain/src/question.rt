@@ -11,7 +11,7 @@ ghost use Rattle.sd_check.specs.Steps.{rights_in, walked_bits};
 ghost use Rattle.sd_check.specs.Token.{applies_again, is_restricted};
 ghost use Rattle.sd_check.specs.Walk.{mask_that_applies};
 ghost use Rattle.sd_explain.specs.Reasons.{finding_of, given_or as given_or_of, granting_or as granting_or_of, high_cause as high_cause_of, named_cause as named_cause_of, maximum_cause as maximum_cause_of, reason_at};
-ghost use Rattle.sd_explain.specs.Findings.{IsFoundIn, IsListed};
+ghost use Rattle.sd_explain.specs.Findings.{IsFoundIn, IsListed, listed_by};
 
 use crate::explanation::PLACES;
 use crate::reason::{Cause, Finding, Reason};
@@ -161,14 +161,16 @@ impl Question<'_> {
         }
     }
 
-    /// The cause of a bit for which the passes find this.
-    pub(crate) fn listed_cause(&self, first: Finding, second: Finding) -> Cause
-        ensures { result ≡ (if is_restricted self.now.token.now then Cause.Restricted first second else Cause.Listed first) }
+    /// The cause of the bit by what the passes find.
+    fn listed_cause(&self, first: &[Finding; 32], second: &[Finding; 32], place: u32) -> Cause
+        requires { place < 32 }
+        ensures { result ≡ listed_by (is_restricted self.now.token.now) first.now second.now place }
     {
+        let found = first[place as usize];
         if self.token.is_restricted() {
-            Cause::Restricted(first, second)
+            Cause::Restricted(found, second[place as usize])
         } else {
-            Cause::Listed(first)
+            Cause::Listed(found)
         }
     }
 
@@ -180,17 +182,17 @@ impl Question<'_> {
     }
 
     /// The request without MAXIMUM_ALLOWED, with its generic rights mapped.
-    fn wanted(&self, asked: Mask) -> Mask
+    pub(crate) fn wanted(&self, asked: Mask) -> Mask
         ensures { result ≡ mapped self.now.mapping.now (without_maximum asked) }
     {
         self.mapping.map(asked.minus(MAXIMUM_ALLOWED))
     }
 
     /// The bits that the list is asked for.
-    pub(crate) fn rights(&self, asked: Mask) -> Mask
+    pub(crate) fn rights(&self, asked: Mask, wanted: Mask) -> Mask
+        requires { wanted ≡ mapped self.now.mapping.now (without_maximum asked) }
         ensures { result ≡ rights_in (walked_bits self.now.mapping.now asked) }
     {
-        let wanted = self.wanted(asked);
         if asked.holds(MAXIMUM_PLACE) {
             wanted.union(OBJECT_RIGHTS).common(OBJECT_RIGHTS)
         } else {
@@ -199,10 +201,18 @@ impl Question<'_> {
     }
 
     /// Why a bit that the request names is granted or denied.
-    fn named_cause(&self, place: u32, given: Implied, listed: Cause) -> Cause
+    fn named_cause(
+        &self,
+        place: u32,
+        given: Implied,
+        first: &[Finding; 32],
+        second: &[Finding; 32],
+    ) -> Cause
+        requires place { place < 32 }
         requires given { given ≡ implied_of self.now.owner.now (entries_of self.now.dacl) self.now.token.now }
         requires listed { place < 21
-            → IsListed self.now.owner.now (entries_of self.now.dacl) self.now.mapping.now self.now.token.now place listed }
+            → IsListed self.now.owner.now (entries_of self.now.dacl) self.now.mapping.now self.now.token.now place
+            (listed_by (is_restricted self.now.token.now) first.now second.now place) }
         ensures { result ≡ named_cause_of self.now.owner.now (entries_of self.now.dacl) self.now.mapping.now self.now.token.now place }
     {
         if place >= RIGHTS_END {
@@ -211,22 +221,31 @@ impl Question<'_> {
         match self.dacl {
             DaclRef::Absent => Cause::NoList,
             DaclRef::Null => Cause::NoList,
-            DaclRef::List(_) => granting_or(given, place, listed),
+            DaclRef::List(_) => {
+                granting_or(given, place, self.listed_cause(first, second, place))
+            }
         }
     }
 
     /// Why MAXIMUM_ALLOWED takes the bit in, or leaves it out.
-    fn maximum_cause(&self, place: u32, given: Implied, listed: Cause) -> Cause
+    fn maximum_cause(
+        &self,
+        place: u32,
+        given: Implied,
+        first: &[Finding; 32],
+        second: &[Finding; 32],
+    ) -> Cause
         requires place { place < 32 }
         requires given { given ≡ implied_of self.now.owner.now (entries_of self.now.dacl) self.now.token.now }
         requires listed { place < 21
-            → IsListed self.now.owner.now (entries_of self.now.dacl) self.now.mapping.now self.now.token.now place listed }
+            → IsListed self.now.owner.now (entries_of self.now.dacl) self.now.mapping.now self.now.token.now place
+            (listed_by (is_restricted self.now.token.now) first.now second.now place) }
         ensures { result ≡ maximum_cause_of self.now.owner.now (entries_of self.now.dacl) self.now.mapping.now self.now.token.now place }
     {
         match self.dacl {
             DaclRef::Absent => self.maximum_cause_without_a_list(place, given),
             DaclRef::Null => self.maximum_cause_without_a_list(place, given),
-            DaclRef::List(_) => self.named_cause(place, given, listed),
+            DaclRef::List(_) => self.named_cause(place, given, first, second),
         }
     }
 
@@ -242,31 +261,35 @@ impl Question<'_> {
         given_or(given, place, Cause::BeyondAll)
     }
 
-    /// The reason of the bit in the answer to the request, where it has a part in it; `listed` is what the list says of it,
-    /// where the list is asked for it.
+    /// The reason of the bit in the answer to the request, where it has a part in it. `first` and `second` are what the passes
+    /// find for the bits that the list is asked for.
     pub(crate) fn reason(
         &self,
         asked: Mask,
+        wanted: Mask,
         place: u32,
         given: Implied,
-        listed: Cause,
+        first: &[Finding; 32],
+        second: &[Finding; 32],
     ) -> Option<Reason>
+        requires wanted { wanted ≡ mapped self.now.mapping.now (without_maximum asked) }
         requires place { place < 32 }
         requires given { given ≡ implied_of self.now.owner.now (entries_of self.now.dacl) self.now.token.now }
         requires listed { holds (rights_in (walked_bits self.now.mapping.now asked)) place ≡ true
-            → IsListed self.now.owner.now (entries_of self.now.dacl) self.now.mapping.now self.now.token.now place listed }
+            → IsListed self.now.owner.now (entries_of self.now.dacl) self.now.mapping.now self.now.token.now place
+            (listed_by (is_restricted self.now.token.now) first.now second.now place) }
         ensures { result ≡ reason_at self.now.owner.now (entries_of self.now.dacl) self.now.mapping.now self.now.token.now asked place }
     {
         let reserved = asked.common(RESERVED);
         if !reserved.is_empty() {
             return reserved_reason(reserved, place);
         }
-        if self.wanted(asked).holds(place) {
-            let cause = self.named_cause(place, given, listed);
+        if wanted.holds(place) {
+            let cause = self.named_cause(place, given, first, second);
             return Some(Reason { named: true, cause });
         }
         if asked.holds(MAXIMUM_PLACE) && place < RIGHTS_END {
-            let cause = self.maximum_cause(place, given, listed);
+            let cause = self.maximum_cause(place, given, first, second);
             return Some(Reason {
                 named: false,
                 cause,

@@ -7,7 +7,7 @@ use Rattle.sd_explain.proofs.question.Question.reason.Goals as goal
 pub named_cause-cause-requires-clause-listed : goal.named_cause-cause-requires-clause-listed
 named_cause-cause-requires-clause-listed c = λ low.
     c.requires.listed (named_is_asked c.args.self.now.mapping.now c.args.asked c.args.place c.requires.place low
-    (ap (λ n. holds n c.args.place) (sym c.wanted.ensures) ∙ sym c.holds.ensures ∙ c.if-holds.true))
+    (ap (λ n. holds n c.args.place) (sym c.requires.wanted) ∙ sym c.holds.ensures ∙ c.if-holds.true))
 
 pub maximum_cause-cause-requires-clause-listed : goal.maximum_cause-cause-requires-clause-listed
 maximum_cause-cause-requires-clause-listed c = λ low.

@@ -10,11 +10,11 @@ returns-then-holds c =
     let wanted = mapped c.args.self.now.mapping.now (without_maximum c.args.asked) in
     let all : ℕ → ℕ = λ n. mask_of (λ b. holds n b || holds 0x001FFFFF b) 32 in
     let maximum : holds c.args.asked 25 ≡ true = sym c.holds.ensures ∙ c.if-holds.true in
-    c.common.ensures ∙ ap rights_in (c.union.ensures ∙ ap all c.wanted-wanted.ensures ∙ sym (ap (λ m. cond m (all wanted) wanted) maximum))
+    c.common.ensures ∙ ap rights_in (c.union.ensures ∙ ap all c.requires ∙ sym (ap (λ m. cond m (all wanted) wanted) maximum))
 
 pub returns-else-holds : goal.returns-else-holds
 returns-else-holds c =
     let wanted = mapped c.args.self.now.mapping.now (without_maximum c.args.asked) in
     let all : ℕ → ℕ = λ n. mask_of (λ b. holds n b || holds 0x001FFFFF b) 32 in
     let plain : holds c.args.asked 25 ≡ false = sym c.holds.ensures ∙ c.if-holds.false in
-    c.common-else-holds.ensures ∙ ap rights_in (c.wanted-wanted.ensures ∙ sym (ap (λ m. cond m (all wanted) wanted) plain))
+    c.common-else-holds.ensures ∙ ap rights_in (c.requires ∙ sym (ap (λ m. cond m (all wanted) wanted) plain))
