@@ -68,7 +68,7 @@ pub(crate) const COMMANDS: [CommandName; 10] = [
 ];
 
 /// The program.
-pub(crate) const PROGRAM: Description = Description {
+pub(crate) static PROGRAM: Description = Description {
     name: "sdstore",
     about: "Windows security descriptors and access checks by [MS-DTYP]",
     usage: "sdstore [OPTIONS] <COMMAND>",
@@ -180,7 +180,7 @@ static QUESTION: [Argument; 3] = [
     },
 ];
 
-const VERDICT: Description = Description {
+static VERDICT: Description = Description {
     name: "verdict",
     about: "Prints whether a descriptor grants a mask to a user",
     usage: "sdstore [OPTIONS] verdict [--] <SDDL> <USER> <MASK> [WORD]...",
@@ -188,7 +188,7 @@ const VERDICT: Description = Description {
     spaces_help: true,
 };
 
-const WHY: Description = Description {
+static WHY: Description = Description {
     name: "why",
     about: "Prints whether a descriptor grants a mask to a user, and why",
     usage: "sdstore [OPTIONS] why [--] <SDDL> <USER> <MASK> [WORD]...",
@@ -196,7 +196,7 @@ const WHY: Description = Description {
     spaces_help: true,
 };
 
-const LINT: Description = Description {
+static LINT: Description = Description {
     name: "lint",
     about: "Prints what is doubtful in a descriptor's DACL",
     usage: "sdstore [OPTIONS] lint [--] <SDDL>",
@@ -204,7 +204,7 @@ const LINT: Description = Description {
     spaces_help: false,
 };
 
-const PRINT: Description = Description {
+static PRINT: Description = Description {
     name: "print",
     about: "Prints a descriptor in canonical SDDL",
     usage: "sdstore [OPTIONS] print [--] <SDDL>",
@@ -212,7 +212,7 @@ const PRINT: Description = Description {
     spaces_help: false,
 };
 
-const TO_BINARY: Description = Description {
+static TO_BINARY: Description = Description {
     name: "tobin",
     about: "Prints a descriptor in self-relative form, in hexadecimal",
     usage: "sdstore [OPTIONS] tobin [--] <SDDL>",
@@ -220,7 +220,7 @@ const TO_BINARY: Description = Description {
     spaces_help: false,
 };
 
-const FROM_BINARY: Description = Description {
+static FROM_BINARY: Description = Description {
     name: "frombin",
     about: "Prints a descriptor in self-relative form as canonical SDDL",
     usage: "sdstore [OPTIONS] frombin [--] <BYTES>",
@@ -228,7 +228,7 @@ const FROM_BINARY: Description = Description {
     spaces_help: false,
 };
 
-const SCRIPT: Description = Description {
+static SCRIPT: Description = Description {
     name: "script",
     about: "Carries out the script on standard input: builds a tree of nodes, edits it and asks",
     usage: "sdstore [OPTIONS] script",
@@ -236,7 +236,7 @@ const SCRIPT: Description = Description {
     spaces_help: false,
 };
 
-const SERVE: Description = Description {
+static SERVE: Description = Description {
     name: "serve",
     about: "Answers each line of the script on standard input when it is read",
     usage: "sdstore [OPTIONS] serve",
@@ -244,7 +244,7 @@ const SERVE: Description = Description {
     spaces_help: false,
 };
 
-const AUDIT: Description = Description {
+static AUDIT: Description = Description {
     name: "audit",
     about: "Carries out the script on standard input, and answers its checks at the end",
     usage: "sdstore [OPTIONS] audit [--] <N>",
@@ -252,7 +252,7 @@ const AUDIT: Description = Description {
     spaces_help: false,
 };
 
-const EACH: Description = Description {
+static EACH: Description = Description {
     name: "each",
     about: "Does what a command does, with each line of standard input as the descriptor",
     usage: "sdstore [OPTIONS] each [-0] <COMMAND> [--] [ARG]...",
@@ -262,18 +262,18 @@ const EACH: Description = Description {
 
 impl CommandName {
     /// What help tells of it.
-    pub(crate) fn description(self) -> Description {
+    pub(crate) fn description(self) -> &'static Description {
         match self {
-            CommandName::Verdict => VERDICT,
-            CommandName::Why => WHY,
-            CommandName::Lint => LINT,
-            CommandName::Print => PRINT,
-            CommandName::ToBinary => TO_BINARY,
-            CommandName::FromBinary => FROM_BINARY,
-            CommandName::Script => SCRIPT,
-            CommandName::Serve => SERVE,
-            CommandName::Audit => AUDIT,
-            CommandName::Each => EACH,
+            CommandName::Verdict => &VERDICT,
+            CommandName::Why => &WHY,
+            CommandName::Lint => &LINT,
+            CommandName::Print => &PRINT,
+            CommandName::ToBinary => &TO_BINARY,
+            CommandName::FromBinary => &FROM_BINARY,
+            CommandName::Script => &SCRIPT,
+            CommandName::Serve => &SERVE,
+            CommandName::Audit => &AUDIT,
+            CommandName::Each => &EACH,
         }
     }
 

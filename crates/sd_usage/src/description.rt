@@ -4,7 +4,6 @@ use clap::{Arg, ArgAction, Command};
 use std::alloc::{AllocError, Global};
 
 /// The program, or one of its commands.
-#[derive(Clone, Copy)]
 pub(crate) struct Description {
     pub name: &'static str,
     pub about: &'static str,
@@ -16,7 +15,6 @@ pub(crate) struct Description {
 }
 
 /// An argument of a command, or an option.
-#[derive(Clone, Copy)]
 pub(crate) struct Argument {
     pub name: &'static str,
     pub form: Form,
@@ -24,7 +22,6 @@ pub(crate) struct Argument {
 }
 
 /// How an argument is written.
-#[derive(Clone, Copy)]
 pub(crate) enum Form {
     /// An option of that name, without a value.
     Flag,
@@ -41,7 +38,7 @@ pub(crate) enum Form {
 impl Description {
     /// The command, with these arguments.
     pub(crate) fn command<'a>(
-        self,
+        &self,
         alloc: Global,
         arguments: &[Argument],
     ) -> Result<Command<'a>, AllocError> {
@@ -59,15 +56,15 @@ impl Description {
 
 impl Argument {
     // As `clap` takes it.
-    fn described<'a>(self, alloc: Global) -> Arg<'a> {
+    fn described<'a>(&self, alloc: Global) -> Arg<'a> {
         let argument = Arg::new(alloc, self.name).help(self.help);
-        match self.form {
+        match &self.form {
             Form::Flag => argument.long(self.name).action(ArgAction::SetTrue),
             Form::Setting(value) => argument
                 .long(self.name)
                 .value_name(value)
                 .allow_hyphen_values(true),
-            Form::Letter(letter) => argument.short(letter).action(ArgAction::SetTrue),
+            Form::Letter(letter) => argument.short(*letter).action(ArgAction::SetTrue),
             Form::Word => argument.required(true).allow_hyphen_values(true),
             Form::Words => argument.num_args(0..).allow_hyphen_values(true),
         }
