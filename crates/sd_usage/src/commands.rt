@@ -1,4 +1,4 @@
-//! The commands of the program, and the options before them: what help tells of each.
+//! The commands of the program, the options before them, and the help on each.
 
 use crate::command_name::CommandName;
 use crate::description::{Argument, Description, Form};
@@ -12,48 +12,48 @@ const DESCRIPTOR: &str = "The descriptor in SDDL";
 const USER: &str = "The user's SID: in full, as S-1-5-21-1-2-3-1001, or an alias, as SY";
 
 const MASK: &str = "\
-The rights that are asked for, spelled as the rights of an entry: names without a space, as
-FR or RCWD, or a number below 2^32, hexadecimal (0x1f01ff), octal (01777) or decimal (2032127)";
+The requested access mask, written as the rights of an entry: names without a space, as FR or
+RCWD, or a number below 2^32, hexadecimal (0x1f01ff), octal (01777) or decimal (2032127)";
 
 const WORD: &str = "\
-What the token has beside the user:
+What the token has besides the user:
 SID           an enabled group
-SID=deny      a group that counts for deny entries only
-SID=off       a group that counts for nothing
-SID=restrict  a restricting SID, no group: access is asked a second time for these alone
+SID=deny      a deny-only group, which counts for deny entries alone
+SID=off       a disabled group, which counts for nothing
+SID=restrict  a restricting SID, not a group: access is checked a second time, for these alone
 +security     SeSecurityPrivilege
 +take         SeTakeOwnershipPrivilege";
 
-const NAMES: &str = "Before 'why': tells rights by their names, as FR+WD in place of 0x160089";
+const NAMES: &str = "Before 'why': prints rights by their names, as FR+WD instead of 0x160089";
 
 const WITHOUT_SACL: &str = "\
-Before a command that reads a descriptor: leaves out a section S: of audit and label entries, or the
-SACL in bytes, and tells of it on standard error";
+Before 'verdict', 'why', 'lint', 'print', 'tobin' or 'frombin': drops a section S: of audit and label
+entries, or the SACL in bytes, and reports it on standard error";
 
 const BASE64: &str = "Before 'frombin': the bytes are in base64";
 
 const LOOSE: &str = "\
-Before 'frombin': the bytes are in hexadecimal, with '0x', tabs, spaces, commas, backslashes and line
-ends between them";
+Before 'frombin': the bytes are in hexadecimal, in parts that tabs, spaces, commas, backslashes and
+line ends separate, each with or without '0x'";
 
 const PERCENT: &str = "\
-Before 'script', 'serve' and 'audit': '%' and two hexadecimal digits stand for a byte of a path, in
-what is read and in what is printed";
+Before 'script', 'serve' or 'audit': paths are percent-encoded, in the input and in the output: '%'
+and two hexadecimal digits are a byte";
 
 const STRICT: &str = "\
-Before 'script', 'serve' and 'audit': where a line has a fault or is refused the status is 1, and
-standard error tells the first such line";
+Before 'script', 'serve' or 'audit': the status is 1 if a line has a fault or is refused, and
+standard error reports the first such line";
 
 const MAPPING: &str = "\
-Before 'verdict', 'why', 'lint', 'script', 'serve' and 'audit': what generic rights stand for: those
-of a file (as without this option), of a key of the registry, of a service or of a process, or
-R,W,X,A, the four masks of GR, GW, GX and GA";
+Before 'verdict', 'why', 'lint', 'script', 'serve' or 'audit': the generic mapping, that of a 'file'
+(the default), of a registry 'key', of a 'service' or of a 'process', or R,W,X,A, the four masks of
+GR, GW, GX and GA";
 
 const DOMAIN: &str = "\
-Before a command that reads SDDL: the aliases of a domain's accounts and groups, as DA, are read as
-SIDs of the domain with this SID, S-1-5-21 and three more numbers, as S-1-5-21-1-2-3";
+Before 'verdict', 'why', 'lint', 'print' or 'tobin': the aliases of a domain's accounts and groups,
+as DA, are SIDs of the domain with this SID: S-1-5-21 and three numbers, as S-1-5-21-1-2-3";
 
-/// All commands, in the order in which help tells them.
+/// All commands, in the order in which help lists them.
 pub(crate) const COMMANDS: [CommandName; 10] = [
     CommandName::Verdict,
     CommandName::Why,
@@ -76,7 +76,7 @@ pub(crate) static PROGRAM: Description = Description {
     spaces_help: false,
 };
 
-/// The options, which stand before a command.
+/// The options, which go before a command.
 pub(crate) static OPTIONS: [Argument; 8] = [
     Argument {
         name: "names",
@@ -120,7 +120,7 @@ pub(crate) static OPTIONS: [Argument; 8] = [
     },
 ];
 
-// What stands behind each command.
+// The arguments of each command.
 static REQUEST: [Argument; 4] = [
     Argument {
         name: "SDDL",
@@ -166,7 +166,7 @@ static QUESTION: [Argument; 3] = [
     Argument {
         name: "zero",
         form: Form::Letter('0'),
-        help: "Lines end by zero bytes",
+        help: "Lines end with zero bytes",
     },
     Argument {
         name: "COMMAND",
@@ -176,13 +176,13 @@ static QUESTION: [Argument; 3] = [
     Argument {
         name: "ARG",
         form: Form::Words,
-        help: "The command's arguments, but for the descriptor",
+        help: "The command's arguments without the descriptor",
     },
 ];
 
 static VERDICT: Description = Description {
     name: "verdict",
-    about: "Prints whether a descriptor grants a mask to a user",
+    about: "Prints whether a descriptor grants an access mask to a user",
     usage: "sdstore [OPTIONS] verdict [--] <SDDL> <USER> <MASK> [WORD]...",
     notes: VERDICT_NOTES,
     spaces_help: true,
@@ -190,7 +190,7 @@ static VERDICT: Description = Description {
 
 static WHY: Description = Description {
     name: "why",
-    about: "Prints whether a descriptor grants a mask to a user, and why",
+    about: "Prints whether a descriptor grants an access mask to a user, and why",
     usage: "sdstore [OPTIONS] why [--] <SDDL> <USER> <MASK> [WORD]...",
     notes: WHY_NOTES,
     spaces_help: true,
@@ -230,7 +230,7 @@ static FROM_BINARY: Description = Description {
 
 static SCRIPT: Description = Description {
     name: "script",
-    about: "Carries out the script on standard input: builds a tree of nodes, edits it and asks",
+    about: "Runs the script on standard input: builds a tree of nodes, edits it and checks access",
     usage: "sdstore [OPTIONS] script",
     notes: SCRIPT_NOTES,
     spaces_help: false,
@@ -238,7 +238,7 @@ static SCRIPT: Description = Description {
 
 static SERVE: Description = Description {
     name: "serve",
-    about: "Answers each line of the script on standard input when it is read",
+    about: "Runs the script on standard input line by line, for a program that waits for each answer",
     usage: "sdstore [OPTIONS] serve",
     notes: SERVE_NOTES,
     spaces_help: false,
@@ -246,7 +246,7 @@ static SERVE: Description = Description {
 
 static AUDIT: Description = Description {
     name: "audit",
-    about: "Carries out the script on standard input, and answers its checks at the end",
+    about: "Runs the script on standard input, and answers its checks at the end",
     usage: "sdstore [OPTIONS] audit [--] <N>",
     notes: AUDIT_NOTES,
     spaces_help: false,
@@ -254,14 +254,14 @@ static AUDIT: Description = Description {
 
 static EACH: Description = Description {
     name: "each",
-    about: "Does what a command does, with each line of standard input as the descriptor",
+    about: "Runs a command for each line of standard input, with the line as the descriptor",
     usage: "sdstore [OPTIONS] each [-0] <COMMAND> [--] [ARG]...",
     notes: EACH_NOTES,
     spaces_help: false,
 };
 
 impl CommandName {
-    /// What help tells of it.
+    /// Its name, usage and help.
     pub(crate) fn description(self) -> &'static Description {
         match self {
             CommandName::Verdict => &VERDICT,
@@ -277,7 +277,7 @@ impl CommandName {
         }
     }
 
-    /// What stands behind it.
+    /// Its arguments.
     pub(crate) fn arguments(self) -> &'static [Argument] {
         match self {
             CommandName::Verdict | CommandName::Why => &REQUEST,

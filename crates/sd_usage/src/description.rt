@@ -1,4 +1,4 @@
-//! What `clap` is told of a command line.
+//! Commands, arguments and options as data, and the `clap` values made of them.
 
 use clap::{Arg, ArgAction, Command};
 use std::alloc::{AllocError, Global};
@@ -8,9 +8,9 @@ pub(crate) struct Description {
     pub name: &'static str,
     pub about: &'static str,
     pub usage: &'static str,
-    /// What its help ends with.
+    /// The end of its help.
     pub notes: &'static str,
-    /// Whether the help of an argument begins a line of its own.
+    /// Whether the help of an argument begins on a line of its own.
     pub spaces_help: bool,
 }
 
@@ -25,13 +25,13 @@ pub(crate) struct Argument {
 pub(crate) enum Form {
     /// An option of that name, without a value.
     Flag,
-    /// An option of that name, whose value is the next word: what the value is called.
+    /// An option of that name whose value is the next argument: the value's name.
     Setting(&'static str),
     /// An option of one letter.
     Letter(char),
-    /// A word, taken as it stands.
+    /// One argument, even if it begins with a hyphen.
     Word,
-    /// Any number of words.
+    /// Any number of such arguments.
     Words,
 }
 
@@ -55,7 +55,7 @@ impl Description {
 }
 
 impl Argument {
-    // As `clap` takes it.
+    // The same for `clap`.
     fn described<'a>(&self, alloc: Global) -> Arg<'a> {
         let argument = Arg::new(alloc, self.name).help(self.help);
         match &self.form {

@@ -1,7 +1,12 @@
-//! The help of the program `sdstore`, and why words aren't a command line of its, as `clap` tells them.
+//! The help of the program `sdstore`, and the errors for arguments that aren't a valid command line, by `clap`.
 //!
-//! What the words of a command line ask for is read elsewhere, and proved there; here is what a person is told of it. The
-//! texts are tested: `clap` makes them, and its contracts say nothing of a text.
+//! `sd_tool` parses the arguments, and proves how. This crate has the texts about them. `clap` makes them, and its
+//! contracts say nothing about a text: the texts are tested.
+//!
+//! ```text
+//! let text = help(alloc, Some(CommandName::Verdict))?;
+//! let error = refusal(alloc, &["sdstore", "frob"])?;
+//! ```
 #![tactic(auto)]
 
 mod command_name;

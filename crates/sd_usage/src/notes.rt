@@ -1,64 +1,69 @@
-//! What the help of each command, and of the program, ends with.
+//! The end of the help on each command, and on the program.
 
 pub(crate) const NOTES: &str = "\
+Options go before the command, and before 'each' those of its command. 'sdstore help COMMAND' has
+the help on a command.
+
 Statuses:
-  0  the text was printed, the right granted, or the script carried out to its end
-  1  an argument's fault was printed, and standard error has which it is, or a verdict other than
-     granted
-  2  the words aren't a command line
-  3  memory was wanting, the input wasn't read or too long, the output didn't take the answer, or
-     an audit's workers got no answers
+  0  the text was printed, the rights were granted, or the script was carried out to its end
+  1  an argument is invalid: its fault was printed, and standard error names the argument; or a
+     verdict other than granted, a finding of 'lint', a line that 'each' answered with status 1, or
+     with '--strict' a line that has a fault or was refused
+  2  the arguments aren't a valid command line
+  3  out of memory, an input error, an input or line that is too long, an output error, or no
+     answers from the workers of an audit
 
 Example:
   sdstore verdict 'D:(A;;FR;;;WD)' S-1-5-21-1-2-3-1001 0x1 WD";
 
 pub(crate) const VERDICT_NOTES: &str = "\
-A first '--' after 'verdict' is dropped, and every word after it is an argument: write
-'sdstore verdict -- \"$sddl\" ..' where a text comes from outside. Options stand before 'verdict':
-'sdstore help' tells them.
+A first '--' after 'verdict' is dropped, and everything after it is an argument: write
+'sdstore verdict -- \"$sddl\" ..' for untrusted text. Options go before 'verdict': 'sdstore help'
+lists them.
 
-Generic rights are mapped by '--mapping', and without it as those of files:
+Generic rights are mapped by '--mapping KIND', and without it as those of a file:
   file     GR 0x120089  GW 0x120116  GX 0x1200a0  GA 0x1f01ff
   key      GR 0x20019   GW 0x20006   GX 0x20019   GA 0xf003f
   service  GR 0x2008d   GW 0x20002   GX 0x20170   GA 0xf01ff
   process  GR 0x20410   GW 0x20bea   GX 0x121001  GA 0x1fffff
-  R,W,X,A  these four masks, spelled as MASK, each within 0x1fffff
-The most that is granted is asked for by 0x02000000, MAXIMUM_ALLOWED, which has no name.
+  R,W,X,A  these four masks, each written as MASK and within 0x1fffff
+MAXIMUM_ALLOWED, 0x02000000, requests all rights that are granted. It has no name in SDDL.
 
 Statuses:
   0  granted
-  1  another verdict, or an argument's fault
-  2  the words aren't a command line
-  3  memory was wanting, or the output didn't take the answer
+  1  another verdict, or an invalid argument
+  2  the arguments aren't a valid command line
+  3  out of memory, or an output error
 
 Example:
   sdstore verdict 'D:(D;;0x2;;;S-1-5-21-1-2-3-1001)(A;;0x1f01ff;;;S-1-5-21-1-2-3-1001)' S-1-5-21-1-2-3-1001 0x1";
 
 pub(crate) const WHY_NOTES: &str = "\
-A first '--' after 'why' is dropped, and every word after it is an argument. Options stand before
-'why' and nowhere else: 'sdstore help' tells them.
+A first '--' after 'why' is dropped, and everything after it is an argument. Options go before
+'why': 'sdstore help' lists them.
 
-Prints the verdict as 'sdstore verdict' does, with its status, and a line for each part of the
-request, the bits with one reason together:
+Prints the verdict of 'sdstore verdict', with its status, then a line for each reason with all the
+bits that have it:
   granted 0x120089 by entry 2 (A;;FR;;;BU) as S-1-5-32-545
   denied 0x10000 by no entry
-With MAXIMUM_ALLOWED, 0x02000000, which asks for the most that is granted, the parts are also those
-of all rights below 0x200000, granted or denied.
+MAXIMUM_ALLOWED, 0x02000000, requests all rights that are granted. With it the lines also cover all
+rights below 0x200000, granted or denied.
 
 Statuses:
   0  granted
-  1  another verdict, or an argument's fault
-  2  the words aren't a command line
-  3  memory was wanting, or the output didn't take the answer
+  1  another verdict, or an invalid argument
+  2  the arguments aren't a valid command line
+  3  out of memory, or an output error
 
 Example:
   sdstore why 'D:(D;;0x2;;;BU)(A;;FR;;;BU)' S-1-5-21-1-2-3-1001 0x10003 BU";
 
 pub(crate) const LINT_NOTES: &str = "\
-A first '--' after 'lint' is dropped. Options stand before 'lint': 'sdstore help' tells them.
+A first '--' after 'lint' is dropped. Options go before 'lint': 'sdstore help' lists them.
 
 Prints a line for each finding, or 'clean':
-  no DACL grants everything, a null DACL grants everything
+  no DACL grants everything
+  a null DACL grants everything
   entry N (..) is out of order behind entry M
   entry N (..) names no right
   entry N (..) is inherited by nothing
@@ -68,120 +73,122 @@ Prints a line for each finding, or 'clean':
 
 Statuses:
   0  clean
-  1  a finding, or an argument's fault
-  2  the words aren't a command line
-  3  memory was wanting, or the output didn't take the answer
+  1  a finding, or an invalid argument
+  2  the arguments aren't a valid command line
+  3  out of memory, or an output error
 
 Example:
   sdstore lint 'D:(A;;FR;;;BU)(D;;FW;;;BU)(A;;0x1;;;BU)'";
 
 pub(crate) const PRINT_NOTES: &str = "\
-A first '--' after 'print' is dropped. Options stand before 'print': 'sdstore help' tells them.
+A first '--' after 'print' is dropped. Options go before 'print': 'sdstore help' lists them.
 
 Example:
   sdstore print 'o:s-1-5-18d:(a;;0x1f01ff;;;s-1-1-0)'";
 
 pub(crate) const TO_BINARY_NOTES: &str = "\
-A first '--' after 'tobin' is dropped. Options stand before 'tobin': 'sdstore help' tells them.
+A first '--' after 'tobin' is dropped. Options go before 'tobin': 'sdstore help' lists them.
 
 Example:
   sdstore tobin O:BA";
 
 pub(crate) const FROM_BINARY_NOTES: &str = "\
-A first '--' after 'frombin' is dropped. Options stand before 'frombin': 'sdstore help' tells them.
+A first '--' after 'frombin' is dropped. Options go before 'frombin': 'sdstore help' lists them.
 
-With '--loose' tabs, spaces, commas, backslashes and line ends may stand between bytes, and '0x' at
-the front of what they part, as a .reg file or a dump has them.
+With '--loose' bytes may be separated by tabs, spaces, commas, backslashes and line ends, and each
+part may begin with '0x', as in a .reg file or a dump.
 
 Example:
   sdstore frombin 010000801400000000000000000000000000000001020000000000052000000020020000";
 
 pub(crate) const SCRIPT_NOTES: &str = "\
-Each line is a command, and is answered by a line; an empty line and one that begins with '#' aren't.
-'why', 'list' and 'dump' are answered by several lines, the last of which is empty:
-  open N SDDL                          opens the store: a root, and N readers
+Each line is a command, and has one line of output. An empty line and one that begins with '#' have
+none. 'why', 'list' and 'dump' have several lines of output, the last of which is empty:
+  open N SDDL                          opens the store with a root, and readers 0 to N - 1
   addc PATH SDDL, addo PATH SDDL       adds a container, an object
-  owner PATH SID, group PATH SID       gives the node an owner, a group
-  dacl PATH SDDL                       gives the node a DACL of its own
-  remove PATH, protect PATH            takes the node away; keeps what it has, protected
+  owner PATH SID, group PATH SID       sets the node's owner, its group
+  dacl PATH SDDL                       sets the node's own DACL
+  remove PATH                          removes a node without children
+  protect PATH                         protects the node: its inherited entries become its own
   move PATH PATH                       moves the node, and all below it, to the second path
-  publish                              shows the edits so far to the readers
-  tell, learn I L                      tells the published length; reader I learns of one
+  import KIND PATH SDDL                adds a 'container' or 'object' (KIND) with its descriptor
+                                       from elsewhere, without inherited entries, in canonical order
+  publish                              publishes all pending edits
+  tell                                 prints the length of the published journal
+  learn I L                            informs reader I of a journal of length L
   check I PATH USER MASK [WORD]...     asks, as reader I, whether the user is granted the mask
-  why I PATH USER MASK [WORD]...       asks why such a check is answered as it is
+  why I PATH USER MASK [WORD]...       asks, as reader I, for the reasons of such a check
   show I PATH                          asks, as reader I, for the node's descriptor
-  list [PATH]                          tells the published nodes at and below the path, or all of them
-  dump                                 tells the published tree as lines of a script that makes it
-  import container PATH SDDL           adds a node by the descriptor that it had elsewhere: inherited
-  import object PATH SDDL              entries are left out, and the others put into order
+  list [PATH]                          lists the published nodes at and below the path, or all
+  dump                                 prints the published tree as a script that makes it
 
-Generic rights are mapped as files', or as '--mapping' before 'script' tells: 'sdstore help verdict'
-has the kinds. With '--percent' before it '%' and two hexadecimal digits stand for a byte of a path.
+Generic rights are mapped by '--mapping KIND' before 'script', and without it as those of a file:
+'sdstore help verdict' lists the kinds. With '--percent' before 'script' paths are percent-encoded.
 
 Statuses:
-  0  the script was carried out to its end, whatever its lines were answered
-  1  with '--strict' before it a line had a fault or was refused, and standard error tells the first;
-     or the fault of an option's value was printed, and the input not read
-  2  the words aren't a command line
-  3  memory was wanting, the input wasn't read or has more than 16777216 bytes, or the output
-     didn't take the answer
+  0  the script was carried out to its end, even with faults and refusals
+  1  with '--strict', a line had a fault or was refused: standard error reports the first such line;
+     or the value of an option is invalid: its fault was printed, and no input was read
+  2  the arguments aren't a valid command line
+  3  out of memory, an input error, more than 16777216 bytes of input, or an output error
 
 Example:
   printf 'open 1 O:BAG:SYD:\\naddo /a O:BAG:SYD:(A;;FR;;;WD)\\npublish\\ncheck 0 /a SY FR WD\\n' | sdstore script";
 
 pub(crate) const SERVE_NOTES: &str = "\
-Each line is answered as by 'sdstore script', when it is read and before the next: a program may
-ask a line, wait for its answer and ask the next. There is no limit on the number of lines.
-'--mapping', '--percent' and '--strict' stand before 'serve', as before 'script'.
+Has the output of 'sdstore script'. Every complete line is answered before more input is read: a
+program can write a line, wait for its answer, and write the next. The number of lines is unlimited.
+'--mapping', '--percent' and '--strict' go before 'serve', as before 'script'.
 
 Statuses:
-  0  the input ended, whatever its lines were answered
-  1  with '--strict' before it a line had a fault or was refused, and standard error tells the first;
-     or the fault of an option's value was printed, and the input not read
-  2  the words aren't a command line
-  3  memory was wanting, the input wasn't read, a line has more than 16777216 bytes, or the output
-     didn't take an answer; the lines before are answered
+  0  the script was carried out to its end, even with faults and refusals
+  1  with '--strict', a line had a fault or was refused: standard error reports the first such line;
+     or the value of an option is invalid: its fault was printed, and no input was read
+  2  the arguments aren't a valid command line
+  3  out of memory, an input error, a line of more than 16777216 bytes, or an output error. The
+     complete lines before are answered; after an output error a prefix of the answers was written
 
 Example:
   printf 'open 1 O:BAG:SYD:\\naddo /a O:BAG:SYD:(A;;FR;;;WD)\\npublish\\ncheck 0 /a SY FR WD\\n' | sdstore serve";
 
 pub(crate) const AUDIT_NOTES: &str = "\
-Each line is answered as by 'sdstore script', but that
-  open N SDDL                          opens the store for as many readers as there are workers
-  check I PATH USER MASK [WORD]...     is kept, whatever its reader, and answered at the end
-  tell, learn I L, why .., show I PATH, list, dump are faults
-At the end all edits are published, and each check is answered by them, in order. '--mapping',
-'--percent' and '--strict' stand before 'audit', as before 'script'.
+Has the output of 'sdstore script', except for these lines:
+  open N SDDL                          opens the store with a reader for each worker
+  check I PATH USER MASK [WORD]...     is answered at the end, for any number I
+  tell, learn, why, show, list, dump   are faults
+At the end all accepted edits are published, and then the checks are answered, in order.
+'--mapping', '--percent' and '--strict' go before 'audit', as before 'script'.
 
 Statuses:
-  0  the audit was carried out to its end, whatever its lines were answered
-  1  with '--strict' before it a line had a fault or was refused, and standard error tells the first;
-     or the fault of an option's value was printed, and the input not read
-  2  the words aren't a command line
-  3  memory was wanting, the input wasn't read or has more than 16777216 bytes, the output didn't
-     take the answer, or the workers got no answers
+  0  the audit was carried out to its end, even with faults and refusals
+  1  with '--strict', a line had a fault or was refused: standard error reports the first such line;
+     or the value of an option is invalid: its fault was printed, and no input was read
+  2  the arguments aren't a valid command line
+  3  out of memory, an input error, more than 16777216 bytes of input, an output error, or no
+     answers from the workers
 
 Example:
   printf 'open 1 O:BAG:SYD:\\naddo /a O:BAG:SYD:(A;;FR;;;WD)\\ncheck 0 /a SY FR WD\\n' | sdstore audit 4";
 
 pub(crate) const EACH_NOTES: &str = "\
-Each line of standard input takes the place of the descriptor, the first argument of the command,
-and is answered as the command answers it, a fault too, in order. What ends in the bytes of one
-read is answered before more is read: a program may ask a line, wait for its answer and ask the
-next. The answers of 'why' and 'lint', which may have several lines, end by an empty line.
+Each line of standard input is the descriptor, the first argument of COMMAND, and has one answer,
+in order, a fault too. Every complete line is answered before more input is read: a program can
+write a line, wait for its answer, and write the next. Answers of 'why' and 'lint', which may have
+several lines, end with an empty line.
 
-A line ends by a line feed, before which one carriage return is dropped, or with '-0' by a zero
-byte; the last may lack its end. A byte order mark before the first line is dropped. A line of
-more than 16777216 bytes is answered by 'fault long', and one that isn't UTF-8 by 'fault utf8'.
+A line ends with a line feed, and one carriage return before it is dropped; with '-0' it ends with a
+zero byte. The last line may lack its end. A byte order mark before the first line is dropped. A
+line of more than 16777216 bytes is answered by 'fault long', and one that isn't UTF-8 by
+'fault utf8'.
 
-'-0' stands before the command of 'each' and nowhere else, and all other options before 'each'.
-Behind the command a first '--' is dropped, and every other word is an argument.
+'-0' goes between 'each' and COMMAND, all other options before 'each'. After COMMAND everything is
+an argument, except a first '--', which is dropped.
 
 Statuses:
   0  each line was answered with status 0
   1  a line was answered with status 1
-  2  the words aren't a command line
-  3  memory was wanting, the input wasn't read, or the output didn't take an answer
+  2  the arguments aren't a valid command line
+  3  out of memory, an input error, or an output error
 
 Example:
-  printf 'D:(A;;FR;;;WD)\nD:(A;;FX;;;WD)\n' | sdstore each verdict S-1-5-21-1-2-3-1001 0x1 WD";
+  printf 'D:(A;;FR;;;WD)\\nD:(A;;FX;;;WD)\\n' | sdstore each verdict S-1-5-21-1-2-3-1001 0x1 WD";

@@ -1,40 +1,46 @@
-//! The help texts, and what is told of words that aren't a command line, by `clap`. Which words are one isn't `clap`'s to say:
-//! `command_line` of the crate above reads them.
+//! The help texts, and the errors for arguments that aren't a valid command line, by `clap`. It doesn't decide which
+//! arguments are valid: `command_line` of `sd_tool` does.
 use crate::command_name::CommandName;
 use crate::commands::{COMMANDS, OPTIONS, PROGRAM};
 use clap::error::ErrorKind;
 use clap::{Command, Error};
 use std::alloc::{AllocError, Global};
 
-// What `clap` would tell of the version. The program's own reading answers all words that ask for it.
+// What `clap` would print as the version. The program's own parser answers all arguments that ask for it.
 const WITHOUT_CLAP: &str = "";
 
-// What is told of options that `clap` would take with any command, or with a `=` before the value.
+// The error for options that `clap` accepts: before any command, or with a `=` before the value.
 const MISPLACED_OPTION: &str = "\
-an option stands before the command, once, and its value is the next word: '--names' is for 'why' \
-alone, '--base64' or '--loose' for 'frombin', '--mapping' for 'verdict', 'why', 'lint', 'script', \
-'serve' and 'audit', '--percent' and '--strict' for the last three, '--domain' for the first three, \
-'print' and 'tobin', and '--without-sacl' for these and 'frombin'";
+an option goes before its command, at most once, and its value is the next argument:
+  --names         why
+  --without-sacl  verdict, why, lint, print, tobin, frombin
+  --base64        frombin, without --loose
+  --loose         frombin, without --base64
+  --percent       script, serve, audit
+  --strict        script, serve, audit
+  --domain        verdict, why, lint, print, tobin
+  --mapping       verdict, why, lint, script, serve, audit
+before 'each' go the options of its command";
 
-// What is told of words that `clap` would answer with help or the version.
+// The error for arguments that `clap` would answer with help or the version.
 const STANDS_ALONE: &str = "\
-help and the version are asked for by '--help', 'help' or '--version' as the only word, \
-by '--help' as the only word after a command, or by 'help' and a command";
+help is printed by 'help', '--help', 'help COMMAND' or 'COMMAND --help' without other arguments, \
+the version by '--version' alone";
 
-// What is told of an audit's words that `clap` would take: it knows no numbers.
+// The error for an argument of `audit` that `clap` accepts: it parses no numbers.
 const WORKERS: &str =
     "the one argument of 'audit' is the number of workers: 1 to 64, in one or two decimal digits";
 
-// What is told of the words of a question that `clap` would take: it doesn't know how many arguments a command has.
+// The error for arguments of `each` that `clap` accepts: it doesn't know how many arguments a command has.
 const QUESTION: &str = "\
-behind 'each' stand '-0' or nothing, and then 'verdict', 'why', 'lint', 'print', 'tobin' or \
-'frombin' with all its arguments but the descriptor";
+after 'each' go an optional '-0', the command 'verdict', 'why', 'lint', 'print', 'tobin' or \
+'frombin', and all its arguments except the descriptor";
 
-// What is told of other words that `clap` would take, since it drops a later `--` too.
+// The error for other arguments that `clap` accepts, since it drops a later `--` too.
 const LATER_DASHES: &str =
     "only a first '--' after the command is dropped, and any further one is an argument";
 
-/// The help on a command, or on the program, in ASCII. Fails only where memory is refused.
+/// The help on a command, or on the program, in ASCII. The only error is out of memory.
 pub fn help(alloc: Global, command: Option<CommandName>) -> Result<String, AllocError> {
     let mut described = match command {
         None => sdstore(alloc)?,
@@ -43,14 +49,14 @@ pub fn help(alloc: Global, command: Option<CommandName>) -> Result<String, Alloc
     described.render_help()
 }
 
-/// Why the words, of which the first is the program's name, aren't a command line: by `clap`, where it doesn't take them
-/// either. The text shows words as they stand. Fails only where memory is refused.
-pub fn refusal(alloc: Global, words: &[&str]) -> Result<String, AllocError> {
-    let error = refusal_of(alloc, words)?;
+/// Why the arguments, of which the first is the program's name, aren't a valid command line: `clap`'s reason if it
+/// rejects them too. The text has arguments unescaped. The only error is out of memory.
+pub fn refusal(alloc: Global, arguments: &[&str]) -> Result<String, AllocError> {
+    let error = refusal_of(alloc, arguments)?;
     text_of(alloc, error)
 }
 
-/// What `clap` makes of words, by this crate's description of the command line.
+/// What `clap` parses arguments as, by this crate's description of the command line.
 #[derive(Clone, Copy, Debug, PartialEq, Eq)]
 pub enum ByClap {
     /// They ask for a command.
@@ -59,14 +65,14 @@ pub enum ByClap {
     Help,
     /// They ask for the version.
     Version,
-    /// They aren't a command line.
+    /// They aren't a valid command line.
     Nothing,
 }
 
-/// What `clap` makes of the words, of which the first is the program's name. Fails only where memory is refused.
-pub fn by_clap(alloc: Global, words: &[&str]) -> Result<ByClap, AllocError> {
+/// What `clap` parses the arguments as, of which the first is the program's name. The only error is out of memory.
+pub fn by_clap(alloc: Global, arguments: &[&str]) -> Result<ByClap, AllocError> {
     let mut sdstore = sdstore(alloc)?;
-    let made = match error_on(&mut sdstore, words) {
+    let made = match error_on(&mut sdstore, arguments) {
         None => ByClap::Command,
         Some(error) => match error.kind() {
             ErrorKind::DisplayHelp => ByClap::Help,
@@ -78,13 +84,13 @@ pub fn by_clap(alloc: Global, words: &[&str]) -> Result<ByClap, AllocError> {
     Ok(made)
 }
 
-fn refusal_of<'a>(alloc: Global, words: &'a [&'a str]) -> Result<Error, AllocError> {
+fn refusal_of<'a>(alloc: Global, arguments: &'a [&'a str]) -> Result<Error, AllocError> {
     let mut sdstore = sdstore(alloc)?;
-    match error_on(&mut sdstore, words) {
+    match error_on(&mut sdstore, arguments) {
         Some(error) if error.use_stderr() => Ok(error),
         Some(_shown) => sdstore.error(ErrorKind::UnknownArgument, STANDS_ALONE),
-        None => match words {
-            [_, word, ..] if word.starts_with("--") => {
+        None => match arguments {
+            [_, option, ..] if option.starts_with("--") => {
                 sdstore.error(ErrorKind::UnknownArgument, MISPLACED_OPTION)
             }
             [_, "audit", ..] => {
@@ -100,9 +106,9 @@ fn refusal_of<'a>(alloc: Global, words: &'a [&'a str]) -> Result<Error, AllocErr
     }
 }
 
-// What `clap` has against the words, or shows for them.
-fn error_on<'a>(sdstore: &mut Command<'a>, words: &'a [&'a str]) -> Option<Error> {
-    match sdstore.try_get_matches_from_mut(words) {
+// `clap`'s error for the arguments, which can also be the help or the version.
+fn error_on<'a>(sdstore: &mut Command<'a>, arguments: &'a [&'a str]) -> Option<Error> {
+    match sdstore.try_get_matches_from_mut(arguments) {
         Ok(_matches) => None,
         Err(error) => Some(error),
     }
