@@ -31,13 +31,13 @@ FitsError Write count = ⊥
 FitsError Memory count = count ≤ MAX_INPUT_BYTES
 FitsError Thread count = ⊥
 
--- known bytes lost a beginning, as long as the error says
+-- known bytes lost a prefix, whose length fits the error
 pub record ReadsPart (old new : Option (List ℕ)) (error : RunError) : Type 0 where
   pub part : List ℕ
   pub consumed : Consumes old new part
   pub fits : FitsError error (length part)
 
--- known bytes grow by a beginning of the text
+-- known bytes grow by a prefix of the text
 pub record AppendsBeginning (old new : Option (List ℕ)) (text : List ℕ) : Type 0 where
   pub done : List ℕ
   pub rest : List ℕ

@@ -18,7 +18,7 @@ pub enum RunError {
     TooLong,
     /// The writer failed.
     Write,
-    /// Memory was refused.
+    /// Out of memory.
     Memory,
     /// The workers of an audit, or the store that they share, didn't answer.
     Thread,

@@ -21,7 +21,7 @@ const BUFFER_BYTES: usize = 8192;
 ///
 /// - `Read`: the reader failed, which an interruption is too.
 /// - `TooLong`: more than 16,777,216 bytes were read.
-/// - `Memory`: memory was refused.
+/// - `Memory`: out of memory.
 pub fn read_whole<R: Read>(alloc: Global, reader: &mut Watched<R>) -> Result<Vec<u8>, RunError>
     ensures whole { IfOk result (λ text. IfSome (R.remaining (inner_of reader.old))
         (λ bytes. text.items ≡ bytes)) }

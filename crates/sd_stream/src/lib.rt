@@ -1,9 +1,9 @@
-//! A whole input and a whole output, over streams that tell whether they failed.
+//! A whole input and a whole output, over streams that record whether they failed.
 //!
-//! `read_whole` takes in a reader's bytes up to their end, and `write_whole` hands a writer a whole
-//! text and flushes it. Both stand on a `Watched` stream, which hands each call on and remembers
-//! whether one failed: an error that blames a stream comes only where that stream failed. An
-//! interruption is a failure like any other, and no call is made again after one.
+//! `read_whole` reads a reader's bytes up to their end, and `write_whole` writes a whole text and
+//! flushes it. Both use a `Watched` stream, which passes each call on and records whether one
+//! failed: the errors `Read` and `Write` are returned only if that stream failed. An interruption
+//! is a failure like any other, and no call is repeated after one.
 //!
 //! ```text
 //! let mut reader = Watched::new(rt.reader());

@@ -10,7 +10,7 @@ use crate::watched::Watched;
 use std::io::Write;
 
 /// Writes the whole text and flushes. The one error is `Write`: the writer failed, which an
-/// interruption is too, and so is a write that takes nothing. Then a beginning of the text was
+/// interruption is too, and so is a write that takes nothing. Then a prefix of the text was
 /// written.
 pub fn write_whole<W: Write>(writer: &mut Watched<W>, text: &[u8]) -> Result<(), RunError>
     ensures ok { OnOk result (Appends

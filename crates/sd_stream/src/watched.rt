@@ -8,8 +8,8 @@ ghost use Rattle.sd_stream.specs.Watched.{inner_of, has_failed, is_lost};
 use std::io;
 use std::io::{Read, Write};
 
-/// A stream to which each call is handed on, and its answer back, and which has failed from the
-/// first call on that answers an error or takes none of at least one byte.
+/// A stream that passes each call and its result through. It has failed from the first call on that
+/// returns an error, or takes none of at least one byte.
 #[derive(Debug, Drop)]
 pub struct Watched<T> {
     inner: T,
@@ -28,8 +28,8 @@ impl<T> Watched<T> {
         }
     }
 
-    /// Whether a call to the stream has failed: it answered an error, an interruption too, or it was
-    /// handed at least one byte to write and took none.
+    /// Whether a call to the stream has failed: it returned an error, an interruption too, or it was
+    /// given at least one byte to write and took none.
     pub fn failed(&self) -> bool
         ensures { result ≡ has_failed self.now }
     {
