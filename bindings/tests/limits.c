@@ -101,6 +101,8 @@ static void refusals(void)
     refused(&calls[0], "O:DA", 4, HUDARIN_TEXT, HUDARIN_TEXT_DOMAIN_ALIAS, 2);
     refused(&calls[0], "O:XX", 4, HUDARIN_TEXT, HUDARIN_TEXT_UNKNOWN_ALIAS, 2);
     refused(&calls[0], "O:SYS:", 6, HUDARIN_TEXT, HUDARIN_TEXT_HAS_SACL, 4);
+    refused(&calls[0], "D:(A;;FA;;;WD)S:AI", 18, HUDARIN_TEXT, HUDARIN_TEXT_HAS_SACL, 14);
+    refused(&calls[2], "D:(A;;FA;;;WD)(D;;FR;;;BU)S:(", 29, HUDARIN_TEXT, HUDARIN_TEXT_HAS_SACL, 26);
     refused(&calls[0], "D:(AA;;FA;;;WD)", 15, HUDARIN_TEXT, HUDARIN_TEXT_ENTRY_KIND, 3);
     refused(&calls[0], "D:(A;;FA;x;;WD)", 15, HUDARIN_TEXT, HUDARIN_TEXT_OBJECT_GUID, 9);
     refused(&calls[2], "D:(A;;0x100000000;;;WD)", 23, HUDARIN_TEXT, HUDARIN_TEXT_RANGE, 6);
@@ -299,6 +301,10 @@ static void handles(void)
     HOLDS(answer.status == HUDARIN_OK && answer.length == 0 && keeps(&descriptor.kept, 1));
     answer = hudarin_keep_sddl(NULL, 0, &descriptor);
     HOLDS(answer.status == HUDARIN_HANDLE && keeps(&descriptor.kept, 1));
+    answer = hudarin_keep_bytes(NULL, 0, &descriptor);
+    HOLDS(answer.status == HUDARIN_HANDLE && keeps(&descriptor.kept, 1));
+    answer = hudarin_keep_bytes(lent(worked, sizeof worked), sizeof worked, &descriptor);
+    HOLDS(answer.status == HUDARIN_HANDLE && answer.fault == 0 && answer.length == 0 && keeps(&descriptor.kept, 1));
     verdict = hudarin_check_kept(&descriptor, &token, files, 1);
     HOLDS(is_unread(verdict, HUDARIN_HANDLE, HUDARIN_ARGUMENT_TOKEN, 0, 0));
     verdict = hudarin_keep_token(user, sizeof user, everyone, sizeof everyone, &bad, 1, NULL, 0, 0, &token);

@@ -90,6 +90,11 @@ static const row rows[] = {
     { HUDARIN_EDIT_ADD_OBJECT, "/b/q", "G:SYD:", HUDARIN_PARTS, HUDARIN_ARGUMENT_VALUE, 0, 0 },
     { HUDARIN_EDIT_SET_DACL, "/b", NODE, HUDARIN_PARTS, HUDARIN_ARGUMENT_VALUE, 0, 0 },
     { HUDARIN_EDIT_SET_OWNER, "/b", "", HUDARIN_SID, HUDARIN_ARGUMENT_VALUE, HUDARIN_SID_SHORT, 0 },
+    { HUDARIN_EDIT_SET_OWNER, "b", "", HUDARIN_PATH, HUDARIN_ARGUMENT_PATH, HUDARIN_PATH_SYNTAX, 0 },
+    { HUDARIN_EDIT_SET_GROUP, "/b\xff", "", HUDARIN_UTF8, HUDARIN_ARGUMENT_PATH, 0, 2 },
+    { HUDARIN_EDIT_SET_DACL, "b", NODE, HUDARIN_PATH, HUDARIN_ARGUMENT_PATH, HUDARIN_PATH_SYNTAX, 0 },
+    { HUDARIN_EDIT_MOVE, "b", "c", HUDARIN_PATH, HUDARIN_ARGUMENT_PATH, HUDARIN_PATH_SYNTAX, 0 },
+    { HUDARIN_EDIT_SET_OWNER, "/x", "", HUDARIN_SID, HUDARIN_ARGUMENT_VALUE, HUDARIN_SID_SHORT, 0 },
 };
 
 /* An edit is judged as it is made, with each request for memory refused before, and changes nothing. */
@@ -170,7 +175,7 @@ static void pending(hudarin_store *store, hudarin_token *token)
 static void kinds(hudarin_store *store, hudarin_token *token)
 {
     static const row removed = { HUDARIN_EDIT_REMOVE, "/b", "", DONE };
-    hudarin_view view = HUDARIN_NOTHING, nothing = HUDARIN_NOTHING;
+    hudarin_view view = HUDARIN_NOTHING, nothing = HUDARIN_NOTHING, empty = HUDARIN_NOTHING;
     hudarin_descriptor descriptor = HUDARIN_NOTHING;
     hudarin_kept *others[4], *wrong;
     size_t at;
@@ -184,7 +189,7 @@ static void kinds(hudarin_store *store, hudarin_token *token)
         HOLDS(answer.status == HUDARIN_HANDLE && answer.argument == HUDARIN_ARGUMENT_STORE);
         answer = hudarin_store_judge(other, HUDARIN_EDIT_REMOVE, "/b", 2, NULL, 0);
         HOLDS(answer.status == HUDARIN_HANDLE && answer.argument == HUDARIN_ARGUMENT_STORE);
-        HOLDS(at == 2 || hudarin_store_publish(other, &nothing).status == HUDARIN_HANDLE);
+        HOLDS(hudarin_store_publish(other, &empty).status == HUDARIN_HANDLE && !empty.kept.is_there);
         HOLDS(at == 3 || hudarin_store_revert(other, &view).status == HUDARIN_HANDLE);
         HOLDS(!nothing.kept.is_there && others[at]->is_there == (at != 2));
     }
@@ -212,6 +217,40 @@ static void kinds(hudarin_store *store, hudarin_token *token)
     HOLDS(hudarin_view_descriptor(&view, "/", 1, room, sizeof room).status == HUDARIN_ROOM);
     hudarin_free(&view.kept);
     hudarin_free(&descriptor.kept);
+}
+
+/* A call that is tested asks for no memory. */
+#define HOLDS_WITHOUT_MEMORY(test)                  \
+    do {                                            \
+        granted = 0;                                \
+        HOLDS((test) && granted == 0);              \
+        granted = -1;                               \
+    } while (0)
+
+/* Without memory a handle is refused as before, and so is an edit whose refusal is found without memory. */
+static void without_memory(hudarin_store *store, hudarin_token *token)
+{
+    hudarin_view view = HUDARIN_NOTHING, nothing = HUDARIN_NOTHING;
+    hudarin_store empty = HUDARIN_NOTHING;
+    uint64_t length = hudarin_store_publish(store, &view).length;
+    HOLDS_WITHOUT_MEMORY(hudarin_store_publish(&empty, &nothing).status == HUDARIN_HANDLE && !nothing.kept.is_there);
+    HOLDS_WITHOUT_MEMORY(hudarin_store_publish((hudarin_store *)token, &nothing).status == HUDARIN_HANDLE && !nothing.kept.is_there);
+    HOLDS_WITHOUT_MEMORY(hudarin_store_publish(store, &view).status == HUDARIN_HANDLE && view.kept.is_there);
+    HOLDS_WITHOUT_MEMORY(hudarin_store_revert(&empty, &view).status == HUDARIN_HANDLE && !empty.kept.is_there);
+    HOLDS_WITHOUT_MEMORY(hudarin_store_revert(store, &nothing).status == HUDARIN_HANDLE);
+    HOLDS_WITHOUT_MEMORY(hudarin_store_revert(store, (hudarin_view *)token).status == HUDARIN_HANDLE);
+    HOLDS_WITHOUT_MEMORY(hudarin_view_share(&nothing, (hudarin_view *)&empty).status == HUDARIN_HANDLE && !empty.kept.is_there);
+    HOLDS_WITHOUT_MEMORY(hudarin_view_share(&nothing, &view).status == HUDARIN_HANDLE && view.kept.is_there);
+    HOLDS_WITHOUT_MEMORY(hudarin_share(&store->kept, &nothing.kept).status == HUDARIN_HANDLE && !nothing.kept.is_there);
+    /* (the first edit after a publish makes a tree, and is refused for its own reason where that fails) */
+    granted = 0;
+    HOLDS(hudarin_store_edit(store, HUDARIN_EDIT_REMOVE, "/", 1, NULL, 0).fault == HUDARIN_REFUSED_NOT_EMPTY);
+    granted = -1;
+    HOLDS_WITHOUT_MEMORY(hudarin_store_judge(store, HUDARIN_EDIT_REMOVE, "/", 1, NULL, 0).fault == HUDARIN_REFUSED_NOT_EMPTY);
+    HOLDS_WITHOUT_MEMORY(hudarin_store_edit(store, HUDARIN_EDIT_REMOVE, "b", 1, NULL, 0).status == HUDARIN_PATH);
+    HOLDS_WITHOUT_MEMORY(hudarin_store_edit(store, HUDARIN_EDIT_SET_OWNER, "/", 1, NULL, 0).status == HUDARIN_SID);
+    HOLDS(hudarin_journal_length(&store->kept).length == length);
+    hudarin_free(&view.kept);
 }
 
 /* The root is judged as an edit is. */
@@ -292,6 +331,32 @@ static void reverts(hudarin_store *store)
     hudarin_free(&other.kept);
 }
 
+/* A view of another store brings that store's root and mapping too: generic rights mean there what they do here. */
+static void other_mappings(hudarin_token *token)
+{
+    static const hudarin_mapping keys = HUDARIN_KEY_MAPPING;
+    static const row added = { HUDARIN_EDIT_ADD_CONTAINER, "/b", NODE, DONE };
+    unsigned char root[200];
+    size_t length = (size_t)hudarin_sddl_to_bytes(ROOT, sizeof ROOT - 1, root, sizeof root).length;
+    hudarin_store one = HUDARIN_NOTHING, other = HUDARIN_NOTHING;
+    hudarin_view view = HUDARIN_NOTHING, after = HUDARIN_NOTHING;
+    hudarin_verdict answer;
+    HOLDS(is_made(hudarin_store_open(root, length, keys, &one)) && is_made(opened(&other, ROOT)));
+    HOLDS(is_made(made(&one, &added)) && hudarin_store_publish(&other, &view).length == 0);
+    HOLDS(hudarin_store_publish(&one, &after).length == 1);
+    answer = hudarin_view_check(&after, "/", 1, token, 0x80000000u).answer;
+    HOLDS(answer.status == HUDARIN_OK && answer.kind == HUDARIN_DENIED && answer.mask == (keys.read & ~files.read));
+    hudarin_free(&after.kept);
+    HOLDS(hudarin_store_revert(&one, &view).status == HUDARIN_OK && hudarin_journal_length(&one.kept).length == 0);
+    HOLDS(hudarin_store_publish(&one, &after).length == 0 && alike(&view, &after));
+    answer = hudarin_view_check(&after, "/", 1, token, 0x80000000u).answer;
+    HOLDS(answer.status == HUDARIN_OK && answer.kind == HUDARIN_GRANTED && answer.mask == files.read);
+    hudarin_free(&after.kept);
+    hudarin_free(&view.kept);
+    hudarin_free(&one.kept);
+    hudarin_free(&other.kept);
+}
+
 /* With no memory a publish keeps nothing, and the next one shows what that would have. */
 static void publishes(hudarin_store *store, hudarin_token *token)
 {
@@ -324,8 +389,10 @@ int main(void)
     each_row(&store);
     publishes(&store, &token);
     reverts(&store);
+    other_mappings(&token);
     pending(&store, &token);
     kinds(&store, &token);
+    without_memory(&store, &token);
     hudarin_free(&store.kept);
     hudarin_free(&token.kept);
     HOLDS(taken == 0 && refusals > 0);
