@@ -1,12 +1,15 @@
--- Why a tree wasn't opened or changed.
-use Rattle.std.proofs.Common.{Option, refl, inl, inr}
+-- Why a tree wasn't opened or changed, and why nothing of a node is written.
+use Rattle.std.proofs.Common.{Option, Some, None, IsSome, option_map, refl}
 use Rattle.sd_tree.specs.Answers.{IsError}
 use Rattle.sd_tree.specs.declared.refusal.EditRefusal.{EditRefusal}
 use Rattle.sd_tree.specs.declared.refusal.TreeError.{TreeError}
-use Rattle.sd_tree.specs.declared.refusal.TreeError.TheVariants as errors
 use Rattle.sd_c.specs.Publishing.{IsTreeReason, tree_reason}
 
--- an error of a tree says the refusal that is due, or want of memory
+-- an error of a tree, as the reason that it is
 pub told_reason : (e : TreeError) (due : Option EditRefusal) → IsError e due → IsTreeReason due (tree_reason e)
-told_reason (errors.Refused refused) due is = inl (refused, is, refl)
-told_reason errors.Memory due is = inr refl
+told_reason e due is = (e, is, refl)
+
+-- what is made of a node is there where the node is
+pub there_too : {A B : Type 0} (f : A → B) (o : Option A) → IsSome o → IsSome (option_map f o)
+there_too f (Some x) is = refl
+there_too f None is = is

@@ -1,11 +1,13 @@
 -- What the arguments of an edit are read as.
-use Rattle.std.specs.Prelude.{◌≡◌, ◌⊎◌, ℕ, ◌<◌, Bool, false, List, [], length, Some, None, IsSome, Ok, Err}
+use Rattle.std.specs.Prelude.{◌≡◌, ◌⊎◌, ℕ, ◌<◌, Bool, false, List, [], length, Some, None, IsSome, Ok, Err, IsOkAnd}
 use Rattle.sd_sid.specs.Sid.{SidValue}
 use Rattle.sd_sid.specs.SidBytes.{sid_reading}
 use Rattle.sd_acl.specs.Descriptor.{DescriptorValue}
 use Rattle.sd_acl.specs.declared.descriptor.Dacl.{Dacl}
 use Rattle.sd_acl.specs.declared.descriptor.Dacl.TheVariants as dacls
+use Rattle.sd_wire.specs.Memory.{TakesMemory}
 use Rattle.sd_wire.specs.Reading.{descriptor_read}
+use Rattle.sd_path.specs.Names.{Names, is_root}
 use Rattle.sd_path.specs.PathText.{path_of}
 use Rattle.sd_tree.specs.declared.edit.Edit.{Edit}
 use Rattle.sd_tree.specs.declared.edit.Edit.TheVariants.{AddContainer, AddObject, SetOwner, SetGroup, SetDacl, Remove, ProtectKeeping, Move}
@@ -28,6 +30,10 @@ abbrev pub IsNode : List ℕ → SidValue → SidValue → NodeDacl → Type 0
 IsNode bytes owner group dacl =
     (d : DescriptorValue) × (descriptor_read bytes ≡ Ok d) × (d.owner ≡ Some owner) × (d.group ≡ Some group) × (dacl ≡ own_dacl d.protected d.dacl)
 
+-- the bytes hold a descriptor with an owner and a group
+abbrev pub HasNode : List ℕ → Type 0
+HasNode bytes = (owner : SidValue) × (group : SidValue) × (dacl : NodeDacl) × IsNode bytes owner group dacl
+
 -- the bytes hold a descriptor with neither, which gives a node this DACL
 abbrev pub IsDacl : List ℕ → NodeDacl → Type 0
 IsDacl bytes dacl =
@@ -48,10 +54,6 @@ IsEdit kind path value (Remove at) = (kind ≡ 6) × (path_of path ≡ Ok at) ×
 IsEdit kind path value (ProtectKeeping at) = (kind ≡ 7) × (path_of path ≡ Ok at) × (length value ≡ 0)
 IsEdit kind path value (Move source target) = (kind ≡ 8) × (path_of path ≡ Ok source) × (path_of value ≡ Ok target)
 
-abbrev pub argument_in : PathArgument → List ℕ → List ℕ → List ℕ
-argument_in arguments.Path path value = path
-argument_in arguments.Target path value = value
-
 -- a descriptor without an owner or without a group
 abbrev pub LacksTrustee : List ℕ → Type 0
 LacksTrustee bytes = (d : DescriptorValue) × (descriptor_read bytes ≡ Ok d) × ((d.owner ≡ None) ⊎ (d.group ≡ None))
@@ -64,9 +66,9 @@ HasTrustee bytes = (d : DescriptorValue) × (descriptor_read bytes ≡ Ok d) × 
 abbrev pub IsNoKind : ℕ → List ℕ → Type 0
 IsNoKind kind value = (kind ≡ 0) ⊎ (8 < kind) ⊎ (((kind ≡ 6) ⊎ (kind ≡ 7)) × (0 < length value))
 
--- why they say none: each reason of a part, for which memory may be refused too
+-- why they say none, part by part; memory runs out only for a part that takes some: the root's path and a SID take none
 abbrev pub IsNoPath : PathArgument → List ℕ → NotDone → Type 0
-IsNoPath given bytes reasons.Memory = Unit {0}
+IsNoPath given bytes reasons.Memory = IsOkAnd (path_of bytes) (λ path. is_root path ≡ false)
 IsNoPath given bytes reasons.StoreHandle = ⊥
 IsNoPath given bytes reasons.ViewHandle = ⊥
 IsNoPath given bytes reasons.TokenHandle = ⊥
@@ -96,7 +98,7 @@ IsNoSid bytes (reasons.Refused refusal) = ⊥
 IsNoSid bytes reasons.NoNode = ⊥
 
 abbrev pub IsNoDescriptor : List ℕ → NotDone → Type 0
-IsNoDescriptor bytes reasons.Memory = Unit {0}
+IsNoDescriptor bytes reasons.Memory = TakesMemory bytes
 IsNoDescriptor bytes reasons.StoreHandle = ⊥
 IsNoDescriptor bytes reasons.ViewHandle = ⊥
 IsNoDescriptor bytes reasons.TokenHandle = ⊥
@@ -111,7 +113,7 @@ IsNoDescriptor bytes (reasons.Refused refusal) = ⊥
 IsNoDescriptor bytes reasons.NoNode = ⊥
 
 abbrev pub IsNoNode : List ℕ → NotDone → Type 0
-IsNoNode bytes reasons.Memory = Unit {0}
+IsNoNode bytes reasons.Memory = TakesMemory bytes ⊎ HasNode bytes
 IsNoNode bytes reasons.StoreHandle = ⊥
 IsNoNode bytes reasons.ViewHandle = ⊥
 IsNoNode bytes reasons.TokenHandle = ⊥
@@ -126,7 +128,7 @@ IsNoNode bytes (reasons.Refused refusal) = ⊥
 IsNoNode bytes reasons.NoNode = ⊥
 
 abbrev pub IsNoDacl : List ℕ → NotDone → Type 0
-IsNoDacl bytes reasons.Memory = Unit {0}
+IsNoDacl bytes reasons.Memory = TakesMemory bytes ⊎ ((dacl : NodeDacl) × IsDacl bytes dacl)
 IsNoDacl bytes reasons.StoreHandle = ⊥
 IsNoDacl bytes reasons.ViewHandle = ⊥
 IsNoDacl bytes reasons.TokenHandle = ⊥
@@ -140,18 +142,16 @@ IsNoDacl bytes (reasons.Sid fault) = ⊥
 IsNoDacl bytes (reasons.Refused refusal) = ⊥
 IsNoDacl bytes reasons.NoNode = ⊥
 
--- of all of them
+-- why the value says none, by the kind of edit
+abbrev pub IsNoValue : ℕ → List ℕ → NotDone → Type 0
+IsNoValue kind value why =
+    (((kind ≡ 1) ⊎ (kind ≡ 2)) × IsNoNode value why)
+    ⊎ (((kind ≡ 3) ⊎ (kind ≡ 4)) × IsNoSid value why)
+    ⊎ ((kind ≡ 5) × IsNoDacl value why)
+    ⊎ ((kind ≡ 8) × IsNoPath arguments.Target value why)
+    ⊎ (IsNoKind kind value × (why ≡ reasons.EditKind))
+
+-- the first argument that says none answers: the path, and then the number and the value
 abbrev pub IsNoEdit : ℕ → List ℕ → List ℕ → NotDone → Type 0
-IsNoEdit kind path value reasons.Memory = Unit {0}
-IsNoEdit kind path value reasons.StoreHandle = ⊥
-IsNoEdit kind path value reasons.ViewHandle = ⊥
-IsNoEdit kind path value reasons.TokenHandle = ⊥
-IsNoEdit kind path value reasons.MappingBits = ⊥
-IsNoEdit kind path value reasons.EditKind = IsNoKind kind value
-IsNoEdit kind path value (reasons.Utf8 argument place) = IsNotUtf8 (argument_in argument path value) place
-IsNoEdit kind path value (reasons.Path argument fault) = path_of (argument_in argument path value) ≡ Err fault
-IsNoEdit kind path value (reasons.Descriptor fault) = descriptor_read value ≡ Err fault
-IsNoEdit kind path value reasons.Parts = ((kind ≡ 5) × HasTrustee value) ⊎ (¬ (kind ≡ 5) × LacksTrustee value)
-IsNoEdit kind path value (reasons.Sid fault) = sid_reading value ≡ Err fault
-IsNoEdit kind path value (reasons.Refused refusal) = ⊥
-IsNoEdit kind path value reasons.NoNode = ⊥
+IsNoEdit kind path value why =
+    IsNoPath arguments.Path path why ⊎ ((at : Names) × (path_of path ≡ Ok at) × IsNoValue kind value why)

@@ -1,5 +1,5 @@
 -- What the calls over handles answer, and what they leave in the handles.
-use Rattle.std.specs.Prelude.{◌≡◌, ◌⊎◌, ℕ, ◌==◌, List, Option, Some, None, IsSome, Result, Ok, Err, if◌then◌else◌}
+use Rattle.std.specs.Prelude.{◌≡◌, ◌⊎◌, ℕ, ◌<◌, ◌==◌, List, length, Option, Some, None, IsSome, Result, Ok, Err, if◌then◌else◌}
 use Rattle.std.specs.Arc.{arc_value}
 use Rattle.sd_acl.specs.Descriptor.{DescriptorValue, descriptor_of}
 use Rattle.sd_check.specs.Token.{TokenValue}
@@ -14,7 +14,7 @@ use Rattle.sd_c.specs.declared.mapping.Mapping.{Mapping}
 use Rattle.sd_c.specs.declared.refusal.Refusal.{Refusal}
 use Rattle.sd_c.specs.declared.stop.NotRead.{NotRead}
 use Rattle.sd_c.specs.declared.stop.NotRead.TheVariants.{DescriptorHandle, TokenHandle}
-use Rattle.sd_c.specs.Answer.{not_read, unread}
+use Rattle.sd_c.specs.Answer.{check_memory, not_read, unread}
 use Rattle.sd_c.specs.Request.{◌>>=◌, RequestValue, mapping_read}
 use Rattle.sd_c.specs.Written.{not_written, refused}
 
@@ -74,22 +74,34 @@ Keeps new kept = (new.is_there ≡ 1) × (new.seal.kept ≡ kept)
 abbrev pub InUse : Handle → Handle → Written → Type 0
 InUse old new answer = (old.is_there ≡ 1) × (new ≡ old) × (answer ≡ not_written 11 0 0)
 
--- a descriptor that is right is kept, or a reason that holds is told and nothing is kept, or something was kept already
+-- where nothing was kept, a descriptor that is right is, or nothing is for a reason that holds; what was kept stays
 abbrev pub KeepsDescriptor : (DescriptorValue → Type 0) → (Refusal → Type 0) → Handle → Handle → Written → Type 0
 KeepsDescriptor Right Holds old new answer =
-    ((kept : Kept) × (d : DescriptorValue) × Right d × (descriptor_in kept ≡ Ok d) × Keeps new kept × (answer ≡ not_written 0 0 0))
-    ⊎ ((why : Refusal) × Holds why × (new ≡ old) × (answer ≡ refused why))
+    ((kept : Kept) × (d : DescriptorValue) × (old.is_there ≡ 0) × Right d × (descriptor_in kept ≡ Ok d) × Keeps new kept
+    × (answer ≡ not_written 0 0 0))
+    ⊎ ((why : Refusal) × (old.is_there ≡ 0) × Holds why × (new ≡ old) × (answer ≡ refused why))
     ⊎ InUse old new answer
 
 -- the bytes hold the descriptor
 abbrev pub IsHeldAs : List ℕ → DescriptorValue → Type 0
 IsHeldAs bytes d = descriptor_read bytes ≡ Ok d
 
--- the token that was read is kept, or why it wasn't is told and nothing is kept
+-- where nothing was kept, the token of the arguments is, or nothing is and the first argument that is invalid answers
 abbrev pub KeepsToken : Result TokenValue NotRead → Handle → Handle → CheckAnswer → Type 0
 KeepsToken read old new answer =
-    ((kept : Kept) × (t : TokenValue) × (read ≡ Ok t) × (token_in kept ≡ Ok t) × Keeps new kept × (answer ≡ unread 0 0 0 0))
-    ⊎ ((why : NotRead) × (read ≡ Err why) × (new ≡ old) × (answer ≡ not_read why))
+    ((kept : Kept) × (t : TokenValue) × (old.is_there ≡ 0) × (read ≡ Ok t) × (token_in kept ≡ Ok t) × Keeps new kept
+    × (answer ≡ unread 0 0 0 0))
+    ⊎ ((why : NotRead) × (old.is_there ≡ 0) × (read ≡ Err why) × (new ≡ old) × (answer ≡ not_read why))
+
+-- memory runs out only where there are groups or restricting SIDs to hold, or a token to keep
+abbrev pub TokenTakesMemory : List ℕ → List ℕ → Result TokenValue NotRead → Type 0
+TokenTakesMemory states restricting read =
+    (0 < length states) ⊎ (0 < length restricting) ⊎ ((t : TokenValue) × (read ≡ Ok t))
+
+-- memory ran out, nothing was kept, and nothing is
+abbrev pub TokenLacksMemory : List ℕ → List ℕ → Result TokenValue NotRead → Handle → Handle → CheckAnswer → Type 0
+TokenLacksMemory states restricting read old new answer =
+    (old.is_there ≡ 0) × TokenTakesMemory states restricting read × (new ≡ old) × (answer ≡ check_memory)
 
 -- the handle kept something already, and is as it was
 abbrev pub TokenInUse : Handle → Handle → CheckAnswer → Type 0
@@ -103,9 +115,10 @@ IsSame kept other =
     (descriptor_in other ≡ descriptor_in kept) × (token_in other ≡ token_in kept)
     × (store_in other ≡ store_in kept) × (view_in other ≡ view_in kept)
 
--- the second handle keeps the same as the first, or is as it was: memory was refused, or one of them didn't serve
+-- the second handle keeps the same as the first, or is as it was: memory ran out, or one of the handles is refused
 abbrev pub IsShared : Handle → Handle → Handle → Written → Type 0
 IsShared handle old new answer =
     ((handle.is_there ≡ 1) × (old.is_there ≡ 0) × (new.is_there ≡ 1) × IsSame handle.seal.kept new.seal.kept × (answer ≡ not_written 0 0 0))
-    ⊎ ((new ≡ old) × (answer ≡ not_written 1 0 0))
+    ⊎ ((handle.is_there ≡ 1) × (old.is_there ≡ 0) × (store_in handle.seal.kept ≡ None) × (new ≡ old)
+    × (answer ≡ not_written 1 0 0))
     ⊎ (((handle.is_there ≡ 0) ⊎ (old.is_there ≡ 1) ⊎ IsSome (store_in handle.seal.kept)) × (new ≡ old) × (answer ≡ not_written 11 0 0))

@@ -1,5 +1,5 @@
 -- What the calls answer that tell a view's nodes: what was given to each, without what it inherits.
-use Rattle.std.specs.Prelude.{◌≡◌, ◌⊎◌, ℕ, List, Some, None, Ok, slice_get}
+use Rattle.std.specs.Prelude.{◌≡◌, ◌⊎◌, ℕ, List, Some, None, IsSome, Ok, slice_get}
 use Rattle.std.specs.FinMap.{entries}
 use Rattle.sd_acl.specs.Descriptor.{DescriptorValue, HaveNamedFlags, IsDescriptor}
 use Rattle.sd_path.specs.Names.{Names}
@@ -20,7 +20,7 @@ use Rattle.sd_c.specs.declared.not_done.NotDone.TheVariants as reasons
 use Rattle.sd_c.specs.declared.not_done.PathArgument.TheVariants as arguments
 use Rattle.sd_c.specs.Edits.{IsNoPath, IsNode}
 use Rattle.sd_c.specs.Kept.{view_in}
-use Rattle.sd_c.specs.Views.{not_told}
+use Rattle.sd_c.specs.Views.{IsNotFound, not_told}
 use Rattle.sd_c.specs.Written.{Writes}
 
 abbrev pub kind_number : NodeKind → ℕ
@@ -41,20 +41,23 @@ TellsNode Right Holds view old new told =
 
 -- ---- what was given to the node of a path
 
--- the self-relative form of what was given to it, after the journal that was published when the view was made
+-- the self-relative form of what was given to it, after the journal
+abbrev pub IsOwnIn : History → Names → List ℕ → NodeKind → Type 0
+IsOwnIn h names bytes kind =
+    (d : DescriptorValue) × (given_at (replay h.opening h.journal) names ≡ Some (kind, d)) × (bytes ≡ wire_of d)
+
+-- the same after the journal that was published when the view was made
 abbrev pub IsOwnAt : Kept → List ℕ → List ℕ → NodeKind → Type 0
 IsOwnAt view path bytes kind =
-    (h : History) × (names : Names) × (d : DescriptorValue) × (view_in view ≡ Some h) × (path_of path ≡ Ok names)
-    × (given_at (replay h.opening h.journal) names ≡ Some (kind, d)) × (bytes ≡ wire_of d)
+    (h : History) × (names : Names) × (view_in view ≡ Some h) × (path_of path ≡ Ok names) × IsOwnIn h names bytes kind
 
--- why there is none: no view is kept, the text is no path, no node stands there, or memory ran out
+-- why there is none, the first that holds: no view is kept, the text is no path, no node is there, or memory ran out
 abbrev pub IsNoOwnAt : Kept → List ℕ → NotDone → Type 0
 IsNoOwnAt view path why =
     ((view_in view ≡ None) × (why ≡ reasons.ViewHandle))
-    ⊎ IsNoPath arguments.Path path why
+    ⊎ (IsSome (view_in view) × IsNoPath arguments.Path path why)
     ⊎ ((h : History) × (names : Names) × (view_in view ≡ Some h) × (path_of path ≡ Ok names)
-    × (given_at (replay h.opening h.journal) names ≡ None) × (why ≡ reasons.NoNode))
-    ⊎ (why ≡ reasons.Memory)
+    × IsNotFound (given_at (replay h.opening h.journal) names) why)
 
 -- an edit that brings what was written of a node gives it the same owner, group and DACL
 abbrev pub OwnFormsComeBack : Type 0
@@ -70,10 +73,9 @@ IsPathAt view place bytes kind =
     (h : History) × (names : Names) × (row : Row) × (view_in view ≡ Some h)
     × (slice_get (entries (replay h.opening h.journal)) place ≡ Some (names, row)) × (bytes ≡ text_of names) × (kind ≡ row.kind)
 
--- why there is none: no view is kept, no more nodes stand there, or memory ran out
+-- why there is none, the first that holds: no view is kept, no node is there, or memory ran out
 abbrev pub IsNoPathAt : Kept → ℕ → NotDone → Type 0
 IsNoPathAt view place why =
     ((view_in view ≡ None) × (why ≡ reasons.ViewHandle))
-    ⊎ ((h : History) × (view_in view ≡ Some h) × (slice_get (entries (replay h.opening h.journal)) place ≡ None)
-    × (why ≡ reasons.NoNode))
-    ⊎ (why ≡ reasons.Memory)
+    ⊎ ((h : History) × (view_in view ≡ Some h)
+    × IsNotFound (slice_get (entries (replay h.opening h.journal)) place) why)

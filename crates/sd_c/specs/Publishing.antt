@@ -1,5 +1,6 @@
 -- What the calls over stores answer, and what they leave in the handles.
 use Rattle.std.specs.Prelude.{◌≡◌, ◌⊎◌, ℕ, List, [], ◌∷◌, ◌++◌, length, Option, Some, None, IsSome, Ok, Err}
+use Rattle.sd_tree.specs.Answers.{IsError}
 use Rattle.sd_tree.specs.History.{History}
 use Rattle.sd_tree.specs.Journal.{refusal, root_refusal}
 use Rattle.sd_tree.specs.declared.edit.Edit.{Edit}
@@ -16,7 +17,7 @@ use Rattle.sd_c.specs.declared.not_done.NotDone.{NotDone}
 use Rattle.sd_c.specs.declared.not_done.NotDone.TheVariants as reasons
 use Rattle.sd_c.specs.declared.stop.NotRead.TheVariants.{MappingBits}
 use Rattle.sd_c.specs.Answer.{unread}
-use Rattle.sd_c.specs.Edits.{IsEdit, IsNoEdit, IsNoNode, IsNode}
+use Rattle.sd_c.specs.Edits.{IsEdit, IsNoEdit, IsNoNode, IsNode, HasNode}
 use Rattle.sd_c.specs.Kept.{IsSame, store_in, view_in}
 use Rattle.sd_c.specs.Length.{length_told}
 use Rattle.sd_c.specs.NotDone.{not_done}
@@ -27,13 +28,13 @@ use Rattle.sd_c.specs.Written.{not_written}
 abbrev pub Remains : Handle → Handle → Type 0
 Remains old new = (new.is_there ≡ old.is_there) × (old.is_there ≡ 1 → IsSame old.seal.kept new.seal.kept)
 
--- the tree refuses, or memory ran out
-abbrev pub IsTreeReason : Option EditRefusal → NotDone → Type 0
-IsTreeReason due why = ((refused : EditRefusal) × (due ≡ Some refused) × (why ≡ reasons.Refused refused)) ⊎ (why ≡ reasons.Memory)
-
 abbrev pub tree_reason : TreeError → NotDone
 tree_reason (errors.Refused refused) = reasons.Refused refused
 tree_reason errors.Memory = reasons.Memory
+
+-- the tree refuses, or memory ran out, where no refusal is due that is found without memory
+abbrev pub IsTreeReason : Option EditRefusal → NotDone → Type 0
+IsTreeReason due why = (error : TreeError) × IsError error due × (why ≡ tree_reason error)
 
 -- ---- opening
 
@@ -48,18 +49,18 @@ IsBegun root mapping kept =
     (opening : Opening) × IsOpening root mapping opening × (root_refusal opening ≡ None)
     × (store_in kept ≡ Some (record { opening = opening; journal = [] }))
 
--- why there is none
+-- why there is none: the first of these that holds
 abbrev pub IsNotBegun : List ℕ → Mapping → NotDone → Type 0
 IsNotBegun root mapping why =
     IsNoNode root why
-    ⊎ ((why ≡ reasons.MappingBits) × (mapping_read mapping ≡ Err MappingBits))
+    ⊎ (HasNode root × (mapping_read mapping ≡ Err MappingBits) × (why ≡ reasons.MappingBits))
     ⊎ ((opening : Opening) × IsOpening root mapping opening × IsTreeReason (root_refusal opening) why)
 
 -- a store of the root is kept, or why it isn't is told, or something was kept already; then nothing is kept
 abbrev pub Begins : List ℕ → Mapping → Handle → Handle → CheckAnswer → Type 0
 Begins root mapping old new answer =
     ((old.is_there ≡ 0) × (new.is_there ≡ 1) × IsBegun root mapping new.seal.kept × (answer ≡ unread 0 0 0 0))
-    ⊎ ((why : NotDone) × IsNotBegun root mapping why × (new ≡ old) × (answer ≡ not_done why))
+    ⊎ ((why : NotDone) × (old.is_there ≡ 0) × IsNotBegun root mapping why × (new ≡ old) × (answer ≡ not_done why))
     ⊎ ((old.is_there ≡ 1) × (new ≡ old) × (answer ≡ not_done reasons.StoreHandle))
 
 -- ---- edits
@@ -78,7 +79,7 @@ IsEdited kind path value old new =
 abbrev pub IsNotEdited : ℕ → List ℕ → List ℕ → Kept → NotDone → Type 0
 IsNotEdited kind path value old why =
     ((store_in old ≡ None) × (why ≡ reasons.StoreHandle))
-    ⊎ IsNoEdit kind path value why
+    ⊎ (IsSome (store_in old) × IsNoEdit kind path value why)
     ⊎ ((h : History) × (edit : Edit) × (store_in old ≡ Some h) × IsEdit kind path value edit
     × IsTreeReason (refusal h.opening h.journal edit) why)
 
@@ -107,26 +108,28 @@ Judges kind path value store answer =
 abbrev pub IsViewOf : Kept → Kept → ℕ → Type 0
 IsViewOf store view told = (h : History) × (store_in store ≡ Some h) × (view_in view ≡ Some h) × (told ≡ length h.journal)
 
--- a view is kept, or memory ran out, or one of the handles didn't serve; the store shows what it showed
+-- a view is kept, or memory ran out for one, or one of the handles is refused; the store shows what it showed
 abbrev pub Publishes : Handle → Handle → Handle → Handle → Written → Type 0
 Publishes store later old new answer =
     Remains store later
     × (((told : ℕ) × (store.is_there ≡ 1) × (old.is_there ≡ 0) × (new.is_there ≡ 1) × IsViewOf store.seal.kept new.seal.kept told × (answer ≡ length_told told))
-    ⊎ ((new ≡ old) × (answer ≡ not_written 1 0 0))
+    ⊎ ((store.is_there ≡ 1) × (old.is_there ≡ 0) × IsSome (store_in store.seal.kept) × (new ≡ old)
+    × (answer ≡ not_written 1 0 0))
     ⊎ (((store.is_there ≡ 0) ⊎ (old.is_there ≡ 1) ⊎ (store_in store.seal.kept ≡ None)) × (new ≡ old) × (answer ≡ not_written 11 0 0)))
 
 -- ---- going back
 
--- the store shows what the view shows, whatever it showed
+-- the store shows what the view shows, whatever it showed: of a view of another store the root and the mapping too
 abbrev pub IsReverted : Kept → Kept → Kept → ℕ → Type 0
 IsReverted old new view told =
     (h : History) × IsSome (store_in old) × (view_in view ≡ Some h) × (store_in new ≡ Some h) × (told ≡ length h.journal)
 
--- the store's tree is the view's, or memory ran out, or one of the handles didn't serve, and it shows what it showed
+-- the store's tree is the view's, or it shows what it showed: memory ran out, or one of the handles is refused
 abbrev pub Reverts : Handle → Handle → Handle → Written → Type 0
 Reverts old new view answer =
     ((told : ℕ) × (old.is_there ≡ 1) × (new.is_there ≡ 1) × (view.is_there ≡ 1)
     × IsReverted old.seal.kept new.seal.kept view.seal.kept told × (answer ≡ length_told told))
-    ⊎ (Remains old new × (answer ≡ not_written 1 0 0))
+    ⊎ ((old.is_there ≡ 1) × (view.is_there ≡ 1) × IsSome (store_in old.seal.kept) × IsSome (view_in view.seal.kept)
+    × Remains old new × (answer ≡ not_written 1 0 0))
     ⊎ (((old.is_there ≡ 0) ⊎ (view.is_there ≡ 0) ⊎ (store_in old.seal.kept ≡ None) ⊎ (view_in view.seal.kept ≡ None))
     × Remains old new × (answer ≡ not_written 11 0 0))

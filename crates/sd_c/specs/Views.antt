@@ -1,5 +1,5 @@
 -- What the calls over views answer: by the rules, for the journal that was published when the view was made.
-use Rattle.std.specs.Prelude.{◌≡◌, ◌⊎◌, ℕ, List, length, Some, None, Ok, Err}
+use Rattle.std.specs.Prelude.{◌≡◌, ◌⊎◌, ℕ, List, length, Option, Some, None, IsSome, Ok, Err, IsOk}
 use Rattle.sd_check.specs.Token.{TokenValue}
 use Rattle.sd_path.specs.Names.{Names}
 use Rattle.sd_path.specs.PathText.{path_of}
@@ -46,12 +46,12 @@ IsAnswered view path token asked told =
     (h : History) × (names : Names) × (t : TokenValue) × (view_in view ≡ Some h) × (path_of path ≡ Ok names) × (token_in token ≡ Ok t)
     × (told ≡ view_answer h names t asked)
 
--- why nothing is asked: no view is kept, no token, or the text is no path
+-- why nothing is asked, the first of these that holds: no view is kept, no token, or the text is no path
 abbrev pub IsNotAsked : Kept → List ℕ → Kept → NotDone → Type 0
 IsNotAsked view path token why =
     ((view_in view ≡ None) × (why ≡ reasons.ViewHandle))
-    ⊎ ((token_in token ≡ Err TokenHandle) × (why ≡ reasons.TokenHandle))
-    ⊎ IsNoPath arguments.Path path why
+    ⊎ (IsSome (view_in view) × (token_in token ≡ Err TokenHandle) × (why ≡ reasons.TokenHandle))
+    ⊎ (IsSome (view_in view) × IsOk (token_in token) × IsNoPath arguments.Path path why)
 
 -- an answer, or why there is none
 abbrev pub Asks : Handle → List ℕ → Handle → ℕ → ViewAnswer → Type 0
@@ -75,20 +75,28 @@ TellsLength handle told =
 
 -- ---- descriptors
 
--- the self-relative form of the node's descriptor, after the journal that was published when the view was made
+-- the self-relative form of the node's descriptor, after the journal
+abbrev pub IsFormIn : History → Names → List ℕ → Type 0
+IsFormIn h names bytes =
+    (d : DescriptorValue) × (descriptor_at h.opening.mapping (replay h.opening h.journal) names ≡ Some d)
+    × (bytes ≡ wire_of d)
+
+-- the same after the journal that was published when the view was made
 abbrev pub IsFormAt : Kept → List ℕ → List ℕ → Type 0
 IsFormAt view path bytes =
-    (h : History) × (names : Names) × (d : DescriptorValue) × (view_in view ≡ Some h) × (path_of path ≡ Ok names)
-    × (descriptor_at h.opening.mapping (replay h.opening h.journal) names ≡ Some d) × (bytes ≡ wire_of d)
+    (h : History) × (names : Names) × (view_in view ≡ Some h) × (path_of path ≡ Ok names) × IsFormIn h names bytes
 
--- why there is none: no view is kept, the text is no path, no node stands there, or memory ran out
+-- there is no node, or there is one and memory ran out
+abbrev pub IsNotFound : {A : Type 0} → Option A → NotDone → Type 0
+IsNotFound node why = ((node ≡ None) × (why ≡ reasons.NoNode)) ⊎ (IsSome node × (why ≡ reasons.Memory))
+
+-- why there is none, the first that holds: no view is kept, the text is no path, no node is there, or memory ran out
 abbrev pub IsNoFormAt : Kept → List ℕ → NotDone → Type 0
 IsNoFormAt view path why =
     ((view_in view ≡ None) × (why ≡ reasons.ViewHandle))
-    ⊎ IsNoPath arguments.Path path why
+    ⊎ (IsSome (view_in view) × IsNoPath arguments.Path path why)
     ⊎ ((h : History) × (names : Names) × (view_in view ≡ Some h) × (path_of path ≡ Ok names)
-    × (descriptor_at h.opening.mapping (replay h.opening h.journal) names ≡ None) × (why ≡ reasons.NoNode))
-    ⊎ (why ≡ reasons.Memory)
+    × IsNotFound (descriptor_at h.opening.mapping (replay h.opening h.journal) names) why)
 
 abbrev pub not_told : NotDone → Written
 not_told why = record { status = (not_done why).status; fault = (not_done why).fault; place = (not_done why).place; length = 0 }

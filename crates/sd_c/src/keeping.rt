@@ -1,12 +1,11 @@
 //! The calls that keep what they read behind a handle.
 
-ghost use Rattle.std.specs.Prelude.{◌≡◌, ◌⊎◌, Ok, IfErr, IfOk};
+ghost use Rattle.std.specs.Prelude.{◌≡◌, ◌⊎◌, Ok, IfErr, IfOk, IsErrOf};
 ghost use Rattle.sd_acl.specs.Descriptor.{DescriptorValue, descriptor_of as descriptor_value};
 ghost use Rattle.sd_check.specs.Token.{TokenValue};
 ghost use Rattle.sd_text.specs.Grammar.{Spells};
 ghost use Rattle.sd_text.specs.Sddl.{sddl};
-ghost use Rattle.sd_c.specs.Answer.{check_memory};
-ghost use Rattle.sd_c.specs.Kept.{IsHeldAs, KeepsDescriptor, KeepsToken, TokenInUse, descriptor_in, token_in};
+ghost use Rattle.sd_c.specs.Kept.{IsHeldAs, KeepsDescriptor, KeepsToken, TokenInUse, TokenLacksMemory, TokenTakesMemory, descriptor_in, token_in};
 ghost use Rattle.sd_c.specs.Request.{Fails, token_read};
 ghost use Rattle.sd_c.specs.Written.{RefusesBytes, RefusesText};
 
@@ -72,7 +71,8 @@ pub extern "C" fn hudarin_keep_token(
     handle: &mut Handle,
 ) -> CheckAnswer
     ensures { KeepsToken (token_read user.now groups.now states.now restricting.now privileges) handle.old handle.new result
-        ⊎ ((result ≡ check_memory) × (handle.new ≡ handle.old))
+        ⊎ TokenLacksMemory states.now restricting.now
+        (token_read user.now groups.now states.now restricting.now privileges) handle.old handle.new result
         ⊎ TokenInUse handle.old handle.new result }
 {
     if handle.is_there == 1 {
@@ -125,6 +125,9 @@ fn kept_token(
 ) -> Result<Box<Kept>, Stop>
     ensures ok { IfOk result (λ kept. (t : TokenValue) × (token_read user.now groups.now states.now restricting.now privileges ≡ Ok t) × (token_in kept.value ≡ Ok t)) }
     ensures err { IfErr result (λ stop. Fails stop (token_read user.now groups.now states.now restricting.now privileges)) }
+    ensures memory { IsErrOf result Stop.Memory
+        → TokenTakesMemory states.now restricting.now
+        (token_read user.now groups.now states.now restricting.now privileges) }
 {
     let token = token_of(alloc, user, groups, states, restricting, privileges)?;
     let token = Arc::new(alloc, token)?;

@@ -1,8 +1,12 @@
 //! The calls that tell a view's nodes, with which a server looks into its store and writes it down.
 
 ghost use Rattle.std.specs.Prelude.{◌≡◌, IfErr, IfOk, string_bytes};
+ghost use Rattle.sd_tree.specs.Answers.{given_at};
+ghost use Rattle.sd_tree.specs.History.{history_of};
+ghost use Rattle.sd_tree.specs.Journal.{replay};
 ghost use Rattle.sd_c.specs.Kept.{Stays};
-ghost use Rattle.sd_c.specs.Nodes.{IsNoOwnAt, IsNoPathAt, IsOwnAt, IsPathAt, OwnFormsComeBack, TellsNode, kind_number, no_node_told};
+ghost use Rattle.sd_c.specs.Nodes.{IsNoOwnAt, IsNoPathAt, IsOwnAt, IsOwnIn, IsPathAt, OwnFormsComeBack, TellsNode, kind_number, no_node_told};
+ghost use Rattle.sd_c.specs.Views.{IsNotFound};
 ghost use Rattle.sd_c.specs.Written.{Writes};
 
 use crate::answer::{Written, write};
@@ -10,7 +14,8 @@ use crate::edits::path_of;
 use crate::handle::{Handle, Kept};
 use crate::not_done::{NotDone, PathArgument};
 use crate::views::not_told;
-use sd_tree::NodeKind;
+use sd_path::Path;
+use sd_tree::{NodeKind, Tree};
 use sd_wire::write_descriptor;
 use std::alloc::Global;
 
@@ -85,7 +90,15 @@ fn own_at(alloc: Global, kept: &Kept, path: &[u8]) -> Result<(Vec<u8>, NodeKind)
         return Err(NotDone::ViewHandle);
     };
     let path = path_of(alloc, PathArgument::Path, path)?;
-    match tree.get().given(&path)? {
+    let made = own_in(alloc, tree.get(), &path)?;
+    Ok(made)
+}
+
+fn own_in(alloc: Global, tree: &Tree, path: &Path) -> Result<(Vec<u8>, NodeKind), NotDone>
+    ensures ok { IfOk result (λ made. IsOwnIn (history_of tree.now) path.now made.0.items made.1) }
+    ensures err { IfErr result (λ why. IsNotFound (given_at (replay tree.now.opening tree.now.journal) path.now) why) }
+{
+    match tree.given(path)? {
         Some((kind, descriptor)) => Ok((write_descriptor(alloc, &descriptor)?, kind)),
         None => Err(NotDone::NoNode),
     }

@@ -1,6 +1,6 @@
 //! Another handle of what a handle keeps.
 
-ghost use Rattle.std.specs.Prelude.{◌≡◌, ◌⊎◌, IfOk, IsSome, MatchOption};
+ghost use Rattle.std.specs.Prelude.{◌≡◌, IsSome, MatchOption, MatchResult, None};
 ghost use Rattle.sd_c.specs.Kept.{IsShared, IsSame, Stays, store_in};
 
 use crate::answer::{HANDLE, MEMORY, OK, Written, not_written};
@@ -35,7 +35,9 @@ pub extern "C" fn hudarin_share(alloc: Global, handle: &mut Handle, other: &mut 
 
 /// The same, for one holder more; a store has one alone.
 fn shared(alloc: Global, kept: &Kept) -> Result<Option<Box<Kept>>, AllocError>
-    ensures { IfOk result (λ second. MatchOption second (IsSome (store_in kept.now)) (λ other. IsSame kept.now other.value)) }
+    ensures { MatchResult result
+        (λ second. MatchOption second (IsSome (store_in kept.now)) (λ other. IsSame kept.now other.value))
+        (λ _. store_in kept.now ≡ None) }
 {
     let second = match kept {
         Kept::Descriptor(descriptor) => Kept::Descriptor(Arc::try_clone(descriptor)?),

@@ -1,6 +1,6 @@
 //! The calls over a store: one writer's, behind a handle.
 
-ghost use Rattle.std.specs.Prelude.{◌≡◌, ◌⊎◌, None, Some, IfErr, IfOk, MatchOption, MatchResult, OnOk};
+ghost use Rattle.std.specs.Prelude.{◌≡◌, ◌⊎◌, None, Some, IfErr, IfOk, IsSome, MatchOption, MatchResult, OnOk};
 ghost use Rattle.sd_tree.specs.History.{history_of};
 ghost use Rattle.sd_c.specs.Kept.{IsSame, Stays, store_in, view_in};
 ghost use Rattle.sd_c.specs.Publishing.{Begins, Edits, IsAllowed, IsBegun, IsEdited, IsNotBegun, IsNotEdited, IsReverted, IsViewOf, Judges, Publishes, Reverts, tree_reason};
@@ -184,6 +184,7 @@ pub extern "C" fn hudarin_store_publish(
 fn published(alloc: Global, kept: &mut Kept) -> Result<Option<(Box<Kept>, u64)>, AllocError>
     ensures same { IsSame kept.old kept.new }
     ensures view { IfOk result (λ made. MatchOption made (store_in kept.old ≡ None) (λ x. IsViewOf kept.old x.0.value x.1)) }
+    ensures memory { IfErr result (λ _. IsSome (store_in kept.old)) }
 {
     let Kept::Store(store) = kept else {
         return Ok(None);
@@ -194,8 +195,9 @@ fn published(alloc: Global, kept: &mut Kept) -> Result<Option<(Box<Kept>, u64)>,
     Ok(Some((view, length)))
 }
 
-/// The store's tree is again that which the view shows, of this store or another one, and has its edits alone; `length` tells how many
-/// they are. Refused where `store` keeps none, `view` keeps none, or memory runs out; then the store stays as it was.
+/// The store's tree becomes that of the view, with its edits alone; `length` says how many they are. A view of another
+/// store brings that store's root and mapping too. Refused where `store` keeps none, `view` keeps none, or memory runs
+/// out; then the store stays as it was.
 #[unsafe(no_mangle)]
 pub extern "C" fn hudarin_store_revert(
     alloc: Global,
@@ -228,7 +230,7 @@ fn reverted(alloc: Global, first: &mut Kept, second: &Kept) -> Result<Option<u64
     ensures { MatchResult result (λ told. MatchOption told
         (((store_in first.old ≡ None) ⊎ (view_in second.now ≡ None)) × IsSame first.old first.new)
         (λ length. IsReverted first.old first.new second.now length))
-        (λ _. IsSame first.old first.new) }
+        (λ _. IsSome (store_in first.old) × IsSome (view_in second.now) × IsSame first.old first.new) }
 {
     let Kept::Store(store) = first else {
         return Ok(None);

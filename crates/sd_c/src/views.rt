@@ -1,9 +1,11 @@
 //! The calls over views: trees as they were published, which threads share.
 
 ghost use Rattle.std.specs.Prelude.{◌≡◌, IfErr, IfOk};
+ghost use Rattle.sd_tree.specs.Answers.{descriptor_at};
 ghost use Rattle.sd_tree.specs.History.{history_of};
+ghost use Rattle.sd_tree.specs.Journal.{replay};
 ghost use Rattle.sd_c.specs.Kept.{Stays};
-ghost use Rattle.sd_c.specs.Views.{Asks, IsAnswered, IsFormAt, IsNoFormAt, IsNotAsked, TellsLength, WritesNode, length_in, not_told, reply_given, unasked, view_answer};
+ghost use Rattle.sd_c.specs.Views.{Asks, IsAnswered, IsFormAt, IsFormIn, IsNoFormAt, IsNotAsked, IsNotFound, TellsLength, WritesNode, length_in, not_told, reply_given, unasked, view_answer};
 
 use crate::answer::{CheckAnswer, HANDLE, Written, length_told, not_written, verdict_given, write};
 use crate::edits::path_of;
@@ -157,7 +159,16 @@ fn form_at(alloc: Global, kept: &Kept, path: &[u8]) -> Result<Vec<u8>, NotDone>
         return Err(NotDone::ViewHandle);
     };
     let path = path_of(alloc, PathArgument::Path, path)?;
-    match tree.get().descriptor(&path)? {
+    let bytes = form_in(alloc, tree.get(), &path)?;
+    Ok(bytes)
+}
+
+fn form_in(alloc: Global, tree: &Tree, path: &Path) -> Result<Vec<u8>, NotDone>
+    ensures ok { IfOk result (λ bytes. IsFormIn (history_of tree.now) path.now bytes.items) }
+    ensures err { IfErr result (λ why. IsNotFound
+        (descriptor_at tree.now.opening.mapping (replay tree.now.opening tree.now.journal) path.now) why) }
+{
+    match tree.descriptor(path)? {
         Some(descriptor) => Ok(write_descriptor(alloc, &descriptor)?),
         None => Err(NotDone::NoNode),
     }

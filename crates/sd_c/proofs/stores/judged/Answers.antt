@@ -1,4 +1,5 @@
-use Rattle.std.proofs.Common.{rules, inl, inr, refl}
+use Rattle.std.proofs.Common.{rules, inr, refl}
+use Rattle.sd_tree.specs.declared.refusal.TreeError.TheVariants as errors
 use Rattle.sd_c.proofs.stores.judged.Goals as goal
 
 pub returns-in-None-clause-ok : goal.returns-in-None-clause-ok
@@ -6,4 +7,10 @@ returns-in-None-clause-ok c = (c.in-Store.store.value, c.in_ok-edit.edit, search
 
 pub returns-clause-err : goal.returns-clause-err
 returns-clause-err c =
-    inr (inr (c.in-Store.store.value, c.in_ok-edit.edit, search rules, search rules, inl (c.in-Some.refusal, search rules, refl)))
+    inr (inr (
+      c.in-Store.store.value,
+      c.in_ok-edit.edit,
+      search rules,
+      search rules,
+      (errors.Refused c.in-Some.refusal, search rules, refl),
+    ))

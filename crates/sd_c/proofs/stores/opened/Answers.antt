@@ -1,8 +1,13 @@
-use Rattle.std.proofs.Common.{rules, inr, sym, subst}
+use Rattle.std.proofs.Common.{rules, inl, inr, refl, sym, subst}
 use Rattle.sd_tree.specs.Journal.{opening_of, root_refusal}
 use Rattle.sd_c.specs.Publishing.{IsNotBegun}
 use Rattle.sd_c.proofs.Reasons.{told_reason}
 use Rattle.sd_c.proofs.stores.opened.Goals as goal
+
+pub returns-in_default-clause-err : goal.returns-in_default-clause-err
+returns-in_default-clause-err c =
+    let root = c.in_ok-root.root in
+    inr (inl ((root.owner, root.group, root.dacl, search rules), search rules, refl))
 
 pub returns-clause-err : goal.returns-clause-err
 returns-clause-err c =

@@ -1,0 +1,11 @@
+use Rattle.std.proofs.Common.{rules, inr, refl}
+use Rattle.std.proofs.lemmas.Result.{err_from_is_err_and}
+use Rattle.sd_acl.specs.Descriptor.{descriptor_of}
+use Rattle.sd_c.specs.Edits.{own_dacl}
+use Rattle.sd_c.proofs.edits.node_of.Goals as goal
+
+pub returns-in_err-dacl-in-Some-Some-clause-err : goal.returns-in_err-dacl-in-Some-Some-clause-err
+returns-in_err-dacl-in-Some-Some-clause-err c =
+    let d = descriptor_of c.in_ok-descriptor.descriptor in
+    let p = err_from_is_err_and c.from_residual-in_err-dacl-in-Some-Some.result c.from_residual-in_err-dacl-in-Some-Some.ensures.1 in
+    rw (p.1, p.2) (inr (c.in-Some-Some.owner, c.in-Some-Some.group, own_dacl d.protected d.dacl, (d, search rules, search rules, search rules, refl)))
