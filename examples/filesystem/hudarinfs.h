@@ -270,6 +270,13 @@ int edit_rename(const char *from, const char *to, unsigned int flags);
 int edit_owners(const char *path, uid_t uid, gid_t gid);
 int edit_descriptor(const char *path, const char *text);
 
+/* ---- mounts.c: before MOUNT is mounted */
+
+/* /proc has to number processes as this one's namespace does, since who.c reads it. */
+int proc_is_ours(void);
+/* Unmounts what a server that was killed has left at MOUNT. */
+void unmount_dead(const char *mount);
+
 /* ---- operations.c: what FUSE calls */
 
 struct fuse_operations;

@@ -6,6 +6,7 @@
 
 #include <errno.h>
 #include <fuse.h>
+#include <signal.h>
 #include <stdio.h>
 #include <stdlib.h>
 #include <string.h>
@@ -119,7 +120,8 @@ static int start(const struct words *words)
 {
     struct node *tree = NULL;
     const struct keeper *keeper = NULL;
-    int result = words->maps == NULL ? 0 : maps_read(words->maps);
+    int result = proc_is_ours();
+    result = result < 0 || words->maps == NULL ? result : maps_read(words->maps);
     result = result < 0 ? result : folder_open(words->folder);
     result = result < 0 ? result : beside_open(words->folder);
     result = result < 0 ? result : choose(words, &keeper);
@@ -133,7 +135,8 @@ static int start(const struct words *words)
 
 int main(int count, char **arguments)
 {
-    static char options[] = "allow_other,nosuid,nodev,fsname=hudarinfs,max_threads=16";
+    static char options[] = "allow_other,nosuid,nodev,fsname=hudarinfs,max_threads=16,"
+                            "max_idle_threads=16";
     struct words words;
     if (!read_words(count, arguments, &words)) {
         return usage();
@@ -143,6 +146,9 @@ int main(int count, char **arguments)
         say("%s isn't served: %s", words.folder, strerror(-result));
         return 1;
     }
+    unmount_dead(words.mount);
+    /* A terminal that closes, or a wish for the log's rotation, is no reason to unmount. */
+    (void)signal(SIGHUP, SIG_IGN);
     char *fuse[] = { arguments[0], "-f", "-o", options, (char *)(uintptr_t)words.mount, NULL };
     int status = fuse_main(5, fuse, operations(), NULL);
     return status == 0 ? 0 : 1;
