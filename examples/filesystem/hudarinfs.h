@@ -47,6 +47,8 @@ uint32_t mask_of_adding(bool is_folder);
 /* ---- say.c: the log, on standard error */
 
 void say(const char *format, ...) __attribute__((format(printf, 1, 2)));
+/* From now on an operation's lines have the uid and the pid of its caller. */
+void say_serving(void);
 
 /* ---- steps.c: a test may end the process at a step of an edit, the one whose number HUDARINFS_STEP tells, counted
  * from steps_begin, or have it wait HUDARINFS_WAIT microseconds where FOLDER has changed and the view hasn't. */

@@ -219,8 +219,12 @@ static int op_write(const char *path, const char *bytes, size_t size, off_t offs
 
 static int op_truncate(const char *path, off_t size, struct fuse_file_info *info)
 {
+    if (info != NULL && (granted_of(info) & FILE_WRITE_DATA) == 0) {
+        say("a file that was opened without 0x2 isn't truncated");
+        return -EACCES;
+    }
     if (info != NULL) {
-        return (granted_of(info) & FILE_WRITE_DATA) == 0 ? -EACCES : result_of(ftruncate(fd_of(info), size));
+        return result_of(ftruncate(fd_of(info), size));
     }
     int asked = asks_once(path, FILE_WRITE_DATA);
     int fd = asked < 0 ? asked : folder_at(path, O_WRONLY);
@@ -379,6 +383,7 @@ static void *op_init(struct fuse_conn_info *connection, struct fuse_config *conf
     config->negative_timeout = 0;
     steps_begin();
     say("ready");
+    say_serving();
     return NULL;
 }
 

@@ -97,8 +97,9 @@ int who_calls(struct who **answer)
     }
     int further = fuse_getgroups(MOST_GROUPS, groups + 1);
     if (further < 0 || further > MOST_GROUPS) {
-        say("process %ld: its groups can't be told", (long)context->pid);
-        return -EACCES;
+        say("the groups of the process aren't known: %s", further < 0 ? strerror(-further) : "they are too many");
+        bool lacks = further == -EMFILE || further == -ENFILE || further == -ENOMEM;
+        return lacks ? further : -EACCES;
     }
     groups[0] = context->gid;
     size_t count = (size_t)further + 1;
