@@ -112,8 +112,7 @@ int descriptor_of(struct asking *asking, const char *path, const unsigned char *
     return answer.status == HUDARIN_OK ? (int)answer.length : error_of(answer.status, answer.fault);
 }
 
-/* The SID at an offset that the four bytes at `place` of a self-relative descriptor tell. */
-static struct sid sid_at(const unsigned char *bytes, size_t length, size_t place)
+struct sid sid_at(const unsigned char *bytes, size_t length, size_t place)
 {
     struct sid sid = { 0, { 0 } };
     size_t begin = (size_t)bytes[place] | (size_t)bytes[place + 1] << 8 | (size_t)bytes[place + 2] << 16;

@@ -13,14 +13,36 @@
 
 #define RENAME_KEEPS_TARGET 1u /* RENAME_NOREPLACE of renameat2(2) */
 
+/*
+ * What an edit of a user other than root may make of a descriptor, with what it inherits. A DACL may have 65,535 bytes,
+ * so an administrator's entry above has at least 16,000 left at each node.
+ */
+#define MOST_DESCRIPTOR_BYTES 49152
+
 static pthread_mutex_t writer = PTHREAD_MUTEX_INITIALIZER;
 static uint64_t longest_journal;
 static const struct keeper *keeper;
 
-void edits_open(uint64_t journal_limit, const struct keeper *kept_by)
+/* Each node that is shown counts for its owner. */
+static int count_all(void)
+{
+    struct told told;
+    int result = 0;
+    for (uint64_t place = 0; result == 0; place++) {
+        result = node_told(store_shown(), place, &told);
+        if (result == 0) {
+            struct sid owner = sid_at(told.own, told.length, 4);
+            result = nodes_count(&owner, 1);
+        }
+    }
+    return result == -ENOENT ? 0 : result; /* (there is no node after the last) */
+}
+
+int edits_open(uint64_t journal_limit, const struct keeper *kept_by)
 {
     longest_journal = journal_limit;
     keeper = kept_by;
+    return count_all();
 }
 
 /* edit_end follows, whatever the answer. A journal that has grown long begins anew. */
@@ -41,6 +63,23 @@ static void edit_end(struct asking *asking)
     (void)pthread_mutex_unlock(&writer);
 }
 
+/* store_ready, and whether the descriptors of the node and of those below leave room, where the caller isn't root. */
+static int make_ready(const struct asking *asking, const char *path)
+{
+    char longest[PATH_ROOM];
+    int result = store_ready();
+    if (result < 0 || who_is_root(asking->who)) {
+        return result;
+    }
+    int length = store_longest(store_next(), path, longest);
+    if (length > MOST_DESCRIPTOR_BYTES) {
+        say("the descriptor of %s would have %d bytes, with what it inherits; %d is the most for a user", longest,
+            length, MOST_DESCRIPTOR_BYTES);
+        return -E2BIG;
+    }
+    return length < 0 ? length : 0;
+}
+
 /* ---- A new node */
 
 /* The edit that adds a node of the caller's, with no entries of its own. */
@@ -59,8 +98,10 @@ static int create_below(struct asking *asking, const char *path, bool is_folder,
 {
     char above[PATH_ROOM];
     struct stat found;
+    struct sid user = asking->who == NULL ? sid_of_uid(0) : *who_user(asking->who);
     (void)path_split(path, above);
     int result = asks(asking, above, mask_of_adding(is_folder));
+    result = result < 0 ? result : nodes_may(&user, who_is_root(asking->who), true);
     if (result < 0) {
         return result;
     }
@@ -69,10 +110,12 @@ static int create_below(struct asking *asking, const char *path, bool is_folder,
         return there == 0 ? -EEXIST : there;
     }
     result = add_new(asking, path, is_folder);
-    result = result < 0 ? result : store_ready();
+    result = result < 0 ? result : make_ready(asking, path);
     result = result < 0 ? result : keeper->make(path, is_folder, flags);
     if (result < 0) {
         store_undo();
+    } else {
+        (void)nodes_count(&user, 1);
     }
     return result;
 }
@@ -97,13 +140,16 @@ int edit_create(const char *path, bool is_folder, int flags)
 
 static int remove_node(const char *path, bool is_folder)
 {
-    int result = store_edit(HUDARIN_EDIT_REMOVE, path, NULL, 0);
+    struct sid owner;
+    int result = store_owner(path, &owner);
+    result = result < 0 ? result : store_edit(HUDARIN_EDIT_REMOVE, path, NULL, 0);
     result = result < 0 ? result : store_ready();
     result = result < 0 ? result : keeper->drop(path, is_folder);
     if (result < 0) {
         store_undo();
         return result;
     }
+    (void)nodes_count(&owner, -1);
     return folder_sync(path);
 }
 
@@ -200,10 +246,10 @@ static int set_parts(const char *path, const struct parts *parts)
 }
 
 /* The parts that are given become the node's. */
-static int give_parts(const char *path, const struct parts *parts)
+static int give_parts(const struct asking *asking, const char *path, const struct parts *parts)
 {
     int result = set_parts(path, parts);
-    result = result < 0 ? result : store_ready();
+    result = result < 0 ? result : make_ready(asking, path);
     result = result < 0 ? result : keeper->give(path);
     if (result < 0) {
         store_undo();
@@ -211,15 +257,35 @@ static int give_parts(const char *path, const struct parts *parts)
     return result;
 }
 
-/* An owner that is given has to be the caller, or a group of it: nobody gives away what it has. */
-static int may_own(struct asking *asking, const char *owner)
+/* An owner that is given has to be the caller, or a group of it: nobody gives away what it has. It needs room for one
+ * more node. */
+static int may_own(struct asking *asking, const char *owner, const struct sid *old, struct sid *sid)
 {
-    struct sid sid;
-    int read = sid_read(owner, &sid);
+    int read = sid_read(owner, sid);
     if (read < 0) {
         return read;
     }
-    return asking->who == NULL || who_has(asking->who, &sid) ? 0 : -EPERM;
+    if (asking->who != NULL && !who_has(asking->who, sid)) {
+        return -EPERM;
+    }
+    return sid_equal(old, sid) ? 0 : nodes_may(sid, who_is_root(asking->who), false);
+}
+
+/* The same, where an owner is given: then the node counts for that one. */
+static int give_owned(struct asking *asking, const char *path, const struct parts *parts)
+{
+    struct sid old, owner;
+    if (parts->owner == NULL) {
+        return give_parts(asking, path, parts);
+    }
+    int result = store_owner(path, &old);
+    result = result < 0 ? result : may_own(asking, parts->owner, &old, &owner);
+    result = result < 0 ? result : give_parts(asking, path, parts);
+    if (result >= 0) {
+        (void)nodes_count(&old, -1);
+        (void)nodes_count(&owner, 1);
+    }
+    return result;
 }
 
 /* The parts that are given, which are freed. */
@@ -230,8 +296,7 @@ static int edit_parts(const char *path, struct parts *parts)
     mask |= parts->owner == NULL && parts->group == NULL ? 0 : RIGHT_WRITE_OWNER;
     int result = edit_begin(&asking);
     result = result < 0 ? result : asks(&asking, path, mask);
-    result = result < 0 || parts->owner == NULL ? result : may_own(&asking, parts->owner);
-    result = result < 0 ? result : give_parts(path, parts);
+    result = result < 0 ? result : give_owned(&asking, path, parts);
     edit_end(&asking);
     parts_free(parts);
     return result;

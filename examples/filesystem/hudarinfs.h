@@ -1,7 +1,8 @@
 /*
  * What the parts of hudarinfs share: the operations ask (asks.c) who may do what (who.c, maps.c, masks.c), of the
- * newest view of the store (store.c). One writer at a time changes the store (edits.c), what is kept of it (attributes.c
- * or beside.c), and FOLDER itself (folder.c). A tree of descriptors (tree.c) stands at the start alone.
+ * newest view of the store (store.c), and whether the user has any left of what all share (quotas.c). One writer at a
+ * time changes the store (edits.c), what is kept of it (attributes.c or beside.c), and FOLDER itself (folder.c). A tree
+ * of descriptors (tree.c) is there at the start alone.
  *
  * A function that answers an int answers 0 or more where it went well, and else a negative error number.
  */
@@ -90,6 +91,8 @@ struct who;
 int who_calls(struct who **who);
 hudarin_token *who_token(struct who *who);
 const struct sid *who_user(const struct who *who);
+/* Also where nobody is asked, in the program without checks. */
+bool who_is_root(const struct who *who);
 struct sid who_group(const struct who *who);
 /* Whether the SID is the user's, or that of one of the groups. */
 bool who_has(const struct who *who, const struct sid *sid);
@@ -172,6 +175,16 @@ struct told {
 int node_told(hudarin_view *view, uint64_t place, struct told *told);
 /* The node at the path, which stands in `told` already. */
 int own_told(hudarin_view *view, struct told *told);
+/* The owner of the node that is shown at the path. */
+int store_owner(const char *path, struct sid *owner);
+/* The SID at the offset that the four bytes at `place` of a self-relative descriptor give: empty if none is there. */
+struct sid sid_at(const unsigned char *bytes, size_t length, size_t place);
+/* Whether the path is `top`, or below it. */
+bool is_below(const char *path, const char *top);
+/* How many bytes the longest descriptor at `top` and below has, with what it inherits, and at which path it is. */
+int store_longest(hudarin_view *view, const char *top, char longest[PATH_ROOM]);
+/* The same, for the log. */
+void store_name_longest(hudarin_view *view, const char *top);
 int view_share(hudarin_view *view);
 /* A negative error number for a status that isn't HUDARIN_OK. */
 int error_of(uint32_t status, uint32_t fault);
@@ -263,9 +276,26 @@ int descriptor_of(struct asking *asking, const char *path, const unsigned char *
 /* Who the owner and the group are, as far as they are users and groups of this machine. */
 int owners_of(struct asking *asking, const char *path, struct stat *found);
 
+/* ---- quotas.c: how much a user may take of what all share */
+
+/* Raises the limit of descriptors; a user may have `most` files open, or half of what there is for all. */
+int opens_begin(uint64_t most);
+/* One more open of the user's: -EMFILE where it has too many, or all have. */
+int open_take(uid_t uid);
+void open_give_back(uid_t uid);
+/* The descriptor is of that user's open. */
+void open_is(int fd, uid_t uid);
+uid_t opener_of(int fd);
+void nodes_begin(uint64_t most);
+/* Whether one more node may be the owner's, -EDQUOT where it has too many, and -ENOSPC for a new one that is reserved
+ * for root. nodes_count of this owner can't fail then. */
+int nodes_may(const struct sid *owner, bool is_root, bool is_new);
+int nodes_count(const struct sid *owner, int by);
+
 /* ---- edits.c: what changes the tree */
 
-void edits_open(uint64_t journal_limit, const struct keeper *kept_by);
+/* Counts the nodes that are shown, too. */
+int edits_open(uint64_t journal_limit, const struct keeper *kept_by);
 int edit_create(const char *path, bool is_folder, int flags);
 int edit_remove(const char *path, bool is_folder);
 int edit_rename(const char *from, const char *to, unsigned int flags);

@@ -18,39 +18,67 @@
 /* A store takes 1,048,576 edits; it begins anew before, and always has room for the edits of one call. */
 #define LONGEST_JOURNAL 1000000
 
+/* Of 65,536 descriptors and as many nodes. */
+#define MOST_OPENS 1024
+#define MOST_NODES 16384
+
 struct words {
     const char *folder, *mount, *policy, *maps;
-    bool wants_file;
-    uint64_t journal;
+    bool wants_file, adopts;
+    uint64_t journal, opens, nodes;
 };
 
 static int usage(void)
 {
-    (void)fputs("usage: hudarinfs [-f] [-m MAPS] [-j EDITS] FOLDER MOUNT [POLICY]\n"
+    (void)fputs("usage: hudarinfs [-fu] [-m MAPS] [-o OPENS] [-n NODES] [-j EDITS] FOLDER MOUNT [POLICY]\n"
                 "  POLICY  the root's descriptor, in SDDL, where FOLDER has none kept yet\n"
                 "  -f      keeps descriptors in a file beside FOLDER, in place of attributes\n"
+                "  -u      serves names of which no descriptor is kept: they are root's, and inherit\n"
                 "  MAPS    a file of lines `uid N SID` and `gid N SID`\n"
-                "  EDITS   behind so many edits the store is made anew (1000000)\n", stderr);
+                "  OPENS   how many files a user other than root may have open (1024)\n"
+                "  NODES   how many nodes an owner other than root may have (16384)\n"
+                "  EDITS   after so many edits the store starts over from a compact journal (1000000)\n", stderr);
     return 2;
+}
+
+/* A number from 1 to the limit. */
+static bool read_number(const char *word, uint64_t limit, uint64_t *number)
+{
+    char *end = NULL;
+    errno = 0;
+    *number = strtoull(word, &end, 10);
+    return errno == 0 && *end == '\0' && *number > 0 && *number <= limit;
+}
+
+static bool read_option(int option, struct words *read)
+{
+    switch (option) {
+    case 'f':
+        read->wants_file = true;
+        return true;
+    case 'u':
+        read->adopts = true;
+        return true;
+    case 'm':
+        read->maps = optarg;
+        return true;
+    case 'o':
+        return read_number(optarg, UINT32_MAX, &read->opens);
+    case 'n':
+        return read_number(optarg, UINT32_MAX, &read->nodes);
+    case 'j':
+        return read_number(optarg, LONGEST_JOURNAL, &read->journal);
+    default:
+        return false;
+    }
 }
 
 static bool read_words(int count, char **words, struct words *read)
 {
-    *read = (struct words){ NULL, NULL, ROOTS_ALONE, NULL, false, LONGEST_JOURNAL };
-    char *end = NULL;
+    *read = (struct words){ NULL, NULL, ROOTS_ALONE, NULL, false, false, LONGEST_JOURNAL, MOST_OPENS, MOST_NODES };
     int option;
-    while ((option = getopt(count, words, "fm:j:")) != -1) {
-        if (option == 'f') {
-            read->wants_file = true;
-        } else if (option == 'm') {
-            read->maps = optarg;
-        } else if (option == 'j') {
-            errno = 0;
-            read->journal = strtoull(optarg, &end, 10);
-            if (errno != 0 || *end != '\0' || read->journal == 0 || read->journal > LONGEST_JOURNAL) {
-                return false;
-            }
-        } else {
+    while ((option = getopt(count, words, "fum:o:n:j:")) != -1) {
+        if (!read_option(option, read)) {
             return false;
         }
     }
@@ -121,6 +149,7 @@ static int start(const struct words *words)
     struct node *tree = NULL;
     const struct keeper *keeper = NULL;
     int result = proc_is_ours();
+    result = result < 0 ? result : opens_begin(words->opens);
     result = result < 0 || words->maps == NULL ? result : maps_read(words->maps);
     result = result < 0 ? result : folder_open(words->folder);
     result = result < 0 ? result : beside_open(words->folder);
@@ -129,8 +158,8 @@ static int start(const struct words *words)
     result = result < 0 ? result : store_build(tree);
     result = result < 0 ? result : keeper->begin();
     node_free(tree);
-    edits_open(words->journal, keeper);
-    return result;
+    nodes_begin(words->nodes);
+    return result < 0 ? result : edits_open(words->journal, keeper);
 }
 
 int main(int count, char **arguments)

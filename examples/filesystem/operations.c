@@ -163,34 +163,41 @@ static int op_rename(const char *from, const char *to, unsigned int flags)
 
 /* ---- Files */
 
-static int op_open(const char *path, struct fuse_file_info *info)
+/* The descriptor is an open file of the caller's, whose quota has one less; or the answer is the error that `fd` is. */
+static int opened(int fd, uid_t uid, struct fuse_file_info *info)
 {
-    uint32_t mask = mask_of_open(info->flags);
-    int asked = asks_once(path, mask);
-    if (asked < 0) {
-        return asked;
-    }
-    int fd = folder_at(path, info->flags & (O_ACCMODE | O_APPEND | O_TRUNC));
     if (fd < 0) {
+        open_give_back(uid);
         return fd;
     }
+    uint32_t mask = mask_of_open(info->flags);
+    open_is(fd, uid);
     info->fh = handle_of(fd, mask);
     /* Pages that are mapped and written could reach the file by another's handle, and not at its end. */
     info->direct_io = (mask & (FILE_APPEND_DATA | FILE_WRITE_DATA)) == FILE_APPEND_DATA;
     return 0;
 }
 
+static int op_open(const char *path, struct fuse_file_info *info)
+{
+    uid_t uid = fuse_get_context()->uid;
+    int asked = asks_once(path, mask_of_open(info->flags));
+    asked = asked < 0 ? asked : open_take(uid);
+    if (asked < 0) {
+        return asked;
+    }
+    return opened(folder_at(path, info->flags & (O_ACCMODE | O_APPEND | O_TRUNC)), uid, info);
+}
+
 static int op_create(const char *path, mode_t mode, struct fuse_file_info *info)
 {
     (void)mode;
-    int fd = made_by(path, edit_create(path, false, info->flags & (O_ACCMODE | O_APPEND)));
-    if (fd < 0) {
-        return fd;
+    uid_t uid = fuse_get_context()->uid;
+    int taken = open_take(uid);
+    if (taken < 0) {
+        return taken;
     }
-    uint32_t mask = mask_of_open(info->flags);
-    info->fh = handle_of(fd, mask);
-    info->direct_io = (mask & (FILE_APPEND_DATA | FILE_WRITE_DATA)) == FILE_APPEND_DATA;
-    return 0;
+    return opened(made_by(path, edit_create(path, false, info->flags & (O_ACCMODE | O_APPEND))), uid, info);
 }
 
 static int op_mknod(const char *path, mode_t mode, dev_t device)
@@ -261,7 +268,10 @@ static int op_fsync(const char *path, int is_data, struct fuse_file_info *info)
 static int op_release(const char *path, struct fuse_file_info *info)
 {
     (void)path;
-    return result_of(close(fd_of(info)));
+    uid_t uid = opener_of(fd_of(info));
+    int result = result_of(close(fd_of(info)));
+    open_give_back(uid);
+    return result;
 }
 
 static int op_unlink(const char *path)

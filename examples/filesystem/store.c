@@ -3,6 +3,7 @@
 
 #include <errno.h>
 #include <pthread.h>
+#include <stdio.h>
 #include <stdlib.h>
 #include <string.h>
 
@@ -116,6 +117,9 @@ int store_edit(uint32_t edit, const char *path, const void *value, size_t length
     hudarin_verdict answer = hudarin_store_edit(&store, edit, path, strlen(path), value, length);
     if (answer.status != HUDARIN_OK) {
         say("edit %u of %s isn't made: %s %u", edit, path, status_name(answer.status), answer.fault);
+        if (answer.status == HUDARIN_REFUSED && answer.fault == HUDARIN_REFUSED_ACL_TOO_LARGE) {
+            store_name_longest(&shown, path);
+        }
         return error_of(answer.status, answer.fault);
     }
     return 0;
@@ -237,6 +241,65 @@ int node_told(hudarin_view *view, uint64_t place, struct told *told)
     }
     told->path[node.written.length] = '\0';
     return own_told(view, told);
+}
+
+int store_owner(const char *path, struct sid *owner)
+{
+    struct told told;
+    size_t length = strlen(path);
+    if (length >= sizeof told.path) {
+        return -ENAMETOOLONG;
+    }
+    memcpy(told.path, path, length + 1);
+    int result = own_told(&shown, &told);
+    *owner = result < 0 ? (struct sid){ 0, { 0 } } : sid_at(told.own, told.length, 4);
+    return result;
+}
+
+bool is_below(const char *path, const char *top)
+{
+    size_t length = top[1] == '\0' ? 0 : strlen(top);
+    return strncmp(path, top, length) == 0 && (path[length] == '\0' || path[length] == '/');
+}
+
+/* How many bytes the node's descriptor has, with what it inherits. */
+static int length_of(hudarin_view *view, const char *path)
+{
+    hudarin_written answer = hudarin_view_descriptor(view, path, strlen(path), NULL, 0);
+    return answer.status == HUDARIN_ROOM ? (int)answer.length : error_of(answer.status, answer.fault);
+}
+
+int store_longest(hudarin_view *view, const char *top, char longest[PATH_ROOM])
+{
+    char path[PATH_ROOM];
+    int most = length_of(view, top);
+    (void)snprintf(longest, PATH_ROOM, "%s", top);
+    if (hudarin_view_own(view, top, strlen(top), NULL, 0).kind != HUDARIN_CONTAINER) {
+        return most;
+    }
+    for (uint64_t place = 0; most >= 0; place++) {
+        hudarin_node node = hudarin_view_node(view, place, path, sizeof path - 1);
+        if (node.written.status != HUDARIN_OK) {
+            return node.written.status == HUDARIN_NO_NODE ? most : error_of(node.written.status, node.written.fault);
+        }
+        path[node.written.length] = '\0';
+        int length = is_below(path, top) ? length_of(view, path) : 0;
+        if (length > most) {
+            memcpy(longest, path, node.written.length + 1);
+        }
+        most = length < 0 || length > most ? length : most;
+    }
+    return most;
+}
+
+void store_name_longest(hudarin_view *view, const char *top)
+{
+    char longest[PATH_ROOM];
+    int length = store_longest(view, top, longest);
+    if (length >= 0) {
+        say("the longest descriptor at %s and below is that of %s: %d bytes, with what it inherits", top, longest,
+            length);
+    }
 }
 
 /* ---- At the start, and anew */

@@ -130,6 +130,11 @@ const struct sid *who_user(const struct who *who)
     return &who->user;
 }
 
+bool who_is_root(const struct who *who)
+{
+    return who == NULL || who->uid == 0;
+}
+
 struct sid who_group(const struct who *who)
 {
     return sid_of_gid(who->groups[0]);
