@@ -48,7 +48,8 @@ static hudarin_view_verdict verdict(struct asking *asking, const char *path, uin
     return hudarin_view_check(&asking->view, path, strlen(path), who_token(asking->who), mask);
 }
 
-int asks(struct asking *asking, const char *path, uint32_t mask)
+/* asks, and no line. */
+static int asks_quietly(struct asking *asking, const char *path, uint32_t mask)
 {
     if (!IS_CHECKED) {
         return 0;
@@ -72,14 +73,51 @@ int asks_node(struct asking *asking, const char *path)
     return answer.answer.status == HUDARIN_OK ? 0 : error_of(answer.answer.status, answer.answer.fault);
 }
 
+static int said(int asked, const char *path, uint32_t mask)
+{
+    if (asked == -EACCES) {
+        say("denied 0x%x of %s", (unsigned int)mask, path);
+    }
+    return asked;
+}
+
+int asks(struct asking *asking, const char *path, uint32_t mask)
+{
+    return said(asks_quietly(asking, path, mask), path, mask);
+}
+
+bool asks_all(struct asking *asking, const char *path, uint32_t mask)
+{
+    static _Thread_local char below[PATH_ROOM];
+    int asked = asks_quietly(asking, path, mask);
+    if (!IS_CHECKED) {
+        return true;
+    }
+    if (hudarin_view_own(&asking->view, path, strlen(path), NULL, 0).kind != HUDARIN_CONTAINER) {
+        return asked == 0;
+    }
+    for (uint64_t place = 0; asked == 0; place++) {
+        hudarin_node node = hudarin_view_node(&asking->view, place, below, sizeof below - 1);
+        if (node.written.status == HUDARIN_NO_NODE) {
+            return true;
+        }
+        if (node.written.status != HUDARIN_OK) {
+            return false;
+        }
+        below[node.written.length] = '\0';
+        asked = is_below(below, path) ? asks_quietly(asking, below, mask) : 0;
+    }
+    return false;
+}
+
 /* Where the node denies the mask its parent is asked: of one view, so that no change comes between. */
 static int asks_either(struct asking *asking, const char *path, uint32_t mask, uint32_t parents)
 {
     char parent[PATH_ROOM];
-    int asked = asks(asking, path, mask);
+    int asked = asks_quietly(asking, path, mask);
     if (asked == -EACCES && path[1] != '\0') {
         (void)path_split(path, parent);
-        asked = asks(asking, parent, parents);
+        asked = asks_quietly(asking, parent, parents);
     }
     return asked;
 }
@@ -87,12 +125,13 @@ static int asks_either(struct asking *asking, const char *path, uint32_t mask, u
 int asks_seen(struct asking *asking, const char *path, bool is_folder)
 {
     int asked = asks_either(asking, path, FILE_READ_ATTRIBUTES, FILE_READ_DATA);
-    return asked == -EACCES && is_folder ? asks(asking, path, FILE_EXECUTE) : asked;
+    asked = asked == -EACCES && is_folder ? asks_quietly(asking, path, FILE_EXECUTE) : asked;
+    return said(asked, path, FILE_READ_ATTRIBUTES);
 }
 
 int asks_delete(struct asking *asking, const char *path)
 {
-    return asks_either(asking, path, RIGHT_DELETE, FILE_DELETE_CHILD);
+    return said(asks_either(asking, path, RIGHT_DELETE, FILE_DELETE_CHILD), path, RIGHT_DELETE);
 }
 
 int asks_once(const char *path, uint32_t mask)

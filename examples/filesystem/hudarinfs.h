@@ -256,8 +256,10 @@ struct asking {
 /* The caller, and a share of the newest view. */
 int asking_begin(struct asking *asking);
 void asking_end(struct asking *asking);
-/* 0 where the whole mask is granted. */
+/* 0 where the whole mask is granted. The log says what this one denies, and those below. */
 int asks(struct asking *asking, const char *path, uint32_t mask);
+/* Whether the whole mask is granted at the path, and at all that is below it; the log says nothing. */
+bool asks_all(struct asking *asking, const char *path, uint32_t mask);
 /* 0 where a node stands there. */
 int asks_node(struct asking *asking, const char *path);
 /* 0 where the caller may see that the node is there. */
