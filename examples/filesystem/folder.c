@@ -173,13 +173,13 @@ int folder_sync(const char *path)
 struct scan {
     bool by_attributes;
     const struct parts *root; /* a new node's owner and group */
-    unsigned long unknown;
+    unsigned long unknown, known;
 };
 
 static int scan_below(struct scan *scan, struct node *node, struct node *known, int fd, unsigned depth);
 
 /* A copy of what was given to a node: what is known of it, or what its attribute tells; else it is a new one of root's. */
-static int given_to(struct scan *scan, const struct node *known, int fd, struct parts *given)
+static int given_to(struct scan *scan, const struct node *known, int fd, const char *name, struct parts *given)
 {
     int told = known != NULL ? 1 : 0;
     if (scan->by_attributes) {
@@ -189,8 +189,12 @@ static int given_to(struct scan *scan, const struct node *known, int fd, struct 
     }
     if (told == 0) {
         scan->unknown++;
+        if (scan->unknown <= 10) {
+            say("nothing is kept of the name %s", name);
+        }
         return parts_make(given, scan->root->owner, scan->root->group, "D:") ? 0 : -ENOMEM;
     }
+    scan->known += told > 0 ? 1 : 0;
     return told < 0 ? told : 0;
 }
 
@@ -199,7 +203,7 @@ static int join_node(struct scan *scan, struct node *parent, const struct node *
                      bool is_folder)
 {
     struct parts given = { NULL, NULL, NULL };
-    int result = given_to(scan, known, fd, &given);
+    int result = given_to(scan, known, fd, name, &given);
     struct node *node = result < 0 ? NULL : node_make(name, strlen(name), is_folder, &given);
     parts_free(&given);
     if (node == NULL || !node_reserve(parent)) {
@@ -276,9 +280,23 @@ static struct node *scan_root(const struct scan *scan, const struct node *known)
     return top;
 }
 
-int folder_scan(struct node *known, bool by_attributes, const struct parts *root, struct node **found)
+/* A restore without descriptors may have brought names of which nothing is kept: the policy isn't meant for these. */
+static int refuse_unknown(const struct scan *scan, bool is_kept)
 {
-    struct scan scan = { by_attributes, root, 0 };
+    if (scan->unknown > 0) {
+        say("nothing is kept of %lu names of FOLDER: -u gives them to root, and they inherit", scan->unknown);
+        return -ENODATA;
+    }
+    if (scan->known > 0 && !is_kept) {
+        say("nothing is kept of FOLDER itself, and something of %lu names in it: -u gives it the policy", scan->known);
+        return -ENODATA;
+    }
+    return 0;
+}
+
+int folder_scan(struct node *known, bool by_attributes, bool adopts, const struct parts *root, struct node **found)
+{
+    struct scan scan = { by_attributes, root, 0, 0 };
     bool is_kept = known != NULL || (by_attributes && attributes_are_there() == 1);
     int fd = open_below("/", O_RDONLY | O_DIRECTORY, 0);
     struct node *top = scan_root(&scan, known);
@@ -290,12 +308,13 @@ int folder_scan(struct node *known, bool by_attributes, const struct parts *root
         return fd < 0 ? fd : -EINVAL;
     }
     int result = scan_below(&scan, top, known, fd, 0);
+    result = result < 0 || adopts ? result : refuse_unknown(&scan, is_kept);
     if (result < 0) {
         node_free(top);
         return result;
     }
-    if (is_kept && scan.unknown > 0) {
-        say("%lu names of FOLDER weren't known: they inherit, and are root's", scan.unknown);
+    if (scan.unknown > 0) {
+        say("nothing was kept of %lu names of FOLDER: they are root's, and inherit", scan.unknown);
     }
     *found = top;
     return 0;

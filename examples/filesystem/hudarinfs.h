@@ -242,9 +242,9 @@ int folder_stage(bool is_folder, int flags);
 int folder_place(const char *path);
 /* What was staged goes, where it is there. */
 void folder_unstage(void);
-/* The tree of what FOLDER has. A node was given what `known` tells of it or, where that is NULL and `by_attributes`, what
- * its attribute does; else it is a new node of root's. */
-int folder_scan(struct node *known, bool by_attributes, const struct parts *root, struct node **found);
+/* The tree of what FOLDER has. A node was given what `known` has of it or, where that is NULL and `by_attributes`, what
+ * its attribute has; else, where `adopts`, it is a new node of root's, and -ENODATA where not. */
+int folder_scan(struct node *known, bool by_attributes, bool adopts, const struct parts *root, struct node **found);
 
 /* ---- asks.c: checks */
 

@@ -137,7 +137,7 @@ static int read_tree(const struct words *words, const struct keeper *keeper, str
     }
     int result = read_policy(words, &policy);
     result = result < 0 || by_attributes ? result : beside_read(&known);
-    result = result < 0 ? result : folder_scan(known, by_attributes, &policy, tree);
+    result = result < 0 ? result : folder_scan(known, by_attributes, words->adopts, &policy, tree);
     node_free(known);
     parts_free(&policy);
     return result;
