@@ -1,6 +1,7 @@
 /*
- * The keeper by attributes: each of FOLDER's own files and folders has what was given to it, a descriptor in bytes, in an
- * extended attribute, which moves and goes with it. So each change of FOLDER is one call that the file system makes whole.
+ * The keeper by attributes: each of FOLDER's own files and folders has what was given to it, a descriptor in bytes, in
+ * an extended attribute, which moves and goes with it. So each change of FOLDER is one call that the file system makes
+ * whole; only a rename that keeps its entries is two.
  */
 #include "hudarinfs.h"
 
@@ -184,9 +185,33 @@ static int drop(const char *path, bool is_folder)
     return show_behind(folder_remove(path, is_folder));
 }
 
-static int move(const char *from, const char *to)
+/* Between the two changes of FOLDER a crash leaves the node with the entries that it had, as its own, where it was. */
+static int move_kept(int fd, const char *from, const char *to)
 {
-    return show_behind(folder_move(from, to));
+    struct told told;
+    int result = told_at(store_next(), to, &told);
+    result = result < 0 ? result : attribute_set(fd, &told);
+    result = result < 0 ? result : sync_of(fd);
+    step();
+    result = result < 0 ? result : folder_move(from, to);
+    if (result < 0 && set_by(store_shown(), fd, from) < 0) {
+        store_close("an attribute may have entries of a move that wasn't made");
+    }
+    return result;
+}
+
+static int move(const char *from, const char *to, bool keeps)
+{
+    if (!keeps) {
+        return show_behind(folder_move(from, to));
+    }
+    int fd = folder_at(from, O_RDONLY);
+    if (fd < 0) {
+        return fd;
+    }
+    int result = move_kept(fd, from, to);
+    (void)close(fd);
+    return show_behind(result);
 }
 
 static int give(const char *path)

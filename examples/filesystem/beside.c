@@ -82,7 +82,7 @@ static int put_nodes(FILE *file, hudarin_view *view)
     return result == -ENOENT ? 0 : result; /* (behind the last node none is told) */
 }
 
-static int put_all(FILE *file, hudarin_view *view, const char *from, const char *to)
+static int put_all(FILE *file, hudarin_view *view, const char *from, const char *to, const char *kept)
 {
     (void)fputs("hudarinfs 1\n", file);
     int result = put_nodes(file, view);
@@ -96,7 +96,7 @@ static int put_all(FILE *file, hudarin_view *view, const char *from, const char 
         put_path(file, from);
         (void)putc(' ', file);
         put_path(file, to);
-        (void)putc('\n', file);
+        (void)fprintf(file, "%s%s\n", kept == NULL ? "" : " ", kept == NULL ? "" : kept);
     }
     (void)fputs("end\n", file);
     /* (an error of any of the writes above stays with the file) */
@@ -106,8 +106,9 @@ static int put_all(FILE *file, hudarin_view *view, const char *from, const char 
     return 0;
 }
 
-/* Keeps the view's nodes; with `from` also that a move to `to` is about to be made. The old tree is kept, or the new one. */
-static int write_whole(hudarin_view *view, const char *from, const char *to)
+/* Keeps the view's nodes; with `from` also that a move to `to` is about to be made and, with `kept`, which descriptor
+ * the node has there. The old tree is kept, or the new one. */
+static int write_moving(hudarin_view *view, const char *from, const char *to, const char *kept)
 {
     int fd = openat(beside, new_name, O_WRONLY | O_CREAT | O_TRUNC | O_NOFOLLOW | O_CLOEXEC, 0600);
     if (fd < 0) {
@@ -120,7 +121,7 @@ static int write_whole(hudarin_view *view, const char *from, const char *to)
     }
     errno = 0;
     step();
-    int result = put_all(file, view, from, to);
+    int result = put_all(file, view, from, to, kept);
     if (fclose(file) != 0 && result == 0) {
         result = -EIO;
     }
@@ -133,6 +134,11 @@ static int write_whole(hudarin_view *view, const char *from, const char *to)
         say("the tree isn't kept: %s", strerror(-result));
     }
     return result;
+}
+
+static int write_whole(hudarin_view *view)
+{
+    return write_moving(view, NULL, NULL, NULL);
 }
 
 /* ---- Reading */
@@ -191,8 +197,9 @@ static int get_node(struct node **root, bool is_folder, char *path, const char *
     return 0;
 }
 
-/* A rename that was under way: once nothing stands at `from` in FOLDER any more it was made. */
-static int get_move(struct node *root, char *from, char *to)
+/* A rename that was under way: once nothing is at `from` in FOLDER any more it was made. With `kept` the node has that
+ * descriptor then. */
+static int get_move(struct node *root, char *from, char *to, const char *kept)
 {
     char above[PATH_ROOM];
     struct stat found;
@@ -207,6 +214,15 @@ static int get_move(struct node *root, char *from, char *to)
     int there = folder_stat(from, &found);
     if (there != -ENOENT) {
         return there;
+    }
+    if (kept != NULL) {
+        struct parts parts = { NULL, NULL, NULL };
+        if (!parts_split(kept, &parts) || parts.owner == NULL || parts.group == NULL || parts.dacl == NULL) {
+            parts_free(&parts);
+            return -EINVAL;
+        }
+        parts_free(&moved->given);
+        moved->given = parts;
     }
     char *copy = strdup(name);
     if (copy == NULL || !node_reserve(parent)) {
@@ -227,11 +243,14 @@ static int get_line(struct node **root, char *line)
     if (kind != NULL && path == NULL && strcmp(kind, "end") == 0) {
         return *root == NULL ? -EINVAL : 1;
     }
-    if (kind == NULL || path == NULL || text == NULL || strtok_r(NULL, " \n", &rest) != NULL) {
+    char *kept = strtok_r(NULL, " \n", &rest);
+    bool is_move = kind != NULL && strcmp(kind, "moving") == 0;
+    bool has_more = strtok_r(NULL, " \n", &rest) != NULL || (kept != NULL && !is_move);
+    if (kind == NULL || path == NULL || text == NULL || has_more) {
         return -EINVAL;
     }
-    if (strcmp(kind, "moving") == 0 && *root != NULL) {
-        return get_move(*root, path, text);
+    if (is_move && *root != NULL) {
+        return get_move(*root, path, text, kept);
     }
     bool is_folder = strcmp(kind, "folder") == 0;
     return is_folder || strcmp(kind, "file") == 0 ? get_node(root, is_folder, path, text) : -EINVAL;
@@ -284,13 +303,13 @@ int beside_read(struct node **root)
 
 static int begin(void)
 {
-    return write_whole(store_shown(), NULL, NULL);
+    return write_whole(store_shown());
 }
 
 /* The tree is kept with the node before FOLDER has it: a node that is kept alone is dropped at a start. */
 static int make(const char *path, bool is_folder, int flags)
 {
-    int result = write_whole(store_next(), NULL, NULL);
+    int result = write_whole(store_next());
     if (result == 0) {
         result = folder_make(path, is_folder, flags);
         step();
@@ -299,7 +318,7 @@ static int make(const char *path, bool is_folder, int flags)
     if (result >= 0) {
         store_show();
     } else {
-        (void)write_whole(store_shown(), NULL, NULL);
+        (void)write_whole(store_shown());
     }
     return result;
 }
@@ -312,15 +331,31 @@ static int drop(const char *path, bool is_folder)
     linger();
     if (result == 0) {
         store_show();
-        (void)write_whole(store_shown(), NULL, NULL);
+        (void)write_whole(store_shown());
     }
     return result;
 }
 
-/* The file tells of the move before FOLDER makes it, and of the new tree afterwards. */
-static int move(const char *from, const char *to)
+/* The text of the descriptor that the node has behind the move, to be freed. */
+static int text_of_moved(const char *to, char **text)
 {
-    int result = write_whole(store_shown(), from, to);
+    struct told told;
+    size_t length = strlen(to);
+    if (length >= sizeof told.path) {
+        return -ENAMETOOLONG;
+    }
+    memcpy(told.path, to, length + 1);
+    int result = own_told(store_next(), &told);
+    return result < 0 ? result : text_of_bytes(told.own, told.length, text);
+}
+
+/* The file tells of the move before FOLDER makes it, and of the new tree afterwards. */
+static int move(const char *from, const char *to, bool keeps)
+{
+    char *kept = NULL;
+    int result = keeps ? text_of_moved(to, &kept) : 0;
+    result = result < 0 ? result : write_moving(store_shown(), from, to, kept);
+    free(kept);
     if (result < 0) {
         return result;
     }
@@ -330,8 +365,8 @@ static int move(const char *from, const char *to)
     if (result == 0) {
         store_show();
     }
-    int kept = write_whole(store_shown(), NULL, NULL);
-    if (result < 0 && kept < 0) {
+    int written = write_whole(store_shown());
+    if (result < 0 && written < 0) {
         store_close("the kept tree tells of a move that wasn't made");
     }
     return result;
@@ -340,7 +375,7 @@ static int move(const char *from, const char *to)
 static int give(const char *path)
 {
     (void)path;
-    int result = write_whole(store_next(), NULL, NULL);
+    int result = write_whole(store_next());
     if (result == 0) {
         store_show();
     }

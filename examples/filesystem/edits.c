@@ -174,15 +174,34 @@ int edit_remove(const char *path, bool is_folder)
 
 /* ---- A node moves */
 
-/* The edits: what stands at the target goes, and the node moves there. Where either is refused neither is made. */
-static int rename_nodes(const char *from, const char *to, bool is_there)
+/* Whether the node stays in its folder, and so inherits what it did. */
+static bool is_within(const char *from, const char *to)
 {
-    int result = is_there ? store_edit(HUDARIN_EDIT_REMOVE, to, NULL, 0) : 0;
+    char above[PATH_ROOM], new_above[PATH_ROOM];
+    (void)path_split(from, above);
+    (void)path_split(to, new_above);
+    return strcmp(above, new_above) == 0;
+}
+
+/*
+ * The edits: what is at the target goes, and the node moves there. What inherits at another place has another DACL
+ * there. Only who may write each of these DACLs changes them so; for anybody else the node first keeps, as its own
+ * entries, what it has inherited. If one of these edits is refused none is made.
+ */
+static int rename_nodes(struct asking *asking, const char *from, const char *to, bool is_there)
+{
+    struct sid owner;
+    bool keeps = !is_within(from, to) && !asks_all(asking, from, RIGHT_WRITE_DAC);
+    int result = is_there ? store_owner(to, &owner) : 0;
+    result = result < 0 || !keeps ? result : store_edit(HUDARIN_EDIT_PROTECT_KEEPING, from, NULL, 0);
+    result = result < 0 || !is_there ? result : store_edit(HUDARIN_EDIT_REMOVE, to, NULL, 0);
     result = result < 0 ? result : store_edit(HUDARIN_EDIT_MOVE, from, to, strlen(to));
-    result = result < 0 ? result : store_ready();
-    result = result < 0 ? result : keeper->move(from, to);
+    result = result < 0 ? result : make_ready(asking, to);
+    result = result < 0 ? result : keeper->move(from, to, keeps);
     if (result < 0) {
         store_undo();
+    } else if (is_there) {
+        (void)nodes_count(&owner, -1);
     }
     return result;
 }
@@ -218,7 +237,7 @@ static int rename_checked(struct asking *asking, const char *from, const char *t
     if (result == 0) {
         result = replaced < 0 ? is_free(to) : fits(moved, replaced, flags);
     }
-    return result < 0 ? result : rename_nodes(from, to, replaced >= 0);
+    return result < 0 ? result : rename_nodes(asking, from, to, replaced >= 0);
 }
 
 int edit_rename(const char *from, const char *to, unsigned int flags)

@@ -203,7 +203,8 @@ struct keeper {
     /* FOLDER gets the file, whose descriptor is the answer, or the folder. */
     int (*make)(const char *path, bool is_folder, int flags);
     int (*drop)(const char *path, bool is_folder);
-    int (*move)(const char *from, const char *to);
+    /* `keeps`: the node's own parts are others at its new path. */
+    int (*move)(const char *from, const char *to, bool keeps);
     /* The node's own parts are others. */
     int (*give)(const char *path);
 };
