@@ -64,14 +64,14 @@ static void edit_end(struct asking *asking)
 }
 
 /* store_ready, and whether the descriptors of the node and of those below leave room, where the caller isn't root. */
-static int make_ready(const struct asking *asking, const char *path)
+static int make_ready(const struct asking *asking, const char *path, bool is_new)
 {
     char longest[PATH_ROOM];
     int result = store_ready();
     if (result < 0 || who_is_root(asking->who)) {
         return result;
     }
-    int length = store_longest(store_next(), path, longest);
+    int length = store_longest(store_next(), path, is_new, longest);
     if (length > MOST_DESCRIPTOR_BYTES) {
         say("the descriptor of %s would have %d bytes, with what it inherits; %d is the most for a user", longest,
             length, MOST_DESCRIPTOR_BYTES);
@@ -110,7 +110,7 @@ static int create_below(struct asking *asking, const char *path, bool is_folder,
         return there == 0 ? -EEXIST : there;
     }
     result = add_new(asking, path, is_folder);
-    result = result < 0 ? result : make_ready(asking, path);
+    result = result < 0 ? result : make_ready(asking, path, true);
     result = result < 0 ? result : keeper->make(path, is_folder, flags);
     if (result < 0) {
         store_undo();
@@ -196,7 +196,7 @@ static int rename_nodes(struct asking *asking, const char *from, const char *to,
     result = result < 0 || !keeps ? result : store_edit(HUDARIN_EDIT_PROTECT_KEEPING, from, NULL, 0);
     result = result < 0 || !is_there ? result : store_edit(HUDARIN_EDIT_REMOVE, to, NULL, 0);
     result = result < 0 ? result : store_edit(HUDARIN_EDIT_MOVE, from, to, strlen(to));
-    result = result < 0 ? result : make_ready(asking, to);
+    result = result < 0 ? result : make_ready(asking, to, false);
     result = result < 0 ? result : keeper->move(from, to, keeps);
     if (result < 0) {
         store_undo();
@@ -268,7 +268,7 @@ static int set_parts(const char *path, const struct parts *parts)
 static int give_parts(const struct asking *asking, const char *path, const struct parts *parts)
 {
     int result = set_parts(path, parts);
-    result = result < 0 ? result : make_ready(asking, path);
+    result = result < 0 ? result : make_ready(asking, path, false);
     result = result < 0 ? result : keeper->give(path);
     if (result < 0) {
         store_undo();

@@ -181,8 +181,9 @@ int store_owner(const char *path, struct sid *owner);
 struct sid sid_at(const unsigned char *bytes, size_t length, size_t place);
 /* Whether the path is `top`, or below it. */
 bool is_below(const char *path, const char *top);
-/* How many bytes the longest descriptor at `top` and below has, with what it inherits, and at which path it is. */
-int store_longest(hudarin_view *view, const char *top, char longest[PATH_ROOM]);
+/* How many bytes the longest descriptor at `top` and below has, with what it inherits, and at which path it is. Nothing
+ * is below a new node, which is measured without a walk of the view. */
+int store_longest(hudarin_view *view, const char *top, bool is_new, char longest[PATH_ROOM]);
 /* The same, for the log. */
 void store_name_longest(hudarin_view *view, const char *top);
 int view_share(hudarin_view *view);

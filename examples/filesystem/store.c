@@ -269,12 +269,12 @@ static int length_of(hudarin_view *view, const char *path)
     return answer.status == HUDARIN_ROOM ? (int)answer.length : error_of(answer.status, answer.fault);
 }
 
-int store_longest(hudarin_view *view, const char *top, char longest[PATH_ROOM])
+int store_longest(hudarin_view *view, const char *top, bool is_new, char longest[PATH_ROOM])
 {
     char path[PATH_ROOM];
     int most = length_of(view, top);
     (void)snprintf(longest, PATH_ROOM, "%s", top);
-    if (hudarin_view_own(view, top, strlen(top), NULL, 0).kind != HUDARIN_CONTAINER) {
+    if (is_new || hudarin_view_own(view, top, strlen(top), NULL, 0).kind != HUDARIN_CONTAINER) {
         return most;
     }
     for (uint64_t place = 0; most >= 0; place++) {
@@ -295,7 +295,7 @@ int store_longest(hudarin_view *view, const char *top, char longest[PATH_ROOM])
 void store_name_longest(hudarin_view *view, const char *top)
 {
     char longest[PATH_ROOM];
-    int length = store_longest(view, top, longest);
+    int length = store_longest(view, top, false, longest);
     if (length >= 0) {
         say("the longest descriptor at %s and below is that of %s: %d bytes, with what it inherits", top, longest,
             length);
