@@ -17,7 +17,7 @@ import time
 
 from calls import CALLS
 from model import READ, Model
-from rig import ALICE, BOB, CAROL, ROOT, USERS, Caller, Mount, Tally, become
+from rig import ALICE, BOB, CAROL, LONGEST, ROOT, USERS, Caller, Mount, Tally, become
 
 SEEN = "(A;OICI;FA;;;S-1-22-1-0)(A;OICI;0xa0;;;WD)"
 ROOTS = "O:S-1-22-1-0G:S-1-22-2-0D:P%s(A;OICI;0x1;;;AU)" % SEEN
@@ -38,6 +38,10 @@ ROUND = [
     ("set", "/a", "D:"),
 ]
 PATHS = ["%s/f%d" % (folder, number) for folder in ("/a", "/b/a", "/c/a", "/b", "/c", "/d") for number in range(FILES)]
+
+
+# What the readers have to meet, each so many times: the test goes on for as long as they haven't.
+WANTED, LEAST = ("ok", "EACCES", "ENOENT", "listings"), 51
 
 
 def lines(edit: tuple) -> str:
@@ -109,6 +113,8 @@ def reader(user, mount: Mount, all_states: list, clock, number: int, report: int
         said = read_whole(mount.path(path))
         last = clock[0]
         met[said if said.startswith("E") else "ok"] += 1
+        for place, name in enumerate(WANTED):
+            clock[3 + number * len(WANTED) + place] = met[name]
         if not explained(window_of(all_states, first, last), user.name, path, said):
             wrong.append((user.name, path, first, last, said))
         if turn % 4 != 0:
@@ -125,8 +131,11 @@ def reader(user, mount: Mount, all_states: list, clock, number: int, report: int
 
 def change(tally: Tally, mount: Mount, clock, seconds: float) -> int:
     """The ninth: an edit counts as begun before its call, and as done behind its answer."""
-    writer, made, end = Caller(ROOT, CALLS), 0, time.monotonic() + seconds
-    while time.monotonic() < end:
+    writer, made, began = Caller(ROOT, CALLS), 0, time.monotonic()
+
+    def is_enough() -> bool:
+        return made > 20 and all(sum(clock[3 + place::len(WANTED)]) >= LEAST for place in range(len(WANTED)))
+    while time.monotonic() < began + seconds or (not is_enough() and time.monotonic() < began + seconds + LONGEST):
         edit = ROUND[made % len(ROUND)]
         words = (edit[0], mount.path(edit[1]), mount.path(edit[2]) if edit[0] == "rename" else edit[2])
         clock[0] = made + 1
@@ -140,14 +149,14 @@ def change(tally: Tally, mount: Mount, clock, seconds: float) -> int:
 def main(program: str, seconds: float) -> int:
     tally, mount = Tally(), Mount()
     all_states = states(program, tally)
-    clock = (ctypes.c_uint64 * 3).from_buffer(mmap.mmap(-1, mmap.PAGESIZE))
+    clock = (ctypes.c_uint64 * (3 + 8 * len(WANTED))).from_buffer(mmap.mmap(-1, mmap.PAGESIZE))
     for folder in ("/a", "/b", "/c"):
         os.mkdir(mount.folder + folder)
         for number in range(FILES):
             with open("%s%s/f%d" % (mount.folder, folder, number), "w", encoding="utf-8") as file:
                 file.write("%sf%d" % (folder[1:], number))
     try:
-        if tally.holds(mount.start(ROOTS, wait=2000), "the start", mount.said()):
+        if tally.holds(mount.start(ROOTS, options=("-u",), wait=2000), "the start", mount.said()):
             pipes = []
             for number in range(8):
                 ours, theirs = os.pipe()
@@ -164,8 +173,8 @@ def main(program: str, seconds: float) -> int:
                 tally.holds(not wrong, "outcomes that no state explains", wrong)
                 os.wait()
             print("%d edits beside %s" % (made, dict(met)))
-            for wanted in ("ok", "EACCES", "ENOENT", "listings"):
-                tally.holds(met[wanted] > 50, "hardly any " + wanted, dict(met))
+            for wanted in WANTED:
+                tally.holds(met[wanted] >= LEAST, "hardly any " + wanted, dict(met))
             tally.holds(made > 20, "hardly any edits", made)
             tally.same("the status, and the sanitizers", mount.stop(), 0)
     finally:

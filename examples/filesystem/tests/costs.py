@@ -52,7 +52,7 @@ def main(rounds: int) -> None:
         for _ in range(rounds):
             for program, rows in found.items():
                 mount.program = program
-                if not mount.start(ROOTS):
+                if not mount.start(ROOTS, options=("-u",)):
                     fail(mount.said())
                 rows.append(measure(mount, deep))
                 mount.stop()

@@ -14,7 +14,7 @@ import threading
 
 from calls import CALLS
 from model import Model, above
-from rig import ROOT, WAYS_TO_KEEP, Caller, Mount, Tally
+from rig import ALICE, ROOT, WAYS_TO_KEEP, Caller, Mount, Tally
 
 ROOTS = "O:S-1-22-1-0G:S-1-22-2-0D:P(A;OICI;FA;;;S-1-22-1-0)(A;OICI;FR;;;WD)"
 OWN = "O:S-1-22-1-0G:S-1-22-2-0D:"
@@ -81,9 +81,11 @@ def wanted(model: Model) -> dict:
 
 def edit_until_killed(tally: Tally, mount: Mount, caller: Caller, edits: Edits, counts: dict):
     """Edits, each behind the answer to the last, until the server is gone: the edit that it left without an answer."""
-    killer = threading.Timer(edits.chance.uniform(0.001, 0.06), mount._server.kill)
-    killer.start()
+    killer, answered = threading.Timer(edits.chance.uniform(0, 0.02), mount._server.kill), edits.chance.randrange(1, 6)
     while True:
+        if answered == 0:
+            killer.start()
+        answered -= 1
         call, lines = edits.next()
         said = ask(mount, caller, call)
         if said in GONE:
@@ -113,14 +115,17 @@ def kill_once(tally: Tally, mount: Mount, caller: Caller, edits: Edits, counts: 
     return True
 
 
+MODIFY = "D:(A;OICI;FA;;;S-1-22-1-0)(A;OICI;0x1301bf;;;%s)" % ALICE.sid
 # Behind SETTING each of these is granted, and goes through all the steps of its kind.
 SETTING = [("mkdir", "/a"), ("mkdir", "/b"), ("mkdir", "/a/c"), ("create", "/a/c/f"), ("create", "/a/g"),
            ("create", "/b/h"), ("mkdir", "/e"), ("set", "/a", "D:(A;OICI;FX;;;AU)"),
            ("set", "/a/c/f", "D:(A;;FR;;;WD)"), ("set", "/b/h", "D:(A;;0x1;;;WD)"),
-           ("set", "/b", "D:P(A;OICI;FA;;;S-1-22-1-0)")]
+           ("set", "/b", "D:P(A;OICI;FA;;;S-1-22-1-0)"), ("mkdir", "/k"), ("mkdir", "/m"),
+           ("set", "/k", MODIFY), ("set", "/m", "D:P" + MODIFY[2:]), ("mkdir", "/k/d"), ("create", "/k/d/f"),
+           ("set", "/k/d", "D:(A;OICI;FR;;;AU)")]
 STEPPED = [("create", "/b/n"), ("mkdir", "/b/n"), ("unlink", "/a/g"), ("rmdir", "/e"), ("rename", "/a", "/b/a"),
            ("rename", "/a/c/f", "/b/h"), ("rename", "/a/g", "/a/i"), ("rename", "/a/c", "/e"),
-           ("set", "/a", "D:P(A;OICI;FA;;;S-1-22-1-0)"), ("give", "/a/g", -1, 7)]
+           ("set", "/a", "D:P(A;OICI;FA;;;S-1-22-1-0)"), ("give", "/a/g", -1, 7), ("keep", "/k/d", "/m/d")]
 # An edit begins and ends by a step, and has some between: of a file beside FOLDER it is written, synced and renamed.
 LEAST_STEPS = {False: 2, True: 6}
 
@@ -130,6 +135,8 @@ def script_lines(call: tuple, model: Model) -> list:
     way, path, *rest = call
     if way in ("create", "mkdir"):
         return ["%s %s %s" % ("addo" if way == "create" else "addc", path, OWN)]
+    if way == "keep":
+        return ["protect " + path, "move %s %s" % (path, rest[0])]
     if way == "rename":
         return (["remove " + rest[0]] if rest[0] in model.kinds else []) + ["move %s %s" % (path, rest[0])]
     if way == "set":
@@ -140,6 +147,16 @@ def script_lines(call: tuple, model: Model) -> list:
 def ask(mount: Mount, caller: Caller, call: tuple) -> str:
     words = [mount.path(word) if isinstance(word, str) and word.startswith("/") else word for word in call]
     return caller.call(*words)[0]
+
+
+def ask_once(mount: Mount, caller: Caller, call: tuple) -> str:
+    """`keep` is a rename by a user who may not write the DACL of what is moved."""
+    if call[0] != "keep":
+        return ask(mount, caller, call)
+    alice = Caller(ALICE, CALLS)
+    said = ask(mount, alice, ("rename", *call[1:]))
+    alice.close()
+    return said
 
 
 def kill_at(tally: Tally, program: str, caller: Caller, call: tuple, number: int, in_file: bool) -> str:
@@ -153,13 +170,18 @@ def kill_at(tally: Tally, program: str, caller: Caller, call: tuple, number: int
         mount.stop()
         before = wanted(model)
         tally.holds(mount.start(ROOTS, step=number), "the start", mount.said())
-        said = ask(mount, caller, call)
+        said = ask_once(mount, caller, call)
         mount.kill()
         tally.holds(mount.start(ROOTS), "a start behind step %d of %s" % (number, call), mount.said())
         found = seen(mount)
-        tally.same("the line", model.edit(*script_lines(call, model)), "ok")
+        lines, between = script_lines(call, model), before
+        if call[0] == "keep" and not in_file:
+            # (an attribute is one change, and the rename another)
+            tally.same("the line", model.edit(lines.pop(0)), "ok")
+            between = wanted(model)
+        tally.same("the line", model.edit(*lines), "ok")
         after = wanted(model)
-        is_held = found == after or (said != "ok" and found == before)
+        is_held = found == after or (said != "ok" and found in (before, between))
         tally.holds(is_held, "behind step %d of %s" % (number, call), (said, found, before, after))
         tally.same("the status, and the sanitizers", mount.stop(), 0)
         return said
@@ -184,7 +206,7 @@ def kill(tally: Tally, program: str, kills: int, in_file: bool) -> None:
     caller, counts = Caller(ROOT, CALLS), {"answered": 0, "left undone": 0, "done unanswered": 0}
     edits = Edits(chance, model)
     try:
-        if tally.holds(mount.start(ROOTS, options=("-j", "64")), "the start", mount.said()):
+        if tally.holds(mount.start(ROOTS, options=("-j", "24")), "the start", mount.said()):
             for _ in range(kills):
                 if not kill_once(tally, mount, caller, edits, counts):
                     break

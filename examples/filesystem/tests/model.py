@@ -161,7 +161,10 @@ class Model:
             return "EACCES"
         if is_there and self.children(target):
             return "ENOTEMPTY"
-        return self.edit(*(["remove " + target] if is_there else []), "move %s %s" % (source, target))
+        below = [path for path in self.kinds if (path + "/").startswith(source + "/")]
+        keeps = above(source) != above(target) and not all(self.grants(user, path, WRITE_DAC) for path in below)
+        return self.edit(*(["protect " + source] if keeps else []), *(["remove " + target] if is_there else []),
+                         "move %s %s" % (source, target))
 
     def give_list(self, user, path: str, text: str) -> str:
         asked = self.asked(user, path, WRITE_DAC)

@@ -157,7 +157,7 @@ def try_all(tally: Tally, program: str, changes: int, in_file: bool) -> None:
     callers = [Caller(user, CALLS) for user in USERS]
     try:
         if tally.holds(mount.start(), "the start", mount.said() if os.path.exists(mount.log) else ""):
-            tally.holds("weren't known" not in mount.said(), "what was kept", mount.said())
+            tally.holds("nothing was kept" not in mount.said(), "what was kept", mount.said())
             for caller in callers:
                 look(tally, mount, model, caller)
             tries = Changes(chance, mount, model)

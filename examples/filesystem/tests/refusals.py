@@ -6,6 +6,7 @@ open to others, a kept file that isn't whole. Each has its error, the log tells 
     refusals.py
 """
 
+import ctypes
 import os
 import sys
 
@@ -82,11 +83,18 @@ def refuses_names(tally: Tally, mount: Mount, caller: Caller) -> None:
     tally.same("FOLDER too", sorted(os.listdir(mount.folder + "/other")), [])
 
 
+def exchange(path: str, other: str) -> None:
+    libc = ctypes.CDLL(None, use_errno=True)
+    if libc.renameat2(-100, os.fsencode(path), -100, os.fsencode(other), 2) != 0:
+        raise OSError(ctypes.get_errno(), path)
+
+
 def refuses_kinds(tally: Tally, mount: Mount, caller: Caller, root: Caller) -> None:
     at = mount.path
     tally.same("a symlink", caller.call("symlink", "/etc/passwd", at("/link"))[0], "EPERM")
     tally.same("a second link", caller.call("link", at("/file"), at("/second"))[0], "EPERM")
     tally.same("a FIFO", caller.call("fifo", at("/fifo"))[0], "EPERM")
+    tally.same("an exchange", outcome(exchange, at("/file"), at("/other")), "EINVAL")
     os.symlink("/etc/passwd", mount.folder + "/planted")
     tally.same("a planted symlink", caller.call("read", at("/planted"))[0], "ENOENT")
     tally.same("to make a file there", root.call("create", at("/planted"))[0], "EEXIST")
@@ -151,7 +159,7 @@ def maps(tally: Tally, mount: Mount, alice: Caller, root: Caller) -> None:
 
 
 def full_tree(tally: Tally) -> None:
-    mount, caller = Mount(PLAIN), Caller(ROOT, CALLS)
+    mount, caller, alice = Mount(PLAIN), Caller(ROOT, CALLS), Caller(ALICE, CALLS)
     try:
         for number in range(FULL - 2):
             if number % 1000 == 0:
@@ -159,14 +167,19 @@ def full_tree(tally: Tally) -> None:
                 os.mkdir(folder)
             else:
                 os.close(os.open("%s/%d" % (folder, number), os.O_CREAT | os.O_WRONLY, 0o600))
-        tally.holds(mount.start(ROOTS), "a start with 65,535 nodes", mount.said())
+        started = mount.start(ROOTS + "(A;;0x6;;;WD)", options=("-u",))
+        tally.holds(started, "a start with 65,535 nodes", mount.said())
+        tally.same("the last nodes are root's", alice.call("create", mount.path("/last"))[0], "ENOSPC")
         tally.same("the last node", caller.call("create", mount.path("/last"))[0], "ok")
         tally.same("one more", caller.call("create", mount.path("/more"))[0], "ENOSPC")
         tally.same("one more folder", caller.call("mkdir", mount.path("/more"))[0], "ENOSPC")
         tally.holds(not os.path.exists(mount.folder + "/more"), "nothing is half done")
+        tally.same("one goes", caller.call("unlink", mount.path("/last"))[0], "ok")
+        tally.same("one comes", caller.call("create", mount.path("/more"))[0], "ok")
         tally.same("the status", mount.stop(), 0)
     finally:
         caller.close()
+        alice.close()
         mount.close()
 
 
@@ -204,9 +217,11 @@ def refuses_attributes(tally: Tally, mount: Mount) -> None:
     staged = os.fsencode(mount.folder) + b"/.hudarin\xff"
     os.mkdir(staged)
     os.close(os.open(mount.folder + "/other/planted", os.O_CREAT | os.O_WRONLY, 0o600))
-    tally.holds(mount.start(ROOTS), "the start of what is whole", mount.said())
+    tally.holds(not mount.start(ROOTS), "a start with a planted name")
+    tally.same("its status", mount.ended(), 1)
+    tally.holds(mount.start(ROOTS, options=("-u",)), "the start of what is whole", mount.said())
     tally.holds(not os.path.exists(staged), "what a create left behind")
-    tally.holds("1 names of FOLDER weren't known" in mount.said(), "a planted name is told", mount.said())
+    tally.holds("nothing was kept of 1 names of FOLDER" in mount.said(), "a planted name is told", mount.said())
     tally.holds(os.getxattr(mount.folder + "/other/planted", name) != b"", "it has an attribute now")
     os.mkdir(staged)
     tally.same("a folder beside it", outcome(os.mkdir, mount.path("/beside")), "ok")

@@ -33,6 +33,20 @@ def keeps_attributes() -> bool:
 WAYS_TO_KEEP = [False, True] if keeps_attributes() else [True]
 
 
+# How long an event may take on a machine whose other work leaves little to the tests, in seconds.
+LONGEST = 300
+
+
+def until(is_so) -> bool:
+    """Whether it came to be so."""
+    end = time.monotonic() + LONGEST
+    while time.monotonic() < end:
+        if is_so():
+            return True
+        time.sleep(0.01)
+    return False
+
+
 class Tally:
     """How many tests held; what didn't hold is told in a line of its own, for the first twenty."""
 
@@ -160,34 +174,49 @@ class Mount:
         with open(self.log, encoding="utf-8", errors="replace") as file:
             return file.read()
 
-    def start(self, *words: str, options: tuple = (), step: int = 0, wait: int = 0) -> bool:
-        """Whether it serves, within a minute. It ends at a step of its edits, where one is told, or waits so many
-        microseconds where FOLDER has changed and the view hasn't."""
+    def start(self, *words: str, options: tuple = (), step: int = 0, wait: int = 0, before=None, prefix: tuple = (),
+              is_seen: bool = True) -> bool:
+        """Whether it serves. It ends at a step of its edits, if one is given, or waits so many microseconds when FOLDER
+        has changed and the view hasn't. `before` runs in its process, `prefix` is a command that runs it, and `is_seen`
+        says whether its mount is in this mount namespace."""
         # (where there are no attributes a file is kept without being asked for)
         asked = ["-f"] if self.in_file and len(WAYS_TO_KEEP) > 1 else []
-        command = [self.program, *asked, *options, self.folder, self.at, *words]
+        command = [*prefix, self.program, *asked, *options, self.folder, self.at, *words]
         settings = {**os.environ, "HUDARINFS_STEP": str(step), "HUDARINFS_WAIT": str(wait)}
         with open(self.log, "wb") as log:
-            self._server = subprocess.Popen(command, stderr=log, stdout=log, env=settings)
-        end = time.monotonic() + 60
+            self._server = subprocess.Popen(command, stderr=log, stdout=log, env=settings, preexec_fn=before)
+        end = time.monotonic() + LONGEST
         while time.monotonic() < end and self._server.poll() is None:
-            if "ready" in self.said() and os.path.ismount(self.at):
+            if "ready" in self.said() and (not is_seen or os.path.ismount(self.at)):
                 return True
             time.sleep(0.002)
         return False
 
+    def signal(self, number: int) -> None:
+        self._server.send_signal(number)
+
+    def is_running(self) -> bool:
+        return self._server.poll() is None
+
+    def children(self) -> list:
+        """The processes that the server's prefix has made."""
+        with open("/proc/%d/task/%d/children" % (self._server.pid, self._server.pid), encoding="utf-8") as file:
+            return [int(word) for word in file.read().split()]
+
     def ended(self) -> int:
-        return self._server.wait(timeout=10)
+        return self._server.wait(timeout=LONGEST)
 
     def stop(self) -> int:
         """Unmounts; the status of the server, whose sanitizers have found nothing where it is 0."""
-        subprocess.run(["umount", self.at], check=False, timeout=20)
+        # (a call that has just ended may keep the mount busy for a moment)
+        until(lambda: subprocess.run(["umount", self.at], check=False, stderr=subprocess.DEVNULL).returncode == 0
+              or not self.is_running())
         return self.ended()
 
     def kill(self) -> None:
+        """What it leaves at its mount is for the next start to unmount."""
         self._server.kill()
         self._server.wait()
-        subprocess.run(["umount", "-l", self.at], check=False)
 
     def close(self) -> None:
         if self._server is not None and self._server.poll() is None:
