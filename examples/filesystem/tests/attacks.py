@@ -102,9 +102,9 @@ def renames_by(tally: Tally, room: Room) -> None:
     room.make(tally, "create", "/p/secret", "D:P(A;;FA;;;%s)" % ALICE.sid, by=room.alice)
     room.make(tally, "create", "/p/plain", by=room.alice)
     for name in ("secret", "plain"):
-        tally.same("%s isn't read" % name, said(room.bob, "read", "/p/" + name), "EACCES")
+        tally.same("%s can't be opened" % name, said(room.bob, "read", "/p/" + name), "EACCES")
         tally.same("%s is moved" % name, said(room.bob, "rename", "/p/" + name, "/v/" + name), "ok")
-        tally.same("%s isn't read there" % name, said(room.bob, "read", "/v/" + name), "EACCES")
+        tally.same("%s can't be opened there" % name, said(room.bob, "read", "/v/" + name), "EACCES")
     deep = "/v"
     for _ in range(62):
         deep += "/d"
@@ -126,12 +126,29 @@ def renames_by(tally: Tally, room: Room) -> None:
                                           ("/v/folder", "/v/folder/inner", "/share/other")], texts)
 
 
+def keeps_too_much(tally: Tally, room: Room) -> None:
+    """A rename is refused whole if the entries that it keeps are longer than an attribute of this file system may be."""
+    said = room.said
+    room.make(tally, "create", "/share/long", by=room.alice)
+    count = 150
+    while count < 260 and said(room.alice, "set", "/share/long", "D:" + "(A;;FR;;;WD)" * count) == "ok":
+        count += 1
+    if count == 260:
+        print("left out: a rename whose entries an attribute can't keep, as attributes are long here", flush=True)
+        return
+    before = room.alice.call("text", room.mount.path("/share/long"))
+    tally.holds(said(room.bob, "rename", "/share/long", "/v/long") in ("ENOSPC", "E2BIG"), "a rename of a long list")
+    tally.same("which changes nothing", room.alice.call("text", room.mount.path("/share/long")), before)
+
+
 def renames(tally: Tally) -> None:
     for in_file in WAYS_TO_KEEP:
         room = Room(in_file)
         try:
             if tally.holds(room.mount.start(ROOTS), "the start", room.mount.said()):
                 renames_by(tally, room)
+                if not in_file:
+                    keeps_too_much(tally, room)
                 tally.same("the status, and the sanitizers", room.mount.stop(), 0)
         finally:
             room.close()
@@ -192,7 +209,7 @@ def opens(tally: Tally) -> None:
 
 
 def nodes(tally: Tally) -> None:
-    """An owner has so many nodes and no more, whoever it gives them to, and whatever the server has started anew."""
+    """An owner has so many nodes and no more, whoever it gives them to, also after a start."""
     room = Room()
     group = "S-1-22-2-%d" % ALICE.groups[0]
     try:
