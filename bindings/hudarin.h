@@ -532,8 +532,8 @@ HUDARIN_ANSWERS hudarin_written hudarin_store_publish(hudarin_store *store, huda
     HUDARIN_NONNULL(1, 2);
 
 /* Makes the store's tree and journal those of the view again; `length` is the number of its edits, and later ones are
- * gone. With the last published view this makes several edits all or none. Unless the status is HUDARIN_OK nothing
- * has changed. */
+ * gone. With the last published view this makes several edits all or none. A view of another store brings that
+ * store's root and mapping too. Unless the status is HUDARIN_OK nothing has changed. */
 HUDARIN_ANSWERS hudarin_written hudarin_store_revert(hudarin_store *store, hudarin_view *view)
     HUDARIN_NONNULL(1, 2);
 
