@@ -3,8 +3,8 @@
 
     examples/serve/ask.py PROGRAM [CHECKS]
 
-Opens a store, makes some files in it, and asks CHECKS checks, each after the answer to the one before. Each answer is
-compared with what the file's entry says; at the end it prints how many were asked, and their time.
+Opens a store, adds some files, and asks so many checks, each after the answer to the one before. Each answer is compared
+with what the file's entry grants; at the end it prints how many were asked, and their time.
 """
 
 import contextlib
@@ -14,7 +14,7 @@ import time
 
 
 def line_of(*words: str) -> str:
-    """The line of these words. ValueError: one of them, as it came from outside, is empty or would be several words."""
+    """The line of these words, which may be untrusted. ValueError: one of them isn't exactly one word of a line."""
     for word in words:
         if not word or any(mark in word for mark in " \n\r"):
             raise ValueError("not one word: %r" % word)
@@ -22,10 +22,15 @@ def line_of(*words: str) -> str:
 
 
 class Server:
-    """A store in another process. Lines are those of a script."""
+    """A store in another process. Lines are those of a script.
 
-    def __init__(self, program: str) -> None:
-        self._process = subprocess.Popen([program, "serve"], stdin=subprocess.PIPE, stdout=subprocess.PIPE)
+    A question that an exception interrupts ends the store: its answer must not become that of the next question.
+    """
+
+    def __init__(self, program: str, *options: str) -> None:
+        """Starts `sdstore serve` with these options before `serve`."""
+        self._process = subprocess.Popen([program, *options, "serve"], stdin=subprocess.PIPE, stdout=subprocess.PIPE)
+        self._is_asking = False
 
     def __enter__(self) -> "Server":
         return self
@@ -34,57 +39,79 @@ class Server:
         self.close()
 
     def ask(self, line: str) -> str:
-        """The answer to a line: one line, or several to `why`, `list` and `dump`.
-
-        ValueError: it isn't one line that has an answer. EOFError: the server has ended."""
+        """The answer to one line: one line, or to `why`, `list` and `dump` several. ValueError: it isn't one line that
+        is answered. EOFError: the server has ended."""
         if not line or line[0] == "#" or "\n" in line or line[-1] == "\r":
             raise ValueError("not one line that is answered: %r" % line)
+        given = line.encode() + b"\n"
+        if self._is_asking or self._process.stdin.closed:
+            self._abandon()
+            raise EOFError("the server has ended")
+        self._is_asking = True
         try:
-            self._process.stdin.write(line.encode() + b"\n")
+            lines = self._exchange(given, line.split(" ", 1)[0] in ("why", "list", "dump"))
+        except BaseException:
+            self._abandon()
+            raise
+        self._is_asking = False
+        return "\n".join(lines)
+
+    def _exchange(self, given: bytes, has_several: bool) -> "list[str]":
+        try:
+            self._process.stdin.write(given)
             self._process.stdin.flush()
         except BrokenPipeError:
             raise EOFError("the server has ended") from None
         lines = [self._line()]
-        if line.split(" ", 1)[0] in ("why", "list", "dump"):
+        if has_several:
             lines += iter(self._line, "")
-        return "\n".join(lines)
+        return lines
 
     def _line(self) -> str:
-        """The next line of the answer."""
+        """The next line that comes."""
         line = self._process.stdout.readline()
         if not line.endswith(b"\n"):
             raise EOFError("the server has ended")
         return line[:-1].decode()
 
+    def has_ended(self) -> bool:
+        return self._process.poll() is not None
+
     def close(self) -> int:
         """Ends the server, and returns its status."""
-        with contextlib.suppress(BrokenPipeError):
+        if self._is_asking:
+            self._process.kill()
+        with contextlib.suppress(OSError):
             self._process.stdin.close()
         self._process.stdout.close()
         return self._process.wait()
 
+    def _abandon(self) -> None:
+        self._process.kill()
+        self.close()
+
 
 def expect(answer: str, wanted: str) -> None:
     if answer != wanted:
-        sys.exit("answered %r where %r was wanted" % (answer, wanted))
+        sys.exit("answered %r, expected %r" % (answer, wanted))
 
 
 def main(program: str, checks: int) -> None:
     files, user = 16, "S-1-5-21-1-2-3-1001"
-    server = Server(program)
-    expect(server.ask("open 1 O:BAG:SYD:"), "opened 1")
-    for number in range(files):
-        expect(server.ask("addo /file%d O:BAG:SYD:(A;;0x%x;;;BU)" % (number, 1 << number)), "ok")
-    expect(server.ask("publish"), "published %d" % files)
-    began = time.monotonic()
-    for turn in range(checks):
-        number, bit = turn % files, turn // files % files
-        verdict = "granted" if number == bit else "denied"
-        answer = server.ask("check 0 /file%d %s 0x%x BU" % (number, user, 1 << bit))
-        expect(answer, "seen %d %s 0x%x" % (files, verdict, 1 << bit))
-    seconds = time.monotonic() - began
-    if server.close() != 0:
-        sys.exit("the server ended badly")
+    with Server(program) as server:
+        expect(server.ask("open 1 O:BAG:SYD:"), "opened 1")
+        for number in range(files):
+            expect(server.ask("addo /file%d O:BAG:SYD:(A;;0x%x;;;BU)" % (number, 1 << number)), "ok")
+        expect(server.ask("publish"), "published %d" % files)
+        began = time.monotonic()
+        for turn in range(checks):
+            number, bit = turn % files, turn // files % files
+            verdict = "granted" if number == bit else "denied"
+            answer = server.ask("check 0 /file%d %s 0x%x BU" % (number, user, 1 << bit))
+            expect(answer, "seen %d %s 0x%x" % (files, verdict, 1 << bit))
+        seconds = time.monotonic() - began
+        if server.close() != 0:
+            sys.exit("the server ended with an error")
     print("%d checks, each answered before the next was asked: %.2f s" % (checks, seconds))
 
 

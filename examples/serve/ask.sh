@@ -1,34 +1,48 @@
 # shellcheck shell=bash
-# Asks `sdstore serve` from Bash: source this, then `serve_with PROGRAM`, and `ask LINE` for each line of a script. The
-# answer is in `answer`: one line, or several to `why`, `list` and `dump`. `ask` fails where the line has no answer, or
-# where the program has ended; `end_serving` ends it.
+# Asks `sdstore serve` from Bash: source this, then `serve_with PROGRAM [OPTION ..]`, and `ask LINE` for each line of a
+# script. `answer` is set to the answer: one line, or to `why`, `list` and `dump` several. `ask` fails with status 2 if the
+# line has no answer, and with 1 if the program has ended or an earlier `ask` was interrupted; `end_serving` ends it.
 
-# serve_with PROGRAM: starts it.
+# serve_with PROGRAM [OPTION ..]: starts it, with these options before `serve`.
 serve_with() {
-    coproc SERVING { exec "$1" serve; }
+    serving_is_asked=
+    coproc SERVING { exec "$@" serve; }
 }
 
 # ask LINE: sets `answer` to the answer to the line.
 ask() {
     local line
     answer=
-    # Only one line is a question; an empty one or a comment has no answer to wait for.
+    # One line alone is a question; a silent one has no answer to wait for.
     case $1 in
     '' | '#'* | *$'\n'* | *$'\r') return 2 ;;
     esac
-    printf '%s\n' "$1" >&"${SERVING[1]}" && IFS= read -r answer <&"${SERVING[0]}" || return
+    # The rest of an answer that an interrupt cut short must not become the answer to this line.
+    if [[ -n $serving_is_asked || -z ${SERVING[1]-} ]]; then
+        kill "${SERVING_PID:-}" 2>/dev/null
+        return 1
+    fi
+    serving_is_asked=yes
+    if ! { printf '%s\n' "$1" >&"${SERVING[1]}" && IFS= read -r answer <&"${SERVING[0]}"; }; then
+        answer=
+        return 1
+    fi
     case ${1%% *} in
-    why | list | dump) ;;
-    *) return 0 ;;
+    why | list | dump)
+        while true; do
+            if ! IFS= read -r line <&"${SERVING[0]}"; then
+                answer=
+                return 1
+            fi
+            [[ -n $line ]] || break
+            answer+=$'\n'$line
+        done
+        ;;
     esac
-    while IFS= read -r line <&"${SERVING[0]}"; do
-        [[ -n $line ]] || return 0
-        answer+=$'\n'$line
-    done
-    return 1
+    serving_is_asked=
 }
 
-# end_serving: ends the input. Returns the program's status.
+# end_serving: no more lines come. Returns the program's status.
 end_serving() {
     local ending=$SERVING_PID
     exec {SERVING[1]}>&-
