@@ -1,9 +1,10 @@
 #!/usr/bin/env python3
-"""Asks replicas, and takes no answer by a shorter journal than that of an answer that it had.
+"""Asks replicas, and takes no answer by an older state, or by another log, than that of an answer that it had.
 
-    caller.py HOST:PORT [--seen LENGTH] PATH USER MASK [WORD ...]
+    caller.py HOST:PORT [--mark MARK] PATH USER MASK [WORD ...]
 
-Prints `seen LENGTH VERDICT` and ends with status 0 where the mask is granted; else with 1, whatever the reason is.
+Prints `seen LENGTH VERDICT` and, in a second line, the mark to be carried to the next replica. Ends with status 0 if
+the mask is granted, else with 1, whatever the reason is.
 """
 
 import argparse
@@ -12,15 +13,26 @@ import sys
 from contextlib import suppress
 from io import BufferedRWPair
 
-from messages import Answer, Question, Reply, reply_in, to_line
+from messages import Answer, Mark, Question, Reply, mark_in, reply_in, to_line
 
 Address = tuple[str, int]
 
 
-class Caller:
-    """Carries the length of the journal that it has seen from one replica to another."""
+def _want_extension(seen: Mark | None, given: Mark) -> None:
+    """ValueError: a state of this mark can't follow the one that was seen."""
+    if seen and given.store != seen.store:
+        raise ValueError("answered by another store than the one that was seen")
+    if seen and (given.line < seen.line or given.length < seen.length):
+        told = f"line {seen.line}, length {seen.length} was seen"
+        raise ValueError(f"answered by line {given.line}, length {given.length}; {told}")
+    if seen and given.line == seen.line and given != seen:
+        raise ValueError(f"answered by another line {seen.line} than the one that was seen")
 
-    def __init__(self, seen: int = 0, limit: float = 10.0) -> None:
+
+class Caller:
+    """Carries the mark of the state that it has seen from one replica to another."""
+
+    def __init__(self, seen: Mark | None = None, limit: float = 10.0) -> None:
         self.seen = seen
         self._limit = limit
         self._streams: dict[Address, BufferedRWPair] = {}
@@ -33,11 +45,10 @@ class Caller:
             self._streams.popitem()[1].close()
 
     def ask(self, replica: Address, path: str, user: str, mask: str, *words: str) -> Reply:
-        """What the replica replies. OSError: it isn't there, or no longer. ValueError: it replies what it mustn't."""
+        """What the replica replies. OSError: it isn't there, or no longer. ValueError: the reply is invalid."""
         reply = reply_in(self._exchange(replica, to_line(Question(path, user, mask, words, self.seen))))
         if isinstance(reply, Answer):
-            if reply.seen < self.seen:
-                raise ValueError(f"answered by a journal of {reply.seen}, and {self.seen} was seen")
+            _want_extension(self.seen, reply.seen)
             self.seen = reply.seen
         return reply
 
@@ -48,7 +59,7 @@ class Caller:
             stream.write(line)
             stream.flush()
             if not (back := stream.readline()).endswith(b"\n"):
-                raise ConnectionError("the replica went away")
+                raise ConnectionError("the replica closed the connection")
         except OSError:
             with suppress(OSError):
                 stream.close()
@@ -65,18 +76,19 @@ class Caller:
 def main() -> int:
     parser = argparse.ArgumentParser(description=__doc__.splitlines()[0])
     parser.add_argument("replica", metavar="HOST:PORT")
-    parser.add_argument("--seen", default=0, type=int, metavar="LENGTH")
+    parser.add_argument("--mark", type=mark_in, metavar="MARK")
     parser.add_argument("words", nargs="+", metavar="WORD")
     arguments = parser.parse_args()
     host, _, port = arguments.replica.rpartition(":")
     if len(arguments.words) < 3:
-        parser.error("a path, a user and a mask are wanted")
-    with Caller(arguments.seen) as caller:
+        parser.error("a path, a user and a mask are required")
+    with Caller(arguments.mark) as caller:
         reply = caller.ask((host, int(port)), *arguments.words)
     if not isinstance(reply, Answer):
         print(reply, file=sys.stderr)
         return 1
-    print("seen", reply.seen, reply.verdict)
+    print("seen", reply.seen.length, reply.verdict)
+    print(reply.seen)
     return 0 if reply.is_granted else 1
 
 

@@ -6,9 +6,9 @@ import threading
 from collections import defaultdict
 from collections.abc import Sequence
 
-from asking import line_of
 from caller import Address, Caller
-from messages import Answer, Reply
+from commands import line_of_words
+from messages import Answer, Mark, Reply
 from workload import question
 
 #: The seconds between two questions of a caller.
@@ -23,11 +23,11 @@ class Record:
         self.refused: dict[int, list[tuple[str, str]]] = defaultdict(list)
         self.replies: list[Reply] = []
 
-    def compare(self, program: str, lines: Sequence[str]) -> str | None:
+    def compare(self, program: str, lines: Sequence[tuple[str, str]]) -> str | None:
         """The first answer that isn't the one of one script of the log's lines and all that was asked, or None."""
         asked = self._in_order(lines)
         script = "".join(line + "\n" for line, _ in asked)
-        run = subprocess.run([program, "script"], input=script, capture_output=True, text=True, check=True)
+        run = subprocess.run([program, "--percent", "script"], input=script, capture_output=True, text=True, check=True)
         told = run.stdout.splitlines()
         if len(told) != len(asked):
             return f"{len(asked)} lines, and {len(told)} answers of the script"
@@ -36,21 +36,17 @@ class Record:
                 return f"{line!r} was answered {answer!r}, and by the script {wanted!r}"
         return None
 
-    def _in_order(self, lines: Sequence[str]) -> list[tuple[str, str]]:
-        """Each line of the log, and behind it what was asked there; each with its answer."""
+    def _in_order(self, lines: Sequence[tuple[str, str]]) -> list[tuple[str, str]]:
+        """Each line of the log with its answer, and after it what was asked there."""
         asked: list[tuple[str, str]] = []
-        length, shown = 0, set()
-        for place, line in enumerate(lines, 1):
-            if line.startswith("open "):
-                asked.append((line, "opened 1"))
-            elif line == "publish":
-                asked.append((line, f"published {length}"))
-            else:
-                length += 1
-                asked.append((line, "ok"))
-            if line.startswith(("open ", "publish")) and length not in shown:
-                shown.add(length)
-                asked += self.checks[length]
+        shown = set()
+        for place, (line, answer) in enumerate(lines, 1):
+            asked.append((line, answer))
+            if line.startswith(("open ", "publish")):
+                length = 0 if line.startswith("open ") else int(answer.split()[1])
+                if length not in shown:
+                    shown.add(length)
+                    asked += self.checks[length]
             asked += self.refused[place]
         missed = set(self.checks) - shown
         if missed:
@@ -61,7 +57,7 @@ class Record:
 class Witness(Caller):
     """A caller whose answers are written down."""
 
-    def __init__(self, record: Record, seen: int = 0) -> None:
+    def __init__(self, record: Record, seen: Mark | None = None) -> None:
         super().__init__(seen)
         self._record = record
 
@@ -69,8 +65,8 @@ class Witness(Caller):
         reply = super().ask(replica, path, user, mask, *words)
         self._record.replies.append(reply)
         if isinstance(reply, Answer):
-            line = line_of("check", "0", path, user, mask, *words)
-            self._record.checks[reply.seen].append((line, f"seen {reply.seen} {reply.verdict}"))
+            line, length = line_of_words("check", "0", path, user, mask, *words), reply.seen.length
+            self._record.checks[length].append((line, f"seen {length} {reply.verdict}"))
         return reply
 
 
@@ -106,7 +102,7 @@ class Callers:
             self._wrong.append(f"{replica}: {error}")
 
     def stop(self) -> list[str]:
-        """Ends them, and tells what they had to refuse."""
+        """Ends them, and returns what they had to reject."""
         self._stop.set()
         for thread in self._threads:
             thread.join()

@@ -7,6 +7,7 @@ import socket
 import subprocess
 import sys
 import tempfile
+import time
 from collections.abc import Iterator, Sequence
 from contextlib import contextmanager, suppress
 
@@ -15,8 +16,10 @@ from caller import Address
 HERE = pathlib.Path(__file__).resolve().parent
 #: How often another port is tried where somebody else took the first.
 TRIES = 5
-#: How long a process may take to end by itself.
-PATIENCE = 10
+#: How long a process may take to do what it must: far longer than it does, as the machine may be busy.
+PATIENCE = 60
+#: For replicas in tests that aren't about time.
+UNHURRIED = ("--max-age", "60", "--timeout", "60", "--patience", "60")
 
 
 def free_port() -> int:
@@ -26,10 +29,20 @@ def free_port() -> int:
         return probe.getsockname()[1]
 
 
+def eventually(is_so, limit: float = PATIENCE) -> bool:
+    """Whether it is so within the limit."""
+    until = time.monotonic() + limit
+    while not is_so():
+        if time.monotonic() > until:
+            return False
+        time.sleep(0.02)
+    return True
+
+
 def end(process: subprocess.Popen) -> None:
     """Kills the process where it still runs, and takes its status."""
     process.kill()
-    for stream in (process.stdin, process.stdout):
+    for stream in (process.stdin, process.stdout, process.stderr):
         if stream:
             with suppress(OSError):
                 stream.close()
@@ -71,6 +84,10 @@ class Redis:
         if self._process:
             end(self._process)
 
+    def send(self, number: int) -> None:
+        """Sends it a signal: SIGSTOP makes it silent, SIGCONT ends that."""
+        self._process.send_signal(number)
+
 
 class Writing:
     """A writer in a process of its own."""
@@ -88,6 +105,12 @@ class Writing:
         self._process.stdin.flush()
         return self._process.stdout.readline().rstrip("\n")
 
+    def ask_for_lines(self, *words: str) -> list[str]:
+        """The lines of its answer to `list` or `dump`, without the last, empty one."""
+        lines = [self.ask(*words)]
+        lines += iter(lambda: self._process.stdout.readline().rstrip("\n"), "")
+        return lines
+
     def kill(self) -> None:
         self._process.kill()
         self._process.wait()
@@ -98,8 +121,8 @@ class Writing:
 
 
 @contextmanager
-def writer(program: str, redis: str, errors: int | None = None) -> Iterator[Writing]:
-    words = [sys.executable, HERE / "writer.py", program, "--redis", redis]
+def writer(program: str, redis: str, *options: str, errors: int | None = None) -> Iterator[Writing]:
+    words = [sys.executable, HERE / "writer.py", program, "--redis", redis, *options]
     process = subprocess.Popen(words, stdin=subprocess.PIPE, stdout=subprocess.PIPE, stderr=errors, text=True)
     try:
         yield Writing(process)
@@ -122,10 +145,19 @@ class Replicas:
         for name in list(self._processes):
             self.kill(name)
 
-    def start(self, *names: str, words: Sequence[str] = (), errors: int | None = None) -> None:
-        """Starts these, and waits until they listen."""
+    def start(
+        self,
+        *names: str,
+        words: Sequence[str] = UNHURRIED,
+        until: str = "ready",
+        errors: int | None = None,
+        limit: int | None = None,
+    ) -> None:
+        """Starts these, and waits until each is ready, or just until it listens. `limit` is one of open descriptors."""
         command = [sys.executable, HERE / "replica.py", *self._words, *words]
         piped = {"stdin": subprocess.DEVNULL, "stdout": subprocess.PIPE, "stderr": errors}
+        if limit:
+            command = ["/bin/sh", "-c", f'ulimit -n {limit} && exec "$@"', "sh", *command]
         for name in names:
             self._processes[name] = subprocess.Popen(command, text=True, **piped)
         for name in names:
@@ -133,14 +165,30 @@ class Replicas:
             if not re.fullmatch("[0-9]+\n", port):
                 raise RuntimeError(f"the replica {name} doesn't listen")
             self.addresses[name] = ("127.0.0.1", int(port))
+            if until == "ready":
+                self.wait_until_ready(name)
+
+    def wait_until_ready(self, name: str) -> None:
+        if self._processes[name].stdout.readline() != "ready\n":
+            raise RuntimeError(f"the replica {name} doesn't become ready")
 
     def kill(self, name: str) -> None:
         """Kills one, as a machine that fails does; callers that were about to ask it find that nobody listens there."""
         end(self._processes.pop(name))
         self.addresses.pop(name, None)
 
+    def process_id(self, name: str) -> int:
+        return self._processes[name].pid
+
     def status(self, name: str) -> int:
         """That with which one ends by itself."""
         status = self._processes[name].wait(PATIENCE)
         self.kill(name)
         return status
+
+    def failure(self, *words: str) -> tuple[int, str]:
+        """The status and the messages of a replica that doesn't go on with these arguments."""
+        command = [sys.executable, HERE / "replica.py", *self._words, *words]
+        piped = {"stdin": subprocess.DEVNULL, "capture_output": True, "text": True}
+        run = subprocess.run(command, timeout=PATIENCE, check=False, **piped)
+        return run.returncode, run.stderr

@@ -1,4 +1,4 @@
-"""What the test does, story by story, over one Redis and one journal: each begins where the last one ended."""
+"""What the test does, story by story, over one Redis and one journal: each starts where the last one ended."""
 
 import json
 import random
@@ -13,10 +13,10 @@ from contextlib import ExitStack
 import redis
 
 from caller import Caller
-from messages import MOST_SEEN, Answer, Fault, Lags, Question, Reply, to_line
+from log import Entry, mark_at
+from messages import MOST, MOST_BYTES, MOST_WORDS, Answer, Fault, Lags, Mark, Question, Reply, to_line
 from record import Callers, Record, Witness
-from replica import MOST_BYTES
-from rig import HERE, Redis, Replicas, Writing, free_port, writer
+from rig import HERE, UNHURRIED, Redis, Replicas, Writing, free_port, writer
 from tally import Tally
 from workload import OPENING, edits, question
 
@@ -29,7 +29,7 @@ READERS, GRANTED = "O:BAG:SYD:(A;;FR;;;BU)", "granted 0x120089"
 
 class Stories:
     def __init__(self, program: str, server: Redis, replicas: Replicas, stack: ExitStack, tally: Tally) -> None:
-        self.program, self.server, self.replicas, self._stack = program, server, replicas, stack
+        self.program, self.server, self.replicas, self.stack = program, server, replicas, stack
         self.equal, self.holds = tally.equal, tally.holds
         self.redis = stack.enter_context(redis.Redis.from_url(server.url))
         self.record = Record()
@@ -39,12 +39,11 @@ class Stories:
         replicas.start(*NAMES)
         self.writer = self.new_writer()
 
-    def tell(self) -> None:
+    def run(self) -> None:
         self.beside_edits()
-        self.killed_in_the_midst()
+        self.killed_while_appending()
         self.two_writers()
         self.lagging()
-        self.broken_logs()
         self.texts_from_outside()
         self.no_questions()
         self.from_a_shell()
@@ -53,7 +52,7 @@ class Stories:
         self.compared()
 
     def new_writer(self, errors: int | None = None) -> Writing:
-        return self._stack.enter_context(writer(self.program, self.server.url, errors))
+        return self.stack.enter_context(writer(self.program, self.server.url, errors=errors))
 
     def give(self, *words: str) -> str:
         """The writer's answer. All are compared at the end: of what was accepted the log has the line."""
@@ -65,7 +64,22 @@ class Stories:
 
     def publish(self) -> None:
         """From then on the witness has seen what was published."""
-        self.witness.seen = int(self.give("publish").removeprefix("published "))
+        answer = self.give("publish")
+        self.witness.seen = self.mark()
+        self.equal("a publish", answer, f"published {self.witness.seen.length}")
+        self.equal("the writer's mark", self.writer.ask("mark"), str(self.witness.seen))
+
+    def entries(self, stream: str = STREAM) -> list[tuple[Entry, str]]:
+        """The entries of a stream, each with the id of its store."""
+        found = []
+        for place, fields in self.redis.xrange(stream):
+            store, line, answer, chain = (fields[name].decode() for name in (b"store", b"line", b"answer", b"chain"))
+            found.append((Entry(int(place.split(b"-")[0]), line, answer, chain), store))
+        return found
+
+    def mark(self, stream: str = STREAM) -> Mark:
+        """The mark of what the stream has published."""
+        return [mark for entry, store in self.entries(stream) if (mark := mark_at(store, entry))][-1]
 
     def ask(self, name: str, *words: str) -> Reply:
         return self.witness.ask(self.replicas.addresses[name], *words)
@@ -97,10 +111,10 @@ class Stories:
             for turn in range(30):
                 happens.get(turn, lambda: None)()
                 self.round()
-            self.equal("what callers had to refuse", callers.stop(), [])
+            self.equal("what callers had to reject", callers.stop(), [])
 
     def killed_before_its_publish(self) -> None:
-        """An edit waits on in the next writer, and nobody sees it before its publish."""
+        """An edit is pending in the next writer too, and nobody sees it before its publish."""
         self.equal("an edit", self.give("addo", WAITING[0], READERS), "ok")
         self.writer.kill()
         self.everywhere("without a writer", "nonode", *WAITING)
@@ -108,24 +122,24 @@ class Stories:
         self.equal("the same edit again", self.give("addo", WAITING[0], READERS), "refused 3 Exists")
         self.everywhere("with the next writer", "nonode", *WAITING)
         self.publish()
-        self.everywhere("behind its publish", GRANTED, *WAITING)
+        self.everywhere("after its publish", GRANTED, *WAITING)
 
     def die(self, moment: str, *words: str) -> None:
-        """A writer dies right before or behind the moment at which the log has this."""
+        """A writer dies right before or after the moment at which the log has this."""
         self.writer.kill()
         command = [sys.executable, HERE / "dying.py", self.program, "--redis", self.server.url, moment, *words]
         run = subprocess.run(command, stdin=subprocess.DEVNULL, capture_output=True, check=False)
         self.equal(f"{moment} {words}", (run.returncode, run.stdout), (-signal.SIGKILL, b""))
 
-    def killed_in_the_midst(self) -> None:
-        """What a writer had begun, and told nobody of, is whole in the log or nowhere."""
+    def killed_while_appending(self) -> None:
+        """What a writer had started, and answered nobody, is whole in the log or nowhere."""
         add = "addo", BEGUN[0], READERS
         self.die("before", *add)
-        self.die("behind", *add)
+        self.die("after", *add)
         self.die("before", "publish")
         self.everywhere("a publish that was only begun", "nonode", *BEGUN)
-        self.die("behind", "publish")
-        self.witness.seen += 1
+        self.die("after", "publish")
+        self.witness.seen = self.mark()
         self.everywhere("a publish that the log has", GRANTED, *BEGUN)
         self.writer = self.new_writer()
         self.equal("an edit that the log has", self.give(*add), "refused 3 Exists")
@@ -134,7 +148,7 @@ class Stories:
     def two_writers(self) -> None:
         """The one that appends first goes on; the other ends at its next edit, without a line in the log."""
         other = self.new_writer(errors=subprocess.DEVNULL)
-        self.equal("both have read the log", other.ask("tell"), f"told {self.witness.seen}")
+        self.equal("both have read the log", other.ask("tell"), f"told {self.witness.seen.length}")
         self.equal("the first to append", self.give("addo", "/first", READERS), "ok")
         place = self.redis.xlen(STREAM)
         self.equal("the other", (other.ask("addo", "/other", READERS), other.status()), ("", 1))
@@ -146,49 +160,48 @@ class Stories:
         for place, fields in self.redis.xrange(STREAM, f"{first}-0", f"{last}-0"):
             self.redis.xadd(stream, fields, id=place)
 
-    def lines(self) -> list[str]:
-        return [fields[b"line"].decode() for _, fields in self.redis.xrange(STREAM)]
+    def lines(self, stream: str = STREAM) -> list[tuple[str, str]]:
+        """The lines of a stream, each with its answer."""
+        return [(entry.line, entry.answer) for entry, _ in self.entries(stream)]
+
+    def answered(self, what: str, reply: Reply, seen: Mark, verdict: str) -> None:
+        self.holds(what, isinstance(reply, Answer) and (reply.seen, reply.verdict) == (seen, verdict), reply)
 
     def lagging(self) -> None:
         """A replica whose log is short says that it lags, or waits for the rest."""
-        lines = self.lines()
-        part = lines.index("publish", len(lines) // 2) + 1
-        short = sum(line != "publish" for line in lines[1:part])
+        entries = self.entries()
+        later = entries[len(entries) // 2:]
+        part = next(entry.number for entry, _ in later if entry.line == "publish")
+        short = mark_at(entries[part - 1][1], entries[part - 1][0])
         self.copy("slow", 1, part)
-        self.replicas.start("hasty", words=("--stream", "slow", "--patience", "1"))
-        self.replicas.start("patient", words=("--stream", "slow", "--patience", "20"))
+        self.replicas.start("hasty", words=("--stream", "slow", *UNHURRIED, "--patience", "1"))
+        self.replicas.start("patient", words=("--stream", "slow", *UNHURRIED))
         with Witness(self.record, short) as young:
             reply = young.ask(self.replicas.addresses["hasty"], *WAITING)
-        self.equal("who has seen as much", reply, Answer(short, "nonode"))
-        self.equal("who has seen more", self.ask("hasty", *WAITING), Lags(short))
-        rest = threading.Timer(0.3, self.copy, ("slow", part + 1, len(lines)))
+        self.answered("who has seen as much", reply, short, "nonode")
+        self.equal("who has seen more", self.ask("hasty", *WAITING), Lags(part))
+        rest = threading.Timer(0.3, self.copy, ("slow", part + 1, len(entries)))
         rest.start()
-        self.equal("who waits", self.ask("patient", *WAITING), Answer(self.witness.seen, GRANTED))
+        reply = self.ask("patient", *WAITING)
+        self.answered("who waits", reply, self.witness.seen, GRANTED)
         rest.join()
         self.everywhere("all have come so far", GRANTED, *WAITING)
         self.replicas.kill("hasty")
         self.replicas.kill("patient")
 
-    def broken_logs(self) -> None:
-        """A replica ends where a line is missing, or is none that a store accepts."""
-        self.copy("gap", 1, 3)
-        self.copy("gap", 5, 6)
-        self.copy("foreign", 1, 1)
-        self.redis.xadd("foreign", {"line": "check 0 / SY 0x1"}, id="2-0")
-        for stream in ("gap", "foreign"):
-            self.replicas.start(stream, words=("--stream", stream), errors=subprocess.DEVNULL)
-            self.equal(f"the stream {stream}", self.replicas.status(stream), 1)
-
     def texts_from_outside(self) -> None:
         """A text that is no word becomes a part of no line."""
         place, words = self.redis.xlen(STREAM), ["/a", USER, "0x1", "BU"]
         for bad in ("", " ", "/a b", "/a\nremove /waiting", "/a\r", "\udc80"):
-            for at in range(len(words)):
+            for at in range(0 if bad in ("", "\udc80") else 1, len(words)):
                 reply = self.ask("a", *words[:at], bad, *words[at + 1:])
                 told = isinstance(reply, Fault) and reply.fault
                 self.holds(f"{bad!r} as word {at}", told and told.startswith("not asked: "), reply)
-            answer = self.writer.ask("addo", bad, READERS)
+            answer = self.writer.ask("owner", "/a", bad)
             self.holds(f"{bad!r} to the writer", answer.startswith("not asked: "), answer)
+        for bad in ("/a b", "/a\nremove /waiting", "/a\r", "/%61", "/waiting\n"):
+            reply = self.ask("a", bad, *words[1:])
+            self.holds(f"the path {bad!r}", isinstance(reply, Answer) and reply.verdict == "nonode", reply)
         self.equal("the log", self.redis.xlen(STREAM), place)
         self.equal("a mask that is none", self.ask("a", "/a", USER, "zz"), Fault("fault mask"))
 
@@ -196,15 +209,20 @@ class Stories:
         """What is no question gets no verdict."""
         good = Question("/", USER, "0x1")
         fields = json.loads(to_line(good))
-        lengths = [{"seen": wrong} for wrong in (-1, MOST_SEEN + 1, 0.0, True, "0", None)]
-        for change in (*lengths, {"mask": 1}, {"words": "BU"}, {"words": [1]}, {"more": 1}):
+        mark = json.loads(to_line(Question("/", USER, "0x1", (), self.witness.seen)))["seen"]
+        marks = [{"seen": mark | {"line": wrong}} for wrong in (-1, MOST + 1, 0.0, True, "0", None)]
+        marks += [{"seen": wrong} for wrong in (0, "", {}, mark | {"more": 1}, mark | {"store": 1})]
+        changes = [{"mask": 1}, {"words": "BU"}, {"words": [1]}, {"words": ["BU"] * (MOST_WORDS + 1)}, {"more": 1}]
+        for change in (*marks, *changes):
             said = self.sent(json.dumps(fields | change).encode() + b"\n")
-            self.holds(f"a question with {change}", said.startswith(b'{"fault": "not asked: '), said)
+            self.holds(f"a question with {str(change)[:80]}", said.startswith(b'{"fault": "not asked: '), said)
         for line in (b"\n", b"\xff\n", b"[]\n", b"[" * 100000 + b"\n"):
             said = self.sent(line)
             self.holds(f"the line {line[:9]!r}", said.startswith(b'{"fault": "not asked: '), said)
         self.equal("half a question", self.sent(to_line(good)[:-1]), b"")
         self.equal("too long a question", self.sent(b" " * MOST_BYTES + to_line(good)), b"")
+        most = self.sent(json.dumps(fields | {"words": ["BU"] * MOST_WORDS}).encode() + b"\n")
+        self.holds("a question with the most words", b'"verdict"' in most, most)
         self.equal("two questions at once", self.sent(to_line(good) * 2).count(b'"verdict"'), 2)
         for given in ("[]", "{}", "nonsense", '["addo", 1]'):
             self.holds(f"{given} to the writer", self.writer.say(given).startswith("not asked: "))
@@ -230,38 +248,52 @@ class Stories:
             (1, f"{host}:{port}", WAITING[0], USER, "FR", "BU WD"),
             (1, nobody, *WAITING),
         ):
-            command = [sys.executable, HERE / "caller.py", replica, "--seen", str(self.witness.seen), *words]
-            run = subprocess.run(command, capture_output=True, check=False)
+            command = [sys.executable, HERE / "caller.py", replica, "--mark", str(self.witness.seen), *words]
+            run = subprocess.run(command, capture_output=True, text=True, check=False)
             self.equal(f"caller.py {words}", run.returncode, status)
+            if status == 0:
+                seen = self.witness.seen
+                self.equal("what it prints", run.stdout, f"seen {seen.length} {GRANTED}\n{seen}\n")
 
     def lying_replica(self) -> None:
-        """A caller takes no answer by less than it has seen."""
+        """A caller takes no answer by an older state than it has seen, and none by another log."""
+        seen = Mark("s", 5, 3, "c")
+        for given, wanted in (
+            (Mark("s", 4, 3, "c"), "answered by line 4, length 3; line 5, length 3 was seen"),
+            (Mark("s", 6, 2, "c"), "answered by line 6, length 2; line 5, length 3 was seen"),
+            (Mark("s", 5, 3, "d"), "answered by another line 5 than the one that was seen"),
+            (Mark("t", 6, 3, "c"), "answered by another store than the one that was seen"),
+        ):
+            self.equal(f"a replica at {given}", self.lied(seen, given), wanted)
+
+    def lied(self, seen: Mark, given: Mark) -> str:
+        """What comes of an answer by a state to who has seen another."""
 
         def lie() -> None:
             with server.accept()[0] as connection, connection.makefile("rb") as questions:
                 questions.readline()
-                connection.sendall(to_line(Answer(2, GRANTED)))
+                connection.sendall(to_line(Answer(GRANTED, 0.0, given)))
 
         with socket.create_server(("127.0.0.1", 0)) as server:
             liar = threading.Thread(target=lie)
             liar.start()
             try:
-                with Caller(3) as caller:
-                    told = repr(caller.ask(server.getsockname(), *WAITING))
+                with Caller(seen) as caller:
+                    return repr(caller.ask(server.getsockname(), *WAITING))
             except ValueError as error:
-                told = str(error)
-            liar.join()
-        self.equal("a shorter journal", told, "answered by a journal of 2, and 3 was seen")
+                return str(error)
+            finally:
+                liar.join()
 
     def redis_comes_back(self) -> None:
-        """Without Redis all end; over what it kept on the disk, all go on."""
+        """Without Redis all end. Over what it kept on the disk, all go on."""
         for name in NAMES:
             self.replicas.kill(name)
         self.replicas.start(*NAMES, errors=subprocess.DEVNULL)
-        self.everywhere("started anew", GRANTED, *WAITING)
+        self.everywhere("started again", GRANTED, *WAITING)
         self.writer.kill()
         self.writer = self.new_writer(errors=subprocess.DEVNULL)
-        self.equal("the writer has read the log", self.writer.ask("tell"), f"told {self.witness.seen}")
+        self.equal("the writer has read the log", self.writer.ask("tell"), f"told {self.witness.seen.length}")
         self.server.kill()
         for name in NAMES:
             self.equal(f"{name} without Redis", self.replicas.status(name), 1)

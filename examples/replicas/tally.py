@@ -1,4 +1,4 @@
-"""Counts tests, and tells each that fails in a line."""
+"""Counts tests, and prints each that fails in a line."""
 
 
 class Tally:
@@ -16,7 +16,7 @@ class Tally:
             print(f"{what}: {got}")
 
     def equal(self, what: str, got: object, wanted: object) -> None:
-        self.holds(what, got == wanted, f"{got!r}, where {wanted!r} was wanted")
+        self.holds(what, got == wanted, f"{got!r}, expected {wanted!r}")
 
     def __str__(self) -> str:
         return f"{self.passed} passed, {self.failed} failed"

@@ -12,7 +12,7 @@ OPENING = ("open", "1", "O:BAG:SYD:(A;OICI;FR;;;BU)(A;CI;FA;;;BA)")
 
 
 def entries(chance: random.Random) -> str:
-    """Up to two denies, and behind them up to three allows."""
+    """Up to two denies, and after them up to three allows."""
     kinds = ["D"] * chance.randint(0, 2) + ["A"] * chance.randint(0, 3)
     return "".join(
         f"({kind};{chance.choice(('', 'OICI', 'OI', 'CIIO'))};{chance.choice(MASKS[:5])};;;"
@@ -22,7 +22,7 @@ def entries(chance: random.Random) -> str:
 
 
 def edits(chance: random.Random) -> Iterator[tuple[str, ...]]:
-    """Edits without an end. Some of them are refused, wherever they come."""
+    """Edits without an end. Some of them are refused."""
     for folder in FOLDERS:
         yield "addc", folder, "O:BAG:SYD:" + entries(chance)
     while True:

@@ -1,53 +1,49 @@
 #!/usr/bin/env python3
 """The one writer of a replica set. Each line of its input is a list of words in JSON, and is answered by one line.
 
-    writer.py PROGRAM [--redis URL] [--stream NAME]
+    writer.py PROGRAM [--redis URL] [--stream NAME] [--mapping KIND] [--timeout SECONDS]
 
-The words are those of a script's line, as `["open", "1", "O:BAG:SYD:"]`, `["addo", "/a", "O:BAG:SYD:(A;;FR;;;BU)"]` or
-`["publish"]`; the answer is the script's. What was accepted stands in the log before its answer comes.
+The words are those of a script's line, as `["open", "1", "O:BAG:SYD:"]`, `["addo", "/a b", "O:BAG:SYD:(A;;FR;;;BU)"]`
+or `["publish"]`, with paths as they are; the answer is that of `sdstore --percent serve`. What was accepted is in the
+log before its answer comes. To `why`, `list` and `dump` the answer has several lines, the last of them empty.
+`["mark"]` is answered by the mark of what is published: a caller that carries it to a replica reads what this writer
+wrote.
 """
 
 import json
 import sys
 
-from asking import ACCEPTED, Server, line_of
 from command_line import parser_of
-from log import Log, LogError
+from commands import Server, Unknown, has_changed, line_of_words, server
+from log import Log, LogError, mark_at
+from messages import Mark
 
 
 class Writer:
     """What its own store accepts goes into the log."""
 
     def __init__(self, store: Server, log: Log) -> None:
-        """Carries out what the log has. Edits that nobody published wait again, as they did."""
+        """Carries out the log: its unpublished edits are pending again. LogError: the store answers otherwise."""
         self._store = store
         self._log = log
-        self._length = 0
-        for line in log.lines():
-            self._length += 1
-            if not ACCEPTED.fullmatch(answer := store.ask(line)):
-                raise LogError(f"line {self._length} of the log is answered {answer!r}")
+        self.published: Mark | None = None
+        for entry in log.read_all():
+            if (answer := store.ask(entry.line)) != entry.answer:
+                raise LogError(f"line {entry.number} of the log has the answer {entry.answer!r}, here {answer!r}")
+            self.published = mark_at(log.store, entry) or self.published
 
     def carry_out(self, *words: str) -> str:
-        """The store's answer, once the log has what was accepted. ValueError: a word is none, and nothing was done.
-        LogError: the store may be ahead of the log, so it was ended, and another writer has to begin from the log."""
-        line = line_of(*words)
-        if line == "publish":
-            # It is never refused. The log has it first, so what was shown once is shown by whoever reads the log.
-            self._append(line)
-            return self._store.ask(line)
+        """The store's answer, once the log has what was accepted. ValueError: a word is invalid, and nothing was done.
+        LogError, Unknown: the store may be ahead of the log, so it was ended; the next writer starts from the log."""
+        line = line_of_words(*words)
         answer = self._store.ask(line)
-        if ACCEPTED.fullmatch(answer):
-            self._append(line)
-        return answer
-
-    def _append(self, line: str) -> None:
         try:
-            self._log.append(self._length + 1, line)
-        except LogError:
+            if has_changed(line, answer):
+                self.published = mark_at(self._log.store, self._log.append(line, answer)) or self.published
+        except (LogError, Unknown):
             self._store.close()
             raise
-        self._length += 1
+        return answer
 
 
 def words_in(text: bytes) -> list[str]:
@@ -59,19 +55,23 @@ def words_in(text: bytes) -> list[str]:
 
 
 def main() -> None:
-    arguments = parser_of(__doc__).parse_args()
-    with Server(arguments.program) as store, Log(arguments.redis, arguments.stream) as log:
-        writer = Writer(store, log)
-        for given in sys.stdin.buffer:
-            try:
-                answer = writer.carry_out(*words_in(given))
-            except (ValueError, RecursionError) as error:
-                answer = f"not asked: {error}"
-            print(answer, flush=True)
+    given = parser_of(__doc__).parse_args()
+    with server(given.program, given.mapping) as store:
+        with Log(given.redis, given.stream, given.mapping, given.timeout) as log:
+            writer = Writer(store, log)
+            for text in sys.stdin.buffer:
+                try:
+                    words = words_in(text)
+                    answer = str(writer.published) if words == ["mark"] else writer.carry_out(*words)
+                    if words[0] in ("why", "list", "dump"):
+                        answer += "\n"
+                except (ValueError, RecursionError) as error:
+                    answer = f"not asked: {error}"
+                print(answer, flush=True)
 
 
 if __name__ == "__main__":
     try:
         main()
-    except (LogError, EOFError) as error:
+    except (LogError, Unknown, EOFError, ValueError) as error:
         sys.exit(f"writer: {error}")
