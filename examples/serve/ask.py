@@ -3,8 +3,8 @@
 
     examples/serve/ask.py PROGRAM [CHECKS]
 
-Opens a store, adds some files, and asks so many checks, each after the answer to the one before. Each answer is compared
-with what the file's entry grants; at the end it prints how many were asked, and their time.
+Opens a store, adds some files, and asks so many checks, each after the answer to the one before. Each answer is
+compared with what the file's entry grants; at the end it prints how many were asked, and their time.
 """
 
 import contextlib
