@@ -4,7 +4,8 @@
     audit.py [COUNT] [--scheduler ADDRESS] [--workers N]
 
 Without an address the cluster is one of N processes on this machine, which ends with the audit. Each worker calls
-libhudarin. Prints how often each answer came, and a digest of all in order; status 1 where one process has others.
+libhudarin. Prints how often each answer came, the first cases whose texts were refused, and a digest of all answers in
+order; status 1 if those of one process differ.
 """
 
 import argparse
@@ -18,18 +19,40 @@ from collections import Counter
 from collections.abc import Iterator, Sequence
 from contextlib import contextmanager
 
-from distributed import Client, LocalCluster
+from distributed import Client, LocalCluster, WorkerPlugin
 
 TOP = pathlib.Path(__file__).resolve().parent.parent.parent
 sys.path.append(str(TOP / "bindings/python"))
 
-import auditing  # noqa: E402 (they stand on the wrapper of the library)
+import auditing  # noqa: E402 (these require the wrapper of the library)
 import cases  # noqa: E402
 import hudarin  # noqa: E402
 from auditing import Share  # noqa: E402
 
 #: How many cases are a share. The digest is of the shares' digests, so it is the same for any number of workers.
 AT_ONCE = 10_000
+#: How many refused cases are printed.
+PRINTED = 5
+
+
+class Modules(WorkerPlugin):
+    """The modules, written into a folder of the worker before it gets its first share, also where it joins later.
+
+    Each is imported once: a module that is loaded again has other classes than those of the objects that exist.
+    """
+
+    name = "fleet-modules"
+
+    def __init__(self, texts: dict[str, str]) -> None:
+        """The texts by the names of their files. A plugin is sent by value, so it refers to none of the modules."""
+        self._texts = texts
+
+    def setup(self, worker) -> None:
+        folder = pathlib.Path(worker.local_directory, self.name)
+        folder.mkdir(exist_ok=True)
+        for name, text in self._texts.items():
+            (folder / name).write_text(text)
+        sys.path.insert(0, str(folder))
 
 
 @contextmanager
@@ -38,15 +61,16 @@ def local_client(workers: int) -> Iterator[Client]:
     os.environ.setdefault("HUDARIN_LIBRARY", str(TOP / "bindings/out/libhudarin.so.0"))
     with tempfile.TemporaryDirectory(prefix="fleet.") as folder:
         place = {"dashboard_address": None, "local_directory": folder}
-        with LocalCluster(workers, threads_per_worker=1, processes=True, **place) as cluster, Client(cluster) as client:
-            yield client
+        with LocalCluster(n_workers=workers, threads_per_worker=1, processes=True, **place) as cluster:
+            with Client(cluster) as client:
+                yield client
 
 
 def by_cluster(client: Client, ranges: Sequence[range]) -> list[Share]:
     """The shares of the ranges, each by whichever worker is free."""
     client.wait_for_workers(1)
-    for module in (hudarin, cases, auditing):
-        client.upload_file(module.__file__)
+    files = [pathlib.Path(module.__file__) for module in (hudarin, cases, auditing)]
+    client.register_worker_plugin(Modules({file.name: file.read_text() for file in files}))
     return client.gather([client.submit(auditing.share, each.start, each.stop) for each in ranges])
 
 
@@ -60,8 +84,14 @@ def told(shares: Sequence[Share]) -> str:
     return f"{', '.join(f'{count} {kind}' for kind, count in sorted(counts.items()))}; digest {digest.hexdigest()[:16]}"
 
 
+def refused(shares: Sequence[Share]) -> list[str]:
+    """The first cases whose texts were refused, each in a line."""
+    found = [each for share in shares for each in share.refused]
+    return [f"case {number}: {text}" for number, text in found[:PRINTED]]
+
+
 def timed(who: str, work, *arguments) -> list[Share]:
-    """What the work answers; prints what it comes to, and its time."""
+    """What the work returns; prints its sum, and its time."""
     began = time.monotonic()
     shares = work(*arguments)
     print(f"{who}: {told(shares)}; {time.monotonic() - began:.1f} s", flush=True)
@@ -76,8 +106,12 @@ def main() -> int:
     arguments = parser.parse_args()
     ranges = [range(first, min(first + AT_ONCE, arguments.count)) for first in range(0, arguments.count, AT_ONCE)]
     with Client(arguments.scheduler) if arguments.scheduler else local_client(arguments.workers) as client:
+        client.wait_for_workers(1 if arguments.scheduler else arguments.workers)
+        print(f"{len(client.scheduler_info()['workers'])} workers", flush=True)
         fleet = timed("the cluster", by_cluster, client, ranges)
     one = timed("one process", by_this_process, ranges)
+    for line in refused(one):
+        print(line)
     for each, mine, theirs in zip(ranges, one, fleet, strict=True):
         if mine != theirs:
             print(f"cases {each.start} to {each.stop - 1}: their answers differ")
