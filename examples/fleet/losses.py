@@ -93,6 +93,17 @@ def audited(where: Path, *words: str) -> "tuple[int, str]":
     return run.returncode, run.stdout + run.stderr[-600:]
 
 
+def shares_done(dask_scheduler) -> "tuple[int, int]":
+    """How many shares are done, and how many there are; it runs in the scheduler."""
+    states = [task.state for task in dask_scheduler.tasks.values()]
+    return sum(state == "memory" for state in states), len(states)
+
+
+def some_done(client: Client) -> "tuple[int, int] | None":
+    done, shares = client.run_on_scheduler(shares_done)
+    return (done, shares) if done >= 2 else None
+
+
 def with_losses(count: int) -> None:
     """One of two workers is killed and another joins while shares are worked out: the audit's answers are the same."""
     with ExitStack() as stack:
@@ -106,14 +117,8 @@ def with_losses(count: int) -> None:
             command = [sys.executable, str(HERE / "audit.py"), str(count), "--scheduler", cluster.address]
             audit = subprocess.Popen(command, stdin=subprocess.DEVNULL, stdout=out, stderr=out)
 
-        def shares_done(dask_scheduler) -> "tuple[int, int]":
-            states = [task.state for task in dask_scheduler.tasks.values()]
-            return sum(state == "memory" for state in states), len(states)
-
         try:
-            runs = lambda: audit.poll() is None  # noqa: E731
-            found = eventually(lambda: (found := client.run_on_scheduler(shares_done))[0] >= 2 and found, runs)
-            done, shares = found or (0, 0)
+            done, shares = eventually(lambda: some_done(client), lambda: audit.poll() is None) or (0, 0)
             cluster.kill_worker()
             cluster.start_worker()
             holds("shares are left at the loss", 2 <= done < shares, (done, shares))
@@ -164,4 +169,4 @@ def main(count: int) -> int:
 
 
 if __name__ == "__main__":
-    sys.exit(main(int(sys.argv[1]) if sys.argv[1:] else 400_000))
+    sys.exit(main(int(sys.argv[1]) if sys.argv[1:] else 200_000))

@@ -11,7 +11,7 @@ import sys
 TOP = pathlib.Path(__file__).resolve().parent.parent.parent
 sys.path += [str(TOP / "bindings/python"), str(TOP / "fuzz")]
 
-from auditing import answer  # noqa: E402 (they stand on the wrapper of the library)
+from auditing import answer  # noqa: E402 (they use the wrapper of the library)
 from cases import Case, case, groups_of  # noqa: E402
 from second import ALIASES, FLAGS, RIGHT_NAMES, Entry, Token, verdict  # noqa: E402
 

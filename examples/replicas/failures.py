@@ -19,6 +19,7 @@ from stories import GRANTED, READERS, USER, Stories
 #: What the writer is asked on an empty stream, its answers (as patterns), and whether the log has the line afterwards.
 WORDS = (
     (("publish",), "fault open", False),
+    (("mark",), "not asked: nothing was opened", False),
     (("addo", "/a", READERS), "fault open", False),
     (("tell",), "fault open", False),
     (("open", "0", READERS), "refused readers", False),

@@ -26,11 +26,11 @@ class Writer:
         """Carries out the log: its unpublished edits are pending again. LogError: the store answers otherwise."""
         self._store = store
         self._log = log
-        self.published: Mark | None = None
+        self._published: Mark | None = None
         for entry in log.read_all():
             if (answer := store.ask(entry.line)) != entry.answer:
                 raise LogError(f"line {entry.number} of the log has the answer {entry.answer!r}, here {answer!r}")
-            self.published = mark_at(log.store, entry) or self.published
+            self._published = mark_at(log.store, entry) or self._published
 
     def carry_out(self, *words: str) -> str:
         """The store's answer, once the log has what was accepted. ValueError: a word is invalid, and nothing was done.
@@ -39,11 +39,17 @@ class Writer:
         answer = self._store.ask(line)
         try:
             if has_changed(line, answer):
-                self.published = mark_at(self._log.store, self._log.append(line, answer)) or self.published
+                self._published = mark_at(self._log.store, self._log.append(line, answer)) or self._published
         except (LogError, Unknown):
             self._store.close()
             raise
         return answer
+
+    def mark(self) -> str:
+        """The mark of what is published. ValueError: nothing was opened."""
+        if not self._published:
+            raise ValueError("nothing was opened")
+        return str(self._published)
 
 
 def words_in(text: bytes) -> list[str]:
@@ -62,7 +68,7 @@ def main() -> None:
             for text in sys.stdin.buffer:
                 try:
                     words = words_in(text)
-                    answer = str(writer.published) if words == ["mark"] else writer.carry_out(*words)
+                    answer = writer.mark() if words == ["mark"] else writer.carry_out(*words)
                     if words[0] in ("why", "list", "dump"):
                         answer += "\n"
                 except (ValueError, RecursionError) as error:
