@@ -91,7 +91,7 @@ class Stories:
             self.holds(f"{what}, by {name}", isinstance(reply, Answer) and verdict in (None, reply.verdict), reply)
 
     def round(self) -> None:
-        """Some edits and their publish, which each replica shows to who was told of it."""
+        """Some edits and their publish, by which each replica answers a caller that saw it."""
         for _ in range(6):
             self.give(*next(self.edits))
         self.publish()
