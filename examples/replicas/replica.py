@@ -9,6 +9,7 @@ before, it answers no check. A question is a line of JSON, and so is its reply (
 or is another one, and if its store ends. Started again it reads the whole log.
 """
 
+import os
 import re
 import resource
 import socket
@@ -17,6 +18,7 @@ import sys
 import threading
 import time
 from contextlib import suppress
+from typing import NoReturn
 
 from command_line import parser_of
 from commands import Server, server
@@ -157,6 +159,22 @@ class Door(socketserver.ThreadingTCPServer):
             self._free.release()
 
 
+def serve(replica: Replica, log: Log, heartbeat: float) -> None:
+    """Follows the log, and prints `ready` once."""
+    was_ready = False
+    for batch in log.follow(heartbeat):
+        replica.take(batch)
+        if replica.is_ready and not was_ready:
+            was_ready = True
+            print("ready", flush=True)
+
+
+def end(error: Exception) -> NoReturn:
+    """Ends the process at once, and by its pipes its store: other threads may be in the middle of a reply."""
+    print(f"replica: {error}", file=sys.stderr, flush=True)
+    os._exit(1)
+
+
 def main() -> None:
     parser = parser_of(__doc__)
     parser.add_argument("--host", default="127.0.0.1", metavar="ADDRESS")
@@ -175,12 +193,10 @@ def main() -> None:
             with Door((given.host, given.port), replica, given.connections, given.idle) as door:
                 threading.Thread(target=door.serve_forever, daemon=True).start()
                 print(door.server_address[1], flush=True)
-                is_told = False
-                for batch in log.follow(given.heartbeat):
-                    replica.take(batch)
-                    if replica.is_ready and not is_told:
-                        is_told = True
-                        print("ready", flush=True)
+                try:
+                    serve(replica, log, given.heartbeat)
+                except (LogError, EOFError) as error:
+                    end(error)
 
 
 if __name__ == "__main__":
