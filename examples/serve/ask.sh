@@ -1,7 +1,8 @@
 # shellcheck shell=bash
 # Asks `sdstore serve` from Bash: source this, then `serve_with PROGRAM [OPTION ..]`, and `ask LINE` for each line of a
-# script. `answer` is set to the answer: one line, or to `why`, `list` and `dump` several. `ask` fails with status 2 if
-# the line has no answer, and with 1 if the program has ended or an earlier `ask` was interrupted; `end_serving` ends it.
+# script. `answer` is set to the answer: one line, or to `why`, `list` and `dump` several. `ask` fails with status 2
+# if the line has no answer, and with 1 if the program has ended or an earlier `ask` was interrupted.
+# `end_serving` ends it.
 
 # serve_with PROGRAM [OPTION ..]: starts it, with these options before `serve`.
 serve_with() {
