@@ -52,7 +52,7 @@ class Cluster:
         self._folder = folder
         self._file = Path(folder, "scheduler.json")
         self._workers: list[subprocess.Popen] = []
-        self._scheduler = self._started("scheduler", "--port", "0", "--dashboard-address", ":0")
+        self._scheduler = self._started("scheduler", "--port", "0", "--dashboard-address", "127.0.0.1:0")
         eventually(self._file.exists)
         self.address = eventually(self._read_address)
 
@@ -71,7 +71,8 @@ class Cluster:
             return ""
 
     def _started(self, kind: str, *words: str) -> subprocess.Popen:
-        command = [sys.executable, "-m", f"distributed.cli.dask_{kind}", "--scheduler-file", str(self._file), *words]
+        command = [sys.executable, "-m", f"distributed.cli.dask_{kind}", "--host", "127.0.0.1"]
+        command += ["--scheduler-file", str(self._file), *words]
         with Path(self._folder, f"{kind}.log").open("a") as log:
             return subprocess.Popen(command, cwd=self._folder, stdin=subprocess.DEVNULL, stdout=log, stderr=log)
 
