@@ -38,6 +38,40 @@ static void granted(void)
     }
 }
 
+/* That the library reads a name of the standard as these rights. */
+static void names(const char *name, uint32_t rights)
+{
+    hudarin_mask answer = hudarin_mask_from_text(name, strlen(name));
+    HOLDS(answer.status == HUDARIN_OK && answer.mask == rights);
+}
+
+/* The constants of rights, beside what SDDL's names stand for. */
+static void rights(void)
+{
+    const uint32_t standard = HUDARIN_DELETE | HUDARIN_READ_CONTROL | HUDARIN_WRITE_DAC | HUDARIN_WRITE_OWNER;
+    const uint32_t read = HUDARIN_FILE_READ_DATA | HUDARIN_FILE_READ_EA | HUDARIN_FILE_READ_ATTRIBUTES;
+    const uint32_t write = HUDARIN_FILE_WRITE_DATA | HUDARIN_FILE_APPEND_DATA | HUDARIN_FILE_WRITE_EA | HUDARIN_FILE_WRITE_ATTRIBUTES;
+    const uint32_t key_read = HUDARIN_KEY_QUERY_VALUE | HUDARIN_KEY_ENUMERATE_SUB_KEYS | HUDARIN_KEY_NOTIFY;
+    const uint32_t key_write = HUDARIN_KEY_SET_VALUE | HUDARIN_KEY_CREATE_SUB_KEY;
+    names("GR", HUDARIN_GENERIC_READ);
+    names("GW", HUDARIN_GENERIC_WRITE);
+    names("GX", HUDARIN_GENERIC_EXECUTE);
+    names("GA", HUDARIN_GENERIC_ALL);
+    names("SD", HUDARIN_DELETE);
+    names("RC", HUDARIN_READ_CONTROL);
+    names("WD", HUDARIN_WRITE_DAC);
+    names("WO", HUDARIN_WRITE_OWNER);
+    names("FR", read | HUDARIN_READ_CONTROL | HUDARIN_SYNCHRONIZE);
+    names("FW", write | HUDARIN_READ_CONTROL | HUDARIN_SYNCHRONIZE);
+    names("FX", HUDARIN_FILE_EXECUTE | HUDARIN_FILE_READ_ATTRIBUTES | HUDARIN_READ_CONTROL | HUDARIN_SYNCHRONIZE);
+    names("FA", read | write | HUDARIN_FILE_EXECUTE | HUDARIN_FILE_DELETE_CHILD | standard | HUDARIN_SYNCHRONIZE);
+    names("KR", key_read | HUDARIN_READ_CONTROL);
+    names("KW", key_write | HUDARIN_READ_CONTROL);
+    names("KA", key_read | key_write | HUDARIN_KEY_CREATE_LINK | standard);
+    names("0x1000000", HUDARIN_ACCESS_SYSTEM_SECURITY);
+    names("0x2000000", HUDARIN_MAXIMUM_ALLOWED);
+}
+
 /* What the four generic rights come to, beside the constants of the standard. */
 static void mapped(hudarin_mapping mapping, const uint32_t *rights)
 {
@@ -101,6 +135,7 @@ int main(void)
     HOLDS(library.major == HUDARIN_VERSION_MAJOR && library.minor == HUDARIN_VERSION_MINOR && library.patch == HUDARIN_VERSION_PATCH);
     longest_sid();
     group_states();
+    rights();
     granted();
     mappings();
     domains();

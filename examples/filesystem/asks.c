@@ -69,7 +69,7 @@ int asks_node(struct asking *asking, const char *path)
     if (!IS_CHECKED) {
         return 0;
     }
-    hudarin_view_verdict answer = verdict(asking, path, FILE_READ_ATTRIBUTES);
+    hudarin_view_verdict answer = verdict(asking, path, HUDARIN_FILE_READ_ATTRIBUTES);
     return answer.answer.status == HUDARIN_OK ? 0 : error_of(answer.answer.status, answer.answer.fault);
 }
 
@@ -124,14 +124,14 @@ static int asks_either(struct asking *asking, const char *path, uint32_t mask, u
 
 int asks_seen(struct asking *asking, const char *path, bool is_folder)
 {
-    int asked = asks_either(asking, path, FILE_READ_ATTRIBUTES, FILE_READ_DATA);
-    asked = asked == -EACCES && is_folder ? asks_quietly(asking, path, FILE_EXECUTE) : asked;
-    return said(asked, path, FILE_READ_ATTRIBUTES);
+    int asked = asks_either(asking, path, HUDARIN_FILE_READ_ATTRIBUTES, HUDARIN_FILE_READ_DATA);
+    asked = asked == -EACCES && is_folder ? asks_quietly(asking, path, HUDARIN_FILE_EXECUTE) : asked;
+    return said(asked, path, HUDARIN_FILE_READ_ATTRIBUTES);
 }
 
 int asks_delete(struct asking *asking, const char *path)
 {
-    return said(asks_either(asking, path, RIGHT_DELETE, FILE_DELETE_CHILD), path, RIGHT_DELETE);
+    return said(asks_either(asking, path, HUDARIN_DELETE, HUDARIN_FILE_DELETE_CHILD), path, HUDARIN_DELETE);
 }
 
 int asks_once(const char *path, uint32_t mask)

@@ -191,7 +191,7 @@ static bool is_within(const char *from, const char *to)
 static int rename_nodes(struct asking *asking, const char *from, const char *to, bool is_there)
 {
     struct sid owner;
-    bool keeps = !is_within(from, to) && !asks_all(asking, from, RIGHT_WRITE_DAC);
+    bool keeps = !is_within(from, to) && !asks_all(asking, from, HUDARIN_WRITE_DAC);
     int result = is_there ? store_owner(to, &owner) : 0;
     result = result < 0 || !keeps ? result : store_edit(HUDARIN_EDIT_PROTECT_KEEPING, from, NULL, 0);
     result = result < 0 || !is_there ? result : store_edit(HUDARIN_EDIT_REMOVE, to, NULL, 0);
@@ -311,8 +311,8 @@ static int give_owned(struct asking *asking, const char *path, const struct part
 static int edit_parts(const char *path, struct parts *parts)
 {
     struct asking asking;
-    uint32_t mask = parts->dacl == NULL ? 0 : RIGHT_WRITE_DAC;
-    mask |= parts->owner == NULL && parts->group == NULL ? 0 : RIGHT_WRITE_OWNER;
+    uint32_t mask = parts->dacl == NULL ? 0 : HUDARIN_WRITE_DAC;
+    mask |= parts->owner == NULL && parts->group == NULL ? 0 : HUDARIN_WRITE_OWNER;
     int result = edit_begin(&asking);
     result = result < 0 ? result : asks(&asking, path, mask);
     result = result < 0 ? result : give_owned(&asking, path, parts);

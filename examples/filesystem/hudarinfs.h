@@ -24,19 +24,7 @@
 #define PATH_ROOM (65 * 256 + 1)
 #define DEEPEST 64
 
-/* ---- masks.c: the rights of files, as [MS-SMB2] 2.2.13.1 numbers them; in brackets those of a folder. */
-
-#define FILE_READ_DATA 0x1u        /* FILE_LIST_DIRECTORY */
-#define FILE_WRITE_DATA 0x2u       /* FILE_ADD_FILE */
-#define FILE_APPEND_DATA 0x4u      /* FILE_ADD_SUBDIRECTORY */
-#define FILE_EXECUTE 0x20u         /* FILE_TRAVERSE */
-#define FILE_DELETE_CHILD 0x40u
-#define FILE_READ_ATTRIBUTES 0x80u
-#define FILE_WRITE_ATTRIBUTES 0x100u
-#define RIGHT_DELETE 0x10000u
-#define RIGHT_READ_CONTROL 0x20000u
-#define RIGHT_WRITE_DAC 0x40000u
-#define RIGHT_WRITE_OWNER 0x80000u
+/* ---- masks.c: which rights of the library's header an operation asks for */
 
 /* What an open with these flags asks of a file. */
 uint32_t mask_of_open(int flags);

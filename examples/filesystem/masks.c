@@ -12,15 +12,15 @@ uint32_t mask_of_open(int flags)
     uint32_t mask = 0;
     int way = flags & O_ACCMODE;
     if ((flags & OPENED_TO_EXECUTE) != 0) {
-        mask |= FILE_EXECUTE;
+        mask |= HUDARIN_FILE_EXECUTE;
     } else if (way != O_WRONLY) {
-        mask |= FILE_READ_DATA;
+        mask |= HUDARIN_FILE_READ_DATA;
     }
     if (way != O_RDONLY) {
-        mask |= (flags & O_APPEND) != 0 ? FILE_APPEND_DATA : FILE_WRITE_DATA;
+        mask |= (flags & O_APPEND) != 0 ? HUDARIN_FILE_APPEND_DATA : HUDARIN_FILE_WRITE_DATA;
     }
     if ((flags & O_TRUNC) != 0) {
-        mask |= FILE_WRITE_DATA;
+        mask |= HUDARIN_FILE_WRITE_DATA;
     }
     return mask;
 }
@@ -28,13 +28,13 @@ uint32_t mask_of_open(int flags)
 uint32_t mask_of_access(int how)
 {
     uint32_t mask = 0;
-    mask |= (how & R_OK) != 0 ? FILE_READ_DATA : 0;
-    mask |= (how & W_OK) != 0 ? FILE_WRITE_DATA : 0;
-    mask |= (how & X_OK) != 0 ? FILE_EXECUTE : 0;
+    mask |= (how & R_OK) != 0 ? HUDARIN_FILE_READ_DATA : 0;
+    mask |= (how & W_OK) != 0 ? HUDARIN_FILE_WRITE_DATA : 0;
+    mask |= (how & X_OK) != 0 ? HUDARIN_FILE_EXECUTE : 0;
     return mask;
 }
 
 uint32_t mask_of_adding(bool is_folder)
 {
-    return is_folder ? FILE_APPEND_DATA : FILE_WRITE_DATA;
+    return is_folder ? HUDARIN_FILE_APPEND_DATA : HUDARIN_FILE_WRITE_DATA;
 }

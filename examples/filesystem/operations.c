@@ -93,7 +93,7 @@ static int op_statfs(const char *path, struct statvfs *found)
 static int op_opendir(const char *path, struct fuse_file_info *info)
 {
     info->fh = 0;
-    return asks_once(path, FILE_READ_DATA);
+    return asks_once(path, HUDARIN_FILE_READ_DATA);
 }
 
 /* Names that the view doesn't know aren't listed: symlinks, special files, and what came without the server. */
@@ -174,7 +174,7 @@ static int opened(int fd, uid_t uid, struct fuse_file_info *info)
     open_is(fd, uid);
     info->fh = handle_of(fd, mask);
     /* Pages that are mapped and written could reach the file by another's handle, and not at its end. */
-    info->direct_io = (mask & (FILE_APPEND_DATA | FILE_WRITE_DATA)) == FILE_APPEND_DATA;
+    info->direct_io = (mask & (HUDARIN_FILE_APPEND_DATA | HUDARIN_FILE_WRITE_DATA)) == HUDARIN_FILE_APPEND_DATA;
     return 0;
 }
 
@@ -226,14 +226,14 @@ static int op_write(const char *path, const char *bytes, size_t size, off_t offs
 
 static int op_truncate(const char *path, off_t size, struct fuse_file_info *info)
 {
-    if (info != NULL && (granted_of(info) & FILE_WRITE_DATA) == 0) {
+    if (info != NULL && (granted_of(info) & HUDARIN_FILE_WRITE_DATA) == 0) {
         say("a file that was opened without 0x2 isn't truncated");
         return -EACCES;
     }
     if (info != NULL) {
         return result_of(ftruncate(fd_of(info), size));
     }
-    int asked = asks_once(path, FILE_WRITE_DATA);
+    int asked = asks_once(path, HUDARIN_FILE_WRITE_DATA);
     int fd = asked < 0 ? asked : folder_at(path, O_WRONLY);
     if (fd < 0) {
         return fd;
@@ -249,7 +249,7 @@ static int op_utimens(const char *path, const struct timespec times[2], struct f
     if (path == NULL) {
         return -ENOENT;
     }
-    int asked = asks_once(path, FILE_WRITE_ATTRIBUTES);
+    int asked = asks_once(path, HUDARIN_FILE_WRITE_ATTRIBUTES);
     int fd = asked < 0 ? asked : folder_at(path, O_RDONLY);
     if (fd < 0) {
         return fd;
@@ -344,7 +344,7 @@ static int op_getxattr(const char *path, const char *name, char *room, size_t si
         return -ENOTSUP;
     }
     int result = asking_begin(&asking);
-    result = result < 0 ? result : asks(&asking, path, RIGHT_READ_CONTROL);
+    result = result < 0 ? result : asks(&asking, path, HUDARIN_READ_CONTROL);
     result = result < 0 ? result : read_descriptor(&asking, path, is_text, room, size);
     asking_end(&asking);
     return result;
