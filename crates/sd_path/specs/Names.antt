@@ -9,11 +9,11 @@ use Rattle.std.specs.Str.{bytes_eq}
 abbrev pub Names : Type 0
 Names = List (List ℕ)
 
--- paths are ordered by their names, and names by their bytes: a path stands before all that stands below it
+-- paths are ordered by their names, and names by their bytes: a path precedes the paths below it
 abbrev pub names_cmp : Names → Names → Ordering
 names_cmp = slice_cmp (slice_cmp nat_cmp)
 
--- the path of what holds it, for every path but the root's
+-- the parent's path; the root's is the root
 abbrev pub up : Names → Names
 up [] = []
 up (name ∷ []) = []
@@ -23,13 +23,13 @@ abbrev pub is_root : Names → Bool
 is_root [] = true
 is_root (name ∷ names) = false
 
--- whether a path is the top or stands below it: the top is a beginning of it
+-- whether a path is the top or is below it: the top is a prefix of it
 abbrev pub is_within : Names → Names → Bool
 is_within [] path = true
 is_within (name ∷ top) [] = false
 is_within (name ∷ top) (first ∷ path) = bytes_eq name first && is_within top path
 
--- the path with the target in place of the source that it begins with; one that doesn't begin with that stays
+-- the path with its prefix, the source, replaced by the target; a path without that prefix stays as it is
 abbrev pub moved_path : Names → Names → Names → Names
 moved_path source target path = if is_within source path then target ++ drop (length source) path else path
 
@@ -46,7 +46,7 @@ pub record IsPath (path : Names) : Type 0 where
   pub at_most : length path ≤ 128
   pub named : list_all is_name path ≡ true
 
--- ---- how a path is kept: as one byte string, in which each name is ended by a zero byte
+-- ---- how a path is stored: as one byte string, with a zero byte after each name
 
 abbrev pub ended : Names → List ℕ
 ended [] = []
@@ -56,7 +56,7 @@ abbrev pub names_of : List ℕ → Names
 names_of [] = []
 names_of (b ∷ bs) = if b == 0 then [] ∷ names_of bs else onto_first b (names_of bs)
 
--- the bytes keep a path of so many names
+-- the bytes store a path of so many names
 pub record Keeps (bytes : List ℕ) (count : ℕ) : Type 0 where
   pub whole : ended (names_of bytes) ≡ bytes
   pub counted : length (names_of bytes) ≡ count

@@ -6,10 +6,10 @@ ghost use Rattle.sd_path.specs.PathText.{path_error_number};
 use std::alloc::AllocError;
 use thiserror::Error;
 
-/// Why a text isn't read as a path.
+/// Why a text is no path, or why a path has no child of this name.
 #[derive(Clone, Copy, Debug, PartialEq, Eq, Error)]
 pub enum PathError {
-    /// There is no leading `/`, or a name is empty or has a zero byte.
+    /// The text doesn't begin with `/`, or a name is empty or has a zero byte.
     #[error("a path begins with / and has no empty name and no zero byte")]
     Syntax,
     /// A name has more than 255 bytes.
@@ -18,7 +18,7 @@ pub enum PathError {
     /// There are more than 128 names.
     #[error("a path has at most 128 names")]
     TooManyNames,
-    /// Memory was refused.
+    /// Out of memory.
     #[error("memory was refused")]
     Memory,
 }

@@ -1,4 +1,4 @@
-//! Paths that are lent, so that a tree is searched without memory.
+//! Borrowed paths, so that a tree is searched without an allocation.
 
 ghost use Rattle.std.specs.Prelude.{◌≡◌, ◌≤◌, ◌-◌, [], ◌∷◌, ◌++◌, length, take, MatchOption};
 ghost use Rattle.sd_path.specs.Names.{names_cmp, up, is_root, is_within, ended, names_of, Keeps};
@@ -6,7 +6,7 @@ ghost use Rattle.sd_path.specs.Names.{names_cmp, up, is_root, is_within, ended, 
 use std::cmp::Ordering;
 use std::marker::Model;
 
-/// A path that is kept elsewhere. Contracts see it as the list of its names.
+/// A borrowed path. Contracts see it as the list of its names.
 #[derive(Drop)]
 pub struct PathRef<'a> {
     pub(crate) bytes: &'a [u8],
@@ -39,7 +39,7 @@ impl<'a> PathRef<'a> {
         self.count == 0
     }
 
-    /// The path of what holds it; the root's is the root.
+    /// The parent's path; the root's is the root.
     pub fn parent(&self) -> PathRef<'a>
         ensures { result ≡ up self.now }
     {
@@ -60,14 +60,14 @@ impl<'a> PathRef<'a> {
         Some(&self.bytes[parent_len(self.bytes)..end])
     }
 
-    /// How the two stand in the order of paths.
+    /// The order of the two paths.
     pub fn compare(&self, other: &PathRef) -> Ordering
         ensures { result ≡ names_cmp self.now other.now }
     {
         self.bytes.cmp(other.bytes)
     }
 
-    /// Whether it is the top or stands below it.
+    /// Whether it is the top or is below it.
     pub fn is_within(&self, top: &PathRef) -> bool
         ensures { result ≡ is_within top.now self.now }
     {
@@ -75,7 +75,7 @@ impl<'a> PathRef<'a> {
     }
 }
 
-/// How many of the bytes keep the path of what holds it.
+/// How many of the bytes are the parent's path.
 fn parent_len(bytes: &[u8]) -> usize
     requires { Keeps bytes.now (length (names_of bytes.now)) }
     ensures front { take result bytes.now ≡ ended (up (names_of bytes.now)) }

@@ -1,7 +1,7 @@
-//! Names and paths of securable nodes, and the texts that they are read from.
+//! Names and paths of securable nodes, parsed from texts.
 //!
-//! A path is the list of its names from the root down, `/` the root's. Paths are ordered by their names, so that each
-//! stands before all that stands below it. The rules are told in docs/TREE.md.
+//! A path is the list of its names from the root down; the root's is `/`. Paths are ordered by their names, so each
+//! precedes the paths below it. docs/TREE.md has the rules.
 //!
 //! ```text
 //! let path = Path::read(alloc, "/share/plans")?;

@@ -8,8 +8,8 @@ use crate::error::PathError;
 use crate::read::{MAX_NAME_BYTES, name_len};
 use std::marker::Model;
 
-/// A name of a path, lent from its text: 1 to 255 bytes of UTF-8, without `/` and without a zero byte. Contracts see its
-/// bytes.
+/// A name of a path, borrowed from its text: 1 to 255 bytes of UTF-8, without `/` and without a zero byte. Contracts
+/// see its bytes.
 #[derive(Debug, Drop)]
 pub struct Name<'a> {
     text: &'a str,
@@ -27,8 +27,8 @@ impl<'a> Model for Name<'a> {
 }
 
 impl<'a> Name<'a> {
-    /// Reads a name: `Syntax` where the text is empty or has a `/` or a zero byte, and else `NameTooLong` where it has more
-    /// than 255 bytes. Takes no memory.
+    /// Parses a name. `Syntax` if the text is empty or has a `/` or a zero byte, else `NameTooLong` if it has more than
+    /// 255 bytes. Allocates nothing.
     pub fn read(text: &'a str) -> Result<Name<'a>, PathError>
         ensures { MatchResult result
             (λ name. (name ≡ text.entry.now) × (name_fault text.entry.now ≡ None))

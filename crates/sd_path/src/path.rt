@@ -14,7 +14,7 @@ use std::marker::Model;
 /// A path: at most 128 names, from the root down. Contracts see it as the list of its names.
 #[derive(Debug, Drop)]
 pub struct Path {
-    /// Each name is ended by a zero byte, so that paths compare as their bytes do.
+    /// A zero byte ends each name, so that paths compare as their bytes do.
     pub(crate) bytes: Vec<u8>,
     /// The number of names.
     pub(crate) count: u8,
@@ -32,7 +32,7 @@ impl Model for Path {
 }
 
 impl Path {
-    /// The root's path. Takes no memory.
+    /// The root's path. Allocates nothing.
     pub fn root(alloc: Global) -> Path
         ensures { result ≡ [] }
     {
@@ -42,7 +42,7 @@ impl Path {
         }
     }
 
-    /// The same path, lent.
+    /// The same path, borrowed.
     pub fn as_path_ref(&self) -> PathRef<'_>
         ensures { result ≡ self.now }
     {
@@ -52,7 +52,7 @@ impl Path {
         }
     }
 
-    /// The path of the node with this name right below: `TooManyNames` where the path has 128 names already.
+    /// The path of a child with this name. `TooManyNames` if the path has 128 names already.
     pub fn child(&self, alloc: Global, name: &Name) -> Result<Path, PathError>
         ensures { IsChildOf self.now name.now result }
     {
@@ -66,7 +66,7 @@ impl Path {
         })
     }
 
-    /// The path with the target in place of the source that it begins with, where that has no more than 128 names.
+    /// The path with its prefix, the source, replaced by the target. The result must have at most 128 names.
     pub fn moved(
         &self,
         alloc: Global,
@@ -98,7 +98,7 @@ impl Path {
     }
 }
 
-/// The bytes of a path with one more name, which is ended by a zero byte too.
+/// The bytes of a path with one more name and the zero byte that ends it.
 fn with_name(alloc: Global, above: &[u8], name: &[u8]) -> Result<Vec<u8>, AllocError>
     ensures { IfOk result (λ bytes. bytes.items ≡ above.now ++ name.now ++ 0 ∷ []) }
 {
@@ -109,7 +109,7 @@ fn with_name(alloc: Global, above: &[u8], name: &[u8]) -> Result<Vec<u8>, AllocE
     Ok(bytes)
 }
 
-/// The bytes of two slices, one behind the other.
+/// The bytes of two slices, one after the other.
 fn joined(alloc: Global, front: &[u8], back: &[u8]) -> Result<Vec<u8>, AllocError>
     ensures { IfOk result (λ bytes. bytes.items ≡ front.now ++ back.now) }
 {

@@ -18,7 +18,7 @@ impl fmt::Display for Name<'_> {
     }
 }
 
-/// Prints the text that is read as the path: `/` for the root, and else each name led by `/`.
+/// Prints the text that parses as the path: `/` for the root, else each name after a `/`.
 impl fmt::Display for Path {
     ghost output = { λ path. Some (text_of path) };
 
@@ -32,7 +32,7 @@ impl fmt::Display for Path {
     }
 }
 
-/// Writes each name, led by `/`.
+/// Writes each name after a `/`.
 fn write_names<W: fmt::Write>(path: &PathRef<'_>, f: &mut fmt::Formatter<W>) -> fmt::Result
     ensures { WritesOnOk W.Write.write_str_gives f.old result (slashed path.now) f.new }
 {

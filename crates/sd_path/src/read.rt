@@ -16,8 +16,8 @@ pub(crate) const MAX_NAMES: u8 = 128;
 pub(crate) const MAX_NAME_BYTES: usize = 255;
 
 impl Path {
-    /// Reads a path: `/` is the root, and else each name is led by `/`. Names are judged from the left, so the first
-    /// fault is answered; memory is asked for once, behind the last name, where there is one.
+    /// Parses a path: `/` is the root, else each name follows a `/`. Names are tested from the left; returns the first
+    /// fault. There is one allocation, after the last name, and none for the root.
     pub fn read(alloc: Global, text: &str) -> Result<Path, PathError>
         ensures { IsReadAs (path_of text.now) result }
     {
@@ -39,7 +39,7 @@ impl Path {
     }
 }
 
-/// The number of names, where each is one.
+/// The number of names, if each is valid.
 fn count_names(names: &[u8]) -> Result<u8, PathError>
     ensures { MatchResult result
         (λ count. (fault_of 128 (between_slashes names.now) ≡ None) × (count ≡ length (between_slashes names.now)))
@@ -57,10 +57,11 @@ fn count_names(names: &[u8]) -> Result<u8, PathError>
     Err(PathError::TooManyNames)
 }
 
-/// The bytes before the first `/`, or all, where they are a name: how many they are.
+/// The length of the first name: the bytes before the first `/`, or all of them.
 fn first_name(text: &[u8]) -> Result<usize, PathError>
     ensures { MatchResult result
-        (λ len. (len ≡ position_or_len (λ b. b == 0x2F) text.now) × (name_fault (before_first (λ b. b == 0x2F) text.now) ≡ None))
+        (λ len. (len ≡ position_or_len (λ b. b == 0x2F) text.now)
+        × (name_fault (before_first (λ b. b == 0x2F) text.now) ≡ None))
         (λ fault. name_fault (before_first (λ b. b == 0x2F) text.now) ≡ Some fault) }
 {
     let len = name_len(text);
@@ -76,7 +77,7 @@ fn first_name(text: &[u8]) -> Result<usize, PathError>
     }
 }
 
-/// How many bytes that a name may have stand at the front.
+/// How many bytes at the front may be in a name.
 pub(crate) fn name_len(text: &[u8]) -> usize
     ensures { result ≡ prefix_len is_name_byte text.now }
 {
@@ -88,7 +89,7 @@ pub(crate) fn name_len(text: &[u8]) -> usize
     text.len()
 }
 
-/// The names, each ended by a zero byte.
+/// The names, a zero byte after each.
 fn ended_names(alloc: Global, names: &[u8]) -> Result<Vec<u8>, AllocError>
     ensures { IfOk result (λ bytes. bytes.items ≡ ended (between_slashes names.now)) }
 {

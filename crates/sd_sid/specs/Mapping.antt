@@ -10,15 +10,15 @@ pub record MappingValue : Type 0 where
   pub execute : ℕ
   pub all : ℕ
 
--- each mask is within the object's own rights and the standard ones: the places below 21
+-- each mask is within the object's own rights and the standard ones: the bits below 21
 pub record IsMapping (g : MappingValue) : Type 0 where
   pub read : g.read < 2 ^ 21
   pub write : g.write < 2 ^ 21
   pub execute : g.execute < 2 ^ 21
   pub all : g.all < 2 ^ 21
 
--- the place is one of the mapped mask: it isn't generic and stands in the mask, or a generic right that
--- stands in the mask is mapped to it
+-- the bit is one of the mapped mask: it isn't generic and the mask has it, or a generic right that the mask has is
+-- mapped to it
 abbrev pub is_mapped : MappingValue → ℕ → ℕ → Bool
 is_mapped g m b =
     (holds m b && nat_lt b 28)
@@ -27,7 +27,7 @@ is_mapped g m b =
     || (holds m 29 && holds g.execute b)
     || (holds m 28 && holds g.all b)
 
--- the mask without its generic places, joined with what the mapping gives for each of them
+-- the mask without its generic bits, joined with the mapping's mask for each of them
 abbrev pub mapped : MappingValue → ℕ → ℕ
 mapped g m = mask_of (is_mapped g m) 32
 

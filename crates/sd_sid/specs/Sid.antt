@@ -26,7 +26,7 @@ sid_of authority subs =
     else if nat_lt authority (2 ^ 48) then Ok (record { authority = authority; subs = subs })
     else Err Authority
 
--- how a SID is kept: the sub-authorities at the front of fifteen padded, zeros behind them
+-- how a SID is stored: fifteen sub-authorities, of which the unused last ones are zeros
 pub record IsPadded (number : ℕ) (padded : List ℕ) (count : ℕ) : Type 0 where
   pub authority : number < 2 ^ 48
   pub some : 0 < count

@@ -1,4 +1,4 @@
--- That a SID's value gives back the fields that it is kept in.
+-- A SID's fields, from its value.
 use Rattle.std.specs.Prelude.{◌≡◌, ℕ, ◌-◌, ◌++◌, length, take, replicate, List}
 use Rattle.std.proofs.Common.{ap, sym, ◌∙◌, arith}
 use Rattle.std.proofs.lemmas.List.{length-take-le, take-append-drop}

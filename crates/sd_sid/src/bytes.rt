@@ -9,12 +9,12 @@ use crate::lent::{REVISION, SidRef};
 use crate::sid::{MAX_SUBS, Sid, SidError};
 use std::alloc::{AllocError, Global};
 
-/// What stands before the sub-authorities: the revision, their number, and six bytes of authority.
+/// The length of what precedes the sub-authorities: the revision, their count, and six bytes of authority.
 pub const SID_HEADER_BYTES: usize = 8;
 
-/// The SID at the front of the bytes, and its length, 8 and 4 for each sub-authority ([MS-DTYP] 2.4.2.2).
-/// `Short` where there are fewer than 8 bytes; then `Revision` where the first isn't 1, `Count` where the second
-/// isn't 1 to 15, and `Short` where the sub-authorities pass the end. Takes no memory.
+/// Parses the SID at the front of the bytes. Returns it and its length in bytes: 8, and 4 for each sub-authority
+/// ([MS-DTYP] 2.4.2.2). `Short` if there are fewer than 8 bytes; then `Revision` if the first isn't 1, `Count` if the
+/// second isn't 1 to 15, and `Short` if the sub-authorities pass the end. Allocates nothing.
 #[inline(always)]
 pub fn read_sid(bytes: &[u8]) -> Result<(Sid, u64), SidError>
     ensures read { result ≡ sid_reading bytes.now }
@@ -26,7 +26,7 @@ pub fn read_sid(bytes: &[u8]) -> Result<(Sid, u64), SidError>
     }
 }
 
-/// The six bytes of authority, the most significant first.
+/// The authority: six bytes, big-endian.
 #[inline(always)]
 pub(crate) fn authority_in(bytes: &[u8]) -> u64
     requires { 8 ≤ length bytes.now }
@@ -38,7 +38,7 @@ pub(crate) fn authority_in(bytes: &[u8]) -> u64
     ])
 }
 
-/// The sub-authorities, four bytes each, the least significant first; zeros behind them.
+/// The sub-authorities, four bytes each, little-endian, padded with zeros.
 #[inline(always)]
 pub(crate) fn subs_of(bytes: &[u8], count: usize) -> [u32; MAX_SUBS]
     requires few { count ≤ 15 }
@@ -53,7 +53,7 @@ pub(crate) fn subs_of(bytes: &[u8], count: usize) -> [u32; MAX_SUBS]
     each_sub_of(bytes, count)
 }
 
-/// The same, one behind the other.
+/// The same, one after the other.
 #[inline(always)]
 fn each_sub_of(bytes: &[u8], count: usize) -> [u32; MAX_SUBS]
     requires few { count ≤ 15 }
@@ -69,7 +69,8 @@ fn each_sub_of(bytes: &[u8], count: usize) -> [u32; MAX_SUBS]
     subs
 }
 
-/// The same of five, as the SIDs of a domain's accounts have: without the loop, which costs more than all else here.
+/// The same for five, the number in SIDs of a domain's accounts. Only for speed: without a loop, the larger part of the
+/// cost.
 #[inline(always)]
 fn five_subs_of(bytes: &[u8]) -> [u32; MAX_SUBS]
     requires { 28 ≤ length bytes.now }
@@ -87,7 +88,7 @@ fn five_subs_of(bytes: &[u8]) -> [u32; MAX_SUBS]
     ]
 }
 
-/// The sub-authority at a place.
+/// The sub-authority at an offset.
 #[inline(always)]
 pub(crate) fn sub_at(bytes: &[u8], at: usize) -> u32
     requires { at + 4 ≤ length bytes.now }
@@ -105,8 +106,8 @@ pub fn sid_bytes(alloc: Global, sid: &Sid) -> Result<Vec<u8>, AllocError>
     Ok(bytes)
 }
 
-/// Writes the bytes of a SID behind those that are there ([MS-DTYP] 2.4.2.2), which stay as they were where there is no
-/// memory for the SID's. None is taken where there is room for them.
+/// Appends the bytes of a SID ([MS-DTYP] 2.4.2.2). If memory runs out the bytes stay as they were. Allocates nothing if
+/// the capacity suffices.
 #[tactic(auto, unfolding(crate::specs::SidBytes::bytes_of_sid))]
 pub fn push_sid(bytes: &mut Vec<u8>, sid: &Sid) -> Result<(), AllocError>
     ensures ok { OnOk result (bytes.new.items ≡ bytes.old.items ++ bytes_of_sid sid.now) }
@@ -125,7 +126,7 @@ pub fn push_sid(bytes: &mut Vec<u8>, sid: &Sid) -> Result<(), AllocError>
     Ok(())
 }
 
-/// Writes sub-authorities, four bytes each, the least significant first, for which there is room.
+/// Appends sub-authorities, four bytes each, little-endian. The capacity must suffice.
 fn push_subs(bytes: &mut Vec<u8>, subs: &[u32])
     requires { vec_len bytes.old + 4 * length subs.now ≤ vec_capacity bytes.old }
     ensures items { bytes.new.items ≡ bytes.old.items ++ flat_map (to_le_bytes w32) subs.now }
@@ -136,13 +137,13 @@ fn push_subs(bytes: &mut Vec<u8>, subs: &[u32])
     }
 }
 
-/// A law: what `sid_bytes` writes, whatever follows it, `read_sid` reads again, with its length.
+/// A law, the round trip: `read_sid` parses what `sid_bytes` writes, with its length, whatever bytes follow.
 #[tactic(auto, using(crate::proofs::SidLaws::sids_come_back))]
 pub fn sids_come_back()
     ensures { SidsComeBack }
 {}
 
-/// A law: the SID that `read_sid` reads stands at the front of the bytes, as `sid_bytes` writes it.
+/// A law: a SID that `read_sid` parses is a prefix of the bytes in the form that `sid_bytes` writes.
 #[tactic(auto, using(crate::proofs::SidLaws::sids_stand))]
 pub fn sids_stand()
     ensures { SidsStand }

@@ -1,4 +1,4 @@
-//! SIDs that stay in their bytes.
+//! SIDs borrowed from their bytes.
 
 ghost use Rattle.std.specs.Prelude.{◌≡◌, ◌+◌, ◌-◌, ◌*◌, ◌≤◌, length, slice_index, IfOk};
 ghost use Rattle.sd_sid.specs.Sid.{same_sid, owner_rights};
@@ -11,7 +11,7 @@ use std::marker::Model;
 /// The only revision of a SID ([MS-DTYP] 2.4.2.2, Revision).
 pub(crate) const REVISION: u8 = 1;
 
-/// A SID that is lent from its bytes: they passed their tests, and nothing is copied ([MS-DTYP] 2.4.2.2). Contracts see
+/// A SID borrowed from bytes that passed the tests of `read_sid`; nothing is copied ([MS-DTYP] 2.4.2.2). Contracts see
 /// it as the SID.
 #[derive(Drop)]
 pub struct SidRef<'a> {
@@ -32,7 +32,7 @@ impl<'a> Model for SidRef<'a> {
 }
 
 impl<'a> SidRef<'a> {
-    /// The SID at the front of the bytes, and its length, or the first test that they don't pass, as `read_sid` tells them.
+    /// Parses the SID at the front of the bytes. Returns it and its length, or the error that `read_sid` returns.
     #[inline(always)]
     #[tactic(auto, unfolding(crate::specs::SidBytes::sid_reading))]
     pub fn read(bytes: &'a [u8]) -> Result<(SidRef<'a>, u64), SidError>
@@ -56,7 +56,7 @@ impl<'a> SidRef<'a> {
         Ok((SidRef { bytes, count }, size as u64))
     }
 
-    /// The same SID, lent once more.
+    /// The same SID, borrowed again.
     #[inline(always)]
     pub fn again(&self) -> SidRef<'a>
         ensures { result ≡ self.now }
@@ -67,7 +67,7 @@ impl<'a> SidRef<'a> {
         }
     }
 
-    /// The SID, copied out of its bytes.
+    /// A copy of the SID.
     #[inline(always)]
     pub fn copied(&self) -> Sid
         ensures { result ≡ self.now }
@@ -79,7 +79,7 @@ impl<'a> SidRef<'a> {
         )
     }
 
-    /// The same of one that is lent, where there is one.
+    /// A copy of the SID, if there is one.
     #[inline]
     pub fn copied_from(lent: &Option<SidRef<'_>>) -> Option<Sid>
         ensures { result ≡ lent.now }
@@ -101,7 +101,7 @@ impl<'a> SidRef<'a> {
         self.copied().is_owner_rights()
     }
 
-    /// The last sub-authority: of an account in a domain its relative identifier ([MS-DTYP] 2.4.2).
+    /// The last sub-authority: the relative identifier of an account in a domain ([MS-DTYP] 2.4.2).
     #[inline(always)]
     pub fn last_sub(&self) -> u32
         ensures { result ≡ slice_index self.now.subs (length self.now.subs - 1) }

@@ -1,7 +1,6 @@
 //! Security identifiers, access masks and generic mappings: [MS-DTYP] 2.4.2 and 2.4.3.
 //!
-//! Every other crate stands on this one. Nothing but the bytes of a SID takes memory, and nothing asks anything of
-//! the system.
+//! Every other crate depends on this one. Only the bytes of a SID are allocated, and nothing calls the system.
 //!
 //! ```text
 //! let everyone = Sid::new(1, &[0])?;

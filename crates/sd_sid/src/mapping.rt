@@ -54,7 +54,7 @@ impl BadMapping {
 pub const OBJECT_RIGHTS: Mask = Mask(0x001F_FFFF);
 
 impl GenericMapping {
-    /// The mapping of these four masks; refused unless each is within 0x001FFFFF.
+    /// The mapping of these four masks. `BadMapping` unless each is within 0x001FFFFF.
     pub fn new(
         read: Mask,
         write: Mask,
@@ -99,7 +99,7 @@ impl GenericMapping {
         self.all
     }
 
-    /// The mask without its four generic bits, joined with what the mapping gives for each that was set
+    /// The mask without its four generic bits, joined with the mapping's mask for each that was set
     /// ([MS-DTYP] 2.4.3).
     pub fn map(&self, mask: Mask) -> Mask
         ensures { result ≡ mapped self.now mask }

@@ -1,12 +1,12 @@
-//! Access masks: sets of the places 0 to 31.
+//! Access masks: sets of the bits 0 to 31.
 
 ghost use Rattle.std.specs.Prelude.{◌≡◌, ◌==◌, ◌<◌, ◌&&◌, ◌||◌, not, cond};
 ghost use Rattle.sd_sid.specs.Mask.{holds, mask_of};
 
 use std::marker::Model;
 
-/// An access mask of 32 bits ([MS-DTYP] 2.4.3). Contracts see it as its number, and read it as the set of
-/// the places that it holds.
+/// An access mask of 32 bits ([MS-DTYP] 2.4.3). Contracts see it as its number, and speak of it as the set of
+/// its bits.
 #[derive(Clone, Copy, Debug, PartialEq, Eq, PartialOrd, Ord, Hash)]
 pub struct Mask(pub u32);
 
@@ -29,7 +29,7 @@ impl Mask {
         bits
     }
 
-    /// What either mask holds.
+    /// The bits of either mask.
     #[tactic(auto, using(crate::proofs::Masks::or_is))]
     pub fn union(self, other: Mask) -> Mask
         ensures { result ≡ mask_of (λ b. holds self b || holds other b) 32 }
@@ -37,7 +37,7 @@ impl Mask {
         Mask(self.0 | other.0)
     }
 
-    /// What this mask holds and the other doesn't.
+    /// The bits of this mask that the other doesn't have.
     #[tactic(auto, using(crate::proofs::Masks::minus_is))]
     pub fn minus(self, other: Mask) -> Mask
         ensures { result ≡ mask_of (λ b. holds self b && not (holds other b)) 32 }
@@ -45,7 +45,7 @@ impl Mask {
         Mask(self.0 & !other.0)
     }
 
-    /// What both masks hold.
+    /// The bits that both masks have.
     #[tactic(auto, using(crate::proofs::Masks::and_is))]
     pub fn common(self, other: Mask) -> Mask
         ensures { result ≡ mask_of (λ b. holds self b && holds other b) 32 }
@@ -53,14 +53,14 @@ impl Mask {
         Mask(self.0 & other.0)
     }
 
-    /// Whether no place is held.
+    /// Whether no bit is set.
     pub fn is_empty(self) -> bool
         ensures { result ≡ (self == 0) }
     {
         self.0 == 0
     }
 
-    /// Whether a place is held.
+    /// Whether a bit is set.
     pub fn holds(self, place: u32) -> bool
         requires { place < 32 }
         ensures { result ≡ holds self place }
@@ -68,7 +68,7 @@ impl Mask {
         (self.0 >> place) & 1 == 1
     }
 
-    /// The mask where the test holds, and else the empty one.
+    /// The mask if the test holds, else the empty one.
     pub fn when(self, test: bool) -> Mask
         ensures { result ≡ cond test self 0 }
     {

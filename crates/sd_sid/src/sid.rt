@@ -15,8 +15,8 @@ pub const MAX_SUBS: usize = 15;
 pub const AUTHORITY_LIMIT: u64 = 0x1_0000_0000_0000;
 
 /// A security identifier ([MS-DTYP] 2.4.2): an authority below 2^48, and 1 to 15 sub-authorities of 32 bits.
-/// Contracts see it as that pair. It is a plain value: two are compared whole, without a look at the number
-/// of sub-authorities first, since those that a SID doesn't have are kept as zeros.
+/// Contracts see it as that pair. It is a plain value: two are compared whole, without a test of the number of
+/// sub-authorities, since the unused ones are zeros.
 #[derive(Clone, Copy, Debug, PartialEq, Eq, PartialOrd, Ord, Hash)]
 pub struct Sid {
     authority: u64,
@@ -41,7 +41,7 @@ impl Model for Sid {
     ghost inverse_ok = { parts_come_back };
 }
 
-/// Why no SID was made or read.
+/// Why parts or bytes are no SID.
 #[derive(Clone, Copy, Debug, PartialEq, Eq)]
 pub enum SidError {
     /// The first byte isn't 1.
@@ -116,7 +116,7 @@ impl Sid {
         })
     }
 
-    /// The SID of an authority and of sub-authorities that have zeros behind them already.
+    /// The SID of an authority and of sub-authorities that are padded with zeros already.
     #[inline(always)]
     pub(crate) fn of_padded(authority: u64, subs: [u32; MAX_SUBS], count: usize) -> Sid
         requires authority { authority < 2 ^ 48 }
@@ -150,18 +150,18 @@ impl Sid {
         &self.subs[..self.count]
     }
 
-    /// Whether both are one SID: what `==` answers, for callers whose contracts speak of values.
+    /// Whether both are the same SID: as `==`, for callers whose contracts speak of values.
     #[inline]
     #[tactic(auto, using(crate::proofs::Compared::equal_by_value))]
     pub fn is(&self, other: &Sid) -> bool
         ensures { result ≡ same_sid self.now other.now }
     {
-        // (each call tells contracts what its SID is)
+        // (the two calls give contracts the value of each SID)
         let _known = (self.authority(), other.authority());
         self.may_be(other) && self == other
     }
 
-    /// Whether the fifth numbers are the same: those of a domain's accounts differ there, in the relative identifier.
+    /// Whether the fifth numbers are the same: SIDs of a domain's accounts differ there, in the relative identifier.
     #[inline]
     fn may_be(&self, other: &Sid) -> bool
         ensures { same_sid self.now other.now ≡ true → result ≡ true }
@@ -184,9 +184,9 @@ impl Sid {
     }
 }
 
-/// The law that `==` and `cmp` of SIDs, which compare how they are kept, are those of their values: two SIDs
-/// are equal where they have the same authority and the same sub-authorities, and they are ordered by the
-/// authority and then by the list of sub-authorities ([MS-DTYP] 2.4.2).
+/// A law: `==` and `cmp` of SIDs, which compare their fields, agree with those of their values. Two SIDs are equal if
+/// they have the same authority and the same sub-authorities; they are ordered by the authority, then by the list of
+/// sub-authorities ([MS-DTYP] 2.4.2).
 pub fn sids_compare_by_value()
     ensures equal { (a b : SidValue) → IsSid a → IsSid b → ⟦<Sid as PartialEq>⟧.eq a b ≡ same_sid a b }
     ensures same { (a b : SidValue) → IsTrue (same_sid a b) ↔ (a ≡ b) }

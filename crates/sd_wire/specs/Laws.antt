@@ -6,15 +6,15 @@ use Rattle.sd_wire.specs.Reading.{descriptor_read}
 use Rattle.sd_wire.specs.Standing.{Holds}
 use Rattle.sd_wire.specs.Writing.{wire_of}
 
--- what is written is read again
+-- what is written is parsed again
 abbrev pub DescriptorsComeBack : Type 0
 DescriptorsComeBack = (d : DescriptorValue) → IsDescriptor d → HaveNamedFlags d.dacl → descriptor_read (wire_of d) ≡ Ok d
 
--- what is read stands in the bytes
+-- what is parsed is in the bytes
 abbrev pub ReadingsAreHeld : Type 0
 ReadingsAreHeld = (bytes : List ℕ) (d : DescriptorValue) → ((i : ℕ) → slice_index bytes i < 256) → descriptor_read bytes ≡ Ok d → Holds bytes d
 
--- what stands in the bytes is read
+-- what is in the bytes is parsed
 abbrev pub WhatIsHeldIsRead : Type 0
 WhatIsHeldIsRead = (bytes : List ℕ) (d : DescriptorValue) → IsDescriptor d → Holds bytes d → descriptor_read bytes ≡ Ok d
 

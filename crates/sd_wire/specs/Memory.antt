@@ -1,10 +1,10 @@
--- Where a reading takes memory: for the entries of a list, once all that stands before them was read.
+-- When a parse allocates: for the entries of a list, once all that precedes them has passed its tests.
 use Rattle.std.specs.Prelude.{◌≡◌, ℕ, ◌+◌, ◌<◌, ◌≤◌, true, List, Ok, IsOk}
 use Rattle.sd_sid.specs.SidBytes.{u32_at}
 use Rattle.sd_wire.specs.Reading.{u16_at, is_set, trustee_read, control_read}
 use Rattle.sd_wire.specs.Standing.{ListBegins}
 
--- a list begins at the place, counts an entry, and has room for the 16 bytes of one behind its header
+-- a list begins at the offset, counts an entry, and has room for the 16 bytes of one after its header
 pub record HasEntries (bytes : List ℕ) (o : ℕ) : Type 0 where
   pub begins : ListBegins bytes o
   pub counted : 0 < u16_at bytes (o + 4)

@@ -1,4 +1,4 @@
--- A descriptor in parts, before its entries are read: where they stand, and what reading them would give.
+-- A descriptor in parts, before its entries are parsed: their positions, and what parsing them would give.
 use Rattle.std.specs.Prelude.{◌≡◌, ℕ, ◌+◌, ◌≤◌, List, length, Result, Ok}
 use Rattle.sd_acl.specs.Descriptor.{DescriptorValue}
 use Rattle.sd_acl.specs.declared.descriptor.Dacl.{Dacl}
@@ -11,13 +11,13 @@ use Rattle.sd_wire.specs.declared.parts.EntryPlaces.{EntryPlaces}
 use Rattle.sd_wire.specs.Reading.{◌>>=◌, descriptor_read, entries_read, list_read, u16_at}
 use Rattle.sd_wire.specs.Standing.{ListBegins}
 
--- the DACL, once its entries are read
+-- the DACL, once its entries are parsed
 abbrev pub dacl_at : List ℕ → DaclPlace → Result Dacl WireFault
 dacl_at bytes places.Absent = Ok owned.Absent
 dacl_at bytes places.Null = Ok owned.Null
 dacl_at bytes (places.List p) = entries_read bytes p.place p.end p.count >>= λ es. Ok (owned.List es)
 
--- a list begins at the place, and its entries stand there
+-- a list begins at the offset, and its entries are there
 pub record EntriesBegin (bytes : List ℕ) (o : ℕ) (found : EntryPlaces) : Type 0 where
   pub begins : ListBegins bytes o
   pub read : list_read bytes o ≡ entries_read bytes found.place found.end found.count
@@ -25,7 +25,7 @@ pub record EntriesBegin (bytes : List ℕ) (o : ℕ) (found : EntryPlaces) : Typ
   pub end : found.end ≡ o + u16_at bytes (o + 2)
   pub count : found.count ≡ u16_at bytes (o + 4)
 
--- the entries stand within the bytes
+-- the entries are within the bytes
 abbrev pub AreWithin : List ℕ → DaclPlace → Type 0
 AreWithin bytes places.Absent = Unit {0}
 AreWithin bytes places.Null = Unit {0}
@@ -35,7 +35,7 @@ AreWithin bytes (places.List p) = (p.place ≤ p.end) × (p.end ≤ length bytes
 abbrev pub with_dacl : DescriptorValue → Dacl → DescriptorValue
 with_dacl d dacl = record { owner = d.owner; group = d.group; dacl = dacl; protected = d.protected; auto_req = d.auto_req; auto_inherited = d.auto_inherited }
 
--- the bytes are read as the descriptor that has this owner and the DACL at its place; the first fault, if there is one, is
+-- the bytes parse as the descriptor with this owner and the DACL at its position; the first fault, if there is one, is
 -- an entry's
 pub record ArePartsOf (bytes : List ℕ) (parts : Parts) : Type 0 where
   pub whole : DescriptorValue

@@ -1,4 +1,4 @@
--- How a self-relative descriptor is read: each part at its place in the bytes, and the tests in their order
+-- How a self-relative descriptor is parsed: each part at its offset in the bytes, and the tests in their order
 -- ([MS-DTYP] 2.4.6, with 2.4.5 for the list, 2.4.4 for its entries, 2.4.2.2 for the SIDs).
 use Rattle.std.specs.Prelude.{◌≡◌, ℕ, zero, suc, ◌+◌, ◌%◌, Bool, false, not, ◌&&◌, ◌||◌, ◌==◌, nat_lt, List, [], ◌∷◌, length, slice_index, slice_range, bit_and, Option, Some, None, Result, Ok, Err, if◌then◌else◌}
 use Rattle.std.specs.Int.{w16, from_le_bytes}
@@ -18,50 +18,50 @@ use Rattle.sd_wire.specs.declared.fault.WireError.{WireError}
 use Rattle.sd_wire.specs.declared.fault.WireError.TheVariants as errors
 
 infixl 10 ◌>>=◌
--- one reading behind another: the first fault answers
+-- one parse after another: the first fault is the result
 abbrev pub ◌>>=◌ : {A B : Type 0} → Result A WireFault → (A → Result B WireFault) → Result B WireFault
 (Ok x) >>= f = f x
 (Err fault) >>= f = Err fault
 
--- an error is the reading's fault, or want of memory
+-- an error is the parse's fault, or out of memory
 abbrev pub Fails : {Y : Type 0} → WireError → Result Y WireFault → Type 0
 Fails errors.Memory read = Unit {0}
 Fails (errors.Fault fault) read = read ≡ Err fault
 
--- what a function returns, seen by view, is what a reading gives, unless memory runs out
+-- what a function returns, seen by view, is what the parse gives, unless memory runs out
 abbrev pub Gives : {X Y : Type 0} → (X → Y) → Result X WireError → Result Y WireFault → Type 0
 Gives view (Ok x) read = read ≡ Ok (view x)
 Gives view (Err e) read = Fails e read
 
--- the number in the two bytes at a place, the least significant first
+-- the number in the two bytes at an offset, little-endian
 abbrev pub u16_at : List ℕ → ℕ → ℕ
 u16_at bytes o = from_le_bytes w16 (slice_index bytes o ∷ slice_index bytes (o + 1) ∷ [])
 
--- some of the control bits are set
+-- any of the control bits is set
 abbrev pub is_set : ℕ → ℕ → Bool
 is_set bits control = not (bit_and control bits == 0)
 
 -- ---- SIDs
 
--- whatever is wrong with a SID is one fault
+-- all faults of a SID are one
 abbrev pub bad_sid : Result (SidValue × ℕ) SidError → Result SidValue WireFault
 bad_sid (Ok x) = Ok x.0
 bad_sid (Err e) = Err BadSid
 
--- the SID at a place, which doesn't pass an end
+-- the SID at an offset, which doesn't pass an end
 abbrev pub sid_read : List ℕ → ℕ → ℕ → Result SidValue WireFault
 sid_read bytes o end = bad_sid (sid_reading (slice_range bytes o end))
 
 -- ---- lists
 
--- the kind that a type stands for: 0 an allow, 1 a deny
+-- the kind of a type: 0 an allow, 1 a deny
 abbrev pub kind_read : ℕ → Result AceKind WireFault
 kind_read byte =
     if byte == 0 then Ok Allow
     else if byte == 1 then Ok Deny
     else Err EntryKind
 
--- the entry at a place and its AceSize, in a list that ends at end; flags without a name aren't kept
+-- the entry at an offset and its AceSize, in a list that ends at end; flags without a name are dropped
 unfoldable pub entry_read : List ℕ → ℕ → ℕ → Result (Ace × ℕ) WireFault
 entry_read bytes o end =
     if nat_lt end (o + 4) then Err EntrySize
@@ -80,14 +80,14 @@ entry_read bytes o end =
       u16_at bytes (o + 2),
     ))))
 
--- so many entries from a place on, each where the AceSize of the one before it ends
+-- so many entries from an offset on, each where the AceSize of the one before it ends
 unfoldable pub entries_read : List ℕ → ℕ → ℕ → ℕ → Result (List Ace) WireFault
 entries_read bytes o end zero = Ok []
 entries_read bytes o end (suc n) =
     entry_read bytes o end >>= λ first.
     (entries_read bytes (o + first.1) end n >>= λ others. Ok (first.0 ∷ others))
 
--- the list at a place: revision, AclSize, AceCount, and the entries within AclSize
+-- the list at an offset: revision, AclSize, AceCount, and the entries within AclSize
 unfoldable pub list_read : List ℕ → ℕ → Result (List Ace) WireFault
 list_read bytes o =
     if not (slice_index bytes o == 2 || slice_index bytes o == 4) then Err AclRevision
@@ -97,25 +97,25 @@ list_read bytes o =
 
 -- ---- descriptors
 
--- an offset leads into the header, or to less than 8 bytes
+-- an offset points into the header, or to fewer than 8 bytes
 abbrev pub is_outside : List ℕ → ℕ → Bool
 is_outside bytes o = nat_lt o 20 || nat_lt (length bytes) (o + 8)
 
--- the owner or the group at its offset, none where that is 0
+-- the owner or the group at its offset, none if that is 0
 unfoldable pub trustee_read : List ℕ → ℕ → Result (Option SidValue) WireFault
 trustee_read bytes o =
     if o == 0 then Ok None
     else if is_outside bytes o then Err BadOffset
     else (sid_read bytes o (length bytes) >>= λ sid. Ok (Some sid))
 
--- the DACL that is present at its offset: Null where that is 0
+-- the DACL at its offset: Null if that is 0
 unfoldable pub dacl_read : List ℕ → ℕ → Result Dacl WireFault
 dacl_read bytes o =
     if o == 0 then Ok Null
     else if is_outside bytes o then Err BadOffset
     else (list_read bytes o >>= λ entries. Ok (Entries entries))
 
--- the control bits of a header that passes its tests: SR is set, and where SP is set OffsetSacl is 0
+-- the control bits of a header that passes its tests: SR is set, and if SP is set OffsetSacl is 0
 unfoldable pub control_read : List ℕ → Result ℕ WireFault
 control_read bytes =
     if nat_lt (length bytes) 20 then Err Short
@@ -124,7 +124,7 @@ control_read bytes =
     else if (is_set 0x0010 (u16_at bytes 2) && not (u32_at bytes 12 == 0)) then Err HasSacl
     else Ok (u16_at bytes 2)
 
--- the descriptor: the header, the owner, the group, and where DP is set the DACL with PD, DC and DI
+-- the descriptor: the header, the owner, the group, and if DP is set the DACL with PD, DC and DI
 unfoldable pub descriptor_read : List ℕ → Result DescriptorValue WireFault
 descriptor_read bytes =
     control_read bytes >>= λ control.

@@ -1,5 +1,5 @@
--- The one written form of a descriptor: the header, the owner, the group and the DACL, each right behind the last one
--- that is there ([MS-DTYP] 2.4.6, with 2.4.5 for the list, 2.4.4 for its entries, 2.4.2.2 for the SIDs).
+-- The one written form of a descriptor: the header, the owner, the group and the DACL, without gaps ([MS-DTYP] 2.4.6,
+-- with 2.4.5 for the list, 2.4.4 for its entries, 2.4.2.2 for the SIDs).
 use Rattle.std.specs.Prelude.{ℕ, ◌+◌, Bool, true, false, is_some, cond, if◌then◌else◌, List, [], ◌∷◌, ◌++◌, length, bit_and, bit_or, Option, Some, None}
 use Rattle.std.specs.Int.{w16, w32, to_le_bytes}
 use Rattle.std.specs.List.{flat_map}
@@ -23,7 +23,7 @@ kind_byte Deny = 1
 abbrev pub entry_parts : AceKind → ℕ → ℕ → ℕ → SidValue → List ℕ
 entry_parts kind flags size mask sid = kind_byte kind ∷ flags ∷ (to_le_bytes w16 size ++ (to_le_bytes w32 mask ++ bytes_of_sid sid))
 
--- an entry, with the flags that have names, and with no bytes behind its SID
+-- an entry, with its named flags, and with no bytes after its SID
 unfoldable pub entry_bytes : Ace → List ℕ
 entry_bytes e = entry_parts e.kind (bit_and e.flags.0 all_named) (ace_size e) e.mask e.sid
 
@@ -31,12 +31,12 @@ entry_bytes e = entry_parts e.kind (bit_and e.flags.0 all_named) (ace_size e) e.
 unfoldable pub list_bytes : List Ace → List ℕ
 list_bytes es = 2 ∷ 0 ∷ (to_le_bytes w16 (acl_size_of es) ++ (to_le_bytes w16 (length es) ++ 0 ∷ 0 ∷ flat_map entry_bytes es))
 
--- the owner or the group, where there is one
+-- the owner or the group, if there is one
 abbrev pub trustee_part : Option SidValue → List ℕ
 trustee_part None = []
 trustee_part (Some s) = bytes_of_sid s
 
--- the DACL, where there is a list
+-- the DACL, if it is a list
 abbrev pub dacl_part : Dacl → List ℕ
 dacl_part Absent = []
 dacl_part Null = []
@@ -48,7 +48,7 @@ is_list Absent = false
 is_list Null = false
 is_list (Entries es) = true
 
--- the offset of a part: its place where it is there, and else 0
+-- the offset of a part, 0 if there is none
 abbrev pub offset_of : Bool → ℕ → ℕ
 offset_of is_there place = if is_there then place else 0
 
@@ -57,7 +57,7 @@ abbrev pub control_of : DescriptorValue → ℕ
 control_of d =
     bit_or (bit_or (bit_or (bit_or 0x8000 (cond (is_absent d.dacl) 0 0x0004)) (cond d.auto_req 0x0100 0)) (cond d.auto_inherited 0x0400 0)) (cond d.protected 0x1000 0)
 
--- the offsets of owner, group, SACL, which there is none of, and DACL
+-- the offsets of owner, group, SACL, which is always absent, and DACL
 abbrev pub offset_bytes : ℕ → ℕ → ℕ → List ℕ
 offset_bytes owner group dacl = to_le_bytes w32 owner ++ (to_le_bytes w32 group ++ (to_le_bytes w32 0 ++ to_le_bytes w32 dacl))
 

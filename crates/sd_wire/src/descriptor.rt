@@ -20,9 +20,9 @@ use sd_acl::{Dacl, Descriptor, acl_size};
 use sd_sid::SidRef;
 use std::alloc::{AllocError, Global};
 
-/// The descriptor that the bytes hold, or the first test that they don't pass ([MS-DTYP] 2.4.6): header, owner, group,
-/// DACL, and of its entries the first. Memory is taken once, for the entries, where all that stands before them was read;
-/// so `Memory` may come in place of a fault of an entry, and of no other.
+/// Parses the descriptor in the bytes, or returns the first test that they fail ([MS-DTYP] 2.4.6): header, owner,
+/// group, DACL, then the entries in order. There is one allocation, for the entries, once all that precedes them has
+/// passed; so `Memory` may come in place of an entry's fault, and of no other.
 pub fn read_descriptor(alloc: Global, bytes: &[u8]) -> Result<Descriptor, WireError>
     ensures exact { Gives descriptor_of result (descriptor_read bytes.now) }
     ensures held { IfOk result (λ descriptor. Holds bytes.now (descriptor_of descriptor)) }
@@ -61,7 +61,7 @@ fn read_parts(alloc: Global, bytes: &[u8]) -> Result<Descriptor, WireError>
     })
 }
 
-/// The DACL that is present at its offset: `Null` where that is 0.
+/// The DACL at its offset: `Null` if that is 0.
 #[tactic(auto, unfolding(crate::specs::Reading::dacl_read))]
 fn read_dacl(alloc: Global, bytes: &[u8], offset: usize) -> Result<Dacl, WireError>
     requires { offset < 2 ^ 32 }
@@ -79,8 +79,8 @@ fn read_dacl(alloc: Global, bytes: &[u8], offset: usize) -> Result<Dacl, WireErr
     Ok(Dacl::List(list))
 }
 
-/// The one written form of a descriptor ([MS-DTYP] 2.4.6): the header, the owner, the group and the DACL, each right
-/// behind the last one that is there; list revision 2, and no flag bit 0x20. Memory is taken once, for `wire_len` bytes.
+/// The one written form of a descriptor ([MS-DTYP] 2.4.6): the header, the owner, the group and the DACL, without gaps;
+/// list revision 2, and no flag bit 0x20. There is one allocation, of `wire_len` bytes.
 #[tactic(auto, unfolding(crate::specs::Writing::wire_of), using(crate::proofs::Lengths::length_of_wire))]
 pub fn write_descriptor(alloc: Global, descriptor: &Descriptor) -> Result<Vec<u8>, AllocError>
     ensures { IfOk result (λ bytes. bytes.items ≡ wire_of (descriptor_of descriptor.now)) }
@@ -93,7 +93,7 @@ pub fn write_descriptor(alloc: Global, descriptor: &Descriptor) -> Result<Vec<u8
     Ok(bytes)
 }
 
-/// The bytes that `write_descriptor` gives are so many. Takes no memory.
+/// The length in bytes of what `write_descriptor` returns. Allocates nothing.
 #[tactic(auto, using(crate::proofs::Lengths::length_of_wire))]
 pub fn wire_len(descriptor: &Descriptor) -> u64
     ensures { result ≡ length (wire_of (descriptor_of descriptor.now)) }
@@ -102,7 +102,7 @@ pub fn wire_len(descriptor: &Descriptor) -> u64
     (HEADER_BYTES + trustees) as u64 + dacl_len(&descriptor.dacl)
 }
 
-/// The bytes that the DACL takes.
+/// The length of the DACL.
 #[tactic(auto, using(crate::proofs::Lengths::length_of_list))]
 fn dacl_len(dacl: &Dacl) -> u64
     ensures exact { result ≡ length (dacl_part dacl.now) }
@@ -114,7 +114,7 @@ fn dacl_len(dacl: &Dacl) -> u64
     }
 }
 
-/// Writes the DACL, where there is a list and for which there is room.
+/// Appends the DACL, if it is a list. The capacity must suffice.
 #[tactic(auto, using(crate::proofs::Lengths::length_of_list))]
 fn push_dacl(bytes: &mut Vec<u8>, dacl: &Dacl)
     requires { vec_len bytes.old + length (dacl_part dacl.now) ≤ vec_capacity bytes.old }

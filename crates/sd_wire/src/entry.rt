@@ -18,19 +18,18 @@ const ALLOW: u8 = 0x00;
 /// AceType of a deny ([MS-DTYP] 2.4.4.1, ACCESS_DENIED_ACE_TYPE).
 const DENY: u8 = 0x01;
 
-/// The bytes of an entry's header: type, flags, AceSize ([MS-DTYP] 2.4.4.1).
+/// The length of an entry's header: type, flags, AceSize ([MS-DTYP] 2.4.4.1).
 const HEADER_BYTES: usize = 4;
 
-/// The bytes before an entry's SID: the header and the mask ([MS-DTYP] 2.4.4.2).
+/// The length of what precedes an entry's SID: the header and the mask ([MS-DTYP] 2.4.4.2).
 const SID_PLACE: usize = 8;
 
-/// The least bytes of an entry.
+/// The length of the shortest entry.
 pub(crate) const MIN_ENTRY_BYTES: usize = SID_PLACE + SID_HEADER_BYTES;
 
-/// The entry at a place, and its AceSize, in a list that ends at `end`, or the first test that it doesn't pass
-/// ([MS-DTYP] 2.4.4). Flags without a name aren't kept. Takes no memory.
-// Inlined into its loop, an entry is made where it is wanted: a call hands it over by memory, and nearly doubles its
-// cost.
+/// Parses the entry at an offset, in a list that ends at `end`. Returns it and its AceSize, or the first test that it
+/// fails ([MS-DTYP] 2.4.4). Flags without a name are dropped. Allocates nothing.
+// Inlined into its loop, an entry is built in place: a call returns it through memory, which nearly doubles the cost.
 #[inline(always)]
 #[tactic(auto, unfolding(crate::specs::Reading::entry_read))]
 pub fn read_entry(bytes: &[u8], place: usize, end: usize) -> Result<(AceRef<'_>, usize), WireFault>
@@ -56,7 +55,7 @@ pub fn read_entry(bytes: &[u8], place: usize, end: usize) -> Result<(AceRef<'_>,
     Ok((AceRef::new(kind, flags, mask, sid), size))
 }
 
-/// Whether a type stands for an allow or a deny.
+/// The kind of an entry's type: an allow or a deny.
 fn read_kind(byte: u8) -> Result<AceKind, WireFault>
     ensures { result ≡ kind_read byte }
 {
@@ -67,7 +66,7 @@ fn read_kind(byte: u8) -> Result<AceKind, WireFault>
     }
 }
 
-/// Writes an entry, for which there is room, with the flags that have names.
+/// Appends an entry with its named flags. The capacity must suffice.
 #[tactic(auto, unfolding(crate::specs::Writing::entry_bytes))]
 pub(crate) fn push_entry(bytes: &mut Vec<u8>, entry: &Ace)
     requires { vec_len bytes.old + ace_size entry.now ≤ vec_capacity bytes.old }

@@ -9,7 +9,7 @@ use std::alloc::{AllocError, AllocFailed};
 use std::fmt;
 use thiserror::Error;
 
-/// The first test that bytes don't pass, in the order in which a descriptor is read ([MS-DTYP] 2.4.6).
+/// The first test that bytes fail, in the order in which a descriptor is parsed ([MS-DTYP] 2.4.6).
 #[derive(Clone, Copy, Debug, PartialEq, Eq)]
 pub enum WireFault {
     /// The bytes are fewer than a header's 20.
@@ -20,13 +20,13 @@ pub enum WireFault {
     NotSelfRelative,
     /// The descriptor has a SACL.
     HasSacl,
-    /// An offset leads into the header or to less than 8 bytes.
+    /// An offset points into the header, or to fewer than 8 bytes.
     BadOffset,
-    /// No SID stands where one is wanted.
+    /// There is no SID where there must be one.
     BadSid,
     /// The list's revision is neither 2 nor 4.
     AclRevision,
-    /// The list's size is less than its header's, or passes the end.
+    /// The list's size is below its header's, or passes the end of the bytes.
     AclSize,
     /// An entry's size doesn't fit the entry or the list.
     EntrySize,
@@ -82,7 +82,7 @@ impl fmt::Display for WireFault {
     }
 }
 
-/// Why no descriptor was read: the bytes' first fault, or want of memory.
+/// Why no descriptor was parsed: the bytes' first fault, or out of memory.
 #[derive(Clone, Copy, Debug, PartialEq, Eq, Error)]
 pub enum WireError {
     #[error("{0}")]

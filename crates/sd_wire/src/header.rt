@@ -11,34 +11,34 @@ use crate::trustee::trustee_len;
 use sd_acl::{Dacl, Descriptor};
 use sd_sid::SID_HEADER_BYTES;
 
-/// The bytes of a header ([MS-DTYP] 2.4.6), into which no offset may lead.
+/// The length of a header ([MS-DTYP] 2.4.6), into which no offset may point.
 pub(crate) const HEADER_BYTES: usize = 20;
 
-/// The least bytes that a part has: a SID's header, which is as long as a list's.
+/// The length of the shortest part: a SID's header, which is as long as a list's.
 const MIN_PART_BYTES: usize = SID_HEADER_BYTES;
 
 /// The only revision of a descriptor ([MS-DTYP] 2.4.6, Revision).
 const REVISION: u8 = 1;
 
-/// Where the control bits stand in the header ([MS-DTYP] 2.4.6, Control).
+/// The offset of the control bits in the header ([MS-DTYP] 2.4.6, Control).
 const CONTROL_PLACE: usize = 2;
 
-/// Where OffsetOwner stands in the header.
+/// The offset of OffsetOwner in the header.
 pub(crate) const OWNER_PLACE: usize = 4;
 
-/// Where OffsetGroup stands in the header.
+/// The offset of OffsetGroup in the header.
 pub(crate) const GROUP_PLACE: usize = 8;
 
-/// Where OffsetSacl stands in the header.
+/// The offset of OffsetSacl in the header.
 const SACL_PLACE: usize = 12;
 
-/// Where OffsetDacl stands in the header.
+/// The offset of OffsetDacl in the header.
 pub(crate) const DACL_PLACE: usize = 16;
 
 /// Control bit DP: there is a DACL ([MS-DTYP] 2.4.6, Control, as the bits below).
 pub(crate) const DACL_PRESENT: u16 = 0x0004;
 
-/// Control bit SP: there is a SACL. It is read and never written.
+/// Control bit SP: there is a SACL. It is never written.
 const SACL_PRESENT: u16 = 0x0010;
 
 /// Control bit DC.
@@ -56,14 +56,14 @@ const SELF_RELATIVE: u16 = 0x8000;
 /// OffsetSacl of what is written.
 const NO_SACL: u32 = 0;
 
-/// Whether some of these bits are set.
+/// Whether any of these bits is set.
 pub(crate) fn has_bits(control: u16, bits: u16) -> bool
     ensures { result ≡ is_set bits control }
 {
     control & bits != 0
 }
 
-/// The control bits, where the header passes its tests.
+/// The control bits, if the header passes its tests.
 #[tactic(auto, unfolding(crate::specs::Reading::control_read))]
 pub(crate) fn read_control(bytes: &[u8]) -> Result<u16, WireFault>
     ensures read { result ≡ control_read bytes.now }
@@ -85,7 +85,7 @@ pub(crate) fn read_control(bytes: &[u8]) -> Result<u16, WireFault>
     Ok(control)
 }
 
-/// Whether an offset leads into the header, or to less than 8 bytes. It is below 2^32, so the sum doesn't wrap.
+/// Whether an offset points into the header, or to fewer than 8 bytes. It is below 2^32, so the sum doesn't wrap.
 pub(crate) fn leads_outside(bytes: &[u8], offset: usize) -> bool
     requires { offset < 2 ^ 32 }
     ensures { result ≡ is_outside bytes.now offset }
@@ -104,7 +104,7 @@ fn control_bits(descriptor: &Descriptor) -> u16
         | bits_when(descriptor.protected, DACL_PROTECTED)
 }
 
-/// The bits where the test holds, and else none.
+/// The bits if the test holds, else none.
 fn bits_when(test: bool, bits: u16) -> u16
     ensures { result ≡ cond test bits 0 }
 {
@@ -118,7 +118,7 @@ fn has_list(dacl: &Dacl) -> bool
     matches!(dacl, Dacl::List(_))
 }
 
-/// The offset of a part: its place where it is there, and else 0.
+/// The offset of a part, 0 if there is none.
 fn part_offset(is_there: bool, place: usize) -> u32
     requires { place < 2 ^ 32 }
     ensures { result ≡ offset_of is_there place }
@@ -126,7 +126,7 @@ fn part_offset(is_there: bool, place: usize) -> u32
     if is_there { place as u32 } else { 0 }
 }
 
-/// Writes a descriptor's header, for which there is room. Each part stands right behind the last one that is there.
+/// Appends a descriptor's header. The parts follow it without gaps. The capacity must suffice.
 #[tactic(auto, unfolding(crate::specs::Writing::header_of))]
 pub(crate) fn push_header(bytes: &mut Vec<u8>, descriptor: &Descriptor)
     requires { vec_len bytes.old + 20 ≤ vec_capacity bytes.old }
@@ -141,7 +141,7 @@ pub(crate) fn push_header(bytes: &mut Vec<u8>, descriptor: &Descriptor)
     push_fields(bytes, control_bits(descriptor), owner, group, dacl);
 }
 
-/// Writes the fields of a header, in their order.
+/// Appends the fields of a header, in their order.
 #[tactic(auto, unfolding(crate::specs::Writing::header_bytes))]
 fn push_fields(bytes: &mut Vec<u8>, control: u16, owner: u32, group: u32, dacl: u32)
     requires { vec_len bytes.old + 20 ≤ vec_capacity bytes.old }
@@ -154,7 +154,7 @@ fn push_fields(bytes: &mut Vec<u8>, control: u16, owner: u32, group: u32, dacl: 
     push_offsets(bytes, owner, group, dacl);
 }
 
-/// Writes the offsets of the owner, the group, the SACL, which there is none of, and the DACL.
+/// Appends the offsets of the owner, the group, the SACL, which is always absent, and the DACL.
 fn push_offsets(bytes: &mut Vec<u8>, owner: u32, group: u32, dacl: u32)
     requires { vec_len bytes.old + 16 ≤ vec_capacity bytes.old }
     ensures items { bytes.new.items ≡ bytes.old.items ++ offset_bytes owner group dacl }

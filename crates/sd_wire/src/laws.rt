@@ -1,19 +1,19 @@
-//! The laws of the self-relative form: each function has an empty body, and its contract is the law.
+//! Laws of the self-relative form: each function has an empty body, and its contract is the law.
 
 ghost use Rattle.sd_wire.specs.Laws.{DescriptorsComeBack, ReadingsAreHeld, WhatIsHeldIsRead, OneIsHeld, NoneIsHeldBesideAFault};
 
-/// A law: what `write_descriptor` writes, `read_descriptor` reads again, where no entry has the flag bit 0x20.
+/// A law, the round trip: `read_descriptor` parses what `write_descriptor` writes, if no entry has the flag bit 0x20.
 #[tactic(auto, using(crate::proofs::WireIsHeld::descriptors_come_back))]
 pub fn descriptors_come_back()
     ensures { DescriptorsComeBack }
 {}
 
-/// A law: where `read_descriptor` reads a descriptor, at each place stands the part that was read.
+/// A law, soundness: each part of a descriptor that `read_descriptor` parses is in the bytes at its offset.
 pub fn readings_are_held()
     ensures { ReadingsAreHeld }
 {}
 
-/// A law: `read_descriptor` reads each descriptor whose parts stand in the bytes.
+/// A law, completeness: `read_descriptor` parses each descriptor whose parts are in the bytes.
 #[tactic(auto, using(crate::proofs::HeldIsRead::held_is_read))]
 pub fn what_is_held_is_read()
     ensures { WhatIsHeldIsRead }

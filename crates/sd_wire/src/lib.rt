@@ -1,7 +1,7 @@
-//! The self-relative form of security descriptors, as Windows keeps and sends them: [MS-DTYP] 2.4.6.
+//! The self-relative form of security descriptors, as Windows stores and sends them: [MS-DTYP] 2.4.6.
 //!
-//! Reads bytes of any origin, and writes one form. A reading is Ok only with what the bytes hold, and else answers
-//! the first test that they don't pass; it takes memory for the entries that are there, whatever the counts say.
+//! Parses untrusted bytes, and writes one form. A parse is Ok only with what the bytes hold, else it returns the first
+//! test that they fail. It allocates for no more entries than the bytes have room for, whatever the counts say.
 //!
 //! ```text
 //! let descriptor = read_descriptor(alloc, bytes)?;

@@ -15,16 +15,16 @@ use crate::parts::EntryPlaces;
 use sd_acl::{ACL_HEADER_BYTES, Ace, AceList, acl_size};
 use std::alloc::Global;
 
-/// The bytes of a list's header, as a length.
+/// The length of a list's header, as an index.
 const HEADER_BYTES: usize = ACL_HEADER_BYTES as usize;
 
 /// The revision that is written ([MS-DTYP] 2.4.5, ACL_REVISION); lists with object entries have the other.
 const REVISION: u8 = 2;
 
-/// The other revision that is read ([MS-DTYP] 2.4.5, ACL_REVISION_DS).
+/// The other revision that is accepted ([MS-DTYP] 2.4.5, ACL_REVISION_DS).
 const REVISION_DS: u8 = 4;
 
-/// The list at a place.
+/// Parses the list at an offset.
 #[tactic(auto, unfolding(crate::specs::Reading::list_read))]
 pub(crate) fn read_list(alloc: Global, bytes: &[u8], place: usize) -> Result<AceList, WireError>
     requires { place + 8 ≤ length bytes.now }
@@ -37,7 +37,7 @@ pub(crate) fn read_list(alloc: Global, bytes: &[u8], place: usize) -> Result<Ace
     Ok(AceList::new(entries).unwrap())
 }
 
-/// Where the entries of the list at a place stand, where its header passes its tests.
+/// The range of the entries of the list at an offset, if its header passes its tests.
 #[tactic(auto, unfolding(crate::specs::Reading::list_read))]
 pub(crate) fn find_entries(bytes: &[u8], place: usize) -> Result<EntryPlaces, WireFault>
     requires { place + 8 ≤ length bytes.now }
@@ -58,7 +58,7 @@ pub(crate) fn find_entries(bytes: &[u8], place: usize) -> Result<EntryPlaces, Wi
     })
 }
 
-/// So many entries from a place to an end. Memory is taken once, and for no more of them than there is room for.
+/// Parses so many entries from an offset to an end. There is one allocation, for no more of them than can fit.
 fn read_entries(
     alloc: Global,
     bytes: &[u8],
@@ -78,14 +78,14 @@ fn read_entries(
     let mut at = place;
     for _ in 0..count {
         let (entry, size) = read_entry(bytes, at, end)?;
-        // An entry that was read takes MIN_ENTRY_BYTES at least, so it's one of those that memory was taken for.
+        // A parsed entry has at least MIN_ENTRY_BYTES, so the allocated capacity suffices.
         entries.push_reserved(entry.copied());
         at += size;
     }
     Ok(entries)
 }
 
-/// Writes a list, for which there is room: revision 2, and the entries one behind the other.
+/// Appends a list: revision 2, and the entries without gaps. The capacity must suffice.
 #[tactic(auto, unfolding(crate::specs::Writing::list_bytes))]
 pub(crate) fn push_list(bytes: &mut Vec<u8>, list: &AceList)
     requires { vec_len bytes.old + acl_size_of list.now ≤ vec_capacity bytes.old }
@@ -103,7 +103,7 @@ pub(crate) fn push_list(bytes: &mut Vec<u8>, list: &AceList)
     push_entries(bytes, entries);
 }
 
-/// Writes entries, one behind the other.
+/// Appends entries without gaps.
 fn push_entries(bytes: &mut Vec<u8>, entries: &[Ace])
     requires { vec_len bytes.old + sum_by ace_size entries.now ≤ vec_capacity bytes.old }
     ensures items { bytes.new.items ≡ bytes.old.items ++ flat_map entry_bytes entries.now }

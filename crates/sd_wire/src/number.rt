@@ -1,4 +1,4 @@
-//! Numbers at a place in the bytes, the least significant byte first.
+//! Little-endian numbers at an offset.
 
 ghost use Rattle.std.specs.Prelude.{◌≡◌, ◌+◌, ◌≤◌, length};
 ghost use Rattle.sd_sid.specs.SidBytes.{u32_at};

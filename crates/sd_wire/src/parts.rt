@@ -1,4 +1,5 @@
-//! A descriptor in parts, before its entries are read: for who reads them one at a time, and takes no memory.
+//! A descriptor in parts, before its entries are parsed: for callers that parse them one at a time, without an
+//! allocation.
 
 ghost use Rattle.std.specs.Prelude.{◌≡◌, ◌<◌, ◌^◌, Err, IfErr, IfOk};
 ghost use Rattle.sd_wire.specs.Parts.{ArePartsOf, AreWithin, dacl_at};
@@ -13,25 +14,26 @@ use crate::number::read_u32;
 use crate::trustee::read_trustee;
 use sd_sid::SidRef;
 
-/// What a check wants of a descriptor: its owner, and where its DACL stands.
+/// What a check requires of a descriptor: its owner, and the position of its DACL.
 #[derive(Drop)]
 pub struct Parts<'a> {
     pub owner: Option<SidRef<'a>>,
     pub dacl: DaclPlace,
 }
 
-/// Where a DACL stands.
+/// The position of a DACL.
 #[derive(Clone, Copy)]
 pub enum DaclPlace {
     /// There is none.
     Absent,
-    /// There is one that is null.
+    /// It is null.
     Null,
-    /// There is a list, whose entries stand there.
+    /// It is a list with these entries.
     List(EntryPlaces),
 }
 
-/// Where the entries of a list stand: so many, the first at a place, and none passes the end. `read_entry` reads each.
+/// The position of a list's entries: how many, the offset of the first, and the end, which none passes. `read_entry`
+/// parses each.
 #[derive(Clone, Copy)]
 pub struct EntryPlaces {
     pub place: usize,
@@ -39,8 +41,8 @@ pub struct EntryPlaces {
     pub count: usize,
 }
 
-/// The parts of the descriptor that the bytes hold, or the first test that they don't pass ([MS-DTYP] 2.4.6), of
-/// those that `read_descriptor` makes before the first entry's, in the same order. Takes no memory.
+/// The parts of the descriptor in the bytes, or the first test that they fail ([MS-DTYP] 2.4.6): the tests of
+/// `read_descriptor` before the first entry's, in the same order. Allocates nothing.
 #[tactic(auto, unfolding(crate::specs::Reading::descriptor_read))]
 pub fn read_parts(bytes: &[u8]) -> Result<Parts<'_>, WireFault>
     ensures ok { IfOk result (λ parts. ArePartsOf bytes.now parts) }
@@ -59,7 +61,7 @@ pub fn read_parts(bytes: &[u8]) -> Result<Parts<'_>, WireFault>
     Ok(Parts { owner, dacl })
 }
 
-/// Where the DACL that is present at its offset stands.
+/// The position of the DACL at its offset.
 #[tactic(auto, unfolding(crate::specs::Reading::dacl_read))]
 fn find_dacl(bytes: &[u8], offset: usize) -> Result<DaclPlace, WireFault>
     requires { offset < 2 ^ 32 }

@@ -8,7 +8,7 @@ use crate::fault::WireFault;
 use crate::header::leads_outside;
 use sd_sid::{SID_HEADER_BYTES, Sid, SidRef, push_sid};
 
-/// The SID at a place, which doesn't pass an end.
+/// The SID at an offset, which doesn't pass an end.
 #[inline(always)]
 pub(crate) fn read_sid_at(bytes: &[u8], place: usize, end: usize) -> Result<SidRef<'_>, WireFault>
     requires place { place ≤ end }
@@ -22,7 +22,7 @@ pub(crate) fn read_sid_at(bytes: &[u8], place: usize, end: usize) -> Result<SidR
     }
 }
 
-/// The owner or the group at its offset, none where that is 0.
+/// The owner or the group at its offset, none if that is 0.
 #[tactic(auto, unfolding(crate::specs::Reading::trustee_read))]
 pub(crate) fn read_trustee(bytes: &[u8], offset: usize) -> Result<Option<SidRef<'_>>, WireFault>
     requires { offset < 2 ^ 32 }
@@ -38,7 +38,7 @@ pub(crate) fn read_trustee(bytes: &[u8], offset: usize) -> Result<Option<SidRef<
     Ok(Some(sid))
 }
 
-/// The bytes that the owner or the group takes.
+/// The length of the owner or the group.
 #[tactic(auto, using(crate::proofs::Lengths::length_of_trustee))]
 pub(crate) fn trustee_len(trustee: &Option<Sid>) -> usize
     ensures exact { result ≡ length (trustee_part trustee.now) }
@@ -50,7 +50,7 @@ pub(crate) fn trustee_len(trustee: &Option<Sid>) -> usize
     }
 }
 
-/// Writes the owner or the group, where there is one and for which there is room.
+/// Appends the owner or the group, if there is one. The capacity must suffice.
 #[tactic(auto, using(crate::proofs::Lengths::length_of_trustee))]
 pub(crate) fn push_trustee(bytes: &mut Vec<u8>, trustee: &Option<Sid>)
     requires { vec_len bytes.old + length (trustee_part trustee.now) ≤ vec_capacity bytes.old }
