@@ -80,7 +80,7 @@ impl<'a> SidRef<'a> {
     }
 
     /// A copy of the SID, if there is one.
-    #[inline]
+    #[inline(always)]
     pub fn copied_from(lent: &Option<SidRef<'_>>) -> Option<Sid>
         ensures { result ≡ lent.now }
     {
