@@ -11,7 +11,7 @@ alias letters authority subs = record { letters = letters; stands_for = record {
 abbrev pub builtin : List ℕ → ℕ → Name SidValue
 builtin letters number = alias letters 5 (32 ∷ number ∷ [])
 
--- the aliases that stand for a SID by themselves
+-- the aliases that need no domain
 unfoldable pub aliases : List (Name SidValue)
 aliases =
     alias (codes "WD") 1 (0 ∷ []) ∷ alias (codes "CO") 3 (0 ∷ []) ∷ alias (codes "CG") 3 (1 ∷ []) ∷ alias (codes "OW") 3 (4 ∷ [])
@@ -28,7 +28,7 @@ aliases =
 abbrev pub of_a_domain : List ℕ → ℕ → Name ℕ
 of_a_domain letters relative = record { letters = letters; stands_for = relative }
 
--- those that a domain's SID is wanted for
+-- the aliases that need a domain
 abbrev pub domain_aliases : List (Name ℕ)
 domain_aliases =
     of_a_domain (codes "DA") 512 ∷ of_a_domain (codes "DU") 513 ∷ of_a_domain (codes "DG") 514 ∷ of_a_domain (codes "DC") 515

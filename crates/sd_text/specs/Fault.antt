@@ -1,4 +1,4 @@
--- The numbers and the names of the faults, and where a reader's fault stands.
+-- The numbers and the names of the faults, and which error a parser may return.
 use Rattle.std.specs.Prelude.{ℕ, List, codes}
 use Rattle.sd_text.specs.declared.fault.TextFault.{TextFault}
 use Rattle.sd_text.specs.declared.fault.TextError.{TextError}
@@ -28,7 +28,7 @@ name_of DomainAlias = codes "DomainAlias"
 name_of Range = codes "Range"
 name_of AclTooLarge = codes "AclTooLarge"
 
--- the error is a fault of the text, at its place, or want of memory
+-- the error is a fault of the text, at its offset, or out of memory
 abbrev pub StandsIn : {A : Type 0} → Grammar A → List ℕ → TextError → Type 0
 StandsIn grammar text (Fault fault place) = HasFault grammar text fault place
 StandsIn grammar text Memory = Unit {0}

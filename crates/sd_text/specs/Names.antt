@@ -1,4 +1,4 @@
--- The tables of the code as those of the grammars.
+-- The tables of the code as tables of grammars.
 use Rattle.std.specs.Prelude.{ℕ, List, [], ◌∷◌, map}
 use Rattle.sd_sid.specs.Sid.{SidValue}
 use Rattle.sd_text.specs.declared.alias.WellKnown.{WellKnown}
@@ -6,7 +6,7 @@ use Rattle.sd_text.specs.declared.alias.WellKnown.TheVariants.{One, Builtin, All
 use Rattle.sd_text.specs.Grammar.{Name}
 use Rattle.std.specs.Borrow.{Bor}
 
--- a row of a table: a name, and what it stands for
+-- a row of a table: a name and its meaning
 abbrev pub Row : Type 0 → Type 0
 Row T = Bor (List ℕ) × T
 
@@ -18,11 +18,11 @@ row r = record { letters = r.0.now; stands_for = r.1 }
 abbrev pub rows : {T : Type 0} → List (Row T) → List (Name T)
 rows rs = map row rs
 
--- a table of what f makes of what the names stand for
+-- the table with f applied to each meaning
 abbrev pub renamed : {A B : Type 0} → (A → B) → List (Name A) → List (Name B)
 renamed f names = map (λ name. record { letters = name.letters; stands_for = f name.stands_for }) names
 
--- the SID that an alias stands for
+-- the SID of an alias
 abbrev pub well_known : WellKnown → SidValue
 well_known (One authority sub) = record { authority = authority; subs = sub ∷ [] }
 well_known (Builtin account) = record { authority = 5; subs = 32 ∷ account ∷ [] }

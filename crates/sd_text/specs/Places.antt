@@ -1,4 +1,4 @@
--- Where a name of two letters can stand in its table. Only for speed: what names there are the tables say.
+-- The row that a name of two letters can have in its table. Only for speed: the tables themselves have the names.
 use Rattle.std.specs.Prelude.{ℕ, suc, ◌+◌, ◌-◌, ◌*◌, ◌%◌, ◌==◌, Bool, true, false, ◌&&◌, List, [], ◌∷◌, length, slice_index}
 use Rattle.std.specs.Char.{to_ascii_lowercase}
 use Rattle.sd_sid.specs.Sid.{SidValue}
@@ -8,14 +8,14 @@ use Rattle.sd_text.specs.Grammar.{Name}
 abbrev pub slot : ℕ → ℕ → ℕ
 slot c d = (to_ascii_lowercase c + 11 * to_ascii_lowercase d) % 109
 
--- these are two letters, at whose number this place stands
+-- these are two letters, and this is the row of their number
 abbrev pub is_placed : List ℕ → ℕ → List ℕ → Bool
 is_placed places k [] = false
 is_placed places k (l ∷ []) = false
 is_placed places k (l ∷ m ∷ []) = slice_index places (slot l m) == k
 is_placed places k (l ∷ m ∷ n ∷ letters) = false
 
--- each row has its place, of which the first is k
+-- each row is that of its number; the first is row k
 abbrev pub are_placed : {A : Type 0} → List ℕ → ℕ → List (Name A) → Bool
 are_placed places k [] = true
 are_placed places k (name ∷ names) = is_placed places k name.letters && are_placed places (suc k) names
@@ -24,7 +24,7 @@ are_placed places k (name ∷ names) = is_placed places k name.letters && are_pl
 abbrev pub sid_slot : SidValue → ℕ
 sid_slot s = (2 * s.authority + slice_index s.subs (length s.subs - 1)) % 58
 
--- each row's place stands at the number of its SID, and that of the first is k
+-- each row is that of the number of its SID; the first is row k
 abbrev pub sids_are_placed : List ℕ → ℕ → List (Name SidValue) → Bool
 sids_are_placed places k [] = true
 sids_are_placed places k (name ∷ names) = slice_index places (sid_slot name.stands_for) == k && sids_are_placed places (suc k) names

@@ -16,15 +16,15 @@ right_names =
     ∷ bits (codes "FA") 0x1F01FF ∷ bits (codes "FR") 0x120089 ∷ bits (codes "FW") 0x120116 ∷ bits (codes "FX") 0x1200A0
     ∷ bits (codes "KA") 0xF003F ∷ bits (codes "KR") 0x20019 ∷ bits (codes "KW") 0x20006 ∷ bits (codes "KX") 0x20019 ∷ []
 
--- a run of names, whose bits are joined
+-- a run of names: the union of their bits
 unfoldable pub bits_of : List (Name ℕ) → Grammar ℕ
 bits_of names = run names bit_or 0
 
--- `0x` heads hexadecimal digits, `0` octal ones
+-- hexadecimal after `0x`, octal after `0`, else decimal
 unfoldable pub mask_number : Grammar ℕ
 mask_number = choose (λ text. begins text (codes "0X")) (number 2 16 (2 ^ 32)) (choose (λ text. begins text (codes "0")) (number 0 8 (2 ^ 32)) (number 0 10 (2 ^ 32)))
 
--- what begins with a digit is a number
+-- a number if a digit is there, else names
 unfoldable pub rights : Grammar ℕ
 rights = choose (begins_digit 10) mask_number (bits_of right_names)
 

@@ -1,12 +1,12 @@
--- Printing into room that was taken for the whole text.
+-- Printing into capacity that was allocated for the whole text.
 use Rattle.std.specs.Prelude.{◌≡◌, ℕ, ◌+◌, ◌/◌, ◌%◌, ◌≤◌, List, [], ◌∷◌, ◌++◌, length, String, string_bytes, string_len, string_capacity}
 
 module _ {Z : Type 0} where
-  -- there is room for the letters
+  -- the capacity suffices for the letters
   abbrev pub HasRoom : String Z → List ℕ → Type 0
   HasRoom out letters = string_len out + length letters ≤ string_capacity out
 
-  -- the letters stand behind what stood there, and no room was lost
+  -- the letters were appended, and the capacity is no smaller
   pub record IsPrinted (old new : String Z) (letters : List ℕ) : Type 0 where
     pub text : string_bytes new ≡ string_bytes old ++ letters
     pub len : string_len new ≡ string_len old + length letters

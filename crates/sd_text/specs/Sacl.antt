@@ -1,4 +1,4 @@
--- The section of a SACL, which is read to be left out ([MS-DTYP] 2.5.1.1, sacl): audit entries and mandatory labels.
+-- The section of a SACL, which is parsed and left out ([MS-DTYP] 2.5.1.1, sacl): audit entries and mandatory labels.
 use Rattle.std.specs.Prelude.{ℕ, Bool, true, false, ◌&&◌, not, List, [], ◌∷◌, drop, Option, codes}
 use Rattle.sd_acl.specs.Descriptor.{DescriptorValue}
 use Rattle.sd_text.specs.declared.domain.Domain.{Domain}
@@ -12,7 +12,7 @@ use Rattle.sd_text.specs.Rights.{bits, bits_of, mask_number, rights}
 use Rattle.sd_text.specs.Entry.{opening, flag_names, guid}
 use Rattle.sd_text.specs.Sddl.{words, parts}
 
--- just this type of two letters stands there
+-- the text begins with this type of two letters, and no other letter follows
 abbrev pub is_sacl_type : List ℕ → List ℕ → Bool
 is_sacl_type letters text = begins text letters && not (begins_letter (drop 2 text))
 
@@ -43,12 +43,12 @@ levels = level (codes "LW") ∷ level (codes "ME") ∷ level (codes "MP") ∷ le
 unfoldable pub passed_sid : Option Domain → Grammar (Unit {0})
 passed_sid domain = sid domain >>= λ trustee. value tt
 
--- whose the entry is
+-- the SID of an entry
 unfoldable pub sacl_trustee : Option Domain → SaclKind → Grammar (Unit {0})
 sacl_trustee domain Audit = passed_sid domain
 sacl_trustee domain Label = one_of levels (passed_sid domain)
 
--- an entry behind its `(`
+-- an entry after its `(`
 unfoldable pub sacl_entry : Option Domain → Grammar (Unit {0})
 sacl_entry domain = do
   kind ← sacl_kind
@@ -66,11 +66,11 @@ sacl_entry domain = do
 unfoldable pub sacl_entries : Option Domain → Grammar (Unit {0})
 sacl_entries domain = many opening (λ before u. sacl_entry domain) >>= λ entries. value tt
 
--- behind the words the entries, unless there is no access control
+-- after the keywords the entries, unless there is no access control
 unfoldable pub sacl_behind : Option Domain → DaclWords → Grammar (Unit {0})
 sacl_behind domain found = choose (λ text. found.no_access_control) (value tt) (sacl_entries domain)
 
--- whether the section stands there
+-- whether the section is there
 unfoldable pub sacl_section : Option Domain → Grammar Bool
 sacl_section domain = choose (λ text. begins text (codes "S:")) (word (codes "S:") >>= λ u. words >>= λ found. sacl_behind domain found >>= λ v. value true) (value false)
 

@@ -9,21 +9,21 @@ use Rattle.sd_text.specs.Alias.{aliases, domain_aliases}
 use Rattle.sd_text.specs.Domain.{account_sid}
 use Rattle.sd_text.specs.Names.{renamed}
 
--- what leads a sub-authority
+-- what precedes a sub-authority
 abbrev pub dash : List (Name (Unit {0}))
 dash = record { letters = codes "-"; stands_for = tt } ∷ []
 
--- a sub-authority; behind fifteen of them no digit may stand
+-- a sub-authority; after fifteen no digit may follow
 unfoldable pub sub : ℕ → Grammar ℕ
 sub before = choose (λ text. nat_lt before 15) (number 0 10 (2 ^ 32)) (choose (begins_digit 10) (refused Range) (refused Syntax))
 
--- the sub-authorities of a SID, one at least, and the SID
+-- the sub-authorities of a SID, at least one, and the SID
 unfoldable pub subs_of : ℕ → Grammar SidValue
 subs_of authority = do
   subs ← choose (λ text. begins text (codes "-")) (many dash (λ before u. sub (length before))) (refused Syntax)
   value (record { authority = authority; subs = subs })
 
--- an authority, of which `0x` heads hexadecimal digits
+-- an authority: hexadecimal after `0x`, else decimal
 unfoldable pub authority : Grammar ℕ
 authority = choose (λ text. begins text (codes "0X")) (number 2 16 (2 ^ 48)) (number 0 10 (2 ^ 48))
 
@@ -32,11 +32,11 @@ abbrev pub begins_letter : List ℕ → Bool
 begins_letter [] = false
 begins_letter (c ∷ text) = is_ascii_alphabetic c
 
--- no alias stands there
+-- no alias is there
 unfoldable pub no_alias : Grammar SidValue
 no_alias = choose (λ text. begins_letter text && begins_letter (drop 1 text)) (refused UnknownAlias) (refused Syntax)
 
--- an alias of the domain's, which stands for no SID where no domain is given
+-- an alias of the domain, a fault without one
 unfoldable pub domain_alias : Option Domain → Grammar SidValue
 domain_alias None = choose (λ text. is_some (named domain_aliases text)) (refused DomainAlias) no_alias
 domain_alias (Some domain) = one_of (renamed (account_sid domain) domain_aliases) no_alias
@@ -45,10 +45,10 @@ domain_alias (Some domain) = one_of (renamed (account_sid domain) domain_aliases
 unfoldable pub sid : Option Domain → Grammar SidValue
 sid domain = choose (λ text. begins text (codes "S-1-")) (word (codes "S-1-") >>= λ u. authority >>= λ number. subs_of number) (one_of aliases (domain_alias domain))
 
--- the text of a SID, where the aliases of domains are those of this one
+-- the text of a SID, with the domain that aliases refer to
 abbrev pub sid_text_in : Option Domain → Grammar SidValue
 sid_text_in domain = whole (sid domain)
 
--- the text of a SID, where no domain is given
+-- the text of a SID, without a domain
 abbrev pub sid_text : Grammar SidValue
 sid_text = sid_text_in None

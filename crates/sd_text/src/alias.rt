@@ -22,11 +22,11 @@ pub(crate) enum WellKnown {
     One(u8, u32),
     /// S-1-5-32 and one more sub-authority: an account of the built-in domain.
     Builtin(u32),
-    /// S-1-15-2-1, all packages of applications.
+    /// S-1-15-2-1, all application packages.
     AllPackages,
 }
 
-/// The alias of the SID, if it has one ([MS-DTYP] 2.5.1.1, sid-token). Takes no memory.
+/// The alias of the SID, if it has one ([MS-DTYP] 2.5.1.1, sid-token). Allocates nothing.
 pub fn alias_of(sid: &Sid) -> Option<[u8; 2]>
     ensures { result ≡ alias_in aliases sid.now }
 {
@@ -36,7 +36,7 @@ pub fn alias_of(sid: &Sid) -> Option<[u8; 2]>
     }
 }
 
-/// The letters of the SID's alias, which the one row alone can have that its number tells of.
+/// The letters of the SID's alias. Only the row at the SID's number can have it.
 pub(crate) fn alias_text(sid: &Sid) -> Option<&'static str>
     ensures { option_map (λ letters. letters.now) result ≡ alias_in aliases sid.now }
 {
@@ -86,7 +86,7 @@ pub(crate) fn made(authority: u64, subs: &[u32]) -> Sid
     Sid::new(authority, subs).unwrap()
 }
 
-/// The aliases, and the SIDs that they stand for.
+/// The aliases and their SIDs.
 static ALIASES: [(&str, WellKnown); 34] = [
     ("WD", WellKnown::One(1, 0)),
     ("CO", WellKnown::One(3, 0)),
@@ -168,9 +168,10 @@ fn domain_aliases() -> &'static [(&'static str, u32)]
 }
 
 impl Cursor<'_> {
-    /// An alias of the table or of the domain's, or the fault of what stands here.
+    /// An alias of the table or of the domain, or the fault here.
     pub(crate) fn alias(&mut self, domain: Option<Domain>) -> Result<Sid, TextFault>
-        ensures { Gives (λ sid. sid) result self.new.rest.now (find (one_of aliases (domain_alias domain)) self.old.rest.now) }
+        ensures { Gives (λ sid. sid) result self.new.rest.now
+            (find (one_of aliases (domain_alias domain)) self.old.rest.now) }
     {
         match self.name_of_two(known_aliases(), alias_places()) {
             Some(known) => Ok(known.sid()),
@@ -178,7 +179,7 @@ impl Cursor<'_> {
         }
     }
 
-    /// An alias of the domain's, or the fault of what stands here: without a domain there is no SID for any.
+    /// An alias of the domain, or the fault here: without a domain none has a SID.
     fn domain_alias(&mut self, domain: Option<Domain>) -> Result<Sid, TextFault>
         ensures { Gives (λ sid. sid) result self.new.rest.now (find (domain_alias domain) self.old.rest.now) }
     {
@@ -193,7 +194,7 @@ impl Cursor<'_> {
         }
     }
 
-    /// What is wrong where no alias stands.
+    /// The fault where there is no alias.
     #[tactic(auto, unfolding(crate::specs::Sid::no_alias))]
     fn no_alias(&self) -> TextFault
         ensures { find no_alias self.now.rest.now ≡ Err (result, self.now.rest.now) }

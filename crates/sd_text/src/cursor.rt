@@ -1,4 +1,4 @@
-//! The text from a place on. What stands there is read and left behind; at a fault the cursor stops at its byte.
+//! The rest of a text. A parser consumes what it parses; at a fault it leaves the cursor at the fault's byte.
 
 ghost use Rattle.std.specs.Prelude.{◌≡◌, ◌+◌, ◌≤◌, ◌^◌, ◌<◌, ℕ, length, take, drop, IsTrue, if◌then◌else◌};
 ghost use Rattle.std.specs.Char.{eq_ignore_ascii_case};
@@ -9,7 +9,7 @@ ghost use Rattle.sd_text.specs.Finding.{Gives, find, digits_len, IsCapped};
 
 use crate::fault::TextFault;
 
-/// What is left of a text.
+/// The part of a text that isn't parsed yet.
 #[derive(Drop)]
 pub(crate) struct Cursor<'a> {
     pub(crate) rest: &'a [u8],
@@ -25,7 +25,7 @@ impl<'a> Cursor<'a> {
         }
     }
 
-    /// The place in the text that the cursor has come to.
+    /// The cursor's offset in the text.
     pub(crate) fn place(&self, text: &str) -> u64
         requires { length self.now.rest.now ≤ length text.now }
         ensures { result + length self.now.rest.now ≡ length text.now }
@@ -33,7 +33,7 @@ impl<'a> Cursor<'a> {
         (text.len() - self.rest.len()) as u64
     }
 
-    /// Whether these letters stand here, of either case.
+    /// Whether the rest begins with these letters, of either case.
     pub(crate) fn begins(&self, letters: &[u8]) -> bool
         ensures value { result ≡ begins self.now.rest.now letters.now }
         ensures within { IsTrue result → length letters.now ≤ length self.now.rest.now }
@@ -41,7 +41,7 @@ impl<'a> Cursor<'a> {
         begins(self.rest, letters)
     }
 
-    /// Whether a digit stands here.
+    /// Whether the rest begins with a digit.
     pub(crate) fn begins_digit(&self, radix: u32) -> bool
         requires low { 2 ≤ radix }
         requires high { radix ≤ 16 }
@@ -50,7 +50,7 @@ impl<'a> Cursor<'a> {
         begins_digit(self.rest, radix)
     }
 
-    /// Whether a letter stands so many bytes from here.
+    /// Whether there is a letter so many bytes ahead.
     pub(crate) fn letter_at(&self, ahead: usize) -> bool
         ensures { result ≡ begins_letter (drop ahead self.now.rest.now) }
     {
@@ -60,10 +60,11 @@ impl<'a> Cursor<'a> {
         }
     }
 
-    /// Whether these letters stand here, of either case; they are left behind then.
+    /// Consumes these letters, of either case. Returns false, and consumes nothing, if they aren't here.
     pub(crate) fn eat(&mut self, letters: &[u8]) -> bool
         ensures stood { result ≡ begins self.old.rest.now letters.now }
-        ensures rest { self.new.rest.now ≡ (if result then drop (length letters.now) self.old.rest.now else self.old.rest.now) }
+        ensures rest { self.new.rest.now
+            ≡ (if result then drop (length letters.now) self.old.rest.now else self.old.rest.now) }
     {
         if !begins(self.rest, letters) {
             return false;
@@ -95,7 +96,7 @@ impl<'a> Cursor<'a> {
         }
     }
 
-    /// A head of so many bytes and all digits behind it: a number below the limit.
+    /// A head of so many bytes and all digits after it: a number below the limit.
     #[inline(always)]
     pub(crate) fn number(&mut self, head: usize, radix: u32, limit: u64) -> Result<u64, TextFault>
         requires within { head ≤ length self.old.rest.now }
@@ -119,7 +120,7 @@ impl<'a> Cursor<'a> {
     }
 }
 
-/// Whether the text begins with these letters, one at least, of either case.
+/// Whether the text begins with these letters, at least one, of either case.
 #[tactic(auto, using(crate::proofs::Letters::begins_nothing, crate::proofs::Letters::begins_short))]
 fn begins(text: &[u8], letters: &[u8]) -> bool
     ensures value { result ≡ begins text.now letters.now }
@@ -136,8 +137,8 @@ fn begins(text: &[u8], letters: &[u8]) -> bool
     true
 }
 
-/// Whether a byte is this letter, of either case. Only for speed the two are compared as they stand first, and no case is
-/// looked for where the letter has none.
+/// Whether a byte is this letter, of either case. Only for speed: equal bytes are found first, and case is ignored only
+/// for a letter that has one.
 #[inline(always)]
 fn is_letter(byte: u8, letter: u8) -> bool
     ensures { result ≡ eq_ignore_ascii_case byte letter }
@@ -160,7 +161,7 @@ fn begins_digit(text: &[u8], radix: u32) -> bool
     }
 }
 
-/// What the digits that the text begins with amount to, or a number from the limit on, and how many there are.
+/// The value of the digits at the front, or any number at or above the limit if the value is; and how many there are.
 #[inline(always)]
 fn run_of(text: &[u8], radix: u32, limit: u64) -> (u64, usize)
     requires low { 2 ≤ radix }
@@ -186,14 +187,14 @@ fn run_of(text: &[u8], radix: u32, limit: u64) -> (u64, usize)
     }
 }
 
-/// The digits of a decimal number of 32 bits and the byte behind them. Only for speed such a front is read by itself: its length
-/// is known when this is compiled, so that no digit comes with a look at where the text ends.
+/// The digits of a decimal number of 32 bits and the byte after them. Only for speed such a front is parsed by itself:
+/// its length is known at compile time, so no digit needs a test for the text's end.
 const NUMBER_FRONT: usize = 11;
 
-/// So many digits pass no number of 64 bits, in whichever radix up to 16.
+/// So many digits fit a number of 64 bits, in any radix up to 16.
 const SHORT_RUN: usize = 15;
 
-/// The same of a text of so many bytes at most. Only for speed: no digit waits for a look at the limit.
+/// The same for a text of at most so many bytes. Only for speed: no digit needs a test of the limit.
 #[inline(always)]
 fn short_run_of(text: &[u8], radix: u32) -> (u64, usize)
     requires low { 2 ≤ radix }
@@ -213,7 +214,7 @@ fn short_run_of(text: &[u8], radix: u32) -> (u64, usize)
     (value, text.len())
 }
 
-/// The same of a run of any length: from the limit on no digit counts.
+/// The same for a run of any length: digits after the limit is reached don't count.
 #[cold]
 fn long_run_of(text: &[u8], radix: u32, limit: u64) -> (u64, usize)
     requires low { 2 ≤ radix }

@@ -6,8 +6,8 @@ ghost use Rattle.sd_text.specs.Domain.{domain_sid, account_sid};
 use crate::alias::made;
 use sd_sid::Sid;
 
-/// A domain, for which the aliases of its accounts and groups are read: its SID is S-1-5-21 and three more
-/// sub-authorities ([MS-DTYP] 2.4.2.4).
+/// A domain, to which aliases of accounts and groups refer: its SID is S-1-5-21 and three more sub-authorities
+/// ([MS-DTYP] 2.4.2.4).
 #[derive(Clone, Copy, Debug, PartialEq, Eq)]
 pub struct Domain {
     first: u32,
@@ -16,7 +16,7 @@ pub struct Domain {
 }
 
 impl Domain {
-    /// The domain of this SID, where it is a domain's: S-1-5-21 and three more sub-authorities.
+    /// The domain with this SID, if it is a domain's: S-1-5-21 and three more sub-authorities.
     pub fn new(sid: &Sid) -> Option<Domain>
         ensures is { IfSome result (λ domain. domain_sid domain ≡ sid.now) }
         ensures found { (domain : Domain) → domain_sid domain ≡ sid.now → result ≡ Some domain }

@@ -1,4 +1,4 @@
-//! The names of a table that stand in a text. A row of a table is a name and what it stands for.
+//! Names of a table in a text. A row of a table is a name and its meaning.
 
 ghost use Rattle.std.specs.Prelude.{◌≡◌, IfNone, IfSome, Some, None, Ok, fold, true};
 ghost use Rattle.sd_text.specs.Grammar.{named};
@@ -11,9 +11,10 @@ use crate::cursor::Cursor;
 use crate::places::{Places, slot};
 
 impl Cursor<'_> {
-    /// What the first name of the table that stands here stands for; it is left behind then.
+    /// Consumes the first name of the table that is here, and returns its meaning.
     pub(crate) fn name<T: Copy>(&mut self, names: &[(&str, T)]) -> Option<T>
-        ensures none { IfNone result ((named (rows names.now) self.old.rest.now ≡ None) × (self.new.rest.now ≡ self.old.rest.now)) }
+        ensures none { IfNone result
+            ((named (rows names.now) self.old.rest.now ≡ None) × (self.new.rest.now ≡ self.old.rest.now)) }
         ensures some { IfSome result (λ x. named (rows names.now) self.old.rest.now ≡ Some (x, self.new.rest.now)) }
     {
         for (letters, meaning) in names {
@@ -24,10 +25,11 @@ impl Cursor<'_> {
         None
     }
 
-    /// The same of names of two letters, of which the one alone is looked at that can stand here.
+    /// The same for names of two letters, of which only the one that can be here is compared.
     pub(crate) fn name_of_two<T: Copy>(&mut self, names: &[(&str, T)], places: &Places) -> Option<T>
         requires { are_placed places.now 0 (rows names.now) ≡ true }
-        ensures none { IfNone result ((named (rows names.now) self.old.rest.now ≡ None) × (self.new.rest.now ≡ self.old.rest.now)) }
+        ensures none { IfNone result
+            ((named (rows names.now) self.old.rest.now ≡ None) × (self.new.rest.now ≡ self.old.rest.now)) }
         ensures some { IfSome result (λ x. named (rows names.now) self.old.rest.now ≡ Some (x, self.new.rest.now)) }
     {
         if self.rest.len() < 2 {
@@ -45,7 +47,7 @@ impl Cursor<'_> {
         }
     }
 
-    /// A run of names of two letters, perhaps none, whose bits are joined.
+    /// A run of names of two letters, perhaps empty. Returns the union of their bits.
     pub(crate) fn bits_of(&mut self, names: &[(&str, u32)], places: &Places) -> u32
         requires { are_placed places.now 0 (rows names.now) ≡ true }
         ensures { find (bits_of (rows names.now)) self.old.rest.now ≡ Ok (result, self.new.rest.now) }

@@ -1,4 +1,4 @@
-//! Numbers as digits, in memory that is there.
+//! Numbers as digits, without an allocation.
 
 ghost use Rattle.std.specs.Prelude.{◌≡◌, ◌+◌, ◌≤◌, ◌<◌, [], ◌∷◌, drop, false};
 ghost use Rattle.std.specs.Fmt.{digits, decimal, digit_glyph};
@@ -20,7 +20,7 @@ pub(crate) fn digits(number: u64, radix: u64, bytes: &mut [u8; MAX_DIGITS]) -> &
     from_utf8(&all[start..]).unwrap()
 }
 
-/// Writes the digits, the last one first, and tells where they start.
+/// Writes the digits, the last one first, and returns the index of the first.
 fn write_digits(number: u64, radix: u64, bytes: &mut [u8; MAX_DIGITS]) -> usize
     requires low { 2 ≤ radix }
     requires high { radix ≤ 16 }
@@ -51,8 +51,8 @@ fn glyph(digit: u8) -> u8
     }
 }
 
-/// Adds the number in decimal, for which there is room: what is in front of its last two digits, and then these. Only for
-/// speed: `digits` would do, but for the copies that it takes.
+/// Appends the number in decimal: the digits before its last two, then those two. The capacity must suffice. Only for
+/// speed: `digits` would do, but copies the digits.
 pub(crate) fn push_decimal(out: &mut String, number: u32)
     requires { HasRoom out.old (decimal number) }
     ensures { IsPrinted out.old out.new (decimal number) }

@@ -1,18 +1,18 @@
-//! Where a name of two letters can stand in its table. Only for speed: the tables say what names there are, and a call that
-//! looks there is proved to find what a search of the whole table finds.
+//! The row that a name of two letters can have in its table. Only for speed: a call that looks at that row alone is
+//! proved to find what a search of the whole table finds.
 
 ghost use Rattle.std.specs.Prelude.{◌≡◌, ◌<◌};
 ghost use Rattle.sd_text.specs.Places.{slot, sid_slot};
 
 use sd_sid::Sid;
 
-/// How many numbers two letters can have. It is small, and the names of each table have numbers of their own.
+/// How many numbers two letters can have: small, but no two names of a table share one.
 pub(crate) const SLOTS: usize = 109;
 
-/// The places of the rows by the numbers of their letters, and 99 where no row is.
+/// The row of each number of two letters, 99 if there is none.
 pub(crate) type Places = [u8; SLOTS];
 
-/// Of the names of rights.
+/// For the names of rights.
 pub(crate) static RIGHT_PLACES: Places = [
     99, 99, 99, 99, 5, 20, 3, 11, 99, 99, 24, 99, 99, 99, 99, 99, 4, 99, 99, 99, 6, 15, 99, 99, 99,
     99, 99, 99, 99, 99, 99, 99, 7, 99, 99, 99, 99, 99, 12, 99, 99, 99, 99, 13, 99, 16, 99, 99, 18,
@@ -21,7 +21,7 @@ pub(crate) static RIGHT_PLACES: Places = [
     99, 8, 9, 99, 99, 99, 19, 2, 99, 99, 10, 23,
 ];
 
-/// Of the names of flags.
+/// For the names of flags.
 pub(crate) static FLAG_PLACES: Places = [
     99, 99, 99, 99, 99, 99, 4, 99, 99, 99, 99, 99, 99, 99, 99, 99, 99, 99, 3, 99, 99, 99, 99, 99,
     99, 99, 99, 99, 99, 99, 99, 99, 99, 99, 2, 99, 99, 99, 99, 99, 99, 99, 99, 99, 99, 99, 99, 99,
@@ -30,7 +30,7 @@ pub(crate) static FLAG_PLACES: Places = [
     99, 99, 99, 99, 99, 99, 99, 99, 99, 99, 99, 99, 99,
 ];
 
-/// Of what a label denies.
+/// For what a label denies.
 pub(crate) static LABEL_PLACES: Places = [
     99, 99, 0, 99, 99, 99, 99, 99, 99, 99, 99, 99, 99, 2, 99, 99, 99, 99, 99, 99, 99, 99, 99, 99,
     99, 99, 99, 99, 99, 99, 99, 99, 99, 99, 99, 99, 99, 99, 99, 99, 99, 99, 99, 99, 99, 99, 99, 99,
@@ -39,7 +39,7 @@ pub(crate) static LABEL_PLACES: Places = [
     99, 99, 99, 99, 99, 99, 99, 99, 99, 99, 99, 99, 99,
 ];
 
-/// Of the aliases that stand for a SID by themselves.
+/// For the aliases that need no domain.
 pub(crate) static ALIAS_PLACES: Places = [
     33, 99, 8, 3, 11, 99, 99, 99, 99, 99, 20, 23, 1, 31, 99, 26, 99, 99, 99, 99, 0, 99, 99, 27, 99,
     22, 24, 99, 21, 12, 99, 99, 18, 2, 99, 99, 99, 99, 99, 99, 99, 99, 99, 99, 99, 99, 99, 32, 99,
@@ -51,10 +51,10 @@ pub(crate) static ALIAS_PLACES: Places = [
 /// How many numbers SIDs can have.
 const SID_SLOTS: usize = 58;
 
-/// The places of the rows by the numbers of their SIDs, and 99 where no row is.
+/// The row of each number of a SID, 99 if there is none.
 pub(crate) type SidPlaces = [u8; SID_SLOTS];
 
-/// Of the SIDs that have an alias.
+/// For the SIDs that have an alias.
 pub(crate) static SID_PLACES: SidPlaces = [
     99, 99, 0, 32, 33, 99, 1, 2, 99, 99, 3, 99, 4, 99, 5, 99, 6, 7, 99, 8, 9, 10, 11, 99, 99, 99,
     99, 99, 12, 13, 14, 15, 16, 17, 18, 19, 20, 21, 22, 23, 24, 99, 25, 26, 27, 99, 28, 29, 99, 99,

@@ -16,7 +16,7 @@ use sd_acl::{Ace, AceFlags, AceKind, Dacl, Descriptor};
 use sd_sid::{Mask, Sid};
 use std::alloc::{AllocError, Global};
 
-/// The names by which whole masks are printed ([MS-DTYP] 2.5.1.1, ace-rights).
+/// The names for whole masks in printed texts ([MS-DTYP] 2.5.1.1, ace-rights).
 static PRINTED_RIGHTS: [(&str, u32); 15] = [
     ("FA", 0x001F_01FF),
     ("FR", 0x0012_0089),
@@ -38,11 +38,11 @@ static PRINTED_RIGHTS: [(&str, u32); 15] = [
 /// An authority below this is printed in decimal ([MS-DTYP] 2.4.2.1).
 const DECIMAL_LIMIT: u64 = 0x1_0000_0000;
 
-/// So many bytes stay with a text though none of its letters needs them.
+/// So many bytes of unused capacity stay with a text.
 const LITTLE_ROOM: usize = 256;
 
-/// The canonical text of a descriptor ([MS-DTYP] 2.5.1). Fails only for want of memory. What it prints,
-/// `read_sddl` reads as the same descriptor, where no entry has a flag outside the seven named ones.
+/// The canonical text of a descriptor ([MS-DTYP] 2.5.1). The only error is out of memory. `read_sddl` parses the text
+/// as the same descriptor, if no entry has a flag outside the seven named ones.
 pub fn print_sddl(alloc: Global, descriptor: &Descriptor) -> Result<String, AllocError>
     ensures text { IfOk result (λ text. string_bytes text ≡ canon (descriptor_of descriptor.now)) }
     ensures memory { OnErr result (0 < length (canon (descriptor_of descriptor.now))) }
@@ -53,7 +53,7 @@ pub fn print_sddl(alloc: Global, descriptor: &Descriptor) -> Result<String, Allo
     Ok(text)
 }
 
-/// The canonical text of a SID: its alias, or else in full ([MS-DTYP] 2.4.2.1). Fails only for want of memory.
+/// The canonical text of a SID: its alias, or else in full ([MS-DTYP] 2.4.2.1). The only error is out of memory.
 pub fn print_sid(alloc: Global, sid: &Sid) -> Result<String, AllocError>
     ensures { IfOk result (λ text. string_bytes text ≡ sid_canon sid.now) }
 {
@@ -63,7 +63,7 @@ pub fn print_sid(alloc: Global, sid: &Sid) -> Result<String, AllocError>
     Ok(text)
 }
 
-/// The SID in full, though it may have an alias ([MS-DTYP] 2.4.2.1). Fails only for want of memory.
+/// The SID in full, even if it has an alias ([MS-DTYP] 2.4.2.1). The only error is out of memory.
 pub fn print_full_sid(alloc: Global, sid: &Sid) -> Result<String, AllocError>
     ensures { IfOk result (λ text. string_bytes text ≡ full_canon sid.now) }
 {
@@ -73,7 +73,7 @@ pub fn print_full_sid(alloc: Global, sid: &Sid) -> Result<String, AllocError>
     Ok(text)
 }
 
-/// An entry as the canonical text of a descriptor has it ([MS-DTYP] 2.5.1.1). Fails only for want of memory.
+/// An entry as in the canonical text of a descriptor ([MS-DTYP] 2.5.1.1). The only error is out of memory.
 pub fn print_entry(alloc: Global, entry: &Ace) -> Result<String, AllocError>
     ensures { IfOk result (λ text. string_bytes text ≡ entry_canon entry.now) }
 {
@@ -83,7 +83,7 @@ pub fn print_entry(alloc: Global, entry: &Ace) -> Result<String, AllocError>
     Ok(text)
 }
 
-/// Gives back the room that nothing was printed into. Only for speed a little stays: a small text costs less than its move.
+/// Frees unused capacity. Only for speed a little stays: it costs less than moving a small text.
 fn give_back_room(text: &mut String)
     ensures { string_bytes text.new ≡ string_bytes text.old }
 {
@@ -92,7 +92,7 @@ fn give_back_room(text: &mut String)
     }
 }
 
-/// Room for the text of a descriptor, of which there is none where nothing is to be printed.
+/// Room for the text of a descriptor, 0 if the text is empty.
 #[tactic(auto, unfolding(crate::specs::Canon::canon))]
 fn sddl_room(d: &Descriptor) -> usize
     ensures room { length (canon (descriptor_of d.now)) ≤ result }
@@ -124,7 +124,7 @@ fn sid_room(sid: &Sid) -> usize
     18 + 11 * sid.subs().len()
 }
 
-/// Room for the section of a DACL: its head, the words, and the entries or the word of a null list.
+/// Room for the section of a DACL: its head, the keywords, and the entries or NO_ACCESS_CONTROL.
 fn dacl_room(d: &Descriptor) -> usize
     ensures room { length (dacl_canon (words_canon (descriptor_of d.now)) d.now.dacl) ≤ result }
     ensures some { 0 < result → 0 < length (dacl_canon (words_canon (descriptor_of d.now)) d.now.dacl) }
@@ -149,7 +149,7 @@ fn entries_room(entries: &[Ace]) -> usize
     room
 }
 
-/// Room for an entry: 32 letters beside its SID. That is at most four for each byte of its binary form.
+/// Room for an entry: 32 letters and its SID. That is at most four for each byte of its binary form.
 #[tactic(auto, using(crate::proofs::Lengths::entry_length))]
 fn entry_room(entry: &Ace) -> usize
     ensures room { length (entry_canon entry.now) ≤ result }
@@ -159,7 +159,7 @@ fn entry_room(entry: &Ace) -> usize
     32 + sid_room(&entry.sid)
 }
 
-/// Adds the letters, for which there is room.
+/// Appends the letters. The capacity must suffice.
 fn push(out: &mut String, letters: &str)
     requires { HasRoom out.old letters.now }
     ensures { IsPrinted out.old out.new letters.now }
@@ -177,7 +177,7 @@ fn write_sddl(out: &mut String, d: &Descriptor)
     write_dacl(out, d);
 }
 
-/// A section of one SID, where there is one.
+/// A section of one SID, if there is one.
 fn write_section(out: &mut String, head: &str, sid: &Option<Sid>)
     requires { HasRoom out.old (section_canon head.now sid.now) }
     ensures { IsPrinted out.old out.new (section_canon head.now sid.now) }
@@ -211,7 +211,7 @@ fn write_full_sid(out: &mut String, sid: &Sid)
     }
 }
 
-/// In decimal where the authority has 32 bits, else in 12 hexadecimal digits.
+/// In decimal if the authority has 32 bits, else in 12 hexadecimal digits.
 #[tactic(auto, unfolding(crate::specs::Canon::authority_canon))]
 fn write_authority(out: &mut String, authority: u64)
     requires { HasRoom out.old (authority_canon authority) }
@@ -236,7 +236,7 @@ fn write_zeros(out: &mut String, count: usize)
     }
 }
 
-/// A sub-authority behind its dash.
+/// A sub-authority after its dash.
 fn write_sub(out: &mut String, sub: u32)
     requires { HasRoom out.old (sub_canon sub) }
     ensures { IsPrinted out.old out.new (sub_canon sub) }
@@ -255,7 +255,7 @@ fn write_words(out: &mut String, d: &Descriptor)
     write_where(out, d.auto_inherited, "AI");
 }
 
-/// The letters, where the test holds.
+/// The letters, if the test holds.
 fn write_where(out: &mut String, test: bool, letters: &str)
     requires { HasRoom out.old (where_set test letters.now) }
     ensures { IsPrinted out.old out.new (where_set test letters.now) }
@@ -333,7 +333,7 @@ fn write_rights(out: &mut String, mask: Mask)
     }
 }
 
-/// The name for just these bits.
+/// The name for exactly these bits.
 #[tactic(auto, using(crate::proofs::Tables::name_at), unfolding(crate::specs::Canon::name_in))]
 fn right_name(bits: u32) -> Option<&'static str>
     ensures { option_map (λ letters. letters.now) result ≡ name_in printed_rights bits }

@@ -43,8 +43,8 @@ static RIGHTS: [(&str, u32); 25] = [
     ("KX", 0x0002_0019),
 ];
 
-/// The mask that the text spells, as a rights field of an entry ([MS-DTYP] 2.5.1.1, ace-rights).
-/// Takes no memory: an error is the text's first fault from the left.
+/// Parses a mask, as in the rights field of an entry ([MS-DTYP] 2.5.1.1, ace-rights). Allocates nothing: an error is
+/// the text's first fault from the left, with its offset in bytes.
 pub fn read_mask(text: &str) -> Result<Mask, TextError>
     ensures value { IfOk result (λ mask. Spells mask_text text.now mask) }
     ensures fault { IfErr result (λ e. StandsIn mask_text text.now e) }
@@ -82,7 +82,7 @@ impl Cursor<'_> {
         }
     }
 
-    /// A number: `0x` heads hexadecimal digits, `0` octal ones.
+    /// A number: hexadecimal after `0x`, octal after `0`.
     #[tactic(auto, unfolding(crate::specs::Rights::mask_number))]
     pub(crate) fn mask_number(&mut self) -> Result<Mask, TextFault>
         ensures { Gives (λ mask. mask) result self.new.rest.now (find mask_number self.old.rest.now) }

@@ -16,8 +16,8 @@ use sd_sid::{AUTHORITY_LIMIT, MAX_SUBS, Sid};
 /// A sub-authority is below this: it has 32 bits ([MS-DTYP] 2.4.2.2, SubAuthority).
 const SUB_LIMIT: u64 = 0x1_0000_0000;
 
-/// The SID that the text spells, in full or by its alias ([MS-DTYP] 2.4.2.1). Takes no memory: an error is
-/// the text's first fault from the left.
+/// Parses a SID, in full or by its alias ([MS-DTYP] 2.4.2.1). Allocates nothing: an error is the text's first fault
+/// from the left, with its offset in bytes.
 pub fn read_sid_text(text: &str) -> Result<Sid, TextError>
     ensures value { IfOk result (λ sid. Spells sid_text text.now sid) }
     ensures fault { IfErr result (λ e. StandsIn sid_text text.now e) }
@@ -27,7 +27,7 @@ pub fn read_sid_text(text: &str) -> Result<Sid, TextError>
     read_sid_text_in(None, text)
 }
 
-/// The same, where the aliases of a domain's accounts and groups stand for those of the domain that is given.
+/// The same, with the domain that aliases of a domain's accounts and groups refer to.
 pub fn read_sid_text_in(domain: Option<Domain>, text: &str) -> Result<Sid, TextError>
     ensures value { IfOk result (λ sid. Spells (sid_text_in domain) text.now sid) }
     ensures fault { IfErr result (λ e. StandsIn (sid_text_in domain) text.now e) }
@@ -61,14 +61,14 @@ impl Cursor<'_> {
         if !self.eat(b"S-1-") {
             return self.alias(domain);
         }
-        // (only for speed a cursor of its own: it stays in registers, as no other function is given it)
+        // (only for speed a cursor of its own: no other function gets it, so it stays in registers)
         let mut ahead = Cursor { rest: self.rest };
         let sid = ahead.behind_head();
         self.rest = ahead.rest;
         sid
     }
 
-    /// What is behind the head of a SID in full.
+    /// The rest of a SID in full, after its head.
     #[inline(always)]
     fn behind_head(&mut self) -> Result<Sid, TextFault>
         ensures { Gives (λ sid. sid) result self.new.rest.now (find (and_then authority subs_of) self.old.rest.now) }
@@ -77,7 +77,7 @@ impl Cursor<'_> {
         self.subs_of(authority)
     }
 
-    /// An authority, of which `0x` heads hexadecimal digits.
+    /// An authority: hexadecimal after `0x`, else decimal.
     #[tactic(auto, unfolding(crate::specs::Sid::authority))]
     #[inline(always)]
     fn authority(&mut self) -> Result<u64, TextFault>
@@ -91,7 +91,7 @@ impl Cursor<'_> {
         }
     }
 
-    /// The sub-authorities, each behind a dash, and the SID of them.
+    /// The sub-authorities, each after a dash. Returns the SID.
     #[tactic(auto, unfolding(crate::specs::Sid::subs_of))]
     #[inline(always)]
     fn subs_of(&mut self, authority: u64) -> Result<Sid, TextFault>
@@ -110,7 +110,7 @@ impl Cursor<'_> {
         Ok(sid_of_front(authority, &subs, count))
     }
 
-    /// A sub-authority, where so many stand before it. Behind fifteen of them no digit may stand.
+    /// A sub-authority after so many others. After fifteen no digit may follow.
     #[tactic(auto, unfolding(crate::specs::Sid::sub))]
     #[inline(always)]
     fn sub(&mut self, before: usize) -> Result<u32, TextFault>
@@ -127,8 +127,8 @@ impl Cursor<'_> {
     }
 }
 
-/// The SID of an authority and the first so many sub-authorities. Five, as the accounts of a domain have, go by themselves:
-/// only for speed, since a copy of a known length takes no call.
+/// The SID of an authority and the first so many sub-authorities. Only for speed five, as in accounts of a domain, have
+/// a case of their own: a copy of a known length takes no call.
 #[inline(always)]
 fn sid_of_front(authority: u64, subs: &[u32; MAX_SUBS], count: usize) -> Sid
     requires authority { authority < 2 ^ 48 }
