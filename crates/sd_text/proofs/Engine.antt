@@ -1,13 +1,15 @@
 -- What find answers is what the relations say, for each grammar; so a text has one value or one fault.
 use Rattle.std.proofs.Common.{◌≡◌, ℕ, zero, suc, ◌+◌, ◌-◌, ◌<◌, ◌≤◌, ◌⊎◌, inl, inr, true, false, List, [], ◌∷◌, ◌++◌, length, drop, take, Some, None, Ok, Err, refl, arith, ap, sym, ◌∙◌, append_assoc}
-use Rattle.std.specs.Prelude.{nat_lt, not, ◌==◌, IsOk}
+use Rattle.std.specs.Prelude.{Bool, nat_lt, not, ◌==◌, Option, IsOkAnd, IsErrOf, IfOk}
+use Rattle.std.specs.Option.{ok_or}
 use Rattle.std.specs.Str.Parse.{digits_value}
 use Rattle.std.proofs.lemmas.Bool.{not-true, not-false, ltb-true, ltb-false, lt-ltb, le-ltb, eqb-true}
 use Rattle.std.proofs.lemmas.List.{append-nil, length-drop}
 use Rattle.sd_text.specs.declared.fault.TextFault.{TextFault}
 use Rattle.sd_text.specs.declared.fault.TextFault.TheVariants.{Syntax, Range}
-use Rattle.sd_text.specs.Grammar.{Grammar, Name, value, refused, choose, and_then, word, number, one_of, many, begins, begins_digit, named, Items, spells, faults, Spells, BeginsWith, HasFault, end, whole, ◌>>=◌}
-use Rattle.sd_text.specs.Finding.{Found, digits_len, find_number, find_items, find}
+use Rattle.sd_text.specs.declared.fault.TextError.TheVariants.{Memory}
+use Rattle.sd_text.specs.Grammar.{Grammar, Name, value, refused, choose, and_then, word, number, one_of, many, begins, begins_digit, named, Items, spells, faults, Spells, SpellsOne, HasFault, end, whole, ◌>>=◌}
+use Rattle.sd_text.specs.Finding.{Found, GivesUnlessMemory, digits_len, find_number, find_items, find}
 use Rattle.sd_text.proofs.Parts.{chosen, part_ok, part_err, name_gave, found, found_is, stopped, stopped_is, named_takes, named_none}
 use Rattle.sd_text.proofs.Runs.{run_of, run_digits, run_behind, run_begins}
 
@@ -303,13 +305,19 @@ whole_value {A = A} part text a rest e =
     ends [] u after e = sym (found_is tt u [] after e).1
     ends (c ∷ mid) u after e = elim (chosen (length (c ∷ mid) == 0) _ _ _ e) [ inl h ↦ absurd (let no = eqb-true (length (c ∷ mid)) 0 h.0 in omega arith) | inr h ↦ absurd (let no : stopped {A = Unit {0}} Syntax (c ∷ mid) ≡ Ok (u, after) = h.1 in cc) ]
 
--- where something is found, the text begins with it
-pub begins_with : {A : Type 0} (g : Grammar A) (text : List ℕ) → IsOk (find g text) → BeginsWith g text
-begins_with {A = A} g text ok = by_reading (find g text) refl ok
-  where
-    by_reading : (r : Found A) → find g text ≡ r → IsOk r → BeginsWith g text
-    by_reading (Ok x) e is = (x.0, x.1, find_spells g text x.0 x.1 e)
-    by_reading (Err d) e is = absurd cc
+-- of a parser that takes memory: what it answers is spelled, and out of memory comes only where a value that takes some is
+module _ {X A : Type 0} (view : X → A) (takes : A → Bool) (part : Grammar A) (text rest : List ℕ) where
+  pub value_answered : (o : Option X) → GivesUnlessMemory view takes (Ok o) rest (find (whole part) text) → IfOk (ok_or o Memory) (λ x. Spells (whole part) text (view x))
+  value_answered (Some x) gives = whole_value part text (view x) rest gives
+  value_answered None gives = tt
+
+  pub memory_answered : (o : Option X) → GivesUnlessMemory view takes (Ok o) rest (find (whole part) text) → IsErrOf (ok_or o Memory) Memory → SpellsOne takes (whole part) text
+  memory_answered (Some x) gives is = absurd cc
+  memory_answered None gives is = by_parsing (find (whole part) text) refl gives
+    where
+      by_parsing : (r : Found A) → find (whole part) text ≡ r → IsOkAnd r (λ x. (x.1 ≡ rest) × (takes x.0 ≡ true)) → SpellsOne takes (whole part) text
+      by_parsing (Ok x) e found = (x.0, whole_value part text x.0 x.1 e, found.1)
+      by_parsing (Err d) e found = absurd found
 
 -- a fault that is found stands at the place where the reader stopped
 pub fault_at : {A : Type 0} (g : Grammar A) (text : List ℕ) (f : TextFault) (there : List ℕ) (place : ℕ) → find g text ≡ Err (f, there) → place + length there ≡ length text → HasFault g text f place

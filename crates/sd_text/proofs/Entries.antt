@@ -1,6 +1,6 @@
 -- Reading the entries of a list.
-use Rattle.std.proofs.Common.{◌≡◌, ℕ, ◌+◌, ◌<◌, true, false, List, [], ◌∷◌, ◌++◌, length, drop, Ok, Err, Result, refl, arith, sym, ◌∙◌, ◌≤◌, ◌⊎◌, inl, inr}
-use Rattle.std.specs.Prelude.{codes, IfOk, IsOk}
+use Rattle.std.proofs.Common.{◌≡◌, ℕ, ◌+◌, ◌<◌, true, false, List, [], ◌∷◌, ◌++◌, length, drop, Ok, Err, Result, refl, arith, ap, sym, ◌∙◌, ◌≤◌}
+use Rattle.std.specs.Prelude.{codes, Bool, IfOk}
 use Rattle.std.proofs.lemmas.List.Sums.{sum_by_push}
 use Rattle.sd_acl.specs.Ace.{ace_size, acl_size_of}
 use Rattle.sd_acl.specs.declared.ace.Ace.{Ace}
@@ -8,7 +8,7 @@ use Rattle.sd_acl.specs.declared.list.AclTooLarge.{AclTooLarge}
 use Rattle.sd_text.specs.declared.fault.TextFault.{TextFault}
 use Rattle.sd_text.specs.Grammar.{Grammar, begins}
 use Rattle.sd_text.specs.Finding.{find}
-use Rattle.sd_text.specs.Entry.{opening, entries_of, first_of}
+use Rattle.sd_text.specs.Entry.{opening, entries_of, has_one}
 use Rattle.sd_text.proofs.Parts.{begins_takes}
 use Rattle.sd_text.proofs.Engine.{shorter}
 use Rattle.sd_text.proofs.Loops.{Reaches, reaches_start, reaches_more, reaches_end, reaches_fault}
@@ -30,16 +30,19 @@ module _ (entry : ℕ → Grammar Ace) (start : List ℕ) where
   pub entries_fault : (es : List Ace) (rest : List ℕ) (d : TextFault × List ℕ) → EntriesReach entry start es rest → begins rest (codes "(") ≡ true → find (entry (acl_size_of es)) (drop 1 rest) ≡ Err d → find (entries_of entry) start ≡ Err d
   entries_fault es rest d reached stands fails = reaches_fault opening (λ before u. entry (acl_size_of before)) start es rest tt (drop 1 rest) d reached (rw stands refl) fails
 
--- the first entry stands at the start, unless none has been read
-abbrev pub IsBegun : (ℕ → Grammar Ace) → List ℕ → List Ace → List ℕ → Type 0
-IsBegun entry start es rest = ((es ≡ []) × (rest ≡ start)) ⊎ IsOk (find (first_of entry) start)
+-- an entry was parsed after these
+pub has_one-push : (es : List Ace) (e : Ace) → has_one (es ++ e ∷ []) ≡ true
+has_one-push [] e = refl
+has_one-push (x ∷ es) e = refl
 
-pub first_stands : (entry : ℕ → Grammar Ace) (start : List ℕ) (es : List Ace) (rest : List ℕ) (e : Ace) (after : List ℕ) → IsBegun entry start es rest → begins rest (codes "(") ≡ true → find (entry (acl_size_of es)) (drop 1 rest) ≡ Ok (e, after) → IsOk (find (first_of entry) start)
-first_stands entry start es rest e after (inr stood) stands one = stood
-first_stands entry start es rest e after (inl none) stands one =
-    let opens : begins start (codes "(") ≡ true = rw none.1 at stands in
-    let first : find (entry (acl_size_of [])) (drop 1 start) ≡ Ok (e, after) = rw (none.0, none.1) at one in
-    rw (opens, first) refl
+-- entries were parsed, which all are stored unless an allocation failed; this is what follows them
+pub record Parsed (entry : ℕ → Grammar Ace) (start : List ℕ) (items : List Ace) (stored : Bool) (size : ℕ) (rest : List ℕ) : Type 0 where
+  pub entries : List Ace
+  pub reached : EntriesReach entry start entries rest
+  pub sized : size ≡ acl_size_of entries
+  pub fits : size ≤ 65535
+  pub kept : stored ≡ true → items ≡ entries
+  pub lost : stored ≡ false → has_one entries ≡ true
 
 -- what an entry takes off the text
 pub entry_takes : (entry : ℕ → Grammar Ace) (size : ℕ) (rest : List ℕ) (e : Ace) (after : List ℕ) → begins rest (codes "(") ≡ true → find (entry size) (drop 1 rest) ≡ Ok (e, after) → length after < length rest
@@ -59,3 +62,16 @@ list_made (Ok l) list entries h e = (let same : l ≡ list = ok_list l list e in
     ok_list : (a b : List Ace) → ◌≡◌ {A = Result (List Ace) AclTooLarge} (Ok a) (Ok b) → a ≡ b
     ok_list a b e = cc
 list_made (Err x) list entries h e = absurd cc
+
+-- one more entry, which is stored unless this or an earlier allocation fails
+pub parsed_more : (entry : ℕ → Grammar Ace) (start : List ℕ) (items : List Ace) (stored : Bool) (size : ℕ) (rest : List ℕ) (e : Ace) (after : List ℕ) (more : List Ace) (still : Bool)
+    → Parsed entry start items stored size rest → begins rest (codes "(") ≡ true → find (entry size) (drop 1 rest) ≡ Ok (e, after) → size + ace_size e ≤ 65535
+    → (still ≡ true → (stored ≡ true) × (more ≡ items ++ e ∷ [])) → Parsed entry start more still (size + ace_size e) after
+parsed_more entry start items stored size rest e after more still so_far opens one fits kept = record {
+  entries = so_far.entries ++ e ∷ [];
+  reached = entries_more entry start so_far.entries rest e after so_far.reached opens (rw (sym so_far.sized) one);
+  sized = let grown = acl_size-push so_far.entries e in let sized = so_far.sized in omega arith;
+  fits = fits;
+  kept = λ is. let k = kept is in k.1 ∙ ap (λ es. es ++ e ∷ []) (so_far.kept k.0);
+  lost = λ isnt. has_one-push so_far.entries e;
+}

@@ -1,5 +1,5 @@
 -- Entries ([MS-DTYP] 2.5.1.1, ace).
-use Rattle.std.specs.Prelude.{ℕ, ◌+◌, Bool, nat_lt, ◌==◌, ◌&&◌, not, List, [], ◌∷◌, length, drop, map, Option, codes}
+use Rattle.std.specs.Prelude.{ℕ, ◌+◌, Bool, true, false, nat_lt, ◌==◌, ◌&&◌, not, List, [], ◌∷◌, length, drop, map, Option, codes}
 use Rattle.sd_acl.specs.Ace.{ace_size, acl_size_of, named_flags}
 use Rattle.sd_acl.specs.declared.ace.Ace.{Ace}
 use Rattle.sd_acl.specs.declared.ace.AceKind.{AceKind}
@@ -10,11 +10,11 @@ use Rattle.sd_text.specs.Grammar.{Grammar, Name, value, refused, choose, word, m
 use Rattle.sd_text.specs.Rights.{bits, bits_of, rights}
 use Rattle.sd_text.specs.Sid.{begins_letter, sid}
 
--- what leads an entry
+-- what precedes an entry
 abbrev pub opening : List (Name (Unit {0}))
 opening = record { letters = codes "("; stands_for = tt } ∷ []
 
--- just this type stands there: the letters that the text begins with are one
+-- the text begins with this type: with this letter, and no other follows it
 abbrev pub is_type : List ℕ → List ℕ → Bool
 is_type letter text = begins text letter && not (begins_letter (drop 1 text))
 
@@ -32,12 +32,12 @@ flag_names = map (λ (flag : List ℕ × ℕ). bits flag.0 flag.1) named_flags
 unfoldable pub guid : Grammar (Unit {0})
 guid = choose (λ text. begins text (codes ";")) (word (codes ";")) (choose (λ text. length text == 0) (refused Syntax) (refused ObjectGuid))
 
--- the entry's end, where the list that it joins has a size of so many bytes
+-- the entry's end, when the list before it has a size of so many bytes
 unfoldable pub entry_end : ℕ → Ace → Grammar Ace
 entry_end size entry = choose (λ text. begins text (codes ")") && nat_lt 65535 (size + ace_size entry)) (refused AclTooLarge)
     (word (codes ")") >>= λ u. value entry)
 
--- an entry behind its `(`, where the list that it joins has a size of so many bytes
+-- an entry after its `(`, when the list before it has a size of so many bytes
 unfoldable pub entry : Option Domain → ℕ → Grammar Ace
 entry domain size = do
   allows ← kind
@@ -51,18 +51,15 @@ entry domain size = do
   trustee ← sid domain
   entry_end size (record { kind = allows; flags = record { 0 = flags }; mask = mask; sid = trustee })
 
+-- there is an entry
+abbrev pub has_one : List Ace → Bool
+has_one [] = false
+has_one (e ∷ es) = true
+
 -- any number of entries, each knowing the size of the list before it
 abbrev pub entries_of : (ℕ → Grammar Ace) → Grammar (List Ace)
 entries_of entry = many opening (λ before u. entry (acl_size_of before))
 
--- the first of them, with its `(`
-abbrev pub first_of : (ℕ → Grammar Ace) → Grammar Ace
-first_of entry = word (codes "(") >>= λ u. entry (acl_size_of [])
-
 -- the entries of a DACL
 unfoldable pub entries : Option Domain → Grammar (List Ace)
 entries domain = entries_of (entry domain)
-
--- the first entry of a DACL
-unfoldable pub first_entry : Option Domain → Grammar Ace
-first_entry domain = first_of (entry domain)

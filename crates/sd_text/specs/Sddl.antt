@@ -1,58 +1,64 @@
 -- Security descriptors as text ([MS-DTYP] 2.5.1.1).
-use Rattle.std.specs.Prelude.{ℕ, true, false, List, [], ◌∷◌, Option, Some, None, codes}
+use Rattle.std.specs.Prelude.{ℕ, Bool, true, false, List, [], ◌∷◌, Option, Some, None, codes}
 use Rattle.sd_sid.specs.Sid.{SidValue}
 use Rattle.sd_acl.specs.Descriptor.{DescriptorValue}
-use Rattle.sd_acl.specs.declared.ace.Ace.{Ace}
+use Rattle.sd_acl.specs.declared.descriptor.Dacl.{Dacl}
 use Rattle.sd_acl.specs.declared.descriptor.Dacl.TheVariants.{Absent, Null, List as Entries}
 use Rattle.sd_text.specs.declared.descriptor.DaclWord.{DaclWord}
 use Rattle.sd_text.specs.declared.descriptor.DaclWord.TheVariants.{Protected, AutoReq, AutoInherited, NoAccessControl}
 use Rattle.sd_text.specs.declared.descriptor.DaclWords.{DaclWords}
 use Rattle.sd_text.specs.declared.descriptor.DaclPart.{DaclPart}
 use Rattle.sd_text.specs.declared.domain.Domain.{Domain}
-use Rattle.sd_text.specs.declared.fault.TextFault.TheVariants.{Syntax, HasSacl}
+use Rattle.sd_text.specs.declared.fault.TextFault.TheVariants.{HasSacl}
 use Rattle.sd_text.specs.Grammar.{Grammar, Name, value, refused, choose, word, run, begins, whole, ◌>>=◌}
 use Rattle.sd_text.specs.Sid.{sid}
-use Rattle.sd_text.specs.Entry.{entries, first_entry}
+use Rattle.sd_text.specs.Entry.{has_one, entries}
 
--- a section of one SID, where its head stands
+-- a section of one SID, if its head is there
 unfoldable pub sid_section : Option Domain → List ℕ → Grammar (Option SidValue)
 sid_section domain head = choose (λ text. begins text head) (word head >>= λ u. sid domain >>= λ trustee. value (Some trustee)) (value None)
 
--- a word for this
+-- a keyword for this
 abbrev pub dacl_word : List ℕ → DaclWord → Name DaclWord
 dacl_word letters meaning = record { letters = letters; stands_for = meaning }
 
--- the words of a DACL's section
+-- the keywords of a DACL's section
 abbrev pub dacl_words : List (Name DaclWord)
 dacl_words = dacl_word (codes "P") Protected ∷ dacl_word (codes "AR") AutoReq ∷ dacl_word (codes "AI") AutoInherited ∷ dacl_word (codes "NO_ACCESS_CONTROL") NoAccessControl ∷ []
 
--- no word
+-- no keyword
 abbrev pub no_words : DaclWords
 no_words = record { protected = false; auto_req = false; auto_inherited = false; no_access_control = false }
 
--- one word more
+-- one keyword more
 abbrev pub with_word : DaclWords → DaclWord → DaclWords
 with_word words Protected = record words { protected = true }
 with_word words AutoReq = record words { auto_req = true }
 with_word words AutoInherited = record words { auto_inherited = true }
 with_word words NoAccessControl = record words { no_access_control = true }
 
--- a run of words
+-- a run of keywords
 unfoldable pub words : Grammar DaclWords
 words = run dacl_words with_word no_words
 
--- behind the words a list, unless there is no access control
+-- after the keywords a list, unless there is no access control
 unfoldable pub dacl_behind : Option Domain → DaclWords → Grammar DaclPart
 dacl_behind domain found = choose (λ text. found.no_access_control) (value (record { dacl = Null; words = found }))
     (entries domain >>= λ list. value (record { dacl = Entries list; words = found }))
 
--- the section of the DACL, where its head stands
+-- the section of the DACL, if its head is there
 unfoldable pub dacl_section : Option Domain → Grammar DaclPart
 dacl_section domain = choose (λ text. begins text (codes "D:")) (word (codes "D:") >>= λ u. words >>= λ found. dacl_behind domain found) (value (record { dacl = Absent; words = no_words }))
 
--- no section of a SACL stands there
+-- no section of a SACL is there
 unfoldable pub no_sacl : Grammar (Unit {0})
 no_sacl = choose (λ text. begins text (codes "S:")) (refused HasSacl) (value tt)
+
+-- the DACL has an entry: only then does parsing allocate
+abbrev pub has_entry : Dacl → Bool
+has_entry Absent = false
+has_entry Null = false
+has_entry (Entries es) = has_one es
 
 -- the sections of the owner, the group and the DACL
 unfoldable pub parts : Option Domain → Grammar DescriptorValue
@@ -69,18 +75,10 @@ sections domain = do
   u ← no_sacl
   value descriptor
 
--- the text of a descriptor, where the aliases of domains are those of this one
+-- the text of a descriptor, with the domain that aliases refer to
 abbrev pub sddl_in : Option Domain → Grammar DescriptorValue
 sddl_in domain = whole (sections domain)
 
--- the text of a descriptor, where no domain is given
+-- the text of a descriptor, without a domain
 abbrev pub sddl : Grammar DescriptorValue
 sddl = sddl_in None
-
--- the section of a DACL as far as the end of its first entry
-unfoldable pub begun_dacl : Option Domain → Grammar Ace
-begun_dacl domain = word (codes "D:") >>= λ u. words >>= λ found. choose (λ text. found.no_access_control) (refused Syntax) (first_entry domain)
-
--- the sections as far as there
-unfoldable pub begun_sddl : Option Domain → Grammar Ace
-begun_sddl domain = sid_section domain (codes "O:") >>= λ owner. sid_section domain (codes "G:") >>= λ group. begun_dacl domain

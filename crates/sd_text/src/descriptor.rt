@@ -1,21 +1,21 @@
 //! Security descriptors as text: [MS-DTYP] 2.5.1.1.
 
-ghost use Rattle.std.specs.Prelude.{◌≡◌, None, Ok, IfOk, IfErr, IsErrOf};
+ghost use Rattle.std.specs.Prelude.{◌≡◌, Ok, IfOk, IfErr, IfSome, IsErrOf};
 ghost use Rattle.sd_acl.specs.Dacl.{IsAbsent};
 ghost use Rattle.sd_acl.specs.Descriptor.{DescriptorValue, descriptor_of};
-ghost use Rattle.sd_text.specs.Grammar.{Spells, BeginsWith};
+ghost use Rattle.sd_text.specs.Grammar.{Spells, SpellsOne};
 ghost use Rattle.sd_text.specs.Fault.{StandsIn};
-ghost use Rattle.sd_text.specs.Sddl.{sid_section, words, no_words, with_word, dacl_section, no_sacl, parts, sections, sddl, sddl_in, begun_dacl, begun_sddl};
+ghost use Rattle.sd_text.specs.Sddl.{sid_section, words, no_words, with_word, dacl_section, has_entry, no_sacl, parts, sections, sddl, sddl_in};
 ghost use Rattle.sd_text.specs.Finding.{Gives, GivesUnlessMemory, find};
 
 use crate::cursor::Cursor;
 use crate::domain::Domain;
-use crate::fault::{Stop, TextError, TextFault};
+use crate::fault::{TextError, TextFault};
 use sd_acl::{Dacl, Descriptor};
 use sd_sid::Sid;
 use std::alloc::Global;
 
-/// A word of a DACL's section.
+/// A keyword of a DACL's section.
 #[derive(Clone, Copy)]
 pub(crate) enum DaclWord {
     Protected,
@@ -24,7 +24,7 @@ pub(crate) enum DaclWord {
     NoAccessControl,
 }
 
-/// Which words stand in a DACL's section.
+/// The keywords of a DACL's section.
 #[derive(Clone, Copy)]
 pub(crate) struct DaclWords {
     pub(crate) protected: bool,
@@ -33,7 +33,7 @@ pub(crate) struct DaclWords {
     pub(crate) no_access_control: bool,
 }
 
-/// What the section of a DACL says, or that there is none.
+/// The section of a DACL, or its absence.
 #[derive(Drop)]
 pub(crate) struct DaclPart {
     pub(crate) dacl: Dacl,
@@ -47,18 +47,18 @@ static WORDS: [(&str, DaclWord); 4] = [
     ("NO_ACCESS_CONTROL", DaclWord::NoAccessControl),
 ];
 
-/// The descriptor that the text spells ([MS-DTYP] 2.5.1): the whole text, letters of either case.
-/// A fault is the first from the left; behind a first entry, want of memory may come in its place.
+/// Parses the text of a descriptor ([MS-DTYP] 2.5.1): the whole text, letters of either case. Returns the first fault
+/// from the left, with its offset in bytes. `Memory` comes only for a valid text, and only if its DACL has an entry.
 pub fn read_sddl(alloc: Global, text: &str) -> Result<Descriptor, TextError>
     ensures value { IfOk result (λ d. Spells sddl text.now (descriptor_of d)) }
     ensures fault { IfErr result (λ e. StandsIn sddl text.now e) }
     ensures spelled { (d : DescriptorValue) → Spells sddl text.now d → IfErr result (λ e. e ≡ TextError.Memory) }
-    ensures memory { IsErrOf result TextError.Memory → BeginsWith (begun_sddl None) text.now }
+    ensures memory { IsErrOf result TextError.Memory → SpellsOne (λ d. has_entry d.dacl) sddl text.now }
 {
     read_sddl_in(alloc, None, text)
 }
 
-/// The same, where the aliases of a domain's accounts and groups stand for those of the domain that is given.
+/// The same, with the domain that aliases of a domain's accounts and groups refer to.
 pub fn read_sddl_in(
     alloc: Global,
     domain: Option<Domain>,
@@ -66,17 +66,17 @@ pub fn read_sddl_in(
 ) -> Result<Descriptor, TextError>
     ensures value { IfOk result (λ d. Spells (sddl_in domain) text.now (descriptor_of d)) }
     ensures fault { IfErr result (λ e. StandsIn (sddl_in domain) text.now e) }
-    ensures spelled { (d : DescriptorValue) → Spells (sddl_in domain) text.now d → IfErr result (λ e. e ≡ TextError.Memory) }
-    ensures memory { IsErrOf result TextError.Memory → BeginsWith (begun_sddl domain) text.now }
+    ensures spelled { (d : DescriptorValue) → Spells (sddl_in domain) text.now d
+        → IfErr result (λ e. e ≡ TextError.Memory) }
+    ensures memory { IsErrOf result TextError.Memory → SpellsOne (λ d. has_entry d.dacl) (sddl_in domain) text.now }
 {
     let mut cursor = Cursor::new(text);
     match cursor.descriptor(alloc, domain) {
-        Ok(descriptor) => Ok(descriptor),
-        Err(Stop::Fault(fault)) => Err(TextError::Fault {
+        Ok(descriptor) => descriptor.ok_or(TextError::Memory),
+        Err(fault) => Err(TextError::Fault {
             fault,
             place: cursor.place(text),
         }),
-        Err(Stop::Memory) => Err(TextError::Memory),
     }
 }
 
@@ -107,8 +107,14 @@ impl DaclWords {
 }
 
 impl Cursor<'_> {
-    fn descriptor(&mut self, alloc: Global, domain: Option<Domain>) -> Result<Descriptor, Stop>
-        ensures { GivesUnlessMemory descriptor_of result self.new.rest.now (find (sddl_in domain) self.old.rest.now) (find (begun_sddl domain) self.old.rest.now) }
+    /// The whole text, or None if an allocation failed.
+    fn descriptor(
+        &mut self,
+        alloc: Global,
+        domain: Option<Domain>,
+    ) -> Result<Option<Descriptor>, TextFault>
+        ensures { GivesUnlessMemory descriptor_of (λ d. has_entry d.dacl) result self.new.rest.now
+            (find (sddl_in domain) self.old.rest.now) }
     {
         let descriptor = self.sections(alloc, domain)?;
         self.end()?;
@@ -117,8 +123,13 @@ impl Cursor<'_> {
 
     /// The sections of a descriptor, each of which may be left out.
     #[tactic(auto, unfolding(crate::specs::Sddl::sections))]
-    fn sections(&mut self, alloc: Global, domain: Option<Domain>) -> Result<Descriptor, Stop>
-        ensures { GivesUnlessMemory descriptor_of result self.new.rest.now (find (sections domain) self.old.rest.now) (find (begun_sddl domain) self.old.rest.now) }
+    fn sections(
+        &mut self,
+        alloc: Global,
+        domain: Option<Domain>,
+    ) -> Result<Option<Descriptor>, TextFault>
+        ensures { GivesUnlessMemory descriptor_of (λ d. has_entry d.dacl) result self.new.rest.now
+            (find (sections domain) self.old.rest.now) }
     {
         let descriptor = self.parts(alloc, domain)?;
         self.no_sacl()?;
@@ -126,28 +137,31 @@ impl Cursor<'_> {
     }
 
     /// The sections of the owner, the group and the DACL.
-    #[tactic(auto, unfolding(crate::specs::Sddl::parts, crate::specs::Sddl::begun_sddl))]
+    #[tactic(auto, unfolding(crate::specs::Sddl::parts))]
     pub(crate) fn parts(
         &mut self,
         alloc: Global,
         domain: Option<Domain>,
-    ) -> Result<Descriptor, Stop>
-        ensures { GivesUnlessMemory descriptor_of result self.new.rest.now (find (parts domain) self.old.rest.now) (find (begun_sddl domain) self.old.rest.now) }
+    ) -> Result<Option<Descriptor>, TextFault>
+        ensures { GivesUnlessMemory descriptor_of (λ d. has_entry d.dacl) result self.new.rest.now
+            (find (parts domain) self.old.rest.now) }
     {
         let owner = self.sid_section(domain, b"O:")?;
         let group = self.sid_section(domain, b"G:")?;
-        let DaclPart { dacl, words } = self.dacl_section(alloc, domain)?;
-        Ok(Descriptor {
+        let Some(DaclPart { dacl, words }) = self.dacl_section(alloc, domain)? else {
+            return Ok(None);
+        };
+        Ok(Some(Descriptor {
             owner,
             group,
             dacl,
             protected: words.protected,
             auto_req: words.auto_req,
             auto_inherited: words.auto_inherited,
-        })
+        }))
     }
 
-    /// A section of one SID, where its head stands.
+    /// A section of one SID, if its head is here.
     #[tactic(auto, unfolding(crate::specs::Sddl::sid_section))]
     #[inline(always)]
     fn sid_section(&mut self, domain: Option<Domain>, head: &[u8]) -> Result<Option<Sid>, TextFault>
@@ -160,33 +174,40 @@ impl Cursor<'_> {
         }
     }
 
-    /// The section of the DACL, where its head stands.
-    #[tactic(auto, unfolding(crate::specs::Sddl::dacl_section, crate::specs::Sddl::dacl_behind, crate::specs::Sddl::begun_dacl))]
-    fn dacl_section(&mut self, alloc: Global, domain: Option<Domain>) -> Result<DaclPart, Stop>
-        ensures section { GivesUnlessMemory (λ part. part) result self.new.rest.now (find (dacl_section domain) self.old.rest.now) (find (begun_dacl domain) self.old.rest.now) }
-        ensures absent { IfOk result (λ part. IsAbsent part.dacl → part.words ≡ no_words) }
+    /// The section of the DACL, if its head is here, or None if an allocation failed.
+    #[tactic(auto, unfolding(crate::specs::Sddl::dacl_section, crate::specs::Sddl::dacl_behind))]
+    fn dacl_section(
+        &mut self,
+        alloc: Global,
+        domain: Option<Domain>,
+    ) -> Result<Option<DaclPart>, TextFault>
+        ensures section { GivesUnlessMemory (λ part. part) (λ part. has_entry part.dacl) result self.new.rest.now
+            (find (dacl_section domain) self.old.rest.now) }
+        ensures absent { IfOk result (λ found. IfSome found (λ part. IsAbsent part.dacl → part.words ≡ no_words)) }
     {
         if !self.eat(b"D:") {
-            return Ok(DaclPart {
+            return Ok(Some(DaclPart {
                 dacl: Dacl::Absent,
                 words: DaclWords::none(),
-            });
+            }));
         }
         let words = self.words();
         if words.no_access_control {
-            return Ok(DaclPart {
+            return Ok(Some(DaclPart {
                 dacl: Dacl::Null,
                 words,
-            });
+            }));
         }
-        let entries = self.entries(alloc, domain)?;
-        Ok(DaclPart {
+        let Some(entries) = self.entries(alloc, domain)? else {
+            return Ok(None);
+        };
+        Ok(Some(DaclPart {
             dacl: Dacl::List(entries),
             words,
-        })
+        }))
     }
 
-    /// A run of words, perhaps none.
+    /// A run of keywords, perhaps empty.
     pub(crate) fn words(&mut self) -> DaclWords
         ensures { find words self.old.rest.now ≡ Ok (result, self.new.rest.now) }
     {
@@ -199,7 +220,7 @@ impl Cursor<'_> {
         }
     }
 
-    /// No section of a SACL stands here.
+    /// No section of a SACL is here.
     #[tactic(auto, unfolding(crate::specs::Sddl::no_sacl))]
     fn no_sacl(&self) -> Result<(), TextFault>
         ensures { Gives (λ _. tt) result self.now.rest.now (find no_sacl self.now.rest.now) }

@@ -2,14 +2,14 @@
 
 ghost use Rattle.std.specs.Prelude.{◌≡◌, ◌≤◌, ◌+◌, Ok, IfOk};
 ghost use Rattle.sd_acl.specs.Ace.{ace_size};
-ghost use Rattle.sd_text.specs.Entry.{entries, first_entry, entry, kind, is_type, flag_names, guid, entry_end};
+ghost use Rattle.sd_text.specs.Entry.{has_one, entries, entry, kind, is_type, flag_names, guid, entry_end};
 ghost use Rattle.sd_text.specs.Rights.{bits_of};
 ghost use Rattle.sd_text.specs.Names.{rows};
 ghost use Rattle.sd_text.specs.Finding.{Gives, GivesUnlessMemory, find};
 
 use crate::cursor::Cursor;
 use crate::domain::Domain;
-use crate::fault::{Stop, TextFault};
+use crate::fault::TextFault;
 use crate::places::FLAG_PLACES;
 use bitflags::Flags;
 use sd_acl::{ACL_HEADER_BYTES, Ace, AceFlags, AceKind, AceList, MAX_ACL_BYTES};
@@ -23,21 +23,32 @@ pub(crate) fn flag_names() -> &'static [(&'static str, u32)]
 }
 
 impl Cursor<'_> {
-    /// Any number of entries.
-    pub(crate) fn entries(&mut self, alloc: Global, domain: Option<Domain>) -> Result<AceList, Stop>
-        ensures { GivesUnlessMemory (λ entries. entries) result self.new.rest.now (find (entries domain) self.old.rest.now) (find (first_entry domain) self.old.rest.now) }
+    /// Any number of entries, or None if an allocation failed. Then the rest is parsed all the same: a fault takes
+    /// precedence over out of memory.
+    pub(crate) fn entries(
+        &mut self,
+        alloc: Global,
+        domain: Option<Domain>,
+    ) -> Result<Option<AceList>, TextFault>
+        ensures { GivesUnlessMemory (λ entries. entries) has_one result self.new.rest.now
+            (find (entries domain) self.old.rest.now) }
     {
         let mut entries = Vec::new(alloc);
         let mut size = ACL_HEADER_BYTES;
+        let mut stored = true;
         'entries: while self.eat(b"(") {
             let entry = self.entry(domain, size)?;
             size += entry.size();
-            entries.push(entry)?;
+            stored = stored && entries.push(entry).is_ok();
         }
-        Ok(AceList::new(entries).unwrap())
+        if stored {
+            Ok(Some(AceList::new(entries).unwrap()))
+        } else {
+            Ok(None)
+        }
     }
 
-    /// An entry behind its `(`, where the list has this size so far.
+    /// An entry after its `(`. The list before it has this size in bytes.
     #[tactic(auto, unfolding(crate::specs::Entry::entry))]
     fn entry(&mut self, domain: Option<Domain>, size: u64) -> Result<Ace, TextFault>
         requires { size ≤ 65535 }
@@ -64,7 +75,7 @@ impl Cursor<'_> {
         )
     }
 
-    /// The type of an entry: the letters that stand here, all of them.
+    /// The type of an entry: all letters here.
     #[tactic(auto, unfolding(crate::specs::Entry::kind))]
     fn kind(&mut self) -> Result<AceKind, TextFault>
         ensures { Gives (λ kind. kind) result self.new.rest.now (find kind self.old.rest.now) }
@@ -82,14 +93,14 @@ impl Cursor<'_> {
         }
     }
 
-    /// Whether just this letter stands here, and no other behind it.
+    /// Whether this letter is here, and no other follows it.
     fn is_type(&self, letter: &[u8]) -> bool
         ensures { result ≡ is_type letter.now self.now.rest.now }
     {
         self.begins(letter) && !self.letter_at(1)
     }
 
-    /// A run of flags, perhaps none.
+    /// A run of flags, perhaps empty.
     pub(crate) fn flags(&mut self) -> AceFlags
         ensures { find (bits_of flag_names) self.old.rest.now ≡ Ok (result.0, self.new.rest.now) }
     {
@@ -110,11 +121,12 @@ impl Cursor<'_> {
         }
     }
 
-    /// The end of an entry, with which the list may not grow too large.
+    /// The end of an entry, if the list doesn't grow too large with it.
     #[tactic(auto, unfolding(crate::specs::Entry::entry_end))]
     fn entry_end(&mut self, size: u64, entry: Ace) -> Result<Ace, TextFault>
         requires { size ≤ 65535 }
-        ensures entry { Gives (λ entry. entry) result self.new.rest.now (find (entry_end size entry) self.old.rest.now) }
+        ensures entry { Gives (λ entry. entry) result self.new.rest.now
+            (find (entry_end size entry) self.old.rest.now) }
         ensures fits { IfOk result (λ entry. size + ace_size entry ≤ 65535) }
     {
         if size + entry.size() > MAX_ACL_BYTES && self.begins(b")") {

@@ -2,7 +2,6 @@
 
 ghost use Rattle.std.specs.Prelude.{◌≡◌};
 ghost use Rattle.sd_text.specs.declared.fault.TextError.TheVariants.{Memory};
-ghost use Rattle.sd_text.specs.declared.fault.Stop.TheVariants as stops;
 ghost use Rattle.sd_text.specs.Fault.{number_of, name_of};
 
 use std::alloc::{AllocError, AllocFailed};
@@ -11,7 +10,7 @@ use thiserror::Error;
 /// What is wrong with a text at its first fault from the left.
 #[derive(Clone, Copy, Debug, PartialEq, Eq)]
 pub enum TextFault {
-    /// What stands there may not stand there, or something is missing.
+    /// Something unexpected, or something is missing.
     Syntax,
     /// A section `S:`, the system access control list.
     HasSacl,
@@ -21,11 +20,11 @@ pub enum TextFault {
     ObjectGuid,
     /// Two letters that are no alias of a SID.
     UnknownAlias,
-    /// An alias that only a domain could resolve.
+    /// An alias that needs a domain.
     DomainAlias,
     /// A number that is too large, or a sixteenth sub-authority.
     Range,
-    /// The entry with which the list passes the size that its header can say.
+    /// An entry with which the list exceeds 65,535 bytes, the most that its header can hold.
     AclTooLarge,
 }
 
@@ -63,7 +62,7 @@ impl TextFault {
     }
 }
 
-/// Why a text was not read: its first fault and the byte at which it stands, counted from 0, or want of memory.
+/// Why a text was not parsed: its first fault and that fault's offset in bytes from 0, or out of memory.
 #[derive(Clone, Copy, Debug, PartialEq, Eq, Error)]
 pub enum TextError {
     #[error("{} at {place}", .fault.name())]
@@ -85,28 +84,5 @@ impl<T: Drop> From<AllocFailed<T>> for TextError {
 
     fn from(_e: AllocFailed<T>) -> TextError {
         TextError::Memory
-    }
-}
-
-/// Why a reader stopped: at a fault, where its cursor stands, or for want of memory.
-#[derive(Clone, Copy, Debug)]
-pub(crate) enum Stop {
-    Fault(TextFault),
-    Memory,
-}
-
-impl From<TextFault> for Stop {
-    ghost from_gives = { λ fault stop. stop ≡ stops.Fault fault };
-
-    fn from(fault: TextFault) -> Stop {
-        Stop::Fault(fault)
-    }
-}
-
-impl<T: Drop> From<AllocFailed<T>> for Stop {
-    ghost from_gives = { λ _ stop. stop ≡ stops.Memory };
-
-    fn from(_e: AllocFailed<T>) -> Stop {
-        Stop::Memory
     }
 }

@@ -1,16 +1,16 @@
-//! The section of a SACL, which is read to be left out: [MS-DTYP] 2.5.1.1, sacl.
+//! The section of a SACL, which is parsed and left out: [MS-DTYP] 2.5.1.1, sacl.
 
 ghost use Rattle.std.specs.Prelude.{◌≡◌, Bool, IfOk, IfErr, IsErrOf};
 ghost use Rattle.sd_acl.specs.Descriptor.{DescriptorValue, descriptor_of};
-ghost use Rattle.sd_text.specs.Grammar.{Spells, BeginsWith};
+ghost use Rattle.sd_text.specs.Grammar.{Spells, SpellsOne};
 ghost use Rattle.sd_text.specs.Fault.{StandsIn};
-ghost use Rattle.sd_text.specs.Sddl.{begun_sddl};
+ghost use Rattle.sd_text.specs.Sddl.{has_entry};
 ghost use Rattle.sd_text.specs.Sacl.{sacl_section, sacl_entries, sacl_entry, sacl_kind, sacl_rights, sacl_trustee, passed_sid, is_sacl_type, all_sections, sddl_without_sacl};
 ghost use Rattle.sd_text.specs.Finding.{Gives, GivesUnlessMemory, find};
 
 use crate::cursor::Cursor;
 use crate::domain::Domain;
-use crate::fault::{Stop, TextError, TextFault};
+use crate::fault::{TextError, TextFault};
 use crate::places::LABEL_PLACES;
 use sd_acl::Descriptor;
 use sd_sid::Mask;
@@ -29,59 +29,76 @@ static LABEL_RIGHTS: [(&str, u32); 3] = [("NW", 0x1), ("NR", 0x2), ("NX", 0x4)];
 /// The aliases of levels of integrity, S-1-16 and one more sub-authority ([MS-DTYP] 2.4.2.4).
 static LEVELS: [(&str, ()); 5] = [("LW", ()), ("ME", ()), ("MP", ()), ("HI", ()), ("SI", ())];
 
-/// A descriptor that was read, and whether its text had the section of a SACL, which was left out.
+/// A parsed descriptor, and whether its text had the section of a SACL, which was left out.
 #[derive(Drop)]
 pub struct WithoutSacl {
     pub descriptor: Descriptor,
     pub left_out: bool,
 }
 
-/// The descriptor that the text spells, as `read_sddl_in` reads it, but that the section of a SACL may stand at its end
-/// ([MS-DTYP] 2.5.1.1, sacl): audit entries and mandatory labels, or nothing. It is read, left out, and told of.
+/// Parses the text of a descriptor as `read_sddl_in`, but accepts the section of a SACL at its end ([MS-DTYP] 2.5.1.1,
+/// sacl): audit entries and mandatory labels, or none. The section is parsed, left out, and reported. `Memory` comes
+/// only for a valid text, never in place of a fault of the SACL.
 pub fn read_sddl_without_sacl(
     alloc: Global,
     domain: Option<Domain>,
     text: &str,
 ) -> Result<WithoutSacl, TextError>
-    ensures value { IfOk result (λ r. Spells (sddl_without_sacl domain) text.now (descriptor_of r.descriptor, r.left_out)) }
+    ensures value { IfOk result (λ r. Spells (sddl_without_sacl domain) text.now
+        (descriptor_of r.descriptor, r.left_out)) }
     ensures fault { IfErr result (λ e. StandsIn (sddl_without_sacl domain) text.now e) }
-    ensures spelled { (d : DescriptorValue) (left_out : Bool) → Spells (sddl_without_sacl domain) text.now (d, left_out) → IfErr result (λ e. e ≡ TextError.Memory) }
-    ensures memory { IsErrOf result TextError.Memory → BeginsWith (begun_sddl domain) text.now }
+    ensures spelled { (d : DescriptorValue) (left_out : Bool) → Spells (sddl_without_sacl domain) text.now (d, left_out)
+        → IfErr result (λ e. e ≡ TextError.Memory) }
+    ensures memory { IsErrOf result TextError.Memory
+        → SpellsOne (λ found. has_entry found.0.dacl) (sddl_without_sacl domain) text.now }
 {
     let mut cursor = Cursor::new(text);
     match cursor.without_sacl(alloc, domain) {
-        Ok(read) => Ok(read),
-        Err(Stop::Fault(fault)) => Err(TextError::Fault {
+        Ok(read) => read.ok_or(TextError::Memory),
+        Err(fault) => Err(TextError::Fault {
             fault,
             place: cursor.place(text),
         }),
-        Err(Stop::Memory) => Err(TextError::Memory),
     }
 }
 
 impl Cursor<'_> {
-    fn without_sacl(&mut self, alloc: Global, domain: Option<Domain>) -> Result<WithoutSacl, Stop>
-        ensures { GivesUnlessMemory (λ r. (descriptor_of r.descriptor, r.left_out)) result self.new.rest.now (find (sddl_without_sacl domain) self.old.rest.now) (find (begun_sddl domain) self.old.rest.now) }
+    /// The whole text, or None if an allocation failed.
+    fn without_sacl(
+        &mut self,
+        alloc: Global,
+        domain: Option<Domain>,
+    ) -> Result<Option<WithoutSacl>, TextFault>
+        ensures { GivesUnlessMemory (λ r. (descriptor_of r.descriptor, r.left_out)) (λ found. has_entry found.0.dacl)
+            result self.new.rest.now (find (sddl_without_sacl domain) self.old.rest.now) }
     {
         let read = self.all_sections(alloc, domain)?;
         self.end()?;
         Ok(read)
     }
 
-    /// The sections of a descriptor, that of a SACL too.
+    /// The sections of a descriptor, and that of a SACL.
     #[tactic(auto, unfolding(crate::specs::Sacl::all_sections))]
-    fn all_sections(&mut self, alloc: Global, domain: Option<Domain>) -> Result<WithoutSacl, Stop>
-        ensures { GivesUnlessMemory (λ r. (descriptor_of r.descriptor, r.left_out)) result self.new.rest.now (find (all_sections domain) self.old.rest.now) (find (begun_sddl domain) self.old.rest.now) }
+    fn all_sections(
+        &mut self,
+        alloc: Global,
+        domain: Option<Domain>,
+    ) -> Result<Option<WithoutSacl>, TextFault>
+        ensures { GivesUnlessMemory (λ r. (descriptor_of r.descriptor, r.left_out)) (λ found. has_entry found.0.dacl)
+            result self.new.rest.now (find (all_sections domain) self.old.rest.now) }
     {
-        let descriptor = self.parts(alloc, domain)?;
+        let parts = self.parts(alloc, domain)?;
         let left_out = self.sacl_section(domain)?;
-        Ok(WithoutSacl {
+        let Some(descriptor) = parts else {
+            return Ok(None);
+        };
+        Ok(Some(WithoutSacl {
             descriptor,
             left_out,
-        })
+        }))
     }
 
-    /// Whether the section of a SACL stands here; it is left behind then.
+    /// Consumes the section of a SACL. Returns false if there is none.
     #[tactic(auto, unfolding(crate::specs::Sacl::sacl_section, crate::specs::Sacl::sacl_behind))]
     pub(crate) fn sacl_section(&mut self, domain: Option<Domain>) -> Result<bool, TextFault>
         ensures { Gives (λ stands. stands) result self.new.rest.now (find (sacl_section domain) self.old.rest.now) }
@@ -107,7 +124,7 @@ impl Cursor<'_> {
         Ok(())
     }
 
-    /// An entry behind its `(`.
+    /// An entry after its `(`.
     #[tactic(auto, unfolding(crate::specs::Sacl::sacl_entry))]
     fn sacl_entry(&mut self, domain: Option<Domain>) -> Result<(), TextFault>
         ensures { Gives (λ _. tt) result self.new.rest.now (find (sacl_entry domain) self.old.rest.now) }
@@ -124,7 +141,7 @@ impl Cursor<'_> {
         self.word(b")")
     }
 
-    /// The type of an entry: the letters that stand here, all of them.
+    /// The type of an entry: all letters here.
     #[tactic(auto, unfolding(crate::specs::Sacl::sacl_kind))]
     fn sacl_kind(&mut self) -> Result<SaclKind, TextFault>
         ensures { Gives (λ kind. kind) result self.new.rest.now (find sacl_kind self.old.rest.now) }
@@ -142,7 +159,7 @@ impl Cursor<'_> {
         }
     }
 
-    /// Whether just these two letters stand here, and no other behind them.
+    /// Whether these two letters are here, and no other follows them.
     fn is_sacl_type(&self, letters: &[u8]) -> bool
         ensures { result ≡ is_sacl_type letters.now self.now.rest.now }
     {
@@ -166,7 +183,7 @@ impl Cursor<'_> {
         }
     }
 
-    /// Whose the entry is: a label's SID has aliases of its own.
+    /// The SID of an entry: a label's has aliases of its own.
     #[tactic(auto, unfolding(crate::specs::Sacl::sacl_trustee))]
     fn sacl_trustee(&mut self, domain: Option<Domain>, kind: SaclKind) -> Result<(), TextFault>
         ensures { Gives (λ _. tt) result self.new.rest.now (find (sacl_trustee domain kind) self.old.rest.now) }

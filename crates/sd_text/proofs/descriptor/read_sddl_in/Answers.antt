@@ -1,20 +1,20 @@
 use Rattle.std.proofs.Common.{sym}
 use Rattle.sd_acl.specs.Descriptor.{descriptor_of}
-use Rattle.sd_text.specs.Sddl.{sddl_in, sections, begun_sddl}
-use Rattle.sd_text.proofs.Engine.{no_fault, whole_value, fault_within, fault_at, begins_with}
+use Rattle.sd_text.specs.Sddl.{sddl_in, sections, has_entry}
+use Rattle.sd_text.proofs.Engine.{no_fault, fault_within, fault_at, value_answered, memory_answered}
 use Rattle.sd_text.proofs.descriptor.read_sddl_in.Goals as goal
 
 pub place-requires : goal.place-requires
-place-requires c = let e = rw c.in-Err-Fault.field-0-is at c.in-Err-Fault.ensures in fault_within (sddl_in c.args.domain) c.args.text.now c.in-Err-Fault.fault c.descriptor.new.self.rest.now (rw (sym c.new-cursor.ensures) e)
+place-requires c = let e = c.in-Err.ensures in fault_within (sddl_in c.args.domain) c.args.text.now c.in-Err.fault c.descriptor.new.self.rest.now (rw (sym c.new-cursor.ensures) e)
 
 pub returns-in-Ok-clause-value : goal.returns-in-Ok-clause-value
-returns-in-Ok-clause-value c = whole_value (sections c.args.domain) c.args.text.now (descriptor_of c.in-Ok.descriptor) c.descriptor.new.self.rest.now (rw (sym c.new-cursor.ensures) c.in-Ok.ensures)
+returns-in-Ok-clause-value c = rw c.ok_or.ensures.value (value_answered descriptor_of (λ d. has_entry d.dacl) (sections c.args.domain) c.args.text.now c.descriptor.new.self.rest.now c.in-Ok.descriptor (rw (sym c.new-cursor.ensures) c.in-Ok.ensures))
 
-pub returns-in-Err-Fault-clause-fault : goal.returns-in-Err-Fault-clause-fault
-returns-in-Err-Fault-clause-fault c = let e = rw c.in-Err-Fault.field-0-is at c.in-Err-Fault.ensures in fault_at (sddl_in c.args.domain) c.args.text.now c.in-Err-Fault.fault c.descriptor.new.self.rest.now c.place.result (rw (sym c.new-cursor.ensures) e) c.place.ensures
+pub returns-in-Ok-clause-memory : goal.returns-in-Ok-clause-memory
+returns-in-Ok-clause-memory c is = memory_answered descriptor_of (λ d. has_entry d.dacl) (sections c.args.domain) c.args.text.now c.descriptor.new.self.rest.now c.in-Ok.descriptor (rw (sym c.new-cursor.ensures) c.in-Ok.ensures) (rw c.ok_or.ensures.value at is)
 
-pub returns-in-Err-Fault-clause-spelled : goal.returns-in-Err-Fault-clause-spelled
-returns-in-Err-Fault-clause-spelled c d spells = let e = rw c.in-Err-Fault.field-0-is at c.in-Err-Fault.ensures in absurd (no_fault (sddl_in c.args.domain) c.args.text.now d c.in-Err-Fault.fault c.place.result spells (fault_at (sddl_in c.args.domain) c.args.text.now c.in-Err-Fault.fault c.descriptor.new.self.rest.now c.place.result (rw (sym c.new-cursor.ensures) e) c.place.ensures))
+pub returns-in-Err-clause-fault : goal.returns-in-Err-clause-fault
+returns-in-Err-clause-fault c = let e = c.in-Err.ensures in fault_at (sddl_in c.args.domain) c.args.text.now c.in-Err.fault c.descriptor.new.self.rest.now c.place.result (rw (sym c.new-cursor.ensures) e) c.place.ensures
 
-pub returns-in-Err-Memory-clause-memory : goal.returns-in-Err-Memory-clause-memory
-returns-in-Err-Memory-clause-memory c _ = let e = rw c.in-Err-Memory.field-0-is at c.in-Err-Memory.ensures in begins_with (begun_sddl c.args.domain) c.args.text.now (rw (sym c.new-cursor.ensures) e)
+pub returns-in-Err-clause-spelled : goal.returns-in-Err-clause-spelled
+returns-in-Err-clause-spelled c d spells = let e = c.in-Err.ensures in absurd (no_fault (sddl_in c.args.domain) c.args.text.now d c.in-Err.fault c.place.result spells (fault_at (sddl_in c.args.domain) c.args.text.now c.in-Err.fault c.descriptor.new.self.rest.now c.place.result (rw (sym c.new-cursor.ensures) e) c.place.ensures))
