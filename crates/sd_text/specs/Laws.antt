@@ -1,5 +1,5 @@
--- What holds of every text.
-use Rattle.std.specs.Prelude.{◌≡◌, ℕ, ◌^◌, ◌<◌, ◌⊎◌, List, Option, false}
+-- Laws of all texts.
+use Rattle.std.specs.Prelude.{◌≡◌, ℕ, ◌^◌, ◌<◌, ◌⊎◌, List, ◌++◌, Option, true, false, codes}
 use Rattle.sd_sid.specs.Sid.{SidValue, IsSid}
 use Rattle.sd_acl.specs.Descriptor.{DescriptorValue, IsDescriptor, HaveNamedFlags}
 use Rattle.sd_text.specs.Canon.{sid_canon, rights_canon, canon}
@@ -9,7 +9,7 @@ use Rattle.sd_text.specs.Sddl.{sddl_in}
 use Rattle.sd_text.specs.Sid.{sid_text_in}
 use Rattle.sd_text.specs.declared.domain.Domain.{Domain}
 use Rattle.sd_text.specs.declared.fault.TextFault.{TextFault}
-use Rattle.sd_text.specs.Grammar.{Grammar, Spells, HasFault}
+use Rattle.sd_text.specs.Grammar.{Grammar, begins, Spells, HasFault}
 
 -- no text has two values
 abbrev pub HasOneValue : {A : Type 0} → Grammar A → Type 0
@@ -23,22 +23,29 @@ HasValueOrFault {A = A} grammar = (text : List ℕ) → ((a : A) × Spells gramm
 abbrev pub NeverHasBoth : {A : Type 0} → Grammar A → Type 0
 NeverHasBoth {A = A} grammar = (text : List ℕ) (a : A) (fault : TextFault) (place : ℕ) → Spells grammar text a → HasFault grammar text fault place → ⊥
 
--- no text has two faults, nor one at two places
+-- no text has two faults, nor one at two offsets
 abbrev pub HasOneFault : {A : Type 0} → Grammar A → Type 0
 HasOneFault grammar = (text : List ℕ) (f g : TextFault) (p q : ℕ) → HasFault grammar text f p → HasFault grammar text g q → (f ≡ g) × (p ≡ q)
 
--- the printed text of a descriptor spells it, whichever domain is given
+-- the printed text of a descriptor spells it, with any domain or none
 abbrev pub DescriptorsComeBack : Type 0
 DescriptorsComeBack = (domain : Option Domain) (d : DescriptorValue) → IsDescriptor d → HaveNamedFlags d.dacl → Spells (sddl_in domain) (canon d) d
 
--- that of a SID spells the SID
+-- the printed text of a SID spells it
 abbrev pub SidsComeBack : Type 0
 SidsComeBack = (domain : Option Domain) (sid : SidValue) → IsSid sid → Spells (sid_text_in domain) (sid_canon sid) sid
 
--- and that of a mask the mask
+-- the printed text of a mask spells it
 abbrev pub MasksComeBack : Type 0
 MasksComeBack = (mask : ℕ) → mask < 2 ^ 32 → Spells mask_text (rights_canon mask) mask
 
 -- a text without a SACL's section spells the same descriptor where one may be left out
 abbrev pub AreReadAlike : Type 0
 AreReadAlike = (domain : Option Domain) (text : List ℕ) (d : DescriptorValue) → Spells (sddl_in domain) text d → Spells (sddl_without_sacl domain) text (d, false)
+
+-- a text whose SACL is left out is the text of the same descriptor, and then the section of that SACL
+abbrev pub EndsWithItsSacl : Type 0
+EndsWithItsSacl =
+    (domain : Option Domain) (text : List ℕ) (d : DescriptorValue) → Spells (sddl_without_sacl domain) text (d, true)
+    → (before : List ℕ) × (section : List ℕ) × (text ≡ before ++ section) × (begins section (codes "S:") ≡ true)
+    × Spells (sddl_in domain) before d

@@ -1,7 +1,7 @@
-//! What holds of every text, whichever domain is given. Each law is the contract of a function that does nothing.
+//! Laws of all texts, with any domain or none. Each law is the contract of a function with an empty body.
 
 ghost use Rattle.std.specs.Prelude.{Option};
-ghost use Rattle.sd_text.specs.Laws.{HasOneValue, HasValueOrFault, NeverHasBoth, HasOneFault, DescriptorsComeBack, SidsComeBack, MasksComeBack, AreReadAlike};
+ghost use Rattle.sd_text.specs.Laws.{HasOneValue, HasValueOrFault, NeverHasBoth, HasOneFault, DescriptorsComeBack, SidsComeBack, MasksComeBack, AreReadAlike, EndsWithItsSacl};
 ghost use Rattle.sd_text.specs.Rights.{mask_text};
 ghost use Rattle.sd_text.specs.Sacl.{sddl_without_sacl};
 ghost use Rattle.sd_text.specs.Sddl.{sddl_in};
@@ -16,7 +16,7 @@ pub fn texts_have_one_value()
     ensures masks { HasOneValue mask_text }
 {}
 
-/// Each text spells something or has a fault.
+/// Each text spells a value or has a fault.
 pub fn texts_have_a_value_or_a_fault()
     ensures descriptors { (domain : Option Domain) → HasValueOrFault (sddl_in domain) }
     ensures without_sacl { (domain : Option Domain) → HasValueOrFault (sddl_without_sacl domain) }
@@ -24,7 +24,7 @@ pub fn texts_have_a_value_or_a_fault()
     ensures masks { HasValueOrFault mask_text }
 {}
 
-/// A text that spells something has no fault.
+/// A text that spells a value has no fault.
 pub fn texts_never_have_both()
     ensures descriptors { (domain : Option Domain) → NeverHasBoth (sddl_in domain) }
     ensures without_sacl { (domain : Option Domain) → NeverHasBoth (sddl_without_sacl domain) }
@@ -32,7 +32,7 @@ pub fn texts_never_have_both()
     ensures masks { NeverHasBoth mask_text }
 {}
 
-/// A text has one fault at most, at one place.
+/// A text has at most one fault, at one offset.
 pub fn texts_have_one_fault()
     ensures descriptors { (domain : Option Domain) → HasOneFault (sddl_in domain) }
     ensures without_sacl { (domain : Option Domain) → HasOneFault (sddl_without_sacl domain) }
@@ -40,15 +40,21 @@ pub fn texts_have_one_fault()
     ensures masks { HasOneFault mask_text }
 {}
 
-/// What is printed spells what was printed: a descriptor whose entries have no flag outside the seven that
-/// have names, a SID, and a mask as it stands in an entry.
+/// The round trip: the printed text of a value spells it. The values are descriptors whose entries have no flag outside
+/// the seven named ones, SIDs, and masks as in an entry.
 pub fn printed_texts_come_back()
     ensures descriptors { DescriptorsComeBack }
     ensures sids { SidsComeBack }
     ensures masks { MasksComeBack }
 {}
 
-/// A text without the section of a SACL is read as the same descriptor where such a section would be left out.
+/// A text without the section of a SACL spells the same descriptor where such a section may be left out.
 pub fn texts_without_a_sacl_are_read_alike()
     ensures { AreReadAlike }
+{}
+
+/// A text whose SACL is left out is the text of the same descriptor, followed by the section of that SACL: cutting the
+/// text before its `S:` changes nothing.
+pub fn texts_end_with_their_sacl()
+    ensures { EndsWithItsSacl }
 {}

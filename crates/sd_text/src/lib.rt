@@ -1,8 +1,8 @@
 //! Security descriptors as text, in the security descriptor definition language (SDDL) of [MS-DTYP] 2.5.1.
 //!
-//! Texts of descriptors, of SIDs and of access masks are read and printed. A text is read in one pass, and
-//! refused at its first fault, whose byte is told. What is read is what the grammar in specs/ says, no more
-//! and no less; each value has one printed text, which is read as the value again.
+//! Texts of descriptors, of SIDs and of access masks are parsed and printed. A text is parsed in one pass, and an error
+//! is its first fault, with the offset in bytes. A text parses exactly if the grammar in specs/ accepts it; each value
+//! has one printed text, which parses as that value again.
 //!
 //! ```text
 //! let descriptor = read_sddl(alloc, "o:s-1-5-18d:(a;;0x1f01ff;;;wd)")?;
@@ -31,8 +31,9 @@ pub use descriptor::{read_sddl, read_sddl_in};
 pub use domain::Domain;
 pub use fault::{TextError, TextFault};
 pub use laws::{
-    printed_texts_come_back, texts_have_a_value_or_a_fault, texts_have_one_fault,
-    texts_have_one_value, texts_never_have_both, texts_without_a_sacl_are_read_alike,
+    printed_texts_come_back, texts_end_with_their_sacl, texts_have_a_value_or_a_fault,
+    texts_have_one_fault, texts_have_one_value, texts_never_have_both,
+    texts_without_a_sacl_are_read_alike,
 };
 pub use print::{print_entry, print_full_sid, print_sddl, print_sid};
 pub use rights::read_mask;
