@@ -1,5 +1,5 @@
 -- The shortest opening and journal of a tree: its root, and one addition for each other node, in the order of the paths.
-use Rattle.std.specs.Prelude.{◌≡◌, ◌≢◌, ℕ, List, [], map, drop, Some, None, option_map}
+use Rattle.std.specs.Prelude.{◌≡◌, ◌≢◌, ◌≤◌, ℕ, List, [], length, map, drop, Some, None, option_map}
 use Rattle.std.specs.FinMap.{entries}
 use Rattle.sd_path.specs.Names.{Names}
 use Rattle.sd_check.specs.Token.{TokenValue}
@@ -50,3 +50,9 @@ abbrev pub SameTreeAnswersAlike : Type 0
 SameTreeAnswersAlike =
     (o o' : Opening) (journal journal' : List Edit) → o'.mapping ≡ o.mapping → replay o' journal' ≡ replay o journal
     → AnswerAlike o journal o' journal'
+
+-- no opening and journal that make a tree have fewer edits than its shortest, not even with edits that are refused
+abbrev pub NoJournalIsShorter : Type 0
+NoJournalIsShorter =
+    (t : PlainTree) (root : RootSpec) (edits : List Edit) → IsShortest t root edits
+    → (opening : Opening) (journal : List Edit) → replay opening journal ≡ t → length edits ≤ length journal

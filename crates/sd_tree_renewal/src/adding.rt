@@ -5,7 +5,7 @@ ghost use Rattle.std.specs.FinMap.{entries};
 ghost use Rattle.sd_tree.specs.Journal.{opening_of, replay};
 ghost use Rattle.sd_tree.specs.Listing.{listed};
 ghost use Rattle.sd_tree.specs.Plain.{row_at};
-ghost use Rattle.sd_tree_renewal.specs.Renewal.{addition, spec_of, IsShortest, Makes};
+ghost use Rattle.sd_tree_renewal.specs.Renewal.{addition, spec_of, IsShortest, Makes, NoJournalIsShorter};
 
 use sd_tree::{Edit, NodeKind, NodeRef, RootSpec, Tree};
 use std::alloc::{AllocError, Global};
@@ -99,3 +99,9 @@ fn addition(alloc: Global, node: &NodeRef<'_>) -> Result<Edit, AllocError>
         }),
     }
 }
+
+/// A law: no opening and journal that make a tree have fewer edits than `shortest` returns, since an edit adds at most
+/// one node.
+pub fn no_journal_is_shorter()
+    ensures { NoJournalIsShorter }
+{}

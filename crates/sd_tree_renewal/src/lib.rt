@@ -13,6 +13,6 @@ mod adding;
 mod alike;
 mod anew;
 
-pub use adding::{Beginning, shortest};
+pub use adding::{Beginning, no_journal_is_shorter, shortest};
 pub use alike::same_tree_answers_alike;
 pub use anew::renewed;
