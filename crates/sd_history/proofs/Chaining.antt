@@ -1,5 +1,7 @@
 -- Chains of a log, what a longer log has of them, and the two steps of the word.
-use Rattle.std.proofs.Common.{◌≡◌, ◌≢◌, ℕ, ◌<◌, ◌==◌, Bool, true, false, List, [], ◌∷◌, ◌++◌, length, refl, ap, sym, ◌∙◌, subst, arith, inl, inr, append_assoc, length-append, length-set, get_or-set_same, get_or-set_other, None, slice_set}
+use Rattle.std.proofs.Common.{◌≡◌, ◌≢◌, ℕ, ◌<◌, ◌==◌, Bool, true, false, List, [], ◌∷◌, ◌++◌, length, slice_set, None}
+use Rattle.std.proofs.Common.{refl, ap, sym, ◌∙◌, subst, arith, inl, inr}
+use Rattle.std.proofs.Common.{append_assoc, length-append, length-set, get_or-set_same, get_or-set_other}
 use Rattle.std.proofs.lemmas.List.{append-nil, get_or_append_left}
 use Rattle.std.proofs.lemmas.Bool.Decides.{nat_tests}
 use mathlib.Core.List.{IsPrefix}
@@ -9,20 +11,24 @@ use Rattle.sd_history.specs.declared.entry.Entry.{Entry}
 use Rattle.sd_history.specs.Chains.{AllHome, Appends, Comparable, IsHome, IsKept, MakesPen, end_of, entry, items_from}
 
 module _ {T : Type 0} where
-  -- the rest of a log adds what it has of the chain, from where the chain had come to
+  -- the rest of a log adds what it has of the chain, from where the chain ended before
   items_next : (k : ℕ) (x : Entry T) (xs ys : List (Entry T)) (b : Bool) → (x.own == k) ≡ b
       → items_from x.next (xs ++ ys) ≡ items_from x.next xs ++ items_from (end_of x.next xs) ys
       → items_from k (xs ++ ys) ≡ items_from k xs ++ items_from (end_of k xs) ys
       → items_from k (x ∷ xs ++ ys) ≡ items_from k (x ∷ xs) ++ items_from (end_of k (x ∷ xs)) ys
-  items_next k x xs ys true is then other = rw is (ap (λ w. x.what ++ w) then ∙ sym (append_assoc x.what (items_from x.next xs) (items_from (end_of x.next xs) ys)))
+  items_next k x xs ys true is then other =
+      rw is
+      (ap (λ w. x.what ++ w) then ∙ sym (append_assoc x.what (items_from x.next xs) (items_from (end_of x.next xs) ys)))
   items_next k x xs ys false is then other = rw is other
 
-  pub items_append : (k : ℕ) (xs ys : List (Entry T)) → items_from k (xs ++ ys) ≡ items_from k xs ++ items_from (end_of k xs) ys
+  pub items_append : (k : ℕ) (xs ys : List (Entry T))
+      → items_from k (xs ++ ys) ≡ items_from k xs ++ items_from (end_of k xs) ys
   items_append k [] ys = refl
   items_append k (x ∷ xs) ys = items_next k x xs ys (x.own == k) refl (items_append x.next xs ys) (items_append k xs ys)
 
   end_next : (k : ℕ) (x : Entry T) (xs ys : List (Entry T)) (b : Bool) → (x.own == k) ≡ b
-      → end_of x.next (xs ++ ys) ≡ end_of (end_of x.next xs) ys → end_of k (xs ++ ys) ≡ end_of (end_of k xs) ys → end_of k (x ∷ xs ++ ys) ≡ end_of (end_of k (x ∷ xs)) ys
+      → end_of x.next (xs ++ ys) ≡ end_of (end_of x.next xs) ys → end_of k (xs ++ ys) ≡ end_of (end_of k xs) ys
+      → end_of k (x ∷ xs ++ ys) ≡ end_of (end_of k (x ∷ xs)) ys
   end_next k x xs ys true is then other = rw is then
   end_next k x xs ys false is then other = rw is other
 
@@ -30,21 +36,25 @@ module _ {T : Type 0} where
   end_append k [] ys = refl
   end_append k (x ∷ xs) ys = end_next k x xs ys (x.own == k) refl (end_append x.next xs ys) (end_append k xs ys)
 
-  -- a beginning of a log has a beginning of each of its chains
+  -- a prefix of a log has a prefix of each of its chains
   pub items_prefix : (k : ℕ) (xs ys : List (Entry T)) → IsPrefix xs ys → IsPrefix (items_from k xs) (items_from k ys)
   items_prefix k xs ys p = (items_from (end_of k xs) p.0, sym (items_append k xs p.0) ∙ ap (items_from k) p.1)
 
-  -- of two beginnings of one list one begins the other
+  -- of two prefixes of one list one is a prefix of the other
   pub comparable : (xs ys zs : List T) → IsPrefix xs zs → IsPrefix ys zs → Comparable xs ys
   comparable [] ys zs p q = inl (ys, refl)
   comparable (x ∷ xs) [] zs p q = inr (x ∷ xs, refl)
   comparable (x ∷ xs) (y ∷ ys) [] p q = absurd (cc (p.1))
   comparable (x ∷ xs) (y ∷ ys) (z ∷ zs) p q =
       let heads : x ≡ y = cc (p.1, q.1) in
-      elim (comparable xs ys zs (p.0, cc (p.1)) (q.0, cc (q.1))) [ inl r ↦ inl (r.0, cc (heads, r.1)) | inr r ↦ inr (r.0, cc (heads, r.1)) ]
+      elim (comparable xs ys zs (p.0, cc (p.1)) (q.0, cc (q.1))) [
+        | inl r ↦ inl (r.0, cc (heads, r.1))
+        | inr r ↦ inr (r.0, cc (heads, r.1))
+      ]
 
   -- with a pen that is not used up nothing was written
-  pub skips : (cells : List Cell) (k : ℕ) (log : List (Entry T)) → AllHome cells log → (cell cells k).1 ≡ false → (items_from k log ≡ []) × (end_of k log ≡ k)
+  pub skips : (cells : List Cell) (k : ℕ) (log : List (Entry T)) → AllHome cells log → (cell cells k).1 ≡ false
+      → (items_from k log ≡ []) × (end_of k log ≡ k)
   skips cells k [] home away = (refl, refl)
   skips cells k (x ∷ xs) home away =
       let rest = skips cells k xs home.1 away in
@@ -52,7 +62,8 @@ module _ {T : Type 0} where
       let is : (x.own == k) ≡ false = grind (arith, nat_tests) in
       rw is rest
 
-  home_wherever : (cs ds : List Cell) → ((k : ℕ) → IsHome cs k → IsHome ds k) → (log : List (Entry T)) → AllHome cs log → AllHome ds log
+  home_wherever : (cs ds : List Cell) → ((k : ℕ) → IsHome cs k → IsHome ds k)
+      → (log : List (Entry T)) → AllHome cs log → AllHome ds log
   home_wherever cs ds keeps [] home = tt
   home_wherever cs ds keeps (x ∷ xs) home = (keeps x.own home.0, home_wherever cs ds keeps xs home.1)
 
@@ -71,29 +82,40 @@ module _ {T : Type 0} where
   moved xs ys n = Unit {0}
 
 home_here : (cs : List Cell) (k n : ℕ) → k < length cs → IsHome (slice_set cs k (n, true)) k
-home_here cs k n in_range = (rw (length-set cs k (n, true)) in_range, ap (λ (c : Cell). c.1) (get_or-set_same cs k (n, true) (0, false) in_range))
+home_here cs k n in_range = (
+  rw (length-set cs k (n, true)) in_range,
+  ap (λ (c : Cell). c.1) (get_or-set_same cs k (n, true) (0, false) in_range),
+)
 
 home_set_by : (cs : List Cell) (j k n : ℕ) (b : Bool) → (j == k) ≡ b → IsHome cs j → IsHome (slice_set cs k (n, true)) j
 home_set_by cs j k n true is home =
     let same : k ≡ j = grind (arith, nat_tests) in
     subst (λ i. IsHome (slice_set cs i (n, true)) j) (sym same) (home_here cs j n home.0)
 home_set_by cs j k n false is home =
-    let other : j ≢ k = grind (arith, nat_tests) in
-    (rw (length-set cs k (n, true)) home.0, ap (λ (c : Cell). c.1) (get_or-set_other cs k j (n, true) (0, false) other) ∙ home.1)
+    let other : j ≢ k = grind (arith, nat_tests) in (
+      rw (length-set cs k (n, true)) home.0,
+      ap (λ (c : Cell). c.1) (get_or-set_other cs k j (n, true) (0, false) other) ∙ home.1,
+    )
 
 home_set : (cs : List Cell) (k n j : ℕ) → IsHome cs j → IsHome (slice_set cs k (n, true)) j
 home_set cs k n j = home_set_by cs j k n (j == k) refl
 
 home_push : (cs : List Cell) (c : Cell) (j : ℕ) → IsHome cs j → IsHome (cs ++ c ∷ []) j
-home_push cs c j home = (omega (arith, length-append cs (c ∷ []), home.0), ap (λ (d : Cell). d.1) (get_or_append_left cs (c ∷ []) (0, false) j home.0) ∙ home.1)
+home_push cs c j home = (
+  omega (arith, length-append cs (c ∷ []), home.0),
+  ap (λ (d : Cell). d.1) (get_or_append_left cs (c ∷ []) (0, false) j home.0) ∙ home.1,
+)
 
 module _ {T : Type 0} where
   -- the step that makes a pen keeps the rule, and makes one
-  pub grows_moves : (v : List (Entry T)) → Moves IsKept shown moved 0 (v, (no_nib, None)) (λ n. either (n == 0) 0 n) (MakesPen (step 0 0 0 (entry [] 0 0)) (v, (no_nib, None)))
+  pub grows_moves : (v : List (Entry T))
+      → Moves IsKept shown moved 0 (v, (no_nib, None)) (λ n. either (n == 0) 0 n)
+      (MakesPen (step 0 0 0 (entry [] 0 0)) (v, (no_nib, None)))
   grows_moves v cs log kept pre away =
       let n : ℕ = either ((cell cs 0).0 == 0) 0 (cell cs 0).0 in
       let ds : List Cell = slice_set cs 0 (n, true) in
-      let keeps : (k : ℕ) → IsHome cs k → IsHome (ds ++ (0, false) ∷ []) k = λ k h. home_push ds (0, false) k (home_set cs 0 n k h) in (
+      let keeps : (k : ℕ) → IsHome cs k → IsHome (ds ++ (0, false) ∷ []) k =
+      λ k h. home_push ds (0, false) k (home_set cs 0 n k h) in (
         kept.0.0,
         kept.0.1,
         (
@@ -101,28 +123,36 @@ module _ {T : Type 0} where
           [],
           None,
           tt,
-          (keeps 0 kept.0, home_append (ds ++ (0, false) ∷ []) log [] (home_wherever cs (ds ++ (0, false) ∷ []) keeps log kept.1) tt),
+          (
+            keeps 0 kept.0,
+            home_append (ds ++ (0, false) ∷ []) log [] (home_wherever cs (ds ++ (0, false) ∷ []) keeps log kept.1) tt,
+          ),
           inl (refl, refl),
           (length cs, refl),
         ),
       )
 
-  -- what was added stands behind all that had been seen of the chain
-  appended : (cs : List Cell) (v log : List (Entry T)) (e : Entry T) (k : ℕ) → AllHome cs log → (cell cs e.own).1 ≡ false → IsPrefix v log → end_of k v ≡ e.own
+  -- what is appended comes right after all that was seen of the chain
+  appended : (cs : List Cell) (v log : List (Entry T)) (e : Entry T) (k : ℕ)
+      → AllHome cs log → (cell cs e.own).1 ≡ false → IsPrefix v log → end_of k v ≡ e.own
       → (items_from k (log ++ e ∷ []) ≡ items_from k v ++ e.what) × (end_of k (log ++ e ∷ []) ≡ e.next)
   appended cs v log e k home away pre ends =
       let more : List (Entry T) = pre.0 ++ e ∷ [] in
       let whole : v ++ more ≡ log ++ e ∷ [] = sym (append_assoc v pre.0 (e ∷ [])) ∙ ap (λ w. w ++ e ∷ []) pre.1 in
       let behind = skips cs e.own pre.0 (home_rest cs v pre.0 (subst (AllHome cs) (sym pre.1) home)) away in
       let is : (e.own == e.own) ≡ true = grind (arith, nat_tests) in
-      let one : (items_from e.own (e ∷ []) ≡ e.what) × (end_of e.own (e ∷ []) ≡ e.next) = rw is (append-nil e.what, refl) in
-      let items : items_from (end_of k v) more ≡ e.what = ap (λ j. items_from j more) ends ∙ (items_append e.own pre.0 (e ∷ []) ∙ rw (behind.0, behind.1) one.0) in
-      let end : end_of (end_of k v) more ≡ e.next = ap (λ j. end_of j more) ends ∙ (end_append e.own pre.0 (e ∷ []) ∙ (ap (λ j. end_of j (e ∷ [])) behind.1 ∙ one.1)) in (
+      let one : (items_from e.own (e ∷ []) ≡ e.what) × (end_of e.own (e ∷ []) ≡ e.next) =
+      rw is (append-nil e.what, refl) in
+      let items : items_from (end_of k v) more ≡ e.what =
+      ap (λ j. items_from j more) ends ∙ (items_append e.own pre.0 (e ∷ []) ∙ rw (behind.0, behind.1) one.0) in
+      let end : end_of (end_of k v) more ≡ e.next =
+      ap (λ j. end_of j more) ends
+      ∙ (end_append e.own pre.0 (e ∷ []) ∙ (ap (λ j. end_of j (e ∷ [])) behind.1 ∙ one.1)) in (
         sym (ap (items_from k) whole) ∙ (items_append k v more ∙ ap (λ w. items_from k v ++ w) items),
         sym (ap (end_of k) whole) ∙ (end_append k v more ∙ end),
       )
 
-  -- the step that writes keeps the rule, and adds to the chain that the pen ends
+  -- the step that writes keeps the rule, and appends to the chain at whose end its pen is
   pub writes_moves : (v : List (Entry T)) (p : Nib) (e : Entry T) → p.right ≡ may_write → e.own ≡ p.key
       → Moves IsKept shown moved 0 (v, (p, None)) (λ n. either (n == 0) 0 n) (Appends (step 0 0 0 e) (v, (p, None)))
   writes_moves v p e right own cs log kept pre away =
@@ -139,7 +169,10 @@ module _ {T : Type 0} where
           e ∷ [],
           None,
           right,
-          (keeps 0 kept.0, home_append es log (e ∷ []) (home_wherever cs es keeps log kept.1) (subst (IsHome es) (sym own) here, tt)),
+          (
+            keeps 0 kept.0,
+            home_append es log (e ∷ []) (home_wherever cs es keeps log kept.1) (subst (IsHome es) (sym own) here, tt),
+          ),
           inl (refl, refl),
           λ k ends. appended cs v log e k kept.1 (ap (λ j. (cell cs j).1) own ∙ far.1) pre ends,
         ),

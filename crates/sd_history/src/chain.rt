@@ -1,8 +1,8 @@
-//! Which history it is.
+//! The name of one history.
 
 use std::marker::Brand;
 
-/// Which history it is: its book, and the pen that began it. Each call of a program picks it, in proofs.
+/// The name of one history: its book, and the pen that started it. Each call of a program picks these, in proofs.
 pub trait Chain {
     ghost use Rattle.std.specs.Prelude.{ℕ};
     ghost use Rattle.logbook.specs.Pages.{Book};

@@ -1,9 +1,9 @@
-//! What stands in the log.
+//! An entry of the log.
 
 use std::collections::LinkedList;
 
-/// What one step added to the log, and the cells of the pen that wrote it and of the pen that may write after it. No value of
-/// it is made: it is the log's, which is in the proofs alone.
+/// An entry of the log: what one step appended, the cell of the pen that wrote it (`own`), and that of the pen that may
+/// write after it (`next`). The log exists in the proofs alone, so no value of this type is ever made.
 pub struct Entry<T> {
     pub what: LinkedList<T>,
     pub own: u64,

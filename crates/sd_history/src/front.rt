@@ -1,4 +1,4 @@
-//! A beginning of a history that was seen.
+//! A prefix of a history that was seen.
 
 ghost use Rattle.std.specs.Prelude.{◌≡◌, ℕ};
 ghost use Rattle.sd_history.specs.Chains.{items_from, Comparable};
@@ -8,8 +8,8 @@ use crate::rule::Chained;
 use logbook::Seen;
 use std::marker::Model;
 
-/// A beginning of a history that was seen. It has no bytes; any thread may have it, and copy it. Contracts see the book and
-/// the log that was seen of it, in which `items_from` finds the edits.
+/// A prefix of a history that was seen. It has no bytes, and any thread may copy it. Contracts see the book and what
+/// was seen of its log, in which `items_from` finds the edits.
 #[derive(Drop)]
 pub struct Front<T> {
     pub(crate) seen: Seen<Entry<T>, u64, Chained>,
@@ -33,7 +33,7 @@ impl<T> Front<T> {
         }
     }
 
-    /// Of two fronts of one history one begins the other: the call does nothing but tell so.
+    /// Proves that of two fronts of one history one is a prefix of the other. It does nothing else.
     pub fn meet(&self, other: &Front<T>)
         requires { other.now.book ≡ self.now.book }
         ensures { (k : ℕ) → Comparable (items_from k self.now.log) (items_from k other.now.log) }

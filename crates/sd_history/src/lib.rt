@@ -1,16 +1,16 @@
-//! A history of edits, in the order in which their writer accepted them, that threads share in the proofs alone.
+//! The history of a writer's edits, in the order in which it accepted them. It exists in the proofs alone.
 //!
-//! Where one writer tells others of its edits, and what they were told travels by several ways, it has to be known that
-//! any two of these tales fit. A `Pencil` writes the history, one edit after the other. A `Front` is a beginning of it that
-//! was seen: it has no bytes, any thread may have it and copy it, and of two fronts of one history one begins the other. Put a
-//! front beside a value, as a field, and say in that type's invariant that the front's edits are the ones that the value
-//! stands for: then the edits of two such values, wherever they met, are comparable.
+//! One writer publishes its edits to other threads in several ways, and two threads that compare what they have seen
+//! need to know that one has seen a prefix of the other's edits. A `Pencil` appends to the history. A `Front` is a
+//! prefix of it that was seen: it has no bytes, any thread may copy it, and of two fronts of one history one is a
+//! prefix of the other. Put a front in a struct, beside a value, and let the struct's invariant say that the front's
+//! edits are those of the value: then the edits of any two such values are comparable, in any thread.
 //!
-//! Which history a front is of is a `Chain`, a type that each call of a program picks, so that a function generic over it
-//! tells its fronts from those of another history.
+//! A `Chain` is a type that names one history, and each call of a program picks its own. So a function that is generic
+//! over it can't mix up the fronts of two histories.
 //!
-//! Each edit costs two atomic steps on one private word, which holds 0 and is only ever replaced by 0. Nobody but the pencil
-//! touches it, and it decides nothing: it is there for the log of the proofs to grow at a step.
+//! An edit costs two atomic steps on one private word, which is 0 and is only replaced by 0. Only the pencil uses the
+//! word, and nothing depends on its value: the log in the proofs can grow only at such a step.
 //!
 //! ```text
 //! let mut pencil = history.named::<J>();

@@ -1,4 +1,4 @@
-//! What writes a history.
+//! The writer of a history.
 
 ghost use Rattle.std.specs.Prelude.{◌≡◌, [], ◌∷◌, ◌++◌};
 ghost use Rattle.logbook.specs.Pages.{may_write};
@@ -12,8 +12,8 @@ use logbook::{Offer, Pen, Seen, Start, Word};
 use std::marker::{Model, PhantomData};
 use std::snapshot::Snapshot;
 
-/// An empty history that has no name yet. It takes no memory. Contracts see which one it is: its book and the pen that
-/// begins it.
+/// An empty history that has no name yet. It allocates nothing. Contracts see its book, the pen that starts it, and its
+/// edits, of which there are none.
 #[derive(Drop)]
 pub struct Opened<T> {
     head: Word<Entry<T>, u64, Chained>,
@@ -28,7 +28,11 @@ impl<T> Model for Opened<T> {
 
     ghost Value = { Origin T };
 
-    ghost view = { λ o. record { book = o.seen.book; first = o.pen.nib.key; items = items_from o.pen.nib.key o.seen.log } };
+    ghost view = { λ o. record {
+      book = o.seen.book;
+      first = o.pen.nib.key;
+      items = items_from o.pen.nib.key o.seen.log;
+    } };
 
     ghost invariant = { λ o. (o.head ≡ head_of o.seen.book)
         × (o.seen.log ≡ [])
@@ -37,7 +41,7 @@ impl<T> Model for Opened<T> {
 }
 
 impl<T> Opened<T> {
-    /// A history with no edit.
+    /// A history without edits.
     pub fn new() -> Opened<T>
         ensures { result.items ≡ [] }
     {
@@ -47,7 +51,7 @@ impl<T> Opened<T> {
         Opened { head, seen, pen }
     }
 
-    /// The pencil that writes this history, under the name that the caller picked for it.
+    /// The pencil of this history, which has written nothing, under the name that the caller picked.
     pub fn named<J: Chain>(self) -> Pencil<T, J>
         requires { (self.book ≡ J.book) × (self.first ≡ J.first) }
         ensures { result ≡ [] }
@@ -62,7 +66,7 @@ impl<T> Opened<T> {
     }
 }
 
-/// What writes a history, in the order in which its owner accepted the edits. Contracts see the edits so far.
+/// The only writer of a history. Contracts see the edits so far, in the order in which they were written.
 #[derive(Drop)]
 pub struct Pencil<T, J: Chain> {
     head: Word<Entry<T>, u64, Chained>,
@@ -88,7 +92,7 @@ impl<T, J: Chain> Model for Pencil<T, J> {
 }
 
 impl<T, J: Chain> Pencil<T, J> {
-    /// The front that has seen all that was written so far.
+    /// The front that has seen exactly the edits so far.
     pub fn front(&self) -> Front<T>
         ensures { (result.book ≡ J.book) × (items_from J.first result.log ≡ self.now) }
     {
@@ -97,7 +101,7 @@ impl<T, J: Chain> Pencil<T, J> {
         }
     }
 
-    /// One more edit.
+    /// Appends one edit.
     pub fn write(&mut self, what: &T)
         ensures { self.new ≡ self.old ++ what.now ∷ [] }
     {
@@ -116,8 +120,8 @@ impl<T, J: Chain> Pencil<T, J> {
     }
 }
 
-/// A pen with which nothing was written yet. The step is made on a copy of what was seen, since it tells of the log that it
-/// only grew.
+/// A pen with which nothing was written yet. The step is made on a copy of what was seen, since its contract says only
+/// that the log has grown.
 fn fresh_pen<T>(head: &Word<Entry<T>, u64, Chained>, seen: &Seen<Entry<T>, u64, Chained>) -> Pen
     requires { head.now ≡ head_of seen.now.book }
     ensures { (result.book ≡ seen.now.book) × (result.nib.right ≡ may_write) }

@@ -1,4 +1,4 @@
-//! The rule of the log, and what its two steps tell.
+//! The rule of the log, and what its two steps do.
 
 use crate::entry::Entry;
 use logbook::{Gain, Pen, Plain, Play, Rule};
@@ -25,7 +25,7 @@ impl<T> Rule<Entry<T>, u64> for Chained {
     ghost moves = { λ ask before after answer. Unit {0} };
 }
 
-/// Nobody trades anything for a step.
+/// What the client of a step has after it: nothing new.
 pub struct Nothing;
 
 impl<T> Gain<Entry<T>, u64> for Nothing {
@@ -61,7 +61,7 @@ impl<T> Play<Entry<T>, u64> for Writes {
     ghost then = { Appends };
 }
 
-/// What is to be written, by which pen, and which pen may write after it.
+/// What to write, with which pen, and the pen that may write after it.
 #[derive(Drop)]
 pub struct Asking<T> {
     pub what: Snapshot<T>,

@@ -9,7 +9,7 @@ use std::sync::atomic::{AtomicBool, Ordering};
 use std::test::*;
 use std::thread::{Threads, join, yield_now};
 
-/// What the fronts have seen is in the clauses of `written`; at run time they cost nothing, and their pencil one word.
+/// The clauses of `written` say what the fronts have seen. A front has no bytes, and a pencil those of one word.
 #[test]
 fn fronts_of_two_edits(rt: HostRuntime) {
     let (empty, one, both) = written::<Brand>(Opened::new(), 5, 7);
@@ -46,8 +46,8 @@ fn written<J: Chain>(
     (empty, one, both)
 }
 
-/// One thread has the pencil and writes on, while another one waits for that, and copies a front that both know of.
-/// Whether it came to the copy.
+/// One thread writes with the pencil; another one waits for that, and then copies a front from before it. Returns
+/// whether the wait ended in time.
 fn is_shared<J: Chain + Send + Sync, R: Threads + Abort + Sync>(
     rt: &R,
     history: Opened<u64>,
@@ -80,7 +80,7 @@ fn is_shared<J: Chain + Send + Sync, R: Threads + Abort + Sync>(
 
 const TURNS: u64 = 1_000_000;
 
-/// Whether the flag is set within so many turns, each of which lets other threads go first.
+/// Whether the flag is set within `TURNS` turns, each of which lets other threads run.
 fn is_set_soon(flag: &AtomicBool) -> bool {
     for _ in 0..TURNS {
         if flag.load(Ordering::SeqCst) {
