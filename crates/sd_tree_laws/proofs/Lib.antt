@@ -3,9 +3,11 @@ pub mod ExplicitForm
 pub mod Keeping
 pub mod KeptGrants
 pub mod OrderGrants
+pub mod MovedLists
 pub mod Moves
 pub mod Ordered
 pub mod OwnEntries
+pub mod ProtectedFirst
 pub mod Reach
 pub mod Reordered
 pub mod Steps

@@ -73,7 +73,7 @@ module _ (t : PlainTree) (closed : IsClosed t) (source target : Names) (can : Is
     | inr out ↦ back_outside path out
   ]
 
-accepted_can : (opening : Opening) (journal : List Edit) (source target : Names) → IsLawful opening journal
+pub accepted_can : (opening : Opening) (journal : List Edit) (source target : Names) → IsLawful opening journal
     → refusal opening journal (Move source target) ≡ None → IsMovable (replay opening journal) source target
 accepted_can opening journal source target lawful accepted =
     movable (replay opening journal) source target (closed_replay opening journal lawful)

@@ -54,8 +54,8 @@ edit_stays_below g t edit path outside =
     let same_dacl = dacl_at_alike g (edited g t edit) t path (λ q way. row_at-untouched g t edit q (way_untouched edit q path way outside)) in
     ap₂ (λ row dacl. option_map (λ (r : Row). descriptor_of_row r dacl) row) same_row same_dacl
 
-nothing_from_above : (g : MappingValue) (row : Row) (dacl : NodeDacl) (above other : Option (List Ace)) → is_protected dacl ≡ true
-    → dacl_under g row dacl above ≡ dacl_under g row dacl other
+pub nothing_from_above : (g : MappingValue) (row : Row) (dacl : NodeDacl) (above other : Option (List Ace))
+    → is_protected dacl ≡ true → dacl_under g row dacl above ≡ dacl_under g row dacl other
 nothing_from_above g row Null above other h = refl
 nothing_from_above g row (Entries true entries) above other h = refl
 nothing_from_above g row (Entries false entries) above other h = absurd (false≢true h)

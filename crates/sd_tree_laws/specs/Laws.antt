@@ -1,5 +1,6 @@
 -- What follows from the rules of the tree, as laws over all trees, edits, tokens and requests.
-use Rattle.std.specs.Prelude.{◌≡◌, ◌≢◌, ℕ, Bool, true, false, ◌||◌, List, [], ◌++◌, Option, Some, None, filter}
+use Rattle.std.specs.Prelude.{◌≡◌, ◌≢◌, ℕ, Bool, true, false, ◌||◌, List, [], ◌∷◌, ◌++◌, filter}
+use Rattle.std.specs.Prelude.{Option, Some, None, IsSome}
 use Rattle.std.specs.List.{list_any, flat_map}
 use Rattle.sd_sid.specs.Mask.{holds}
 use Rattle.sd_sid.specs.Mapping.{MappingValue}
@@ -12,16 +13,18 @@ use Rattle.sd_acl.specs.declared.ace.AceKind.{AceKind}
 use Rattle.sd_acl.specs.declared.verdict.Verdict.TheVariants.{Granted}
 use Rattle.sd_check.specs.Token.{TokenValue}
 use Rattle.sd_check.specs.Check.{is_granted}
-use Rattle.sd_path.specs.Names.{Names, up, is_root, is_within}
+use Rattle.sd_path.specs.Names.{Names, up, is_root, is_within, moved_path}
 use Rattle.sd_tree.specs.Inheritance.{object_inherit, container_inherit, no_propagate, pass_on, handed_on, dacl_of_row}
 use Rattle.sd_tree.specs.Descriptors.{is_protected}
 use Rattle.sd_tree.specs.Closed.{IsClosed}
 use Rattle.sd_tree.specs.Plain.{PlainTree, row_at, dacl_at}
 use Rattle.sd_tree.specs.Edits.{edited, touches}
-use Rattle.sd_tree.specs.Answers.{descriptor_at, reply_in}
+use Rattle.sd_tree.specs.Answers.{descriptor_at, reply_in, answer}
 use Rattle.sd_tree.specs.Journal.{replay, refusal, root_refusal, IsLawful}
 use Rattle.sd_tree.specs.Refusals.{own_entries}
 use Rattle.sd_tree.specs.declared.node.Row.{Row}
+use Rattle.sd_tree.specs.declared.node.NodeDacl.{NodeDacl}
+use Rattle.sd_tree.specs.declared.node.NodeDacl.TheVariants.{Null}
 use Rattle.sd_tree.specs.declared.node.NodeKind.{NodeKind}
 use Rattle.sd_tree.specs.declared.node.NodeKind.TheVariants.{Object}
 use Rattle.sd_tree.specs.declared.opening.Opening.{Opening}
@@ -41,7 +44,7 @@ abbrev pub RootInheritsNothing : Type 0
 RootInheritsNothing =
     (g : MappingValue) (t : PlainTree) (row : Row) → row_at t [] ≡ Some row → dacl_at g t [] ≡ dacl_of_row g row None
 
--- after a lawful journal the root is there, and what holds each node is a container that is there
+-- after a valid journal the root exists, and the parent of each node exists and is a container
 abbrev pub LawfulTreesAreClosed : Type 0
 LawfulTreesAreClosed = (opening : Opening) (journal : List Edit) → IsLawful opening journal → IsClosed (replay opening journal)
 
@@ -76,6 +79,24 @@ MoveBackUndoesIt =
     → (g : MappingValue) (path : Names)
     → (row_at (edited g (edited g (replay opening journal) (Move source target)) (Move target source)) path ≡ row_at (replay opening journal) path)
     × (dacl_at g (edited g (edited g (replay opening journal) (Move source target)) (Move target source)) path ≡ dacl_at g (replay opening journal) path)
+
+-- after an accepted move each node at or below a moved one that was given such a DACL has at its new path the DACL that
+-- it had
+abbrev pub MovesUnchanged : (NodeDacl → Type 0) → Type 0
+MovesUnchanged IsGiven =
+    (opening : Opening) (journal : List Edit) (source target top path : Names) (row : Row)
+    → IsLawful opening journal → refusal opening journal (Move source target) ≡ None
+    → row_at (replay opening journal) top ≡ Some row → IsGiven row.dacl
+    → is_within source top ≡ true → is_within top path ≡ true
+    → (g : MappingValue)
+    → dacl_at g (edited g (replay opening journal) (Move source target)) (moved_path source target path)
+    ≡ dacl_at g (replay opening journal) path
+
+abbrev pub ProtectedMovesUnchanged : Type 0
+ProtectedMovesUnchanged = MovesUnchanged (λ dacl. is_protected dacl ≡ true)
+
+abbrev pub NullMovesUnchanged : Type 0
+NullMovesUnchanged = MovesUnchanged (λ dacl. dacl ≡ Null)
 
 -- another owner or group changes the DACL of its own node alone: where it took a creator's place it is handed on no further
 abbrev pub OwnerChangesOneNode : Type 0
@@ -182,3 +203,37 @@ KeepingGrantsNoNewRequest =
     → holds asked 25 ≡ false
     → reply_in g (edited g t (ProtectKeeping protected)) path token asked ≡ Verdict (Granted m)
     → reply_in g t path token asked ≡ Verdict (Granted m)
+
+-- ---- ProtectKeeping of a node, and then its move
+
+-- the journal with these two edits
+abbrev pub protected_then_moved : List Edit → Names → Names → List Edit
+protected_then_moved journal source target = journal ++ ProtectKeeping source ∷ Move source target ∷ []
+
+-- the move changes no DACL: each node has at its new path the one that it had before the move
+abbrev pub ProtectingFirstKeepsLists : Type 0
+ProtectingFirstKeepsLists =
+    (opening : Opening) (journal : List Edit) (source target path : Names)
+    → IsLawful opening (protected_then_moved journal source target) → IsSome (row_at (replay opening journal) path)
+    → (g : MappingValue)
+    → dacl_at g (replay opening (protected_then_moved journal source target)) (moved_path source target path)
+    ≡ dacl_at g (replay opening (journal ++ ProtectKeeping source ∷ [])) path
+
+-- so what is granted after both edits, at a node's new path, was granted at its path before them
+abbrev pub ProtectingFirstLetsNobodyIn : Type 0
+ProtectingFirstLetsNobodyIn =
+    (opening : Opening) (journal : List Edit) (source target path : Names) (token : TokenValue) (b : ℕ)
+    → IsLawful opening (protected_then_moved journal source target) → IsSome (row_at (replay opening journal) path)
+    → is_granted_at opening.mapping (replay opening (protected_then_moved journal source target))
+    (moved_path source target path) token b ≡ true
+    → is_granted_at opening.mapping (replay opening journal) path token b ≡ true
+
+-- and so was a request without MAXIMUM_ALLOWED
+abbrev pub ProtectingFirstGrantsNoNewRequest : Type 0
+ProtectingFirstGrantsNoNewRequest =
+    (opening : Opening) (journal : List Edit) (source target path : Names) (token : TokenValue) (asked m : ℕ)
+    → IsLawful opening (protected_then_moved journal source target) → IsSome (row_at (replay opening journal) path)
+    → holds asked 25 ≡ false
+    → answer opening (protected_then_moved journal source target) (moved_path source target path) token asked
+    ≡ Verdict (Granted m)
+    → answer opening journal path token asked ≡ Verdict (Granted m)

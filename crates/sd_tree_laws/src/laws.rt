@@ -1,47 +1,63 @@
 //! What follows from the rules of the tree.
 
-ghost use Rattle.sd_tree_laws.specs.Laws.{DaclIsOfParent, RootInheritsNothing, LawfulTreesAreClosed, OwnerChangesOneNode, GroupChangesOneNode, KeepingANullChangesNone, EditStaysBelow, MoveCarriesTheSubtree, MoveBackUndoesIt, ProtectedStandsAlone, UnmarkedEntryStays, NoPropagateGoesOneLevel, NothingWaitsInAnObject, InheritedHasId, OwnHasNoId, WithoutIdIsOwn, EveryListIsCanonical, OrderGrantsNothing, OrderKeepsOwnersLimit, KeepingLetsNobodyIn, KeepingGrantsNoNewRequest};
+ghost use Rattle.sd_tree_laws.specs.Laws.{DaclIsOfParent, RootInheritsNothing, LawfulTreesAreClosed};
+ghost use Rattle.sd_tree_laws.specs.Laws.{OwnerChangesOneNode, GroupChangesOneNode, KeepingANullChangesNone};
+ghost use Rattle.sd_tree_laws.specs.Laws.{EditStaysBelow, MoveCarriesTheSubtree, MoveBackUndoesIt};
+ghost use Rattle.sd_tree_laws.specs.Laws.{ProtectedMovesUnchanged, NullMovesUnchanged, ProtectedStandsAlone};
+ghost use Rattle.sd_tree_laws.specs.Laws.{UnmarkedEntryStays, NoPropagateGoesOneLevel, NothingWaitsInAnObject};
+ghost use Rattle.sd_tree_laws.specs.Laws.{InheritedHasId, OwnHasNoId, WithoutIdIsOwn, EveryListIsCanonical};
+ghost use Rattle.sd_tree_laws.specs.Laws.{OrderGrantsNothing, OrderKeepsOwnersLimit, KeepingLetsNobodyIn};
+ghost use Rattle.sd_tree_laws.specs.Laws.{KeepingGrantsNoNewRequest, ProtectingFirstKeepsLists};
+ghost use Rattle.sd_tree_laws.specs.Laws.{ProtectingFirstLetsNobodyIn, ProtectingFirstGrantsNoNewRequest};
 
-/// The DACL of a node is its own entries and what the DACL of its parent hands on, as it stands in the same tree; the
-/// root has nothing above it ([MS-DTYP] 2.5.3.4).
+/// The DACL of a node is its own entries and what its parent's DACL, in the same tree, passes down; the root's is its
+/// own entries alone ([MS-DTYP] 2.5.3.4).
 pub fn dacl_is_of_parent()
     ensures parent { DaclIsOfParent }
     ensures root { RootInheritsNothing }
 {}
 
-/// After a lawful journal the root is there and is a container, and so is the parent of each node.
+/// After a valid journal the root and the parent of each node exist and are containers.
 pub fn lawful_trees_are_closed()
     ensures { LawfulTreesAreClosed }
 {}
 
-/// An edit changes the descriptor of no node but the edited one and those below it; a move, of none but those at and below
-/// its source and its target.
+/// An edit changes the descriptor of no node but the edited one and those below it; a move, of none but those at and
+/// below its source and its target.
 pub fn edit_stays_below()
     ensures { EditStaysBelow }
 {}
 
-/// After an accepted move the nodes at and below the source stand at and below the target, with their kinds, owners, groups and
-/// own lists; nothing stands at the source or below it; each other node has what it had. What the moved nodes inherit is what
-/// `dacl_is_of_parent` says of the tree that results ([MS-DTYP] 2.5.3.4).
+/// After an accepted move the nodes at and below the source are at and below the target, with their kinds, owners,
+/// groups and own lists; there is none at the source or below it; each other node has what it had. What the moved nodes
+/// inherit is what `dacl_is_of_parent` says of the tree after the move ([MS-DTYP] 2.5.3.4).
 pub fn move_carries_the_subtree()
     ensures { MoveCarriesTheSubtree }
 {}
 
-/// A move there and a move back, both accepted, leave the kind, the owner, the group, the own list and the DACL of each node as they were.
+/// A move there and a move back, both accepted, leave the kind, the owner, the group, the own list and the DACL of each
+/// node as they were.
 pub fn move_back_undoes_it()
     ensures { MoveBackUndoesIt }
 {}
 
+/// An accepted move changes no DACL at or below a moved node that is protected (control bit PD), or whose DACL is null
+/// ([MS-DTYP] 2.4.6).
+pub fn protected_moves_unchanged()
+    ensures protected { ProtectedMovesUnchanged }
+    ensures null { NullMovesUnchanged }
+{}
+
 /// SetOwner and SetGroup change the DACL of no node but the edited one: what CREATOR OWNER and CREATOR GROUP became in
-/// it goes no further ([MS-DTYP] 2.5.3.4). Nor does ProtectKeeping of a node whose DACL is null.
+/// it isn't inherited further ([MS-DTYP] 2.5.3.4). Nor does ProtectKeeping of a node whose DACL is null.
 pub fn trustee_stays_in_the_node()
     ensures owner { OwnerChangesOneNode }
     ensures group { GroupChangesOneNode }
     ensures null { KeepingANullChangesNone }
 {}
 
-/// The DACL of a protected node (control bit PD), and each DACL below it, is the same whatever stands above the
-/// node ([MS-DTYP] 2.4.6).
+/// The DACL of a protected node (control bit PD), and each DACL below it, is the same whatever is above the node
+/// ([MS-DTYP] 2.4.6).
 pub fn protected_stands_alone()
     ensures { ProtectedStandsAlone }
 {}
@@ -51,27 +67,27 @@ pub fn unmarked_entry_stays()
     ensures { UnmarkedEntryStays }
 {}
 
-/// An entry with NP goes one level down and no further: what a child has of it hands nothing on
+/// An entry with NP is inherited by children and no further: what a child has of it passes nothing down
 /// ([MS-DTYP] 2.4.4.1, NO_PROPAGATE_INHERIT_ACE).
 pub fn no_propagate_goes_one_level()
     ensures { NoPropagateGoesOneLevel }
 {}
 
-/// No inherited entry of an object waits to be inherited further: none has OI, CI, NP or IO.
+/// No inherited entry of an object is there for children: none has OI, CI, NP or IO.
 pub fn nothing_waits_in_an_object()
     ensures { NothingWaitsInAnObject }
 {}
 
-/// Each entry that a node inherits has the flag ID, and after a lawful journal no entry of a node's own has it: what
-/// its DACL has without the flag is what the node has of its own ([MS-DTYP] 2.4.4.1, INHERITED_ACE).
+/// Each entry that a node inherits has the flag ID, and after a valid journal none of a node's own entries has it: its
+/// own entries are those of its DACL without the flag ([MS-DTYP] 2.4.4.1, INHERITED_ACE).
 pub fn inherited_has_id()
     ensures inherited { InheritedHasId }
     ensures own { OwnHasNoId }
     ensures explicit { WithoutIdIsOwn }
 {}
 
-/// After a lawful journal each node's DACL is in canonical order: the explicit entries stand before the inherited
-/// ones, and among the explicit the denies before the allows.
+/// After a valid journal each node's DACL is in canonical order: the explicit entries precede the inherited ones, and
+/// the explicit denies the explicit allows.
 pub fn every_list_is_canonical()
     ensures { EveryListIsCanonical }
 {}
@@ -83,10 +99,18 @@ pub fn order_grants_nothing()
     ensures limits { OrderKeepsOwnersLimit }
 {}
 
-/// Protecting a node with what it had inherited can lock out and never lets in: a bit that is granted afterwards,
-/// at the node, below it or anywhere else, was granted before, to each token, and so was a request that a check
-/// grants as it was asked for.
+/// ProtectKeeping can take rights away and never adds any: a bit that is granted afterwards, at the node, below it or
+/// anywhere else, was granted before, to each token, and so was a request without MAXIMUM_ALLOWED.
 pub fn keeping_lets_nobody_in()
     ensures bits { KeepingLetsNobodyIn }
     ensures requests { KeepingGrantsNoNewRequest }
+{}
+
+/// ProtectKeeping of a node and then its move: the move changes no DACL, and the two edits add no right. A bit that is
+/// granted afterwards, at a node's new path, was granted at the node before, to each token, and so was a request
+/// without MAXIMUM_ALLOWED.
+pub fn protecting_first_lets_nobody_in()
+    ensures lists { ProtectingFirstKeepsLists }
+    ensures bits { ProtectingFirstLetsNobodyIn }
+    ensures requests { ProtectingFirstGrantsNoNewRequest }
 {}

@@ -1,7 +1,7 @@
 //! What follows from the rules of the tree, as laws over all trees, edits, tokens and requests.
 //!
-//! Each law is the contract of a function that does nothing: to call it is to have the law. No crate needs one to be
-//! right; who builds on a tree may cite them. docs/TREE.md tells them in prose.
+//! Each law is the contract of a function with an empty body: a caller of it has the law. No crate needs one to be
+//! right; proofs above a tree may cite them. docs/PROOFS.md lists them.
 #![tactic(auto)]
 
 mod laws;
@@ -10,5 +10,6 @@ pub use laws::{
     dacl_is_of_parent, edit_stays_below, every_list_is_canonical, inherited_has_id,
     keeping_lets_nobody_in, lawful_trees_are_closed, move_back_undoes_it, move_carries_the_subtree,
     no_propagate_goes_one_level, nothing_waits_in_an_object, order_grants_nothing,
-    protected_stands_alone, trustee_stays_in_the_node, unmarked_entry_stays,
+    protected_moves_unchanged, protected_stands_alone, protecting_first_lets_nobody_in,
+    trustee_stays_in_the_node, unmarked_entry_stays,
 };

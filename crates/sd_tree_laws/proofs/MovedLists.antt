@@ -1,0 +1,81 @@
+-- That nodes which inherit nothing, and those below them, keep their DACLs in a move.
+use Rattle.std.proofs.Common.{◌≡◌, true, List, ◌∷◌, ◌++◌, Option, Some, refl, sym, ap, ◌∙◌, append_assoc}
+use Rattle.sd_sid.specs.Mapping.{MappingValue}
+use Rattle.sd_acl.specs.declared.ace.Ace.{Ace}
+use Rattle.sd_path.specs.Names.{Names, is_within, moved_path}
+use Rattle.sd_path.proofs.Paths.{moved_path-append, within_rest}
+use Rattle.sd_tree.specs.Closed.{IsClosed, IsMovable}
+use Rattle.sd_tree.specs.Edits.{moved}
+use Rattle.sd_tree.specs.Inheritance.{dacl_of_row, dacl_under}
+use Rattle.sd_tree.specs.Journal.{replay}
+use Rattle.sd_tree.specs.Plain.{PlainTree, row_at, dacl_at, dacl_here}
+use Rattle.sd_tree.specs.declared.node.NodeDacl.{NodeDacl}
+use Rattle.sd_tree.specs.declared.node.Row.{Row}
+use Rattle.sd_tree.proofs.Closed.{closed_replay}
+use Rattle.sd_tree.proofs.Dacls.{dacl_at_here, dacl_over, dacl_at-append}
+use Rattle.sd_tree.proofs.Moved.{below_shift, row_at-moved_there}
+use Rattle.sd_tree_laws.proofs.Moves.{accepted_can}
+use Rattle.sd_tree_laws.proofs.Reach.{nothing_from_above}
+use Rattle.sd_tree_laws.specs.Laws.{MovesUnchanged, NullMovesUnchanged, ProtectedMovesUnchanged}
+
+-- nothing comes from above to a node that was given this DACL
+abbrev pub StandsAlone : NodeDacl → Type 0
+StandsAlone dacl =
+    (g : MappingValue) (row : Row) (above other : Option (List Ace))
+    → dacl_under g row dacl above ≡ dacl_under g row dacl other
+
+module _ (g : MappingValue) (t : PlainTree) (closed : IsClosed t) (source target : Names)
+    (can : IsMovable t source target) where
+  there : (rest : Names) → row_at (moved t source target) (target ++ rest) ≡ row_at t (source ++ rest)
+  there = row_at-moved_there t closed source target can.place.free
+
+  top_stays : (mid : Names) (row : Row) → row_at t (source ++ mid) ≡ Some row → StandsAlone row.dacl
+      → dacl_at g (moved t source target) (target ++ mid) ≡ dacl_at g t (source ++ mid)
+  top_stays mid row is alone =
+      let t' = moved t source target in
+      dacl_at_here g t' (target ++ mid) ∙ ap (λ o. dacl_here g o (dacl_over g t' (target ++ mid))) (there mid ∙ is)
+      ∙ alone g row (dacl_over g t' (target ++ mid)) (dacl_over g t (source ++ mid))
+      ∙ sym (dacl_at_here g t (source ++ mid) ∙ ap (λ o. dacl_here g o (dacl_over g t (source ++ mid))) is)
+
+  below_stays : (mid rest : Names) → dacl_at g (moved t source target) (target ++ mid) ≡ dacl_at g t (source ++ mid)
+      → dacl_at g (moved t source target) (target ++ (mid ++ rest)) ≡ dacl_at g t (source ++ (mid ++ rest))
+  below_stays mid rest same =
+      let t' = moved t source target in
+      ap (dacl_at g t') (sym (append_assoc target mid rest)) ∙ dacl_at-append g t' (target ++ mid) rest
+      ∙ below_shift g t' t (target ++ mid) (source ++ mid) (dacl_at g t' (target ++ mid))
+      (dacl_at g t (source ++ mid)) rest same
+      (λ name below.
+      ap (row_at t') (append_assoc target mid (name ∷ below)) ∙ there (mid ++ name ∷ below)
+      ∙ sym (ap (row_at t) (append_assoc source mid (name ∷ below))))
+      ∙ sym (ap (dacl_at g t) (sym (append_assoc source mid rest)) ∙ dacl_at-append g t (source ++ mid) rest)
+
+  pub moves_unchanged : (top path : Names) (row : Row) → row_at t top ≡ Some row → StandsAlone row.dacl
+      → is_within source top ≡ true → is_within top path ≡ true
+      → dacl_at g (moved t source target) (moved_path source target path) ≡ dacl_at g t path
+  moves_unchanged top path row is alone inside below =
+      let at_source = within_rest source top inside in
+      let at_top = within_rest top path below in
+      let mid = at_source.0 in
+      let rest = at_top.0 in
+      let way : path ≡ source ++ (mid ++ rest) =
+      at_top.1 ∙ ap (λ p. p ++ rest) at_source.1 ∙ append_assoc source mid rest in
+      ap (λ p. dacl_at g (moved t source target) (moved_path source target p)) way
+      ∙ ap (dacl_at g (moved t source target)) (moved_path-append source target (mid ++ rest))
+      ∙ below_stays mid rest (top_stays mid row (ap (row_at t) (sym at_source.1) ∙ is) alone)
+      ∙ ap (dacl_at g t) (sym way)
+
+all_move_unchanged : (IsGiven : NodeDacl → Type 0) → ((dacl : NodeDacl) → IsGiven dacl → StandsAlone dacl)
+    → MovesUnchanged IsGiven
+all_move_unchanged IsGiven alone opening journal source target top path row lawful accepted is given inside below g =
+    moves_unchanged g (replay opening journal) (closed_replay opening journal lawful) source target
+    (accepted_can opening journal source target lawful accepted) top path row is (alone row.dacl given) inside below
+
+pub protected_moves_unchanged : ProtectedMovesUnchanged
+protected_moves_unchanged =
+    all_move_unchanged _ (λ dacl protected g row above other. nothing_from_above g row dacl above other protected)
+
+pub null_moves_unchanged : NullMovesUnchanged
+null_moves_unchanged =
+    all_move_unchanged _
+    (λ dacl null g row above other.
+    ap (λ d. dacl_under g row d above) null ∙ sym (ap (λ d. dacl_under g row d other) null))

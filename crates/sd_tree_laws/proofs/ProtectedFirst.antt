@@ -1,0 +1,164 @@
+-- That a move after ProtectKeeping of its source changes no DACL, so that the two edits together let nobody in.
+use Rattle.std.proofs.Common.{◌≡◌, ℕ, false, true, List, [], ◌∷◌, ◌++◌, Option, Some, None, IsSome, option_map}
+use Rattle.std.proofs.Common.{inl, inr, refl, sym, subst, ap, ap₂, ◌∙◌, append_assoc}
+use Rattle.std.proofs.lemmas.Bool.{cases_Bool}
+use Rattle.sd_sid.specs.Mapping.{MappingValue}
+use Rattle.sd_acl.specs.declared.ace.Ace.{Ace}
+use Rattle.sd_check.specs.Token.{TokenValue}
+use Rattle.sd_path.specs.Names.{Names, is_within, moved_path}
+use Rattle.sd_path.proofs.Paths.{moved_path-append, moved_path-outside, within_itself, within_rest}
+use Rattle.sd_tree.specs.Answers.{reply_for, reply_in}
+use Rattle.sd_tree.specs.Closed.{IsClosed, IsMovable}
+use Rattle.sd_tree.specs.Edits.{changed, keeping, moved}
+use Rattle.sd_tree.specs.Inheritance.{dacl_under}
+use Rattle.sd_tree.specs.Journal.{replay, refusal, IsLawful}
+use Rattle.sd_tree.specs.Plain.{PlainTree, row_at, dacl_at, dacl_here}
+use Rattle.sd_tree.specs.declared.edit.Edit.{Edit}
+use Rattle.sd_tree.specs.declared.edit.Edit.TheVariants.{ProtectKeeping, Move}
+use Rattle.sd_tree.specs.declared.node.NodeDacl.{NodeDacl}
+use Rattle.sd_tree.specs.declared.node.NodeDacl.TheVariants.{Null, List as Entries}
+use Rattle.sd_tree.specs.declared.node.Row.{Row}
+use Rattle.sd_tree.specs.declared.opening.Opening.{Opening}
+use Rattle.sd_tree.proofs.Below.{nothing_below, some_row}
+use Rattle.sd_tree.proofs.Closed.{closed_replay}
+use Rattle.sd_tree.proofs.Dacls.{dacl_at_here, dacl_over}
+use Rattle.sd_tree.proofs.Journals.{lawful_before, lawful_last, replay-push}
+use Rattle.sd_tree.proofs.Moved.{dacl_at-moved_other, row_at-moved_other, row_at-moved_there}
+use Rattle.sd_tree.proofs.Rows.{row_at-changed_other, row_at-changed_same}
+use Rattle.sd_tree_laws.proofs.Keeping.{keeping_lets_nobody_in}
+use Rattle.sd_tree_laws.proofs.KeptGrants.{keeping_grants_no_new_request}
+use Rattle.sd_tree_laws.proofs.MovedLists.{StandsAlone, moves_unchanged}
+use Rattle.sd_tree_laws.proofs.Moves.{accepted_can}
+use Rattle.sd_tree_laws.proofs.Reach.{outside_is_other}
+use Rattle.sd_tree_laws.specs.Laws.{ProtectingFirstGrantsNoNewRequest, ProtectingFirstKeepsLists}
+use Rattle.sd_tree_laws.specs.Laws.{ProtectingFirstLetsNobodyIn, granted_by_row, is_granted_at, protected_then_moved}
+
+-- ---- a node that is protected with what it had, or whose DACL is null, inherits nothing
+
+null_alone : (g : MappingValue) (row : Row) (dacl : NodeDacl) (above : Option (List Ace))
+    → dacl_under g row dacl above ≡ None → StandsAlone dacl
+null_alone g row Null above e = λ h r one other. refl
+null_alone g row (Entries protected entries) above e = absurd cc
+
+kept_alone : (g : MappingValue) (o : Option Row) (whole above : Option (List Ace)) (row : Row)
+    → dacl_here g o above ≡ whole → option_map (keeping whole) o ≡ Some row → StandsAlone row.dacl
+kept_alone g None whole above row is e = absurd cc
+kept_alone g (Some old) None above row is e =
+    let same : old ≡ row = cc in
+    subst (λ (r : Row). StandsAlone r.dacl) same (null_alone g old old.dacl above is)
+kept_alone g (Some old) (Some entries) above row is e =
+    let same : keeping (Some entries) old ≡ row = cc in
+    subst (λ (r : Row). StandsAlone r.dacl) same (λ h r one other. refl)
+
+-- ---- the two edits
+
+module _ (opening : Opening) (journal : List Edit) (source target : Names)
+    (lawful : IsLawful opening (protected_then_moved journal source target)) where
+  abbrev g : MappingValue
+  g = opening.mapping
+
+  abbrev before : PlainTree
+  before = replay opening journal
+
+  abbrev kept_journal : List Edit
+  kept_journal = journal ++ ProtectKeeping source ∷ []
+
+  abbrev kept : PlainTree
+  kept = replay opening kept_journal
+
+  abbrev after : PlainTree
+  after = replay opening (protected_then_moved journal source target)
+
+  as_pushed : protected_then_moved journal source target ≡ kept_journal ++ Move source target ∷ []
+  as_pushed = sym (append_assoc journal (ProtectKeeping source ∷ []) (Move source target ∷ []))
+
+  kept_is : kept ≡ changed before source (keeping (dacl_at g before source))
+  kept_is = replay-push opening journal (ProtectKeeping source)
+
+  after_is : after ≡ moved kept source target
+  after_is = ap (replay opening) as_pushed ∙ replay-push opening kept_journal (Move source target)
+
+  lawful_both : IsLawful opening (kept_journal ++ Move source target ∷ [])
+  lawful_both = subst (λ es. IsLawful opening es) as_pushed lawful
+
+  lawful_kept : IsLawful opening kept_journal
+  lawful_kept = lawful_before opening kept_journal (Move source target) lawful_both
+
+  closed : IsClosed kept
+  closed = closed_replay opening kept_journal lawful_kept
+
+  can : IsMovable kept source target
+  can =
+      accepted_can opening kept_journal source target lawful_kept
+      (lawful_last opening kept_journal (Move source target) lawful_both)
+
+  source_alone : (row : Row) → row_at kept source ≡ Some row → StandsAlone row.dacl
+  source_alone row there =
+      kept_alone g (row_at before source) (dacl_at g before source) (dacl_over g before source) row
+      (sym (dacl_at_here g before source))
+      (sym (row_at-changed_same before source (keeping (dacl_at g before source)))
+      ∙ sym (ap (λ u. row_at u source) kept_is) ∙ there)
+
+  beside : (path : Names) → IsSome (row_at before path) → is_within source path ≡ false → is_within target path ≡ false
+  beside path stands out =
+      let old = some_row (row_at before path) stands in
+      nothing_below kept closed target path old.0 can.place.free
+      (ap (λ u. row_at u path) kept_is
+      ∙ row_at-changed_other before source path (keeping (dacl_at g before source)) (outside_is_other source path out)
+      ∙ old.1)
+
+  same_row : (path : Names) → IsSome (row_at before path)
+      → row_at after (moved_path source target path) ≡ row_at kept path
+  same_row path stands =
+      ap (λ u. row_at u (moved_path source target path)) after_is ∙ elim (cases_Bool (is_within source path)) [
+        | inl inside ↦
+            let rest = within_rest source path inside in
+            ap (row_at (moved kept source target))
+            (ap (moved_path source target) rest.1 ∙ moved_path-append source target rest.0)
+            ∙ row_at-moved_there kept closed source target can.place.free rest.0 ∙ ap (row_at kept) (sym rest.1)
+        | inr out ↦
+            ap (row_at (moved kept source target)) (moved_path-outside source target path out)
+            ∙ row_at-moved_other kept source target path out (beside path stands out)
+      ]
+
+  same_list : (path : Names) → IsSome (row_at before path) → (h : MappingValue)
+      → dacl_at h after (moved_path source target path) ≡ dacl_at h kept path
+  same_list path stands h =
+      ap (λ u. dacl_at h u (moved_path source target path)) after_is ∙ elim (cases_Bool (is_within source path)) [
+        | inl inside ↦
+            let top = some_row (row_at kept source) can.there in
+            moves_unchanged h kept closed source target can source path top.0 top.1 (source_alone top.0 top.1)
+            (within_itself source) inside
+        | inr out ↦
+            ap (dacl_at h (moved kept source target)) (moved_path-outside source target path out)
+            ∙ dacl_at-moved_other h kept source target path out (beside path stands out)
+      ]
+
+  nobody_in : (path : Names) (token : TokenValue) (b : ℕ) → IsSome (row_at before path)
+      → is_granted_at g after (moved_path source target path) token b ≡ true
+      → is_granted_at g before path token b ≡ true
+  nobody_in path token b stands granted =
+      keeping_lets_nobody_in g before source path token b
+      (sym (ap (λ u. is_granted_at g u path token b) kept_is)
+      ∙ sym (ap₂ (λ dacl row. granted_by_row g dacl token b row) (same_list path stands g) (same_row path stands))
+      ∙ granted)
+
+  same_reply : (path : Names) (token : TokenValue) (asked : ℕ) → IsSome (row_at before path)
+      → reply_in g (changed before source (keeping (dacl_at g before source))) path token asked
+      ≡ reply_in g after (moved_path source target path) token asked
+  same_reply path token asked stands =
+      sym (ap (λ u. reply_in g u path token asked) kept_is)
+      ∙ sym (ap₂ (λ dacl row. reply_for g dacl token asked row) (same_list path stands g) (same_row path stands))
+
+pub keeps_lists : ProtectingFirstKeepsLists
+keeps_lists opening journal source target path lawful stands g =
+    same_list opening journal source target lawful path stands g
+
+pub lets_nobody_in : ProtectingFirstLetsNobodyIn
+lets_nobody_in opening journal source target path token b lawful stands granted =
+    nobody_in opening journal source target lawful path token b stands granted
+
+pub grants_no_new_request : ProtectingFirstGrantsNoNewRequest
+grants_no_new_request opening journal source target path token asked m lawful stands plain granted =
+    keeping_grants_no_new_request opening.mapping (replay opening journal) source path token asked m plain
+    (same_reply opening journal source target lawful path token asked stands ∙ granted)
