@@ -1,11 +1,11 @@
 -- What each edit that isn't refused leaves within the limits: the names of a path, the nodes of a tree, the bytes of a list.
-use Rattle.std.proofs.Common.{◌≡◌, ℕ, zero, suc, ◌+◌, ◌-◌, ◌<◌, ◌≤◌, Bool, true, false, cond, ◌&&◌, ◌||◌, List, [], ◌∷◌, ◌++◌, length, map, Option, Some, None, option_map, is_some, get_or, inl, inr, refl, sym, ap, ◌∙◌, arith, nat_lt, nat_le}
+use Rattle.std.proofs.Common.{◌≡◌, ℕ, zero, suc, ◌+◌, ◌-◌, ◌<◌, ◌≤◌, Bool, true, false, cond, ◌&&◌, ◌||◌, List, [], ◌∷◌, ◌++◌, length, map, drop, Option, Some, None, option_map, is_some, get_or, inl, inr, refl, sym, ap, ◌∙◌, arith, nat_lt, nat_le}
 use Rattle.std.specs.List.{list_any}
 use Rattle.std.specs.FinMap as finite
 use Rattle.std.specs.FinMap.{find, len-insert, len-remove, len-empty, len-entries}
 use Rattle.std.specs.Ordering.{eq_by_cmp}
 use Rattle.std.proofs.lemmas.Bool.{cases_Bool, ltb-false, leb-false}
-use Rattle.std.proofs.lemmas.List.{length-map}
+use Rattle.std.proofs.lemmas.List.{length-drop, length-map}
 use Rattle.sd_sid.specs.Mapping.{MappingValue}
 use Rattle.sd_path.specs.Names.{Names, names_cmp, is_within, moved_path}
 use Rattle.sd_path.proofs.Paths.{names_cmp_total, moved_path-outside}
@@ -22,6 +22,7 @@ use Rattle.sd_tree.proofs.Rows.{same_or_other, one_path, row_at-empty, row_at-in
 use Rattle.sd_tree.proofs.Moved.{entry_there, row_at-moved}
 use Rattle.sd_tree.proofs.Refused.{none_fits, not_refused}
 use Rattle.sd_tree.proofs.Journals.{holds_of_lawful}
+use Rattle.sd_tree_renewal.specs.Renewal.{addition}
 use Rattle.sd_tree_renewal.proofs.Fronts.{Entry, few_entries}
 
 -- ---- the names of a path
@@ -176,6 +177,14 @@ pub few_replay : (o : Opening) (journal : List Edit) → IsLawful o journal → 
 few_replay o journal =
     holds_of_lawful o IsFew (few_opened o)
     (λ t count e before accepted. few_edited o.mapping t count e (not_refused o.mapping t count e accepted).1 before) journal
+
+-- all but the root take at most 65,535 additions
+pub few_additions : (o : Opening) (journal edits : List Edit) → IsLawful o journal
+    → edits ≡ map addition (drop 1 (finite.entries (replay o journal))) → length edits ≤ 65535
+few_additions o journal edits lawful is =
+    let es = finite.entries (replay o journal) in
+    let few : finite.len (replay o journal) ≤ 65536 = few_replay o journal lawful in
+    omega (arith, few, len-entries (replay o journal), ap length is, length-map (drop 1 es) addition, length-drop 1 es)
 
 -- ---- the bytes of a list
 

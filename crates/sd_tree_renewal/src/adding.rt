@@ -1,6 +1,6 @@
-//! The shortest opening and journal of a tree.
+//! The compact opening and journal of a tree.
 
-ghost use Rattle.std.specs.Prelude.{◌≡◌, ◌<◌, length, map, drop, [], Some, IfOk, option_map, slice_get};
+ghost use Rattle.std.specs.Prelude.{◌≡◌, ◌<◌, ◌≤◌, length, map, drop, [], Some, IfOk, option_map, slice_get};
 ghost use Rattle.std.specs.FinMap.{entries};
 ghost use Rattle.sd_tree.specs.Journal.{opening_of, replay};
 ghost use Rattle.sd_tree.specs.Listing.{listed};
@@ -17,12 +17,13 @@ pub struct Beginning {
     pub edits: Vec<Edit>,
 }
 
-/// The root of a tree and one addition for each other node, a parent before what it holds. The root is accepted, each
-/// edit is accepted at its place, and together they make the tree.
+/// The root of a tree and one addition for each other node, parents first: at most 65,535 edits. The root is accepted,
+/// each edit is accepted at its place, and together they make the tree.
 pub fn shortest(tree: &Tree, alloc: Global) -> Result<Beginning, AllocError>
     ensures shortest { IfOk result (λ s. IsShortest (replay tree.now.opening tree.now.journal) s.root s.edits.items) }
     ensures makes { IfOk result (λ s. Makes (opening_of tree.now.opening.mapping s.root) s.edits.items
         (replay tree.now.opening tree.now.journal)) }
+    ensures few { IfOk result (λ s. length s.edits.items ≤ 65535) }
 {
     let _ = tree.len();
     let root = root_spec(tree, alloc)?;
@@ -30,7 +31,7 @@ pub fn shortest(tree: &Tree, alloc: Global) -> Result<Beginning, AllocError>
     Ok(Beginning { root, edits })
 }
 
-/// The root as it stands.
+/// The root as it is.
 fn root_spec(tree: &Tree, alloc: Global) -> Result<RootSpec, AllocError>
     ensures { IfOk result (λ root. Some root
         ≡ option_map spec_of (row_at (replay tree.now.opening tree.now.journal) [])) }
@@ -65,7 +66,7 @@ fn additions(tree: &Tree, alloc: Global) -> Result<Vec<Edit>, AllocError>
     Ok(edits)
 }
 
-/// The edit that adds the node of a place.
+/// The edit that adds the node at an index.
 fn addition_at(tree: &Tree, alloc: Global, index: usize) -> Result<Edit, AllocError>
     requires { index < length (entries (replay tree.now.opening tree.now.journal)) }
     ensures { IfOk result (λ edit. Some edit

@@ -1,6 +1,6 @@
-//! The tree of the shortest opening and journal.
+//! The tree of the compact opening and journal.
 
-ghost use Rattle.std.specs.Prelude.{◌≡◌, ◌∷◌, ◌++◌, [], None, IfOk, OnOk};
+ghost use Rattle.std.specs.Prelude.{◌≡◌, ◌≤◌, ◌∷◌, ◌++◌, [], length, None, IfOk, OnOk};
 ghost use Rattle.sd_tree.specs.Journal.{opening_of, replay, refusal, root_refusal};
 ghost use Rattle.sd_tree_renewal.specs.Renewal.{IsShortest, AnswerAlike};
 
@@ -9,13 +9,14 @@ use sd_sid::GenericMapping;
 use sd_tree::{Edit, RootSpec, Tree, TreeError};
 use std::alloc::{AllocError, Global};
 
-/// The same tree with the shortest journal that makes it: every answer is the one of the tree that is given, and its
-/// journal has room again.
+/// The same tree with a compact journal, of at most 65,535 edits: each answer is that of the given tree, and so is each
+/// refusal but `JournalFull`.
 pub fn renewed(tree: &Tree, alloc: Global) -> Result<Tree, AllocError>
     ensures mapping { IfOk result (λ t. t.opening.mapping ≡ tree.now.opening.mapping) }
     ensures shortest { IfOk result (λ t. IsShortest (replay tree.now.opening tree.now.journal)
         t.opening.root t.journal) }
     ensures tree { IfOk result (λ t. replay t.opening t.journal ≡ replay tree.now.opening tree.now.journal) }
+    ensures few { IfOk result (λ t. length t.journal ≤ 65535) }
     ensures alike { IfOk result (λ t. AnswerAlike tree.now.opening tree.now.journal t.opening t.journal) }
 {
     let Beginning { root, edits } = shortest(tree, alloc)?;

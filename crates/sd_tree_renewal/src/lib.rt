@@ -1,7 +1,7 @@
-//! A tree begun anew: the shortest opening and journal that make it, and the tree of these.
+//! Compaction: a compact opening and journal that make the same tree, and the tree of these.
 //!
-//! A journal has an end, at 1,048,576 edits. The tree that it made needs no more than one addition for each of its
-//! nodes, so a service that goes on for years begins again with these. docs/STORE.md tells how.
+//! A journal has at most 1,048,576 edits. The tree that it made needs only one addition for each of its nodes, so a
+//! service that runs for years starts over from these. docs/STORE.md says how.
 //!
 //! ```text
 //! let Beginning { root, edits } = shortest(&tree, alloc)?;

@@ -1,3 +1,4 @@
+use Rattle.sd_tree_renewal.proofs.Bounded.{few_additions}
 use Rattle.sd_tree_renewal.proofs.Renewing.{shortest_of_lawful}
 use Rattle.sd_tree_renewal.proofs.adding.shortest.Goals as goal
 
@@ -5,3 +6,7 @@ pub returns-clause-makes : goal.returns-clause-makes
 returns-clause-makes c =
     shortest_of_lawful c.args.tree.now.opening c.args.tree.now.journal c.len.ensures.accepted c.len.ensures.lawful _ _
     (record { root_is = c.in_ok-root.ensures; edits_are = c.in_ok-edits.ensures })
+
+pub returns-clause-few : goal.returns-clause-few
+returns-clause-few c =
+    few_additions c.args.tree.now.opening c.args.tree.now.journal _ c.len.ensures.lawful c.in_ok-edits.ensures
