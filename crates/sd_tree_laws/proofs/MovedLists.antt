@@ -1,9 +1,10 @@
--- That nodes which inherit nothing, and those below them, keep their DACLs in a move.
-use Rattle.std.proofs.Common.{◌≡◌, true, List, ◌∷◌, ◌++◌, Option, Some, refl, sym, ap, ◌∙◌, append_assoc}
+-- That nodes which inherit nothing, and those below them, keep their DACLs in a move, and that all do in a rename.
+use Rattle.std.proofs.Common.{◌≡◌, true, List, [], ◌∷◌, ◌++◌, Option, Some, refl, sym, ap, ◌∙◌}
+use Rattle.std.proofs.Common.{append_assoc, append-nil}
 use Rattle.sd_sid.specs.Mapping.{MappingValue}
 use Rattle.sd_acl.specs.declared.ace.Ace.{Ace}
-use Rattle.sd_path.specs.Names.{Names, is_within, moved_path}
-use Rattle.sd_path.proofs.Paths.{moved_path-append, within_rest}
+use Rattle.sd_path.specs.Names.{Names, up, is_within, moved_path}
+use Rattle.sd_path.proofs.Paths.{moved_path-append, within_rest, within_up}
 use Rattle.sd_tree.specs.Closed.{IsClosed, IsMovable}
 use Rattle.sd_tree.specs.Edits.{moved}
 use Rattle.sd_tree.specs.Inheritance.{dacl_of_row, dacl_under}
@@ -12,11 +13,12 @@ use Rattle.sd_tree.specs.Plain.{PlainTree, row_at, dacl_at, dacl_here}
 use Rattle.sd_tree.specs.declared.node.NodeDacl.{NodeDacl}
 use Rattle.sd_tree.specs.declared.node.Row.{Row}
 use Rattle.sd_tree.proofs.Closed.{closed_replay}
-use Rattle.sd_tree.proofs.Dacls.{dacl_at_here, dacl_over, dacl_at-append}
-use Rattle.sd_tree.proofs.Moved.{below_shift, row_at-moved_there}
+use Rattle.sd_tree.proofs.Dacls.{dacl_at_here, dacl_over, dacl_at-append, dacl_at_up}
+use Rattle.sd_tree.proofs.Moved.{below_shift, dacl_at-moved_other, row_at-moved_there, way_outside}
+use Rattle.sd_tree.proofs.Wholes.{up_outside}
 use Rattle.sd_tree_laws.proofs.Moves.{accepted_can}
 use Rattle.sd_tree_laws.proofs.Reach.{nothing_from_above}
-use Rattle.sd_tree_laws.specs.Laws.{MovesUnchanged, NullMovesUnchanged, ProtectedMovesUnchanged}
+use Rattle.sd_tree_laws.specs.Laws.{GivenKeepLists, NullKeepLists, ProtectedKeepLists, RenamedKeepLists}
 
 -- nothing comes from above to a node that was given this DACL
 abbrev pub StandsAlone : NodeDacl → Type 0
@@ -64,18 +66,48 @@ module _ (g : MappingValue) (t : PlainTree) (closed : IsClosed t) (source target
       ∙ below_stays mid rest (top_stays mid row (ap (row_at t) (sym at_source.1) ∙ is) alone)
       ∙ ap (dacl_at g t) (sym way)
 
-all_move_unchanged : (IsGiven : NodeDacl → Type 0) → ((dacl : NodeDacl) → IsGiven dacl → StandsAlone dacl)
-    → MovesUnchanged IsGiven
-all_move_unchanged IsGiven alone opening journal source target top path row lawful accepted is given inside below g =
+  -- where the parent stays, what is inherited from it does
+  renamed_top : up target ≡ up source → dacl_at g (moved t source target) target ≡ dacl_at g t source
+  renamed_top same =
+      let t' = moved t source target in
+      let above : dacl_at g t' (up target) ≡ dacl_at g t (up source) =
+      dacl_at-moved_other g t source target (up target)
+      (way_outside source (up target) target (within_up target) can.apart)
+      (up_outside target can.place.below_root)
+      ∙ ap (dacl_at g t) same in
+      let row : row_at t' target ≡ row_at t source =
+      ap (row_at t') (sym (append-nil target)) ∙ there [] ∙ ap (row_at t) (append-nil source) in
+      dacl_at_up g t' target can.place.below_root ∙ (λ i. dacl_here g (row i) (above i))
+      ∙ sym (dacl_at_up g t source can.below_root)
+
+  pub renamed_unchanged : (path : Names) → up target ≡ up source → is_within source path ≡ true
+      → dacl_at g (moved t source target) (moved_path source target path) ≡ dacl_at g t path
+  renamed_unchanged path same inside =
+      let rest = within_rest source path inside in
+      let t' = moved t source target in
+      let top : dacl_at g t' (target ++ []) ≡ dacl_at g t (source ++ []) =
+      ap (dacl_at g t') (append-nil target) ∙ renamed_top same ∙ sym (ap (dacl_at g t) (append-nil source)) in
+      ap (λ p. dacl_at g t' (moved_path source target p)) rest.1
+      ∙ ap (dacl_at g t') (moved_path-append source target rest.0)
+      ∙ below_stays [] rest.0 top ∙ ap (dacl_at g t) (sym rest.1)
+
+all_keep_lists : (IsGiven : NodeDacl → Type 0) → ((dacl : NodeDacl) → IsGiven dacl → StandsAlone dacl)
+    → GivenKeepLists IsGiven
+all_keep_lists IsGiven alone opening journal source target top path row lawful accepted is given inside below g =
     moves_unchanged g (replay opening journal) (closed_replay opening journal lawful) source target
     (accepted_can opening journal source target lawful accepted) top path row is (alone row.dacl given) inside below
 
-pub protected_moves_unchanged : ProtectedMovesUnchanged
-protected_moves_unchanged =
-    all_move_unchanged _ (λ dacl protected g row above other. nothing_from_above g row dacl above other protected)
+pub protected_keep_lists : ProtectedKeepLists
+protected_keep_lists =
+    all_keep_lists _ (λ dacl protected g row above other. nothing_from_above g row dacl above other protected)
 
-pub null_moves_unchanged : NullMovesUnchanged
-null_moves_unchanged =
-    all_move_unchanged _
+pub null_keep_lists : NullKeepLists
+null_keep_lists =
+    all_keep_lists _
     (λ dacl null g row above other.
     ap (λ d. dacl_under g row d above) null ∙ sym (ap (λ d. dacl_under g row d other) null))
+
+pub renamed_keep_lists : RenamedKeepLists
+renamed_keep_lists opening journal source target path lawful accepted same inside g =
+    renamed_unchanged g (replay opening journal) (closed_replay opening journal lawful) source target
+    (accepted_can opening journal source target lawful accepted) path same inside

@@ -80,23 +80,31 @@ MoveBackUndoesIt =
     → (row_at (edited g (edited g (replay opening journal) (Move source target)) (Move target source)) path ≡ row_at (replay opening journal) path)
     × (dacl_at g (edited g (edited g (replay opening journal) (Move source target)) (Move target source)) path ≡ dacl_at g (replay opening journal) path)
 
--- after an accepted move each node at or below a moved one that was given such a DACL has at its new path the DACL that
--- it had
-abbrev pub MovesUnchanged : (NodeDacl → Type 0) → Type 0
-MovesUnchanged IsGiven =
+-- after the move the node has at its new path the DACL that it had, whatever the mapping
+abbrev pub KeepsList : PlainTree → Names → Names → Names → Type 0
+KeepsList t source target path =
+    (g : MappingValue) → dacl_at g (edited g t (Move source target)) (moved_path source target path) ≡ dacl_at g t path
+
+-- so does, after an accepted move, each node at or below a moved one that was given such a DACL
+abbrev pub GivenKeepLists : (NodeDacl → Type 0) → Type 0
+GivenKeepLists IsGiven =
     (opening : Opening) (journal : List Edit) (source target top path : Names) (row : Row)
     → IsLawful opening journal → refusal opening journal (Move source target) ≡ None
     → row_at (replay opening journal) top ≡ Some row → IsGiven row.dacl
-    → is_within source top ≡ true → is_within top path ≡ true
-    → (g : MappingValue)
-    → dacl_at g (edited g (replay opening journal) (Move source target)) (moved_path source target path)
-    ≡ dacl_at g (replay opening journal) path
+    → is_within source top ≡ true → is_within top path ≡ true → KeepsList (replay opening journal) source target path
 
-abbrev pub ProtectedMovesUnchanged : Type 0
-ProtectedMovesUnchanged = MovesUnchanged (λ dacl. is_protected dacl ≡ true)
+abbrev pub ProtectedKeepLists : Type 0
+ProtectedKeepLists = GivenKeepLists (λ dacl. is_protected dacl ≡ true)
 
-abbrev pub NullMovesUnchanged : Type 0
-NullMovesUnchanged = MovesUnchanged (λ dacl. dacl ≡ Null)
+abbrev pub NullKeepLists : Type 0
+NullKeepLists = GivenKeepLists (λ dacl. dacl ≡ Null)
+
+-- and each moved node, where the parent stays
+abbrev pub RenamedKeepLists : Type 0
+RenamedKeepLists =
+    (opening : Opening) (journal : List Edit) (source target path : Names)
+    → IsLawful opening journal → refusal opening journal (Move source target) ≡ None
+    → up target ≡ up source → is_within source path ≡ true → KeepsList (replay opening journal) source target path
 
 -- another owner or group changes the DACL of its own node alone: where it took a creator's place it is handed on no further
 abbrev pub OwnerChangesOneNode : Type 0

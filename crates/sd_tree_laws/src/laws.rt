@@ -3,7 +3,7 @@
 ghost use Rattle.sd_tree_laws.specs.Laws.{DaclIsOfParent, RootInheritsNothing, LawfulTreesAreClosed};
 ghost use Rattle.sd_tree_laws.specs.Laws.{OwnerChangesOneNode, GroupChangesOneNode, KeepingANullChangesNone};
 ghost use Rattle.sd_tree_laws.specs.Laws.{EditStaysBelow, MoveCarriesTheSubtree, MoveBackUndoesIt};
-ghost use Rattle.sd_tree_laws.specs.Laws.{ProtectedMovesUnchanged, NullMovesUnchanged, ProtectedStandsAlone};
+ghost use Rattle.sd_tree_laws.specs.Laws.{ProtectedKeepLists, NullKeepLists, RenamedKeepLists, ProtectedStandsAlone};
 ghost use Rattle.sd_tree_laws.specs.Laws.{UnmarkedEntryStays, NoPropagateGoesOneLevel, NothingWaitsInAnObject};
 ghost use Rattle.sd_tree_laws.specs.Laws.{InheritedHasId, OwnHasNoId, WithoutIdIsOwn, EveryListIsCanonical};
 ghost use Rattle.sd_tree_laws.specs.Laws.{OrderGrantsNothing, OrderKeepsOwnersLimit, KeepingLetsNobodyIn};
@@ -42,10 +42,11 @@ pub fn move_back_undoes_it()
 {}
 
 /// An accepted move changes no DACL at or below a moved node that is protected (control bit PD), or whose DACL is null
-/// ([MS-DTYP] 2.4.6).
-pub fn protected_moves_unchanged()
-    ensures protected { ProtectedMovesUnchanged }
-    ensures null { NullMovesUnchanged }
+/// ([MS-DTYP] 2.4.6); and none at all within one parent, where it only renames.
+pub fn move_keeps_lists()
+    ensures protected { ProtectedKeepLists }
+    ensures null { NullKeepLists }
+    ensures renamed { RenamedKeepLists }
 {}
 
 /// SetOwner and SetGroup change the DACL of no node but the edited one: what CREATOR OWNER and CREATOR GROUP became in

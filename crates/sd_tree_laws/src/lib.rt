@@ -9,7 +9,7 @@ mod laws;
 pub use laws::{
     dacl_is_of_parent, edit_stays_below, every_list_is_canonical, inherited_has_id,
     keeping_lets_nobody_in, lawful_trees_are_closed, move_back_undoes_it, move_carries_the_subtree,
-    no_propagate_goes_one_level, nothing_waits_in_an_object, order_grants_nothing,
-    protected_moves_unchanged, protected_stands_alone, protecting_first_lets_nobody_in,
+    move_keeps_lists, no_propagate_goes_one_level, nothing_waits_in_an_object,
+    order_grants_nothing, protected_stands_alone, protecting_first_lets_nobody_in,
     trustee_stays_in_the_node, unmarked_entry_stays,
 };
