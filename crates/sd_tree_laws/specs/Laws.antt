@@ -34,7 +34,7 @@ use Rattle.sd_tree.specs.declared.edit.Edit.TheVariants.{SetOwner, SetGroup, Pro
 
 -- ---- from the root down
 
--- what a node has is its own entries and what its parent's DACL hands on; the root has nothing above it
+-- a node's DACL is its own entries and what its parent's DACL passes down; the root's is its own entries alone
 abbrev pub DaclIsOfParent : Type 0
 DaclIsOfParent =
     (g : MappingValue) (t : PlainTree) (path : Names) (row : Row)
@@ -46,7 +46,8 @@ RootInheritsNothing =
 
 -- after a valid journal the root exists, and the parent of each node exists and is a container
 abbrev pub LawfulTreesAreClosed : Type 0
-LawfulTreesAreClosed = (opening : Opening) (journal : List Edit) → IsLawful opening journal → IsClosed (replay opening journal)
+LawfulTreesAreClosed =
+    (opening : Opening) (journal : List Edit) → IsLawful opening journal → IsClosed (replay opening journal)
 
 -- ---- how far an edit reaches
 
@@ -55,8 +56,8 @@ EditStaysBelow =
     (g : MappingValue) (t : PlainTree) (edit : Edit) (path : Names)
     → touches edit path ≡ false → descriptor_at g (edited g t edit) path ≡ descriptor_at g t path
 
--- what a move leaves: all that stood at the source and below it stands at the target and below it, each node with its kind,
--- owner, group and own list; nothing stands at the source or below it; and what is elsewhere has the row and the DACL that it had
+-- after a move the nodes at and below the source are at and below the target, each with its kind, owner, group and own
+-- list; none is at the source or below it; each other node has the row and the DACL that it had
 pub record IsCarried (g : MappingValue) (t : PlainTree) (source target : Names) : Type 0 where
   pub there : (rest : Names) → row_at (edited g t (Move source target)) (target ++ rest) ≡ row_at t (source ++ rest)
   pub gone : (path : Names) → is_within source path ≡ true → row_at (edited g t (Move source target)) path ≡ None
@@ -77,8 +78,10 @@ MoveBackUndoesIt =
     (opening : Opening) (journal : List Edit) (source target : Names)
     → IsLawful opening journal → refusal opening journal (Move source target) ≡ None
     → (g : MappingValue) (path : Names)
-    → (row_at (edited g (edited g (replay opening journal) (Move source target)) (Move target source)) path ≡ row_at (replay opening journal) path)
-    × (dacl_at g (edited g (edited g (replay opening journal) (Move source target)) (Move target source)) path ≡ dacl_at g (replay opening journal) path)
+    → (row_at (edited g (edited g (replay opening journal) (Move source target)) (Move target source)) path
+    ≡ row_at (replay opening journal) path)
+    × (dacl_at g (edited g (edited g (replay opening journal) (Move source target)) (Move target source)) path
+    ≡ dacl_at g (replay opening journal) path)
 
 -- after the move the node has at its new path the DACL that it had, whatever the mapping
 abbrev pub KeepsList : PlainTree → Names → Names → Names → Type 0
@@ -106,7 +109,8 @@ RenamedKeepLists =
     → IsLawful opening journal → refusal opening journal (Move source target) ≡ None
     → up target ≡ up source → is_within source path ≡ true → KeepsList (replay opening journal) source target path
 
--- another owner or group changes the DACL of its own node alone: where it took a creator's place it is handed on no further
+-- another owner or group changes the DACL of its own node alone: where it took a creator's place it isn't inherited
+-- further
 abbrev pub OwnerChangesOneNode : Type 0
 OwnerChangesOneNode =
     (g : MappingValue) (t : PlainTree) (path other : Names) (owner : SidValue)
@@ -153,12 +157,13 @@ NothingWaitsInAnObject =
     (g : MappingValue) (row : Row) (above : Option (List Ace))
     → row.kind ≡ Object → list_any speaks_of_children (handed_on g row above) ≡ false
 
--- ---- what is inherited is told by the flag ID
+-- ---- the flag ID marks what is inherited
 
 abbrev pub InheritedHasId : Type 0
-InheritedHasId = (g : MappingValue) (row : Row) (above : Option (List Ace)) → list_any is_explicit (handed_on g row above) ≡ false
+InheritedHasId =
+    (g : MappingValue) (row : Row) (above : Option (List Ace)) → list_any is_explicit (handed_on g row above) ≡ false
 
--- after a lawful journal no node's own entries have it
+-- after a valid journal no node's own entries have it
 abbrev pub OwnHasNoId : Type 0
 OwnHasNoId =
     (opening : Opening) (journal : List Edit) (path : Names) (row : Row)
@@ -170,7 +175,8 @@ abbrev pub WithoutIdIsOwn : Type 0
 WithoutIdIsOwn =
     (opening : Opening) (journal : List Edit) (path : Names) (row : Row) (entries : List Ace)
     → root_refusal opening ≡ None → IsLawful opening journal
-    → row_at (replay opening journal) path ≡ Some row → dacl_at opening.mapping (replay opening journal) path ≡ Some entries
+    → row_at (replay opening journal) path ≡ Some row
+    → dacl_at opening.mapping (replay opening journal) path ≡ Some entries
     → filter is_explicit entries ≡ own_entries row.dacl
 
 -- ---- the order of entries
@@ -202,7 +208,8 @@ is_granted_at g t path token b = granted_by_row g (dacl_at g t path) token b (ro
 abbrev pub KeepingLetsNobodyIn : Type 0
 KeepingLetsNobodyIn =
     (g : MappingValue) (t : PlainTree) (protected path : Names) (token : TokenValue) (b : ℕ)
-    → is_granted_at g (edited g t (ProtectKeeping protected)) path token b ≡ true → is_granted_at g t path token b ≡ true
+    → is_granted_at g (edited g t (ProtectKeeping protected)) path token b ≡ true
+    → is_granted_at g t path token b ≡ true
 
 -- and a request without MAXIMUM_ALLOWED, place 25, that a check grants afterwards, it granted before
 abbrev pub KeepingGrantsNoNewRequest : Type 0

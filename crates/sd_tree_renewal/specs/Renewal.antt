@@ -1,4 +1,4 @@
--- The shortest opening and journal of a tree: its root, and one addition for each other node, in the order of the paths.
+-- The compact opening and journal of a tree: its root, and one addition for each other node, in path order.
 use Rattle.std.specs.Prelude.{◌≡◌, ◌≢◌, ◌≤◌, ℕ, List, [], length, map, drop, Some, None, option_map}
 use Rattle.std.specs.FinMap.{entries}
 use Rattle.sd_path.specs.Names.{Names}
@@ -26,21 +26,23 @@ addition entry = addition_of entry.1.kind entry.0 entry.1
 abbrev pub spec_of : Row → RootSpec
 spec_of row = record { owner = row.owner; group = row.group; dacl = row.dacl }
 
--- the root, and the edits that add all that stands below it: the first entry is the root's, and a path stands before those below it
+-- the root, and the edits that add all other nodes: the first entry is the root's, and a path precedes those below it
 pub record IsShortest (t : PlainTree) (root : RootSpec) (edits : List Edit) : Type 0 where
   pub root_is : Some root ≡ option_map spec_of (row_at t [])
   pub edits_are : edits ≡ map addition (drop 1 (entries t))
 
--- an opening that is accepted, and edits that are accepted one after the other, which make this tree
+-- an opening that is accepted, and edits that are accepted in turn, which make this tree
 pub record Makes (opening : Opening) (edits : List Edit) (t : PlainTree) : Type 0 where
   pub accepted : root_refusal opening ≡ None
   pub lawful : IsLawful opening edits
   pub made : replay opening edits ≡ t
 
--- two openings and journals that no caller can tell apart but by the room that their journals have left
+-- two openings and journals that answer alike, but for the room that the journals have left
 pub record AnswerAlike (o : Opening) (journal : List Edit) (o' : Opening) (journal' : List Edit) : Type 0 where
-  pub answers : (path : Names) (token : TokenValue) (asked : ℕ) → answer o' journal' path token asked ≡ answer o journal path token asked
-  pub descriptors : (path : Names) → descriptor_at o'.mapping (replay o' journal') path ≡ descriptor_at o.mapping (replay o journal) path
+  pub answers : (path : Names) (token : TokenValue) (asked : ℕ)
+      → answer o' journal' path token asked ≡ answer o journal path token asked
+  pub descriptors : (path : Names)
+      → descriptor_at o'.mapping (replay o' journal') path ≡ descriptor_at o.mapping (replay o journal) path
   pub kinds : (path : Names) → kind_at (replay o' journal') path ≡ kind_at (replay o journal) path
   pub refusals : (edit : Edit) → refusal o journal edit ≢ Some JournalFull → refusal o' journal' edit ≢ Some JournalFull
       → refusal o' journal' edit ≡ refusal o journal edit
