@@ -1,32 +1,33 @@
--- That a dead entry can be taken out of its list.
-use Rattle.std.proofs.Common.{◌≡◌, ℕ, ◌+◌, ◌-◌, ◌<◌, Bool, true, false, not, ◌&&◌, ◌||◌, ◌==◌, nat_lt, cond, List, [], ◌∷◌, ◌++◌, length, get_or, take, drop, Option, Some, None, inl, inr, refl, sym, ◌∙◌, ap, arith, add-one, find, slice_get}
+-- That dead entries can be taken out of their list. The first entry that decides a bit isn't dead, since earlier ones would decide
+-- each bit of a dead one; nor is the first for OWNER RIGHTS.
+use Rattle.std.proofs.Common.{◌≡◌, ℕ, ◌+◌, ◌<◌, Bool, true, false, not, ◌&&◌, ◌||◌, ◌==◌, nat_lt, cond, List, [], ◌∷◌, ◌++◌, length, get_or, take, Option, Some, None, inl, inr, refl, sym, ◌∙◌, ap, arith, find, append_assoc, length-append, slice_get}
 use Rattle.std.specs.List.{list_any}
-use Rattle.std.proofs.Math.Bool.{and_comm, and-true}
-use Rattle.std.proofs.Math.Seq.{drop-cons}
-use Rattle.std.proofs.lemmas.List.{take-append-drop, take_all, length-drop}
-use Rattle.std.proofs.lemmas.List.Folds.{list_any_more}
-use Rattle.std.proofs.lemmas.Option.{get_or_from_slice_get, slice_get_within}
-use Rattle.std.proofs.lemmas.Bool.{and_parts, and_from, or_cases, or_left, or_right, cases_Bool, cases_lt, lt-ltb, le-ltb, eqb-true, agree_below_at}
+use Rattle.std.specs.Option.{is_some}
+use Rattle.std.proofs.Math.Bool.{and-true}
+use Rattle.std.proofs.Math.Seq.{get_or-append_seam, take-append_seam}
+use Rattle.std.proofs.lemmas.List.Folds.{list_any_more, list_any-append}
+use Rattle.std.proofs.lemmas.Option.{slice_get_read}
+use Rattle.std.proofs.lemmas.Bool.{and_parts, and_from, or_cases, or_left, or_right, cases_Bool, cases_lt, lt-ltb, le-ltb, eqb-true, false≢true}
 use Rattle.std.proofs.lemmas.Nat.Bits.{bit_at-zero}
 use Rattle.sd_sid.specs.Mask.{holds, mask_of}
 use Rattle.sd_sid.specs.Mapping.{MappingValue, mapped}
 use Rattle.sd_sid.specs.Sid.{SidValue, same_sid, owner_rights}
 use Rattle.sd_sid.proofs.Compared.{same_sid-true}
-use Rattle.sd_sid.proofs.Masks.{holds_place, holds_when, mask_of-alike}
+use Rattle.sd_sid.proofs.Masks.{holds_place, holds_when, mask_of-alike, mask_of-lt}
 use Rattle.sd_acl.specs.Ace.{is_allow, is_inherit_only}
 use Rattle.sd_acl.specs.Verdict.{decides, first, is_allowed_by, acl_grants, limits_owner, subject, is_implied, judged}
 use Rattle.sd_acl.specs.declared.ace.Ace.{Ace}
 use Rattle.sd_acl.specs.declared.ace.AceKind.{AceKind}
 use Rattle.sd_acl.specs.declared.ace.AceKind.TheVariants.{Allow, Deny}
-use Rattle.sd_acl.specs.declared.verdict.Verdict.{Verdict}
 use Rattle.sd_check.specs.Token.{TokenValue, applies, applies_again, counts, a_group_stands_for, stands_for_subject, in_each_pass, is_owner}
 use Rattle.sd_check.specs.declared.token.GroupState.{GroupState}
 use Rattle.sd_check.specs.declared.token.GroupState.TheVariants.{Enabled, DenyOnly, Disabled}
-use Rattle.sd_check.specs.Check.{is_granted, is_listed, is_given, verdict}
-use Rattle.sd_check.proofs.LawProofs.{one_test}
-use Rattle.sd_explain.specs.Dead.{covers, is_named_before, bits_left, is_dead_between, is_dead_here, is_dead, CanBeTakenOut}
+use Rattle.sd_check.specs.Check.{is_granted, is_listed, is_given}
+use Rattle.sd_explain.specs.Dead.{covers, rights_of, is_named_before, bits_left, is_dead_after, is_dead_here, is_dead, without_from, without, CanBeTakenOut}
+use Rattle.sd_explain.specs.Laws.{DeadEntriesCanGo}
+use Rattle.sd_explain.proofs.Bits.{own_places}
 
--- ---- lists
+-- ---- lists without some elements
 
 any_more : {X : Type 0} (p q : X → Bool) (xs : List X) → ((x : X) → p x ≡ true → q x ≡ true) → list_any p xs ≡ true → list_any q xs ≡ true
 any_more p q [] more h = h
@@ -35,34 +36,41 @@ any_more p q (x ∷ xs) more h = elim (or_cases (p x) (list_any p xs) h) [
   | inr there ↦ or_right _ _ (any_more p q xs more there)
 ]
 
-any_with : {X : Type 0} (p : X → Bool) (before after : List X) (e : X) → list_any p (before ++ after) ≡ true → list_any p (before ++ e ∷ after) ≡ true
-any_with p [] after e h = or_right _ _ h
-any_with p (x ∷ xs) after e h = elim (or_cases (p x) (list_any p (xs ++ after)) h) [
-  | inl here ↦ or_left _ _ here
-  | inr there ↦ or_right _ _ (any_with p xs after e there)
-]
-
-any_without : {X : Type 0} (p : X → Bool) (before after : List X) (e : X) → p e ≡ false → list_any p (before ++ e ∷ after) ≡ list_any p (before ++ after)
-any_without p [] after e h = rw h refl
-any_without p (x ∷ xs) after e h = ap (λ b. p x || b) (any_without p xs after e h)
-
-find_without : {X : Type 0} (p : X → Bool) (before after : List X) (e : X) → p e ≡ false → find p (before ++ e ∷ after) ≡ find p (before ++ after)
-find_without p [] after e h = rw h refl
-find_without p (x ∷ xs) after e h = ap (cond (p x) (Some x)) (find_without p xs after e h)
-
-find_in_front : {X : Type 0} (p : X → Bool) (before rest : List X) → list_any p before ≡ true → find p (before ++ rest) ≡ find p before
-find_in_front p [] rest h = absurd cc
-find_in_front p (x ∷ xs) rest h = elim (cases_Bool (p x)) [
+any_is_found : {X : Type 0} (p : X → Bool) (xs : List X) → list_any p xs ≡ is_some (find p xs)
+any_is_found p [] = refl
+any_is_found p (x ∷ xs) = elim (cases_Bool (p x)) [
   | inl here ↦ rw here refl
-  | inr not_here ↦ ap (cond (p x) (Some x)) (find_in_front p xs rest (sym (ap (λ b. b || list_any p xs) not_here) ∙ h))
+  | inr gone ↦ rw gone (any_is_found p xs)
 ]
 
--- an element that passes no test alone is no first
-find_same : {X : Type 0} (p : X → Bool) (before after : List X) (e : X) → (p e ≡ true → list_any p before ≡ true) → find p (before ++ e ∷ after) ≡ find p (before ++ after)
-find_same p before after e covered = elim (cases_Bool (p e)) [
-  | inl passes ↦ find_in_front p before (e ∷ after) (covered passes) ∙ sym (find_in_front p before after (covered passes))
-  | inr fails ↦ find_without p before after e fails
-]
+-- an entry that is gone passes the test only where an earlier one does
+abbrev HasEarlier : (Ace → Bool) → (ℕ → Bool) → List Ace → Type 0
+HasEarlier p gone es =
+    (front back : List Ace) (e : Ace) → es ≡ front ++ e ∷ back → gone (length front) ≡ true → p e ≡ true → list_any p front ≡ true
+
+-- an entry stands before a list whose first that passes is that of the rest
+step : (p : Ace → Bool) (e : Ace) (kept rest : List Ace) (passes away gone : Bool) → p e ≡ passes → gone ≡ away → (gone ≡ true → p e ≡ true → ⊥)
+    → (p e ≡ false → find p kept ≡ find p rest) → find p (cond gone kept (e ∷ kept)) ≡ find p (e ∷ rest)
+step p e kept rest true true gone passes away stays same = absurd (stays away passes)
+step p e kept rest true false gone passes away stays same = rw (away, passes) refl
+step p e kept rest false true gone passes away stays same = rw (away, passes) (same passes)
+step p e kept rest false false gone passes away stays same = rw (away, passes) (same passes)
+
+-- so the first that passes the test stays, where none so far does
+same_first_of : (p : Ace → Bool) (gone : ℕ → Bool) (es : List Ace) → HasEarlier p gone es
+    → (front rest : List Ace) → es ≡ front ++ rest → list_any p front ≡ false → find p (without_from gone (length front) rest) ≡ find p rest
+unfolding without_from
+same_first_of p gone es earlier front [] is none = refl
+same_first_of p gone es earlier front (e ∷ rest) is none =
+    step p e (without_from gone (length front + 1) rest) rest (p e) (gone (length front)) (gone (length front)) refl refl
+    (λ away passes. false≢true (sym none ∙ earlier front rest e is away passes))
+    (λ fails.
+    ap (λ n. find p (without_from gone n rest)) (sym (length-append front (e ∷ [])))
+    ∙ same_first_of p gone es earlier (front ++ e ∷ []) rest (is ∙ sym (append_assoc front (e ∷ []) rest))
+    (list_any-append p front (e ∷ []) ∙ ap (λ x. x || (p e || false)) none ∙ ap (λ x. x || false) fails))
+
+same_first : (p : Ace → Bool) (gone : ℕ → Bool) (es : List Ace) → HasEarlier p gone es → find p (without gone es) ≡ find p es
+same_first p gone es earlier = same_first_of p gone es earlier [] es refl refl
 
 -- ---- where an allow applies, a deny does
 
@@ -90,7 +98,20 @@ kind_applies_again : (t : TokenValue) (owner : Option SidValue) (earlier later :
     → applies_again t owner later s ≡ true → applies_again t owner earlier s ≡ true
 kind_applies_again t owner earlier later s covers h = h
 
--- ---- an entry that is covered
+-- ---- an entry whose bits are named before it
+
+none_left_of : (held named : Bool) → (held && not named) ≡ false → held ≡ true → named ≡ true
+none_left_of true true h is = refl
+none_left_of true false h is = absurd cc
+none_left_of false named h is = absurd cc
+
+none_left : (g : MappingValue) (before : List Ace) (e : Ace) → (bits_left g before e == 0) ≡ true → (b : ℕ) → b < 21 → holds (mapped g e.mask) b ≡ true
+    → is_named_before g before e b ≡ true
+none_left g before e none b low held =
+    none_left_of (holds (rights_of g e) b) (is_named_before g before e b)
+    (sym (holds_place (λ k. holds (rights_of g e) k && not (is_named_before g before e k)) b (omega arith))
+    ∙ ap (λ n. holds n b) (eqb-true (bits_left g before e) 0 none) ∙ ap (λ n. n == 1) (bit_at-zero b))
+    (holds_place (λ k. nat_lt k 21 && holds (mapped g e.mask) k) b (omega arith) ∙ and_from (nat_lt b 21) (holds (mapped g e.mask) b) (lt-ltb b 21 low) held)
 
 module _ (g : MappingValue) (who : AceKind → SidValue → Bool)
     (kinds : (earlier later : AceKind) (s : SidValue) → (is_allow later || not (is_allow earlier)) ≡ true → who later s ≡ true → who earlier s ≡ true) where
@@ -104,120 +125,99 @@ module _ (g : MappingValue) (who : AceKind → SidValue → Bool)
       let same : e.sid ≡ c.sid = sym (same_sid-true c.sid e.sid first.1) in
       and_from _ _ (and_from _ _ first.0 (kinds c.kind e.kind c.sid inner.1 (ap (who e.kind) (sym same) ∙ applied.1))) outer.1
 
-  named_before : (b : ℕ) (before : List Ace) (e : Ace) → is_named_before g before e b ≡ true → decides g who b e ≡ true → list_any (decides g who b) before ≡ true
-  named_before b before e named decided = any_more _ _ before (λ c is. covering_decides b c e decided is) named
-
-  pub same_acl : (before after : List Ace) (e : Ace) → ((b : ℕ) → b < 21 → holds (mapped g e.mask) b ≡ true → is_named_before g before e b ≡ true) → (b : ℕ)
-      → acl_grants g who (Some (before ++ e ∷ after)) b ≡ acl_grants g who (Some (before ++ after)) b
-  same_acl before after e named b = elim (cases_lt b 21) [
-    | inl low ↦ ap (λ o. nat_lt b 21 && is_allowed_by o) (find_same (decides g who b) before after e (λ decided.
-        named_before b before e (named b low (and_parts (not (is_inherit_only e) && who e.kind e.sid) (holds (mapped g e.mask) b) decided).1) decided))
-    | inr high ↦
-        ap (λ x. x && is_allowed_by (first g who (before ++ e ∷ after) b)) (le-ltb b 21 high)
-        ∙ sym (ap (λ x. x && is_allowed_by (first g who (before ++ after) b)) (le-ltb b 21 high))
-  ]
-
-all_named : (low held named : Bool) → ((low && held) && not named) ≡ false → low ≡ true → held ≡ true → named ≡ true
-all_named true true true h a b = refl
-all_named true true false h a b = absurd cc
-all_named true false named h a b = absurd cc
-all_named false held named h a b = absurd cc
-
-none_left : (g : MappingValue) (before : List Ace) (e : Ace) → (bits_left g before e == 0) ≡ true → (b : ℕ) → b < 21 → holds (mapped g e.mask) b ≡ true
-    → is_named_before g before e b ≡ true
-none_left g before e none b low held =
-    all_named (nat_lt b 21) (holds (mapped g e.mask) b) (is_named_before g before e b)
-    (sym (holds_place (λ k. (nat_lt k 21 && holds (mapped g e.mask) k) && not (is_named_before g before e k)) b (omega arith))
-    ∙ ap (λ n. holds n b) (eqb-true (bits_left g before e) 0 none) ∙ ap (λ n. n == 1) (bit_at-zero b))
-    (lt-ltb b 21 low) held
+  -- an earlier entry decides each bit that a dead one would
+  dead_decides : (before : List Ace) (e : Ace) → is_dead_after g before e ≡ true → (b : ℕ) → b < 21 → decides g who b e ≡ true → list_any (decides g who b) before ≡ true
+  dead_decides before e dead b low decided =
+      let parts = and_parts (not (is_inherit_only e) && bits_left g before e == 0) (not (same_sid e.sid owner_rights) || limits_owner (Some before)) dead in
+      let none = (and_parts (not (is_inherit_only e)) (bits_left g before e == 0) parts.0).1 in
+      let held = (and_parts (not (is_inherit_only e) && who e.kind e.sid) (holds (mapped g e.mask) b) decided).1 in
+      any_more _ _ before (λ c is. covering_decides b c e decided is) (none_left g before e none b low held)
 
 -- ---- the verdict
 
-abbrev judged_list : MappingValue → (ℕ → Bool) → ℕ → Verdict
-judged_list g p r = judged g p (mask_of (λ b. nat_lt b 21 && p b) 32) r
+abbrev is_limit : Ace → Bool
+is_limit e = not (is_inherit_only e) && same_sid e.sid owner_rights
 
-still_limited : (is_owners others : Bool) (before after : List Ace) (e : Ace) → same_sid e.sid owner_rights ≡ is_owners → limits_owner (Some (before ++ after)) ≡ others
-    → (not is_owners || others) ≡ true → limits_owner (Some (before ++ e ∷ after)) ≡ limits_owner (Some (before ++ after))
-still_limited false others before after e is limits h = any_without (λ x. not (is_inherit_only x) && same_sid x.sid owner_rights) before after e
-    (ap (λ x. not (is_inherit_only e) && x) is ∙ nobody (not (is_inherit_only e)))
-  where
-    nobody : (b : Bool) → (b && false) ≡ false
-    nobody true = refl
-    nobody false = refl
-still_limited true true before after e is limits h =
-    any_with (λ x. not (is_inherit_only x) && same_sid x.sid owner_rights) before after e limits ∙ sym limits
-still_limited true false before after e is limits h = absurd cc
+unless : (is other : Bool) → (not is || other) ≡ true → is ≡ true → other ≡ true
+unless true other h is = h
+unless false other h is = absurd cc
 
-module _ (g : MappingValue) (before after : List Ace) (e : Ace) (dead : is_dead_between g before e after ≡ true) (owner : Option SidValue) (t : TokenValue) where
-  named : (b : ℕ) → b < 21 → holds (mapped g e.mask) b ≡ true → is_named_before g before e b ≡ true
-  named = none_left g before e (and_parts (not (is_inherit_only e)) (bits_left g before e == 0)
-      (and_parts (not (is_inherit_only e) && bits_left g before e == 0) (not (same_sid e.sid owner_rights) || limits_owner (Some (before ++ after))) dead).0).1
+-- the place of an entry is how many stand before it
+dead_here : (g : MappingValue) (es front back : List Ace) (e : Ace) → es ≡ front ++ e ∷ back → is_dead g es (length front) ≡ true → is_dead_after g front e ≡ true
+dead_here g es front back e is dead =
+    let whole = front ++ e ∷ back in
+    let stands : slice_get whole (length front) ≡ Some e =
+    slice_get_read whole (length whole) (length front) e refl
+    (let long = length-append front (e ∷ back) in omega (arith, long)) (sym (get_or-append_seam front e back e)) in
+    sym (ap (λ (o : Option Ace). is_dead_here g whole (length front) o) stands ∙ ap (λ (before : List Ace). is_dead_after g before e) (take-append_seam front (e ∷ back)))
+    ∙ ap (λ (list : List Ace). is_dead g list (length front)) (sym is) ∙ dead
 
-  same_limits : limits_owner (Some (before ++ e ∷ after)) ≡ limits_owner (Some (before ++ after))
-  same_limits = still_limited (same_sid e.sid owner_rights) (limits_owner (Some (before ++ after))) before after e refl refl
-      (and_parts (not (is_inherit_only e) && bits_left g before e == 0) (not (same_sid e.sid owner_rights) || limits_owner (Some (before ++ after))) dead).1
+module _ (g : MappingValue) (es : List Ace) (gone : ℕ → Bool) (dead : (i : ℕ) → gone i ≡ true → is_dead g es i ≡ true) where
+  same_acl : (who : AceKind → SidValue → Bool)
+      → ((earlier later : AceKind) (s : SidValue) → (is_allow later || not (is_allow earlier)) ≡ true → who later s ≡ true → who earlier s ≡ true)
+      → (b : ℕ) → acl_grants g who (Some es) b ≡ acl_grants g who (Some (without gone es)) b
+  same_acl who kinds b = elim (cases_lt b 21) [
+    | inl low ↦ ap (λ o. nat_lt b 21 && is_allowed_by o) (sym (same_first (decides g who b) gone es (λ front back e is away decided.
+        dead_decides g who kinds front e (dead_here g es front back e is (dead (length front) away)) b low decided)))
+    | inr high ↦
+        ap (λ x. x && is_allowed_by (first g who es b)) (le-ltb b 21 high)
+        ∙ sym (ap (λ x. x && is_allowed_by (first g who (without gone es) b)) (le-ltb b 21 high))
+  ]
 
-  same_grants : (b : ℕ) → is_granted owner (Some (before ++ e ∷ after)) g t b ≡ is_granted owner (Some (before ++ after)) g t b
-  same_grants b =
-      ap (λ x. in_each_pass t x (acl_grants g (applies_again t owner) (Some (before ++ e ∷ after)) b) || is_given owner (Some (before ++ e ∷ after)) t b)
-      (same_acl g (applies t owner) (kind_applies t owner) before after e named b)
-      ∙ ap (λ x. in_each_pass t (acl_grants g (applies t owner) (Some (before ++ after)) b) x || is_given owner (Some (before ++ e ∷ after)) t b)
-      (same_acl g (applies_again t owner) (kind_applies_again t owner) before after e named b)
-      ∙ ap (λ l. is_listed owner (Some (before ++ after)) g t b
+  same_limits : limits_owner (Some es) ≡ limits_owner (Some (without gone es))
+  same_limits =
+      any_is_found is_limit es
+      ∙ ap is_some (sym (same_first is_limit gone es (λ front back e is away limit.
+      let here = dead_here g es front back e is (dead (length front) away) in
+      let parts = and_parts (not (is_inherit_only e) && bits_left g front e == 0) (not (same_sid e.sid owner_rights) || limits_owner (Some front)) here in
+      unless (same_sid e.sid owner_rights) (limits_owner (Some front)) parts.1 (and_parts (not (is_inherit_only e)) (same_sid e.sid owner_rights) limit).1)))
+      ∙ sym (any_is_found is_limit (without gone es))
+
+  same_grants : (owner : Option SidValue) (t : TokenValue) (b : ℕ) → is_granted owner (Some es) g t b ≡ is_granted owner (Some (without gone es)) g t b
+  same_grants owner t b =
+      ap (λ x. in_each_pass t x (acl_grants g (applies_again t owner) (Some es) b) || is_given owner (Some es) t b)
+      (same_acl (applies t owner) (kind_applies t owner) b)
+      ∙ ap (λ x. in_each_pass t (acl_grants g (applies t owner) (Some (without gone es)) b) x || is_given owner (Some es) t b)
+      (same_acl (applies_again t owner) (kind_applies_again t owner) b)
+      ∙ ap (λ l. is_listed owner (Some (without gone es)) g t b
       || is_implied (is_owner t owner && not l) t.privileges.take_ownership t.privileges.security b) same_limits
 
-  pub dead_entry_changes_nothing : (r : ℕ) → verdict owner (Some (before ++ e ∷ after)) g t r ≡ verdict owner (Some (before ++ after)) g t r
-  dead_entry_changes_nothing r = ap (λ p. judged_list g p r) (one_test _ _ same_grants)
+  pub dead_can_be_taken_out : CanBeTakenOut g es gone
+  dead_can_be_taken_out owner t r = λ i. judged g (λ b. same_grants owner t b i) (mask_of (λ b. nat_lt b 21 && same_grants owner t b i) 32) r
+
+pub dead_entries_can_go : DeadEntriesCanGo
+dead_entries_can_go g es gone dead = dead_can_be_taken_out g es gone dead
+
+-- one alone
+pub one_can_be_taken_out : (g : MappingValue) (es : List Ace) (place : ℕ) → is_dead g es place ≡ true → CanBeTakenOut g es (λ i. i == place)
+one_can_be_taken_out g es place dead = dead_can_be_taken_out g es (λ i. i == place) (λ i same. ap (is_dead g es) (eqb-true i place same) ∙ dead)
 
 -- ---- the bits that are left, entry by entry
 
-pub left_at_first : (g : MappingValue) (e : Ace) (mask left : ℕ) → mask ≡ mapped g e.mask → left ≡ mask_of (λ b. holds mask b && holds 0x001FFFFF b) 32
-    → left ≡ bits_left g [] e
-left_at_first g e mask left is_mask is_left =
-    is_left
-    ∙ mask_of-alike _ _ 32 (λ b h.
-    ap (λ n. holds n b && holds 0x001FFFFF b) is_mask
-    ∙ ap (λ x. holds (mapped g e.mask) b && x) (agree_below_at (holds 0x001FFFFF) (λ k. nat_lt k 21) 32 b refl h)
-    ∙ and_comm (holds (mapped g e.mask) b) (nat_lt b 21)
-    ∙ sym (and-true (nat_lt b 21 && holds (mapped g e.mask) b)))
+pub left_at_first : (g : MappingValue) (e : Ace) → rights_of g e ≡ bits_left g [] e
+left_at_first g e =
+    own_places (rights_of g e) (mask_of-lt (λ b. nat_lt b 21 && holds (mapped g e.mask) b) 32)
+    ∙ mask_of-alike (holds (rights_of g e)) _ 32 (λ b h. sym (and-true (holds (rights_of g e) b)))
 
 and_neither : (x n h : Bool) → ((x && not n) && not h) ≡ (x && not (n || h))
 and_neither true true h = refl
 and_neither true false h = refl
 and_neither false n h = refl
 
-pub left_behind : (g : MappingValue) (before : List Ace) (i : ℕ) (c e : Ace) (mask named left more : ℕ) (covering : Bool) → i < length before → c ≡ get_or before i c
+pub left_after : (g : MappingValue) (before : List Ace) (i : ℕ) (c e : Ace) (mask named left more : ℕ) (covering : Bool) → i < length before → c ≡ get_or before i c
     → mask ≡ mapped g c.mask → covering ≡ covers c e → named ≡ cond covering mask 0
     → left ≡ bits_left g (take i before) e → more ≡ mask_of (λ b. holds left b && not (holds named b)) 32
     → more ≡ bits_left g (take (i + 1) before) e
-left_behind g before i c e mask named left more covering low is is_mask is_covering is_named is_left is_more =
+left_after g before i c e mask named left more covering low is is_mask is_covering is_named is_left is_more =
     is_more
     ∙ mask_of-alike _ _ 32 (λ b h.
     let test : Ace → Bool = λ x. covers x e && holds (mapped g x.mask) b in
+    let so_far = is_named_before g (take i before) e b in
     ap (λ n. holds n b && not (holds named b)) is_left
-    ∙ ap (λ x. x && not (holds named b)) (holds_place (λ k. (nat_lt k 21 && holds (mapped g e.mask) k) && not (is_named_before g (take i before) e k)) b h)
-    ∙ ap (λ n. ((nat_lt b 21 && holds (mapped g e.mask) b) && not (is_named_before g (take i before) e b)) && not (holds n b))
+    ∙ ap (λ x. x && not (holds named b)) (holds_place (λ k. holds (rights_of g e) k && not (is_named_before g (take i before) e k)) b h)
+    ∙ ap (λ n. (holds (rights_of g e) b && not so_far) && not (holds n b))
     (is_named ∙ ap (λ x. cond x mask 0) is_covering ∙ ap (λ n. cond (covers c e) n 0) is_mask)
-    ∙ ap (λ x. ((nat_lt b 21 && holds (mapped g e.mask) b) && not (is_named_before g (take i before) e b)) && not x) (holds_when (covers c e) (mapped g c.mask) b)
-    ∙ and_neither (nat_lt b 21 && holds (mapped g e.mask) b) (is_named_before g (take i before) e b) (test c)
-    ∙ ap (λ x. (nat_lt b 21 && holds (mapped g e.mask) b) && not x)
-    (ap (λ (x : Ace). is_named_before g (take i before) e b || test x) is ∙ sym (list_any_more test before i c low)))
-
--- ---- the entry at a place
-
-pub behind_is : (es : List Ace) (n : ℕ) → take (length es - n) (drop n es) ≡ drop n es
-behind_is es n = take_all (length es - n) (drop n es) (omega (arith, length-drop {A = Ace} n es))
-
-split_at : (es : List Ace) (i : ℕ) (e : Ace) → slice_get es i ≡ Some e → es ≡ take i es ++ e ∷ drop (i + 1) es
-split_at es i e stands =
-    let low : i < length es = slice_get_within es i e stands in
-    sym (take-append-drop i es) ∙ ap (λ rest. take i es ++ rest) (rw (add-one, drop-cons es i e low, get_or_from_slice_get es i e e stands) refl)
-
-pub dead_can_be_taken_out : (g : MappingValue) (es : List Ace) (place : ℕ) → is_dead g es place ≡ true → CanBeTakenOut g es place
-dead_can_be_taken_out g es place dead = by (slice_get es place) refl dead
-  where
-    by : (o : Option Ace) → slice_get es place ≡ o → is_dead_here g es place o ≡ true → CanBeTakenOut g es place
-    by None stands dead = absurd cc
-    by (Some e) stands dead = λ owner t r.
-        ap (λ list. verdict owner (Some list) g t r) (split_at es place e stands)
-        ∙ dead_entry_changes_nothing g (take place es) (drop (place + 1) es) e dead owner t r
+    ∙ ap (λ x. (holds (rights_of g e) b && not so_far) && not x) (holds_when (covers c e) (mapped g c.mask) b)
+    ∙ and_neither (holds (rights_of g e) b) so_far (test c)
+    ∙ ap (λ x. holds (rights_of g e) b && not x)
+    (ap (λ (x : Ace). so_far || test x) is ∙ sym (list_any_more test before i c low)))

@@ -1,5 +1,5 @@
 -- Entries that can never decide a bit, whoever asks, since earlier entries for the same SID decide all that they name.
-use Rattle.std.specs.Prelude.{◌≡◌, ℕ, ◌+◌, Bool, false, not, ◌&&◌, ◌||◌, ◌==◌, nat_lt, List, ◌++◌, take, drop, Option, Some, None, slice_get}
+use Rattle.std.specs.Prelude.{◌≡◌, ℕ, ◌+◌, Bool, false, not, ◌&&◌, ◌||◌, ◌==◌, nat_lt, if◌then◌else◌, List, [], ◌∷◌, take, Option, Some, None, slice_get}
 use Rattle.std.specs.List.{list_any}
 use Rattle.sd_sid.specs.Mask.{holds, mask_of}
 use Rattle.sd_sid.specs.Mapping.{MappingValue, mapped}
@@ -10,39 +10,52 @@ use Rattle.sd_acl.specs.declared.ace.Ace.{Ace}
 use Rattle.sd_check.specs.Token.{TokenValue}
 use Rattle.sd_check.specs.Check.{verdict}
 
--- where the later entry applies, the earlier one does too: both are for one SID, and a deny isn't behind an allow alone, which
--- a group that counts for denies alone passes by
+-- the rights that the entry names, of those that a list can grant: the places below 21
+abbrev pub rights_of : MappingValue → Ace → ℕ
+rights_of g e = mask_of (λ b. nat_lt b 21 && holds (mapped g e.mask) b) 32
+
+-- where the later entry applies, the earlier one does too: both are for one SID, and no allow covers a deny, since a
+-- group may count for denies alone
 abbrev pub covers : Ace → Ace → Bool
-covers earlier later = (not (is_inherit_only earlier) && same_sid earlier.sid later.sid) && (is_allow later.kind || not (is_allow earlier.kind))
+covers earlier later =
+    (not (is_inherit_only earlier) && same_sid earlier.sid later.sid)
+    && (is_allow later.kind || not (is_allow earlier.kind))
 
 -- an entry before it covers it, and names the bit
 abbrev pub is_named_before : MappingValue → List Ace → Ace → ℕ → Bool
 is_named_before g before e b = list_any (λ c. covers c e && holds (mapped g c.mask) b) before
 
--- the bits of the entry that a list can grant, the places below 21, and that none of those names
+-- the rights of the entry that none of those names
 abbrev pub bits_left : MappingValue → List Ace → Ace → ℕ
-bits_left g before e = mask_of (λ b. (nat_lt b 21 && holds (mapped g e.mask) b) && not (is_named_before g before e b)) 32
+bits_left g before e = mask_of (λ b. holds (rights_of g e) b && not (is_named_before g before e b)) 32
 
--- an entry between others that decides no bit of anybody's. One for OWNER RIGHTS limits the owner even so, unless another
--- one does
-abbrev pub is_dead_between : MappingValue → List Ace → Ace → List Ace → Bool
-is_dead_between g before e after =
-    (not (is_inherit_only e) && bits_left g before e == 0) && (not (same_sid e.sid owner_rights) || limits_owner (Some (before ++ after)))
+-- an entry after these that decides no bit, whoever asks. One for OWNER RIGHTS still limits the owner, unless one before
+-- it does
+abbrev pub is_dead_after : MappingValue → List Ace → Ace → Bool
+is_dead_after g before e =
+    (not (is_inherit_only e) && bits_left g before e == 0)
+    && (not (same_sid e.sid owner_rights) || limits_owner (Some before))
 
 -- the entry at the place
 abbrev pub is_dead_here : MappingValue → List Ace → ℕ → Option Ace → Bool
 is_dead_here g es place None = false
-is_dead_here g es place (Some e) = is_dead_between g (take place es) e (drop (place + 1) es)
+is_dead_here g es place (Some e) = is_dead_after g (take place es) e
 
 abbrev pub is_dead : MappingValue → List Ace → ℕ → Bool
 is_dead g es place = is_dead_here g es place (slice_get es place)
 
--- the list without the entry at the place
-abbrev pub without : List Ace → ℕ → List Ace
-without es place = take place es ++ drop (place + 1) es
+-- ---- lists without some entries
 
--- each verdict is the same without it
-abbrev pub CanBeTakenOut : MappingValue → List Ace → ℕ → Type 0
-CanBeTakenOut g es place =
+-- without those whose places are gone, where the first has the place i
+unfoldable pub without_from : (ℕ → Bool) → ℕ → List Ace → List Ace
+without_from gone i [] = []
+without_from gone i (e ∷ es) = if gone i then without_from gone (i + 1) es else e ∷ without_from gone (i + 1) es
+
+abbrev pub without : (ℕ → Bool) → List Ace → List Ace
+without gone es = without_from gone 0 es
+
+-- each verdict is the same without them
+abbrev pub CanBeTakenOut : MappingValue → List Ace → (ℕ → Bool) → Type 0
+CanBeTakenOut g es gone =
     (owner : Option SidValue) (t : TokenValue) (r : ℕ)
-    → verdict owner (Some es) g t r ≡ verdict owner (Some (without es place)) g t r
+    → verdict owner (Some es) g t r ≡ verdict owner (Some (without gone es)) g t r

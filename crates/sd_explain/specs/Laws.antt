@@ -12,6 +12,7 @@ use Rattle.sd_check.specs.Token.{TokenValue, applies, applies_again, stands_for,
 use Rattle.sd_check.specs.Check.{is_granted, most, verdict}
 use Rattle.sd_explain.specs.Reasons.{finding_of, grants, named_cause, maximum_cause, reason_at}
 use Rattle.sd_explain.specs.Parts.{bits_of, part_at}
+use Rattle.sd_explain.specs.Dead.{is_dead, CanBeTakenOut}
 use Rattle.sd_explain.specs.declared.explanation.Part.{Part}
 use Rattle.sd_explain.specs.declared.reason.Finding.TheVariants.{Allowed, Denied, NoEntry}
 use Rattle.sd_explain.specs.declared.reason.Reason.{Reason}
@@ -108,3 +109,10 @@ abbrev pub GrantedAreTheParts : Type 0
 GrantedAreTheParts =
     (owner : Option SidValue) (dacl : Option (List Ace)) (g : MappingValue) (t : TokenValue) (r m : ℕ)
     → verdict owner dacl g t r ≡ Granted m → m ≡ bits_of shares.Granted (reason_at owner dacl g t r) 32
+
+-- ---- dead entries
+
+-- any of the dead entries, each found in the whole list, can be taken out together: every verdict stays
+abbrev pub DeadEntriesCanGo : Type 0
+DeadEntriesCanGo =
+    (g : MappingValue) (es : List Ace) (gone : ℕ → Bool) → ((i : ℕ) → gone i ≡ true → is_dead g es i ≡ true) → CanBeTakenOut g es gone

@@ -1,9 +1,9 @@
 //! What follows from the definitions of reasons and parts. Each law is the contract of a function that does nothing.
 
-ghost use Rattle.sd_explain.specs.Laws.{AllowedNamesFirst, DeniedNamesFirst, NoEntryWhereNone, FirstPassHasSubject, SecondPassHasSubject, NamedCauseIsDue, MaximumCauseIsDue, PartsAreApart, EachBitHasItsPart, PartsHoldTheirCause, ReasonsJoinToRequest, GrantedAreTheParts};
+ghost use Rattle.sd_explain.specs.Laws.{AllowedNamesFirst, DeniedNamesFirst, NoEntryWhereNone, FirstPassHasSubject, SecondPassHasSubject, NamedCauseIsDue, MaximumCauseIsDue, PartsAreApart, EachBitHasItsPart, PartsHoldTheirCause, ReasonsJoinToRequest, GrantedAreTheParts, DeadEntriesCanGo};
 
-/// The entry that a finding names is the first that settles the bit, at that place of the list; none is named just where
-/// there is none ([MS-DTYP] 2.5.3.2).
+/// The entry that a finding names is the first that settles the bit, at that place of the list; none is named if and
+/// only if none settles it ([MS-DTYP] 2.5.3.2).
 pub fn findings_name_first_entries()
     ensures allowed { AllowedNamesFirst }
     ensures denied { DeniedNamesFirst }
@@ -11,13 +11,13 @@ pub fn findings_name_first_entries()
 {}
 
 /// An entry that settles a bit speaks of a SID that the token stands for in that pass: its own, or the owner's where it
-/// is for OWNER RIGHTS, as `subject_of` of `sd_check` tells ([MS-DTYP] 2.5.3.1).
+/// is for OWNER RIGHTS, as `subject_of` of `sd_check` returns ([MS-DTYP] 2.5.3.1).
 pub fn findings_have_a_subject()
     ensures first { FirstPassHasSubject }
     ensures second { SecondPassHasSubject }
 {}
 
-/// A cause grants its bit just where the check does.
+/// A cause grants its bit if and only if the check does.
 pub fn causes_are_due()
     ensures named { NamedCauseIsDue }
     ensures maximum { MaximumCauseIsDue }
@@ -34,4 +34,10 @@ pub fn parts_are_apart_and_whole()
 pub fn parts_join()
     ensures request { ReasonsJoinToRequest }
     ensures granted { GrantedAreTheParts }
+{}
+
+/// Any of a list's dead entries, each found by `is_dead` in the whole list, can be removed together, even all: the
+/// verdict is the same, for any token, owner and request ([MS-DTYP] 2.5.3.2).
+pub fn dead_entries_can_go()
+    ensures { DeadEntriesCanGo }
 {}

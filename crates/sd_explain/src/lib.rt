@@ -1,7 +1,7 @@
 //! Why a request is granted or denied: [MS-DTYP] 2.5.3.2, bit by bit.
 //!
-//! `explain` answers what `check_parts` of `sd_check` does, and with it the reason of each bit: the first entry that
-//! settles it, in each pass, or what is granted without an entry. It takes no memory. The rules are told in docs/CHECK.md.
+//! `explain` returns the verdict of `check_parts` of `sd_check` as the reason of each bit: the first entry that settles
+//! it, in each pass, or what is granted without an entry. It allocates nothing. The rules are in docs/CHECK.md.
 //!
 //! ```text
 //! let explanation = explain(owner, dacl, &GenericMapping::file(), &token, Mask(0x0012_0116));
@@ -19,7 +19,7 @@ mod reason;
 pub use dead::{covers, is_dead};
 pub use explanation::{Explanation, PLACES, Part, explain, explain_descriptor};
 pub use laws::{
-    causes_are_due, findings_have_a_subject, findings_name_first_entries,
+    causes_are_due, dead_entries_can_go, findings_have_a_subject, findings_name_first_entries,
     parts_are_apart_and_whole, parts_join,
 };
 pub use reason::{Cause, Finding, Reason, Share};

@@ -1,17 +1,17 @@
 use Rattle.std.proofs.Common.{◌∙◌, ap}
 use Rattle.std.proofs.lemmas.List.{take_all}
 use Rattle.sd_explain.specs.Dead.{bits_left}
-use Rattle.sd_explain.proofs.DeadEntries.{left_at_first, left_behind}
+use Rattle.sd_explain.proofs.DeadEntries.{left_at_first, left_after}
 use Rattle.sd_explain.proofs.dead.bits_left.Goals as goal
 
 pub loop-earlier-init : goal.loop-earlier-init
-loop-earlier-init c = left_at_first c.args.mapping.now c.args.entry.now c.map.result c.common-left.result c.map.ensures c.common-left.ensures
+loop-earlier-init c = c.rights-left.ensures ∙ left_at_first c.args.mapping.now c.args.entry.now
 
 pub loop-earlier-preserved : goal.loop-earlier-preserved
 loop-earlier-preserved c =
-    left_behind c.args.mapping.now c.args.before.now c.loop-earlier.earlier-index c.earlier-item.result c.args.entry.now
-    c.map-in-loop-earlier.result c.when-mask.result c.loop-earlier.left c.minus-left.result c.covers.result
-    c.loop-earlier-test.true c.earlier-item.is c.map-in-loop-earlier.ensures c.covers.ensures c.when-mask.ensures c.loop-earlier.invariant c.minus-left.ensures
+    left_after c.args.mapping.now c.args.before.now c.loop-earlier.earlier-index c.earlier-item.result c.args.entry.now
+    c.map.result c.when-mask.result c.loop-earlier.left c.minus-left.result c.covers.result
+    c.loop-earlier-test.true c.earlier-item.is c.map.ensures c.covers.ensures c.when-mask.ensures c.loop-earlier.invariant c.minus-left.ensures
 
 pub returns : goal.returns
 returns c =
