@@ -21,6 +21,11 @@ covers earlier later =
     (not (is_inherit_only earlier) && same_sid earlier.sid later.sid)
     && (is_allow later.kind || not (is_allow earlier.kind))
 
+-- the earlier entry covers the later one, and names one of its rights
+abbrev pub decides_before : MappingValue → Ace → Ace → Bool
+decides_before g earlier later =
+    covers earlier later && not (mask_of (λ b. holds (rights_of g later) b && holds (mapped g earlier.mask) b) 32 == 0)
+
 -- an entry before it covers it, and names the bit
 abbrev pub is_named_before : MappingValue → List Ace → Ace → ℕ → Bool
 is_named_before g before e b = list_any (λ c. covers c e && holds (mapped g c.mask) b) before

@@ -2,7 +2,7 @@
 
 ghost use Rattle.std.specs.Prelude.{◌≡◌, ◌==◌, true, Some};
 ghost use Rattle.sd_acl.specs.Verdict.{limits_owner};
-ghost use Rattle.sd_explain.specs.Dead.{CanBeTakenOut, bits_left as bits_left_of, covers as covers_of, is_dead as is_dead_of, is_dead_after as is_dead_after_of, rights_of};
+ghost use Rattle.sd_explain.specs.Dead.{CanBeTakenOut, bits_left as bits_left_of, covers as covers_of, decides_before as decides_before_of, is_dead as is_dead_of, is_dead_after as is_dead_after_of, rights_of};
 
 use sd_acl::Ace;
 use sd_sid::{GenericMapping, Mask, OBJECT_RIGHTS};
@@ -31,8 +31,19 @@ fn is_dead_after(before: &[Ace], entry: &Ace, mapping: &GenericMapping) -> bool
         && (!entry.sid.is_owner_rights() || limits_owner(before))
 }
 
+/// Whether the earlier entry applies wherever the later one does, and names a right that the later one names below
+/// place 21: where the later entry is dead, this is one of those that decide its bits ([MS-DTYP] 2.5.3.2).
+pub fn decides_before(earlier: &Ace, later: &Ace, mapping: &GenericMapping) -> bool
+    ensures { result ≡ decides_before_of mapping.now earlier.now later.now }
+{
+    covers(earlier, later)
+        && !rights(later, mapping)
+            .common(mapping.map(earlier.mask))
+            .is_empty()
+}
+
 /// Whether the earlier entry applies wherever the later one does.
-pub fn covers(earlier: &Ace, later: &Ace) -> bool
+fn covers(earlier: &Ace, later: &Ace) -> bool
     ensures { result ≡ covers_of earlier.now later.now }
 {
     !earlier.is_inherit_only()

@@ -16,7 +16,7 @@ mod laws;
 mod question;
 mod reason;
 
-pub use dead::{covers, is_dead};
+pub use dead::{decides_before, is_dead};
 pub use explanation::{Explanation, PLACES, Part, explain, explain_descriptor};
 pub use laws::{
     causes_are_due, dead_entries_can_go, findings_have_a_subject, findings_name_first_entries,

@@ -1,8 +1,8 @@
 -- What `lint` finds in a descriptor: a line for each finding, entry by entry, or `clean`.
 use Rattle.std.specs.Prelude.{ℕ, zero, suc, ◌+◌, Bool, not, ◌&&◌, ◌||◌, ◌==◌, List, [], ◌∷◌, ◌++◌, length, take, Option, Some, None, slice_get, if◌then◌else◌, position, codes}
 use Rattle.std.specs.Fmt.{decimal}
-use Rattle.sd_sid.specs.Mask.{holds, mask_of}
-use Rattle.sd_sid.specs.Mapping.{MappingValue, mapped}
+use Rattle.sd_sid.specs.Mask.{holds}
+use Rattle.sd_sid.specs.Mapping.{MappingValue}
 use Rattle.sd_sid.specs.Sid.{same_sid, owner_rights}
 use Rattle.sd_acl.specs.Ace.{is_allow, is_inherit_only}
 use Rattle.sd_acl.specs.Canonical.{is_inherited, is_explicit, allows, denies}
@@ -11,7 +11,7 @@ use Rattle.sd_acl.specs.declared.ace.AceKind.{AceKind}
 use Rattle.sd_acl.specs.declared.descriptor.Dacl.{Dacl}
 use Rattle.sd_acl.specs.declared.descriptor.Dacl.TheVariants.{Absent, Null, List as Entries}
 use Rattle.sd_text.specs.Canon.{entry_canon}
-use Rattle.sd_explain.specs.Dead.{covers, is_dead}
+use Rattle.sd_explain.specs.Dead.{decides_before, is_dead}
 use Rattle.sd_script.specs.Answer.{line}
 use Rattle.sd_tool.specs.declared.answer.Outcome.{Outcome}
 use Rattle.sd_tool.specs.declared.answer.Outcome.TheVariants.{Done, Refused}
@@ -55,14 +55,10 @@ abbrev pub where_behind : Option ℕ → List ℕ → List ℕ → List ℕ
 where_behind None head what = []
 where_behind (Some earlier) head what = line (head ++ what ++ decimal (earlier + 1))
 
--- both name some right
-abbrev pub shares_a_right : MappingValue → Ace → Ace → Bool
-shares_a_right g earlier e = not (mask_of (λ b. holds (mapped g earlier.mask) b && holds (mapped g e.mask) b) 32 == 0)
-
--- the number of an entry that covers the later one and shares a right with it, and of all below a place
+-- the number of an entry that covers the later one and names one of its rights, and of all below a place
 abbrev pub covering_number : MappingValue → Ace → ℕ → Option Ace → List ℕ
 covering_number g e place None = []
-covering_number g e place (Some earlier) = if covers earlier e && shares_a_right g earlier e then codes " " ++ decimal (place + 1) else []
+covering_number g e place (Some earlier) = if decides_before g earlier e then codes " " ++ decimal (place + 1) else []
 
 unfoldable pub covering_numbers : MappingValue → List Ace → Ace → ℕ → List ℕ
 covering_numbers g es e zero = []

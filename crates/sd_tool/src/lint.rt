@@ -2,7 +2,7 @@
 ghost use Rattle.std.specs.Prelude.{◌≡◌, ◌<◌, ◌≤◌, ◌^◌, ◌++◌, IfErr, IfOk, IfSome, OnOk, codes, length, position, string_bytes};
 ghost use Rattle.sd_sid.specs.Mask.{holds};
 ghost use Rattle.sd_tool.specs.Answer.{AnswersLint, IsLinted, answer_of};
-ghost use Rattle.sd_tool.specs.Lint.{is_misplaced as is_misplaced_of, same_kind as same_kind_of, is_repeated as is_repeated_of, is_stranded as is_stranded_of, limits as limits_of, entry_head as entry_head_of, where_so, where_behind, shares_a_right as shares_a_right_of, covering_number as covering_number_of, covering_numbers as covering_numbers_of, is_useless as is_useless_of, entry_lines as entry_lines_of, list_lines as list_lines_of, dacl_lines as dacl_lines_of};
+ghost use Rattle.sd_tool.specs.Lint.{is_misplaced as is_misplaced_of, same_kind as same_kind_of, is_repeated as is_repeated_of, is_stranded as is_stranded_of, limits as limits_of, entry_head as entry_head_of, where_so, where_behind, covering_number as covering_number_of, covering_numbers as covering_numbers_of, is_useless as is_useless_of, entry_lines as entry_lines_of, list_lines as list_lines_of, dacl_lines as dacl_lines_of};
 
 use crate::answer::{Answer, Outcome, sddl_fault};
 use crate::descriptor::{noting, read_text};
@@ -10,7 +10,7 @@ use crate::failure::Failure;
 use crate::options::Settings;
 use bitflags::Flags;
 use sd_acl::{Ace, AceFlags, AceKind, Dacl};
-use sd_explain::{covers, is_dead};
+use sd_explain::{decides_before, is_dead};
 use sd_sid::GenericMapping;
 use sd_stream::RunError;
 use sd_text::{TextError, print_entry};
@@ -270,7 +270,7 @@ fn covering_text(
     Ok(text)
 }
 
-/// The entry's number, where it covers the later one.
+/// The entry's number, where it covers the later one and names one of its rights.
 fn covering_number(
     alloc: Global,
     mapping: &GenericMapping,
@@ -281,18 +281,10 @@ fn covering_number(
     requires { place < 2 ^ 63 }
     ensures { IfOk result (λ text. string_bytes text ≡ covering_number_of mapping.now later.now place (Some entry.now)) }
 {
-    if !covers(entry, later) || !shares_a_right(mapping, entry, later) {
+    if !decides_before(entry, later, mapping) {
         return Ok(String::new(alloc));
     }
     let number = place + 1;
     let text = format!(in alloc; " {number}")?;
     Ok(text)
-}
-
-/// Whether both entries name some right.
-fn shares_a_right(mapping: &GenericMapping, earlier: &Ace, later: &Ace) -> bool
-    ensures { result ≡ shares_a_right_of mapping.now earlier.now later.now }
-{
-    let both = mapping.map(earlier.mask).common(mapping.map(later.mask));
-    !both.is_empty()
 }
