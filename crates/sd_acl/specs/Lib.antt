@@ -2,4 +2,3 @@ pub mod Ace
 pub mod Canonical
 pub mod Dacl
 pub mod Descriptor
-pub mod Verdict

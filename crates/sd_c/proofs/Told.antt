@@ -1,6 +1,6 @@
 -- The answer of an explanation, from that of each of its parts.
 use Rattle.std.specs.Prelude.{◌≡◌, refl, ℕ, List, Option, Result, Ok}
-use Rattle.sd_acl.specs.declared.verdict.Verdict.{Verdict}
+use Rattle.sd_check.specs.declared.verdict.Verdict.{Verdict}
 use Rattle.sd_explain.specs.Parts.{reason_in}
 use Rattle.sd_explain.specs.declared.reason.Reason.{Reason}
 use Rattle.sd_c.specs.Answer.{verdict_given}

@@ -2,8 +2,8 @@
 use Rattle.std.specs.Prelude.{ℕ, Result, Ok, Err}
 use Rattle.sd_sid.specs.Sid.{sid_error_number}
 use Rattle.sd_wire.specs.Fault.{wire_fault_number}
-use Rattle.sd_acl.specs.declared.verdict.Verdict.{Verdict}
-use Rattle.sd_acl.specs.declared.verdict.Verdict.TheVariants.{Granted, Denied, Reserved, EmptyRequest}
+use Rattle.sd_check.specs.declared.verdict.Verdict.{Verdict}
+use Rattle.sd_check.specs.declared.verdict.Verdict.TheVariants.{Granted, Denied, Reserved, EmptyRequest}
 use Rattle.sd_c.specs.declared.answer.CheckAnswer.{CheckAnswer}
 use Rattle.sd_c.specs.declared.stop.NotRead.{NotRead}
 use Rattle.sd_c.specs.declared.stop.NotRead.TheVariants.{Descriptor, User, Group, BehindGroups, State, Restricting, PrivilegeBits, MappingBits, DescriptorHandle, TokenHandle}

@@ -1,7 +1,7 @@
 -- What the call that explains a verdict answers, as numbers.
 use Rattle.std.specs.Prelude.{ℕ, List, map, Option, Some, None, Result, Ok, Err, if◌then◌else◌}
 use Rattle.std.specs.List.{range_with_len}
-use Rattle.sd_check.specs.Dacl.{dacl_entries}
+use Rattle.sd_check.specs.Check.{dacl_entries}
 use Rattle.sd_explain.specs.Reasons.{grants, reasons_of}
 use Rattle.sd_explain.specs.Parts.{part_at, reason_in}
 use Rattle.sd_explain.specs.declared.explanation.Part.{Part}

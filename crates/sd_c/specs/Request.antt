@@ -8,9 +8,8 @@ use Rattle.sd_sid.specs.declared.mapping.BadMapping.{BadMapping}
 use Rattle.sd_acl.specs.Descriptor.{DescriptorValue}
 use Rattle.sd_wire.specs.Reading.{descriptor_read}
 use Rattle.sd_wire.specs.declared.fault.WireFault.{WireFault}
-use Rattle.sd_acl.specs.declared.verdict.Verdict.{Verdict}
-use Rattle.sd_check.specs.Check.{verdict}
-use Rattle.sd_check.specs.Dacl.{dacl_entries}
+use Rattle.sd_check.specs.declared.verdict.Verdict.{Verdict}
+use Rattle.sd_check.specs.Check.{verdict, dacl_entries}
 use Rattle.sd_check.specs.Token.{TokenValue}
 use Rattle.sd_check.specs.declared.token.GroupState.{GroupState}
 use Rattle.sd_check.specs.declared.token.GroupState.TheVariants.{Enabled, DenyOnly, Disabled}

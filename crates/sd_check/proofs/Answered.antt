@@ -5,7 +5,7 @@ use Rattle.std.proofs.Math.Bool.{and_comm, and-false, and-true}
 use Rattle.sd_sid.specs.Mask.{holds, mask_of}
 use Rattle.sd_sid.specs.Mapping.{MappingValue}
 use Rattle.sd_sid.proofs.Masks.{holds_place, mask_of-alike}
-use Rattle.sd_acl.specs.Verdict.{missing_of, most_of, joined_with, is_implied, maximum_verdict}
+use Rattle.sd_check.specs.Check.{missing_of, most_of, joined_with, is_implied, maximum_verdict}
 use Rattle.sd_acl.specs.declared.ace.Ace.{Ace}
 use Rattle.sd_check.proofs.Given.{implied_low}
 

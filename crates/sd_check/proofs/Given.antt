@@ -4,7 +4,7 @@ use Rattle.std.proofs.lemmas.Bool.{agree_below_at, cases_lt, lt-ltb, ne_eqb, eqb
 use Rattle.std.proofs.Math.Bool.{and-false, or-false}
 use Rattle.sd_sid.specs.Mask.{holds, mask_of}
 use Rattle.sd_sid.proofs.Masks.{holds_when, mask_of-alike}
-use Rattle.sd_acl.specs.Verdict.{is_implied}
+use Rattle.sd_check.specs.Check.{is_implied}
 use Rattle.sd_check.proofs.LowMasks.{no_places}
 
 holds_owners : (b : ℕ) → b < 32 → holds 0x00060000 b ≡ (b == 17 || b == 18)

@@ -12,15 +12,14 @@ use Rattle.sd_sid.specs.Sid.{SidValue, same_sid, owner_rights}
 use Rattle.sd_sid.proofs.Compared.{same_sid-true}
 use Rattle.sd_sid.proofs.Masks.{holds_place, holds-mask_of, mask_of-alike}
 use Rattle.sd_acl.specs.Ace.{is_allow, is_inherit_only}
-use Rattle.sd_acl.specs.Verdict.{decides, acl_grants, is_allowed_by, first, limits_owner, subject, judged, missing_of, joined_with, reserved_of, is_implied, without_maximum}
+use Rattle.sd_check.specs.Check.{decides, acl_grants, is_allowed_by, first, limits_owner, subject, judged, missing_of, joined_with, reserved_of, is_implied, without_maximum, applies, applies_again, stands_for_subject, in_each_pass, is_owner, is_granted, is_given, is_listed}
 use Rattle.sd_acl.specs.declared.ace.Ace.{Ace}
 use Rattle.sd_acl.specs.declared.ace.AceKind.{AceKind}
 use Rattle.sd_acl.specs.declared.ace.AceKind.TheVariants.{Allow, Deny}
-use Rattle.sd_acl.specs.declared.verdict.Verdict.{Verdict}
-use Rattle.sd_acl.specs.declared.verdict.Verdict.TheVariants.{Granted, Denied, Reserved, EmptyRequest}
-use Rattle.sd_check.specs.Token.{TokenValue, applies, applies_again, counts, a_group_stands_for, stands_for_subject, in_each_pass, is_owner}
+use Rattle.sd_check.specs.declared.verdict.Verdict.{Verdict}
+use Rattle.sd_check.specs.declared.verdict.Verdict.TheVariants.{Granted, Denied, Reserved, EmptyRequest}
+use Rattle.sd_check.specs.Token.{TokenValue, counts, a_group_stands_for}
 use Rattle.sd_check.specs.declared.token.GroupState.TheVariants.{Enabled}
-use Rattle.sd_check.specs.Check.{is_granted, is_given, is_listed}
 use Rattle.sd_check.specs.Laws.{FirstEntryDecides, SilentEntryChangesNothing, IsSilent, GrantsWhatWasAsked, MaximumIsEachByItself, DeniedMaximumIsNone, NothingBeyondMaximum, EnabledGroupTakesNothing, NamesNot, with_group, EntriesGrantRightsAlone}
 use Rattle.sd_check.proofs.LowMasks.{judged_plainly, no_places}
 

@@ -3,8 +3,8 @@ pub mod Given
 pub mod Places
 pub mod Chains
 pub mod Answered
-pub mod OneWalk
-pub mod NextEntry
+pub mod Passes
+pub mod Owned
 pub mod LawProofs
 pub mod MoreGranted
 pub mod RestrictionProofs

@@ -1,14 +1,14 @@
 -- Requests for some of the object's own rights and the standard ones alone, the places below 21.
-use Rattle.std.proofs.Common.{◌≡◌, ℕ, ◌^◌, ◌<◌, ◌≤◌, Bool, false, ◌&&◌, not, ◌==◌, inl, inr, refl, sym, ◌∙◌, ap, arith, cond}
+use Rattle.std.proofs.Common.{◌≡◌, ℕ, ◌^◌, ◌<◌, ◌≤◌, Bool, true, false, ◌&&◌, not, ◌==◌, inl, inr, refl, sym, ◌∙◌, ap, arith, cond}
 use Rattle.std.proofs.lemmas.Bool.{agree_below_at, cases_lt, lt-ltb}
 use Rattle.std.proofs.lemmas.Nat.Bits.{bit_at_above}
 use Rattle.std.proofs.Math.Bool.{and-false, and-true, or-false}
 use Rattle.sd_sid.specs.Mask.{holds, mask_of}
 use Rattle.sd_sid.specs.Mapping.{MappingValue, mapped, is_mapped}
 use Rattle.sd_sid.proofs.Masks.{is_mask_of, mask_of-alike}
-use Rattle.sd_acl.specs.Verdict.{reserved_of, without_maximum, judged, missing_of, plain_verdict}
-use Rattle.sd_acl.specs.declared.verdict.Verdict.TheVariants.{Granted, Denied}
-use Rattle.sd_check.specs.Steps.{walked_bits}
+use Rattle.sd_check.specs.Check.{reserved_of, without_maximum, answered, judged, missing_of, plain_verdict}
+use Rattle.sd_check.specs.declared.verdict.Verdict.TheVariants.{Granted, Denied}
+use Rattle.sd_check.specs.Fold.{wanted_bits}
 
 -- such a mask has no place from 21 on
 pub high_place : (q b : ℕ) → q < 2 ^ 21 → 21 ≤ b → holds q b ≡ false
@@ -59,5 +59,10 @@ judged_plainly g p most q some small =
     rw (some, nothing_reserved q small, high_place q 25 small (omega arith), mapped_to_itself g q small, some) refl
 
 -- a list is asked for no other bits
-pub walked_low : (g : MappingValue) (q : ℕ) → q < 2 ^ 21 → walked_bits g q ≡ q
-walked_low g q small = rw (high_place q 25 small (omega arith), mapped_to_itself g q small) refl
+pub wanted_low : (g : MappingValue) (q : ℕ) → q < 2 ^ 21 → wanted_bits g q ≡ q
+wanted_low g q small = rw (high_place q 25 small (omega arith), mapped_to_itself g q small) refl
+
+-- a request that isn't empty and has no reserved bit
+pub judged_open : (g : MappingValue) (p : ℕ → Bool) (most r : ℕ) → (r == 0) ≡ false → (reserved_of r == 0) ≡ true
+    → judged g p most r ≡ answered p most r (mapped g (without_maximum r))
+judged_open g p most r some none = rw (some, none) refl

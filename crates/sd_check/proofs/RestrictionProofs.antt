@@ -9,11 +9,10 @@ use Rattle.sd_sid.specs.Mapping.{MappingValue}
 use Rattle.sd_sid.specs.Sid.{SidValue, same_sid}
 use Rattle.sd_sid.proofs.Compared.{same_sid-itself}
 use Rattle.sd_sid.proofs.Masks.{holds_place}
-use Rattle.sd_acl.specs.Verdict.{acl_grants, limits_owner, subject, is_implied, judged, most_of}
+use Rattle.sd_check.specs.Check.{acl_grants, limits_owner, subject, is_implied, judged, most_of, applies, applies_again, stands_for_subject, is_restricting_subject, is_granted, is_given, is_listed, most}
 use Rattle.sd_acl.specs.declared.ace.Ace.{Ace}
 use Rattle.sd_acl.specs.declared.ace.AceKind.TheVariants.{Allow}
-use Rattle.sd_check.specs.Token.{TokenValue, applies, applies_again, stands_for_subject, is_restricted, is_restricting, is_restricting_subject}
-use Rattle.sd_check.specs.Check.{is_granted, is_given, is_listed, most}
+use Rattle.sd_check.specs.Token.{TokenValue, is_restricted, is_restricting}
 use Rattle.sd_check.specs.Laws.{restricted_to, NobodyRestrictsNothing, RestrictionGrantsNoBit, RestrictionGrantsNoRequest, OrderOfRestrictingSidsIsFree}
 use Rattle.sd_check.proofs.LawProofs.{one_test, still_given}
 use Rattle.sd_check.proofs.MoreGranted.{judged_with_more}

@@ -5,14 +5,13 @@ use Rattle.sd_sid.specs.Mask.{holds}
 use Rattle.sd_sid.specs.Mapping.{MappingValue, mapped}
 use Rattle.sd_sid.specs.Sid.{SidValue, same_sid, owner_rights}
 use Rattle.sd_acl.specs.Ace.{is_allow, is_inherit_only}
-use Rattle.sd_acl.specs.Verdict.{decides, acl_grants, subject, limits_owner, is_implied, without_maximum}
+use Rattle.sd_check.specs.Check.{decides, acl_grants, subject, limits_owner, is_implied, without_maximum, applies, applies_again, stands_for_subject, is_granted, verdict}
 use Rattle.sd_acl.specs.declared.ace.Ace.{Ace}
 use Rattle.sd_acl.specs.declared.ace.AceKind.{AceKind}
 use Rattle.sd_acl.specs.declared.ace.AceKind.TheVariants.{Allow, Deny}
-use Rattle.sd_acl.specs.declared.verdict.Verdict.TheVariants.{Granted, Denied}
+use Rattle.sd_check.specs.declared.verdict.Verdict.TheVariants.{Granted, Denied}
 use Rattle.sd_check.specs.declared.token.GroupState.TheVariants.{Enabled}
-use Rattle.sd_check.specs.Token.{TokenValue, applies, applies_again, is_restricting, stands_for_subject}
-use Rattle.sd_check.specs.Check.{is_granted, verdict}
+use Rattle.sd_check.specs.Token.{TokenValue, is_restricting}
 
 -- where no entry before it settles the bit, an entry that does decides it
 abbrev pub FirstEntryDecides : Type 0

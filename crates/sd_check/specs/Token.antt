@@ -1,8 +1,7 @@
--- Whom an entry speaks of, and when it applies to a token ([MS-DTYP] 2.5.2 and 2.5.3.1).
-use Rattle.std.specs.Prelude.{Bool, true, false, not, ◌&&◌, ◌||◌, ◌==◌, List, length, Option, Some, None}
+-- A token: who asks, and which SIDs it stands for ([MS-DTYP] 2.5.2).
+use Rattle.std.specs.Prelude.{Bool, true, false, not, ◌&&◌, ◌||◌, ◌==◌, List, length}
 use Rattle.std.specs.List.{list_any}
 use Rattle.sd_sid.specs.Sid.{SidValue, same_sid}
-use Rattle.sd_acl.specs.Verdict.{subject}
 use Rattle.sd_acl.specs.declared.ace.AceKind.{AceKind}
 use Rattle.sd_acl.specs.declared.ace.AceKind.TheVariants.{Allow, Deny}
 use Rattle.sd_check.specs.declared.token.GroupState.{GroupState}
@@ -35,17 +34,6 @@ a_group_stands_for groups kind s = list_any (λ (group : SidValue × GroupState)
 abbrev pub stands_for : TokenValue → AceKind → SidValue → Bool
 stands_for t kind s = same_sid t.user s || a_group_stands_for t.groups kind s
 
--- an entry of the kind applies to the token where it speaks of somebody, and the token stands for that SID
-abbrev pub stands_for_subject : TokenValue → AceKind → Option SidValue → Bool
-stands_for_subject t kind None = false
-stands_for_subject t kind (Some s) = stands_for t kind s
-
--- whether an entry of the kind for the SID applies, with this owner
-abbrev pub applies : TokenValue → Option SidValue → AceKind → SidValue → Bool
-applies t owner kind s = stands_for_subject t kind (subject owner s)
-
--- ---- the second pass, of a restricted token
-
 -- a token without restricting SIDs isn't restricted
 abbrev pub is_restricted : TokenValue → Bool
 is_restricted t = not (length t.restricting == 0)
@@ -53,20 +41,3 @@ is_restricted t = not (length t.restricting == 0)
 -- one of the restricting SIDs is this one. The user and the groups have no part in it, nor has an entry's kind
 abbrev pub is_restricting : TokenValue → SidValue → Bool
 is_restricting t s = list_any (λ one. same_sid one s) t.restricting
-
--- an entry that speaks of somebody applies in the second pass where that SID is a restricting one
-abbrev pub is_restricting_subject : TokenValue → Option SidValue → Bool
-is_restricting_subject t None = false
-is_restricting_subject t (Some s) = is_restricting t s
-
--- whether an entry for the SID applies in the second pass, with this owner
-abbrev pub applies_again : TokenValue → Option SidValue → AceKind → SidValue → Bool
-applies_again t owner kind s = is_restricting_subject t (subject owner s)
-
--- what holds in the first pass and, of a restricted token, in the second too
-abbrev pub in_each_pass : TokenValue → Bool → Bool → Bool
-in_each_pass t first second = first && (not (is_restricted t) || second)
-
--- the token stands for the owner, as it would for an allow entry, in each pass
-abbrev pub is_owner : TokenValue → Option SidValue → Bool
-is_owner t owner = in_each_pass t (stands_for_subject t Allow owner) (is_restricting_subject t owner)

@@ -1,16 +1,13 @@
-//! What a verdict rests on, for who explains one: which entries take part in a pass, and what is granted without an entry.
+//! What a verdict rests on, for who explains one: the passes, and what is granted without an entry.
 
-ghost use Rattle.std.specs.Prelude.{◌≡◌, ◌&&◌, not};
-ghost use Rattle.sd_acl.specs.Ace.{is_inherit_only};
-ghost use Rattle.sd_acl.specs.Verdict.{limits_owner};
-ghost use Rattle.sd_check.specs.Dacl.{entries_of};
-ghost use Rattle.sd_check.specs.Grounds.{applies_in, implied_of};
-ghost use Rattle.sd_check.specs.Token.{is_owner};
+ghost use Rattle.std.specs.Prelude.{◌≡◌, Some};
+ghost use Rattle.std.specs.Option.{option_copied};
+ghost use Rattle.sd_check.specs.Check.{entries_of, implied_of, limits_owner, subject};
 
-use crate::access::DaclRef;
-use crate::token::Token;
-use crate::walk::{applies_again_to, applies_to, limits_owner};
-use sd_acl::{Ace, AceKind};
+use crate::entry::limits_owner;
+use crate::question::Question;
+use crate::request::DaclRef;
+use sd_acl::Ace;
 use sd_sid::Sid;
 
 /// A pass over the list ([MS-DTYP] 2.5.3.2).
@@ -33,45 +30,32 @@ pub struct Implied {
     pub security: bool,
 }
 
-/// Whether the entry takes part in the pass: it is effective, and applies ([MS-DTYP] 2.5.3.1).
-pub fn takes_part(token: &Token, owner: &Option<Sid>, pass: Pass, entry: &Ace) -> bool
-    ensures { result ≡ (not (is_inherit_only entry.now) && applies_in pass token.now owner.now entry.now.kind entry.now.sid) }
+/// Whom an entry for the SID speaks of: OWNER RIGHTS is the owner, or nobody where there is none ([MS-DTYP] 2.5.3.1).
+pub fn subject_of<'a>(owner: &'a Option<Sid>, sid: &'a Sid) -> Option<&'a Sid>
+    ensures { option_copied result ≡ subject owner.now sid.now }
 {
-    !entry.is_inherit_only() && applies_in(token, owner, pass, entry)
-}
-
-fn applies_in(token: &Token, owner: &Option<Sid>, pass: Pass, entry: &Ace) -> bool
-    ensures { result ≡ applies_in pass token.now owner.now entry.now.kind entry.now.sid }
-{
-    match pass {
-        Pass::First => applies_to(token, owner, entry.kind, &entry.sid),
-        Pass::Second => applies_again_to(token, owner, entry.kind, &entry.sid),
+    if sid.is_owner_rights() {
+        owner.as_ref()
+    } else {
+        Some(sid)
     }
 }
 
-/// What the token is granted without an entry ([MS-DTYP] 2.5.3.2).
-pub fn implied_to(owner: &Option<Sid>, dacl: DaclRef<'_>, token: &Token) -> Implied
-    ensures { result ≡ implied_of owner.now (entries_of dacl.entry) token.now }
-{
-    let privileges = token.privileges();
-    Implied {
-        owner: is_owner(owner, token) && !is_limited(dacl),
-        take_ownership: privileges.take_ownership,
-        security: privileges.security,
+impl Question<'_, Sid> {
+    /// What the token is granted without an entry ([MS-DTYP] 2.5.3.2).
+    pub fn implied(&self, dacl: DaclRef<'_>) -> Implied
+        ensures { result ≡ implied_of self.now.owner.now (entries_of dacl.entry) self.now.token.now }
+    {
+        let privileges = self.token.privileges();
+        Implied {
+            owner: self.is_owner() && !is_limited(dacl),
+            take_ownership: privileges.take_ownership,
+            security: privileges.security,
+        }
     }
 }
 
-/// Whether the token stands for the owner, as it would for an allow entry, in each pass.
-pub(crate) fn is_owner(owner: &Option<Sid>, token: &Token) -> bool
-    ensures { result ≡ is_owner token.now owner.now }
-{
-    match owner {
-        None => false,
-        Some(owner) => token.stands_for(AceKind::Allow, owner) && token.passes_again(owner),
-    }
-}
-
-/// Whether an effective entry for OWNER RIGHTS stands in the DACL.
+/// Whether an effective entry for OWNER RIGHTS is in the DACL.
 fn is_limited(dacl: DaclRef<'_>) -> bool
     ensures { result ≡ limits_owner (entries_of dacl.entry) }
 {

@@ -1,15 +1,16 @@
 //! Finds an entry's SID among those of a token. Each SID has one of 1,024 places. Most entries' SIDs have a place that no
 //! SID of the token has; any other is compared with those of its place alone.
 
-ghost use Rattle.std.specs.Prelude.{◌≡◌, ◌<◌, ◌+◌, ◌||◌, ◌&&◌, true, List, ℕ, length, drop, slice_index_or};
+ghost use Rattle.std.specs.Prelude.{◌≡◌, ◌<◌, ◌+◌, ◌-◌, ◌||◌, ◌&&◌, true, List, ℕ, length, drop, slice_index, slice_index_or};
 ghost use Rattle.sd_sid.specs.Sid.{SidValue, same_sid, owner_rights};
 ghost use Rattle.sd_check.specs.declared.token.GroupState.{GroupState};
 ghost use Rattle.sd_check.specs.Index.{HoldsEach, IsIndex, IsIndexOfEach, may_hold, place_of};
 ghost use Rattle.sd_check.specs.Token.{a_group_stands_for, counts};
 
+use crate::entry::Trustee;
 use crate::token::GroupState;
 use sd_acl::AceKind;
-use sd_sid::{Sid, SidRef};
+use sd_sid::Sid;
 
 /// The number of places.
 const PLACES: usize = 1024;
@@ -112,16 +113,8 @@ impl Index {
 
     /// Whether the SID's place has a link.
     #[inline(always)]
-    pub(crate) fn may_hold(&self, sid: &Sid) -> bool
-        ensures { result ≡ may_hold self.now.heads sid.now }
-    {
-        self.heads[place_of(sid)] != 0
-    }
-
-    /// The same for a SID that is borrowed from its bytes.
-    #[inline(always)]
-    pub(crate) fn may_hold_lent(&self, sid: &SidRef<'_>) -> bool
-        ensures { result ≡ may_hold self.now.heads sid.now }
+    pub(crate) fn may_hold<S: Trustee>(&self, sid: &S) -> bool
+        ensures { result ≡ may_hold self.now.heads (S.sid sid.now) }
     {
         self.heads[sid.last_sub() as usize % PLACES] != 0
     }
@@ -154,8 +147,16 @@ fn place_of(sid: &Sid) -> usize
     ensures place { result ≡ place_of sid.now }
     ensures small { result < 1024 }
 {
+    last_sub(sid) as usize % PLACES
+}
+
+/// Its last sub-authority, in which SIDs differ most.
+#[inline(always)]
+pub(crate) fn last_sub(sid: &Sid) -> u32
+    ensures { result ≡ slice_index sid.now.subs (length sid.now.subs - 1) }
+{
     let subs = sid.subs();
-    subs[subs.len() - 1] as usize % PLACES
+    subs[subs.len() - 1]
 }
 
 /// The groups that no chain leads to.

@@ -1,7 +1,7 @@
 //! The access check: [MS-DTYP] 2.5.3.2.
 //!
 //! A pure question over a descriptor, a token and a request. It takes no memory and asks nothing of the
-//! system; the rules are told in docs/CHECK.md.
+//! system. The rules are in specs/Check.antt, and in words in docs/CHECK.md.
 //!
 //! ```text
 //! let token = Token::new(user, groups, Privileges::default());
@@ -13,24 +13,27 @@
 //! ```
 #![tactic(auto)]
 
-mod access;
+mod entry;
+mod fold;
 mod grounds;
 mod index;
 mod laws;
+mod question;
 mod request;
-mod steps;
+mod tally;
 mod token;
-mod walk;
+mod verdict;
 
-pub use access::DaclRef;
-pub use grounds::{Implied, Pass, implied_to, takes_part};
+pub use entry::{Entry, Trustee};
+pub use fold::RESERVED;
+pub use grounds::{Implied, Pass, subject_of};
 pub use laws::{
     enabled_group_takes_nothing, entries_grant_rights_alone, first_entry_decides,
     grants_what_was_asked, maximum_is_each_by_itself, nobody_restricts_nothing,
     order_of_restricting_sids_is_free, restriction_only_takes_away, silent_entry_changes_nothing,
 };
-pub use request::{check, check_joined, check_parts};
-pub use sd_acl::Verdict;
-pub use steps::{Found, Question};
+pub use question::{MAXIMUM_ALLOWED, MAXIMUM_PLACE, Question};
+pub use request::{DaclRef, check, check_joined, check_parts};
+pub use tally::{Settled, Tally};
 pub use token::{GroupState, Privileges, Token};
-pub use walk::subject_of;
+pub use verdict::Verdict;

@@ -1,16 +1,24 @@
 //! The answer to a request.
 
 ghost use Rattle.std.specs.Prelude.{◌≡◌, ◌++◌, Some};
-ghost use Rattle.sd_check.specs.Check.{verdict};
-ghost use Rattle.sd_check.specs.Dacl.{entries_of, lent_entries, dacl_entries};
+ghost use Rattle.sd_check.specs.Check.{dacl_entries, entries_of, verdict};
 
-use crate::access::{Access, DaclRef, LentDacl};
+use crate::question::Question;
 use crate::token::Token;
-use sd_acl::{Ace, Dacl, Descriptor, Verdict};
-use sd_sid::{GenericMapping, Mask, OBJECT_RIGHTS, Sid};
+use crate::verdict::Verdict;
+use sd_acl::{Ace, Dacl, Descriptor};
+use sd_sid::{GenericMapping, Mask, Sid};
 
-/// The bits of a request that no check answers.
-pub(crate) const RESERVED: Mask = Mask(0x0CE0_0000);
+/// A DACL that is borrowed for a check ([MS-DTYP] 2.4.6).
+#[derive(Clone, Copy)]
+pub enum DaclRef<'a> {
+    /// There is none.
+    Absent,
+    /// There is one that is null.
+    Null,
+    /// These entries, in this order.
+    List(&'a [Ace]),
+}
 
 /// The verdict on a request, for a descriptor ([MS-DTYP] 2.5.3.2). Takes no memory.
 pub fn check(
@@ -21,11 +29,16 @@ pub fn check(
 ) -> Verdict
     ensures { result ≡ verdict descriptor.now.owner (dacl_entries descriptor.now.dacl) mapping.now token.now asked }
 {
-    let owner = &descriptor.owner;
+    let question = Question {
+        owner: &descriptor.owner,
+        mapping,
+        token,
+        asked,
+    };
     match &descriptor.dacl {
-        Dacl::Absent => judge(owner, LentDacl::Absent, mapping, token, asked),
-        Dacl::Null => judge(owner, LentDacl::Null, mapping, token, asked),
-        Dacl::List(list) => judge(owner, LentDacl::List(list.entries()), mapping, token, asked),
+        Dacl::Absent => question.verdict_without_a_list(),
+        Dacl::Null => question.verdict_without_a_list(),
+        Dacl::List(list) => question.judge(list.entries(), &[]),
     }
 }
 
@@ -39,12 +52,17 @@ pub fn check_parts(
 ) -> Verdict
     ensures { result ≡ verdict owner (entries_of dacl.entry) mapping.now token.now asked }
 {
-    let dacl = match dacl {
-        DaclRef::Absent => LentDacl::Absent,
-        DaclRef::Null => LentDacl::Null,
-        DaclRef::List(entries) => LentDacl::List(entries),
+    let question = Question {
+        owner: &owner,
+        mapping,
+        token,
+        asked,
     };
-    judge(&owner, dacl, mapping, token, asked)
+    match dacl {
+        DaclRef::Absent => question.verdict_without_a_list(),
+        DaclRef::Null => question.verdict_without_a_list(),
+        DaclRef::List(entries) => question.judge(entries, &[]),
+    }
 }
 
 /// The same for a list in two parts, as a node's own entries and those that it inherits: the first before the second, and
@@ -59,56 +77,11 @@ pub fn check_joined(
 ) -> Verdict
     ensures { result ≡ verdict owner (Some (front.now ++ back.now)) mapping.now token.now asked }
 {
-    judge(&owner, LentDacl::Joined(front, back), mapping, token, asked)
-}
-
-/// The same, for an owner that is lent. Most requests are for the object's own rights and the standard ones alone: nothing of
-/// them is reserved, mapped or MAXIMUM_ALLOWED.
-#[inline(always)]
-fn judge(
-    owner: &Option<Sid>,
-    dacl: LentDacl<'_>,
-    mapping: &GenericMapping,
-    token: &Token,
-    asked: Mask,
-) -> Verdict
-    ensures { result ≡ verdict owner.now (lent_entries dacl.entry) mapping.now token.now asked }
-{
-    if !asked.is_empty() && asked.bits() <= OBJECT_RIGHTS.bits() {
-        let access = Access {
-            owner,
-            dacl,
-            mapping,
-            token,
-        };
-        return access.plain_answer(asked);
-    }
-    judge_any(owner, dacl, mapping, token, asked)
-}
-
-/// The same, whatever is asked for.
-#[inline(never)]
-fn judge_any(
-    owner: &Option<Sid>,
-    dacl: LentDacl<'_>,
-    mapping: &GenericMapping,
-    token: &Token,
-    asked: Mask,
-) -> Verdict
-    ensures { result ≡ verdict owner.now (lent_entries dacl.entry) mapping.now token.now asked }
-{
-    if asked.is_empty() {
-        return Verdict::EmptyRequest;
-    }
-    let reserved = asked.common(RESERVED);
-    if !reserved.is_empty() {
-        return Verdict::Reserved(reserved);
-    }
-    let access = Access {
-        owner,
-        dacl,
+    let question = Question {
+        owner: &owner,
         mapping,
         token,
+        asked,
     };
-    access.answer(asked)
+    question.judge(front, back)
 }

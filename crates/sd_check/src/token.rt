@@ -5,9 +5,10 @@ ghost use Rattle.sd_sid.specs.Sid.{same_sid, owner_rights};
 ghost use Rattle.sd_acl.specs.declared.ace.AceKind.{AceKind};
 ghost use Rattle.sd_check.specs.Token.{stands_for, a_group_stands_for, counts, is_restricted, is_restricting};
 
+use crate::entry::Trustee;
 use crate::index::Index;
 use sd_acl::AceKind;
-use sd_sid::{Sid, SidRef};
+use sd_sid::Sid;
 use std::marker::Model;
 
 /// How a group of a token counts: Windows says it by SE_GROUP_ENABLED and SE_GROUP_USE_FOR_DENY_ONLY.
@@ -126,22 +127,12 @@ impl Token {
     /// Whether the token may stand for the SID at all, in either pass, or the SID is OWNER RIGHTS. Where not, no entry of
     /// either kind applies, nor does one limit the owner.
     #[inline(always)]
-    pub(crate) fn may_matter(&self, sid: &Sid) -> bool
-        ensures first { result ≡ false → (kind : AceKind) → stands_for self.now kind sid.now ≡ false }
-        ensures again { result ≡ false → is_restricting self.now sid.now ≡ false }
-        ensures owner_rights { result ≡ false → same_sid sid.now owner_rights ≡ false }
+    pub(crate) fn may_matter<S: Trustee>(&self, sid: &S) -> bool
+        ensures first { result ≡ false → (kind : AceKind) → stands_for self.now kind (S.sid sid.now) ≡ false }
+        ensures again { result ≡ false → is_restricting self.now (S.sid sid.now) ≡ false }
+        ensures owner_rights { result ≡ false → same_sid (S.sid sid.now) owner_rights ≡ false }
     {
         self.index.may_hold(sid)
-    }
-
-    /// The same of a SID that is lent from its bytes.
-    #[inline(always)]
-    pub(crate) fn may_matter_lent(&self, sid: &SidRef<'_>) -> bool
-        ensures first { result ≡ false → (kind : AceKind) → stands_for self.now kind sid.now ≡ false }
-        ensures again { result ≡ false → is_restricting self.now sid.now ≡ false }
-        ensures owner_rights { result ≡ false → same_sid sid.now owner_rights ≡ false }
-    {
-        self.index.may_hold_lent(sid)
     }
 
     /// Whether restricting SIDs stand in the token.
@@ -157,37 +148,15 @@ impl Token {
     pub(crate) fn is_restricting(&self, sid: &Sid) -> bool
         ensures { result ≡ is_restricting self.now sid.now }
     {
-        self.may_matter(sid) && self.restricting.iter().any(|one| one.is(sid))
+        self.restricting.iter().any(|one| one.is(sid))
     }
 
-    /// Whether what is the SID's is the token's in the second pass: it is a restricting one, or nothing restricts.
-    pub(crate) fn passes_again(&self, sid: &Sid) -> bool
-        ensures { result ≡ (not (is_restricted self.now) || is_restricting self.now sid.now) }
-    {
-        !self.is_restricted() || self.is_restricting(sid)
-    }
-
-    /// Whether an entry of the kind for the SID applies: the user has the SID, or a group that counts.
-    #[inline(always)]
-    pub(crate) fn stands_for(&self, kind: AceKind, sid: &Sid) -> bool
-        ensures { result ≡ stands_for self.now kind sid.now }
-    {
-        self.may_matter(sid) && self.has(kind, sid)
-    }
-
+    /// Whether the user has the SID, or a group that counts for an entry of the kind.
     // Most entries have no link at their place, and the chains stay out of the walk.
     #[inline(never)]
     pub(crate) fn has(&self, kind: AceKind, sid: &Sid) -> bool
         ensures { result ≡ stands_for self.now kind sid.now }
     {
         self.index.stands_for(&self.user, &self.groups, kind, sid)
-    }
-
-    /// The same of a SID that is lent from its bytes.
-    #[inline(always)]
-    pub(crate) fn has_lent(&self, kind: AceKind, sid: &SidRef<'_>) -> bool
-        ensures { result ≡ stands_for self.now kind sid.now }
-    {
-        self.has(kind, &sid.copied())
     }
 }

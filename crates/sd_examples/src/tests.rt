@@ -10,8 +10,8 @@ mod paths;
 mod renewing;
 mod stepping;
 
-use sd_acl::{Dacl, Descriptor, Verdict};
-use sd_check::{GroupState, Privileges, Token};
+use sd_acl::{Dacl, Descriptor};
+use sd_check::{GroupState, Privileges, Token, Verdict};
 use sd_sid::{GenericMapping, Mask, Sid};
 use sd_text::{print_sddl, read_mask, read_sddl, read_sid_text};
 use sd_tree::{CheckReply, Edit, EditRefusal, Entries, NodeDacl, Path, RootSpec, Tree, TreeError};

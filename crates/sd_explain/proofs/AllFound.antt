@@ -8,10 +8,10 @@ use Rattle.sd_sid.specs.Mapping.{MappingValue, mapped}
 use Rattle.sd_sid.specs.Sid.{SidValue}
 use Rattle.sd_sid.proofs.Masks.{holds_when}
 use Rattle.sd_acl.specs.Ace.{is_allow, is_inherit_only}
-use Rattle.sd_acl.specs.Verdict.{decides}
+use Rattle.sd_check.specs.Check.{decides}
 use Rattle.sd_acl.specs.declared.ace.Ace.{Ace}
 use Rattle.sd_acl.specs.declared.ace.AceKind.{AceKind}
-use Rattle.sd_check.specs.Walk.{mask_that_applies}
+use Rattle.sd_check.specs.Fold.{part_of}
 use Rattle.sd_check.proofs.Answered.{stands}
 use Rattle.sd_explain.specs.Reasons.{finding_of}
 use Rattle.sd_explain.specs.declared.reason.Finding.{Finding}
@@ -48,11 +48,11 @@ module _ (g : MappingValue) (who : AceKind → SidValue → Bool) (es : List Ace
   }
 
   -- the mask that an entry takes part with holds the bits that the entry settles
-  at_mask : (e : Ace) (m b : ℕ) → m ≡ mask_that_applies g who e → holds m b ≡ decides g who b e
+  at_mask : (e : Ace) (m b : ℕ) → m ≡ part_of g who e → holds m b ≡ decides g who b e
   at_mask e m b is_m = ap (λ n. holds n b) is_m ∙ holds_when (not (is_inherit_only e) && who e.kind e.sid) (mapped g e.mask) b
 
   pub found_passed : (fs : List Finding) (u i m d : ℕ) (e : Ace) → i < length es → e ≡ get_or es i e
-      → m ≡ mask_that_applies g who e → d ≡ mask_of (λ b. holds m b && holds u b) 32 → (d == 0) ≡ true
+      → m ≡ part_of g who e → d ≡ mask_of (λ b. holds m b && holds u b) 32 → (d == 0) ≡ true
       → IsFound g who es fs u bits i → IsFound g who es fs u bits (i + 1)
   found_passed fs u i m d e low is is_m is_d empty found = record {
     size = found.size;
@@ -68,7 +68,7 @@ module _ (g : MappingValue) (who : AceKind → SidValue → Bool) (es : List Ace
   still : (u d v m b : ℕ) → b < 32 → d ≡ mask_of (λ b. holds m b && holds u b) 32 → v ≡ mask_of (λ b. holds u b && not (holds d b)) 32 → holds v b ≡ (holds u b && not (holds m b && holds u b))
   still u d v m b h is_d is_v = stands (λ k. holds u k && not (holds d k)) v b h is_v ∙ ap (λ t. holds u b && not t) (stands (λ k. holds m k && holds u k) d b h is_d)
 
-  now : (fs : List Finding) (u i m b : ℕ) (e : Ace) (f : Finding) → i < length es → e ≡ get_or es i e → m ≡ mask_that_applies g who e
+  now : (fs : List Finding) (u i m b : ℕ) (e : Ace) (f : Finding) → i < length es → e ≡ get_or es i e → m ≡ part_of g who e
       → f ≡ cond (is_allow e.kind) (Allowed i) (Denied i) → b < 32 → holds bits b ≡ true → IsFound g who es fs u bits i
       → (mm uu : Bool) → holds m b ≡ mm → holds u b ≡ uu → (uu && not (mm && uu)) ≡ false
       → cond (mm && uu) f (get_or fs b NoEntry) ≡ finding_of g who es b
@@ -79,7 +79,7 @@ module _ (g : MappingValue) (who : AceKind → SidValue → Bool) (es : List Ace
   now fs u i m b e f low is is_m is_f h want found false false mm uu gone = found.done b h want uu
 
   pub found_more : (fs gs : List Finding) (u v i m d : ℕ) (e : Ace) (f : Finding) → i < length es → e ≡ get_or es i e
-      → m ≡ mask_that_applies g who e → d ≡ mask_of (λ b. holds m b && holds u b) 32 → v ≡ mask_of (λ b. holds u b && not (holds d b)) 32
+      → m ≡ part_of g who e → d ≡ mask_of (λ b. holds m b && holds u b) 32 → v ≡ mask_of (λ b. holds u b && not (holds d b)) 32
       → f ≡ cond (is_allow e.kind) (Allowed i) (Denied i)
       → length gs ≡ 32
       → ((b : ℕ) → b < 32 → get_or gs b NoEntry ≡ cond (holds d b) f (get_or fs b NoEntry))

@@ -8,11 +8,9 @@ use Rattle.sd_sid.specs.Mapping.{MappingValue}
 use Rattle.sd_sid.specs.Sid.{SidValue}
 use Rattle.sd_sid.proofs.Masks.{holds_place}
 use Rattle.sd_acl.specs.Ace.{is_allow}
-use Rattle.sd_acl.specs.Verdict.{decides, first, is_allowed_by, limits_owner, is_implied}
+use Rattle.sd_check.specs.Check.{decides, first, is_allowed_by, limits_owner, is_implied, applies, applies_again, is_owner, is_granted, is_listed, is_given, most, implied_of}
 use Rattle.sd_acl.specs.declared.ace.Ace.{Ace}
-use Rattle.sd_check.specs.Token.{TokenValue, applies, applies_again, is_restricted, is_owner}
-use Rattle.sd_check.specs.Check.{is_granted, is_listed, is_given, most}
-use Rattle.sd_check.specs.Grounds.{implied_of}
+use Rattle.sd_check.specs.Token.{TokenValue, is_restricted}
 use Rattle.sd_check.specs.declared.grounds.Implied.{Implied}
 use Rattle.sd_explain.specs.Reasons.{finding_at, finding_of, is_allowed, grants, listed_cause, given_or, granting_or, high_cause, named_cause, maximum_cause, same_cause}
 use Rattle.sd_explain.specs.declared.reason.Finding.TheVariants.{Allowed, Denied}

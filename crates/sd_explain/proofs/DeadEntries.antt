@@ -15,14 +15,13 @@ use Rattle.sd_sid.specs.Sid.{SidValue, same_sid, owner_rights}
 use Rattle.sd_sid.proofs.Compared.{same_sid-true}
 use Rattle.sd_sid.proofs.Masks.{holds_place, holds_when, mask_of-alike, mask_of-lt}
 use Rattle.sd_acl.specs.Ace.{is_allow, is_inherit_only}
-use Rattle.sd_acl.specs.Verdict.{decides, first, is_allowed_by, acl_grants, limits_owner, subject, is_implied, judged}
+use Rattle.sd_check.specs.Check.{decides, first, is_allowed_by, acl_grants, limits_owner, subject, is_implied, judged, applies, applies_again, stands_for_subject, in_each_pass, is_owner, is_granted, is_listed, is_given}
 use Rattle.sd_acl.specs.declared.ace.Ace.{Ace}
 use Rattle.sd_acl.specs.declared.ace.AceKind.{AceKind}
 use Rattle.sd_acl.specs.declared.ace.AceKind.TheVariants.{Allow, Deny}
-use Rattle.sd_check.specs.Token.{TokenValue, applies, applies_again, counts, a_group_stands_for, stands_for_subject, in_each_pass, is_owner}
+use Rattle.sd_check.specs.Token.{TokenValue, counts, a_group_stands_for}
 use Rattle.sd_check.specs.declared.token.GroupState.{GroupState}
 use Rattle.sd_check.specs.declared.token.GroupState.TheVariants.{Enabled, DenyOnly, Disabled}
-use Rattle.sd_check.specs.Check.{is_granted, is_listed, is_given}
 use Rattle.sd_explain.specs.Dead.{covers, rights_of, is_named_before, bits_left, is_dead_after, is_dead_here, is_dead, without_from, without, CanBeTakenOut}
 use Rattle.sd_explain.specs.Laws.{DeadEntriesCanGo}
 use Rattle.sd_explain.proofs.Bits.{own_places}

@@ -7,11 +7,11 @@ use Rattle.sd_sid.specs.Mask.{holds}
 use Rattle.sd_sid.specs.Mapping.{MappingValue, mapped}
 use Rattle.sd_sid.specs.Sid.{SidValue}
 use Rattle.sd_acl.specs.Ace.{is_allow, is_inherit_only}
-use Rattle.sd_acl.specs.Verdict.{decides, first, subject, without_maximum, reserved_of}
+use Rattle.sd_check.specs.Check.{decides, first, subject, without_maximum, reserved_of, applies, applies_again, stands_for_subject, is_restricting_subject}
 use Rattle.sd_acl.specs.declared.ace.Ace.{Ace}
 use Rattle.sd_acl.specs.declared.ace.AceKind.{AceKind}
-use Rattle.sd_acl.specs.declared.verdict.Verdict.TheVariants.{Granted, Denied, Reserved, EmptyRequest}
-use Rattle.sd_check.specs.Token.{TokenValue, applies, applies_again, stands_for, stands_for_subject, is_restricting, is_restricting_subject}
+use Rattle.sd_check.specs.declared.verdict.Verdict.TheVariants.{Granted, Denied, Reserved, EmptyRequest}
+use Rattle.sd_check.specs.Token.{TokenValue, stands_for, is_restricting}
 use Rattle.sd_explain.specs.Reasons.{finding_at, named_cause, maximum_cause}
 use Rattle.sd_explain.specs.Laws.{IsFirstAt, AllowedNamesFirst, DeniedNamesFirst, NoEntryWhereNone, FirstPassHasSubject, SecondPassHasSubject, NamedCauseIsDue, MaximumCauseIsDue, ReasonsJoinToRequest, GrantedAreTheParts}
 use Rattle.sd_explain.specs.declared.reason.Finding.TheVariants.{Allowed, Denied, NoEntry}

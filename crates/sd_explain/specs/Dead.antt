@@ -5,10 +5,9 @@ use Rattle.sd_sid.specs.Mask.{holds, mask_of}
 use Rattle.sd_sid.specs.Mapping.{MappingValue, mapped}
 use Rattle.sd_sid.specs.Sid.{SidValue, same_sid, owner_rights}
 use Rattle.sd_acl.specs.Ace.{is_allow, is_inherit_only}
-use Rattle.sd_acl.specs.Verdict.{limits_owner}
+use Rattle.sd_check.specs.Check.{limits_owner, verdict}
 use Rattle.sd_acl.specs.declared.ace.Ace.{Ace}
 use Rattle.sd_check.specs.Token.{TokenValue}
-use Rattle.sd_check.specs.Check.{verdict}
 
 -- the rights that the entry names, of those that a list can grant: the places below 21
 abbrev pub rights_of : MappingValue → Ace → ℕ

@@ -4,12 +4,11 @@ use Rattle.sd_sid.specs.Mask.{holds}
 use Rattle.sd_sid.specs.Mapping.{MappingValue, mapped}
 use Rattle.sd_sid.specs.Sid.{SidValue}
 use Rattle.sd_acl.specs.Ace.{is_allow}
-use Rattle.sd_acl.specs.Verdict.{decides, first, subject, without_maximum, reserved_of}
+use Rattle.sd_check.specs.Check.{decides, first, subject, without_maximum, reserved_of, applies, applies_again, is_granted, most, verdict}
 use Rattle.sd_acl.specs.declared.ace.Ace.{Ace}
 use Rattle.sd_acl.specs.declared.ace.AceKind.{AceKind}
-use Rattle.sd_acl.specs.declared.verdict.Verdict.TheVariants.{Granted}
-use Rattle.sd_check.specs.Token.{TokenValue, applies, applies_again, stands_for, is_restricting}
-use Rattle.sd_check.specs.Check.{is_granted, most, verdict}
+use Rattle.sd_check.specs.declared.verdict.Verdict.TheVariants.{Granted}
+use Rattle.sd_check.specs.Token.{TokenValue, stands_for, is_restricting}
 use Rattle.sd_explain.specs.Reasons.{finding_of, grants, named_cause, maximum_cause, reason_at}
 use Rattle.sd_explain.specs.Parts.{bits_of, part_at}
 use Rattle.sd_explain.specs.Dead.{is_dead, CanBeTakenOut}

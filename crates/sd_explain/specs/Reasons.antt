@@ -5,11 +5,10 @@ use Rattle.sd_sid.specs.Mask.{holds}
 use Rattle.sd_sid.specs.Mapping.{MappingValue, mapped}
 use Rattle.sd_sid.specs.Sid.{SidValue}
 use Rattle.sd_acl.specs.Ace.{is_allow}
-use Rattle.sd_acl.specs.Verdict.{decides, first, reserved_of, without_maximum}
+use Rattle.sd_check.specs.Check.{decides, first, reserved_of, without_maximum, applies, applies_again, implied_of}
 use Rattle.sd_acl.specs.declared.ace.Ace.{Ace}
 use Rattle.sd_acl.specs.declared.ace.AceKind.{AceKind}
-use Rattle.sd_check.specs.Token.{TokenValue, applies, applies_again, is_restricted}
-use Rattle.sd_check.specs.Grounds.{implied_of}
+use Rattle.sd_check.specs.Token.{TokenValue, is_restricted}
 use Rattle.sd_check.specs.declared.grounds.Implied.{Implied}
 use Rattle.sd_explain.specs.declared.reason.Finding.{Finding}
 use Rattle.sd_explain.specs.declared.reason.Finding.TheVariants.{Allowed, Denied, NoEntry}

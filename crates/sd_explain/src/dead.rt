@@ -1,7 +1,7 @@
 //! Entries that can never decide a bit.
 
 ghost use Rattle.std.specs.Prelude.{◌≡◌, ◌==◌, true, Some};
-ghost use Rattle.sd_acl.specs.Verdict.{limits_owner};
+ghost use Rattle.sd_check.specs.Check.{limits_owner};
 ghost use Rattle.sd_explain.specs.Dead.{CanBeTakenOut, bits_left as bits_left_of, covers as covers_of, decides_before as decides_before_of, is_dead as is_dead_of, is_dead_after as is_dead_after_of, rights_of};
 
 use sd_acl::Ace;

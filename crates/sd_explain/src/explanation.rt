@@ -1,22 +1,18 @@
 //! An explanation: the reasons of all bits, and what they come to.
 
 ghost use Rattle.std.specs.Prelude.{◌≡◌, ◌<◌, ◌≤◌};
-ghost use Rattle.sd_check.specs.Check.{verdict};
-ghost use Rattle.sd_check.specs.Dacl.{dacl_entries, entries_of};
+ghost use Rattle.sd_check.specs.Check.{verdict, dacl_entries, entries_of};
 ghost use Rattle.sd_explain.specs.Reasons.{reasons_of};
 ghost use Rattle.sd_explain.specs.Parts.{reason_in, is_of_share, bits_of, told_verdict, part_at};
 
-use crate::question::Question;
+use crate::case::Case;
 use crate::reason::{Cause, Reason, Share};
-use sd_acl::{Dacl, Descriptor, Verdict};
-use sd_check::{DaclRef, Pass, Token};
+use sd_acl::{Dacl, Descriptor};
+use sd_check::{DaclRef, MAXIMUM_ALLOWED, Pass, Question, Token, Verdict};
 use sd_sid::{GenericMapping, Mask, Sid};
 
 /// The places of a mask: 0 to 31.
 pub const PLACES: u32 = 32;
-
-/// MAXIMUM_ALLOWED, which is missing where nothing is granted to it.
-const MAXIMUM_ALLOWED: Mask = Mask(0x0200_0000);
 
 /// Why a request is answered as it is ([MS-DTYP] 2.5.3.2).
 #[derive(Clone, Copy, Debug, PartialEq, Eq)]
@@ -44,20 +40,27 @@ pub fn explain(
     ensures reasons { result.reasons ≡ reasons_of owner (entries_of dacl.entry) mapping.now token.now asked }
     ensures verdict { told_verdict (reason_in result.reasons) ≡ verdict owner (entries_of dacl.entry) mapping.now token.now asked }
 {
-    let question = Question {
-        owner: &owner,
+    let case = Case {
+        question: Question {
+            owner: &owner,
+            mapping,
+            token,
+            asked,
+        },
         dacl,
-        mapping,
-        token,
     };
-    let wanted = question.wanted(asked);
-    let rights = question.rights(asked, wanted);
-    let given = question.given();
-    let first = question.findings(Pass::First, rights);
-    let second = question.findings_again(rights);
+    let wanted = case.question.wanted();
+    let rights = case.rights();
+    let given = case.given();
+    let first = case.findings(Pass::First, rights);
+    let second = case.findings_again(rights);
+    let answered = case.answered();
     let mut reasons = [None; 32];
     for place in 0..PLACES {
-        reasons[place as usize] = question.reason(asked, wanted, place, given, &first, &second);
+        if !answered.holds(place) {
+            continue;
+        }
+        reasons[place as usize] = case.reason(wanted, place, given, &first, &second);
     }
     Explanation { reasons }
 }

@@ -10,10 +10,10 @@
 //! ```
 #![tactic(auto)]
 
+mod case;
 mod dead;
 mod explanation;
 mod laws;
-mod question;
 mod reason;
 
 pub use dead::{decides_before, is_dead};

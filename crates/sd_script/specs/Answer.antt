@@ -1,8 +1,8 @@
 -- The lines that a script and the command line have in common.
 use Rattle.std.specs.Prelude.{ℕ, List, [], ◌∷◌, ◌++◌, false, codes}
 use Rattle.std.specs.Fmt.{digits, decimal}
-use Rattle.sd_acl.specs.declared.verdict.Verdict.{Verdict}
-use Rattle.sd_acl.specs.declared.verdict.Verdict.TheVariants.{Granted, Denied, Reserved, EmptyRequest}
+use Rattle.sd_check.specs.declared.verdict.Verdict.{Verdict}
+use Rattle.sd_check.specs.declared.verdict.Verdict.TheVariants.{Granted, Denied, Reserved, EmptyRequest}
 use Rattle.sd_text.specs.Fault as text
 use Rattle.sd_text.specs.declared.fault.TextFault.{TextFault}
 

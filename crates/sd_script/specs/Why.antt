@@ -4,12 +4,10 @@ use Rattle.std.specs.Fmt.{decimal}
 use Rattle.sd_sid.specs.Sid.{SidValue}
 use Rattle.sd_sid.specs.Mapping.{MappingValue}
 use Rattle.sd_acl.specs.Descriptor.{DescriptorValue, descriptor_of}
-use Rattle.sd_acl.specs.Verdict.{subject}
+use Rattle.sd_check.specs.Check.{subject, verdict, dacl_entries}
 use Rattle.sd_acl.specs.declared.ace.Ace.{Ace}
 use Rattle.sd_acl.specs.declared.descriptor.Descriptor.{Descriptor}
 use Rattle.sd_text.specs.Canon.{full_canon, entry_canon}
-use Rattle.sd_check.specs.Check.{verdict}
-use Rattle.sd_check.specs.Dacl.{dacl_entries}
 use Rattle.sd_check.specs.Token.{TokenValue}
 use Rattle.sd_explain.specs.Reasons.{grants, reasons_of}
 use Rattle.sd_explain.specs.Parts.{part_at, reason_in}

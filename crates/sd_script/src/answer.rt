@@ -2,7 +2,7 @@
 ghost use Rattle.std.specs.Prelude.{◌≡◌, IfOk, string_bytes};
 ghost use Rattle.sd_script.specs.Answer.{fault_line as fault_line_of, sddl_fault_line as sddl_fault_line_of, verdict_line as verdict_line_of};
 
-use sd_acl::Verdict;
+use sd_check::Verdict;
 use sd_text::TextFault;
 use std::alloc::{AllocError, Global};
 

@@ -1,8 +1,7 @@
 //! The lines that tell why a request is answered as it is: the verdict, and the reason of each bit.
 ghost use Rattle.std.specs.Prelude.{◌≡◌, ◌++◌, Some, IfOk, OnOk, slice_get, string_bytes};
-ghost use Rattle.sd_acl.specs.Verdict.{subject};
+ghost use Rattle.sd_check.specs.Check.{subject, dacl_entries};
 ghost use Rattle.sd_acl.specs.Descriptor.{descriptor_of};
-ghost use Rattle.sd_check.specs.Dacl.{dacl_entries};
 ghost use Rattle.sd_explain.specs.Parts.{reason_in};
 ghost use Rattle.sd_script.specs.Answer.{line, spelled_verdict_line as spelled_verdict_line_of};
 ghost use Rattle.sd_script.specs.Spelling.{spelled};
@@ -10,8 +9,8 @@ ghost use Rattle.sd_script.specs.Why.{subject_text as subject_text_of, entry_tex
 
 use crate::reply::{reply_line, seen_line};
 use crate::spelling::{Spelling, spell};
-use sd_acl::{Ace, Dacl, Descriptor, Verdict};
-use sd_check::{Token, subject_of};
+use sd_acl::{Ace, Dacl, Descriptor};
+use sd_check::{Token, Verdict, subject_of};
 use sd_explain::{Cause, Explanation, Finding, PLACES, Part, explain_descriptor};
 use sd_share::Reply;
 use sd_sid::{GenericMapping, Mask, Sid};

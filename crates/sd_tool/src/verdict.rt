@@ -1,8 +1,7 @@
 //! The answers to `verdict` and to `why`: whether a descriptor grants a mask to a user, and why.
 ghost use Rattle.std.specs.Prelude.{◌≡◌, ◌<◌, IfErr, IfOk, length, string_bytes};
 ghost use Rattle.sd_acl.specs.Descriptor.{descriptor_of};
-ghost use Rattle.sd_check.specs.Check.{verdict as verdict_of};
-ghost use Rattle.sd_check.specs.Dacl.{dacl_entries};
+ghost use Rattle.sd_check.specs.Check.{verdict as verdict_of, dacl_entries};
 ghost use Rattle.sd_script.specs.Word.{texts};
 ghost use Rattle.sd_tool.specs.Answer.{AnswersVerdict, AnswersUser, AnswersMask, AnswersWords, IsWordFault, answer_of, form_text, verdict_outcome};
 ghost use Rattle.sd_tool.specs.Words.{IsFirstNoWordIn};

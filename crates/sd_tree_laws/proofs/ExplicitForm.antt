@@ -6,7 +6,7 @@ use Rattle.sd_sid.specs.Mask.{holds}
 use Rattle.sd_sid.specs.Mapping.{MappingValue, mapped}
 use Rattle.sd_sid.specs.Sid.{SidValue, same_sid, owner_rights}
 use Rattle.sd_acl.specs.Canonical.{explicit_entry, explicit_entries}
-use Rattle.sd_acl.specs.Verdict.{decides, is_allowed_by, first, limits_owner}
+use Rattle.sd_check.specs.Check.{decides, is_allowed_by, first, limits_owner}
 use Rattle.sd_acl.specs.declared.ace.Ace.{Ace}
 use Rattle.sd_acl.specs.declared.ace.AceKind.{AceKind}
 use Rattle.sd_tree.specs.Inheritance.{effective_copy, waiting_copy, whole_copy, is_split, pass_on}

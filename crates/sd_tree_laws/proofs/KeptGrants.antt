@@ -2,12 +2,11 @@
 use Rattle.std.proofs.Common.{◌≡◌, ℕ, Bool, true, false, cond, List, Option, Some, None, refl, ap}
 use Rattle.sd_sid.specs.Mask.{holds}
 use Rattle.sd_sid.specs.Mapping.{MappingValue}
-use Rattle.sd_acl.specs.Verdict.{judged}
+use Rattle.sd_check.specs.Check.{judged, is_granted, most}
 use Rattle.sd_acl.specs.declared.ace.Ace.{Ace}
-use Rattle.sd_acl.specs.declared.verdict.Verdict.{Verdict}
-use Rattle.sd_acl.specs.declared.verdict.Verdict.TheVariants.{Granted, Denied, Reserved, EmptyRequest}
+use Rattle.sd_check.specs.declared.verdict.Verdict.{Verdict}
+use Rattle.sd_check.specs.declared.verdict.Verdict.TheVariants.{Granted, Denied, Reserved, EmptyRequest}
 use Rattle.sd_check.specs.Token.{TokenValue}
-use Rattle.sd_check.specs.Check.{is_granted, most}
 use Rattle.sd_check.proofs.MoreGranted.{nothing_missing}
 use Rattle.sd_path.specs.Names.{Names}
 use Rattle.sd_tree.specs.Plain.{PlainTree, row_at, dacl_at}

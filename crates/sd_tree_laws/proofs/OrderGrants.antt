@@ -8,7 +8,7 @@ use Rattle.std.proofs.lemmas.List.Folds.{list_any-append, find-append}
 use Rattle.sd_sid.specs.Sid.{same_sid, owner_rights}
 use Rattle.sd_acl.specs.Ace.{is_inherit_only}
 use Rattle.sd_acl.specs.Canonical.{allows, denies, canonical_order}
-use Rattle.sd_acl.specs.Verdict.{decides, is_allowed_by, first}
+use Rattle.sd_check.specs.Check.{decides, is_allowed_by, first}
 use Rattle.sd_acl.specs.declared.ace.Ace.{Ace}
 use Rattle.sd_tree_laws.specs.Laws.{OrderGrantsNothing, OrderKeepsOwnersLimit}
 

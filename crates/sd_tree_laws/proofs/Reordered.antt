@@ -9,11 +9,10 @@ use Rattle.sd_sid.specs.Mapping.{MappingValue}
 use Rattle.sd_sid.specs.Sid.{SidValue, same_sid, owner_rights}
 use Rattle.sd_acl.specs.Ace.{is_inherit_only}
 use Rattle.sd_acl.specs.Canonical.{allows, denies, canonical_order, explicit_entries}
-use Rattle.sd_acl.specs.Verdict.{decides, acl_grants, is_allowed_by, first, limits_owner, is_implied}
+use Rattle.sd_check.specs.Check.{decides, acl_grants, is_allowed_by, first, limits_owner, is_implied, applies, applies_again, is_owner, is_granted, is_given, is_listed}
 use Rattle.sd_acl.specs.declared.ace.Ace.{Ace}
 use Rattle.sd_acl.specs.declared.ace.AceKind.{AceKind}
-use Rattle.sd_check.specs.Token.{TokenValue, applies, applies_again, is_owner, is_restricted}
-use Rattle.sd_check.specs.Check.{is_granted, is_given, is_listed}
+use Rattle.sd_check.specs.Token.{TokenValue, is_restricted}
 use Rattle.sd_path.specs.Names.{Names}
 use Rattle.sd_tree.specs.Inheritance.{pass_on, handed_on, dacl_under}
 use Rattle.sd_tree.specs.Plain.{PlainTree, row_at, dacl_here, dacl_below}

@@ -7,12 +7,11 @@ use Rattle.sd_sid.specs.Mapping.{MappingValue}
 use Rattle.sd_sid.specs.Sid.{SidValue}
 use Rattle.sd_acl.specs.Ace.{is_inherit_only}
 use Rattle.sd_acl.specs.Canonical.{is_inherited, is_explicit, is_canonical, canonical_order}
-use Rattle.sd_acl.specs.Verdict.{acl_grants, limits_owner}
+use Rattle.sd_check.specs.Check.{acl_grants, limits_owner, is_granted}
 use Rattle.sd_acl.specs.declared.ace.Ace.{Ace}
 use Rattle.sd_acl.specs.declared.ace.AceKind.{AceKind}
-use Rattle.sd_acl.specs.declared.verdict.Verdict.TheVariants.{Granted}
+use Rattle.sd_check.specs.declared.verdict.Verdict.TheVariants.{Granted}
 use Rattle.sd_check.specs.Token.{TokenValue}
-use Rattle.sd_check.specs.Check.{is_granted}
 use Rattle.sd_path.specs.Names.{Names, up, is_root, is_within, moved_path}
 use Rattle.sd_tree.specs.Inheritance.{object_inherit, container_inherit, no_propagate, pass_on, handed_on, dacl_of_row}
 use Rattle.sd_tree.specs.Descriptors.{is_protected}

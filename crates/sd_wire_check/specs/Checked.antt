@@ -3,9 +3,8 @@ use Rattle.std.specs.Prelude.{ℕ, List, Option, Some, Result, Ok}
 use Rattle.sd_sid.specs.Mapping.{MappingValue}
 use Rattle.sd_sid.specs.Sid.{SidValue}
 use Rattle.sd_acl.specs.declared.ace.Ace.{Ace}
-use Rattle.sd_acl.specs.declared.verdict.Verdict.{Verdict}
-use Rattle.sd_check.specs.Check.{verdict}
-use Rattle.sd_check.specs.Dacl.{dacl_entries}
+use Rattle.sd_check.specs.declared.verdict.Verdict.{Verdict}
+use Rattle.sd_check.specs.Check.{verdict, dacl_entries}
 use Rattle.sd_check.specs.Token.{TokenValue}
 use Rattle.sd_wire.specs.Reading.{◌>>=◌, descriptor_read}
 use Rattle.sd_wire.specs.declared.fault.WireFault.{WireFault}

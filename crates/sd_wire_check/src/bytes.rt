@@ -1,12 +1,13 @@
 //! The check over bytes.
 
-ghost use Rattle.std.specs.Prelude.{◌≡◌, ◌≤◌, length};
+ghost use Rattle.std.specs.Prelude.{◌≡◌, ◌≤◌, length, None, true};
 ghost use Rattle.sd_check.specs.Check.{verdict};
-ghost use Rattle.sd_check.specs.Dacl.{entries_of};
+ghost use Rattle.sd_check.specs.Token.{is_restricted};
 ghost use Rattle.sd_wire.specs.Reading.{entries_read};
 ghost use Rattle.sd_wire_check.specs.Checked.{checked, entries_checked};
 
-use sd_check::{DaclRef, Question, Token, Verdict, check_parts};
+use sd_acl::AceRef;
+use sd_check::{Question, Token, Verdict};
 use sd_sid::{GenericMapping, Mask, SidRef};
 use sd_wire::{DaclPlace, EntryPlaces, Parts, WireFault, read_entry, read_parts};
 
@@ -21,60 +22,69 @@ pub fn check_bytes(
     ensures { result ≡ checked bytes.now mapping.now token.now asked }
 {
     let Parts { owner, dacl } = read_parts(bytes)?;
+    let question = Question {
+        owner: &owner,
+        mapping,
+        token,
+        asked,
+    };
     match dacl {
-        DaclPlace::Absent => {
-            let dacl = DaclRef::Absent;
-            Ok(check_no_list(&owner, dacl, mapping, token, asked))
-        }
-        DaclPlace::Null => {
-            let dacl = DaclRef::Null;
-            Ok(check_no_list(&owner, dacl, mapping, token, asked))
-        }
+        DaclPlace::Absent => Ok(check_no_list(&question)),
+        DaclPlace::Null => Ok(check_no_list(&question)),
         DaclPlace::List(entries) => {
-            let question = Question {
-                owner: &owner,
-                mapping,
-                token,
-                asked,
-            };
-            check_entries(bytes, entries, &question)
+            if token.is_restricted() {
+                check_restricted(bytes, entries, &question)
+            } else {
+                check_entries::<false>(bytes, entries, &question)
+            }
         }
     }
 }
 
-// Most descriptors have a list, and what comes of none stays out of their way.
+// Most descriptors have a list, and few tokens are restricted: what either comes to stays out of the others' way.
+
 #[inline(never)]
-fn check_no_list(
-    owner: &Option<SidRef<'_>>,
-    dacl: DaclRef<'_>,
-    mapping: &GenericMapping,
-    token: &Token,
-    asked: Mask,
-) -> Verdict
-    ensures { result ≡ verdict owner.now (entries_of dacl.entry) mapping.now token.now asked }
+fn check_no_list(question: &Question<'_, SidRef<'_>>) -> Verdict
+    ensures { result ≡ verdict question.now.owner.now None question.now.mapping.now question.now.token.now question.now.asked }
 {
-    let owner = SidRef::copied_from(owner);
-    check_parts(owner, dacl, mapping, token, asked)
+    question.verdict_without_a_list()
 }
 
-/// The answer to the question, for a list whose entries stand there, or the first test that one of them doesn't pass.
-/// The entries behind the one that settles the last bit are tested too.
-fn check_entries(
+#[inline(never)]
+fn check_restricted(
     bytes: &[u8],
     entries: EntryPlaces,
-    question: &Question<'_>,
+    question: &Question<'_, SidRef<'_>>,
 ) -> Result<Verdict, WireFault>
     requires place { entries.place ≤ entries.end }
     requires end { entries.end ≤ length bytes.now }
+    requires both { is_restricted question.now.token.now ≡ true }
     ensures { result ≡ entries_checked (entries_read bytes.now entries.place entries.end entries.count)
         question.now.owner.now question.now.mapping.now question.now.token.now question.now.asked }
 {
-    let mut found = question.begin();
+    check_entries::<true>(bytes, entries, question)
+}
+
+/// The answer to the question, for a list whose entries are there, or the first test that one of them doesn't pass.
+/// The entries after the one that decides the last bit are tested too.
+#[inline(always)]
+fn check_entries<const BOTH: bool>(
+    bytes: &[u8],
+    entries: EntryPlaces,
+    question: &Question<'_, SidRef<'_>>,
+) -> Result<Verdict, WireFault>
+    requires place { entries.place ≤ entries.end }
+    requires end { entries.end ≤ length bytes.now }
+    requires both { BOTH ≡ is_restricted question.now.token.now }
+    ensures { result ≡ entries_checked (entries_read bytes.now entries.place entries.end entries.count)
+        question.now.owner.now question.now.mapping.now question.now.token.now question.now.asked }
+{
+    let mut tally = question.begin();
     let mut at = entries.place;
     for _ in 0..entries.count {
         let (entry, size) = read_entry(bytes, at, entries.end)?;
-        found = question.after(found, &entry);
+        tally = question.after::<BOTH, AceRef<'_>>(tally, &entry);
         at += size;
     }
-    Ok(question.verdict(found))
+    Ok(question.verdict::<BOTH>(tally))
 }

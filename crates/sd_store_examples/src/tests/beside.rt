@@ -4,7 +4,7 @@ mod sixty_four;
 
 use super::told::Told;
 use super::*;
-use sd_acl::Verdict;
+use sd_check::Verdict;
 use sd_share::Answer;
 use sd_sid::Mask;
 use sd_store::Gone;

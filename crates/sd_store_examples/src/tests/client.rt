@@ -3,7 +3,7 @@
 use super::step::{edit, errand, root};
 use super::threads::Errand;
 use super::*;
-use sd_acl::Verdict;
+use sd_check::Verdict;
 use sd_history::Opened;
 use sd_share::Answer;
 use sd_sid::{GenericMapping, Mask};

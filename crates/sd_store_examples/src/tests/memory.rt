@@ -4,7 +4,7 @@ use super::refusals::{MEMORY, MOST, Refusal, is_fault};
 use super::stage::{Ended, Refused, played};
 use super::told::Told;
 use super::*;
-use sd_acl::Verdict;
+use sd_check::Verdict;
 use sd_share::Answer;
 use sd_sid::Mask;
 use sd_tree::CheckReply;

@@ -7,7 +7,7 @@ ghost use Rattle.sd_tree_renewal.specs.Renewal.{Makes};
 use super::step::{edit, errand, root};
 use super::threads::{Errand, Worker, sent};
 use super::*;
-use sd_acl::Verdict;
+use sd_check::Verdict;
 use sd_history::Opened;
 use sd_share::Answer;
 use sd_sid::{GenericMapping, Mask};

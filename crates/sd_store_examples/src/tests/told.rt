@@ -1,6 +1,7 @@
 //! What the steps of a run are answered.
 
-use sd_acl::{Descriptor, Verdict};
+use sd_acl::Descriptor;
+use sd_check::Verdict;
 use sd_share::{Answer, StartError};
 use sd_store::Gone;
 use sd_text::print_sddl;

@@ -1,7 +1,6 @@
 -- The verdict that the reasons tell is the check's, and the parts are those of the descriptor's own DACL.
 use Rattle.std.proofs.Common.{◌++◌, ◌∙◌, ap}
-use Rattle.sd_check.specs.Check.{verdict}
-use Rattle.sd_check.specs.Dacl.{dacl_entries}
+use Rattle.sd_check.specs.Check.{verdict, dacl_entries}
 use Rattle.sd_explain.specs.Parts.{reason_in}
 use Rattle.sd_script.specs.Answer.{spelled_verdict_line}
 use Rattle.sd_script.specs.Spelling.{spelled}

@@ -4,7 +4,7 @@ ghost use Rattle.std.specs.Prelude.{◌≡◌};
 ghost use Rattle.sd_tree.specs.Journal.{opening_of};
 
 use super::*;
-use sd_acl::Verdict;
+use sd_check::Verdict;
 use std::sync::atomic::{AtomicBool, Ordering};
 use std::thread::join;
 

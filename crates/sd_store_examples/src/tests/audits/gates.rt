@@ -1,7 +1,7 @@
 //! Gates: one that two workers hold open for each other, and closed ones.
 
 use super::*;
-use sd_acl::Verdict;
+use sd_check::Verdict;
 use std::sync::atomic::{AtomicBool, Ordering};
 
 const USERS: [Step; 1] = [Step::Object("/a", "O:BAG:SYD:(A;;FR;;;BU)")];

@@ -2,7 +2,7 @@
 
 use super::*;
 use crate::tests::refusals::MOST;
-use sd_acl::Verdict;
+use sd_check::Verdict;
 use sd_store::OpenGate;
 use std::process::Abort;
 

@@ -3,7 +3,8 @@
 use super::*;
 use crate::tests::step::{Step, edit, errand, root};
 use crate::tests::threads::Errand;
-use sd_acl::{Descriptor, Verdict};
+use sd_acl::Descriptor;
+use sd_check::Verdict;
 use sd_sid::{GenericMapping, Mask};
 use sd_text::print_sddl;
 use sd_tree::{

@@ -4,8 +4,7 @@ use Rattle.sd_sid.specs.Mapping.{MappingValue}
 use Rattle.sd_acl.specs.Descriptor.{DescriptorValue}
 use Rattle.sd_acl.specs.declared.ace.Ace.{Ace}
 use Rattle.sd_acl.specs.declared.descriptor.Dacl.TheVariants as owned
-use Rattle.sd_check.specs.Check.{verdict}
-use Rattle.sd_check.specs.Dacl.{dacl_entries}
+use Rattle.sd_check.specs.Check.{verdict, dacl_entries}
 use Rattle.sd_check.specs.Token.{TokenValue}
 use Rattle.sd_wire.specs.Parts.{ArePartsOf, dacl_at, with_dacl}
 use Rattle.sd_wire.specs.Reading.{◌>>=◌, entries_read}
@@ -29,6 +28,10 @@ list_checked bytes parts entries g t r are is =
     ∙ regroup (entries_read bytes entries.place entries.end entries.count) are.whole g t r
     ∙ ap (λ owner. entries_checked (entries_read bytes entries.place entries.end entries.count) owner g t r) are.owner
 
-pub returns-in-List : goal.returns-in-List
-returns-in-List c =
+pub returns-then-is_restricted : goal.returns-then-is_restricted
+returns-then-is_restricted c =
+    c.check_restricted.ensures ∙ sym (list_checked c.args.bytes.now _ c.in-List.entries c.args.mapping.now c.args.token.now c.args.asked c.in_ok-owner.ensures.ok c.in-List.is)
+
+pub returns-else-is_restricted : goal.returns-else-is_restricted
+returns-else-is_restricted c =
     c.check_entries.ensures ∙ sym (list_checked c.args.bytes.now _ c.in-List.entries c.args.mapping.now c.args.token.now c.args.asked c.in_ok-owner.ensures.ok c.in-List.is)

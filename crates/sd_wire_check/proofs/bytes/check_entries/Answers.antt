@@ -1,12 +1,17 @@
--- Each turn reads the next entry and finds with it, or ends with its fault.
-use Rattle.std.proofs.Common.{◌++◌, ◌∷◌, [], Ok, refl, sym, ap}
+-- Each turn reads the next entry and goes on with it, or ends with its fault.
+use Rattle.std.proofs.Common.{◌≡◌, ℕ, ◌-◌, ◌++◌, ◌∷◌, [], List, Option, Some, Result, Ok, Err, arith, refl, sym, ap, ◌∙◌}
+use Rattle.std.proofs.lemmas.Iterator.Adapters.{option_map_id}
 use Rattle.std.proofs.lemmas.Result.{err_from_is_err_and}
+use Rattle.sd_sid.specs.Sid.{SidValue}
+use Rattle.sd_acl.specs.declared.ace.Ace.{Ace}
+use Rattle.sd_check.specs.Check.{verdict}
 use Rattle.sd_wire.specs.Reading.{entries_read}
-use Rattle.sd_wire.proofs.Loop.{goes_on, ends, is_done}
+use Rattle.sd_wire.specs.declared.fault.WireFault.{WireFault}
+use Rattle.sd_wire.proofs.Loop.{behind, goes_on, ends, is_done}
 use Rattle.sd_wire_check.proofs.bytes.check_entries.Goals as goal
 
 pub returns-in_err-entry : goal.returns-in_err-entry
-returns-in_err-entry c =
+returns-in_err-entry g c =
     let p = err_from_is_err_and c.from_residual.result c.from_residual.ensures.1 in
     let bytes = c.args.bytes.now in
     let places = c.args.entries in
@@ -15,21 +20,33 @@ returns-in_err-entry c =
     rw (p.1, p.2, fault) refl
 
 pub loop-preserved : goal.loop-preserved
-loop-preserved c =
+loop-preserved g c =
     let bytes = c.args.bytes.now in
     let places = c.args.entries in
     let so_far = c.loop.invariant.0 in (
       (
         so_far.0 ++ c.in_ok-entry.entry ∷ [],
         goes_on bytes c.loop.at places.end places.count c.loop.counter so_far.0 c.in_ok-entry.entry c.in_ok-entry.size (entries_read bytes places.place places.end places.count) c.loop-test.true (sym c.in_ok-entry.ensures.read) so_far.1,
-        c.after-found.ensures so_far.0 so_far.2,
+        c.after-tally.ensures so_far.0 so_far.2,
       ),
       c.in_ok-entry.ensures.size.1,
     )
 
 pub returns : goal.returns
-returns c =
+returns g c =
+    let question = c.args.question.now in
     let places = c.args.entries in
     let so_far = c.loop.invariant.0 in
     let all = is_done c.args.bytes.now c.loop.at places.end places.count c.loop.counter so_far.0 (entries_read c.args.bytes.now places.place places.end places.count) c.loop-test.false so_far.1 in
-    rw all (ap (λ v. Ok v) (c.verdict.ensures so_far.0 so_far.2))
+    rw all (ap (λ v. Ok v) (c.verdict.ensures so_far.0 so_far.2
+    ∙ ap (λ (owner : Option SidValue). verdict owner (Some so_far.0) question.mapping.now question.token.now question.asked) (option_map_id question.owner.now)))
+
+behind_none : (read : Result (List Ace) WireFault) → behind [] read ≡ read
+behind_none (Ok es) = refl
+behind_none (Err fault) = refl
+
+begins : (bytes : List ℕ) (at end count : ℕ) → behind [] (entries_read bytes at end (count - 0)) ≡ entries_read bytes at end count
+begins bytes at end count = let same : count - 0 ≡ count = omega arith in rw same (behind_none (entries_read bytes at end count))
+
+pub loop-init : goal.loop-init
+loop-init g c = (([], begins c.args.bytes.now c.args.entries.place c.args.entries.end c.args.entries.count, c.begin-tally.ensures _), c.requires.place)

@@ -1,0 +1,285 @@
+//! The check: a fold over the entries of a list, wherever they are stored.
+
+ghost use Rattle.std.specs.Prelude.{◌≡◌, ◌==◌, ◌<◌, ◌^◌, ◌==◌, ◌<◌, ◌^◌, ◌∷◌, [], ◌++◌, ◌&&◌, ◌||◌, not, false, true, map, Bool, List, Option, Some, None};
+ghost use Rattle.sd_sid.specs.Mask.{holds, mask_of};
+ghost use Rattle.sd_acl.specs.declared.ace.Ace.{Ace};
+ghost use Rattle.sd_check.specs.Check.{is_given, is_granted, is_implied, is_listed, is_owner, limits_owner, most_of, verdict};
+ghost use Rattle.sd_check.specs.Check as rules;
+ghost use Rattle.sd_check.specs.Fold.{asking, IsTally, wanted_bits};
+ghost use Rattle.sd_check.specs.Token.{is_restricted};
+ghost use Rattle.sd_check.specs.declared.tally.Tally.{Tally};
+
+use crate::entry::{Entry, Trustee, limits_owner};
+use crate::question::{MAXIMUM_ALLOWED, MAXIMUM_PLACE, Question};
+use crate::tally::{Settled, Tally};
+use crate::token::Privileges;
+use crate::verdict::Verdict;
+use sd_sid::{Mask, OBJECT_RIGHTS};
+
+/// The bits of a request that no check answers ([MS-DTYP] 2.4.3).
+pub const RESERVED: Mask = Mask(0x0CE0_0000);
+
+/// What SeTakeOwnershipPrivilege grants.
+const WRITE_OWNER: Mask = Mask(0x0008_0000);
+
+/// What SeSecurityPrivilege grants.
+const ACCESS_SYSTEM_SECURITY: Mask = Mask(0x0100_0000);
+
+impl<O: Trustee> Question<'_, O> {
+    /// What no entry comes to.
+    #[inline(always)]
+    pub fn begin(&self) -> Tally
+        ensures { (both : Bool) → IsTally both (asking O.sid self.now) [] result }
+    {
+        let wanted = self.wanted_bits();
+        let rights = wanted.common(OBJECT_RIGHTS);
+        Tally {
+            first: Settled::nothing_of(rights),
+            second: Settled::nothing_of(rights),
+            kept: self.owners_rights(wanted),
+        }
+    }
+
+    /// What the entries so far come to with one more ([MS-DTYP] 2.5.3.2), where BOTH says whether the token is restricted.
+    /// One look passes over most: the token doesn't stand for their SID, or all is settled. Takes no memory.
+    #[inline(always)]
+    pub fn after<const BOTH: bool, E: Entry>(&self, tally: Tally, entry: &E) -> Tally
+        ensures { (seen : List Ace) → IsTally BOTH (asking O.sid self.now) seen tally
+            → IsTally BOTH (asking O.sid self.now) (seen ++ E.ace entry.now ∷ []) result }
+    {
+        if self.is_silent(entry) || tally.is_over::<BOTH>() {
+            return tally;
+        }
+        self.deciding::<BOTH, E>(tally, entry)
+    }
+
+    /// Whether one look tells that the entry changes nothing, as most entries of a long list do.
+    #[inline(always)]
+    fn is_silent<E: Entry>(&self, entry: &E) -> bool
+        ensures { result ≡ true → (both : Bool) (seen : List Ace) (tally : Tally) → IsTally both (asking O.sid self.now) seen tally
+            → IsTally both (asking O.sid self.now) (seen ++ E.ace entry.now ∷ []) tally }
+    {
+        !self.token.may_matter(entry.trustee())
+    }
+
+    /// What the entries so far come to with this one: it decides what was undecided of its mask, in each pass.
+    #[inline(always)]
+    fn deciding<const BOTH: bool, E: Entry>(&self, tally: Tally, entry: &E) -> Tally
+        ensures { (seen : List Ace) → IsTally BOTH (asking O.sid self.now) seen tally
+            → IsTally BOTH (asking O.sid self.now) (seen ++ E.ace entry.now ∷ []) result }
+    {
+        let kind = entry.kind();
+        let first = tally.first.after(kind, self.mask(entry));
+        let kept = tally.kept.when(!limits_owner(entry));
+        let second = if BOTH {
+            tally.second.after(kind, self.mask_again(entry))
+        } else {
+            tally.second
+        };
+        Tally {
+            first,
+            second,
+            kept,
+        }
+    }
+
+    /// What the entries so far come to with these. It ends as soon as what comes after can change nothing.
+    #[inline(always)]
+    fn over<const BOTH: bool, E: Entry>(&self, before: Tally, entries: &[E]) -> Tally
+        ensures { (seen : List Ace) → IsTally BOTH (asking O.sid self.now) seen before
+            → IsTally BOTH (asking O.sid self.now) (seen ++ map E.ace entries.now) result }
+    {
+        if before.is_over::<BOTH>() {
+            return before;
+        }
+        let mut tally = before;
+        for entry in entries {
+            if self.is_silent(entry) {
+                continue;
+            }
+            tally = self.deciding::<BOTH, E>(tally, entry);
+            if tally.is_over::<BOTH>() {
+                return tally;
+            }
+        }
+        tally
+    }
+
+    /// The verdict, where no further entry comes ([MS-DTYP] 2.5.3.2).
+    #[inline(always)]
+    pub fn verdict<const BOTH: bool>(&self, tally: Tally) -> Verdict
+        requires { BOTH ≡ is_restricted self.now.token.now }
+        ensures { let q = asking O.sid self.now in
+            (seen : List Ace) → IsTally BOTH q seen tally → result ≡ verdict q.owner (Some seen) q.mapping q.token q.asked }
+    {
+        let granted = self.granted::<BOTH>(tally);
+        if self.is_plain() {
+            return plain_verdict(self.asked, self.asked.minus(granted));
+        }
+        self.answer(granted, granted.common(OBJECT_RIGHTS))
+    }
+
+    /// Whether the request is for the object's own rights and the standard ones alone, as most are: nothing of it is
+    /// reserved, mapped or MAXIMUM_ALLOWED.
+    #[inline(always)]
+    fn is_plain(&self) -> bool
+        ensures some { result ≡ true → (self.now.asked == 0) ≡ false }
+        ensures small { result ≡ true → self.now.asked < 2 ^ 21 }
+    {
+        !self.asked.is_empty() && self.asked.bits() <= OBJECT_RIGHTS.bits()
+    }
+
+    /// Of the bits that are looked for, those that are granted.
+    #[inline(always)]
+    fn granted<const BOTH: bool>(&self, tally: Tally) -> Mask
+        requires { BOTH ≡ is_restricted self.now.token.now }
+        ensures { let q = asking O.sid self.now in
+            (seen : List Ace) → IsTally BOTH q seen tally → result
+            ≡ mask_of (λ b. holds (wanted_bits q.mapping q.asked) b && is_granted q.owner (Some seen) q.mapping q.token b) 32 }
+    {
+        let privileged = self
+            .wanted_bits()
+            .common(privileged(self.token.privileges()));
+        self.listed::<BOTH>(tally).union(privileged)
+    }
+
+    /// Of those bits, what the entries grant, and what is the owner's unless an entry limits the owner.
+    #[inline(always)]
+    fn listed<const BOTH: bool>(&self, tally: Tally) -> Mask
+        requires { BOTH ≡ is_restricted self.now.token.now }
+        ensures { let q = asking O.sid self.now in
+            (seen : List Ace) → IsTally BOTH q seen tally → result ≡ mask_of
+            (λ b. holds (wanted_bits q.mapping q.asked) b && (is_listed q.owner (Some seen) q.mapping q.token b
+            || is_implied (is_owner q.token q.owner && not (limits_owner (Some seen))) false false b))
+            32 }
+    {
+        let first = tally.first.granted(tally.kept);
+        if BOTH {
+            first.common(tally.second.granted(tally.kept))
+        } else {
+            first
+        }
+    }
+
+    /// The verdict for a list in two parts, the first before the second.
+    #[inline(always)]
+    pub(crate) fn judge<E: Entry>(&self, front: &[E], back: &[E]) -> Verdict
+        ensures { let q = asking O.sid self.now in
+            result ≡ verdict q.owner (Some (map E.ace front.now ++ map E.ace back.now)) q.mapping q.token q.asked }
+    {
+        if self.token.is_restricted() {
+            self.judge_by::<true, E>(front, back)
+        } else {
+            self.judge_by::<false, E>(front, back)
+        }
+    }
+
+    // (a request for rights alone has a copy of the loop in which little is left to do)
+    #[inline(always)]
+    fn judge_by<const BOTH: bool, E: Entry>(&self, front: &[E], back: &[E]) -> Verdict
+        requires { BOTH ≡ is_restricted self.now.token.now }
+        ensures { let q = asking O.sid self.now in
+            result ≡ verdict q.owner (Some (map E.ace front.now ++ map E.ace back.now)) q.mapping q.token q.asked }
+    {
+        if self.is_plain() {
+            return self.judge_each::<BOTH, E>(front, back);
+        }
+        self.judge_any::<BOTH, E>(front, back)
+    }
+
+    #[inline(never)]
+    fn judge_any<const BOTH: bool, E: Entry>(&self, front: &[E], back: &[E]) -> Verdict
+        requires { BOTH ≡ is_restricted self.now.token.now }
+        ensures { let q = asking O.sid self.now in
+            result ≡ verdict q.owner (Some (map E.ace front.now ++ map E.ace back.now)) q.mapping q.token q.asked }
+    {
+        self.judge_each::<BOTH, E>(front, back)
+    }
+
+    #[inline(always)]
+    fn judge_each<const BOTH: bool, E: Entry>(&self, front: &[E], back: &[E]) -> Verdict
+        requires { BOTH ≡ is_restricted self.now.token.now }
+        ensures { let q = asking O.sid self.now in
+            result ≡ verdict q.owner (Some (map E.ace front.now ++ map E.ace back.now)) q.mapping q.token q.asked }
+    {
+        let half = self.over::<BOTH, E>(self.begin(), front);
+        let whole = self.over::<BOTH, E>(half, back);
+        self.verdict::<BOTH>(whole)
+    }
+
+    /// The verdict where the DACL is absent or null ([MS-DTYP] 2.5.3.2).
+    #[inline(never)]
+    pub fn verdict_without_a_list(&self) -> Verdict
+        ensures { let q = asking O.sid self.now in result ≡ verdict q.owner None q.mapping q.token q.asked }
+    {
+        let privileged = privileged(self.token.privileges());
+        let wanted = self.wanted_bits();
+        let granted = wanted.common(OBJECT_RIGHTS).union(wanted.common(privileged));
+        let given = self.owners_rights(OBJECT_RIGHTS).union(privileged);
+        let most = self.mapping.all().union(given).common(OBJECT_RIGHTS);
+        self.answer(granted, most)
+    }
+
+    /// The verdict, from those of the bits looked for that are granted, and what MAXIMUM_ALLOWED takes in.
+    fn answer(&self, granted: Mask, most: Mask) -> Verdict
+        ensures { let q = asking O.sid self.now in
+            (dacl : Option (List Ace))
+            → granted ≡ mask_of (λ b. holds (wanted_bits q.mapping q.asked) b && is_granted q.owner dacl q.mapping q.token b) 32
+            → most ≡ most_of q.mapping (holds granted) (is_given q.owner dacl q.token) dacl
+            → result ≡ verdict q.owner dacl q.mapping q.token q.asked }
+    {
+        if self.asked.is_empty() {
+            return Verdict::EmptyRequest;
+        }
+        let reserved = self.asked.common(RESERVED);
+        if !reserved.is_empty() {
+            return Verdict::Reserved(reserved);
+        }
+        let wanted = self.wanted();
+        let missing = wanted.minus(granted);
+        if self.asked.holds(MAXIMUM_PLACE) {
+            maximum_verdict(missing, wanted.union(most))
+        } else {
+            plain_verdict(wanted, missing)
+        }
+    }
+}
+
+/// What the privileges grant.
+#[inline(always)]
+fn privileged(privileges: Privileges) -> Mask
+    ensures { result ≡ mask_of (is_implied false privileges.take_ownership privileges.security) 32 }
+{
+    WRITE_OWNER
+        .when(privileges.take_ownership)
+        .union(ACCESS_SYSTEM_SECURITY.when(privileges.security))
+}
+
+/// The verdict on a request without MAXIMUM_ALLOWED.
+#[inline(always)]
+fn plain_verdict(wanted: Mask, missing: Mask) -> Verdict
+    ensures { result ≡ rules.plain_verdict wanted missing }
+{
+    if wanted.is_empty() {
+        return Verdict::EmptyRequest;
+    }
+    if missing.is_empty() {
+        return Verdict::Granted(wanted);
+    }
+    Verdict::Denied { missing }
+}
+
+/// The verdict on a request with MAXIMUM_ALLOWED, which stands for all that is granted.
+fn maximum_verdict(missing: Mask, all: Mask) -> Verdict
+    ensures { result ≡ rules.maximum_verdict missing all }
+{
+    if !missing.is_empty() {
+        return Verdict::Denied { missing };
+    }
+    if all.is_empty() {
+        return Verdict::Denied {
+            missing: MAXIMUM_ALLOWED,
+        };
+    }
+    Verdict::Granted(all)
+}

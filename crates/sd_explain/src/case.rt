@@ -1,0 +1,295 @@
+//! A request to a DACL, and why each of its bits is granted or denied.
+
+ghost use Rattle.std.specs.Prelude.{◌≡◌, ◌<◌, ℕ, true, false, length, slice_index_or, None, if◌then◌else◌};
+ghost use Rattle.sd_acl.specs.Ace.{is_allow};
+ghost use Rattle.sd_check.specs.Check.{without_maximum, entries_of, applies_in, implied_of, applies_again};
+ghost use Rattle.sd_sid.specs.Mapping.{mapped};
+ghost use Rattle.sd_sid.specs.Mask.{holds};
+ghost use Rattle.sd_check.specs.Fold.{rights_in, wanted_bits, part_of};
+ghost use Rattle.sd_check.specs.Token.{is_restricted};
+ghost use Rattle.sd_explain.specs.Reasons.{finding_of, given_or as given_or_of, granting_or as granting_or_of, high_cause as high_cause_of, named_cause as named_cause_of, maximum_cause as maximum_cause_of, reason_at};
+ghost use Rattle.sd_explain.specs.Findings.{IsFoundIn, IsListed, listed_by};
+
+use crate::explanation::PLACES;
+use crate::reason::{Cause, Finding, Reason};
+use sd_acl::{Ace, AceKind};
+use sd_check::{DaclRef, Implied, MAXIMUM_PLACE, Pass, Question, RESERVED};
+use sd_sid::{Mask, OBJECT_RIGHTS, Sid};
+
+/// The places below this are the object's own rights and the standard ones.
+const RIGHTS_END: u32 = 21;
+
+/// Who asks for what, and of which DACL.
+#[derive(Drop)]
+pub(crate) struct Case<'a> {
+    pub question: Question<'a, Sid>,
+    pub dacl: DaclRef<'a>,
+}
+
+/// What an entry of the kind at the place does.
+fn found(kind: AceKind, place: usize) -> Finding
+    ensures { result ≡ (if is_allow kind then Finding.Allowed place else Finding.Denied place) }
+{
+    if kind.is_allow() {
+        Finding::Allowed(place)
+    } else {
+        Finding::Denied(place)
+    }
+}
+
+/// Where a cause doesn't grant the bit, what is granted without an entry does, or nothing.
+fn granting_or(given: Implied, place: u32, cause: Cause) -> Cause
+    ensures { result ≡ granting_or_of given place cause }
+{
+    if cause.grants() {
+        cause
+    } else {
+        given_or(given, place, cause)
+    }
+}
+
+/// What is granted without an entry, or else the other cause.
+fn given_or(given: Implied, place: u32, other: Cause) -> Cause
+    ensures { result ≡ given_or_of given place other }
+{
+    if given.owner && (place == 17 || place == 18) {
+        Cause::Owner
+    } else if given.take_ownership && place == 19 {
+        Cause::TakeOwnership
+    } else {
+        other
+    }
+}
+
+/// Of a bit that no list grants.
+fn high_cause(given: Implied, place: u32) -> Cause
+    ensures { result ≡ high_cause_of given place }
+{
+    if given.security && place == 24 {
+        Cause::Security
+    } else {
+        Cause::NoSecurity
+    }
+}
+
+/// Writes the finding at the places that were decided.
+fn note(findings: &mut [Finding; 32], decided: Mask, finding: Finding)
+    requires { length findings.old ≡ 32 }
+    ensures size { length findings.new ≡ 32 }
+    ensures at { (b : ℕ) → b < 32
+        → slice_index_or findings.new b Finding.NoEntry
+        ≡ (if holds decided b then finding else slice_index_or findings.old b Finding.NoEntry) }
+{
+    for place in decided.bits().trailing_zeros()..PLACES {
+        if decided.bits() >> place == 0 {
+            return;
+        }
+        if decided.holds(place) {
+            findings[place as usize] = finding;
+        }
+    }
+}
+
+impl Case<'_> {
+    /// What the pass over the entries finds for each of the bits, in one walk.
+    fn findings_in(&self, entries: &[Ace], pass: Pass, bits: Mask) -> [Finding; 32]
+        ensures size { length result ≡ 32 }
+        ensures found { (b : ℕ) → b < 32 → holds bits b ≡ true
+            → slice_index_or result b Finding.NoEntry
+            ≡ finding_of self.now.question.mapping.now (applies_in pass self.now.question.token.now self.now.question.owner.now) entries.now b }
+    {
+        let mut findings = [Finding::NoEntry; 32];
+        let mut undecided = bits;
+        for (index, entry) in entries.iter().enumerate() {
+            if undecided.is_empty() {
+                return findings;
+            }
+            let decided = self.question.part(pass, entry).common(undecided);
+            if decided.is_empty() {
+                continue;
+            }
+            note(&mut findings, decided, found(entry.kind, index));
+            undecided = undecided.minus(decided);
+        }
+        findings
+    }
+
+    /// The same for the list, where there is one.
+    pub(crate) fn findings(&self, pass: Pass, bits: Mask) -> [Finding; 32]
+        ensures size { length result ≡ 32 }
+        ensures found { let applies = applies_in pass self.now.question.token.now self.now.question.owner.now in
+            IsFoundIn self.now.question.mapping.now applies (entries_of self.now.dacl) bits result }
+    {
+        match self.dacl {
+            DaclRef::Absent => [Finding::NoEntry; 32],
+            DaclRef::Null => [Finding::NoEntry; 32],
+            DaclRef::List(entries) => self.findings_in(entries, pass, bits),
+        }
+    }
+
+    /// What the second pass finds; nothing for a token that isn't restricted.
+    pub(crate) fn findings_again(&self, bits: Mask) -> [Finding; 32]
+        ensures size { length result ≡ 32 }
+        ensures found { let applies = applies_again self.now.question.token.now self.now.question.owner.now in
+            is_restricted self.now.question.token.now ≡ true
+            → IsFoundIn self.now.question.mapping.now applies (entries_of self.now.dacl) bits result }
+    {
+        if self.question.token.is_restricted() {
+            self.findings(Pass::Second, bits)
+        } else {
+            [Finding::NoEntry; 32]
+        }
+    }
+
+    /// The cause of the bit by what the passes find.
+    fn listed_cause(&self, first: &[Finding; 32], second: &[Finding; 32], place: u32) -> Cause
+        requires { place < 32 }
+        ensures { result ≡ listed_by (is_restricted self.now.question.token.now) first.now second.now place }
+    {
+        let found = first[place as usize];
+        if self.question.token.is_restricted() {
+            Cause::Restricted(found, second[place as usize])
+        } else {
+            Cause::Listed(found)
+        }
+    }
+
+    /// What is granted without an entry.
+    pub(crate) fn given(&self) -> Implied
+        ensures { result ≡ implied_of self.now.question.owner.now (entries_of self.now.dacl) self.now.question.token.now }
+    {
+        self.question.implied(self.dacl)
+    }
+
+    /// The rights that the list is asked for.
+    pub(crate) fn rights(&self) -> Mask
+        ensures { result ≡ rights_in (wanted_bits self.now.question.mapping.now self.now.question.asked) }
+    {
+        self.question.wanted_bits().common(OBJECT_RIGHTS)
+    }
+
+    /// The bits that have a part in the answer.
+    pub(crate) fn answered(&self) -> Mask
+        ensures { (b : ℕ) → b < 32 → holds result b ≡ false
+            → reason_at self.now.question.owner.now (entries_of self.now.dacl) self.now.question.mapping.now self.now.question.token.now self.now.question.asked b ≡ None }
+    {
+        let reserved = self.question.asked.common(RESERVED);
+        if reserved.is_empty() {
+            self.question.wanted_bits()
+        } else {
+            reserved
+        }
+    }
+
+    /// Why a bit that the request names is granted or denied.
+    fn named_cause(
+        &self,
+        place: u32,
+        given: Implied,
+        first: &[Finding; 32],
+        second: &[Finding; 32],
+    ) -> Cause
+        requires place { place < 32 }
+        requires given { given ≡ implied_of self.now.question.owner.now (entries_of self.now.dacl) self.now.question.token.now }
+        requires listed { place < 21
+            → IsListed self.now.question.owner.now (entries_of self.now.dacl) self.now.question.mapping.now self.now.question.token.now place
+            (listed_by (is_restricted self.now.question.token.now) first.now second.now place) }
+        ensures { result ≡ named_cause_of self.now.question.owner.now (entries_of self.now.dacl) self.now.question.mapping.now self.now.question.token.now place }
+    {
+        if place >= RIGHTS_END {
+            return high_cause(given, place);
+        }
+        match self.dacl {
+            DaclRef::Absent => Cause::NoList,
+            DaclRef::Null => Cause::NoList,
+            DaclRef::List(_) => {
+                granting_or(given, place, self.listed_cause(first, second, place))
+            }
+        }
+    }
+
+    /// Why MAXIMUM_ALLOWED takes the bit in, or leaves it out.
+    fn maximum_cause(
+        &self,
+        place: u32,
+        given: Implied,
+        first: &[Finding; 32],
+        second: &[Finding; 32],
+    ) -> Cause
+        requires place { place < 32 }
+        requires given { given ≡ implied_of self.now.question.owner.now (entries_of self.now.dacl) self.now.question.token.now }
+        requires listed { place < 21
+            → IsListed self.now.question.owner.now (entries_of self.now.dacl) self.now.question.mapping.now self.now.question.token.now place
+            (listed_by (is_restricted self.now.question.token.now) first.now second.now place) }
+        ensures { result ≡ maximum_cause_of self.now.question.owner.now (entries_of self.now.dacl) self.now.question.mapping.now self.now.question.token.now place }
+    {
+        match self.dacl {
+            DaclRef::Absent => self.maximum_cause_without_a_list(place, given),
+            DaclRef::Null => self.maximum_cause_without_a_list(place, given),
+            DaclRef::List(_) => self.named_cause(place, given, first, second),
+        }
+    }
+
+    /// The same where there is no list: what GENERIC_ALL stands for, and what is granted without an entry.
+    fn maximum_cause_without_a_list(&self, place: u32, given: Implied) -> Cause
+        requires place { place < 32 }
+        requires given { given ≡ implied_of self.now.question.owner.now None self.now.question.token.now }
+        ensures { result ≡ maximum_cause_of self.now.question.owner.now None self.now.question.mapping.now self.now.question.token.now place }
+    {
+        if self.question.mapping.all().holds(place) {
+            return Cause::NoList;
+        }
+        given_or(given, place, Cause::BeyondAll)
+    }
+
+    /// The reason of the bit in the answer to the request, where it has a part in it. `first` and `second` are what the passes
+    /// find for the bits that the list is asked for.
+    pub(crate) fn reason(
+        &self,
+        wanted: Mask,
+        place: u32,
+        given: Implied,
+        first: &[Finding; 32],
+        second: &[Finding; 32],
+    ) -> Option<Reason>
+        requires wanted { wanted ≡ mapped self.now.question.mapping.now (without_maximum self.now.question.asked) }
+        requires place { place < 32 }
+        requires given { given ≡ implied_of self.now.question.owner.now (entries_of self.now.dacl) self.now.question.token.now }
+        requires listed { holds (rights_in (wanted_bits self.now.question.mapping.now self.now.question.asked)) place ≡ true
+            → IsListed self.now.question.owner.now (entries_of self.now.dacl) self.now.question.mapping.now self.now.question.token.now place
+            (listed_by (is_restricted self.now.question.token.now) first.now second.now place) }
+        ensures { result ≡ reason_at self.now.question.owner.now (entries_of self.now.dacl) self.now.question.mapping.now self.now.question.token.now self.now.question.asked place }
+    {
+        let reserved = self.question.asked.common(RESERVED);
+        if !reserved.is_empty() {
+            return reserved_reason(reserved, place);
+        }
+        if wanted.holds(place) {
+            let cause = self.named_cause(place, given, first, second);
+            return Some(Reason { named: true, cause });
+        }
+        if self.question.asked.holds(MAXIMUM_PLACE) && place < RIGHTS_END {
+            let cause = self.maximum_cause(place, given, first, second);
+            return Some(Reason {
+                named: false,
+                cause,
+            });
+        }
+        None
+    }
+}
+
+/// A reserved bit's.
+fn reserved_reason(reserved: Mask, place: u32) -> Option<Reason>
+    requires { place < 32 }
+    ensures { result ≡ (if holds reserved place then Some (record { named = true; cause = Cause.Reserved }) else None) }
+{
+    if reserved.holds(place) {
+        Some(Reason {
+            named: true,
+            cause: Cause::Reserved,
+        })
+    } else {
+        None
+    }
+}
