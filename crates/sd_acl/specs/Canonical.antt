@@ -18,12 +18,12 @@ allows e = is_allow e.kind
 abbrev pub denies : Ace → Bool
 denies e = not (is_allow e.kind)
 
--- some explicit entry stands behind an inherited one
+-- some explicit entry comes after an inherited one
 abbrev pub explicit_behind_inherited : List Ace → Bool
 explicit_behind_inherited [] = false
 explicit_behind_inherited (e ∷ es) = (is_inherited e && list_any is_explicit es) || explicit_behind_inherited es
 
--- some deny stands behind an allow
+-- some deny comes after an allow
 abbrev pub deny_behind_allow : List Ace → Bool
 deny_behind_allow [] = false
 deny_behind_allow (e ∷ es) = (allows e && list_any denies es) || deny_behind_allow es

@@ -27,7 +27,7 @@ fn explicit_entry(entry: &Ace) -> Ace
     }
 }
 
-/// Whether no deny stands behind an allow, whatever was inherited ([MS-DTYP] 2.4.5). Takes no memory.
+/// Whether no deny comes after an allow, inherited or not ([MS-DTYP] 2.4.5). Takes no memory.
 pub fn denies_stand_first(entries: &[Ace]) -> bool
     ensures { result ≡ not (deny_behind_allow entries.now) }
 {
@@ -37,7 +37,7 @@ pub fn denies_stand_first(entries: &[Ace]) -> bool
         .all(|entry| entry.kind.is_allow())
 }
 
-/// Whether no explicit entry stands behind an inherited one.
+/// Whether no explicit entry comes after an inherited one.
 fn explicit_stand_first(entries: &[Ace]) -> bool
     ensures { result ≡ not (explicit_behind_inherited entries.now) }
 {

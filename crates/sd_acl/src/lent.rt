@@ -1,4 +1,4 @@
-//! Entries that stay in their bytes.
+//! Entries whose SIDs stay in their bytes.
 
 ghost use Rattle.std.specs.Prelude.{◌≡◌};
 ghost use Rattle.sd_acl.specs.Ace.{is_inherit_only};
@@ -9,7 +9,7 @@ use bitflags::Flags;
 use sd_sid::{Mask, SidRef};
 use std::marker::Model;
 
-/// An entry whose SID is lent from its bytes, and not copied ([MS-DTYP] 2.4.4). Contracts see it as the entry.
+/// An entry whose SID is borrowed from its bytes, not copied ([MS-DTYP] 2.4.4). Contracts see it as the entry.
 #[derive(Drop)]
 pub struct AceRef<'a> {
     kind: AceKind,
@@ -48,7 +48,7 @@ impl<'a> AceRef<'a> {
         self.kind
     }
 
-    /// What it allows or denies, as it stands there.
+    /// What it allows or denies, unmapped.
     #[inline(always)]
     pub fn mask(&self) -> Mask
         ensures { result ≡ self.now.mask }
@@ -70,19 +70,6 @@ impl<'a> AceRef<'a> {
         ensures { result ≡ is_inherit_only self.now }
     {
         self.flags.contains(AceFlags::IO)
-    }
-
-    /// The same entry, lent once more.
-    #[inline(always)]
-    pub fn again(&self) -> AceRef<'a>
-        ensures { result ≡ self.now }
-    {
-        AceRef {
-            kind: self.kind,
-            flags: self.flags,
-            mask: self.mask,
-            sid: self.sid.again(),
-        }
     }
 
     /// The entry, with its SID copied out of its bytes.

@@ -1,7 +1,6 @@
 -- What a pass comes to with one more entry, bit by bit.
-use Rattle.std.proofs.Common.{◌≡◌, ℕ, ◌<◌, ◌++◌, Bool, true, false, not, ◌&&◌, ◌||◌, ◌==◌, cond, List, [], ◌∷◌, Option, Some, None, refl, sym, ◌∙◌, ap, subst, find, append-nil, append_assoc, eqb-true}
+use Rattle.std.proofs.Common.{◌≡◌, ℕ, ◌<◌, ◌++◌, Bool, true, false, not, ◌&&◌, ◌||◌, ◌==◌, cond, List, [], ◌∷◌, Option, Some, None, refl, sym, ◌∙◌, ap, subst, append-nil, append_assoc, eqb-true}
 use Rattle.std.specs.Option.{option_or, is_none}
-use Rattle.std.specs.List.{list_any}
 use Rattle.std.proofs.Math.Bool.{or-false, or-true}
 use Rattle.std.proofs.lemmas.List.Folds.{find-append, list_any-append}
 use Rattle.std.proofs.lemmas.Nat.Bits.{bit_at-zero}
@@ -96,7 +95,7 @@ module _ (g : MappingValue) (who : AceKind → SidValue → Bool) (bits owners :
       pass_by s k to keeps
       (λ b h. stands (λ i. holds s.undecided i && not (holds d i)) to.undecided b h is_undecided ∙ ap (λ t. holds s.undecided b && not t) (here b h))
       (λ b h. stands (λ i. holds s.allowed i || holds (cond (is_allow kind) d 0) i) to.allowed b h is_allowed
-          ∙ ap (λ t. holds s.allowed b || t) (holds_when (is_allow kind) d b ∙ ap (λ a. is_allow a && holds d b) is_kind ∙ ap (λ t. is_allow e.kind && t) (here b h)))
+      ∙ ap (λ t. holds s.allowed b || t) (holds_when (is_allow kind) d b ∙ ap (λ a. is_allow a && holds d b) is_kind ∙ ap (λ t. is_allow e.kind && t) (here b h)))
       (λ b h. ap (λ t. holds to.allowed b || t) (ap (λ n. holds n b) is_keeps ∙ holds_when (not (is_limit e)) k b))
 
   same_left : (u here : Bool) → (here && u) ≡ false → u ≡ (u && not (here && u))

@@ -13,7 +13,7 @@ use Rattle.sd_check.specs.declared.verdict.Verdict.TheVariants.{Granted, Denied}
 use Rattle.sd_check.specs.declared.token.GroupState.TheVariants.{Enabled}
 use Rattle.sd_check.specs.Token.{TokenValue, is_restricting}
 
--- where no entry before it settles the bit, an entry that does decides it
+-- where no entry before it decides the bit, an entry that does counts
 abbrev pub FirstEntryDecides : Type 0
 FirstEntryDecides =
     (g : MappingValue) (who : AceKind → SidValue → Bool) (before after : List Ace) (e : Ace) (b : ℕ)

@@ -53,7 +53,7 @@ impl<O: Trustee> Question<'_, O> {
         self.deciding::<BOTH, E>(tally, entry)
     }
 
-    /// Whether one look tells that the entry changes nothing, as most entries of a long list do.
+    /// Whether one look shows that the entry changes nothing, as most entries of a long list do.
     #[inline(always)]
     fn is_silent<E: Entry>(&self, entry: &E) -> bool
         ensures { result ≡ true → (both : Bool) (seen : List Ace) (tally : Tally) → IsTally both (asking O.sid self.now) seen tally
@@ -214,7 +214,9 @@ impl<O: Trustee> Question<'_, O> {
     {
         let privileged = privileged(self.token.privileges());
         let wanted = self.wanted_bits();
-        let granted = wanted.common(OBJECT_RIGHTS).union(wanted.common(privileged));
+        let granted = wanted
+            .common(OBJECT_RIGHTS)
+            .union(wanted.common(privileged));
         let given = self.owners_rights(OBJECT_RIGHTS).union(privileged);
         let most = self.mapping.all().union(given).common(OBJECT_RIGHTS);
         self.answer(granted, most)

@@ -2,8 +2,8 @@
 
 ghost use Rattle.sd_check.specs.Laws.{FirstEntryDecides, SilentEntryChangesNothing, GrantsWhatWasAsked, MaximumIsEachByItself, DeniedMaximumIsNone, NothingBeyondMaximum, EnabledGroupTakesNothing, EntriesGrantRightsAlone, NobodyRestrictsNothing, RestrictionGrantsNoBit, RestrictionGrantsNoRequest, OrderOfRestrictingSidsIsFree};
 
-/// A deny in front of an allow of the same bit wins, and behind it loses: the first entry that settles a bit
-/// decides it, whatever stands behind ([MS-DTYP] 2.5.3.2).
+/// A deny before an allow of the same bit wins, and after it loses: the first entry that decides a bit counts,
+/// whatever comes after ([MS-DTYP] 2.5.3.2).
 pub fn first_entry_decides()
     ensures { FirstEntryDecides }
 {}
@@ -49,7 +49,7 @@ pub fn order_of_restricting_sids_is_free()
     ensures { OrderOfRestrictingSidsIsFree }
 {}
 
-/// Neither a reserved bit nor ACCESS_SYSTEM_SECURITY comes from an entry, or for want of a list.
+/// Neither a reserved bit nor ACCESS_SYSTEM_SECURITY comes from an entry, or where there is no list.
 pub fn entries_grant_rights_alone()
     ensures { EntriesGrantRightsAlone }
 {}

@@ -53,7 +53,7 @@ pub struct Token {
     groups: Vec<(Sid, GroupState)>,
     privileges: Privileges,
     index: Index,
-    // (last, so that what every check looks at stands close together)
+    // (last, so that what every check looks at is close together)
     restricting: Vec<Sid>,
 }
 

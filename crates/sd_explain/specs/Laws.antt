@@ -19,7 +19,7 @@ use Rattle.sd_explain.specs.declared.reason.Share.TheVariants as shares
 
 -- ---- entries
 
--- the entry at the place is the first that settles the bit, and is an allow, or else a deny
+-- the entry at the place is the first that decides the bit, and is an allow, or else a deny
 pub record IsFirstAt (g : MappingValue) (who : AceKind → SidValue → Bool) (es : List Ace) (b place : ℕ) (allows : Bool) : Type 0 where
   pub entry : Ace
   pub at_place : slice_get es place ≡ Some entry
@@ -36,13 +36,13 @@ DeniedNamesFirst =
     (g : MappingValue) (who : AceKind → SidValue → Bool) (es : List Ace) (b place : ℕ)
     → finding_of g who es b ≡ Denied place → IsFirstAt g who es b place false
 
--- no entry is named just where none settles the bit
+-- no entry is named just where none decides the bit
 abbrev pub NoEntryWhereNone : Type 0
 NoEntryWhereNone =
     (g : MappingValue) (who : AceKind → SidValue → Bool) (es : List Ace) (b : ℕ)
     → (finding_of g who es b ≡ NoEntry) ↔ (first g who es b ≡ None)
 
--- an entry that settles a bit speaks of somebody, and the token stands for that SID
+-- an entry that decides a bit speaks of somebody, and the token stands for that SID
 abbrev pub FirstPassHasSubject : Type 0
 FirstPassHasSubject =
     (owner : Option SidValue) (g : MappingValue) (t : TokenValue) (e : Ace) (b : ℕ)
@@ -77,7 +77,7 @@ PartsAreApart =
     → part_at reasons j ≡ Some one → part_at reasons k ≡ Some other → j ≢ k
     → b < 32 → holds one.mask b ≡ true → holds other.mask b ≡ true → ⊥
 
--- the part of its bit: it begins no further than the bit, holds it, and tells its cause
+-- the part of its bit: it begins no further than the bit, holds it, and has its cause
 pub record IsPartOf (reasons : ℕ → Option Reason) (b : ℕ) (reason : Reason) : Type 0 where
   pub place : ℕ
   pub part : Part

@@ -20,12 +20,12 @@ use Rattle.sd_explain.specs.declared.reason.Share.TheVariants as shares
 
 -- ---- what a pass over the list finds
 
--- the entry that settles the bit, and the place where it stands
+-- the entry that decides the bit, and its place
 abbrev pub finding_at : ℕ → Option Ace → Finding
 finding_at place None = NoEntry
 finding_at place (Some e) = if is_allow e.kind then Allowed place else Denied place
 
--- the first entry that settles the bit, of those that apply
+-- the first entry that decides the bit, of those that apply
 abbrev pub finding_of : MappingValue → (AceKind → SidValue → Bool) → List Ace → ℕ → Finding
 finding_of g applies es b = finding_at (position_or_len (decides g applies b) es) (first g applies es b)
 

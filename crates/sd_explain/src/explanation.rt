@@ -84,7 +84,7 @@ pub fn explain_descriptor(
     )
 }
 
-/// The DACL, lent to an explanation.
+/// The DACL, borrowed for an explanation.
 fn lent(dacl: &Dacl) -> DaclRef<'_>
     ensures { entries_of result ≡ dacl_entries dacl.now }
 {
@@ -151,7 +151,7 @@ impl Explanation {
         }
     }
 
-    /// The part whose least bit stands at the place, with all bits of its cause. Each bit with a reason is in just one
+    /// The part whose least bit is at the place, with all bits of its cause. Each bit with a reason is in just one
     /// part, so the parts at the places 0 to 31 are all there are, in the order of their least bits.
     pub fn part(&self, place: u32) -> Option<Part>
         requires { place < 32 }

@@ -2,15 +2,15 @@
 
 ghost use Rattle.sd_explain.specs.Laws.{AllowedNamesFirst, DeniedNamesFirst, NoEntryWhereNone, FirstPassHasSubject, SecondPassHasSubject, NamedCauseIsDue, MaximumCauseIsDue, PartsAreApart, EachBitHasItsPart, PartsHoldTheirCause, ReasonsJoinToRequest, GrantedAreTheParts, DeadEntriesCanGo};
 
-/// The entry that a finding names is the first that settles the bit, at that place of the list; none is named if and
-/// only if none settles it ([MS-DTYP] 2.5.3.2).
+/// The entry that a finding names is the first that decides the bit, at that place of the list; none is named if and
+/// only if none decides it ([MS-DTYP] 2.5.3.2).
 pub fn findings_name_first_entries()
     ensures allowed { AllowedNamesFirst }
     ensures denied { DeniedNamesFirst }
     ensures none { NoEntryWhereNone }
 {}
 
-/// An entry that settles a bit speaks of a SID that the token stands for in that pass: its own, or the owner's where it
+/// An entry that decides a bit speaks of a SID that the token stands for in that pass: its own, or the owner's where it
 /// is for OWNER RIGHTS, as `subject_of` of `sd_check` returns ([MS-DTYP] 2.5.3.1).
 pub fn findings_have_a_subject()
     ensures first { FirstPassHasSubject }

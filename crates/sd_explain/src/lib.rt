@@ -1,6 +1,6 @@
 //! Why a request is granted or denied: [MS-DTYP] 2.5.3.2, bit by bit.
 //!
-//! `explain` returns the verdict of `check_parts` of `sd_check` as the reason of each bit: the first entry that settles
+//! `explain` returns the verdict of `check_parts` of `sd_check` as the reason of each bit: the first entry that decides
 //! it, in each pass, or what is granted without an entry. It allocates nothing. The rules are in docs/CHECK.md.
 //!
 //! ```text

@@ -3,7 +3,7 @@
 ghost use Rattle.std.specs.Prelude.{◌≡◌};
 ghost use Rattle.sd_explain.specs.Reasons.{is_allowed, grants, belongs};
 
-/// What a pass over the list finds for a bit ([MS-DTYP] 2.5.3.2): the first entry that settles it, by its place in the
+/// What a pass over the list finds for a bit ([MS-DTYP] 2.5.3.2): the first entry that decides it, by its place in the
 /// list, counted from 0.
 #[derive(Clone, Copy, Debug, PartialEq, Eq)]
 pub enum Finding {
@@ -11,7 +11,7 @@ pub enum Finding {
     Allowed(usize),
     /// A deny entry.
     Denied(usize),
-    /// No entry settles the bit.
+    /// No entry decides the bit.
     NoEntry,
 }
 

@@ -56,17 +56,6 @@ impl<'a> SidRef<'a> {
         Ok((SidRef { bytes, count }, size as u64))
     }
 
-    /// The same SID, borrowed again.
-    #[inline(always)]
-    pub fn again(&self) -> SidRef<'a>
-        ensures { result ≡ self.now }
-    {
-        SidRef {
-            bytes: self.bytes,
-            count: self.count,
-        }
-    }
-
     /// A copy of the SID.
     #[inline(always)]
     pub fn copied(&self) -> Sid

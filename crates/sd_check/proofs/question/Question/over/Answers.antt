@@ -1,7 +1,6 @@
 -- Each entry takes the tally on; after one that settles all, the rest changes nothing.
-use Rattle.std.proofs.Common.{◌≡◌, ◌++◌, ◌∷◌, [], map, take, drop, ap, sym, ◌∙◌, ◌+◌, List, not, nat_eq, subst, refl}
+use Rattle.std.proofs.Common.{◌≡◌, ◌++◌, ◌∷◌, [], map, take, drop, ap, sym, ◌∙◌, ◌+◌, not, nat_eq, subst, refl}
 use Rattle.std.proofs.lemmas.List.{map_more, map-append, take-append-drop, take_all}
-use Rattle.sd_acl.specs.declared.ace.Ace.{Ace}
 use Rattle.sd_check.specs.Fold.{asking, IsTally}
 use Rattle.sd_check.proofs.Passes.{tally_joined, tally_over}
 use Rattle.sd_check.proofs.question.Question.over.Goals as goal
@@ -37,7 +36,7 @@ returns-then-is_over-2 g c = λ seen comes.
     let rest = map ace (drop (i + 1) es) in
     let so_far : map ace (take (i + 1) es) ≡ front ++ next = rw (map_more ace es i c.entry-item.result c.loop-entry-test.true, ← c.entry-item.is) refl in
     let whole : (front ++ next) ++ rest ≡ map ace es =
-        ap (λ some. some ++ rest) (sym so_far) ∙ sym (map-append ace (take (i + 1) es) (drop (i + 1) es)) ∙ ap (map ace) (take-append-drop (i + 1) es) in
+    ap (λ some. some ++ rest) (sym so_far) ∙ sym (map-append ace (take (i + 1) es) (drop (i + 1) es)) ∙ ap (map ace) (take-append-drop (i + 1) es) in
     subst (λ all. IsTally both q (seen ++ all) tally) whole
     (tally_joined _ q seen (front ++ next) rest tally
     (tally_over _ q (seen ++ (front ++ next)) rest tally (c.is_over-in-loop-entry.ensures.first c.if-is_over-2.true) (c.is_over-in-loop-entry.ensures.second c.if-is_over-2.true)

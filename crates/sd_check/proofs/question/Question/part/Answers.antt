@@ -1,5 +1,5 @@
 -- An entry that is passed over takes part with nothing.
-use Rattle.std.proofs.Common.{◌≡◌, ℕ, Bool, true, false, Option, sym, ◌∙◌, ap}
+use Rattle.std.proofs.Common.{◌≡◌, false, Option, sym, ◌∙◌, ap}
 use Rattle.sd_sid.specs.Mapping.{MappingValue}
 use Rattle.sd_sid.specs.Sid.{SidValue, same_sid, owner_rights}
 use Rattle.sd_acl.specs.declared.ace.Ace.{Ace}
