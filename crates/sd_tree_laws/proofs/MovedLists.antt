@@ -1,5 +1,5 @@
 -- That nodes which inherit nothing, and those below them, keep their DACLs in a move, and that all do in a rename.
-use Rattle.std.proofs.Common.{◌≡◌, true, List, [], ◌∷◌, ◌++◌, Option, Some, refl, sym, ap, ◌∙◌}
+use Rattle.std.proofs.Common.{◌≡◌, true, List, [], ◌∷◌, ◌++◌, Option, Some, sym, ap, ◌∙◌}
 use Rattle.std.proofs.Common.{append_assoc, append-nil}
 use Rattle.sd_sid.specs.Mapping.{MappingValue}
 use Rattle.sd_acl.specs.declared.ace.Ace.{Ace}
@@ -7,7 +7,7 @@ use Rattle.sd_path.specs.Names.{Names, up, is_within, moved_path}
 use Rattle.sd_path.proofs.Paths.{moved_path-append, within_rest, within_up}
 use Rattle.sd_tree.specs.Closed.{IsClosed, IsMovable}
 use Rattle.sd_tree.specs.Edits.{moved}
-use Rattle.sd_tree.specs.Inheritance.{dacl_of_row, dacl_under}
+use Rattle.sd_tree.specs.Inheritance.{dacl_under}
 use Rattle.sd_tree.specs.Journal.{replay}
 use Rattle.sd_tree.specs.Plain.{PlainTree, row_at, dacl_at, dacl_here}
 use Rattle.sd_tree.specs.declared.node.NodeDacl.{NodeDacl}

@@ -11,7 +11,7 @@ use Rattle.sd_tree.specs.Answers.{reply_for, reply_in}
 use Rattle.sd_tree.specs.Closed.{IsClosed, IsMovable}
 use Rattle.sd_tree.specs.Edits.{changed, keeping, moved}
 use Rattle.sd_tree.specs.Inheritance.{dacl_under}
-use Rattle.sd_tree.specs.Journal.{replay, refusal, IsLawful}
+use Rattle.sd_tree.specs.Journal.{replay, IsLawful}
 use Rattle.sd_tree.specs.Plain.{PlainTree, row_at, dacl_at, dacl_here}
 use Rattle.sd_tree.specs.declared.edit.Edit.{Edit}
 use Rattle.sd_tree.specs.declared.edit.Edit.TheVariants.{ProtectKeeping, Move}
