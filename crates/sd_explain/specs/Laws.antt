@@ -20,7 +20,8 @@ use Rattle.sd_explain.specs.declared.reason.Share.TheVariants as shares
 -- ---- entries
 
 -- the entry at the place is the first that decides the bit, and is an allow, or else a deny
-pub record IsFirstAt (g : MappingValue) (who : AceKind → SidValue → Bool) (es : List Ace) (b place : ℕ) (allows : Bool) : Type 0 where
+pub record IsFirstAt
+    (g : MappingValue) (who : AceKind → SidValue → Bool) (es : List Ace) (b place : ℕ) (allows : Bool) : Type 0 where
   pub entry : Ace
   pub at_place : slice_get es place ≡ Some entry
   pub is_first : first g who es b ≡ Some entry
@@ -36,23 +37,25 @@ DeniedNamesFirst =
     (g : MappingValue) (who : AceKind → SidValue → Bool) (es : List Ace) (b place : ℕ)
     → finding_of g who es b ≡ Denied place → IsFirstAt g who es b place false
 
--- no entry is named just where none decides the bit
+-- no entry is named if and only if none decides the bit
 abbrev pub NoEntryWhereNone : Type 0
 NoEntryWhereNone =
     (g : MappingValue) (who : AceKind → SidValue → Bool) (es : List Ace) (b : ℕ)
     → (finding_of g who es b ≡ NoEntry) ↔ (first g who es b ≡ None)
 
--- an entry that decides a bit speaks of somebody, and the token stands for that SID
+-- an entry that decides a bit is for a SID, and the token stands for that SID
 abbrev pub FirstPassHasSubject : Type 0
 FirstPassHasSubject =
     (owner : Option SidValue) (g : MappingValue) (t : TokenValue) (e : Ace) (b : ℕ)
-    → decides g (applies t owner) b e ≡ true → (s : SidValue) × ((subject owner e.sid ≡ Some s) × (stands_for t e.kind s ≡ true))
+    → decides g (applies t owner) b e ≡ true
+    → (s : SidValue) × ((subject owner e.sid ≡ Some s) × (stands_for t e.kind s ≡ true))
 
 -- in the second pass that SID is a restricting one
 abbrev pub SecondPassHasSubject : Type 0
 SecondPassHasSubject =
     (owner : Option SidValue) (g : MappingValue) (t : TokenValue) (e : Ace) (b : ℕ)
-    → decides g (applies_again t owner) b e ≡ true → (s : SidValue) × ((subject owner e.sid ≡ Some s) × (is_restricting t s ≡ true))
+    → decides g (applies_again t owner) b e ≡ true
+    → (s : SidValue) × ((subject owner e.sid ≡ Some s) × (is_restricting t s ≡ true))
 
 -- ---- causes
 
@@ -77,7 +80,7 @@ PartsAreApart =
     → part_at reasons j ≡ Some one → part_at reasons k ≡ Some other → j ≢ k
     → b < 32 → holds one.mask b ≡ true → holds other.mask b ≡ true → ⊥
 
--- the part of its bit: it begins no further than the bit, holds it, and has its cause
+-- the part of its bit: it begins at the bit or below, has the bit, and has its cause
 pub record IsPartOf (reasons : ℕ → Option Reason) (b : ℕ) (reason : Reason) : Type 0 where
   pub place : ℕ
   pub part : Part
@@ -87,7 +90,9 @@ pub record IsPartOf (reasons : ℕ → Option Reason) (b : ℕ) (reason : Reason
   pub tells : part.cause ≡ reason.cause
 
 abbrev pub EachBitHasItsPart : Type 0
-EachBitHasItsPart = (reasons : ℕ → Option Reason) (b : ℕ) (reason : Reason) → b < 32 → reasons b ≡ Some reason → IsPartOf reasons b reason
+EachBitHasItsPart =
+    (reasons : ℕ → Option Reason) (b : ℕ) (reason : Reason)
+    → b < 32 → reasons b ≡ Some reason → IsPartOf reasons b reason
 
 -- a part holds bits of its cause alone
 abbrev pub PartsHoldTheirCause : Type 0
@@ -111,7 +116,8 @@ GrantedAreTheParts =
 
 -- ---- dead entries
 
--- any of the dead entries, each found in the whole list, can be taken out together: every verdict stays
+-- any of the dead entries, each found in the whole list, can be removed together: every verdict is the same
 abbrev pub DeadEntriesCanGo : Type 0
 DeadEntriesCanGo =
-    (g : MappingValue) (es : List Ace) (gone : ℕ → Bool) → ((i : ℕ) → gone i ≡ true → is_dead g es i ≡ true) → CanBeTakenOut g es gone
+    (g : MappingValue) (es : List Ace) (gone : ℕ → Bool)
+    → ((i : ℕ) → gone i ≡ true → is_dead g es i ≡ true) → CanBeTakenOut g es gone

@@ -21,8 +21,8 @@ is_of_share share reason = option_map_or (belongs share) reason false
 abbrev pub bits_of : Share → (ℕ → Option Reason) → ℕ → ℕ
 bits_of share reasons n = mask_of (λ b. is_of_share share (reasons b)) n
 
--- the verdict, from the reasons alone: reserved bits come first, then bits that are named and missing; what is granted is
--- granted, and where that is nothing, MAXIMUM_ALLOWED itself is missing, or nothing was asked for
+-- the verdict, from the reasons alone: reserved bits come first, then requested bits that are missing, then what is
+-- granted; where that is nothing, MAXIMUM_ALLOWED itself is missing, or nothing was requested
 abbrev pub told_verdict : (ℕ → Option Reason) → Verdict
 told_verdict reasons =
     if not (bits_of shares.Reserved reasons 32 == 0) then Reserved (bits_of shares.Reserved reasons 32)

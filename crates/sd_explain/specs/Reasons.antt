@@ -61,7 +61,7 @@ given_or given b other =
     else if given.take_ownership && b == 19 then TakeOwnership
     else other
 
--- a cause that grants stands; else what is granted without an entry is looked at
+-- a cause that grants is kept; else what is granted without an entry is the cause, if it grants
 abbrev pub granting_or : Implied → ℕ → Cause → Cause
 granting_or given b cause = if grants cause then cause else given_or given b cause
 
@@ -78,21 +78,24 @@ named_cause owner (Some es) g t b =
     if nat_lt b 21 then granting_or (implied_of owner (Some es) t) b (listed_cause owner es g t b)
     else high_cause (implied_of owner (Some es) t) b
 
--- why MAXIMUM_ALLOWED takes the bit in or leaves it out: without a list it takes in what GENERIC_ALL stands for, and what
--- is granted without an entry
+-- why MAXIMUM_ALLOWED includes the bit or not: without a list it includes what GENERIC_ALL stands for, and what is
+-- granted without an entry
 abbrev pub maximum_cause : Option SidValue → Option (List Ace) → MappingValue → TokenValue → ℕ → Cause
 maximum_cause owner None g t b = if holds g.all b then NoList else given_or (implied_of owner None t) b BeyondAll
 maximum_cause owner (Some es) g t b = named_cause owner (Some es) g t b
 
 -- ---- reasons
 
--- the reason of the bit in the answer to the request, where it has a part in it: a reserved bit stops the check; else the bits
--- that the mapped request names have one, and with MAXIMUM_ALLOWED, place 25, each place below 21
+-- the reason of the bit in the answer to the request, if it has one: with a reserved bit in the request only the
+-- reserved bits have one; else the bits of the mapped request and, with MAXIMUM_ALLOWED, place 25, each place below 21
 abbrev pub reason_at : Option SidValue → Option (List Ace) → MappingValue → TokenValue → ℕ → ℕ → Option Reason
 reason_at owner dacl g t r b =
-    if not (reserved_of r == 0) then (if holds (reserved_of r) b then Some (record { named = true; cause = Reserved }) else None)
-    else if holds (mapped g (without_maximum r)) b then Some (record { named = true; cause = named_cause owner dacl g t b })
-    else if holds r 25 && nat_lt b 21 then Some (record { named = false; cause = maximum_cause owner dacl g t b })
+    if not (reserved_of r == 0)
+    then (if holds (reserved_of r) b then Some (record { named = true; cause = Reserved }) else None)
+    else if holds (mapped g (without_maximum r)) b
+    then Some (record { named = true; cause = named_cause owner dacl g t b })
+    else if holds r 25 && nat_lt b 21
+    then Some (record { named = false; cause = maximum_cause owner dacl g t b })
     else None
 
 -- those of all places
