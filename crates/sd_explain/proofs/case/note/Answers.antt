@@ -1,4 +1,4 @@
-use Rattle.std.proofs.Common.{◌^◌, ◌<◌, eq-eqb, sym, ◌∙◌, ap, arith}
+use Rattle.std.proofs.Common.{eq-eqb, sym, ◌∙◌, ap, arith}
 use Rattle.sd_sid.specs.Mask.{holds}
 use Rattle.sd_explain.proofs.Noted.{noted_all, noted_from, none_below_lowest, none_from}
 use Rattle.sd_explain.proofs.case.note.Goals as goal
