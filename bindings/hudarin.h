@@ -48,152 +48,177 @@ extern "C" {
 #define HUDARIN_NONNULL(...)
 #endif
 
-/* ---- Statuses */
+/* ---- Statuses. For this enum and those below an answer has a number of 32 bits; with a cast, as in
+ * switch ((hudarin_status)answer.status), GCC and Clang warn of a missing case. */
 
-#define HUDARIN_OK 0u
-/* Out of memory. The same call may succeed later. */
-#define HUDARIN_MEMORY 1u
-/* The buffer is too small. The answer's `length` is the number of bytes required. */
-#define HUDARIN_ROOM 2u
-/* A text isn't UTF-8: `place` is the number of valid bytes at its front. */
-#define HUDARIN_UTF8 3u
-/* A text is invalid: the fault is HUDARIN_TEXT_.., at the byte offset `place`. */
-#define HUDARIN_TEXT 4u
-/* Bytes hold no descriptor: the fault is HUDARIN_WIRE_... */
-#define HUDARIN_WIRE 5u
-/* Bytes don't start with a SID: the fault is HUDARIN_SID_... Of groups and restricting SIDs `place` is the index. */
-#define HUDARIN_SID 6u
-/* More bytes follow the groups than there are states for. `place` is the number of states. */
-#define HUDARIN_BEHIND_GROUPS 7u
-/* The state of the group with the index `place` is none of HUDARIN_GROUP_... */
-#define HUDARIN_STATE 8u
-/* A bit is none of HUDARIN_PRIVILEGE_... */
-#define HUDARIN_PRIVILEGES 9u
-/* A mask of the mapping has a bit beyond 0x001FFFFF. */
-#define HUDARIN_MAPPING 10u
-/* A handle keeps nothing, or an object of another kind; or one that must be empty is in use. */
-#define HUDARIN_HANDLE 11u
-/* The number is none of HUDARIN_EDIT_.., or the edit takes no value and has one. */
-#define HUDARIN_EDIT 12u
-/* A text is no path: the fault is HUDARIN_PATH_... */
-#define HUDARIN_PATH 13u
-/* A descriptor lacks an owner or a group where both are required, or has one where only a DACL may be. */
-#define HUDARIN_PARTS 14u
-/* The tree refuses the edit, or its root: the fault is HUDARIN_REFUSED_... */
-#define HUDARIN_REFUSED 15u
-/* There is no node at the path. */
-#define HUDARIN_NO_NODE 16u
-/* A SID is no domain's, which is S-1-5-21 and three more sub-authorities. */
-#define HUDARIN_DOMAIN 17u
+typedef enum hudarin_status {
+    HUDARIN_OK = 0,
+    /* Out of memory. The same call may succeed later. */
+    HUDARIN_MEMORY = 1,
+    /* The buffer is too small. The answer's `length` is the number of bytes required. */
+    HUDARIN_ROOM = 2,
+    /* A text isn't UTF-8: `place` is the number of valid bytes at its front. */
+    HUDARIN_UTF8 = 3,
+    /* A text is invalid: the fault is HUDARIN_TEXT_.., at the byte offset `place`. */
+    HUDARIN_TEXT = 4,
+    /* Bytes hold no descriptor: the fault is HUDARIN_WIRE_... */
+    HUDARIN_WIRE = 5,
+    /* Bytes don't start with a SID: the fault is HUDARIN_SID_... Of groups and restricting SIDs `place` is the index.
+     */
+    HUDARIN_SID = 6,
+    /* More bytes follow the groups than there are states for. `place` is the number of states. */
+    HUDARIN_BEHIND_GROUPS = 7,
+    /* The state of the group with the index `place` is none of HUDARIN_GROUP_... */
+    HUDARIN_STATE = 8,
+    /* A bit is none of HUDARIN_PRIVILEGE_... */
+    HUDARIN_PRIVILEGES = 9,
+    /* A mask of the mapping has a bit beyond 0x001FFFFF. */
+    HUDARIN_MAPPING = 10,
+    /* A handle keeps nothing, or an object of another kind; or one that must be empty is in use. */
+    HUDARIN_HANDLE = 11,
+    /* The number is none of HUDARIN_EDIT_.., or the edit takes no value and has one. */
+    HUDARIN_EDIT = 12,
+    /* A text is no path: the fault is HUDARIN_PATH_... */
+    HUDARIN_PATH = 13,
+    /* A descriptor lacks an owner or a group where both are required, or has one where only a DACL may be. */
+    HUDARIN_PARTS = 14,
+    /* The tree refuses the edit, or its root: the fault is HUDARIN_REFUSED_... */
+    HUDARIN_REFUSED = 15,
+    /* There is no node at the path. */
+    HUDARIN_NO_NODE = 16,
+    /* A SID is no domain's, which is S-1-5-21 and three more sub-authorities. */
+    HUDARIN_DOMAIN = 17,
+    /* The descriptor has no owner, no group, or no entry at the index. */
+    HUDARIN_NO_PART = 18
+} hudarin_status;
 
 /* ---- Faults of a text (HUDARIN_TEXT) */
 
-#define HUDARIN_TEXT_SYNTAX 1u
-#define HUDARIN_TEXT_HAS_SACL 2u
-#define HUDARIN_TEXT_ENTRY_KIND 3u
-#define HUDARIN_TEXT_OBJECT_GUID 4u
-#define HUDARIN_TEXT_UNKNOWN_ALIAS 5u
-#define HUDARIN_TEXT_DOMAIN_ALIAS 6u
-#define HUDARIN_TEXT_RANGE 7u
-#define HUDARIN_TEXT_ACL_TOO_LARGE 8u
+typedef enum hudarin_text_fault {
+    HUDARIN_TEXT_SYNTAX = 1,
+    HUDARIN_TEXT_HAS_SACL = 2,
+    HUDARIN_TEXT_ENTRY_KIND = 3,
+    HUDARIN_TEXT_OBJECT_GUID = 4,
+    HUDARIN_TEXT_UNKNOWN_ALIAS = 5,
+    HUDARIN_TEXT_DOMAIN_ALIAS = 6,
+    HUDARIN_TEXT_RANGE = 7,
+    HUDARIN_TEXT_ACL_TOO_LARGE = 8
+} hudarin_text_fault;
 
 /* ---- Faults of a descriptor's bytes (HUDARIN_WIRE) */
 
-#define HUDARIN_WIRE_SHORT 1u
-#define HUDARIN_WIRE_REVISION 2u
-#define HUDARIN_WIRE_NOT_SELF_RELATIVE 3u
-#define HUDARIN_WIRE_HAS_SACL 4u
-#define HUDARIN_WIRE_BAD_OFFSET 5u
-#define HUDARIN_WIRE_BAD_SID 6u
-#define HUDARIN_WIRE_ACL_REVISION 7u
-#define HUDARIN_WIRE_ACL_SIZE 8u
-#define HUDARIN_WIRE_ENTRY_SIZE 9u
-#define HUDARIN_WIRE_ENTRY_KIND 10u
+typedef enum hudarin_wire_fault {
+    HUDARIN_WIRE_SHORT = 1,
+    HUDARIN_WIRE_REVISION = 2,
+    HUDARIN_WIRE_NOT_SELF_RELATIVE = 3,
+    HUDARIN_WIRE_HAS_SACL = 4,
+    HUDARIN_WIRE_BAD_OFFSET = 5,
+    HUDARIN_WIRE_BAD_SID = 6,
+    HUDARIN_WIRE_ACL_REVISION = 7,
+    HUDARIN_WIRE_ACL_SIZE = 8,
+    HUDARIN_WIRE_ENTRY_SIZE = 9,
+    HUDARIN_WIRE_ENTRY_KIND = 10
+} hudarin_wire_fault;
 
 /* ---- Faults of a SID's bytes (HUDARIN_SID) */
 
-#define HUDARIN_SID_REVISION 1u
-#define HUDARIN_SID_COUNT 2u
-#define HUDARIN_SID_SHORT 3u
+typedef enum hudarin_sid_fault {
+    HUDARIN_SID_REVISION = 1,
+    HUDARIN_SID_COUNT = 2,
+    HUDARIN_SID_SHORT = 3
+} hudarin_sid_fault;
 
 /* ---- Faults of a path (HUDARIN_PATH) */
 
-/* There is no leading '/', or a name is empty or has a zero byte. */
-#define HUDARIN_PATH_SYNTAX 1u
-#define HUDARIN_PATH_NAME_TOO_LONG 2u
-#define HUDARIN_PATH_TOO_MANY_NAMES 3u
+typedef enum hudarin_path_fault {
+    /* There is no leading '/', or a name is empty or has a zero byte. */
+    HUDARIN_PATH_SYNTAX = 1,
+    HUDARIN_PATH_NAME_TOO_LONG = 2,
+    HUDARIN_PATH_TOO_MANY_NAMES = 3
+} hudarin_path_fault;
 
 /* ---- Why a tree refuses an edit, or its root (HUDARIN_REFUSED) */
 
-#define HUDARIN_REFUSED_NO_PARENT 1u
-#define HUDARIN_REFUSED_PARENT_IS_OBJECT 2u
-#define HUDARIN_REFUSED_EXISTS 3u
-#define HUDARIN_REFUSED_NO_NODE 4u
-#define HUDARIN_REFUSED_NOT_EMPTY 5u
-#define HUDARIN_REFUSED_IS_ROOT 6u
-#define HUDARIN_REFUSED_INHERITED_ENTRY 7u
-#define HUDARIN_REFUSED_NOT_CANONICAL 8u
-#define HUDARIN_REFUSED_ACL_TOO_LARGE 9u
-#define HUDARIN_REFUSED_TOO_DEEP 10u
-#define HUDARIN_REFUSED_NODES_FULL 11u
-#define HUDARIN_REFUSED_JOURNAL_FULL 12u
-#define HUDARIN_REFUSED_INTO_ITSELF 13u
+typedef enum hudarin_refusal {
+    HUDARIN_REFUSED_NO_PARENT = 1,
+    HUDARIN_REFUSED_PARENT_IS_OBJECT = 2,
+    HUDARIN_REFUSED_EXISTS = 3,
+    HUDARIN_REFUSED_NO_NODE = 4,
+    HUDARIN_REFUSED_NOT_EMPTY = 5,
+    HUDARIN_REFUSED_IS_ROOT = 6,
+    HUDARIN_REFUSED_INHERITED_ENTRY = 7,
+    HUDARIN_REFUSED_NOT_CANONICAL = 8,
+    HUDARIN_REFUSED_ACL_TOO_LARGE = 9,
+    HUDARIN_REFUSED_TOO_DEEP = 10,
+    HUDARIN_REFUSED_NODES_FULL = 11,
+    HUDARIN_REFUSED_JOURNAL_FULL = 12,
+    HUDARIN_REFUSED_INTO_ITSELF = 13
+} hudarin_refusal;
 
 /* ---- Arguments of a check: the number of the invalid one, in an answer's `argument` */
 
-#define HUDARIN_ARGUMENT_DESCRIPTOR 1u
-#define HUDARIN_ARGUMENT_USER 2u
-#define HUDARIN_ARGUMENT_GROUPS 3u
-#define HUDARIN_ARGUMENT_STATES 4u
-#define HUDARIN_ARGUMENT_RESTRICTING 5u
-#define HUDARIN_ARGUMENT_PRIVILEGES 6u
-#define HUDARIN_ARGUMENT_MAPPING 7u
-/* The handle of a token; that of a descriptor is HUDARIN_ARGUMENT_DESCRIPTOR. */
-#define HUDARIN_ARGUMENT_TOKEN 8u
-/* Those of the calls over stores and views: handles, an edit's number, its path, and its value. */
-#define HUDARIN_ARGUMENT_STORE 9u
-#define HUDARIN_ARGUMENT_VIEW 10u
-#define HUDARIN_ARGUMENT_EDIT 11u
-#define HUDARIN_ARGUMENT_PATH 12u
-#define HUDARIN_ARGUMENT_VALUE 13u
+typedef enum hudarin_argument {
+    HUDARIN_ARGUMENT_DESCRIPTOR = 1,
+    HUDARIN_ARGUMENT_USER = 2,
+    HUDARIN_ARGUMENT_GROUPS = 3,
+    HUDARIN_ARGUMENT_STATES = 4,
+    HUDARIN_ARGUMENT_RESTRICTING = 5,
+    HUDARIN_ARGUMENT_PRIVILEGES = 6,
+    HUDARIN_ARGUMENT_MAPPING = 7,
+    /* The handle of a token; that of a descriptor is HUDARIN_ARGUMENT_DESCRIPTOR. */
+    HUDARIN_ARGUMENT_TOKEN = 8,
+    /* Those of the calls over stores and views: handles, an edit's number, its path, and its value. */
+    HUDARIN_ARGUMENT_STORE = 9,
+    HUDARIN_ARGUMENT_VIEW = 10,
+    HUDARIN_ARGUMENT_EDIT = 11,
+    HUDARIN_ARGUMENT_PATH = 12,
+    HUDARIN_ARGUMENT_VALUE = 13
+} hudarin_argument;
 
 /* ---- Verdicts */
 
-/* All that was requested is granted: `mask`, with its generic rights mapped. With MAXIMUM_ALLOWED: all that can be. */
-#define HUDARIN_GRANTED 1u
-/* Exactly the bits of `mask` aren't granted. */
-#define HUDARIN_DENIED 2u
-/* Exactly the bits of `mask` are reserved, and no check grants them. */
-#define HUDARIN_RESERVED 3u
-/* Nothing was requested. */
-#define HUDARIN_EMPTY_REQUEST 4u
+typedef enum hudarin_verdict_kind {
+    /* All that was requested is granted: `mask`, with its generic rights mapped. With MAXIMUM_ALLOWED: all that can
+     * be. */
+    HUDARIN_GRANTED = 1,
+    /* Exactly the bits of `mask` aren't granted. */
+    HUDARIN_DENIED = 2,
+    /* Exactly the bits of `mask` are reserved, and no check grants them. */
+    HUDARIN_RESERVED = 3,
+    /* Nothing was requested. */
+    HUDARIN_EMPTY_REQUEST = 4
+} hudarin_verdict_kind;
 
 /* ---- Causes: why bits are granted or denied */
 
-/* The DACL is absent or null: it grants the object's own rights and the standard ones. */
-#define HUDARIN_CAUSE_NO_LIST 1u
-/* The list: `first` is the finding for the user and the groups, `second` that for the restricting SIDs. */
-#define HUDARIN_CAUSE_LIST 2u
-/* READ_CONTROL or WRITE_DAC, granted to the owner. */
-#define HUDARIN_CAUSE_OWNER 3u
-/* WRITE_OWNER, granted by SeTakeOwnershipPrivilege. */
-#define HUDARIN_CAUSE_TAKE_OWNERSHIP 4u
-/* ACCESS_SYSTEM_SECURITY, granted by SeSecurityPrivilege, or denied without it. */
-#define HUDARIN_CAUSE_SECURITY 5u
-#define HUDARIN_CAUSE_NO_SECURITY 6u
-/* Without a list MAXIMUM_ALLOWED includes no more than GENERIC_ALL, and this is beyond it. */
-#define HUDARIN_CAUSE_BEYOND_ALL 7u
-/* The bits are reserved. */
-#define HUDARIN_CAUSE_RESERVED 8u
+typedef enum hudarin_cause {
+    /* The DACL is absent or null: it grants the object's own rights and the standard ones. */
+    HUDARIN_CAUSE_NO_LIST = 1,
+    /* The list: `first` is the finding for the user and the groups, `second` that for the restricting SIDs. */
+    HUDARIN_CAUSE_LIST = 2,
+    /* READ_CONTROL or WRITE_DAC, granted to the owner. */
+    HUDARIN_CAUSE_OWNER = 3,
+    /* WRITE_OWNER, granted by SeTakeOwnershipPrivilege. */
+    HUDARIN_CAUSE_TAKE_OWNERSHIP = 4,
+    /* ACCESS_SYSTEM_SECURITY, granted by SeSecurityPrivilege, or denied without it. */
+    HUDARIN_CAUSE_SECURITY = 5,
+    HUDARIN_CAUSE_NO_SECURITY = 6,
+    /* Without a list MAXIMUM_ALLOWED includes no more than GENERIC_ALL, and this is beyond it. */
+    HUDARIN_CAUSE_BEYOND_ALL = 7,
+    /* The bits are reserved. */
+    HUDARIN_CAUSE_RESERVED = 8
+} hudarin_cause;
 
 /* ---- What a pass over the list found: 0 without such a pass */
 
-/* An allow entry decides the bits. */
-#define HUDARIN_FINDING_ALLOWED 1u
-/* A deny entry decides the bits. */
-#define HUDARIN_FINDING_DENIED 2u
-/* No entry does. */
-#define HUDARIN_FINDING_NO_ENTRY 3u
+typedef enum hudarin_finding_kind {
+    /* An allow entry decides the bits. */
+    HUDARIN_FINDING_ALLOWED = 1,
+    /* A deny entry decides the bits. */
+    HUDARIN_FINDING_DENIED = 2,
+    /* No entry does. */
+    HUDARIN_FINDING_NO_ENTRY = 3
+} hudarin_finding_kind;
 
 /* ---- Rights in a mask ([MS-DTYP] 2.4.3), joined by |. Of a right with two names the second is a folder's. */
 
@@ -229,6 +254,38 @@ extern "C" {
 #define HUDARIN_KEY_NOTIFY 0x10u
 #define HUDARIN_KEY_CREATE_LINK 0x20u
 
+/* ---- A kept descriptor's DACL and its entries */
+
+typedef enum hudarin_dacl_kind {
+    /* There is no DACL. It grants the object's own rights and the standard ones to everyone, as a null one does. */
+    HUDARIN_DACL_ABSENT = 1,
+    HUDARIN_DACL_NULL = 2,
+    /* A list of entries; without any it grants nothing by itself. */
+    HUDARIN_DACL_LIST = 3
+} hudarin_dacl_kind;
+
+typedef enum hudarin_entry_kind {
+    HUDARIN_ENTRY_ALLOW = 1,
+    HUDARIN_ENTRY_DENY = 2
+} hudarin_entry_kind;
+
+/* Control bits that speak of the DACL ([MS-DTYP] 2.4.6), joined by |: it inherits nothing; it is to be inherited
+ * automatically; it was. */
+#define HUDARIN_DACL_PROTECTED 0x1000u
+#define HUDARIN_DACL_AUTO_INHERIT_REQ 0x0100u
+#define HUDARIN_DACL_AUTO_INHERITED 0x0400u
+
+/* Flags of an entry ([MS-DTYP] 2.4.4.1), joined by |. */
+#define HUDARIN_OBJECT_INHERIT 0x01u
+#define HUDARIN_CONTAINER_INHERIT 0x02u
+#define HUDARIN_NO_PROPAGATE_INHERIT 0x04u
+/* The entry has no part in a check of the object itself. */
+#define HUDARIN_INHERIT_ONLY 0x08u
+/* The entry was inherited. */
+#define HUDARIN_INHERITED 0x10u
+#define HUDARIN_SUCCESSFUL_ACCESS 0x40u
+#define HUDARIN_FAILED_ACCESS 0x80u
+
 /* ---- States of a group. They are two bits of the attributes of Windows; both at once are rejected. */
 
 #define HUDARIN_GROUP_DISABLED 0x0u
@@ -253,6 +310,8 @@ extern "C" {
 #define HUDARIN_DESCRIPTOR_BYTES 65688u
 /* Of a path's text: 128 names of 255 bytes, each after a slash. */
 #define HUDARIN_PATH_BYTES 32768u
+/* Of what hudarin_status_text and hudarin_fault_name write. */
+#define HUDARIN_MEANING_BYTES 64u
 
 /* ---- Arguments and answers */
 
@@ -311,6 +370,19 @@ typedef struct hudarin_explanation {
     hudarin_part parts[32];  /* at the index of each bit the part whose lowest bit it is */
 } hudarin_explanation;
 
+/* A token in its parts, as hudarin_check takes them; what isn't set is none. */
+typedef struct hudarin_token_parts {
+    const void *user;
+    size_t user_length;
+    const void *groups;
+    size_t groups_length;
+    const uint32_t *states;
+    size_t state_count;
+    const void *restricting;
+    size_t restricting_length;
+    uint32_t privileges;
+} hudarin_token_parts;
+
 /* The answer of a call that writes, keeps or shares, or returns a length. */
 typedef struct hudarin_written {
     uint32_t status;
@@ -319,7 +391,7 @@ typedef struct hudarin_written {
     uint64_t length; /* with HUDARIN_OK as the call says, with HUDARIN_ROOM the bytes required, else 0 */
 } hudarin_written;
 
-/* The answer of hudarin_descriptor_trim. */
+/* The answer of hudarin_descriptor_trim and hudarin_sddl_trim. */
 typedef struct hudarin_trimmed {
     hudarin_written written;
     uint32_t left_out; /* HUDARIN_LEFT_OUT_.., joined by |; 0 unless the status is HUDARIN_OK or HUDARIN_ROOM */
@@ -331,12 +403,30 @@ typedef struct hudarin_node {
     uint32_t kind; /* HUDARIN_CONTAINER or HUDARIN_OBJECT; 0 unless the status is HUDARIN_OK or HUDARIN_ROOM */
 } hudarin_node;
 
-#define HUDARIN_CONTAINER 1u
-#define HUDARIN_OBJECT 2u
+typedef enum hudarin_node_kind {
+    HUDARIN_CONTAINER = 1,
+    HUDARIN_OBJECT = 2
+} hudarin_node_kind;
 
 #define HUDARIN_LEFT_OUT_SACL 0x1u
 /* The resource manager's byte, which no descriptor keeps. */
 #define HUDARIN_LEFT_OUT_MANAGER 0x2u
+
+/* The answer of hudarin_descriptor_dacl. */
+typedef struct hudarin_dacl {
+    uint32_t status;  /* HUDARIN_OK or HUDARIN_HANDLE */
+    uint32_t kind;    /* HUDARIN_DACL_ABSENT, _NULL or _LIST, else 0 */
+    uint32_t control; /* HUDARIN_DACL_PROTECTED .., joined by |, else 0 */
+    uint64_t entries; /* the number of entries of a list, else 0 */
+} hudarin_dacl;
+
+/* The answer of hudarin_descriptor_entry: its fields are 0 unless the status is HUDARIN_OK or HUDARIN_ROOM. */
+typedef struct hudarin_entry {
+    hudarin_written written;
+    uint32_t kind;  /* HUDARIN_ENTRY_ALLOW or _DENY */
+    uint32_t flags; /* HUDARIN_OBJECT_INHERIT .., joined by | */
+    uint32_t mask;
+} hudarin_entry;
 
 /* The answer of hudarin_mask_from_text. */
 typedef struct hudarin_mask {
@@ -391,6 +481,12 @@ typedef struct hudarin_library {
 /* The library's version. */
 HUDARIN_ANSWERS hudarin_library hudarin_version(void);
 
+/* What a status means, as "the tree refuses the edit"; nothing for a number that is no status. Takes no memory. */
+HUDARIN_ANSWERS hudarin_written hudarin_status_text(uint32_t status, char *room, size_t room_length);
+
+/* The name of a status' fault, as "JournalFull"; nothing where the status has no such fault. Takes no memory. */
+HUDARIN_ANSWERS hudarin_written hudarin_fault_name(uint32_t status, uint32_t fault, char *room, size_t room_length);
+
 /* Whether all that was requested is granted. Testing only this never admits a user who wasn't granted access (fail
  * closed). */
 static inline int hudarin_is_granted(hudarin_verdict answer)
@@ -422,21 +518,39 @@ HUDARIN_ANSWERS hudarin_verdict hudarin_check(const void *descriptor, size_t des
                                               const void *restricting, size_t restricting_length,
                                               uint32_t privileges, hudarin_mapping mapping, uint32_t asked);
 
+/* The same for a token in its parts. */
+static inline HUDARIN_ANSWERS hudarin_verdict hudarin_check_parts(const void *descriptor, size_t descriptor_length,
+                                                                  const hudarin_token_parts *token,
+                                                                  hudarin_mapping mapping, uint32_t asked)
+{
+    return hudarin_check(descriptor, descriptor_length, token->user, token->user_length, token->groups,
+                         token->groups_length, token->states, token->state_count, token->restricting,
+                         token->restricting_length, token->privileges, mapping, asked);
+}
+
 /* ---- Descriptors. A text is UTF-8 and not zero-terminated, both as an argument and as a result. */
 
 /* The self-relative form of the descriptor that the SDDL text spells. */
-HUDARIN_ANSWERS hudarin_written hudarin_sddl_to_bytes(const char *text, size_t text_length, void *room, size_t room_length);
+HUDARIN_ANSWERS hudarin_written hudarin_sddl_to_bytes(const char *text, size_t text_length, void *room,
+                                                      size_t room_length);
 
 /* The same, with the aliases of a domain's accounts and groups, such as DA and DU: those of the domain whose SID is
  * at the front of `domain`. Without a domain they are HUDARIN_TEXT_DOMAIN_ALIAS. */
-HUDARIN_ANSWERS hudarin_written hudarin_sddl_to_bytes_in(const void *domain, size_t domain_length, const char *text, size_t text_length,
-                                                         void *room, size_t room_length);
+HUDARIN_ANSWERS hudarin_written hudarin_sddl_to_bytes_in(const void *domain, size_t domain_length, const char *text,
+                                                         size_t text_length, void *room, size_t room_length);
+
+/* The same without its SACL, which no descriptor keeps and the two calls above refuse. If `domain_length` is 0 there is
+ * no domain. */
+HUDARIN_ANSWERS hudarin_trimmed hudarin_sddl_trim(const void *domain, size_t domain_length, const char *text,
+                                                  size_t text_length, void *room, size_t room_length);
 
 /* The canonical SDDL text of the descriptor at the front of the bytes. */
-HUDARIN_ANSWERS hudarin_written hudarin_bytes_to_sddl(const void *bytes, size_t bytes_length, char *room, size_t room_length);
+HUDARIN_ANSWERS hudarin_written hudarin_bytes_to_sddl(const void *bytes, size_t bytes_length, char *room,
+                                                      size_t room_length);
 
 /* The canonical SDDL text of the descriptor that the SDDL text spells. */
-HUDARIN_ANSWERS hudarin_written hudarin_sddl_canonical(const char *text, size_t text_length, char *room, size_t room_length);
+HUDARIN_ANSWERS hudarin_written hudarin_sddl_canonical(const char *text, size_t text_length, char *room,
+                                                       size_t room_length);
 
 /* The length of the descriptor at the front of the bytes: up to the end of its last part. */
 HUDARIN_ANSWERS hudarin_written hudarin_descriptor_length(const void *bytes, size_t bytes_length);
@@ -444,20 +558,26 @@ HUDARIN_ANSWERS hudarin_written hudarin_descriptor_length(const void *bytes, siz
 /* The one self-relative form of the descriptor whose header is at the offset `place` of a blob from whose front its
  * offsets count, as in Samba's security.NTACL. If `leaves_sacl` is 0 a SACL is HUDARIN_WIRE_HAS_SACL, else it is left
  * out. */
-HUDARIN_ANSWERS hudarin_trimmed hudarin_descriptor_trim(const void *blob, size_t blob_length, uint64_t place, uint32_t leaves_sacl,
-                                                        void *room, size_t room_length);
+HUDARIN_ANSWERS hudarin_trimmed hudarin_descriptor_trim(const void *blob, size_t blob_length, uint64_t place,
+                                                        uint32_t leaves_sacl, void *room, size_t room_length);
 
 /* ---- SIDs and masks */
 
 /* The bytes of the SID that the text spells, in full or by an alias of two letters. */
-HUDARIN_ANSWERS hudarin_written hudarin_sid_text_to_bytes(const char *text, size_t text_length, void *room, size_t room_length);
+HUDARIN_ANSWERS hudarin_written hudarin_sid_text_to_bytes(const char *text, size_t text_length, void *room,
+                                                          size_t room_length);
 
 /* The same, also for the aliases of the domain whose SID is at the front of `domain`. */
 HUDARIN_ANSWERS hudarin_written hudarin_sid_text_to_bytes_in(const void *domain, size_t domain_length, const char *text,
                                                              size_t text_length, void *room, size_t room_length);
 
 /* The text of the SID at the front of the bytes: its alias if it has one, else in full. */
-HUDARIN_ANSWERS hudarin_written hudarin_sid_bytes_to_text(const void *bytes, size_t bytes_length, char *room, size_t room_length);
+HUDARIN_ANSWERS hudarin_written hudarin_sid_bytes_to_text(const void *bytes, size_t bytes_length, char *room,
+                                                          size_t room_length);
+
+/* The same text in full, though the SID may have an alias. */
+HUDARIN_ANSWERS hudarin_written hudarin_sid_bytes_to_full_text(const void *bytes, size_t bytes_length, char *room,
+                                                               size_t room_length);
 
 /* The mask that the text spells: a number, or names of rights. */
 HUDARIN_ANSWERS hudarin_mask hudarin_mask_from_text(const char *text, size_t text_length);
@@ -469,7 +589,8 @@ HUDARIN_ANSWERS hudarin_written hudarin_keep_sddl(const char *text, size_t text_
     HUDARIN_NONNULL(3);
 
 /* Keeps the descriptor at the front of the bytes. The answer's `length` is 0. */
-HUDARIN_ANSWERS hudarin_written hudarin_keep_bytes(const void *bytes, size_t bytes_length, hudarin_descriptor *descriptor)
+HUDARIN_ANSWERS hudarin_written hudarin_keep_bytes(const void *bytes, size_t bytes_length,
+                                                   hudarin_descriptor *descriptor)
     HUDARIN_NONNULL(3);
 
 /* Keeps the token of a user, groups with their states, restricting SIDs, and privileges, parsed as by hudarin_check.
@@ -481,23 +602,55 @@ HUDARIN_ANSWERS hudarin_verdict hudarin_keep_token(const void *user, size_t user
                                                    uint32_t privileges, hudarin_token *token)
     HUDARIN_NONNULL(10);
 
+/* The same for a token in its parts. */
+static inline HUDARIN_ANSWERS hudarin_verdict hudarin_keep_parts(const hudarin_token_parts *parts, hudarin_token *token)
+{
+    return hudarin_keep_token(parts->user, parts->user_length, parts->groups, parts->groups_length, parts->states,
+                              parts->state_count, parts->restricting, parts->restricting_length, parts->privileges,
+                              token);
+}
+
+/* The bytes of a kept descriptor's owner. HUDARIN_NO_PART if it has none. */
+HUDARIN_ANSWERS hudarin_written hudarin_descriptor_owner(hudarin_descriptor *descriptor, void *room, size_t room_length)
+    HUDARIN_NONNULL(1);
+
+/* The same of its group. */
+HUDARIN_ANSWERS hudarin_written hudarin_descriptor_group(hudarin_descriptor *descriptor, void *room, size_t room_length)
+    HUDARIN_NONNULL(1);
+
+/* The kind of a kept descriptor's DACL, its control bits, and the number of its entries. Takes no memory. */
+HUDARIN_ANSWERS hudarin_dacl hudarin_descriptor_dacl(hudarin_descriptor *descriptor)
+    HUDARIN_NONNULL(1);
+
+/* The entry at the index, from 0: its kind, flags and mask, and in the buffer its SID's bytes. HUDARIN_NO_PART after
+ * the last one, and if there is no list. */
+HUDARIN_ANSWERS hudarin_entry hudarin_descriptor_entry(hudarin_descriptor *descriptor, uint64_t index, void *room,
+                                                       size_t room_length)
+    HUDARIN_NONNULL(1);
+
+/* The bytes of the SID by which the entry at the index applies to a token, as in hudarin_explain: its own, but for
+ * OWNER RIGHTS (S-1-3-4) the descriptor's owner. HUDARIN_NO_PART if there is no entry, or for OWNER RIGHTS no owner. */
+HUDARIN_ANSWERS hudarin_written hudarin_descriptor_subject(hudarin_descriptor *descriptor, uint64_t index, void *room,
+                                                           size_t room_length)
+    HUDARIN_NONNULL(1);
+
 /* The verdict on `asked`, for a kept descriptor and a kept token, which stay. Takes no memory. */
-HUDARIN_ANSWERS hudarin_verdict hudarin_check_kept(hudarin_descriptor *descriptor, hudarin_token *token, hudarin_mapping mapping,
-                                                   uint32_t asked)
+HUDARIN_ANSWERS hudarin_verdict hudarin_check_kept(hudarin_descriptor *descriptor, hudarin_token *token,
+                                                   hudarin_mapping mapping, uint32_t asked)
     HUDARIN_NONNULL(1, 2);
 
 /* The verdict on `asked`, for the self-relative descriptor at the front of the bytes and a kept token, which stays:
  * what hudarin_keep_bytes and then hudarin_check_kept answer. The token's handle is tested first, then the mapping,
  * then the bytes. Takes no memory. */
-HUDARIN_ANSWERS hudarin_verdict hudarin_check_bytes(const void *descriptor, size_t descriptor_length, hudarin_token *token,
-                                                    hudarin_mapping mapping, uint32_t asked)
+HUDARIN_ANSWERS hudarin_verdict hudarin_check_bytes(const void *descriptor, size_t descriptor_length,
+                                                    hudarin_token *token, hudarin_mapping mapping, uint32_t asked)
     HUDARIN_NONNULL(3);
 
 /* The reasons for hudarin_check_kept's verdict: each bit of the mapped request is in one part, with MAXIMUM_ALLOWED
  * each bit of 0x001fffff too, and the verdict follows from the parts. There are no parts unless the status is
  * HUDARIN_OK. Takes no memory. */
-HUDARIN_ANSWERS hudarin_explanation hudarin_explain(hudarin_descriptor *descriptor, hudarin_token *token, hudarin_mapping mapping,
-                                                    uint32_t asked)
+HUDARIN_ANSWERS hudarin_explanation hudarin_explain(hudarin_descriptor *descriptor, hudarin_token *token,
+                                                    hudarin_mapping mapping, uint32_t asked)
     HUDARIN_NONNULL(1, 2);
 
 /* Makes `other` another handle of what `handle` keeps, as for another thread: nothing is copied, and the object is
@@ -507,7 +660,8 @@ HUDARIN_ANSWERS hudarin_written hudarin_share(hudarin_kept *handle, hudarin_kept
     HUDARIN_NONNULL(1, 2);
 
 /* Another handle of a descriptor. */
-static inline HUDARIN_ANSWERS hudarin_written hudarin_descriptor_share(hudarin_descriptor *handle, hudarin_descriptor *other)
+static inline HUDARIN_ANSWERS hudarin_written hudarin_descriptor_share(hudarin_descriptor *handle,
+                                                                       hudarin_descriptor *other)
 {
     return hudarin_share(&handle->kept, &other->kept);
 }
@@ -530,35 +684,39 @@ static inline HUDARIN_ANSWERS hudarin_written hudarin_view_share(hudarin_view *h
 
 /* The edits, and the value of each. */
 
-/* Adds a container or an object at the path: a self-relative descriptor with an owner, a group and its own DACL. */
-#define HUDARIN_EDIT_ADD_CONTAINER 1u
-#define HUDARIN_EDIT_ADD_OBJECT 2u
-/* Sets the node's owner or group: a SID. */
-#define HUDARIN_EDIT_SET_OWNER 3u
-#define HUDARIN_EDIT_SET_GROUP 4u
-/* Sets the node's own DACL: a self-relative descriptor without an owner and a group. */
-#define HUDARIN_EDIT_SET_DACL 5u
-/* Removes a node without children: no value, and any other length than 0 is HUDARIN_EDIT. */
-#define HUDARIN_EDIT_REMOVE 6u
-/* Protects the node, and makes what it had inherited its own: no value, and any other length than 0 is HUDARIN_EDIT. */
-#define HUDARIN_EDIT_PROTECT_KEEPING 7u
-/* Moves the node and all below it to a free path: that path. */
-#define HUDARIN_EDIT_MOVE 8u
+typedef enum hudarin_edit {
+    /* Adds a container or an object at the path: a self-relative descriptor with an owner, a group and its own DACL. */
+    HUDARIN_EDIT_ADD_CONTAINER = 1,
+    HUDARIN_EDIT_ADD_OBJECT = 2,
+    /* Sets the node's owner or group: a SID. */
+    HUDARIN_EDIT_SET_OWNER = 3,
+    HUDARIN_EDIT_SET_GROUP = 4,
+    /* Sets the node's own DACL: a self-relative descriptor without an owner and a group. */
+    HUDARIN_EDIT_SET_DACL = 5,
+    /* Removes a node without children: no value, and any other length than 0 is HUDARIN_EDIT. */
+    HUDARIN_EDIT_REMOVE = 6,
+    /* Protects the node, and makes what it had inherited its own: no value, and any other length than 0 is
+     * HUDARIN_EDIT. */
+    HUDARIN_EDIT_PROTECT_KEEPING = 7,
+    /* Moves the node and all below it to a free path: that path. */
+    HUDARIN_EDIT_MOVE = 8
+} hudarin_edit;
 
 /* Opens a store whose tree is the root alone: a container with the descriptor's owner, group and own DACL. The
  * mapping is that of all nodes. With HUDARIN_OK the answer's `kind` and `mask` are 0. */
-HUDARIN_ANSWERS hudarin_verdict hudarin_store_open(const void *root, size_t root_length, hudarin_mapping mapping, hudarin_store *store)
+HUDARIN_ANSWERS hudarin_verdict hudarin_store_open(const void *root, size_t root_length, hudarin_mapping mapping,
+                                                   hudarin_store *store)
     HUDARIN_NONNULL(4);
 
 /* Makes an edit: HUDARIN_EDIT_.., the path of its node, and its value. It joins the store's journal, and is in no
  * view before the next publish. Unless the status is HUDARIN_OK nothing has changed. */
-HUDARIN_ANSWERS hudarin_verdict hudarin_store_edit(hudarin_store *store, uint32_t edit, const char *path, size_t path_length,
-                                                   const void *value, size_t value_length)
+HUDARIN_ANSWERS hudarin_verdict hudarin_store_edit(hudarin_store *store, uint32_t edit, const char *path,
+                                                   size_t path_length, const void *value, size_t value_length)
     HUDARIN_NONNULL(1);
 
 /* What hudarin_store_edit would answer to the same arguments; nothing changes. */
-HUDARIN_ANSWERS hudarin_verdict hudarin_store_judge(hudarin_store *store, uint32_t edit, const char *path, size_t path_length,
-                                                    const void *value, size_t value_length)
+HUDARIN_ANSWERS hudarin_verdict hudarin_store_judge(hudarin_store *store, uint32_t edit, const char *path,
+                                                    size_t path_length, const void *value, size_t value_length)
     HUDARIN_NONNULL(1);
 
 /* Makes `view` the store's tree with all its edits, which never changes again; `length` is the number of edits. */
@@ -577,18 +735,19 @@ HUDARIN_ANSWERS hudarin_written hudarin_journal_length(hudarin_kept *store_or_vi
 
 /* The verdict on `asked`, for the path's node in the view's tree, and the number of that tree's edits. Takes memory
  * for the path. HUDARIN_NO_NODE if there is no node. */
-HUDARIN_ANSWERS hudarin_view_verdict hudarin_view_check(hudarin_view *view, const char *path, size_t path_length, hudarin_token *token,
-                                                        uint32_t asked)
+HUDARIN_ANSWERS hudarin_view_verdict hudarin_view_check(hudarin_view *view, const char *path, size_t path_length,
+                                                        hudarin_token *token, uint32_t asked)
     HUDARIN_NONNULL(1, 4);
 
 /* The self-relative form of the descriptor of the path's node, with the entries that it inherits. */
-HUDARIN_ANSWERS hudarin_written hudarin_view_descriptor(hudarin_view *view, const char *path, size_t path_length, void *room,
-                                                        size_t room_length)
+HUDARIN_ANSWERS hudarin_written hudarin_view_descriptor(hudarin_view *view, const char *path, size_t path_length,
+                                                        void *room, size_t room_length)
     HUDARIN_NONNULL(1);
 
 /* What the path's node was given, without what it inherits: the self-relative form of a descriptor with its owner,
  * its group and its own DACL, the value of an edit that adds it; and its kind. */
-HUDARIN_ANSWERS hudarin_node hudarin_view_own(hudarin_view *view, const char *path, size_t path_length, void *room, size_t room_length)
+HUDARIN_ANSWERS hudarin_node hudarin_view_own(hudarin_view *view, const char *path, size_t path_length, void *room,
+                                              size_t room_length)
     HUDARIN_NONNULL(1);
 
 /* The path of the node at this index in path order, and its kind: the root is at 0, and each node at one index, after

@@ -32,6 +32,8 @@ class Header:
 _PIECE = re.compile(
     r"/\*(?P<comment>.*?)\*/"
     r"|#define (?P<constant>HUDARIN_[A-Z0-9_]+) (?P<value>[^\n]*)"
+    r"|\n    (?P<enumerator>HUDARIN_[A-Z0-9_]+) = (?P<number>[0-9]+)"
+    r"|\n} (?P<enum>\w+);"
     r"|typedef struct \w+ (?P<hidden>\w+);"
     r"|typedef struct \w+ \{\n(?P<fields>.*?)\n\} (?P<type>\w+);"
     r"|(?P<inline>static inline )?(?P<call>(?:HUDARIN_ANSWERS )?(?:const )?[a-z_0-9]+ \*?"
@@ -69,9 +71,14 @@ def read_header(text: str) -> Header:
         if found["constant"] and found["constant"] != "HUDARIN_ANSWERS":
             line = "%s %s" % (found["constant"], found["value"])
             header.sections[-1].constants.append(Item(found["constant"], [line], comment))
+        elif found["enumerator"]:
+            line = "%s %s" % (found["enumerator"], found["number"])
+            header.sections[-1].constants.append(Item(found["enumerator"], [line], comment))
         elif found["type"]:
             fields = [each.strip() for each in found["fields"].splitlines()]
             header.types.append(Item(found["type"], fields, comment))
+        elif found["enum"]:
+            header.types.append(Item(found["enum"], ["enum " + found["enum"]], comment))
         elif found["hidden"]:
             header.types.append(Item(found["hidden"], ["struct " + found["hidden"]], comment))
         elif found["name"]:

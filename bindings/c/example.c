@@ -18,13 +18,40 @@ static size_t sid(const char *text, unsigned char *room)
     return answer.status == HUDARIN_OK ? (size_t)answer.length : 0;
 }
 
+/* What a status and a fault mean, and where. */
+static void refused(const char *what, uint32_t status, uint32_t fault, uint64_t place)
+{
+    char text[HUDARIN_MEANING_BYTES];
+    hudarin_written said = hudarin_status_text(status, text, sizeof text);
+    printf("%s: %.*s", what, (int)said.length, text);
+    said = hudarin_fault_name(status, fault, text, sizeof text);
+    printf("%s%.*s at %" PRIu64 "\n", said.length > 0 ? ", " : "", (int)said.length, text, place);
+}
+
 static void show(const char *what, hudarin_verdict answer)
 {
     if (answer.status == HUDARIN_OK) {
         printf("%s: %s 0x%" PRIx32 "\n", what, verdicts[answer.kind], answer.mask);
     } else {
-        printf("%s: status %" PRIu32 ", argument %" PRIu32 ", fault %" PRIu32 ", place %" PRIu64 "\n", what,
-               answer.status, answer.argument, answer.fault, answer.place);
+        printf("argument %" PRIu32 ", ", answer.argument);
+        refused(what, answer.status, answer.fault, answer.place);
+    }
+}
+
+/* The entries of a kept descriptor, until there is none. */
+static void list(hudarin_descriptor *descriptor)
+{
+    unsigned char bytes[HUDARIN_SID_BYTES];
+    char text[HUDARIN_SID_TEXT_BYTES];
+    uint64_t index;
+    for (index = 0;; index++) {
+        hudarin_entry entry = hudarin_descriptor_entry(descriptor, index, bytes, sizeof bytes);
+        hudarin_written sid = hudarin_sid_bytes_to_full_text(bytes, (size_t)entry.written.length, text, sizeof text);
+        if (entry.written.status != HUDARIN_OK || sid.status != HUDARIN_OK) {
+            return;
+        }
+        printf("%s 0x%" PRIx32 " to %.*s\n", entry.kind == HUDARIN_ENTRY_DENY ? "denies" : "allows", entry.mask,
+               (int)sid.length, text);
     }
 }
 
@@ -36,7 +63,7 @@ int main(void)
     unsigned char user[HUDARIN_SID_BYTES], groups[2 * HUDARIN_SID_BYTES];
     uint32_t states[] = { HUDARIN_GROUP_ENABLED, HUDARIN_GROUP_DENY_ONLY };
     char text[100];
-    size_t user_length, groups_length;
+    size_t groups_length;
     hudarin_descriptor kept = HUDARIN_NOTHING;
     hudarin_token token = HUDARIN_NOTHING;
     hudarin_written answer;
@@ -49,33 +76,34 @@ int main(void)
     answer = hudarin_bytes_to_sddl(descriptor, length, text, sizeof text);
     printf("text: %.*s\n", (int)answer.length, text);
 
-    user_length = sid("S-1-5-21-1-2-3-1001", user);
     groups_length = sid("BU", groups);
     groups_length += sid("BA", groups + groups_length);
+    hudarin_token_parts parts = { .user = user, .user_length = sid("S-1-5-21-1-2-3-1001", user), .groups = groups,
+                                  .groups_length = groups_length, .states = states, .state_count = 2 };
+    hudarin_token_parts alone = { .user = user, .user_length = parts.user_length };
 
-    show("read", hudarin_check(descriptor, length, user, user_length, groups, groups_length, states, 2, NULL, 0, 0, files, 0x1));
-    show("write", hudarin_check(descriptor, length, user, user_length, groups, groups_length, states, 2, NULL, 0, 0, files, 0x2));
-    show("all that is granted",
-         hudarin_check(descriptor, length, user, user_length, groups, groups_length, states, 2, NULL, 0, 0, files, 0x02000000));
+    show("read", hudarin_check_parts(descriptor, length, &parts, files, 0x1));
+    show("write", hudarin_check_parts(descriptor, length, &parts, files, 0x2));
+    show("all that is granted", hudarin_check_parts(descriptor, length, &parts, files, HUDARIN_MAXIMUM_ALLOWED));
 
     asked = hudarin_mask_from_text("GR", 2);
-    show("GR, as nobody's friend",
-         hudarin_check(descriptor, length, user, user_length, NULL, 0, NULL, 0, NULL, 0, 0, files, asked.mask));
+    show("GR, without groups", hudarin_check_parts(descriptor, length, &alone, files, asked.mask));
 
-    /* What isn't read is told, and nothing is written. */
-    show("a descriptor that ends too soon",
-         hudarin_check(descriptor, length - 1, user, user_length, groups, groups_length, states, 2, NULL, 0, 0, files, 0x1));
-    show("a group without a state",
-         hudarin_check(descriptor, length, user, user_length, groups, groups_length, states, 1, NULL, 0, 0, files, 0x1));
+    /* A refusal says why, and nothing is written. */
+    show("a descriptor that ends too soon", hudarin_check_parts(descriptor, length - 1, &parts, files, 0x1));
+    parts.state_count = 1;
+    show("a group without a state", hudarin_check_parts(descriptor, length, &parts, files, 0x1));
+    parts.state_count = 2;
     answer = hudarin_sddl_to_bytes("D:(A;;FA;;;DA)", 14, descriptor, sizeof descriptor);
-    printf("a domain's alias: status %" PRIu32 ", fault %" PRIu32 " at %" PRIu64 "\n", answer.status, answer.fault, answer.place);
+    refused("a domain's alias", answer.status, answer.fault, answer.place);
     answer = hudarin_bytes_to_sddl(descriptor, length, text, 10);
-    printf("a small room: status %" PRIu32 ", %" PRIu64 " bytes are wanted\n", answer.status, answer.length);
+    printf("a small buffer: %" PRIu64 " bytes are required\n", answer.length);
 
-    /* Who asks often reads once, and keeps what was read. */
+    /* To check often, parse once. */
     answer = hudarin_keep_sddl(sddl, sizeof sddl - 1, &kept);
     printf("kept: status %" PRIu32 "\n", answer.status);
-    hudarin_verdict made = hudarin_keep_token(user, user_length, groups, groups_length, states, 2, NULL, 0, 0, &token);
+    list(&kept);
+    hudarin_verdict made = hudarin_keep_parts(&parts, &token);
     if (made.status != HUDARIN_OK) {
         show("a token", made);
     }

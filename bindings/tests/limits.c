@@ -19,6 +19,7 @@ static const struct call calls[] = {
     { "sddl_canonical", NULL, NULL, hudarin_sddl_canonical },
     { "sid_text_to_bytes", NULL, hudarin_sid_text_to_bytes, NULL },
     { "sid_bytes_to_text", hudarin_sid_bytes_to_text, NULL, NULL },
+    { "sid_bytes_to_full_text", hudarin_sid_bytes_to_full_text, NULL, NULL },
 };
 
 static hudarin_written made(const struct call *call, const void *given, size_t length, unsigned char *room, size_t room_length)
@@ -89,11 +90,13 @@ static void writing(void)
     rooms(&calls[3], "s-1-5-21-1-2-3-1001", 19, user, sizeof user);
     rooms(&calls[4], user, sizeof user, "S-1-5-21-1-2-3-1001", 19);
     rooms(&calls[4], everyone, sizeof everyone, "WD", 2);
+    rooms(&calls[5], everyone, sizeof everyone, "S-1-1-0", 7);
     greatest(&calls[0], worked_text, sizeof worked_text - 1, sizeof worked);
     greatest(&calls[1], worked, sizeof worked, sizeof worked_text - 1);
     greatest(&calls[2], worked_text, sizeof worked_text - 1, sizeof worked_text - 1);
     greatest(&calls[3], "S-1-5-21-1-2-3-1001", 19, sizeof user);
     greatest(&calls[4], user, sizeof user, 19);
+    greatest(&calls[5], everyone, sizeof everyone, 7);
 }
 
 static void refusals(void)
@@ -112,6 +115,7 @@ static void refusals(void)
     refused(&calls[3], "WD\xc0\xaf", 4, HUDARIN_UTF8, 0, 2);
     refused(&calls[3], "", 0, HUDARIN_TEXT, HUDARIN_TEXT_SYNTAX, 0);
     refused(&calls[4], "", 0, HUDARIN_SID, HUDARIN_SID_SHORT, 0);
+    refused(&calls[5], "", 0, HUDARIN_SID, HUDARIN_SID_SHORT, 0);
     refused(&calls[4], "\2\1\0\0\0\0\0\5\1\0\0\0", 12, HUDARIN_SID, HUDARIN_SID_REVISION, 0);
     refused(&calls[4], "\1\0\0\0\0\0\0\5", 8, HUDARIN_SID, HUDARIN_SID_COUNT, 0);
     refused(&calls[1], "", 0, HUDARIN_WIRE, HUDARIN_WIRE_SHORT, 0);

@@ -45,7 +45,11 @@ void __wrap_free(void *block)
     __real_free(block);
 }
 
-enum call { TO_BYTES, TO_SDDL, CANONICAL, LENGTH, SID_BYTES, SID_TEXT, CHECK, KEEP_SDDL, KEEP_BYTES, KEEP_TOKEN, SHARE };
+/* The last five keep something or check. */
+enum call {
+    TO_BYTES, TRIM_TEXT, TO_SDDL, CANONICAL, LENGTH, SID_BYTES, SID_TEXT, FULL_TEXT, OWNER, ENTRY, SUBJECT,
+    CHECK, KEEP_SDDL, KEEP_BYTES, KEEP_TOKEN, SHARE
+};
 
 /* A call, what it is given, and what it answers: what it writes, NULL where that isn't looked at, and how much; a fault of a
  * text and its place. Bytes are told in hexadecimal digits, given and written. */
@@ -92,6 +96,12 @@ static const row rows[] = {
     { SID_BYTES, LONGEST_SID, "010fffffffffffff" FIFTEEN("ffffffff"), 68, 0, 0 },
     { SID_BYTES, TOO_LONG_SID, NULL, 0, HUDARIN_TEXT_RANGE, 36 },
     { SID_TEXT, LONGEST_SID, LONGEST_SID, sizeof LONGEST_SID - 1, 0, 0 },
+    { FULL_TEXT, "BU", "S-1-5-32-545", 12, 0, 0 },
+    { TRIM_TEXT, ROW_1 "S:(AU;SA;FA;;;WD)", row_1, 76, 0, 0 },
+    { TRIM_TEXT, ROW_1 "S:(A;;FA;;;WD)", NULL, 0, HUDARIN_TEXT_ENTRY_KIND, 25 },
+    { OWNER, CHECKED, "01020000000000052000000020020000", 16, 0, 0 },
+    { ENTRY, CHECKED, "010100000000000100000000", 12, 0, 0 },
+    { SUBJECT, CHECKED, "010100000000000100000000", 12, 0, 0 },
     { CHECK, CHECKED, NULL, 0, 0, 0 },
     { KEEP_SDDL, CHECKED, NULL, 0, 0, 0 },
     { KEEP_SDDL, "O:DA", NULL, 0, HUDARIN_TEXT_DOMAIN_ALIAS, 2 },
@@ -159,6 +169,11 @@ static void made(const row *row, outcome *it)
     case LENGTH: written(it, hudarin_descriptor_length(lent.bytes, lent.length)); break;
     case SID_BYTES: written(it, hudarin_sid_text_to_bytes(row->text, text, it->room, room)); break;
     case SID_TEXT: written(it, hudarin_sid_bytes_to_text(lent.bytes, lent.length, chars, room)); break;
+    case FULL_TEXT: written(it, hudarin_sid_bytes_to_full_text(lent.bytes, lent.length, chars, room)); break;
+    case TRIM_TEXT: written(it, hudarin_sddl_trim(NULL, 0, row->text, text, it->room, room).written); break;
+    case OWNER: written(it, hudarin_descriptor_owner(&descriptor, it->room, room)); break;
+    case ENTRY: written(it, hudarin_descriptor_entry(&descriptor, 1, it->room, room).written); break;
+    case SUBJECT: written(it, hudarin_descriptor_subject(&descriptor, 1, it->room, room)); break;
     case CHECK:
         judged(it, hudarin_check(lent.bytes, lent.length, lent.user, lent.user_length, lent.groups, lent.groups_length, states, 2,
                                  NULL, 0, 0, files, 0x80000000u));
@@ -211,7 +226,7 @@ static int is_wanted(const row *row, const outcome *it)
     if (row->wanted == NULL) {
         return 1;
     }
-    if (row->call == TO_BYTES || row->call == SID_BYTES) {
+    if (row->call != TO_SDDL && row->call != CANONICAL && row->call != SID_TEXT && row->call != FULL_TEXT) {
         return bytes_of(row->wanted, bytes) == it->length && same(it->room, bytes, (size_t)it->length);
     }
     return strlen(row->wanted) == it->length && same(it->room, row->wanted, (size_t)it->length);
@@ -262,14 +277,14 @@ static void lend(const row *row)
     size_t digits = strlen(row->text);
     if (row->call == TO_SDDL || row->call == LENGTH) {
         lent.length = bytes_of(row->text, lent.bytes);
-    } else if (row->call == SID_TEXT) {
+    } else if (row->call == SID_TEXT || row->call == FULL_TEXT) {
         lent.length = (size_t)hudarin_sid_text_to_bytes(row->text, digits, lent.bytes, sizeof lent.bytes).length;
     } else {
         lent.length = (size_t)hudarin_sddl_to_bytes(CHECKED, sizeof CHECKED - 1, lent.bytes, sizeof lent.bytes).length;
     }
 }
 
-/* With no memory at all these four answer as ever, time and again. */
+/* With no memory at all these answer as ever, time and again. */
 static void takes_none(void)
 {
     static unsigned char bytes[HUDARIN_DESCRIPTOR_BYTES];
@@ -286,6 +301,9 @@ static void takes_none(void)
         verdict = hudarin_explain(&descriptor, &token, files, 0x80000000u).answer;
         HOLDS(verdict.status == HUDARIN_OK && verdict.kind == HUDARIN_DENIED && verdict.mask == 1);
         HOLDS(hudarin_mask_from_text("RCSD", 4).mask == 0x30000u);
+        HOLDS(hudarin_descriptor_dacl(&descriptor).entries == 3);
+        HOLDS(hudarin_status_text(HUDARIN_MEMORY, (char *)bytes + length, 13).length == 13);
+        HOLDS(hudarin_fault_name(HUDARIN_SID, HUDARIN_SID_SHORT, (char *)bytes + length, 5).length == 5);
     }
     HOLDS(!was_refused);
     granted = -1;

@@ -20,9 +20,10 @@ verdict_given (Denied missing) = given 2 missing
 verdict_given (Reserved mask) = given 3 mask
 verdict_given EmptyRequest = given 4 0
 
--- an argument isn't read: why, which, the fault's number, and of groups, states and restricting SIDs the index
+-- an invalid argument: why, which, the fault's number, and of groups, states and restricting SIDs the index
 abbrev pub unread : ℕ → ℕ → ℕ → ℕ → CheckAnswer
-unread status argument fault place = record { status = status; argument = argument; fault = fault; kind = 0; place = place; mask = 0 }
+unread status argument fault place =
+    record { status = status; argument = argument; fault = fault; kind = 0; place = place; mask = 0 }
 
 abbrev pub not_read : NotRead → CheckAnswer
 not_read (Descriptor fault) = unread 5 1 (wire_fault_number fault) 0
@@ -36,11 +37,11 @@ not_read MappingBits = unread 10 7 0 0
 not_read DescriptorHandle = unread 11 1 0 0
 not_read TokenHandle = unread 11 8 0 0
 
--- memory ran out
+-- out of memory
 abbrev pub check_memory : CheckAnswer
 check_memory = unread 1 0 0 0
 
--- the verdict on what was read, or why it wasn't
+-- the verdict on the parsed arguments, or which one is invalid
 abbrev pub check_answer : Result RequestValue NotRead → ℕ → CheckAnswer
 check_answer (Ok r) asked = verdict_given (verdict_of r asked)
 check_answer (Err why) asked = not_read why

@@ -1,4 +1,4 @@
--- What the arguments of an edit are read as.
+-- What the arguments of an edit are parsed as.
 use Rattle.std.specs.Prelude.{◌≡◌, ◌⊎◌, ℕ, ◌<◌, Bool, false, List, [], length, Some, None, IsSome, Ok, Err, IsOkAnd}
 use Rattle.sd_sid.specs.Sid.{SidValue}
 use Rattle.sd_sid.specs.SidBytes.{sid_reading}
@@ -28,7 +28,8 @@ own_dacl protected (dacls.List entries) = Entries protected entries
 -- the bytes hold a descriptor with an owner and a group, which gives a node these
 abbrev pub IsNode : List ℕ → SidValue → SidValue → NodeDacl → Type 0
 IsNode bytes owner group dacl =
-    (d : DescriptorValue) × (descriptor_read bytes ≡ Ok d) × (d.owner ≡ Some owner) × (d.group ≡ Some group) × (dacl ≡ own_dacl d.protected d.dacl)
+    (d : DescriptorValue) × (descriptor_read bytes ≡ Ok d) × (d.owner ≡ Some owner) × (d.group ≡ Some group)
+    × (dacl ≡ own_dacl d.protected d.dacl)
 
 -- the bytes hold a descriptor with an owner and a group
 abbrev pub HasNode : List ℕ → Type 0
@@ -37,16 +38,19 @@ HasNode bytes = (owner : SidValue) × (group : SidValue) × (dacl : NodeDacl) ×
 -- the bytes hold a descriptor with neither, which gives a node this DACL
 abbrev pub IsDacl : List ℕ → NodeDacl → Type 0
 IsDacl bytes dacl =
-    (d : DescriptorValue) × (descriptor_read bytes ≡ Ok d) × (d.owner ≡ None) × (d.group ≡ None) × (dacl ≡ own_dacl d.protected d.dacl)
+    (d : DescriptorValue) × (descriptor_read bytes ≡ Ok d) × (d.owner ≡ None) × (d.group ≡ None)
+    × (dacl ≡ own_dacl d.protected d.dacl)
 
--- a SID stands at the front of the bytes
+-- a SID is at the front of the bytes
 abbrev pub IsSid : List ℕ → SidValue → Type 0
 IsSid bytes sid = (n : ℕ) × (sid_reading bytes ≡ Ok (sid, n))
 
--- the number, the path and the value say this edit
+-- the number, the path and the value are those of this edit
 abbrev pub IsEdit : ℕ → List ℕ → List ℕ → Edit → Type 0
-IsEdit kind path value (AddContainer at owner group dacl) = (kind ≡ 1) × (path_of path ≡ Ok at) × IsNode value owner group dacl
-IsEdit kind path value (AddObject at owner group dacl) = (kind ≡ 2) × (path_of path ≡ Ok at) × IsNode value owner group dacl
+IsEdit kind path value (AddContainer at owner group dacl) =
+    (kind ≡ 1) × (path_of path ≡ Ok at) × IsNode value owner group dacl
+IsEdit kind path value (AddObject at owner group dacl) =
+    (kind ≡ 2) × (path_of path ≡ Ok at) × IsNode value owner group dacl
 IsEdit kind path value (SetOwner at owner) = (kind ≡ 3) × (path_of path ≡ Ok at) × IsSid value owner
 IsEdit kind path value (SetGroup at group) = (kind ≡ 4) × (path_of path ≡ Ok at) × IsSid value group
 IsEdit kind path value (SetDacl at dacl) = (kind ≡ 5) × (path_of path ≡ Ok at) × IsDacl value dacl
@@ -66,7 +70,8 @@ HasTrustee bytes = (d : DescriptorValue) × (descriptor_read bytes ≡ Ok d) × 
 abbrev pub IsNoKind : ℕ → List ℕ → Type 0
 IsNoKind kind value = (kind ≡ 0) ⊎ (8 < kind) ⊎ (((kind ≡ 6) ⊎ (kind ≡ 7)) × (0 < length value))
 
--- why they say none, part by part; memory runs out only for a part that takes some: the root's path and a SID take none
+-- why they are those of none, part by part; out of memory only for a part that takes some: the root's path and a SID
+-- take none
 abbrev pub IsNoPath : PathArgument → List ℕ → NotDone → Type 0
 IsNoPath given bytes reasons.Memory = IsOkAnd (path_of bytes) (λ path. is_root path ≡ false)
 IsNoPath given bytes reasons.StoreHandle = ⊥
@@ -142,7 +147,7 @@ IsNoDacl bytes (reasons.Sid fault) = ⊥
 IsNoDacl bytes (reasons.Refused refusal) = ⊥
 IsNoDacl bytes reasons.NoNode = ⊥
 
--- why the value says none, by the kind of edit
+-- why the value is invalid, by the kind of edit
 abbrev pub IsNoValue : ℕ → List ℕ → NotDone → Type 0
 IsNoValue kind value why =
     (((kind ≡ 1) ⊎ (kind ≡ 2)) × IsNoNode value why)
@@ -151,7 +156,7 @@ IsNoValue kind value why =
     ⊎ ((kind ≡ 8) × IsNoPath arguments.Target value why)
     ⊎ (IsNoKind kind value × (why ≡ reasons.EditKind))
 
--- the first argument that says none answers: the path, and then the number and the value
+-- the first invalid argument is reported: the path, and then the number and the value
 abbrev pub IsNoEdit : ℕ → List ℕ → List ℕ → NotDone → Type 0
 IsNoEdit kind path value why =
     IsNoPath arguments.Path path why ⊎ ((at : Names) × (path_of path ≡ Ok at) × IsNoValue kind value why)

@@ -1,4 +1,4 @@
--- What the call that explains a verdict answers, as numbers.
+-- The answer of the call that explains a verdict, as numbers.
 use Rattle.std.specs.Prelude.{ℕ, List, map, Option, Some, None, Result, Ok, Err, if◌then◌else◌}
 use Rattle.std.specs.List.{range_with_len}
 use Rattle.sd_check.specs.Check.{dacl_entries}
@@ -57,11 +57,17 @@ no_part = record { mask = 0; cause = 0; granted = 0; first = no_pass; second = n
 abbrev pub part_told : Option Part → PartAnswer
 part_told None = no_part
 part_told (Some part) =
-    record { mask = part.mask; cause = cause_number part.cause; granted = if grants part.cause then 1 else 0; first = (findings_of part.cause).0; second = (findings_of part.cause).1 }
+    record {
+      mask = part.mask;
+      cause = cause_number part.cause;
+      granted = if grants part.cause then 1 else 0;
+      first = (findings_of part.cause).0;
+      second = (findings_of part.cause).1;
+    }
 
 -- ---- all parts
 
--- at each place the part whose least bit that is
+-- at each index the part whose lowest bit it is
 abbrev pub parts_of : (ℕ → Option Reason) → List PartAnswer
 parts_of reasons = map (λ b. part_told (part_at reasons b)) (range_with_len 0 32)
 

@@ -1,4 +1,4 @@
--- What the calls answer that read the aliases of a domain's accounts and groups ([MS-DTYP] 2.4.2.4).
+-- The answers of the calls that parse the aliases of a domain's accounts and groups ([MS-DTYP] 2.4.2.4).
 use Rattle.std.specs.Prelude.{◌≡◌, ◌⊎◌, ℕ, List, Option, Some, Ok, Err}
 use Rattle.sd_sid.specs.Sid.{SidValue}
 use Rattle.sd_sid.specs.SidBytes.{sid_reading, bytes_of_sid}
@@ -13,15 +13,16 @@ use Rattle.sd_c.specs.declared.refusal.Refusal.{Refusal}
 use Rattle.sd_c.specs.declared.refusal.Refusal.TheVariants.{Memory, Utf8, Text, Wire, Sid, NoDomain}
 use Rattle.sd_c.specs.Written.{RefusesText}
 
--- the bytes begin with the domain's SID
+-- the domain's SID is at the front of the bytes
 abbrev pub IsDomainOf : List ℕ → Domain → Type 0
 IsDomainOf bytes domain = (n : ℕ) × (sid_reading bytes ≡ Ok (domain_sid domain, n))
 
--- they begin with a SID that is no domain's
+-- a SID that is no domain's is there
 abbrev pub IsOfNoDomain : List ℕ → Type 0
-IsOfNoDomain bytes = (sid : SidValue) × (n : ℕ) × (sid_reading bytes ≡ Ok (sid, n)) × ((domain : Domain) → ¬ (domain_sid domain ≡ sid))
+IsOfNoDomain bytes =
+    (sid : SidValue) × (n : ℕ) × (sid_reading bytes ≡ Ok (sid, n)) × ((domain : Domain) → ¬ (domain_sid domain ≡ sid))
 
--- bytes are refused: they begin with no SID, or with none of a domain
+-- bytes are refused: they start with no SID, or with none of a domain
 abbrev pub RefusesDomain : List ℕ → Refusal → Type 0
 RefusesDomain bytes Memory = ⊥
 RefusesDomain bytes (Utf8 place) = ⊥
@@ -30,17 +31,20 @@ RefusesDomain bytes (Wire fault) = ⊥
 RefusesDomain bytes (Sid fault) = sid_reading bytes ≡ Err fault
 RefusesDomain bytes NoDomain = IsOfNoDomain bytes
 
--- the domain's bytes are refused, or the text is that is read in it
+-- the domain's bytes are refused, or the text that is parsed in it
 abbrev pub RefusesIn : {A : Type 0} → (Option Domain → Grammar A) → List ℕ → List ℕ → Refusal → Type 0
 RefusesIn grammar bytes text why =
-    RefusesDomain bytes why ⊎ ((domain : Domain) × IsDomainOf bytes domain × RefusesText (grammar (Some domain)) text why)
+    RefusesDomain bytes why
+    ⊎ ((domain : Domain) × IsDomainOf bytes domain × RefusesText (grammar (Some domain)) text why)
 
 -- the self-relative form of the descriptor that the text spells in the domain
 abbrev pub IsFormOfIn : List ℕ → List ℕ → List ℕ → Type 0
 IsFormOfIn bytes text form =
-    (domain : Domain) × (d : DescriptorValue) × IsDomainOf bytes domain × Spells (sddl_in (Some domain)) text d × (form ≡ wire_of d)
+    (domain : Domain) × (d : DescriptorValue) × IsDomainOf bytes domain × Spells (sddl_in (Some domain)) text d
+    × (form ≡ wire_of d)
 
 -- the bytes of the SID that the text spells in it
 abbrev pub IsSidOfIn : List ℕ → List ℕ → List ℕ → Type 0
 IsSidOfIn bytes text form =
-    (domain : Domain) × (s : SidValue) × IsDomainOf bytes domain × Spells (sid_text_in (Some domain)) text s × (form ≡ bytes_of_sid s)
+    (domain : Domain) × (s : SidValue) × IsDomainOf bytes domain × Spells (sid_text_in (Some domain)) text s
+    × (form ≡ bytes_of_sid s)

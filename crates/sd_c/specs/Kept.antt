@@ -1,4 +1,4 @@
--- What the calls over handles answer, and what they leave in the handles.
+-- The answers of the calls over handles, and the content of the handles afterwards.
 use Rattle.std.specs.Prelude.{◌≡◌, ◌⊎◌, ℕ, ◌<◌, ◌==◌, List, length, Option, Some, None, IsSome, Result, Ok, Err, if◌then◌else◌}
 use Rattle.std.specs.Arc.{arc_value}
 use Rattle.sd_acl.specs.Descriptor.{DescriptorValue, descriptor_of}
@@ -36,7 +36,7 @@ token_in (kinds.Token t) = Ok (arc_value t)
 token_in (kinds.Store s) = Err TokenHandle
 token_in (kinds.View v) = Err TokenHandle
 
--- of a store the tree with all its edits, those too that no view has yet
+-- of a store the tree with all its edits, unpublished ones included
 abbrev pub store_in : Kept → Option History
 store_in (kinds.Descriptor d) = None
 store_in (kinds.Token t) = None
@@ -50,15 +50,18 @@ view_in (kinds.Token t) = None
 view_in (kinds.Store s) = None
 view_in (kinds.View v) = Some (history_of v)
 
--- what two things that are kept ask of a check
+-- the request of a kept descriptor and a kept token
 unfoldable pub asked_of : Kept → Kept → Mapping → Result RequestValue NotRead
 asked_of first second mapping =
-    descriptor_in first >>= λ d. (token_in second >>= λ t. (mapping_read mapping >>= λ g. Ok (record { descriptor = d; token = t; mapping = g })))
+    descriptor_in first >>= λ d.
+    (token_in second >>= λ t.
+    (mapping_read mapping >>= λ g. Ok (record { descriptor = d; token = t; mapping = g })))
 
 -- the same of two handles
 unfoldable pub kept_request : Handle → Handle → Mapping → Result RequestValue NotRead
 kept_request first second mapping =
-    is_kept first.is_there DescriptorHandle >>= λ u. (is_kept second.is_there TokenHandle >>= λ v. asked_of first.seal.kept second.seal.kept mapping)
+    is_kept first.is_there DescriptorHandle >>= λ u.
+    (is_kept second.is_there TokenHandle >>= λ v. asked_of first.seal.kept second.seal.kept mapping)
 
 -- ---- the handles afterwards
 
@@ -70,11 +73,11 @@ Stays old new = (new.is_there ≡ old.is_there) × (new.is_there ≡ 1 → new.s
 abbrev pub Keeps : Handle → Kept → Type 0
 Keeps new kept = (new.is_there ≡ 1) × (new.seal.kept ≡ kept)
 
--- the handle kept something already, and is as it was
+-- the handle is in use, and unchanged
 abbrev pub InUse : Handle → Handle → Written → Type 0
 InUse old new answer = (old.is_there ≡ 1) × (new ≡ old) × (answer ≡ not_written 11 0 0)
 
--- where nothing was kept, a descriptor that is right is, or nothing is for a reason that holds; what was kept stays
+-- an empty handle keeps a right descriptor, or nothing for a reason that holds; one in use is unchanged
 abbrev pub KeepsDescriptor : (DescriptorValue → Type 0) → (Refusal → Type 0) → Handle → Handle → Written → Type 0
 KeepsDescriptor Right Holds old new answer =
     ((kept : Kept) × (d : DescriptorValue) × (old.is_there ≡ 0) × Right d × (descriptor_in kept ≡ Ok d) × Keeps new kept
@@ -86,7 +89,7 @@ KeepsDescriptor Right Holds old new answer =
 abbrev pub IsHeldAs : List ℕ → DescriptorValue → Type 0
 IsHeldAs bytes d = descriptor_read bytes ≡ Ok d
 
--- where nothing was kept, the token of the arguments is, or nothing is and the first argument that is invalid answers
+-- an empty handle keeps the token of the arguments, or nothing, and the first invalid argument is returned
 abbrev pub KeepsToken : Result TokenValue NotRead → Handle → Handle → CheckAnswer → Type 0
 KeepsToken read old new answer =
     ((kept : Kept) × (t : TokenValue) × (old.is_there ≡ 0) × (read ≡ Ok t) × (token_in kept ≡ Ok t) × Keeps new kept
@@ -98,27 +101,29 @@ abbrev pub TokenTakesMemory : List ℕ → List ℕ → Result TokenValue NotRea
 TokenTakesMemory states restricting read =
     (0 < length states) ⊎ (0 < length restricting) ⊎ ((t : TokenValue) × (read ≡ Ok t))
 
--- memory ran out, nothing was kept, and nothing is
+-- out of memory: the handle stays empty
 abbrev pub TokenLacksMemory : List ℕ → List ℕ → Result TokenValue NotRead → Handle → Handle → CheckAnswer → Type 0
 TokenLacksMemory states restricting read old new answer =
     (old.is_there ≡ 0) × TokenTakesMemory states restricting read × (new ≡ old) × (answer ≡ check_memory)
 
--- the handle kept something already, and is as it was
+-- the handle is in use, and unchanged
 abbrev pub TokenInUse : Handle → Handle → CheckAnswer → Type 0
 TokenInUse old new answer = (old.is_there ≡ 1) × (new ≡ old) × (answer ≡ unread 11 8 0 0)
 
 -- ---- sharing
 
--- what answers as this does, whatever is asked of it
+-- what gives the same answers
 abbrev pub IsSame : Kept → Kept → Type 0
 IsSame kept other =
     (descriptor_in other ≡ descriptor_in kept) × (token_in other ≡ token_in kept)
     × (store_in other ≡ store_in kept) × (view_in other ≡ view_in kept)
 
--- the second handle keeps the same as the first, or is as it was: memory ran out, or one of the handles is refused
+-- the second handle keeps the same as the first, or is unchanged: out of memory, or one of the handles is refused
 abbrev pub IsShared : Handle → Handle → Handle → Written → Type 0
 IsShared handle old new answer =
-    ((handle.is_there ≡ 1) × (old.is_there ≡ 0) × (new.is_there ≡ 1) × IsSame handle.seal.kept new.seal.kept × (answer ≡ not_written 0 0 0))
+    ((handle.is_there ≡ 1) × (old.is_there ≡ 0) × (new.is_there ≡ 1) × IsSame handle.seal.kept new.seal.kept
+    × (answer ≡ not_written 0 0 0))
     ⊎ ((handle.is_there ≡ 1) × (old.is_there ≡ 0) × (store_in handle.seal.kept ≡ None) × (new ≡ old)
     × (answer ≡ not_written 1 0 0))
-    ⊎ (((handle.is_there ≡ 0) ⊎ (old.is_there ≡ 1) ⊎ IsSome (store_in handle.seal.kept)) × (new ≡ old) × (answer ≡ not_written 11 0 0))
+    ⊎ (((handle.is_there ≡ 0) ⊎ (old.is_there ≡ 1) ⊎ IsSome (store_in handle.seal.kept)) × (new ≡ old)
+    × (answer ≡ not_written 11 0 0))

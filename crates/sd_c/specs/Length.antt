@@ -1,4 +1,4 @@
--- How many bytes a self-relative descriptor takes ([MS-DTYP] 2.4.6): from its first byte to the end of the last part.
+-- The length of a self-relative descriptor ([MS-DTYP] 2.4.6): from its first byte to the end of the last part.
 use Rattle.std.specs.Prelude.{◌≡◌, ◌⊎◌, ℕ, ◌+◌, ◌*◌, ◌<◌, ◌≤◌, max, List, length, take, slice_index, Option, Some, None, Ok}
 use Rattle.sd_sid.specs.Sid.{SidValue}
 use Rattle.sd_sid.specs.SidBytes.{u32_at}
@@ -10,12 +10,12 @@ use Rattle.sd_c.specs.declared.answer.Written.{Written}
 use Rattle.sd_c.specs.declared.refusal.Refusal.{Refusal}
 use Rattle.sd_c.specs.Written.{RefusesBytes, refused}
 
--- the end of the owner or the group that stands at the offset; of none, the header's end
+-- the end of the owner or the group at the offset; of none, the header's end
 abbrev pub trustee_end : ℕ → Option SidValue → ℕ
 trustee_end o None = 20
 trustee_end o (Some s) = o + (8 + 4 * length s.subs)
 
--- the end of the list that stands at the offset, by its AclSize; of none, the header's end
+-- the end of the list at the offset, by its AclSize; of none, the header's end
 abbrev pub dacl_end : List ℕ → ℕ → Dacl → ℕ
 dacl_end bytes o Absent = 20
 dacl_end bytes o Null = 20
@@ -30,12 +30,13 @@ HasListRoom bytes o (Entries es) = o + 4 ≤ length bytes
 -- the end of the last part
 abbrev pub descriptor_end : List ℕ → DescriptorValue → ℕ
 descriptor_end bytes d =
-    max (max (trustee_end (u32_at bytes 4) d.owner) (trustee_end (u32_at bytes 8) d.group)) (dacl_end bytes (u32_at bytes 16) d.dacl)
+    max (max (trustee_end (u32_at bytes 4) d.owner) (trustee_end (u32_at bytes 8) d.group))
+    (dacl_end bytes (u32_at bytes 16) d.dacl)
 
 abbrev pub IsLengthOf : List ℕ → ℕ → Type 0
 IsLengthOf bytes n = (d : DescriptorValue) × (descriptor_read bytes ≡ Ok d) × (n ≡ descriptor_end bytes d)
 
--- a length is told, and nothing is written
+-- a length is returned, and nothing is written
 abbrev pub length_told : ℕ → Written
 length_told n = record { status = 0; fault = 0; place = 0; length = n }
 
@@ -44,7 +45,7 @@ AnswersLength bytes answer =
     ((n : ℕ) × IsLengthOf bytes n × (answer ≡ length_told n))
     ⊎ ((why : Refusal) × RefusesBytes bytes why × (answer ≡ refused why))
 
--- the front of the bytes, up to that end or further, is read as the same descriptor
+-- the front of the bytes, up to that end or further, is parsed as the same descriptor
 abbrev pub FrontIsRead : Type 0
 FrontIsRead =
     (bytes : List ℕ) (d : DescriptorValue) (n : ℕ) → ((i : ℕ) → slice_index bytes i < 256) → IsDescriptor d

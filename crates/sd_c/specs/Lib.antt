@@ -13,3 +13,6 @@ pub mod Nodes
 pub mod Trim
 pub mod OverBytes
 pub mod Explaining
+pub mod Meaning
+pub mod Entries
+pub mod WithoutSacl

@@ -1,4 +1,4 @@
--- What the calls answer that tell a view's nodes: what was given to each, without what it inherits.
+-- The answers of the calls that return a view's nodes: what was given to each, without what it inherits.
 use Rattle.std.specs.Prelude.{◌≡◌, ◌⊎◌, ℕ, List, Some, None, IsSome, Ok, slice_get}
 use Rattle.std.specs.FinMap.{entries}
 use Rattle.sd_acl.specs.Descriptor.{DescriptorValue, HaveNamedFlags, IsDescriptor}
@@ -27,12 +27,14 @@ abbrev pub kind_number : NodeKind → ℕ
 kind_number Container = 1
 kind_number Object = 2
 
--- nothing is written, and no kind told
+-- nothing is written, and no kind returned
 abbrev pub no_node_told : NotDone → NodeAnswer
 no_node_told why = record { written = not_told why; kind = 0 }
 
--- bytes of a node are written, or the room is too small for them, and its kind is told; or nothing, for a reason that holds
-abbrev pub TellsNode : (List ℕ → NodeKind → Type 0) → (NotDone → Type 0) → Handle → List ℕ → List ℕ → NodeAnswer → Type 0
+-- bytes of a node are written, or the buffer is too small for them, and its kind is returned; or nothing, for a reason
+-- that holds
+abbrev pub TellsNode :
+    (List ℕ → NodeKind → Type 0) → (NotDone → Type 0) → Handle → List ℕ → List ℕ → NodeAnswer → Type 0
 TellsNode Right Holds view old new told =
     ((bytes : List ℕ) × (kind : NodeKind) × (view.is_there ≡ 1) × Right bytes kind × Writes bytes old new told.written
     × (told.kind ≡ kind_number kind))
@@ -51,7 +53,7 @@ abbrev pub IsOwnAt : Kept → List ℕ → List ℕ → NodeKind → Type 0
 IsOwnAt view path bytes kind =
     (h : History) × (names : Names) × (view_in view ≡ Some h) × (path_of path ≡ Ok names) × IsOwnIn h names bytes kind
 
--- why there is none, the first that holds: no view is kept, the text is no path, no node is there, or memory ran out
+-- why there is none, the first that holds: no view is kept, the text is no path, no node is there, or out of memory
 abbrev pub IsNoOwnAt : Kept → List ℕ → NotDone → Type 0
 IsNoOwnAt view path why =
     ((view_in view ≡ None) × (why ≡ reasons.ViewHandle))
@@ -59,21 +61,22 @@ IsNoOwnAt view path why =
     ⊎ ((h : History) × (names : Names) × (view_in view ≡ Some h) × (path_of path ≡ Ok names)
     × IsNotFound (given_at (replay h.opening h.journal) names) why)
 
--- an edit that brings what was written of a node gives it the same owner, group and DACL
+-- an edit whose value is what was written of a node gives it the same owner, group and DACL
 abbrev pub OwnFormsComeBack : Type 0
 OwnFormsComeBack =
     (row : Row) → IsDescriptor (own_descriptor_of_row row) → HaveNamedFlags (own_list row.dacl)
     → IsNode (wire_of (own_descriptor_of_row row)) row.owner row.group row.dacl
 
--- ---- the nodes, one after the other
+-- ---- the nodes in path order
 
--- the text of the path of the node that stands so many places behind the root in the order of the paths
+-- the text of the path of the node at this index
 abbrev pub IsPathAt : Kept → ℕ → List ℕ → NodeKind → Type 0
 IsPathAt view place bytes kind =
     (h : History) × (names : Names) × (row : Row) × (view_in view ≡ Some h)
-    × (slice_get (entries (replay h.opening h.journal)) place ≡ Some (names, row)) × (bytes ≡ text_of names) × (kind ≡ row.kind)
+    × (slice_get (entries (replay h.opening h.journal)) place ≡ Some (names, row)) × (bytes ≡ text_of names)
+    × (kind ≡ row.kind)
 
--- why there is none, the first that holds: no view is kept, no node is there, or memory ran out
+-- why there is none, the first that holds: no view is kept, no node is there, or out of memory
 abbrev pub IsNoPathAt : Kept → ℕ → NotDone → Type 0
 IsNoPathAt view place why =
     ((view_in view ≡ None) × (why ≡ reasons.ViewHandle))

@@ -15,7 +15,7 @@ abbrev pub argument_number : PathArgument → ℕ
 argument_number arguments.Path = 12
 argument_number arguments.Target = 13
 
--- the status, the argument, the fault's number or the refusal's, and where a path ceases to be UTF-8
+-- the status, the argument, the number of the fault or the refusal, and how many bytes of a path are UTF-8
 abbrev pub not_done : NotDone → CheckAnswer
 not_done Memory = unread 1 0 0 0
 not_done StoreHandle = unread 11 9 0 0

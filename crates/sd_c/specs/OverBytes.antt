@@ -1,4 +1,4 @@
--- What a check over a descriptor's bytes is asked of, with a token that is kept.
+-- The request of a check over a descriptor's bytes, with a kept token.
 use Rattle.std.specs.Prelude.{List, ℕ, Result, Ok}
 use Rattle.sd_wire.specs.Reading.{descriptor_read}
 use Rattle.sd_c.specs.declared.handle.Handle.{Handle}
@@ -12,7 +12,9 @@ use Rattle.sd_c.specs.Request.{◌>>=◌, RequestValue, mapping_read, of_wire}
 -- the token that is kept, then the mapping, then the descriptor that the bytes hold
 unfoldable pub asked_over : List ℕ → Kept → Mapping → Result RequestValue NotRead
 asked_over bytes kept mapping =
-    token_in kept >>= λ t. (mapping_read mapping >>= λ g. (of_wire (descriptor_read bytes) >>= λ d. Ok (record { descriptor = d; token = t; mapping = g })))
+    token_in kept >>= λ t.
+    (mapping_read mapping >>= λ g.
+    (of_wire (descriptor_read bytes) >>= λ d. Ok (record { descriptor = d; token = t; mapping = g })))
 
 -- the same of a handle
 unfoldable pub request_over : List ℕ → Handle → Mapping → Result RequestValue NotRead

@@ -1,4 +1,4 @@
--- What the calls over stores answer, and what they leave in the handles.
+-- The answers of the calls over stores, and the content of the handles afterwards.
 use Rattle.std.specs.Prelude.{◌≡◌, ◌⊎◌, ℕ, List, [], ◌∷◌, ◌++◌, length, Option, Some, None, IsSome, Ok, Err}
 use Rattle.sd_tree.specs.Answers.{IsError}
 use Rattle.sd_tree.specs.History.{History}
@@ -24,7 +24,7 @@ use Rattle.sd_c.specs.NotDone.{not_done}
 use Rattle.sd_c.specs.Request.{mapping_read}
 use Rattle.sd_c.specs.Written.{not_written}
 
--- the handle shows what it showed: an edit that isn't made may have made room for itself
+-- the handle has the same content: an edit that isn't made may have made room for itself
 abbrev pub Remains : Handle → Handle → Type 0
 Remains old new = (new.is_there ≡ old.is_there) × (old.is_there ≡ 1 → IsSame old.seal.kept new.seal.kept)
 
@@ -32,13 +32,13 @@ abbrev pub tree_reason : TreeError → NotDone
 tree_reason (errors.Refused refused) = reasons.Refused refused
 tree_reason errors.Memory = reasons.Memory
 
--- the tree refuses, or memory ran out, where no refusal is due that is found without memory
+-- the tree refuses, or out of memory, where no refusal is due that is found without memory
 abbrev pub IsTreeReason : Option EditRefusal → NotDone → Type 0
 IsTreeReason due why = (error : TreeError) × IsError error due × (why ≡ tree_reason error)
 
 -- ---- opening
 
--- the bytes hold the root, which a tree with this mapping takes
+-- the bytes hold the root of a tree with this mapping
 abbrev pub IsOpening : List ℕ → Mapping → Opening → Type 0
 IsOpening root mapping opening =
     (mapping_read mapping ≡ Ok opening.mapping) × IsNode root opening.root.owner opening.root.group opening.root.dacl
@@ -56,7 +56,7 @@ IsNotBegun root mapping why =
     ⊎ (HasNode root × (mapping_read mapping ≡ Err MappingBits) × (why ≡ reasons.MappingBits))
     ⊎ ((opening : Opening) × IsOpening root mapping opening × IsTreeReason (root_refusal opening) why)
 
--- a store of the root is kept, or why it isn't is told, or something was kept already; then nothing is kept
+-- an empty handle keeps a store of the root, or nothing, and why is returned; one in use is unchanged
 abbrev pub Begins : List ℕ → Mapping → Handle → Handle → CheckAnswer → Type 0
 Begins root mapping old new answer =
     ((old.is_there ≡ 0) × (new.is_there ≡ 1) × IsBegun root mapping new.seal.kept × (answer ≡ unread 0 0 0 0))
@@ -69,13 +69,14 @@ Begins root mapping old new answer =
 abbrev pub with_edit : History → Edit → History
 with_edit h edit = record h { journal = h.journal ++ edit ∷ [] }
 
--- the edit that the arguments say has joined the store's journal, which nothing refused
+-- the edit of the arguments, which nothing refuses, has joined the store's journal
 abbrev pub IsEdited : ℕ → List ℕ → List ℕ → Kept → Kept → Type 0
 IsEdited kind path value old new =
-    (h : History) × (edit : Edit) × (store_in old ≡ Some h) × IsEdit kind path value edit × (refusal h.opening h.journal edit ≡ None)
+    (h : History) × (edit : Edit) × (store_in old ≡ Some h) × IsEdit kind path value edit
+    × (refusal h.opening h.journal edit ≡ None)
     × (store_in new ≡ Some (with_edit h edit))
 
--- why it hasn't: no store is kept, the arguments say no edit, the tree refuses it, or memory ran out
+-- why it hasn't: no store is kept, an argument is invalid, the tree refuses the edit, or out of memory
 abbrev pub IsNotEdited : ℕ → List ℕ → List ℕ → Kept → NotDone → Type 0
 IsNotEdited kind path value old why =
     ((store_in old ≡ None) × (why ≡ reasons.StoreHandle))
@@ -83,48 +84,56 @@ IsNotEdited kind path value old why =
     ⊎ ((h : History) × (edit : Edit) × (store_in old ≡ Some h) × IsEdit kind path value edit
     × IsTreeReason (refusal h.opening h.journal edit) why)
 
--- the edit is made, or why it isn't is told and nothing has changed
+-- the edit is made, or why not is returned and nothing has changed
 abbrev pub Edits : ℕ → List ℕ → List ℕ → Handle → Handle → CheckAnswer → Type 0
 Edits kind path value old new answer =
-    ((old.is_there ≡ 1) × (new.is_there ≡ 1) × IsEdited kind path value old.seal.kept new.seal.kept × (answer ≡ unread 0 0 0 0))
-    ⊎ ((why : NotDone) × (old.is_there ≡ 1) × IsNotEdited kind path value old.seal.kept why × Remains old new × (answer ≡ not_done why))
+    ((old.is_there ≡ 1) × (new.is_there ≡ 1) × IsEdited kind path value old.seal.kept new.seal.kept
+    × (answer ≡ unread 0 0 0 0))
+    ⊎ ((why : NotDone) × (old.is_there ≡ 1) × IsNotEdited kind path value old.seal.kept why × Remains old new
+    × (answer ≡ not_done why))
     ⊎ ((old.is_there ≡ 0) × (new ≡ old) × (answer ≡ not_done reasons.StoreHandle))
 
--- nothing refuses the edit that the arguments say
+-- nothing refuses the edit of the arguments
 abbrev pub IsAllowed : ℕ → List ℕ → List ℕ → Kept → Type 0
 IsAllowed kind path value store =
-    (h : History) × (edit : Edit) × (store_in store ≡ Some h) × IsEdit kind path value edit × (refusal h.opening h.journal edit ≡ None)
+    (h : History) × (edit : Edit) × (store_in store ≡ Some h) × IsEdit kind path value edit
+    × (refusal h.opening h.journal edit ≡ None)
 
--- the edit would be made, or why it wouldn't is told
+-- the edit would be made, or why not is returned
 abbrev pub Judges : ℕ → List ℕ → List ℕ → Handle → CheckAnswer → Type 0
 Judges kind path value store answer =
     ((store.is_there ≡ 1) × IsAllowed kind path value store.seal.kept × (answer ≡ unread 0 0 0 0))
-    ⊎ ((why : NotDone) × (store.is_there ≡ 1) × IsNotEdited kind path value store.seal.kept why × (answer ≡ not_done why))
+    ⊎ ((why : NotDone) × (store.is_there ≡ 1) × IsNotEdited kind path value store.seal.kept why
+    × (answer ≡ not_done why))
     ⊎ ((store.is_there ≡ 0) × (answer ≡ not_done reasons.StoreHandle))
 
 -- ---- publishing
 
--- the view shows the store's tree with all its edits
+-- the view has the store's tree with all its edits
 abbrev pub IsViewOf : Kept → Kept → ℕ → Type 0
-IsViewOf store view told = (h : History) × (store_in store ≡ Some h) × (view_in view ≡ Some h) × (told ≡ length h.journal)
+IsViewOf store view told =
+    (h : History) × (store_in store ≡ Some h) × (view_in view ≡ Some h) × (told ≡ length h.journal)
 
--- a view is kept, or memory ran out for one, or one of the handles is refused; the store shows what it showed
+-- a view is kept, or out of memory for one, or one of the handles is refused; the store's content stays
 abbrev pub Publishes : Handle → Handle → Handle → Handle → Written → Type 0
 Publishes store later old new answer =
     Remains store later
-    × (((told : ℕ) × (store.is_there ≡ 1) × (old.is_there ≡ 0) × (new.is_there ≡ 1) × IsViewOf store.seal.kept new.seal.kept told × (answer ≡ length_told told))
+    × (((told : ℕ) × (store.is_there ≡ 1) × (old.is_there ≡ 0) × (new.is_there ≡ 1)
+    × IsViewOf store.seal.kept new.seal.kept told × (answer ≡ length_told told))
     ⊎ ((store.is_there ≡ 1) × (old.is_there ≡ 0) × IsSome (store_in store.seal.kept) × (new ≡ old)
     × (answer ≡ not_written 1 0 0))
-    ⊎ (((store.is_there ≡ 0) ⊎ (old.is_there ≡ 1) ⊎ (store_in store.seal.kept ≡ None)) × (new ≡ old) × (answer ≡ not_written 11 0 0)))
+    ⊎ (((store.is_there ≡ 0) ⊎ (old.is_there ≡ 1) ⊎ (store_in store.seal.kept ≡ None)) × (new ≡ old)
+    × (answer ≡ not_written 11 0 0)))
 
 -- ---- going back
 
--- the store shows what the view shows, whatever it showed: of a view of another store the root and the mapping too
+-- the store has what the view has: of a view of another store the root and the mapping too
 abbrev pub IsReverted : Kept → Kept → Kept → ℕ → Type 0
 IsReverted old new view told =
-    (h : History) × IsSome (store_in old) × (view_in view ≡ Some h) × (store_in new ≡ Some h) × (told ≡ length h.journal)
+    (h : History) × IsSome (store_in old) × (view_in view ≡ Some h) × (store_in new ≡ Some h)
+    × (told ≡ length h.journal)
 
--- the store's tree is the view's, or it shows what it showed: memory ran out, or one of the handles is refused
+-- the store's tree is the view's, or its content stays: out of memory, or one of the handles is refused
 abbrev pub Reverts : Handle → Handle → Handle → Written → Type 0
 Reverts old new view answer =
     ((told : ℕ) × (old.is_there ≡ 1) × (new.is_there ≡ 1) × (view.is_there ≡ 1)

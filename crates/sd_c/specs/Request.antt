@@ -1,4 +1,4 @@
--- What the arguments of a check are read as, one behind the other from the left; the first that isn't read answers.
+-- What the arguments of a check are parsed as, from the left; the first invalid one is reported.
 use Rattle.std.specs.Prelude.{◌≡◌, ℕ, zero, suc, ◌+◌, ◌==◌, nat_lt, not, List, [], ◌∷◌, length, drop, slice_index, bit_and, Option, Some, None, Result, Ok, Err, if◌then◌else◌}
 use Rattle.sd_sid.specs.Sid.{SidValue}
 use Rattle.sd_sid.specs.SidBytes.{sid_reading}
@@ -21,17 +21,17 @@ use Rattle.sd_c.specs.declared.stop.Stop.{Stop}
 use Rattle.sd_c.specs.declared.stop.Stop.TheVariants as stops
 
 infixl 10 ◌>>=◌
--- one reading behind another: the first argument that isn't read answers
+-- one parser after another: the first invalid argument is reported
 abbrev pub ◌>>=◌ : {A B : Type 0} → Result A NotRead → (A → Result B NotRead) → Result B NotRead
 (Ok x) >>= f = f x
 (Err why) >>= f = Err why
 
--- a reason is the reading's, or want of memory
+-- a reason is that of the parser, or out of memory
 abbrev pub Fails : {Y : Type 0} → Stop → Result Y NotRead → Type 0
 Fails stops.Memory read = Unit {0}
 Fails (stops.NotRead why) read = read ≡ Err why
 
--- what a function returns, seen by view, is what a reading gives, unless memory runs out
+-- what a function returns, seen by view, is what a parser gives, unless out of memory
 abbrev pub Gives : {X Y : Type 0} → (X → Y) → Result X Stop → Result Y NotRead → Type 0
 Gives view (Ok x) read = read ≡ Ok (view x)
 Gives view (Err stop) read = Fails stop read
@@ -60,7 +60,7 @@ unfoldable pub group_read : List ℕ → ℕ → ℕ → Result ((SidValue × Gr
 group_read bytes number at =
     group_sid at (sid_reading bytes) >>= λ x. (group_state at (state_read number) >>= λ state. Ok ((x.0, state), x.1))
 
--- so many groups, from the one with this index on: SIDs one behind the other, and a state for each; nothing stands behind
+-- so many groups, from the one with this index on: concatenated SIDs, and a state for each; nothing follows
 unfoldable pub groups_read : List ℕ → List ℕ → ℕ → ℕ → Result (List (SidValue × GroupState)) NotRead
 groups_read bytes states at zero = if length bytes == 0 then Ok [] else Err (BehindGroups at)
 groups_read bytes states at (suc n) =
@@ -74,12 +74,13 @@ abbrev pub restricting_sid : ℕ → Result (SidValue × ℕ) SidError → Resul
 restricting_sid at (Ok x) = Ok x
 restricting_sid at (Err fault) = Err (Restricting fault at)
 
--- SIDs one behind the other to the end of the bytes, from the one with this index on, and no more than so many
+-- concatenated SIDs to the end of the bytes, from the one with this index on, and no more than so many
 unfoldable pub sids_read : List ℕ → ℕ → ℕ → Result (List SidValue) NotRead
 sids_read bytes at zero = Ok []
 sids_read bytes at (suc n) =
     if length bytes == 0 then Ok []
-    else (restricting_sid at (sid_reading bytes) >>= λ x. (sids_read (drop x.1 bytes) (at + 1) n >>= λ others. Ok (x.0 ∷ others)))
+    else (restricting_sid at (sid_reading bytes) >>= λ x.
+    (sids_read (drop x.1 bytes) (at + 1) n >>= λ others. Ok (x.0 ∷ others)))
 
 -- each takes a byte at least, so there are no more than bytes
 abbrev pub restricting_read : List ℕ → Result (List SidValue) NotRead
@@ -116,9 +117,10 @@ token_read user groups states restricting privileges =
     of_user (sid_reading user) >>= λ sid.
     (groups_read groups states 0 (length states) >>= λ places.
     (restricting_read restricting >>= λ sids.
-    (privileges_read privileges >>= λ held. Ok (record { user = sid; groups = places; restricting = sids; privileges = held }))))
+    (privileges_read privileges >>= λ held.
+    Ok (record { user = sid; groups = places; restricting = sids; privileges = held }))))
 
--- what a check is asked of
+-- a parsed request but for its mask
 pub record RequestValue : Type 0 where
   pub descriptor : DescriptorValue
   pub token : TokenValue

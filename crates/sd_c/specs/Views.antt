@@ -35,7 +35,8 @@ reply_given NoNode = not_done reasons.NoNode
 
 -- the answer of the rules after the journal, and its length
 abbrev pub view_answer : History → Names → TokenValue → ℕ → ViewAnswer
-view_answer h path token asked = record { answer = reply_given (answer h.opening h.journal path token asked); length = length h.journal }
+view_answer h path token asked =
+    record { answer = reply_given (answer h.opening h.journal path token asked); length = length h.journal }
 
 abbrev pub unasked : NotDone → ViewAnswer
 unasked why = record { answer = not_done why; length = 0 }
@@ -43,10 +44,11 @@ unasked why = record { answer = not_done why; length = 0 }
 -- the text is a path, and the answer that of the rules for the journal that was published when the view was made
 abbrev pub IsAnswered : Kept → List ℕ → Kept → ℕ → ViewAnswer → Type 0
 IsAnswered view path token asked told =
-    (h : History) × (names : Names) × (t : TokenValue) × (view_in view ≡ Some h) × (path_of path ≡ Ok names) × (token_in token ≡ Ok t)
+    (h : History) × (names : Names) × (t : TokenValue) × (view_in view ≡ Some h) × (path_of path ≡ Ok names)
+    × (token_in token ≡ Ok t)
     × (told ≡ view_answer h names t asked)
 
--- why nothing is asked, the first of these that holds: no view is kept, no token, or the text is no path
+-- why there is no answer, the first of these that holds: no view is kept, no token, or the text is no path
 abbrev pub IsNotAsked : Kept → List ℕ → Kept → NotDone → Type 0
 IsNotAsked view path token why =
     ((view_in view ≡ None) × (why ≡ reasons.ViewHandle))
@@ -57,7 +59,8 @@ IsNotAsked view path token why =
 abbrev pub Asks : Handle → List ℕ → Handle → ℕ → ViewAnswer → Type 0
 Asks view path token asked told =
     ((view.is_there ≡ 1) × (token.is_there ≡ 1) × IsAnswered view.seal.kept path token.seal.kept asked told)
-    ⊎ ((why : NotDone) × (view.is_there ≡ 1) × (token.is_there ≡ 1) × IsNotAsked view.seal.kept path token.seal.kept why × (told ≡ unasked why))
+    ⊎ ((why : NotDone) × (view.is_there ≡ 1) × (token.is_there ≡ 1)
+    × IsNotAsked view.seal.kept path token.seal.kept why × (told ≡ unasked why))
     ⊎ ((view.is_there ≡ 0) × (told ≡ unasked reasons.ViewHandle))
     ⊎ ((view.is_there ≡ 1) × (token.is_there ≡ 0) × (told ≡ unasked reasons.TokenHandle))
 
@@ -71,7 +74,8 @@ length_in (kinds.View v) = length_told (length v.journal)
 
 abbrev pub TellsLength : Handle → Written → Type 0
 TellsLength handle told =
-    ((handle.is_there ≡ 1) × (told ≡ length_in handle.seal.kept)) ⊎ ((handle.is_there ≡ 0) × (told ≡ not_written 11 0 0))
+    ((handle.is_there ≡ 1) × (told ≡ length_in handle.seal.kept))
+    ⊎ ((handle.is_there ≡ 0) × (told ≡ not_written 11 0 0))
 
 -- ---- descriptors
 
@@ -86,11 +90,11 @@ abbrev pub IsFormAt : Kept → List ℕ → List ℕ → Type 0
 IsFormAt view path bytes =
     (h : History) × (names : Names) × (view_in view ≡ Some h) × (path_of path ≡ Ok names) × IsFormIn h names bytes
 
--- there is no node, or there is one and memory ran out
+-- there is no node, or there is one and out of memory
 abbrev pub IsNotFound : {A : Type 0} → Option A → NotDone → Type 0
 IsNotFound node why = ((node ≡ None) × (why ≡ reasons.NoNode)) ⊎ (IsSome node × (why ≡ reasons.Memory))
 
--- why there is none, the first that holds: no view is kept, the text is no path, no node is there, or memory ran out
+-- why there is none, the first that holds: no view is kept, the text is no path, no node is there, or out of memory
 abbrev pub IsNoFormAt : Kept → List ℕ → NotDone → Type 0
 IsNoFormAt view path why =
     ((view_in view ≡ None) × (why ≡ reasons.ViewHandle))
@@ -99,7 +103,8 @@ IsNoFormAt view path why =
     × IsNotFound (descriptor_at h.opening.mapping (replay h.opening h.journal) names) why)
 
 abbrev pub not_told : NotDone → Written
-not_told why = record { status = (not_done why).status; fault = (not_done why).fault; place = (not_done why).place; length = 0 }
+not_told why =
+    record { status = (not_done why).status; fault = (not_done why).fault; place = (not_done why).place; length = 0 }
 
 abbrev pub WritesNode : Handle → List ℕ → List ℕ → List ℕ → Written → Type 0
 WritesNode view path old new told =

@@ -1,10 +1,10 @@
--- What the calls answer that write into the caller's room.
+-- The answers of the calls that write into the caller's buffer.
 use Rattle.std.specs.Prelude.{◌≡◌, ◌⊎◌, ℕ, nat_lt, List, ◌++◌, length, drop, Ok, Err, if◌then◌else◌}
 use Rattle.std.specs.Str.{IsUtf8, IsValidUpTo}
 use Rattle.sd_sid.specs.Sid.{SidValue, sid_error_number}
 use Rattle.sd_sid.specs.SidBytes.{sid_reading, bytes_of_sid}
 use Rattle.sd_acl.specs.Descriptor.{DescriptorValue}
-use Rattle.sd_text.specs.Canon.{canon, sid_canon}
+use Rattle.sd_text.specs.Canon.{canon, full_canon, sid_canon}
 use Rattle.sd_text.specs.Fault.{number_of}
 use Rattle.sd_text.specs.Grammar.{Grammar, Spells, HasFault}
 use Rattle.sd_text.specs.Sddl.{sddl}
@@ -20,17 +20,23 @@ use Rattle.sd_c.specs.declared.answer.MaskAnswer.{MaskAnswer}
 use Rattle.sd_c.specs.declared.refusal.Refusal.{Refusal}
 use Rattle.sd_c.specs.declared.refusal.Refusal.TheVariants.{Memory, Utf8, Text, Wire, Sid, NoDomain}
 
--- ---- the answer and the room
+-- ---- the answer and the buffer
 
--- the bytes are wanted in the room: status 0, or 2 where it is too small
+-- the bytes are for the buffer: status 0, or 2 if it is too small
 abbrev pub written : List ℕ → List ℕ → Written
-written bytes room = record { status = (if nat_lt (length room) (length bytes) then 2 else 0); fault = 0; place = 0; length = length bytes }
+written bytes room =
+    record {
+      status = (if nat_lt (length room) (length bytes) then 2 else 0);
+      fault = 0;
+      place = 0;
+      length = length bytes;
+    }
 
--- they stand at the front of the room; where it is too small it is as it was
+-- they are at the front of the buffer; if it is too small it is unchanged
 abbrev pub room_with : List ℕ → List ℕ → List ℕ
 room_with bytes room = if nat_lt (length room) (length bytes) then room else bytes ++ drop (length bytes) room
 
--- nothing is written: why, the fault's number, and its place in a text
+-- nothing is written: why, the fault's number, and its offset in a text
 abbrev pub not_written : ℕ → ℕ → ℕ → Written
 not_written status fault place = record { status = status; fault = fault; place = place; length = 0 }
 
@@ -42,7 +48,7 @@ refused (Wire fault) = not_written 5 (wire_fault_number fault) 0
 refused (Sid fault) = not_written 6 (sid_error_number fault) 0
 refused NoDomain = not_written 17 0 0
 
--- the call writes these bytes, or tells that the room is too small for them
+-- the call writes these bytes, or returns that the buffer is too small for them
 abbrev pub Writes : List ℕ → List ℕ → List ℕ → Written → Type 0
 Writes bytes old new answer = (answer ≡ written bytes old) × (new ≡ room_with bytes old)
 
@@ -58,11 +64,11 @@ Answers Right Holds old new answer =
 
 -- ---- reasons
 
--- the text isn't UTF-8, from this byte on
+-- the text isn't UTF-8 from this byte on
 abbrev pub IsNotUtf8 : List ℕ → ℕ → Type 0
 IsNotUtf8 text place = ¬ (IsUtf8 text) × IsValidUpTo text place
 
--- a text of the grammar is refused: it isn't UTF-8 from there on, or has its fault there
+-- a text of the grammar is refused: it isn't UTF-8 from there on, or its fault is there
 abbrev pub RefusesText : {A : Type 0} → Grammar A → List ℕ → Refusal → Type 0
 RefusesText grammar text Memory = Unit {0}
 RefusesText grammar text (Utf8 place) = IsNotUtf8 text place
@@ -80,7 +86,7 @@ RefusesBytes bytes (Wire fault) = descriptor_read bytes ≡ Err fault
 RefusesBytes bytes (Sid fault) = ⊥
 RefusesBytes bytes NoDomain = ⊥
 
--- bytes are refused: they don't begin with a SID
+-- bytes are refused: they don't start with a SID
 abbrev pub RefusesSid : List ℕ → Refusal → Type 0
 RefusesSid bytes Memory = Unit {0}
 RefusesSid bytes (Utf8 place) = ⊥
@@ -89,7 +95,7 @@ RefusesSid bytes (Wire fault) = ⊥
 RefusesSid bytes (Sid fault) = sid_reading bytes ≡ Err fault
 RefusesSid bytes NoDomain = ⊥
 
--- the reason that an error of a text is
+-- the reason for an error of a text
 abbrev pub text_refusal : TextError → Refusal
 text_refusal (errors.Fault fault place) = Text fault place
 text_refusal errors.Memory = Memory
@@ -112,9 +118,13 @@ IsTextOf bytes printed = (d : DescriptorValue) × (descriptor_read bytes ≡ Ok 
 abbrev pub IsSidOf : List ℕ → List ℕ → Type 0
 IsSidOf text bytes = (s : SidValue) × Spells sid_text text s × (bytes ≡ bytes_of_sid s)
 
--- the canonical text of the SID that the bytes begin with
+-- the canonical text of the SID at the front of the bytes
 abbrev pub IsSidTextOf : List ℕ → List ℕ → Type 0
 IsSidTextOf bytes printed = (s : SidValue) × (n : ℕ) × (sid_reading bytes ≡ Ok (s, n)) × (printed ≡ sid_canon s)
+
+-- the same text in full
+abbrev pub IsFullSidTextOf : List ℕ → List ℕ → Type 0
+IsFullSidTextOf bytes printed = (s : SidValue) × (n : ℕ) × (sid_reading bytes ≡ Ok (s, n)) × (printed ≡ full_canon s)
 
 -- ---- masks
 
@@ -122,9 +132,10 @@ abbrev pub mask_given : ℕ → MaskAnswer
 mask_given mask = record { status = 0; fault = 0; place = 0; mask = mask }
 
 abbrev pub no_mask : Refusal → MaskAnswer
-no_mask why = record { status = (refused why).status; fault = (refused why).fault; place = (refused why).place; mask = 0 }
+no_mask why =
+    record { status = (refused why).status; fault = (refused why).fault; place = (refused why).place; mask = 0 }
 
--- the text of a mask is refused, for which no memory is wanted
+-- the text of a mask is refused, never out of memory
 abbrev pub RefusesMask : List ℕ → Refusal → Type 0
 RefusesMask text Memory = ⊥
 RefusesMask text (Utf8 place) = IsNotUtf8 text place

@@ -10,23 +10,23 @@ use crate::stop::NotRead;
 use sd_check::Verdict;
 use sd_sid::Mask;
 
-/// All went well.
+/// Success.
 pub const OK: u32 = 0;
-/// Memory ran out.
+/// Out of memory.
 pub const MEMORY: u32 = 1;
-/// The room is too small; the answer tells how many bytes are wanted.
+/// The buffer is too small; the answer has the number of bytes required.
 pub const ROOM: u32 = 2;
 /// A text isn't UTF-8.
 pub const UTF8: u32 = 3;
-/// A text isn't read; the fault is one of those of `TextFault`.
+/// A text is invalid; the fault is one of those of `TextFault`.
 pub const TEXT: u32 = 4;
-/// A descriptor's bytes aren't read; the fault is one of those of `WireFault`.
+/// Bytes hold no descriptor; the fault is one of those of `WireFault`.
 pub const WIRE: u32 = 5;
-/// The bytes of a SID aren't read; the fault is one of those of `SidError`.
+/// Bytes don't start with a SID; the fault is one of those of `SidError`.
 pub const SID: u32 = 6;
-/// Bytes stand behind the groups.
+/// Bytes follow the groups.
 pub const BEHIND_GROUPS: u32 = 7;
-/// A group's state isn't one.
+/// A group's state is invalid.
 pub const STATE: u32 = 8;
 /// A bit is no privilege.
 pub const PRIVILEGES: u32 = 9;
@@ -38,27 +38,29 @@ pub const HANDLE: u32 = 11;
 pub const EDIT: u32 = 12;
 /// A text is no path; the fault is one of those of `PathError`.
 pub const PATH: u32 = 13;
-/// A descriptor lacks an owner or a group, or has one where a DACL alone is wanted.
+/// A descriptor lacks an owner or a group, or has one where only a DACL may be.
 pub const PARTS: u32 = 14;
 /// The tree refuses the edit; the fault is one of those of `EditRefusal`.
 pub const REFUSED: u32 = 15;
-/// No node stands at the path.
+/// There is no node at the path.
 pub const NO_NODE: u32 = 16;
 /// A SID is no domain's.
 pub const DOMAIN: u32 = 17;
+/// A descriptor has no owner, no group or no entry at an index.
+pub const NO_PART: u32 = 18;
 
-/// What a check answers: a verdict and its mask, or which argument isn't read.
+/// The answer of a check: a verdict and its mask, or which argument is invalid.
 #[repr(C)]
 #[derive(Clone, Copy, Debug, PartialEq, Eq)]
 pub struct CheckAnswer {
     pub status: u32,
-    /// The argument that isn't read, counted from 1; 0 where none is to blame.
+    /// The number of the invalid argument, from 1; 0 where none is.
     pub argument: u32,
     /// The fault's number, 0 where there is none.
     pub fault: u32,
     /// The verdict, 0 where there is none.
     pub kind: u32,
-    /// The index of the group that isn't read.
+    /// The index of the invalid group.
     pub place: u64,
     pub mask: u32,
 }
@@ -88,7 +90,7 @@ pub(crate) fn verdict_given(verdict: Verdict) -> CheckAnswer
     }
 }
 
-/// The answer of a check that isn't made.
+/// The answer without a verdict.
 pub(crate) fn unread(status: u32, argument: u32, fault: u8, place: u64) -> CheckAnswer
     ensures { result ≡ unread status argument fault place }
 {
@@ -102,7 +104,7 @@ pub(crate) fn unread(status: u32, argument: u32, fault: u8, place: u64) -> Check
     }
 }
 
-/// The answer that says which argument isn't read.
+/// The answer that says which argument is invalid.
 pub(crate) fn not_read(why: NotRead) -> CheckAnswer
     ensures { result ≡ not_read why }
 {
@@ -120,20 +122,20 @@ pub(crate) fn not_read(why: NotRead) -> CheckAnswer
     }
 }
 
-/// What a call that writes answers.
+/// The answer of a call that writes.
 #[repr(C)]
 #[derive(Clone, Copy, Debug, PartialEq, Eq)]
 pub struct Written {
     pub status: u32,
     /// The fault's number, 0 where there is none.
     pub fault: u32,
-    /// Where a fault stands in a text, in bytes from 0.
+    /// The byte offset of a fault in a text.
     pub place: u64,
-    /// The bytes that are written, or would be where the room is too small.
+    /// The number of bytes that are written, or required where the buffer is too small.
     pub length: u64,
 }
 
-/// Writes the bytes at the front of the room, where they fit.
+/// Writes the bytes at the front of the buffer, if they fit.
 pub(crate) fn write(bytes: &[u8], room: &mut [u8]) -> Written
     ensures { Writes bytes.now room.old room.new result }
 {
@@ -149,7 +151,7 @@ pub(crate) fn write(bytes: &[u8], room: &mut [u8]) -> Written
     }
 }
 
-/// The answer that tells a length.
+/// The answer that has a length.
 pub(crate) fn length_told(length: u64) -> Written
     ensures { result ≡ length_told length }
 {
@@ -186,14 +188,14 @@ pub(crate) fn refused(why: Refusal) -> Written
     }
 }
 
-/// What the reading of a mask's text answers.
+/// The answer of `hudarin_mask_from_text`.
 #[repr(C)]
 #[derive(Clone, Copy, Debug, PartialEq, Eq)]
 pub struct MaskAnswer {
     pub status: u32,
     /// The fault's number, 0 where there is none.
     pub fault: u32,
-    /// Where a fault stands in the text, in bytes from 0.
+    /// The byte offset of a fault in the text.
     pub place: u64,
     pub mask: u32,
 }
@@ -210,7 +212,7 @@ pub(crate) fn mask_given(mask: Mask) -> MaskAnswer
     }
 }
 
-/// The answer that says why no mask was read.
+/// The answer that says why there is no mask.
 pub(crate) fn no_mask(why: Refusal) -> MaskAnswer
     ensures { result ≡ no_mask why }
 {

@@ -13,9 +13,10 @@ use sd_check::{Verdict, check};
 use sd_sid::Mask;
 use std::alloc::Global;
 
-/// The verdict on a request ([MS-DTYP] 2.5.3.2): for the descriptor in the bytes, the user whose SID begins its bytes, groups
-/// whose SIDs stand one behind the other with a state for each (0, 0x4 or 0x10), restricting SIDs one behind the other, privileges
-/// (bit 0 SeSecurityPrivilege, bit 1 SeTakeOwnershipPrivilege) and a mapping of four masks. Refused by the first argument from the left that isn't read.
+/// The verdict on a request ([MS-DTYP] 2.5.3.2): for the descriptor in the bytes, the user whose SID is at the front
+/// of its bytes, the concatenated SIDs of groups with a state for each (0, 0x4 or 0x10), concatenated restricting
+/// SIDs, privileges (bit 0 SeSecurityPrivilege, bit 1 SeTakeOwnershipPrivilege) and a mapping of four masks. The first
+/// invalid argument from the left is reported.
 #[unsafe(no_mangle)]
 pub extern "C" fn hudarin_check(
     alloc: Global,
@@ -28,8 +29,11 @@ pub extern "C" fn hudarin_check(
     mapping: Mapping,
     asked: u32,
 ) -> CheckAnswer
-    ensures answer { (result ≡ check_answer (request_read descriptor.now user.now groups.now states.now restricting.now privileges mapping) asked) ⊎ (result ≡ check_memory) }
-    ensures memory { result.status ≡ 1 → TakesMemory descriptor.now ⊎ (0 < length states.now) ⊎ (0 < length restricting.now) }
+    ensures answer { (result ≡ check_answer
+        (request_read descriptor.now user.now groups.now states.now restricting.now privileges mapping) asked)
+        ⊎ (result ≡ check_memory) }
+    ensures memory { result.status ≡ 1
+        → TakesMemory descriptor.now ⊎ (0 < length states.now) ⊎ (0 < length restricting.now) }
 {
     match verdict_on(
         alloc,
@@ -60,8 +64,10 @@ fn verdict_on(
     mapping: Mapping,
     asked: u32,
 ) -> Result<Verdict, Stop>
-    ensures read { Gives (λ verdict. verdict) result (verdict_read (request_read descriptor.now user.now groups.now states.now restricting.now privileges mapping) asked) }
-    ensures memory { IsErrOf result Stop.Memory → TakesMemory descriptor.now ⊎ (0 < length states.now) ⊎ (0 < length restricting.now) }
+    ensures read { Gives (λ verdict. verdict) result (verdict_read
+        (request_read descriptor.now user.now groups.now states.now restricting.now privileges mapping) asked) }
+    ensures memory { IsErrOf result Stop.Memory
+        → TakesMemory descriptor.now ⊎ (0 < length states.now) ⊎ (0 < length restricting.now) }
 {
     let descriptor = descriptor_of(alloc, descriptor)?;
     let token = token_of(alloc, user, groups, states, restricting, privileges)?;

@@ -1,4 +1,4 @@
-//! Why a check answers as it does, as C takes it: the parts of a request by value, and as numbers.
+//! Why a check answers as it does, for C: the parts of a request by value, and as numbers.
 
 ghost use Rattle.std.specs.Prelude.{◌≡◌, Ok, Err, IfErr, IfOk};
 ghost use Rattle.sd_c.specs.Explaining.{explained, parts_of, part_told, cause_number, findings_of, finding_told, reasons_on};
@@ -19,9 +19,9 @@ use std::alloc::Global;
 #[repr(C)]
 #[derive(Clone, Copy, Debug, PartialEq, Eq)]
 pub struct FindingAnswer {
-    /// The entry, counted from 0; 0 where there is none.
+    /// The entry's index, from 0; 0 where there is none.
     pub entry: u64,
-    /// 0 where there was no such pass, else 1 an allow entry, 2 a deny entry, 3 no entry.
+    /// 0 without such a pass, else 1 an allow entry, 2 a deny entry, 3 no entry.
     pub kind: u32,
 }
 
@@ -38,7 +38,7 @@ pub struct PartAnswer {
     pub second: FindingAnswer,
 }
 
-/// What an explanation answers: the check's own answer, and at each place from 0 to 31 the part whose least bit that is.
+/// The answer of an explanation: that of the check, and at each index from 0 to 31 the part whose lowest bit it is.
 #[repr(C)]
 #[derive(Clone, Copy, Debug, PartialEq, Eq)]
 pub struct Explained {
@@ -58,7 +58,7 @@ const NO_PART: PartAnswer = PartAnswer {
     second: NO_PASS,
 };
 
-/// Why the verdict on a request is what it is ([MS-DTYP] 2.5.3.2), for a descriptor and a token that are kept: the verdict
+/// Why the verdict on a request is what it is ([MS-DTYP] 2.5.3.2), for a kept descriptor and a kept token: the verdict
 /// of `hudarin_check_kept`, and the request's parts. Takes no memory.
 #[unsafe(no_mangle)]
 #[tactic(auto, unfolding(crate::specs::Kept::kept_request))]
@@ -98,7 +98,7 @@ fn explained_of(first: &Kept, second: &Kept, mapping: Mapping, asked: u32) -> Ex
     }
 }
 
-/// The answer that says which argument isn't read.
+/// The answer that says which argument is invalid.
 fn unexplained(why: NotRead) -> Explained
     ensures { result ≡ explained (Err why) 0 }
 {
@@ -115,7 +115,9 @@ fn explanation_of(
     mapping: Mapping,
     asked: u32,
 ) -> Result<Explanation, NotRead>
-    ensures ok { IfOk result (λ explanation. (r : RequestValue) × (asked_of first.now second.now mapping ≡ Ok r) × (explanation.reasons ≡ reasons_on r asked) × (told_verdict (reason_in explanation.reasons) ≡ verdict_of r asked)) }
+    ensures ok { IfOk result (λ explanation. (r : RequestValue) × (asked_of first.now second.now mapping ≡ Ok r)
+        × (explanation.reasons ≡ reasons_on r asked)
+        × (told_verdict (reason_in explanation.reasons) ≡ verdict_of r asked)) }
     ensures err { IfErr result (λ why. asked_of first.now second.now mapping ≡ Err why) }
 {
     let Kept::Descriptor(descriptor) = first else {
@@ -128,7 +130,7 @@ fn explanation_of(
     Ok(explain_descriptor(descriptor, &mapping, token, Mask(asked)))
 }
 
-/// The parts of an explanation, at the places of their least bits.
+/// The parts of an explanation, at the indices of their lowest bits.
 fn parts_of(explanation: &Explanation) -> [PartAnswer; 32]
     ensures { result ≡ parts_of (reason_in explanation.now.reasons) }
 {

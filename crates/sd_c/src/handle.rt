@@ -1,4 +1,4 @@
-//! What a caller keeps between calls: a descriptor or a token behind a handle.
+//! What a caller keeps between calls: the content of a handle.
 
 ghost use Rattle.std.specs.Prelude.{◌≡◌, ◌<◌, ◌≤◌, IfNone, IfSome};
 
@@ -10,8 +10,8 @@ pub use kept::Kept;
 pub use seal::Seal;
 use std::alloc::Global;
 
-/// A box that is kept for the caller, or nothing: zeros are nothing. C holds it as a pointer and a number, and hands it to one
-/// call at a time. To let a handle go frees nothing: `hudarin_release` does.
+/// A box that is kept for the caller, or nothing: zeros are nothing. C holds it as a pointer and a number, and passes
+/// it to one call at a time. Dropping a handle frees nothing: `hudarin_release` does.
 #[repr(C)]
 #[derive(Drop)]
 pub struct Handle {

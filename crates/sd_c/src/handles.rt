@@ -1,4 +1,4 @@
-//! The calls for callers that ask often: what was read once is kept behind a handle.
+//! The check of what handles keep, and the end of a handle.
 
 ghost use Rattle.std.specs.Prelude.{◌≡◌, ◌⊎◌, ◌<◌};
 ghost use Rattle.sd_c.specs.Answer.{check_answer};
@@ -14,7 +14,7 @@ use sd_check::{Verdict, check};
 use sd_sid::Mask;
 use std::alloc::Global;
 
-/// Frees what the handle keeps, where it keeps something. Then it keeps nothing.
+/// Frees what the handle keeps, if anything. After that it keeps nothing.
 #[unsafe(no_mangle)]
 pub extern "C" fn hudarin_release(alloc: Global, handle: &mut Handle)
     ensures { handle.new.is_there ≡ 0 }
@@ -22,7 +22,7 @@ pub extern "C" fn hudarin_release(alloc: Global, handle: &mut Handle)
     let _kept = handle.take(alloc);
 }
 
-/// The verdict on a request ([MS-DTYP] 2.5.3.2), for a descriptor and a token that are kept. Takes no memory.
+/// The verdict on a request ([MS-DTYP] 2.5.3.2), for a kept descriptor and a kept token. Takes no memory.
 #[unsafe(no_mangle)]
 #[tactic(auto, unfolding(crate::specs::Kept::kept_request))]
 pub extern "C" fn hudarin_check_kept(

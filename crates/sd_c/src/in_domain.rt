@@ -1,4 +1,4 @@
-//! The calls that read the aliases of a domain's accounts and groups ([MS-DTYP] 2.4.2.4).
+//! The calls that parse the aliases of a domain's accounts and groups ([MS-DTYP] 2.4.2.4).
 
 ghost use Rattle.std.specs.Prelude.{IfErr, IfOk};
 ghost use Rattle.sd_text.specs.Sddl.{sddl_in};
@@ -15,9 +15,10 @@ use sd_text::Domain;
 use sd_wire::write_descriptor;
 use std::alloc::Global;
 
-/// The self-relative form ([MS-DTYP] 2.4.6) of the descriptor that the SDDL text spells, where the aliases of a domain's accounts and
-/// groups stand for those of the domain whose SID begins the bytes. Refused as `hudarin_sddl_to_bytes` is, and where no domain's
-/// SID stands there; then, and where the room is too small, nothing is written.
+/// Writes the self-relative form ([MS-DTYP] 2.4.6) of the descriptor that the SDDL text spells into the buffer, where
+/// the aliases of a domain's accounts and groups are those of the domain whose SID is at the front of the bytes.
+/// Refused as `hudarin_sddl_to_bytes` is, and if no domain's SID is there; then, and if the buffer is too small,
+/// nothing is written.
 #[unsafe(no_mangle)]
 pub extern "C" fn hudarin_sddl_to_bytes_in(
     alloc: Global,
@@ -25,7 +26,8 @@ pub extern "C" fn hudarin_sddl_to_bytes_in(
     text: &[u8],
     room: &mut [u8],
 ) -> Written
-    ensures { Answers (IsFormOfIn domain.now text.now) (RefusesIn sddl_in domain.now text.now) room.old room.new result }
+    ensures { Answers (IsFormOfIn domain.now text.now) (RefusesIn sddl_in domain.now text.now)
+        room.old room.new result }
 {
     match form_in(alloc, domain, text) {
         Ok(bytes) => write(&bytes, room),
@@ -33,8 +35,8 @@ pub extern "C" fn hudarin_sddl_to_bytes_in(
     }
 }
 
-/// The bytes of the SID that the text spells, in full or by an alias, those of the domain's accounts and groups too. Refused as
-/// `hudarin_sddl_to_bytes_in` is.
+/// Writes the bytes of the SID that the text spells into the buffer, in full or by an alias, those of the domain's
+/// accounts and groups too. Refused as `hudarin_sddl_to_bytes_in` is.
 #[unsafe(no_mangle)]
 pub extern "C" fn hudarin_sid_text_to_bytes_in(
     alloc: Global,
@@ -42,7 +44,8 @@ pub extern "C" fn hudarin_sid_text_to_bytes_in(
     text: &[u8],
     room: &mut [u8],
 ) -> Written
-    ensures { Answers (IsSidOfIn domain.now text.now) (RefusesIn sid_text_in domain.now text.now) room.old room.new result }
+    ensures { Answers (IsSidOfIn domain.now text.now) (RefusesIn sid_text_in domain.now text.now)
+        room.old room.new result }
 {
     match sid_in(alloc, domain, text) {
         Ok(bytes) => write(&bytes, room),
@@ -50,8 +53,8 @@ pub extern "C" fn hudarin_sid_text_to_bytes_in(
     }
 }
 
-/// The domain whose SID begins the bytes; what stands behind it isn't looked at.
-fn domain_of(bytes: &[u8]) -> Result<Domain, Refusal>
+/// The domain whose SID is at the front of the bytes; what follows it is ignored.
+pub(crate) fn domain_of(bytes: &[u8]) -> Result<Domain, Refusal>
     ensures ok { IfOk result (λ domain. IsDomainOf bytes.now domain) }
     ensures err { IfErr result (λ why. RefusesDomain bytes.now why) }
 {
@@ -62,7 +65,7 @@ fn domain_of(bytes: &[u8]) -> Result<Domain, Refusal>
     }
 }
 
-/// The SID that begins the bytes.
+/// The SID at the front of the bytes.
 fn sid_before(bytes: &[u8]) -> Result<Sid, Refusal>
     ensures ok { IfOk result (λ sid. IsSid bytes.now sid) }
     ensures err { IfErr result (λ why. RefusesDomain bytes.now why) }

@@ -1,4 +1,4 @@
-//! The calls that keep what they read behind a handle.
+//! The calls that keep what they parse in a handle.
 
 ghost use Rattle.std.specs.Prelude.{◌≡◌, ◌⊎◌, Ok, IfErr, IfOk, IsErrOf};
 ghost use Rattle.sd_acl.specs.Descriptor.{DescriptorValue, descriptor_of as descriptor_value};
@@ -22,8 +22,8 @@ use sd_wire::{WireError, read_descriptor};
 use std::alloc::{AllocError, Global};
 use std::sync::Arc;
 
-/// Keeps the descriptor that the SDDL text spells ([MS-DTYP] 2.5.1). Refused as `hudarin_sddl_to_bytes` is, or where the
-/// handle keeps something already; then it stays as it was.
+/// Keeps the descriptor that the SDDL text spells ([MS-DTYP] 2.5.1). Refused as `hudarin_sddl_to_bytes` is, or if the
+/// handle is in use; then it is unchanged.
 #[unsafe(no_mangle)]
 pub extern "C" fn hudarin_keep_sddl(alloc: Global, text: &[u8], handle: &mut Handle) -> Written
     ensures { KeepsDescriptor (Spells sddl text.now) (RefusesText sddl text.now) handle.old handle.new result }
@@ -40,8 +40,8 @@ pub extern "C" fn hudarin_keep_sddl(alloc: Global, text: &[u8], handle: &mut Han
     }
 }
 
-/// Keeps the descriptor at the front of the bytes ([MS-DTYP] 2.4.6). Refused as `hudarin_bytes_to_sddl` is, or where the
-/// handle keeps something already; then it stays as it was.
+/// Keeps the descriptor at the front of the bytes ([MS-DTYP] 2.4.6). Refused as `hudarin_bytes_to_sddl` is, or if the
+/// handle is in use; then it is unchanged.
 #[unsafe(no_mangle)]
 pub extern "C" fn hudarin_keep_bytes(alloc: Global, bytes: &[u8], handle: &mut Handle) -> Written
     ensures { KeepsDescriptor (IsHeldAs bytes.now) (RefusesBytes bytes.now) handle.old handle.new result }
@@ -58,8 +58,9 @@ pub extern "C" fn hudarin_keep_bytes(alloc: Global, bytes: &[u8], handle: &mut H
     }
 }
 
-/// Keeps the token of a user, groups with their states, restricting SIDs, and privileges ([MS-DTYP] 2.5.2), as `hudarin_check` reads them.
-/// Refused where one of them isn't read, memory runs out, or the handle keeps something already; then it stays as it was.
+/// Keeps the token of a user, groups with their states, restricting SIDs, and privileges ([MS-DTYP] 2.5.2), as
+/// `hudarin_check` parses them. Refused if one of them is invalid, out of memory, or if the handle is in use; then it
+/// is unchanged.
 #[unsafe(no_mangle)]
 pub extern "C" fn hudarin_keep_token(
     alloc: Global,
@@ -70,7 +71,8 @@ pub extern "C" fn hudarin_keep_token(
     privileges: u32,
     handle: &mut Handle,
 ) -> CheckAnswer
-    ensures { KeepsToken (token_read user.now groups.now states.now restricting.now privileges) handle.old handle.new result
+    ensures { KeepsToken (token_read user.now groups.now states.now restricting.now privileges)
+        handle.old handle.new result
         ⊎ TokenLacksMemory states.now restricting.now
         (token_read user.now groups.now states.now restricting.now privileges) handle.old handle.new result
         ⊎ TokenInUse handle.old handle.new result }
@@ -89,7 +91,8 @@ pub extern "C" fn hudarin_keep_token(
 }
 
 fn kept_text(alloc: Global, text: &[u8]) -> Result<Box<Kept>, Refusal>
-    ensures ok { IfOk result (λ kept. (d : DescriptorValue) × Spells sddl text.now d × (descriptor_in kept.value ≡ Ok d)) }
+    ensures ok { IfOk result
+        (λ kept. (d : DescriptorValue) × Spells sddl text.now d × (descriptor_in kept.value ≡ Ok d)) }
     ensures err { IfErr result (λ why. RefusesText sddl text.now why) }
 {
     let descriptor = descriptor_of(alloc, None, text)?;
@@ -105,7 +108,8 @@ fn boxed_descriptor(alloc: Global, descriptor: Descriptor) -> Result<Box<Kept>, 
 }
 
 fn kept_bytes(alloc: Global, bytes: &[u8]) -> Result<Box<Kept>, Refusal>
-    ensures ok { IfOk result (λ kept. (d : DescriptorValue) × IsHeldAs bytes.now d × (descriptor_in kept.value ≡ Ok d)) }
+    ensures ok { IfOk result
+        (λ kept. (d : DescriptorValue) × IsHeldAs bytes.now d × (descriptor_in kept.value ≡ Ok d)) }
     ensures err { IfErr result (λ why. RefusesBytes bytes.now why) }
 {
     match read_descriptor(alloc, bytes) {
@@ -123,8 +127,11 @@ fn kept_token(
     restricting: &[u8],
     privileges: u32,
 ) -> Result<Box<Kept>, Stop>
-    ensures ok { IfOk result (λ kept. (t : TokenValue) × (token_read user.now groups.now states.now restricting.now privileges ≡ Ok t) × (token_in kept.value ≡ Ok t)) }
-    ensures err { IfErr result (λ stop. Fails stop (token_read user.now groups.now states.now restricting.now privileges)) }
+    ensures ok { IfOk result (λ kept. (t : TokenValue)
+        × (token_read user.now groups.now states.now restricting.now privileges ≡ Ok t)
+        × (token_in kept.value ≡ Ok t)) }
+    ensures err { IfErr result
+        (λ stop. Fails stop (token_read user.now groups.now states.now restricting.now privileges)) }
     ensures memory { IsErrOf result Stop.Memory
         → TokenTakesMemory states.now restricting.now
         (token_read user.now groups.now states.now restricting.now privileges) }

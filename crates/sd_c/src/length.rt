@@ -16,18 +16,18 @@ use sd_sid::{SID_HEADER_BYTES, Sid};
 use sd_wire::{WireError, read_descriptor};
 use std::alloc::Global;
 
-/// Where the offsets of the owner, the group and the DACL stand ([MS-DTYP] 2.4.6).
+/// The places of the offsets of the owner, the group and the DACL ([MS-DTYP] 2.4.6).
 const OWNER_PLACE: usize = 4;
 
 const GROUP_PLACE: usize = 8;
 
 const DACL_PLACE: usize = 16;
 
-/// The bytes of a header.
+/// The length of a header in bytes.
 const HEADER_BYTES: u64 = 20;
 
-/// How many bytes the descriptor takes that stands at the front of the buffer ([MS-DTYP] 2.4.6): up to the end of its last
-/// part. Refused where none stands there or memory runs out.
+/// The length of the descriptor at the front of the bytes ([MS-DTYP] 2.4.6): up to the end of its last part. Refused if
+/// none is there, or out of memory.
 #[unsafe(no_mangle)]
 pub extern "C" fn hudarin_descriptor_length(alloc: Global, bytes: &[u8]) -> Written
     ensures { AnswersLength bytes.now result }
@@ -38,7 +38,8 @@ pub extern "C" fn hudarin_descriptor_length(alloc: Global, bytes: &[u8]) -> Writ
     }
 }
 
-/// A law: the front of the bytes, as many as `hudarin_descriptor_length` tells or more, is read as the same descriptor.
+/// A law: the front of the bytes, as many as `hudarin_descriptor_length` returns or more, is parsed as the same
+/// descriptor.
 #[tactic(auto, using(crate::proofs::Front::front_is_read))]
 pub fn front_is_read()
     ensures { FrontIsRead }

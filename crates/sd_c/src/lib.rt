@@ -1,6 +1,7 @@
 //! The library for C: checks, descriptors, SIDs and masks in another form, and what a caller keeps between calls.
 //!
-//! Each exported function takes any bytes and numbers. What C sees stands in bindings/hudarin.h, how to call it in docs/C.md.
+//! Each exported function takes any bytes and numbers. bindings/hudarin.h declares what C sees, and docs/C.md says how
+//! to call it.
 //!
 //! ```text
 //! hudarin_verdict answer = hudarin_check(descriptor, descriptor_length, user, user_length,
@@ -12,6 +13,7 @@ mod answer;
 mod bytes;
 mod check;
 mod edits;
+mod entries;
 mod explaining;
 mod handle;
 mod handles;
@@ -19,6 +21,7 @@ mod in_domain;
 mod keeping;
 mod length;
 mod mapping;
+mod meaning;
 mod nodes;
 mod not_done;
 mod over_bytes;
@@ -31,10 +34,15 @@ mod text;
 mod trim;
 mod version;
 mod views;
+mod without_sacl;
 
 pub use answer::{CheckAnswer, MaskAnswer, Written};
-pub use bytes::{hudarin_bytes_to_sddl, hudarin_sid_bytes_to_text};
+pub use bytes::{hudarin_bytes_to_sddl, hudarin_sid_bytes_to_full_text, hudarin_sid_bytes_to_text};
 pub use check::hudarin_check;
+pub use entries::{
+    DaclAnswer, EntryAnswer, NoPart, SidPart, hudarin_descriptor_dacl, hudarin_descriptor_entry,
+    hudarin_descriptor_group, hudarin_descriptor_owner, hudarin_descriptor_subject,
+};
 pub use explaining::{Explained, FindingAnswer, PartAnswer, hudarin_explain};
 pub use handle::{Handle, Kept, Seal};
 pub use handles::{hudarin_check_kept, hudarin_release};
@@ -42,6 +50,7 @@ pub use in_domain::{hudarin_sddl_to_bytes_in, hudarin_sid_text_to_bytes_in};
 pub use keeping::{hudarin_keep_bytes, hudarin_keep_sddl, hudarin_keep_token};
 pub use length::{front_is_read, hudarin_descriptor_length};
 pub use mapping::Mapping;
+pub use meaning::{faults_have_names, hudarin_fault_name, hudarin_status_text};
 pub use nodes::{NodeAnswer, hudarin_view_node, hudarin_view_own, own_forms_come_back};
 pub use not_done::{NotDone, PathArgument};
 pub use over_bytes::hudarin_check_bytes;
@@ -57,3 +66,4 @@ pub use text::{
 pub use trim::{Trimmed, hudarin_descriptor_trim};
 pub use version::{Version, hudarin_version};
 pub use views::{ViewAnswer, hudarin_journal_length, hudarin_view_check, hudarin_view_descriptor};
+pub use without_sacl::hudarin_sddl_trim;

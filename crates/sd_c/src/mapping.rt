@@ -1,6 +1,6 @@
-//! A generic mapping as C hands it over.
+//! A generic mapping as C passes it.
 
-/// What the four generic rights stand for, as masks that nobody has looked at yet ([MS-DTYP] 2.4.3).
+/// What the four generic rights stand for, as masks that aren't tested yet ([MS-DTYP] 2.4.3).
 #[repr(C)]
 #[derive(Clone, Copy)]
 pub struct Mapping {

@@ -1,4 +1,4 @@
-//! The calls that tell a view's nodes, with which a server looks into its store and writes it down.
+//! The calls that return a view's nodes, by which a server lists and saves its store.
 
 ghost use Rattle.std.specs.Prelude.{◌≡◌, IfErr, IfOk, string_bytes};
 ghost use Rattle.sd_tree.specs.Answers.{given_at};
@@ -19,18 +19,18 @@ use sd_tree::{NodeKind, Tree};
 use sd_wire::write_descriptor;
 use std::alloc::Global;
 
-/// What a call answers that tells a node.
+/// The answer of a call that returns a node.
 #[repr(C)]
 #[derive(Clone, Copy, Debug, PartialEq, Eq)]
 pub struct NodeAnswer {
     pub written: Written,
-    /// 1 for a container and 2 for an object; 0 where no node is told.
+    /// 1 for a container and 2 for an object; 0 without a node.
     pub kind: u32,
 }
 
-/// What was given to the node of a path in the tree that the view shows, written into the room: the self-relative form
-/// ([MS-DTYP] 2.4.6) of its owner, its group and its own DACL, without what it inherits. Refused as `hudarin_view_descriptor` is;
-/// then, and where the room is too small, nothing is written.
+/// Writes what was given to the node of a path in the view's tree into the buffer: the self-relative form ([MS-DTYP]
+/// 2.4.6) of its owner, its group and its own DACL, without what it inherits. Refused as `hudarin_view_descriptor` is;
+/// then, and if the buffer is too small, nothing is written.
 #[unsafe(no_mangle)]
 pub extern "C" fn hudarin_view_own(
     alloc: Global,
@@ -38,7 +38,8 @@ pub extern "C" fn hudarin_view_own(
     path: &[u8],
     room: &mut [u8],
 ) -> NodeAnswer
-    ensures answer { TellsNode (IsOwnAt view.old.seal.kept path.now) (IsNoOwnAt view.old.seal.kept path.now) view.old room.old room.new result }
+    ensures answer { TellsNode (IsOwnAt view.old.seal.kept path.now) (IsNoOwnAt view.old.seal.kept path.now)
+        view.old room.old room.new result }
     ensures view { Stays view.old view.new }
 {
     let Some(kept) = view.take(alloc) else {
@@ -52,9 +53,9 @@ pub extern "C" fn hudarin_view_own(
     answer
 }
 
-/// The path of the node that stands so many places behind the root in the order of the paths, written into the room: each node
-/// stands at one place, behind what holds it, and behind the last one there is none. Refused where the handle keeps no view, no
-/// node stands there, or memory runs out; then, and where the room is too small, nothing is written.
+/// Writes the path of the node at this index in path order into the buffer: the root is at 0, and each node at one
+/// index, after its parent. Refused if the handle keeps no view, after the last node, or out of memory; then, and if
+/// the buffer is too small, nothing is written.
 #[unsafe(no_mangle)]
 pub extern "C" fn hudarin_view_node(
     alloc: Global,
@@ -62,7 +63,8 @@ pub extern "C" fn hudarin_view_node(
     place: u64,
     room: &mut [u8],
 ) -> NodeAnswer
-    ensures answer { TellsNode (IsPathAt view.old.seal.kept place) (IsNoPathAt view.old.seal.kept place) view.old room.old room.new result }
+    ensures answer { TellsNode (IsPathAt view.old.seal.kept place) (IsNoPathAt view.old.seal.kept place)
+        view.old room.old room.new result }
     ensures view { Stays view.old view.new }
 {
     let Some(kept) = view.take(alloc) else {
@@ -76,8 +78,8 @@ pub extern "C" fn hudarin_view_node(
     answer
 }
 
-/// A law: an edit that brings what `hudarin_view_own` wrote of a node, where no entry has a flag without a name, gives the node of
-/// its path the same owner, group and DACL.
+/// A law: an edit whose value is what `hudarin_view_own` wrote of a node, where no entry has an unnamed flag, gives the
+/// node of its path the same owner, group and DACL.
 pub fn own_forms_come_back()
     ensures { OwnFormsComeBack }
 {}

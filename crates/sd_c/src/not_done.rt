@@ -19,7 +19,7 @@ use std::alloc::AllocError;
 pub enum PathArgument {
     /// The node's.
     Path,
-    /// Where a move goes to.
+    /// The target of a move.
     Target,
 }
 
@@ -38,13 +38,13 @@ impl PathArgument {
 /// Why a call over a store or a view did nothing.
 #[derive(Clone, Copy)]
 pub enum NotDone {
-    /// Memory ran out.
+    /// Out of memory.
     Memory,
-    /// The handle of the store keeps none.
+    /// The store's handle keeps no store.
     StoreHandle,
-    /// The handle of the view keeps none.
+    /// The view's handle keeps no view.
     ViewHandle,
-    /// The handle of the token keeps none.
+    /// The token's handle keeps no token.
     TokenHandle,
     /// A mask of the mapping has a bit beyond 0x001FFFFF.
     MappingBits,
@@ -62,13 +62,13 @@ pub enum NotDone {
     },
     /// The bytes hold no descriptor.
     Descriptor(WireFault),
-    /// The descriptor lacks an owner or a group, or has one where a DACL alone is wanted.
+    /// The descriptor lacks an owner or a group, or has one where only a DACL may be.
     Parts,
-    /// The bytes don't begin with a SID.
+    /// The bytes don't start with a SID.
     Sid(SidError),
     /// The tree refuses the edit.
     Refused(EditRefusal),
-    /// No node stands at the path.
+    /// There is no node at the path.
     NoNode,
 }
 

@@ -1,4 +1,4 @@
-//! The check by a token that is kept, straight over a descriptor's bytes.
+//! The check by a kept token, directly over a descriptor's bytes.
 
 ghost use Rattle.std.specs.Prelude.{◌≡◌};
 ghost use Rattle.sd_c.specs.Answer.{check_answer};
@@ -16,8 +16,8 @@ use sd_sid::Mask;
 use sd_wire_check::check_bytes;
 use std::alloc::Global;
 
-/// The verdict on a request ([MS-DTYP] 2.5.3.2), for the descriptor in the bytes and a token that is kept. Refused by
-/// the token's handle, then by the mapping, then by the bytes. Takes no memory.
+/// The verdict on a request ([MS-DTYP] 2.5.3.2), for the descriptor in the bytes and a kept token. The token's handle
+/// is tested first, then the mapping, then the bytes. Takes no memory.
 #[unsafe(no_mangle)]
 #[tactic(auto, unfolding(crate::specs::OverBytes::request_over))]
 pub extern "C" fn hudarin_check_bytes(

@@ -11,15 +11,15 @@ use std::alloc::AllocError;
 /// Why a call that writes is refused.
 #[derive(Clone, Copy)]
 pub enum Refusal {
-    /// Memory ran out.
+    /// Out of memory.
     Memory,
     /// The text isn't UTF-8 from this byte on.
     Utf8 { place: u64 },
-    /// The text's first fault, and its byte.
+    /// The text's first fault, and its byte offset.
     Text { fault: TextFault, place: u64 },
     /// The bytes hold no descriptor.
     Wire(WireFault),
-    /// The bytes don't begin with a SID.
+    /// The bytes don't start with a SID.
     Sid(SidError),
     /// The SID at their front is no domain's.
     NoDomain,

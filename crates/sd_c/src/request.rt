@@ -46,7 +46,8 @@ pub(crate) fn token_of(
     restricting: &[u8],
     privileges: u32,
 ) -> Result<Token, Stop>
-    ensures read { Gives (λ token. token) result (token_read user.now groups.now states.now restricting.now privileges) }
+    ensures read { Gives (λ token. token) result
+        (token_read user.now groups.now states.now restricting.now privileges) }
     ensures memory { IsErrOf result Stop.Memory → (0 < length states.now) ⊎ (0 < length restricting.now) }
 {
     let user = user_of(user)?;
@@ -66,7 +67,7 @@ fn user_of(bytes: &[u8]) -> Result<Sid, NotRead>
     }
 }
 
-/// The state that a number says.
+/// The state with a number.
 fn state_of(number: u32) -> Option<GroupState>
     ensures { result ≡ state_read number }
 {
@@ -101,7 +102,7 @@ fn group_of(
     }
 }
 
-/// The groups: as many as there are states. Memory is taken first, for no more than the bytes have room for.
+/// The groups: as many as there are states. Memory is taken first, for no more than fit the bytes.
 #[tactic(auto, unfolding(crate::specs::Request::groups_read))]
 fn groups_of(alloc: Global, bytes: &[u8], states: &[u32]) -> Result<Vec<(Sid, GroupState)>, Stop>
     ensures read { Gives (λ groups. groups.items) result (groups_read bytes.now states.now 0 (length states.now)) }
@@ -139,7 +140,7 @@ fn restricting_sid(bytes: &[u8], at: usize) -> Result<(Sid, usize), NotRead>
     }
 }
 
-/// The restricting SIDs, to the end of the bytes. Memory is taken first, for no more than the bytes have room for.
+/// The restricting SIDs, to the end of the bytes. Memory is taken first, for no more than fit the bytes.
 #[tactic(auto, unfolding(crate::specs::Request::sids_read))]
 fn restricting_of(alloc: Global, bytes: &[u8]) -> Result<Vec<Sid>, Stop>
     ensures read { Gives (λ sids. sids.items) result (restricting_read bytes.now) }
@@ -158,7 +159,7 @@ fn restricting_of(alloc: Global, bytes: &[u8]) -> Result<Vec<Sid>, Stop>
     Ok(sids)
 }
 
-/// The privileges that the bits say.
+/// The privileges of these bits.
 fn privileges_of(bits: u32) -> Result<Privileges, NotRead>
     ensures { result ≡ privileges_read bits }
 {

@@ -8,8 +8,8 @@ use crate::handle::{Handle, Kept};
 use std::alloc::{AllocError, Global};
 use std::sync::Arc;
 
-/// Keeps behind `other` what `handle` keeps, for another thread: nothing of it is copied, and it is freed with the last of its
-/// handles. Refused where `handle` keeps nothing or a store, or `other` something; then both stay as they were.
+/// Makes `other` another handle of what `handle` keeps, as for another thread: nothing is copied, and it is freed with
+/// its last handle. Refused if `handle` keeps nothing or a store, or `other` is in use; then both are unchanged.
 #[unsafe(no_mangle)]
 pub extern "C" fn hudarin_share(alloc: Global, handle: &mut Handle, other: &mut Handle) -> Written
     ensures shared { IsShared handle.old other.old other.new result }
@@ -33,7 +33,7 @@ pub extern "C" fn hudarin_share(alloc: Global, handle: &mut Handle, other: &mut 
     answer
 }
 
-/// The same, for one holder more; a store has one alone.
+/// Another handle's content; none of a store, which has one handle.
 fn shared(alloc: Global, kept: &Kept) -> Result<Option<Box<Kept>>, AllocError>
     ensures { MatchResult result
         (λ second. MatchOption second (IsSome (store_in kept.now)) (λ other. IsSame kept.now other.value))

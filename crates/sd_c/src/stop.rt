@@ -7,32 +7,32 @@ use sd_sid::SidError;
 use sd_wire::WireFault;
 use std::alloc::{AllocError, AllocFailed};
 
-/// The first argument from the left that isn't read, and why.
+/// The first invalid argument from the left, and why.
 #[derive(Clone, Copy)]
 pub enum NotRead {
     /// The descriptor's bytes hold none.
     Descriptor(WireFault),
-    /// The user's bytes don't begin with a SID.
+    /// The user's bytes don't start with a SID.
     User(SidError),
-    /// No SID stands where the group with this index is wanted.
+    /// There is no SID where the group with this index must be.
     Group { fault: SidError, at: u64 },
-    /// Bytes stand behind as many groups as there are states.
+    /// Bytes follow as many groups as there are states.
     BehindGroups { at: u64 },
-    /// The state of the group with this index isn't one.
+    /// The state of the group with this index is invalid.
     State { at: u64 },
-    /// No SID stands where the restricting SID with this index is wanted.
+    /// There is no SID where the restricting SID with this index must be.
     Restricting { fault: SidError, at: u64 },
     /// A bit that is no privilege.
     PrivilegeBits,
     /// A mask of the mapping has a bit beyond 0x001FFFFF.
     MappingBits,
-    /// The handle of the descriptor keeps none.
+    /// The descriptor's handle keeps no descriptor.
     DescriptorHandle,
-    /// The handle of the token keeps none.
+    /// The token's handle keeps no token.
     TokenHandle,
 }
 
-/// Why a check stops: an argument isn't read, or memory ran out.
+/// Why a check stops: an invalid argument, or out of memory.
 #[derive(Clone, Copy)]
 pub enum Stop {
     NotRead(NotRead),

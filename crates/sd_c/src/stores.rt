@@ -1,4 +1,4 @@
-//! The calls over a store: one writer's, behind a handle.
+//! The calls over a store, which has one writer.
 
 ghost use Rattle.std.specs.Prelude.{◌≡◌, ◌⊎◌, None, Some, IfErr, IfOk, IsSome, MatchOption, MatchResult, OnOk};
 ghost use Rattle.sd_tree.specs.History.{history_of};
@@ -15,9 +15,9 @@ use sd_snapshot::Snapshots;
 use sd_tree::{Tree, TreeError};
 use std::alloc::{AllocError, Global};
 
-/// Keeps a store whose tree is the root alone: a container with the owner, the group and the DACL of the descriptor in the bytes
-/// ([MS-DTYP] 2.4.6), and this mapping for all nodes. Refused where one of them isn't read, the tree refuses the root, memory
-/// runs out, or the handle keeps something already; then it stays as it was.
+/// Opens a store whose tree is the root alone: a container with the owner, the group and the DACL of the descriptor in
+/// the bytes ([MS-DTYP] 2.4.6), and this mapping for all nodes. Refused if one of them is invalid, if the tree refuses
+/// the root, out of memory, or if the handle is in use; then it is unchanged.
 #[unsafe(no_mangle)]
 pub extern "C" fn hudarin_store_open(
     alloc: Global,
@@ -70,8 +70,9 @@ fn reason_of(e: TreeError) -> NotDone
     }
 }
 
-/// Makes an edit of the store's tree: its number, the path of its node, and what it brings, by its kind a descriptor's bytes, a SID's,
-/// a target's text, or nothing. Where an argument isn't read, the tree refuses the edit or memory runs out, nothing changes.
+/// Makes an edit of the store's tree: its number, the path of its node, and its value, by its kind a descriptor's
+/// bytes, a SID's, a target's text, or nothing. If an argument is invalid, if the tree refuses the edit, or out of
+/// memory, nothing changes.
 #[unsafe(no_mangle)]
 pub extern "C" fn hudarin_store_edit(
     alloc: Global,
@@ -114,7 +115,7 @@ fn edited(
     }
 }
 
-/// Whether the edit that the arguments say would be made, and why not: as `hudarin_store_edit` answers, and nothing changes.
+/// What `hudarin_store_edit` would answer to these arguments; nothing changes.
 #[unsafe(no_mangle)]
 pub extern "C" fn hudarin_store_judge(
     alloc: Global,
@@ -151,8 +152,8 @@ fn judged(alloc: Global, kept: &Kept, kind: u32, path: &[u8], value: &[u8]) -> R
     }
 }
 
-/// Keeps behind `view` the store's tree as it is now, with all its edits; `length` tells how many they are. Refused where `store` keeps
-/// none, `view` keeps something already, or memory runs out; then both stay as they were.
+/// Makes `view` the store's tree with all its edits; `length` is their number. Refused if `store` keeps no store, if
+/// `view` is in use, or out of memory; then both are unchanged.
 #[unsafe(no_mangle)]
 pub extern "C" fn hudarin_store_publish(
     alloc: Global,
@@ -180,10 +181,11 @@ pub extern "C" fn hudarin_store_publish(
     answer
 }
 
-/// A view of the store that is kept, where one is, and the length of its journal.
+/// A view of the kept store, if there is one, and the length of its journal.
 fn published(alloc: Global, kept: &mut Kept) -> Result<Option<(Box<Kept>, u64)>, AllocError>
     ensures same { IsSame kept.old kept.new }
-    ensures view { IfOk result (λ made. MatchOption made (store_in kept.old ≡ None) (λ x. IsViewOf kept.old x.0.value x.1)) }
+    ensures view { IfOk result
+        (λ made. MatchOption made (store_in kept.old ≡ None) (λ x. IsViewOf kept.old x.0.value x.1)) }
     ensures memory { IfErr result (λ _. IsSome (store_in kept.old)) }
 {
     let Kept::Store(store) = kept else {
@@ -195,9 +197,9 @@ fn published(alloc: Global, kept: &mut Kept) -> Result<Option<(Box<Kept>, u64)>,
     Ok(Some((view, length)))
 }
 
-/// The store's tree becomes that of the view, with its edits alone; `length` says how many they are. A view of another
-/// store brings that store's root and mapping too. Refused where `store` keeps none, `view` keeps none, or memory runs
-/// out; then the store stays as it was.
+/// Makes the store's tree that of the view, with its edits alone; `length` is their number. A view of another store
+/// brings that store's root and mapping too. Refused if `store` keeps no store or `view` no view, or out of memory;
+/// then the store is unchanged.
 #[unsafe(no_mangle)]
 pub extern "C" fn hudarin_store_revert(
     alloc: Global,
@@ -225,7 +227,7 @@ pub extern "C" fn hudarin_store_revert(
     answer
 }
 
-/// The store that is kept shows what the view does, where they are such; how long that journal is.
+/// Gives the kept store the view's tree, if they are a store and a view; the length of its journal.
 fn reverted(alloc: Global, first: &mut Kept, second: &Kept) -> Result<Option<u64>, AllocError>
     ensures { MatchResult result (λ told. MatchOption told
         (((store_in first.old ≡ None) ⊎ (view_in second.now ≡ None)) × IsSame first.old first.new)

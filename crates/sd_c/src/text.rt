@@ -16,9 +16,9 @@ use sd_text::{Domain, TextError, print_sddl, read_mask, read_sddl_in, read_sid_t
 use sd_wire::write_descriptor;
 use std::alloc::Global;
 
-/// The self-relative form ([MS-DTYP] 2.4.6) of the descriptor that the SDDL text spells ([MS-DTYP] 2.5.1), written into the
-/// room. Refused where the text isn't UTF-8, has a fault, or memory runs out; then, and where the room is too small, nothing
-/// is written.
+/// Writes the self-relative form ([MS-DTYP] 2.4.6) of the descriptor that the SDDL text spells ([MS-DTYP] 2.5.1) into
+/// the buffer. Refused if the text isn't UTF-8 or has a fault, or out of memory; then, and if the buffer is too small,
+/// nothing is written.
 #[unsafe(no_mangle)]
 pub extern "C" fn hudarin_sddl_to_bytes(alloc: Global, text: &[u8], room: &mut [u8]) -> Written
     ensures { Answers (IsFormOf text.now) (RefusesText sddl text.now) room.old room.new result }
@@ -29,7 +29,7 @@ pub extern "C" fn hudarin_sddl_to_bytes(alloc: Global, text: &[u8], room: &mut [
     }
 }
 
-/// The canonical text of the descriptor that the SDDL text spells ([MS-DTYP] 2.5.1), written into the room, and refused as
+/// Writes the canonical text of the descriptor that the SDDL text spells ([MS-DTYP] 2.5.1) into the buffer. Refused as
 /// `hudarin_sddl_to_bytes` is.
 #[unsafe(no_mangle)]
 pub extern "C" fn hudarin_sddl_canonical(alloc: Global, text: &[u8], room: &mut [u8]) -> Written
@@ -41,8 +41,8 @@ pub extern "C" fn hudarin_sddl_canonical(alloc: Global, text: &[u8], room: &mut 
     }
 }
 
-/// The bytes of the SID that the text spells, in full or by its alias ([MS-DTYP] 2.4.2), written into the room, and refused
-/// as `hudarin_sddl_to_bytes` is. At most 68 bytes are written.
+/// Writes the bytes of the SID that the text spells, in full or by its alias ([MS-DTYP] 2.4.2), into the buffer: at
+/// most 68. Refused as `hudarin_sddl_to_bytes` is.
 #[unsafe(no_mangle)]
 pub extern "C" fn hudarin_sid_text_to_bytes(alloc: Global, text: &[u8], room: &mut [u8]) -> Written
     ensures { Answers (IsSidOf text.now) (RefusesText sid_text text.now) room.old room.new result }
@@ -53,8 +53,8 @@ pub extern "C" fn hudarin_sid_text_to_bytes(alloc: Global, text: &[u8], room: &m
     }
 }
 
-/// The mask that the text spells: a number, or names of rights ([MS-DTYP] 2.5.1.1, ace-rights). Refused where the text isn't
-/// UTF-8 or has a fault. Takes no memory.
+/// The mask that the text spells: a number, or names of rights ([MS-DTYP] 2.5.1.1, ace-rights). Refused if the text
+/// isn't UTF-8 or has a fault. Takes no memory.
 #[unsafe(no_mangle)]
 pub extern "C" fn hudarin_mask_from_text(text: &[u8]) -> MaskAnswer
     ensures { AnswersMask text.now result }
@@ -65,7 +65,7 @@ pub extern "C" fn hudarin_mask_from_text(text: &[u8]) -> MaskAnswer
     }
 }
 
-/// The bytes as a text, or where they cease to be UTF-8.
+/// The bytes as a text, or the number of valid bytes at their front.
 pub(crate) fn utf8_of(bytes: &[u8]) -> Result<&str, u64>
     ensures ok { IfOk result (λ text. text.now ≡ bytes.now) }
     ensures err { IfErr result (λ place. IsNotUtf8 bytes.now place) }
@@ -76,8 +76,8 @@ pub(crate) fn utf8_of(bytes: &[u8]) -> Result<&str, u64>
     }
 }
 
-/// The reason that an error of a text is.
-fn refusal_of(e: TextError) -> Refusal
+/// The reason for an error of a text.
+pub(crate) fn refusal_of(e: TextError) -> Refusal
     ensures { result ≡ text_refusal e }
 {
     match e {
@@ -86,7 +86,7 @@ fn refusal_of(e: TextError) -> Refusal
     }
 }
 
-/// The descriptor that the text spells, in the domain where one is given.
+/// The descriptor that the text spells, in the domain if one is given.
 pub(crate) fn descriptor_of(
     alloc: Global,
     domain: Option<Domain>,
@@ -104,7 +104,7 @@ pub(crate) fn descriptor_of(
     }
 }
 
-/// The SID that the text spells, in the domain where one is given.
+/// The SID that the text spells, in the domain if one is given.
 pub(crate) fn sid_of(domain: Option<Domain>, text: &[u8]) -> Result<Sid, Refusal>
     ensures ok { IfOk result (λ sid. Spells (sid_text_in domain) text.now sid) }
     ensures err { IfErr result (λ why. RefusesText (sid_text_in domain) text.now why) }

@@ -9,7 +9,7 @@ use crate::refusal::Refusal;
 use sd_wire::{WireError, WireFault, read_descriptor, write_descriptor};
 use std::alloc::{AllocError, Global};
 
-/// The bytes of a header, and in it where OffsetSacl begins and ends ([MS-DTYP] 2.4.6).
+/// The length of a header in bytes, and the start and the end of OffsetSacl in it ([MS-DTYP] 2.4.6).
 const HEADER_BYTES: usize = 20;
 
 const SACL_OFFSET: usize = 12;
@@ -19,21 +19,21 @@ const SACL_OFFSET_END: usize = 16;
 /// The control bit SP: a SACL is present.
 const SACL_PRESENT: u16 = 0x0010;
 
-/// The control bit RM: the byte behind the revision is the resource manager's.
+/// The control bit RM: the byte after the revision is the resource manager's.
 const RESOURCE_MANAGER: u16 = 0x4000;
 
-/// What the taking out of a descriptor answers.
+/// The answer of a call that leaves parts of a descriptor out.
 #[repr(C)]
 #[derive(Clone, Copy, Debug, PartialEq, Eq)]
 pub struct Trimmed {
     pub written: Written,
-    /// 0x1 where a SACL is left out, joined with 0x2 where the resource manager's byte is.
+    /// 0x1 if a SACL is left out, joined with 0x2 if the resource manager's byte is.
     pub left_out: u32,
 }
 
-/// The one self-relative form ([MS-DTYP] 2.4.6) of the descriptor whose header stands at a place in a blob from whose front its offsets
-/// count, written into the room. Where `leaves_sacl` is 0 a SACL is refused, and else it is left out. Refused where no descriptor stands
-/// there or memory runs out; then, and where the room is too small, nothing is written.
+/// Writes the one self-relative form ([MS-DTYP] 2.4.6) of the descriptor whose header is at a place in a blob, from
+/// whose front its offsets count, into the buffer. If `leaves_sacl` is 0 a SACL is refused, else it is left out.
+/// Refused if no descriptor is there, or out of memory; then, and if the buffer is too small, nothing is written.
 #[unsafe(no_mangle)]
 pub extern "C" fn hudarin_descriptor_trim(
     alloc: Global,
@@ -62,7 +62,8 @@ fn form_in(
     place: u64,
     leaves_sacl: bool,
 ) -> Result<(Vec<u8>, u32), Refusal>
-    ensures ok { IfOk result (λ made. IsFormIn blob.now place leaves_sacl made.0.items × (made.1 ≡ left_out leaves_sacl blob.now place)) }
+    ensures ok { IfOk result (λ made. IsFormIn blob.now place leaves_sacl made.0.items
+        × (made.1 ≡ left_out leaves_sacl blob.now place)) }
     ensures err { IfErr result (λ why. RefusesBlob blob.now place leaves_sacl why) }
 {
     if blob.len() < HEADER_BYTES || place > (blob.len() - HEADER_BYTES) as u64 {

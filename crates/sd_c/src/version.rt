@@ -2,7 +2,7 @@
 
 ghost use Rattle.std.specs.Prelude.{◌≡◌};
 
-/// A version: another `major` may change what stands, another `minor` adds to it, another `patch` mends it.
+/// A version: another `major` may change what exists, another `minor` adds to it, another `patch` fixes it.
 #[repr(C)]
 #[derive(Clone, Copy, Debug, PartialEq, Eq)]
 pub struct Version {
@@ -11,7 +11,7 @@ pub struct Version {
     pub patch: u32,
 }
 
-/// The version of the library, which a caller may compare with that of the header it was built with.
+/// The version of the library, which a caller may compare with that of its header.
 #[unsafe(no_mangle)]
 pub extern "C" fn hudarin_version() -> Version
     ensures { (result.major ≡ 0) × (result.minor ≡ 1) × (result.patch ≡ 0) }

@@ -18,17 +18,18 @@ use sd_tree::{CheckReply, Tree};
 use sd_wire::write_descriptor;
 use std::alloc::Global;
 
-/// What a check by a view answers.
+/// The answer of a check by a view.
 #[repr(C)]
 #[derive(Clone, Copy, Debug, PartialEq, Eq)]
 pub struct ViewAnswer {
     pub answer: CheckAnswer,
-    /// How many edits the view's journal has; 0 where a handle didn't serve, the path isn't read or memory runs out.
+    /// The number of edits of the view's journal; 0 if a handle or the path is invalid, or out of memory.
     pub length: u64,
 }
 
-/// The verdict on a request for the node of a path ([MS-DTYP] 2.5.3.2), in the tree that the view shows, and how many edits that
-/// has. Refused where a handle keeps something else, the path isn't read, no node stands there, or memory for the path runs out.
+/// The verdict on a request for the node of a path ([MS-DTYP] 2.5.3.2) in the view's tree, and the number of that
+/// tree's edits. Refused if a handle keeps another kind, if the path is invalid or has no node, or out of memory for
+/// the path.
 #[unsafe(no_mangle)]
 pub extern "C" fn hudarin_view_check(
     alloc: Global,
@@ -104,7 +105,7 @@ fn reply_given(reply: CheckReply) -> CheckAnswer
     }
 }
 
-/// How many edits a store's journal has, those too that no view shows, or a view's.
+/// The number of edits in the journal of a store, unpublished ones included, or of a view.
 #[unsafe(no_mangle)]
 pub extern "C" fn hudarin_journal_length(alloc: Global, handle: &mut Handle) -> Written
     ensures length { TellsLength handle.old result }
@@ -128,8 +129,8 @@ fn length_in(kept: &Kept) -> Written
     }
 }
 
-/// The self-relative form ([MS-DTYP] 2.4.6) of the descriptor of a path's node in the tree that the view shows, written into the room.
-/// Refused as a check by the view is; then, and where the room is too small, nothing is written.
+/// Writes the self-relative form ([MS-DTYP] 2.4.6) of the descriptor of a path's node in the view's tree into the
+/// buffer. Refused as a check by the view is; then, and if the buffer is too small, nothing is written.
 #[unsafe(no_mangle)]
 pub extern "C" fn hudarin_view_descriptor(
     alloc: Global,

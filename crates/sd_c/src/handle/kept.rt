@@ -6,7 +6,7 @@ use sd_snapshot::Snapshots;
 use sd_tree::{Shared, Tree};
 use std::sync::Arc;
 
-/// What was read once, to be asked often, by each handle that shares it; or a store, which one handle has.
+/// What was parsed once and is used often, by each handle that shares it; or a store, which has one handle.
 #[derive(Drop)]
 pub enum Kept {
     Descriptor(Arc<Descriptor>),

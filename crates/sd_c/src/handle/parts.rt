@@ -1,4 +1,4 @@
-//! A box with its fields in sight of the module above.
+//! A box as fields that the module above sees.
 
 ghost use Rattle.std.specs.Prelude.{◌≡◌};
 ghost use Rattle.std.specs.Box.Ownership.{box_owns};

@@ -9,7 +9,7 @@ use super::parts::Parts;
 use std::alloc::Global;
 use std::marker::Model;
 
-/// A pointer to what is kept, where it is there. To let a seal go frees nothing.
+/// A pointer to what is kept, if anything is. Dropping a seal frees nothing.
 #[repr(C)]
 #[derive(Drop)]
 pub struct Seal {

@@ -1,0 +1,122 @@
+-- What the statuses and faults of an answer mean, in words.
+use Rattle.std.specs.Prelude.{◌≡◌, ℕ, ◌==◌, List, [], Option, Some, None, option_map, unwrap_or, codes, if◌then◌else◌}
+use Rattle.sd_sid.specs.Sid.{sid_error_name, sid_error_number}
+use Rattle.sd_sid.specs.declared.sid.SidError.{SidError}
+use Rattle.sd_sid.specs.declared.sid.SidError.TheVariants as sids
+use Rattle.sd_text.specs.Fault.{name_of as text_fault_name, number_of as text_fault_number}
+use Rattle.sd_text.specs.declared.fault.TextFault.{TextFault}
+use Rattle.sd_text.specs.declared.fault.TextFault.TheVariants as texts
+use Rattle.sd_wire.specs.Fault.{wire_fault_name, wire_fault_number}
+use Rattle.sd_wire.specs.declared.fault.WireFault.{WireFault}
+use Rattle.sd_wire.specs.declared.fault.WireFault.TheVariants as wires
+use Rattle.sd_tree.specs.Refusals.{name_of as refusal_name, number_of as refusal_number}
+use Rattle.sd_tree.specs.declared.refusal.EditRefusal.{EditRefusal}
+use Rattle.sd_tree.specs.declared.refusal.EditRefusal.TheVariants as refusals
+
+-- what a status means; nothing of a number that is no status
+abbrev pub status_text : ℕ → List ℕ
+status_text n =
+    if n == 0 then codes "success"
+    else if n == 1 then codes "out of memory"
+    else if n == 2 then codes "the buffer is too small"
+    else if n == 3 then codes "a text isn't UTF-8"
+    else if n == 4 then codes "a text is invalid"
+    else if n == 5 then codes "the bytes hold no descriptor"
+    else if n == 6 then codes "the bytes don't start with a SID"
+    else if n == 7 then codes "bytes follow the groups"
+    else if n == 8 then codes "a group's state is invalid"
+    else if n == 9 then codes "a bit is no privilege"
+    else if n == 10 then codes "a mask of the mapping has a bit beyond 0x001FFFFF"
+    else if n == 11 then codes "a handle is empty, in use or of another kind"
+    else if n == 12 then codes "there is no such edit, or it takes no value"
+    else if n == 13 then codes "a text is no path"
+    else if n == 14 then codes "an owner or a group is missing, or isn't allowed"
+    else if n == 15 then codes "the tree refuses the edit"
+    else if n == 16 then codes "there is no node at the path"
+    else if n == 17 then codes "the SID is no domain's"
+    else if n == 18 then codes "the descriptor has no such part"
+    else []
+
+-- ---- the fault with a number
+
+abbrev pub text_fault : ℕ → Option TextFault
+text_fault n =
+    if n == 1 then Some texts.Syntax
+    else if n == 2 then Some texts.HasSacl
+    else if n == 3 then Some texts.EntryKind
+    else if n == 4 then Some texts.ObjectGuid
+    else if n == 5 then Some texts.UnknownAlias
+    else if n == 6 then Some texts.DomainAlias
+    else if n == 7 then Some texts.Range
+    else if n == 8 then Some texts.AclTooLarge
+    else None
+
+abbrev pub wire_fault : ℕ → Option WireFault
+wire_fault n =
+    if n == 1 then Some wires.Short
+    else if n == 2 then Some wires.Revision
+    else if n == 3 then Some wires.NotSelfRelative
+    else if n == 4 then Some wires.HasSacl
+    else if n == 5 then Some wires.BadOffset
+    else if n == 6 then Some wires.BadSid
+    else if n == 7 then Some wires.AclRevision
+    else if n == 8 then Some wires.AclSize
+    else if n == 9 then Some wires.EntrySize
+    else if n == 10 then Some wires.EntryKind
+    else None
+
+-- of the errors of a SID those that its bytes have
+abbrev pub sid_fault : ℕ → Option SidError
+sid_fault n =
+    if n == 1 then Some sids.Revision
+    else if n == 2 then Some sids.Count
+    else if n == 3 then Some sids.Short
+    else None
+
+abbrev pub path_fault_name : ℕ → List ℕ
+path_fault_name n =
+    if n == 1 then codes "Syntax"
+    else if n == 2 then codes "NameTooLong"
+    else if n == 3 then codes "TooManyNames"
+    else []
+
+abbrev pub refusal_of : ℕ → Option EditRefusal
+refusal_of n =
+    if n == 1 then Some refusals.NoParent
+    else if n == 2 then Some refusals.ParentIsObject
+    else if n == 3 then Some refusals.Exists
+    else if n == 4 then Some refusals.NoNode
+    else if n == 5 then Some refusals.NotEmpty
+    else if n == 6 then Some refusals.IsRoot
+    else if n == 7 then Some refusals.InheritedEntry
+    else if n == 8 then Some refusals.NotCanonical
+    else if n == 9 then Some refusals.AclTooLarge
+    else if n == 10 then Some refusals.TooDeep
+    else if n == 11 then Some refusals.NodesFull
+    else if n == 12 then Some refusals.JournalFull
+    else if n == 13 then Some refusals.IntoItself
+    else None
+
+-- ---- its name
+
+-- nothing where there is no such fault
+abbrev pub name_or_nothing : {F : Type 0} → (F → List ℕ) → Option F → List ℕ
+name_or_nothing name (Some fault) = name fault
+name_or_nothing name None = []
+
+abbrev pub fault_name : ℕ → ℕ → List ℕ
+fault_name status n =
+    if status == 4 then name_or_nothing text_fault_name (text_fault n)
+    else if status == 5 then name_or_nothing wire_fault_name (wire_fault n)
+    else if status == 6 then name_or_nothing sid_error_name (sid_fault n)
+    else if status == 13 then path_fault_name n
+    else if status == 15 then name_or_nothing refusal_name (refusal_of n)
+    else []
+
+-- each fault has its name at its number
+abbrev pub FaultsHaveNames : Type 0
+FaultsHaveNames =
+    ((f : TextFault) → fault_name 4 (text_fault_number f) ≡ text_fault_name f)
+    × ((f : WireFault) → fault_name 5 (wire_fault_number f) ≡ wire_fault_name f)
+    × (fault_name 6 (sid_error_number sids.Short) ≡ sid_error_name sids.Short)
+    × ((r : EditRefusal) → fault_name 15 (refusal_number r) ≡ refusal_name r)
