@@ -87,6 +87,7 @@ STATUSES = {
     15: "refused",
     16: "no node",
     17: "domain",
+    18: "no part",
 }
 VERDICTS = {1: "granted", 2: "denied", 3: "reserved", 4: "empty"}
 ARGUMENTS = {
@@ -105,40 +106,6 @@ ARGUMENTS = {
     13: "value",
 }
 
-#: The names of faults, by status and in the order of their numbers, which count from 1: of a text (SDDL, a SID or a
-#: mask), of a descriptor's bytes, of a SID's bytes, of a path, and of an edit that the tree refuses.
-FAULTS = {
-    "sddl": ("Syntax", "HasSacl", "EntryKind", "ObjectGuid", "UnknownAlias", "DomainAlias", "Range", "AclTooLarge"),
-    "wire": (
-        "Short",
-        "Revision",
-        "NotSelfRelative",
-        "HasSacl",
-        "BadOffset",
-        "BadSid",
-        "AclRevision",
-        "AclSize",
-        "EntrySize",
-        "EntryKind",
-    ),
-    "sid": ("Revision", "Count", "Short"),
-    "path": ("Syntax", "NameTooLong", "TooManyNames"),
-    "refused": (
-        "NoParent",
-        "ParentIsObject",
-        "Exists",
-        "NoNode",
-        "NotEmpty",
-        "IsRoot",
-        "InheritedEntry",
-        "NotCanonical",
-        "AclTooLarge",
-        "TooDeep",
-        "NodesFull",
-        "JournalFull",
-        "IntoItself",
-    ),
-}
 CAUSES = {
     1: "without a list",
     3: "to the owner",
@@ -162,9 +129,11 @@ KEYS = (0x20019, 0x20006, 0x20019, 0xF003F)
 SERVICES = (0x2008D, 0x20002, 0x20170, 0xF01FF)
 PROCESSES = (0x20410, 0x20BEA, 0x121001, 0x1FFFFF)
 
-_MEMORY, _ROOM, _TEXT, _HANDLE, _NO_NODE = 1, 2, 4, 11, 16
+_MEMORY, _ROOM, _TEXT, _HANDLE, _NO_NODE, _NO_PART = 1, 2, 4, 11, 16, 18
+_WITH_FAULTS = (_TEXT, 5, 6, 13, 15)
 _CONTAINER = 1
 _DESCRIPTOR_BYTES = 65688
+_LIST, _ALLOW, _PROTECTED = 3, 1, 0x1000
 _BY_THE_LIST = 2
 _NO_PASS, _NO_ENTRY = 0, 3
 _ADD_CONTAINER, _ADD_OBJECT, _SET_OWNER, _SET_GROUP, _SET_DACL, _REMOVE, _PROTECT_KEEPING, _MOVE = range(1, 9)
@@ -215,6 +184,14 @@ class _Trimmed(ctypes.Structure):
 
 class _NodeAnswer(ctypes.Structure):
     _fields_ = [("written", _Written), ("kind", _U32)]
+
+
+class _Dacl(ctypes.Structure):
+    _fields_ = [("status", _U32), ("kind", _U32), ("control", _U32), ("entries", _U64)]
+
+
+class _EntryAnswer(ctypes.Structure):
+    _fields_ = [("written", _Written), ("kind", _U32), ("flags", _U32), ("mask", _U32)]
 
 
 class _Mask(ctypes.Structure):
@@ -270,14 +247,21 @@ def _load() -> ctypes.CDLL:
         "bytes_to_sddl": (given + buffer, _Written),
         "sid_text_to_bytes": (given + buffer, _Written),
         "sid_bytes_to_text": (given + buffer, _Written),
+        "sid_bytes_to_full_text": (given + buffer, _Written),
         "sddl_to_bytes_in": (given * 2 + buffer, _Written),
         "sid_text_to_bytes_in": (given * 2 + buffer, _Written),
+        "sddl_trim": (given * 2 + buffer, _Trimmed),
         "descriptor_length": (given, _Written),
         "descriptor_trim": (given + [_U64, _U32] + buffer, _Trimmed),
         "mask_from_text": (given, _Mask),
         "check": (given + token + request, _Verdict),
         "keep_bytes": (given + [kept], _Written),
         "keep_token": (token + [kept], _Verdict),
+        "descriptor_owner": ([kept] + buffer, _Written),
+        "descriptor_group": ([kept] + buffer, _Written),
+        "descriptor_dacl": ([kept], _Dacl),
+        "descriptor_entry": ([kept, _U64] + buffer, _EntryAnswer),
+        "descriptor_subject": ([kept, _U64] + buffer, _Written),
         "check_kept": ([kept, kept] + request, _Verdict),
         "check_bytes": (given + [kept] + request, _Verdict),
         "explain": ([kept, kept] + request, _Explanation),
@@ -292,6 +276,7 @@ def _load() -> ctypes.CDLL:
         "view_own": ([kept] + given + buffer, _NodeAnswer),
         "view_node": ([kept, _U64] + buffer, _NodeAnswer),
         "journal_length": ([kept], _Written),
+        "fault_name": ([_U32, _U32] + buffer, _Written),
         "release": ([kept], None),
     }
     for name, (arguments, result) in calls.items():
@@ -301,6 +286,21 @@ def _load() -> ctypes.CDLL:
 
 
 _library = _load()
+
+
+def _fault_names(status: int) -> Iterator[str]:
+    """The names of a status' faults, in the order of their numbers."""
+    buffer = ctypes.create_string_buffer(64)
+    for fault in itertools.count(1):
+        length = _library.hudarin_fault_name(status, fault, buffer, len(buffer)).length
+        if length == 0:
+            return
+        yield buffer.raw[:length].decode()
+
+
+#: The names of faults, by status and in the order of their numbers, which count from 1: of a text (SDDL, a SID or a
+#: mask), of a descriptor's bytes, of a SID's bytes, of a path, and of an edit that the tree refuses.
+FAULTS = {STATUSES[status]: tuple(_fault_names(status)) for status in _WITH_FAULTS}
 
 
 class Refused(ValueError):
@@ -435,7 +435,7 @@ def _spelled(name: str, text: str, domain: Optional["Sid"], kind: str) -> bytes:
         return _written(call, given, kind)
     of_domain = getattr(_library, name + "_in")
     sid = bytes(_of_type(domain, Sid, "domain"))
-    return _filled(lambda buffer, length: of_domain(sid, len(sid), given, len(given), buffer, length), kind)[0]
+    return _filled(lambda *buffer: of_domain(sid, len(sid), given, len(given), *buffer), kind)[0]
 
 
 class Verdict(NamedTuple):
@@ -504,19 +504,14 @@ def _entry(finding: Any) -> Optional[int]:
     return None if finding.kind in (_NO_PASS, _NO_ENTRY) else finding.entry + 1
 
 
-def _found(finding: Any, entries: Tuple[str, ...]) -> str:
-    """What a pass over the list found, in words."""
-    number = _entry(finding)
-    return "by no entry" if number is None else f"by entry {number} {entries[number - 1]}"
-
-
-def _part(part: Any, entries: Tuple[str, ...]) -> Part:
+def _part(part: Any, found: Callable[[Any], str]) -> Part:
+    """A part of an explanation; ``found`` says what a pass over the list found."""
     if part.cause != _BY_THE_LIST:
         why = CAUSES[part.cause]
     elif part.second.kind == _NO_PASS:
-        why = _found(part.first, entries)
+        why = found(part.first)
     else:
-        why = f"{_found(part.first, entries)}, restricted {_found(part.second, entries)}"
+        why = f"{found(part.first)}, restricted {found(part.second)}"
     return Part(part.granted == 1, part.mask, _entry(part.first), _entry(part.second), why)
 
 
@@ -571,6 +566,11 @@ class Sid(_Bytes):
     def __str__(self) -> str:
         """The SID's alias if it has one, otherwise the SID in full."""
         return _written(_library.hudarin_sid_bytes_to_text, self._bytes).decode()
+
+    @property
+    def full(self) -> str:
+        """The SID in full, though it may have an alias."""
+        return _written(_library.hudarin_sid_bytes_to_full_text, self._bytes).decode()
 
     def __repr__(self) -> str:
         return f"Sid.from_text({str(self)!r})"
@@ -685,26 +685,11 @@ class Entry(NamedTuple):
     sid: Sid
     #: The entry in SDDL, as "(A;OICI;FR;;;BU)".
     text: str
+    #: The SID by which the entry applies to a token: its own, but of OWNER RIGHTS (S-1-3-4) the owner, or None.
+    subject: Optional[Sid]
 
     def __str__(self) -> str:
         return self.text
-
-
-# The parts of a canonical text (docs/FORMATS.md), and of an entry in it.
-_SID_TEXT = r"S-1-[0-9a-fx-]+|[A-Z]{2}"
-_SECTIONS = re.compile(
-    rf"(?:O:(?P<owner>{_SID_TEXT}))?(?:G:(?P<group>{_SID_TEXT}))?(?:D:(?P<words>[A-Z_]*)(?P<entries>(?:\([^()]*\))*))?"
-)
-_ENTRY = re.compile(rf"\((?P<kind>[AD]);(?P<flags>(?:[A-Z]{{2}})*);(?P<mask>\w+);;;(?P<sid>{_SID_TEXT})\)")
-
-
-def _entry_of(text: str) -> Entry:
-    found = _ENTRY.fullmatch(text)
-    if found is None:
-        raise AssertionError(f"no entry of a canonical text: {text}")
-    flags = sum(FLAGS[found["flags"][at : at + 2]] for at in range(0, len(found["flags"]), 2))
-    kind = "allow" if found["kind"] == "A" else "deny"
-    return Entry(kind, flags, mask(found["mask"]), Sid.from_text(found["sid"]), text)
 
 
 class Descriptor(_Bytes):
@@ -721,10 +706,14 @@ class Descriptor(_Bytes):
         return cls._of(given[: _checked(_library.hudarin_descriptor_length(given, len(given))).length])
 
     @classmethod
-    def from_sddl(cls, text: str, domain: Optional[Sid] = None) -> "Descriptor":
+    def from_sddl(cls, text: str, domain: Optional[Sid] = None, leaves_sacl: bool = False) -> "Descriptor":
         """The descriptor that the SDDL text spells. With a ``domain`` the aliases of a domain's accounts and groups, as
-        "DA", are SIDs of that domain."""
-        return cls._of(_spelled("hudarin_sddl_to_bytes", text, domain, "sddl"))
+        "DA", are SIDs of that domain. A SACL is ``Refused``, unless ``leaves_sacl`` is True: then it is left out."""
+        if not _of_type(leaves_sacl, bool, "leaves_sacl"):
+            return cls._of(_spelled("hudarin_sddl_to_bytes", text, domain, "sddl"))
+        given, sid = _text(text), b"" if domain is None else bytes(_of_type(domain, Sid, "domain"))
+        trim = _library.hudarin_sddl_trim
+        return cls._of(_filled(lambda *buffer: trim(sid, len(sid), given, len(given), *buffer))[0])
 
     @classmethod
     def from_blob(cls, data: Data, place: int, leaves_sacl: bool = False) -> Tuple["Descriptor", int]:
@@ -749,35 +738,33 @@ class Descriptor(_Bytes):
 
     __hash__ = _Bytes.__hash__
 
-    def _sections(self) -> "re.Match[str]":
-        found = _SECTIONS.fullmatch(str(self))
-        if found is None:
-            raise AssertionError(f"no canonical text: {self}")
-        return found
-
-    # The library has no calls for the parts. They are cut out of its canonical text, and it parses each.
-
     @property
     def owner(self) -> Optional[Sid]:
-        """The owner, or None. It is cut out of the canonical text, since the library has no call for it."""
-        text = self._sections()["owner"]
-        return None if text is None else Sid.from_text(text)
+        """The owner, or None."""
+        with KeptDescriptor(self) as kept:
+            return kept._sid(_library.hudarin_descriptor_owner)
 
     @property
     def group(self) -> Optional[Sid]:
-        """The group, or None. It is cut out of the canonical text, since the library has no call for it."""
-        text = self._sections()["group"]
-        return None if text is None else Sid.from_text(text)
+        """The group, or None."""
+        with KeptDescriptor(self) as kept:
+            return kept._sid(_library.hudarin_descriptor_group)
+
+    @property
+    def is_protected(self) -> bool:
+        """Whether it inherits no entries."""
+        with KeptDescriptor(self) as kept:
+            return bool(kept._dacl().control & _PROTECTED)
 
     @property
     def entries(self) -> Optional[Tuple[Entry, ...]]:
         """The entries of the DACL in their order. None if there is no list, but an absent or a null DACL, which grants
         the standard rights and the object's own to everyone. An empty list has no entries, and grants nothing by
-        itself. They are cut out of the canonical text, since the library has no call for them."""
-        found = self._sections()
-        if found["words"] is None or "NO_ACCESS_CONTROL" in found["words"]:
-            return None
-        return tuple(_entry_of(text) for text in _entry_texts(found["entries"]))
+        itself."""
+        with KeptDescriptor(self) as kept:
+            if kept._dacl().kind != _LIST:
+                return None
+            return tuple(kept._entry_at(index, text) for index, text in enumerate(_entry_texts(str(self))))
 
     def check(
         self,
@@ -858,10 +845,42 @@ class KeptDescriptor(_Held):
 
     def explain(self, token: Token, asked: Mask = 0, mapping: Iterable[Mask] = FILES) -> Explanation:
         """The same verdict, and why."""
-        explained = self._asked(_library.hudarin_explain, token, asked, mapping)
-        verdict = _verdict(_checked(explained.answer))
-        entries = _entry_texts(str(self._descriptor))
-        return Explanation(verdict, tuple(_part(part, entries) for part in explained.parts if part.mask != 0))
+        texts = _entry_texts(str(self._descriptor))
+
+        def found(finding: Any) -> str:
+            number = _entry(finding)
+            if number is None:
+                return "by no entry"
+            subject = self._sid(_library.hudarin_descriptor_subject, number - 1)
+            return f"by entry {number} {texts[number - 1]} as {subject.full if subject else ''}"
+
+        with self._turn:
+            explained = self._asked(_library.hudarin_explain, token, asked, mapping)
+            verdict = _verdict(_checked(explained.answer))
+            return Explanation(verdict, tuple(_part(part, found) for part in explained.parts if part.mask != 0))
+
+    def _sid(self, call: Callable[..., Any], *index: int) -> Optional[Sid]:
+        """The SID that the call writes, or None if the descriptor has no such part."""
+        try:
+            return Sid._of(self._part_of(call, *index)[0])
+        except Refused as refused:
+            if refused.status == STATUSES[_NO_PART]:
+                return None
+            raise
+
+    def _entry_at(self, index: int, text: str) -> Entry:
+        sid, entry = self._part_of(_library.hudarin_descriptor_entry, index)
+        kind = "allow" if entry.kind == _ALLOW else "deny"
+        subject = self._sid(_library.hudarin_descriptor_subject, index)
+        return Entry(kind, entry.flags, entry.mask, Sid._of(sid), text, subject)
+
+    def _part_of(self, call: Callable[..., Any], *index: int) -> Tuple[bytes, Any]:
+        with self._turn:
+            return _filled(lambda *buffer: call(self._kept, *index, *buffer), argument=lambda _: self._argument)
+
+    def _dacl(self) -> Any:
+        with self._turn:
+            return _checked(_library.hudarin_descriptor_dacl(self._kept), argument=self._argument)
 
     def _asked(self, call: Callable[..., Any], token: Token, asked: Mask, mapping: Iterable[Mask]) -> Any:
         _of_type(token, Token, "token")

@@ -28,6 +28,9 @@ kind: str = verdict.kind
 bits: int = mask("FR") | verdict.mask
 owner: Optional[Sid] = descriptor.owner
 entries: Optional[Tuple[Entry, ...]] = descriptor.entries
+subjects: Tuple[Optional[Sid], ...] = tuple(entry.subject for entry in entries or ())
+full: str = user.full if descriptor.is_protected else str(user)
+trimmed: Descriptor = Descriptor.from_sddl("S:", leaves_sacl=True)
 blob: Tuple[Descriptor, int] = Descriptor.from_blob(memoryview(b""), 0, leaves_sacl=True)
 copied: Descriptor = Descriptor(descriptor, leaves_sacl=True)
 

@@ -102,6 +102,16 @@ UNKNOWN = ("sddl 5 UnknownAlias at 6", "UnknownAlias")
 gives("a fault after an alias of a domain", UNKNOWN, lambda: refusal(lambda: Descriptor.from_sddl("O:DAG:QQ", DOMAIN)))
 raises("a domain that is no Sid", TypeError, lambda: Sid.from_text("DA", "S-1-5-21-7-8-9"))
 NO_DOMAIN = ("sddl 6 DomainAlias at 2", "DomainAlias")
+SACL = "O:BAS:(AU;SA;FA;;;WD)"
+HAS_SACL = ("sddl 2 HasSacl at 4", "HasSacl")
+gives("a SACL", HAS_SACL, lambda: refusal(lambda: Descriptor.from_sddl(SACL)))
+gives("a SACL that is left out", "O:BA", lambda: str(Descriptor.from_sddl(SACL, leaves_sacl=True)))
+IN_DOMAIN = "O:DAS:(AU;SA;FA;;;DU)"
+OWNED = "O:S-1-5-21-7-8-9-512"
+gives("a SACL in a domain", OWNED, lambda: str(Descriptor.from_sddl(IN_DOMAIN, DOMAIN, leaves_sacl=True)))
+UNKNOWN = ("sddl 5 UnknownAlias at 18", "UnknownAlias")
+BROKEN = "O:BAS:(AU;SA;FA;;;QQ)"
+gives("a fault of a SACL", UNKNOWN, lambda: refusal(lambda: Descriptor.from_sddl(BROKEN, leaves_sacl=True)))
 gives("a fault of a text", NO_DOMAIN, lambda: refusal(lambda: Descriptor.from_sddl("O:DA")))
 gives("a fault of bytes", ("wire 1 Short at 0", "Short"), lambda: refusal(lambda: Descriptor(b"")))
 gives("a fault of a SID", ("sid 3 Short at 0", "Short"), lambda: refusal(lambda: Sid(b"\x01\x01")))
@@ -116,7 +126,7 @@ raises("a group without a state", Refused, lambda: OPEN.explain(USER, [(EVERYONE
 raises("a mapping beyond a list's rights", Refused, lambda: OPEN.explain(USER, asked=0x1, mapping=(0, 0, 0, 0x200000)))
 gives(
     "by an entry, and by none",
-    "denied 0x2\ngranted 0x1 by entry 1 (A;;0x1;;;S-1-5-21-1-2-3-1001)\ndenied 0x2 by no entry",
+    "denied 0x2\ngranted 0x1 by entry 1 (A;;0x1;;;S-1-5-21-1-2-3-1001) as S-1-5-21-1-2-3-1001\ndenied 0x2 by no entry",
     lambda: str(OPEN.explain(USER, asked=0x3)),
 )
 PARTS = [(True, 0x1, 1, None), (False, 0x2, None, None)]
@@ -146,8 +156,8 @@ gives("another descriptor", False, lambda: OPEN == HELD or OPEN == bytes(OPEN))
 # A kept descriptor: the worked lines of README.md, until it is closed. A share of it is closed by itself.
 WORKED = Descriptor.from_sddl("O:BAG:SYD:(D;;FW;;;BU)(A;;FR;;;BU)")
 WHY = """denied 0x130116
-granted 0x89 by entry 2 (A;;FR;;;BU)
-denied 0x120116 by entry 1 (D;;FW;;;BU)
+granted 0x89 by entry 2 (A;;FR;;;BU) as S-1-5-32-545
+denied 0x120116 by entry 1 (D;;FW;;;BU) as S-1-5-32-545
 denied 0x10000 by no entry
 granted 0x80000 by SeTakeOwnershipPrivilege"""
 CLOSED = ("descriptor handle at 0", None)

@@ -161,6 +161,12 @@ def parts() -> None:
         lambda: [(each.kind, each.flags, each.mask, str(each.sid)) for each in entries],
     )
     gives("their texts", text[text.index("(") :], lambda: "".join(str(each) for each in entries))
+    rights = Descriptor.from_sddl("O:BGD:(A;;FR;;;OW)(A;;FR;;;BU)").entries or ()
+    gives("their subjects", ["BG", "BU"], lambda: [str(each.subject) for each in rights])
+    gives("without an owner", None, lambda: (Descriptor.from_sddl("D:(A;;FR;;;OW)").entries or ())[0].subject)
+    shields = [("", False), ("D:AI", False), ("D:P", True), ("D:PNO_ACCESS_CONTROL", True)]
+    gives("protection", shields, lambda: [(sddl, Descriptor.from_sddl(sddl).is_protected) for sddl, _ in shields])
+    gives("SIDs in full", ["S-1-5-32-545", "S-1-5-21-1-2-3-1001"], lambda: [USERS.full, USER.full])
     gives("their flags", 0xDF, lambda: sum(FLAGS.values()))
     for letters, flag in FLAGS.items():
         gives(letters, flag, lambda: (Descriptor.from_sddl(f"D:(A;{letters};FR;;;WD)").entries or ())[0].flags)
@@ -237,6 +243,7 @@ def one_exception() -> None:
     unsure: List[Any] = ["no", 1, 0, None]
     for leaves in unsure:
         raises(f"leaves_sacl={leaves!r}", TypeError, lambda: Descriptor(written, leaves))
+        raises(f"from_sddl, leaves_sacl={leaves!r}", TypeError, lambda: Descriptor.from_sddl("D:", None, leaves))
         raises(f"from_blob, leaves_sacl={leaves!r}", TypeError, lambda: Descriptor.from_blob(written, 0, leaves))
     groups: List[Any] = [(), (USERS,), (USERS, 0x4, 0x4)]
     for group in groups:

@@ -123,8 +123,6 @@ def ask(place, *words):
     """The library answers as the program does."""
     global passed
     said = subprocess.run([PROGRAM, *words], stdin=subprocess.DEVNULL, stdout=subprocess.PIPE, check=False).stdout.decode()
-    # Whom an entry applies to, the library doesn't tell.
-    said = re.sub(r"(\)) as S-[0-9x-]*", r"\1", said)
     here = answer(*words) + "\n"
     if here == said:
         passed += 1
