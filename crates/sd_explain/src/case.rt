@@ -16,8 +16,17 @@ use sd_acl::{Ace, AceKind};
 use sd_check::{DaclRef, Implied, MAXIMUM_PLACE, Pass, Question, RESERVED};
 use sd_sid::{Mask, OBJECT_RIGHTS, Sid};
 
-/// The places below this are the object's own rights and the standard ones.
+/// The places below this are the object's own rights and the standard ones ([MS-DTYP] 2.4.3).
 const RIGHTS_END: u32 = 21;
+
+// The places of the rights that are granted without an entry ([MS-DTYP] 2.4.3).
+const READ_CONTROL: u32 = 17;
+
+const WRITE_DAC: u32 = 18;
+
+const WRITE_OWNER: u32 = 19;
+
+const ACCESS_SYSTEM_SECURITY: u32 = 24;
 
 /// Who asks for what, and of which DACL.
 #[derive(Drop)]
@@ -52,9 +61,9 @@ fn granting_or(given: Implied, place: u32, cause: Cause) -> Cause
 fn given_or(given: Implied, place: u32, other: Cause) -> Cause
     ensures { result ≡ given_or_of given place other }
 {
-    if given.owner && (place == 17 || place == 18) {
+    if given.owner && (place == READ_CONTROL || place == WRITE_DAC) {
         Cause::Owner
-    } else if given.take_ownership && place == 19 {
+    } else if given.take_ownership && place == WRITE_OWNER {
         Cause::TakeOwnership
     } else {
         other
@@ -65,7 +74,7 @@ fn given_or(given: Implied, place: u32, other: Cause) -> Cause
 fn high_cause(given: Implied, place: u32) -> Cause
     ensures { result ≡ high_cause_of given place }
 {
-    if given.security && place == 24 {
+    if given.security && place == ACCESS_SYSTEM_SECURITY {
         Cause::Security
     } else {
         Cause::NoSecurity
