@@ -1,5 +1,5 @@
-//! Tests of trees, written in SDDL, that the program can't run; those that it can are rows of `tests/trees`. There is
-//! no library.
+//! Calls of the crates that neither the program nor the library for C makes: the store of many threads above all. Tests
+//! that depend on several crates, and no library of their own.
 #![tactic(auto)]
 
 #[cfg(test)]

@@ -21,8 +21,8 @@ pub fn may_read(alloc: Global, sddl: &str, user: &str) -> Result<bool, TextError
 #[test]
 fn a_grant_to_the_users_lets_a_user_read(rt: HostRuntime) {
     let user = "S-1-5-21-1-2-3-1001";
-    let users = may_read(rt.alloc(), "O:BAG:SYD:(A;;FR;;;BU)", user);
-    super::same(&rt, "the users", users, Ok(true));
-    let administrators = may_read(rt.alloc(), "O:BAG:SYD:(A;;FR;;;BA)", user);
-    super::same(&rt, "the administrators", administrators, Ok(false));
+    let by_users = may_read(rt.alloc(), "O:BAG:SYD:(A;;FR;;;BU)", user);
+    assert_eq!(rt; by_users, Ok(true));
+    let by_administrators = may_read(rt.alloc(), "O:BAG:SYD:(A;;FR;;;BA)", user);
+    assert_eq!(rt; by_administrators, Ok(false));
 }
