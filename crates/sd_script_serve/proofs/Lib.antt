@@ -1,3 +1,4 @@
 pub mod Ends
 pub mod Feeds
+pub mod NoId
 pub mod Steps

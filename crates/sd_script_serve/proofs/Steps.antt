@@ -15,7 +15,7 @@ use Rattle.sd_stream.specs.declared.error.RunError.TheVariants.{Read, TooLong, W
 use Rattle.sd_script.specs.declared.carried.Carried.{Carried}
 use Rattle.sd_script.proofs.Cutting.{feeds}
 use Rattle.sd_script_serve.specs.Serve.{Advances, AnswersAll, AnswersFirst, FailsFirst, FailsLast, HasNoFeed, IsEnded, IsGrowthError, StopsIn}
-use Rattle.sd_script_serve.proofs.Feeds.{advances_line, ended_line, heads, lines_last}
+use Rattle.sd_script_serve.proofs.Feeds.{advances_line, answered_before, ended_line, heads, lines_last, none_answered}
 
 -- ---- where the first line feed stands
 
@@ -94,81 +94,102 @@ if_write Q (Ok x) is given make = tt
 if_write Q (Err e) is given make = rw is (make given)
 
 -- a text of one line that hasn't ended is answered by its first line
-pub all_of_first : (before after : Carried) (text : List ℕ) (Wrote : List ℕ → Type 0)
-    → HasNoFeed text → 0 < length text → AnswersFirst before text after Wrote → AnswersAll before text after Wrote
-all_of_first before after text Wrote none some a =
+pub all_of_first : (has_ids : Bool) (before after : Carried) (text : List ℕ) (Wrote : List ℕ → Type 0)
+    → HasNoFeed text → 0 < length text → AnswersFirst has_ids before text after Wrote
+    → AnswersAll has_ids before text after Wrote
+all_of_first has_ids before after text Wrote none some a =
     let whole : lines text ≡ text ∷ [] = lines_last text none some in
     let is : text ≡ a.line = heads _ _ _ _ (sym whole ∙ a.first) in
     record {
       printed = a.printed;
-      answered = rw whole (a.printed, after, [], rw is a.answered, (refl, refl), sym (append-nil a.printed));
+      answered = rw (whole, is) (rw (append-nil a.printed)
+          at (answered_before has_ids before after after a.line a.printed [] [] a.answered
+          (none_answered has_ids after)));
       wrote = a.wrote;
     }
 
-pub last_fails : (before after : Carried) (text : List ℕ) (old new : Option (List ℕ)) → HasNoFeed text → 0 < length text
-    → (e : RunError) → FailsFirst before text after old new e → FailsLast before text after old new e
-last_fails before after text old new none some Read fails = fails
-last_fails before after text old new none some TooLong fails = fails
-last_fails before after text old new none some Write fails = all_of_first before after text (AppendsBeginning old new) none some fails
-last_fails before after text old new none some Memory fails = fails
-last_fails before after text old new none some Thread fails = fails
+pub last_fails : (has_ids : Bool) (before after : Carried) (text : List ℕ) (old new : Option (List ℕ)) → HasNoFeed text
+    → 0 < length text
+    → (e : RunError) → FailsFirst has_ids before text after old new e → FailsLast has_ids before text after old new e
+last_fails has_ids before after text old new none some Read fails = fails
+last_fails has_ids before after text old new none some TooLong fails = fails
+last_fails has_ids before after text old new none some Write fails =
+    all_of_first has_ids before after text (AppendsBeginning old new) none some fails
+last_fails has_ids before after text old new none some Memory fails = fails
+last_fails has_ids before after text old new none some Thread fails = fails
 
 -- ---- errors between two reads
 
-pub growth_stops : (before mid : Carried) (line bytes ended printed grown more : List ℕ) (old new : Option (List ℕ))
-    → line ++ bytes ≡ ended ++ (grown ++ more) → IsEnded ended → HasNoFeed grown → Advances before ended printed mid → Appends old new printed
-    → (e : RunError) → IsGrowthError grown e → StopsIn before line bytes old new e
-growth_stops before mid line bytes ended printed grown more old new parts whole none so_far appended Read fails = absurd fails
-growth_stops before mid line bytes ended printed grown more old new parts whole none so_far appended TooLong fails = record {
-  ended = ended;
-  behind = grown ++ more;
-  printed = printed;
-  after = mid;
-  parts = parts;
-  whole = whole;
-  rest = (grown, more, refl, none, fails);
-  advances = so_far;
-  wrote = appended;
-}
-growth_stops before mid line bytes ended printed grown more old new parts whole none so_far appended Write fails = absurd fails
-growth_stops before mid line bytes ended printed grown more old new parts whole none so_far appended Memory fails = record {
-  ended = ended;
-  behind = grown ++ more;
-  printed = printed;
-  after = mid;
-  parts = parts;
-  whole = whole;
-  rest = tt;
-  advances = so_far;
-  wrote = appended;
-}
-growth_stops before mid line bytes ended printed grown more old new parts whole none so_far appended Thread fails = absurd fails
+pub growth_stops : (has_ids : Bool) (before mid : Carried) (line bytes ended printed grown more : List ℕ)
+    (old new : Option (List ℕ))
+    → line ++ bytes ≡ ended ++ (grown ++ more) → IsEnded ended → HasNoFeed grown
+    → Advances has_ids before ended printed mid → Appends old new printed
+    → (e : RunError) → IsGrowthError grown e → StopsIn has_ids before line bytes old new e
+growth_stops has_ids before mid line bytes ended printed grown more old new parts whole none so_far appended Read fails
+    = absurd fails
+growth_stops has_ids before mid line bytes ended printed grown more old new parts whole none so_far appended TooLong
+    fails = record {
+      ended = ended;
+      behind = grown ++ more;
+      printed = printed;
+      after = mid;
+      parts = parts;
+      whole = whole;
+      rest = (grown, more, refl, none, fails);
+      advances = so_far;
+      wrote = appended;
+    }
+growth_stops has_ids before mid line bytes ended printed grown more old new parts whole none so_far appended Write fails
+    = absurd fails
+growth_stops has_ids before mid line bytes ended printed grown more old new parts whole none so_far appended Memory
+    fails = record {
+      ended = ended;
+      behind = grown ++ more;
+      printed = printed;
+      after = mid;
+      parts = parts;
+      whole = whole;
+      rest = tt;
+      advances = so_far;
+      wrote = appended;
+    }
+growth_stops has_ids before mid line bytes ended printed grown more old new parts whole none so_far appended Thread
+    fails = absurd fails
 
-pub answer_stops : (before mid after : Carried) (line bytes ended printed grown more : List ℕ) (old now new : Option (List ℕ))
-    → line ++ bytes ≡ ended ++ (grown ++ 10 ∷ more) → IsEnded ended → HasNoFeed grown → Advances before ended printed mid → Appends old now printed
-    → (e : RunError) → FailsFirst mid (grown ++ 10 ∷ []) after now new e → StopsIn before line bytes old new e
-answer_stops before mid after line bytes ended printed grown more old now new parts whole none so_far appended Read fails = absurd fails
-answer_stops before mid after line bytes ended printed grown more old now new parts whole none so_far appended TooLong fails = absurd fails
-answer_stops before mid after line bytes ended printed grown more old now new parts whole none so_far appended Write fails = record {
-  ended = ended ++ (grown ++ 10 ∷ []);
-  behind = more;
-  printed = printed ++ fails.printed;
-  after = after;
-  parts = rw (append_assoc ended (grown ++ 10 ∷ []) more, append_assoc grown (10 ∷ []) more) parts;
-  whole = ended_line ended grown;
-  rest = tt;
-  advances = advances_line before mid after ended printed grown fails.printed fails.line fails.behind so_far none fails.first fails.answered;
-  wrote = beginning_after old now new printed fails.printed appended fails.wrote;
-}
-answer_stops before mid after line bytes ended printed grown more old now new parts whole none so_far appended Memory fails = record {
-  ended = ended;
-  behind = grown ++ 10 ∷ more;
-  printed = printed;
-  after = mid;
-  parts = parts;
-  whole = whole;
-  rest = tt;
-  advances = so_far;
-  wrote = Appends-kept old now new printed appended fails;
-}
-answer_stops before mid after line bytes ended printed grown more old now new parts whole none so_far appended Thread fails = absurd fails
+pub answer_stops : (has_ids : Bool) (before mid after : Carried) (line bytes ended printed grown more : List ℕ)
+    (old now new : Option (List ℕ))
+    → line ++ bytes ≡ ended ++ (grown ++ 10 ∷ more) → IsEnded ended → HasNoFeed grown
+    → Advances has_ids before ended printed mid → Appends old now printed
+    → (e : RunError) → FailsFirst has_ids mid (grown ++ 10 ∷ []) after now new e
+    → StopsIn has_ids before line bytes old new e
+answer_stops has_ids before mid after line bytes ended printed grown more old now new parts whole none so_far appended
+    Read fails = absurd fails
+answer_stops has_ids before mid after line bytes ended printed grown more old now new parts whole none so_far appended
+    TooLong fails = absurd fails
+answer_stops has_ids before mid after line bytes ended printed grown more old now new parts whole none so_far appended
+    Write fails = record {
+      ended = ended ++ (grown ++ 10 ∷ []);
+      behind = more;
+      printed = printed ++ fails.printed;
+      after = after;
+      parts = rw (append_assoc ended (grown ++ 10 ∷ []) more, append_assoc grown (10 ∷ []) more) parts;
+      whole = ended_line ended grown;
+      rest = tt;
+      advances = advances_line has_ids before mid after ended printed grown fails.printed fails.line fails.behind so_far
+          none fails.first fails.answered;
+      wrote = beginning_after old now new printed fails.printed appended fails.wrote;
+    }
+answer_stops has_ids before mid after line bytes ended printed grown more old now new parts whole none so_far appended
+    Memory fails = record {
+      ended = ended;
+      behind = grown ++ 10 ∷ more;
+      printed = printed;
+      after = mid;
+      parts = parts;
+      whole = whole;
+      rest = tt;
+      advances = so_far;
+      wrote = Appends-kept old now new printed appended fails;
+    }
+answer_stops has_ids before mid after line bytes ended printed grown more old now new parts whole none so_far appended
+    Thread fails = absurd fails

@@ -6,7 +6,8 @@ ghost use Rattle.sd_stream.specs.Watched.{inner_of, has_failed};
 ghost use Rattle.sd_stream.specs.Whole.{is_write_error};
 ghost use Rattle.sd_script_serve.specs.Serve.{AnswersAll, AnswersFirst, FailsFirst, FailsLast, HasNoFeed, IsGrowthError, StopsIn, Takes};
 
-use sd_script::{Carried, answer_line, first_line, line_len};
+use crate::ids::answer_next;
+use sd_script::{Carried, first_line, line_len};
 use sd_stream::{MAX_INPUT_BYTES, RunError, Watched, write_whole};
 use std::alloc::Global;
 use std::io::Write;
@@ -15,15 +16,16 @@ use std::io::Write;
 /// left of one.
 pub(crate) fn answer_ended<W: Write>(
     alloc: Global,
+    has_ids: bool,
     carried: &mut Carried,
     line: &mut Vec<u8>,
     bytes: &[u8],
     writer: &mut Watched<W>,
 ) -> Result<(), RunError>
     requires { HasNoFeed line.old.items }
-    ensures ok { OnOk result (Takes carried.old line.old.items bytes.now carried.new line.new.items
+    ensures ok { OnOk result (Takes has_ids carried.old line.old.items bytes.now carried.new line.new.items
         (W.contents (inner_of writer.old)) (W.contents (inner_of writer.new))) }
-    ensures err { IfErr result (StopsIn carried.old line.old.items bytes.now
+    ensures err { IfErr result (StopsIn has_ids carried.old line.old.items bytes.now
         (W.contents (inner_of writer.old)) (W.contents (inner_of writer.new))) }
     ensures failed { has_failed writer.new ≡ (has_failed writer.old || is_write_error result) }
 {
@@ -35,7 +37,7 @@ pub(crate) fn answer_ended<W: Write>(
             return Ok(());
         }
         line.push(b'\n')?;
-        answer_first(alloc, carried, line, writer)?;
+        answer_first(alloc, has_ids, carried, line, writer)?;
         line.clear();
         rest = &rest[end + 1..];
     }
@@ -45,40 +47,42 @@ pub(crate) fn answer_ended<W: Write>(
 /// Answers the last line, where it lacks its line feed.
 pub(crate) fn answer_last<W: Write>(
     alloc: Global,
+    has_ids: bool,
     carried: &mut Carried,
     line: &[u8],
     writer: &mut Watched<W>,
 ) -> Result<(), RunError>
     requires { HasNoFeed line.now }
-    ensures ok { OnOk result (AnswersAll carried.old line.now carried.new
+    ensures ok { OnOk result (AnswersAll has_ids carried.old line.now carried.new
         (Appends (W.contents (inner_of writer.old)) (W.contents (inner_of writer.new)))) }
-    ensures err { IfErr result (FailsLast carried.old line.now carried.new
+    ensures err { IfErr result (FailsLast has_ids carried.old line.now carried.new
         (W.contents (inner_of writer.old)) (W.contents (inner_of writer.new))) }
     ensures failed { has_failed writer.new ≡ (has_failed writer.old || is_write_error result) }
 {
     if line.is_empty() {
         return Ok(());
     }
-    answer_first(alloc, carried, line, writer)
+    answer_first(alloc, has_ids, carried, line, writer)
 }
 
 /// Answers the first line of a text.
 fn answer_first<W: Write>(
     alloc: Global,
+    has_ids: bool,
     carried: &mut Carried,
     text: &[u8],
     writer: &mut Watched<W>,
 ) -> Result<(), RunError>
     requires { 0 < length text.now }
-    ensures ok { OnOk result (AnswersFirst carried.old text.now carried.new
+    ensures ok { OnOk result (AnswersFirst has_ids carried.old text.now carried.new
         (Appends (W.contents (inner_of writer.old)) (W.contents (inner_of writer.new)))) }
-    ensures err { IfErr result (FailsFirst carried.old text.now carried.new
+    ensures err { IfErr result (FailsFirst has_ids carried.old text.now carried.new
         (W.contents (inner_of writer.old)) (W.contents (inner_of writer.new))) }
     ensures failed { has_failed writer.new ≡ (has_failed writer.old || is_write_error result) }
 {
     let (line, _) = first_line(text);
-    let answer = answer_line(alloc, carried, line)?;
-    write_whole(writer, answer.as_bytes())
+    let answer = answer_next(alloc, has_ids, carried, line)?;
+    write_whole(writer, &answer)
 }
 
 /// The line grows by a part of it, up to the longest input.

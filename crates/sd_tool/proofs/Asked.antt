@@ -15,6 +15,6 @@ answered input options (FromBinary bytes) answer h is = is
 answered input options (Help command) answer h is = is
 answered input options Version answer h is = is
 answered input options Script answer h is = cc
-answered input options Serve answer h is = cc
+answered input options (Serve has_ids) answer h is = cc
 answered input options (Audit workers) answer h is = cc
 answered input options (Each ending request) answer h is = cc

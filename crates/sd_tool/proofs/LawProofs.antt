@@ -2,7 +2,7 @@
 use Rattle.std.proofs.Common.{◌≡◌, ℕ, List, [], ◌∷◌, Bool, true, false, Option, Some, None, refl, arith}
 use Rattle.std.specs.Prelude.{option_map, option_and_then, if◌then◌else◌}
 use Rattle.std.specs.Borrow.{Bor}
-use Rattle.sd_tool.specs.CommandLine.{InvocationValue, RequestValue, Audit as Audits, Each as AsksEach, arguments_in, asked_by, each_in, request_in, behind_options, command_in, command_named, command_on, takes, with_options, workers_of}
+use Rattle.sd_tool.specs.CommandLine.{InvocationValue, RequestValue, Audit as Audits, Each as AsksEach, Serve as Serves, arguments_in, asked_by, asks_ids, each_in, request_in, behind_options, command_in, command_named, command_on, named_in, takes, with_options, workers_of}
 use Rattle.sd_tool.specs.Laws.{is_shown, shows, EachAsksTheCommand, HelpStandsAlone, DashesKeepTexts, DashesKeepTextsOfWhy, OptionsKeepTexts}
 use Rattle.sd_tool.specs.Options.{OptionsValue, no_options, options_in}
 use Rattle.std.specs.Prelude.{bytes_eq, codes}
@@ -75,9 +75,15 @@ named_runs : (named : Option CommandName) (arguments : List (Bor (List ℕ)))
 named_runs (Some command) arguments h = command_runs command arguments h
 named_runs None arguments h = cc
 
+named_in_runs : (words : List (Bor (List ℕ))) → some_shown (named_in words) ≡ true → ⊥
+named_in_runs [] h = cc
+named_in_runs (word ∷ words) h = named_runs (command_named word.now) (arguments_in words) h
+
 words_run : (words : List (Bor (List ℕ))) → some_shown (command_in words) ≡ true → ⊥
-words_run [] h = cc
-words_run (word ∷ words) h = named_runs (command_named word.now) (arguments_in words) h
+words_run words h = by_test (asks_ids words) h where
+  by_test : (test : Bool) → some_shown (if test then Some (Serves true) else named_in words) ≡ true → ⊥
+  by_test true h = cc
+  by_test false h = named_in_runs words h
 
 options_run : (read : Option (OptionsValue × List (Bor (List ℕ)))) → shows (option_and_then behind_options read) ≡ true → ⊥
 options_run None h = cc

@@ -12,6 +12,7 @@ use Rattle.sd_script.specs.Run.{AppendsOutput, IsOutput, LeavesOutput}
 use Rattle.sd_script.specs.declared.manner.Manner.{Manner}
 use Rattle.sd_script.specs.declared.tally.Tally.{Tally}
 use Rattle.sd_script_audit.specs.Audit.{PrintsAuditAndCounts}
+use Rattle.sd_script_serve.specs.Ids.{PrintsAndCountsIn}
 use Rattle.sd_script_serve.specs.Serve.{LeavesAnswers}
 use Rattle.sd_tool.specs.Answer.{AnswerValue, Answers, IsBadValue}
 use Rattle.sd_tool.specs.CommandLine.{CommandLineValue, InvocationValue, IsAudit, Verdict, Why, Lint, Print, ToBinary, FromBinary, Script, Serve, Audit, Each, Help, Version, reading, runs_script}
@@ -111,10 +112,12 @@ module _ (options : OptionsValue) (settings : Settings) (said : AreSettings opti
       → Answers input (record { options = options; invocation = Script }) (record { printed = printed; told = told; outcome = script_outcome settings.strict tally })
   script_answers tally printed told is says = inl (settings, said, (tally, is, says, refl))
 
-  pub served_answers : (tally : Tally) (printed told : List ℕ) → IsOutput (λ text printed. PrintsAndCounts (manner_of settings) text printed tally) input printed
+  pub served_answers : (has_ids : Bool) (tally : Tally) (printed told : List ℕ)
+      → IsOutput (λ text printed. PrintsAndCountsIn has_ids (manner_of settings) text printed tally) input printed
       → IsToldOfScript settings.strict tally told
-      → Answers input (record { options = options; invocation = Serve }) (record { printed = printed; told = told; outcome = script_outcome settings.strict tally })
-  served_answers tally printed told is says = inl (settings, said, (tally, is, says, refl))
+      → Answers input (record { options = options; invocation = Serve has_ids })
+      (record { printed = printed; told = told; outcome = script_outcome settings.strict tally })
+  served_answers has_ids tally printed told is says = inl (settings, said, (tally, is, says, refl))
 
   pub audit_answers : (workers : ℕ) (tally : Tally) (printed told : List ℕ)
       → IsOutput (λ text printed. PrintsAuditAndCounts (manner_of settings) workers text printed tally) input printed → IsToldOfScript settings.strict tally told
@@ -149,7 +152,7 @@ pub bad_answers : (input : Option (List ℕ)) (options : OptionsValue) (invocati
     → runs_script invocation ≡ true → HasBadValue options bad → IsBadValue bad answer
     → Answers input (record { options = options; invocation = invocation }) answer
 bad_answers input options Script bad answer runs has is = inr (bad, has, is)
-bad_answers input options Serve bad answer runs has is = inr (bad, has, is)
+bad_answers input options (Serve has_ids) bad answer runs has is = inr (bad, has, is)
 bad_answers input options (Audit workers) bad answer runs has is = inr (bad, has, is)
 bad_answers input options (Verdict sddl user mask words) bad answer runs has is = absurd (cc (runs))
 bad_answers input options (Why sddl user mask words) bad answer runs has is = absurd (cc (runs))
@@ -164,8 +167,9 @@ bad_answers input options Version bad answer runs has is = absurd (cc (runs))
 -- ---- line by line
 
 -- too long a line is too much that was read
-pub served_too_much : (manner : Manner) (input left old new : Option (List ℕ)) → LeavesAnswers manner input left old new TooLong → ReadsPart input left TooLong
-served_too_much manner input left old new leaves =
+pub served_too_much : (has_ids : Bool) (manner : Manner) (input left old new : Option (List ℕ))
+    → LeavesAnswers has_ids manner input left old new TooLong → ReadsPart input left TooLong
+served_too_much has_ids manner input left old new leaves =
     let parts = leaves.rest in
     let long : length (leaves.ended ++ leaves.behind) ≡ length leaves.ended + (length parts.0 + length parts.1) =
     length-append leaves.ended leaves.behind ∙ ap (λ n. length leaves.ended + n) (ap length parts.2 ∙ length-append parts.0 parts.1) in

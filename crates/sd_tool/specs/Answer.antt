@@ -28,8 +28,10 @@ use Rattle.sd_script.specs.Why.{why_text}
 use Rattle.sd_script.specs.Word.{texts}
 use Rattle.sd_script.specs.Output.{PrintsAndCounts}
 use Rattle.sd_script.specs.Run.{IsOutput}
+use Rattle.sd_script.specs.declared.manner.Manner.{Manner}
 use Rattle.sd_script.specs.declared.tally.Tally.{Tally}
 use Rattle.sd_script_audit.specs.Audit.{PrintsAuditAndCounts}
+use Rattle.sd_script_serve.specs.Ids.{PrintsAndCountsIn}
 use Rattle.sd_each.specs.Answers.{AreAnswered}
 use Rattle.sd_each.specs.Lines.{lines_of}
 use Rattle.sd_each.specs.declared.ending.Ending.{Ending}
@@ -205,16 +207,11 @@ AnswersFromBinary settings written answer = AnswersDecoded settings (bytes_read 
 
 -- ---- scripts
 
--- the output of the script on the input
-abbrev pub AnswersScript : Option (List ℕ) → Settings → AnswerValue → Type 0
-AnswersScript input settings answer =
-    (tally : Tally) × IsOutput (λ text printed. PrintsAndCounts (manner_of settings) text printed tally) input answer.printed
-    × IsToldOfScript settings.strict tally answer.told × (answer.outcome ≡ script_outcome settings.strict tally)
-
--- the output of the audit of the script on the input
-abbrev pub AnswersAudit : ℕ → Option (List ℕ) → Settings → AnswerValue → Type 0
-AnswersAudit workers input settings answer =
-    (tally : Tally) × IsOutput (λ text printed. PrintsAuditAndCounts (manner_of settings) workers text printed tally) input answer.printed
+-- the output of the script on the input, as this is printed and counted
+abbrev pub AnswersScript : (Manner → List ℕ → List ℕ → Tally → Type 0) → Option (List ℕ) → Settings → AnswerValue
+    → Type 0
+AnswersScript Prints input settings answer =
+    (tally : Tally) × IsOutput (λ text printed. Prints (manner_of settings) text printed tally) input answer.printed
     × IsToldOfScript settings.strict tally answer.told × (answer.outcome ≡ script_outcome settings.strict tally)
 
 -- ---- command lines
@@ -230,7 +227,7 @@ AnswersUnder settings (FromBinary bytes) answer = AnswersFromBinary settings byt
 AnswersUnder settings (Help command) answer = (answer.told ≡ []) × (answer.outcome ≡ Done)
 AnswersUnder settings Version answer = IsDone version_lines answer
 AnswersUnder settings AsksScript answer = ⊥
-AnswersUnder settings AsksServe answer = ⊥
+AnswersUnder settings (AsksServe has_ids) answer = ⊥
 AnswersUnder settings (AsksAudit workers) answer = ⊥
 AnswersUnder settings (AsksEach ending request) answer = ⊥
 
@@ -294,9 +291,11 @@ pub record AppendsEach (options : OptionsValue) (ending : Ending) (request : Req
 
 -- what is printed for a command line, with this input where it is known, and what came of it
 abbrev pub AnswersInvocation : Option (List ℕ) → OptionsValue → InvocationValue → AnswerValue → Type 0
-AnswersInvocation input options AsksScript answer = AnswersWith options (AnswersScript input) answer
-AnswersInvocation input options AsksServe answer = AnswersWith options (AnswersScript input) answer
-AnswersInvocation input options (AsksAudit workers) answer = AnswersWith options (AnswersAudit workers input) answer
+AnswersInvocation input options AsksScript answer = AnswersWith options (AnswersScript PrintsAndCounts input) answer
+AnswersInvocation input options (AsksServe has_ids) answer =
+    AnswersWith options (AnswersScript (PrintsAndCountsIn has_ids) input) answer
+AnswersInvocation input options (AsksAudit workers) answer =
+    AnswersWith options (AnswersScript (λ manner. PrintsAuditAndCounts manner workers) input) answer
 AnswersInvocation input options (AsksEach ending request) answer = AnswersEach options ending request input answer
 AnswersInvocation input options invocation answer = AnswersArguments options invocation answer
 

@@ -41,7 +41,7 @@ pub data InvocationValue : Type 0 where
   ToBinary : List ℕ → InvocationValue
   FromBinary : List ℕ → InvocationValue
   Script : InvocationValue
-  Serve : InvocationValue
+  Serve : Bool → InvocationValue
   Audit : ℕ → InvocationValue
   Each : Ending → RequestValue → InvocationValue
   Help : Option CommandName → InvocationValue
@@ -55,7 +55,7 @@ invocation_of (invocations.Print sddl) = Print sddl.now
 invocation_of (invocations.ToBinary sddl) = ToBinary sddl.now
 invocation_of (invocations.FromBinary bytes) = FromBinary bytes.now
 invocation_of invocations.Script = Script
-invocation_of invocations.Serve = Serve
+invocation_of (invocations.Serve has_ids) = Serve has_ids
 invocation_of (invocations.Audit workers) = Audit workers
 invocation_of (invocations.Each ending request) = Each ending (request_of request)
 invocation_of (invocations.Help command) = Help command
@@ -161,7 +161,7 @@ command_on names.Print (sddl ∷ []) = Some (Print sddl.now)
 command_on names.ToBinary (sddl ∷ []) = Some (ToBinary sddl.now)
 command_on names.FromBinary (bytes ∷ []) = Some (FromBinary bytes.now)
 command_on names.Script [] = Some Script
-command_on names.Serve [] = Some Serve
+command_on names.Serve [] = Some (Serve false)
 command_on names.Audit (workers ∷ []) = option_map Audit (workers_of workers.now)
 command_on names.Each words = each_on words
 command_on command arguments = None
@@ -213,14 +213,14 @@ maps (Verdict sddl user mask words) = true
 maps (Why sddl user mask words) = true
 maps (Lint sddl) = true
 maps Script = true
-maps Serve = true
+maps (Serve has_ids) = true
 maps (Audit workers) = true
 maps invocation = false
 
 -- whether what is asked for is a script, at once, line by line or as an audit
 abbrev pub runs_script : InvocationValue → Bool
 runs_script Script = true
-runs_script Serve = true
+runs_script (Serve has_ids) = true
 runs_script (Audit workers) = true
 runs_script invocation = false
 
@@ -248,10 +248,19 @@ takes invocation options =
 abbrev pub with_options : OptionsValue → InvocationValue → Option CommandLineValue
 with_options options invocation = if takes (asked_by invocation) options then Some (record { options = options; invocation = invocation }) else None
 
+-- whether the words are `serve --ids`
+abbrev pub asks_ids : List (Bor (List ℕ)) → Bool
+asks_ids (word ∷ flag ∷ []) = bytes_eq word.now (codes "serve") && bytes_eq flag.now (codes "--ids")
+asks_ids words = false
+
 -- the command that the words begin with, and its arguments
+abbrev pub named_in : List (Bor (List ℕ)) → Option InvocationValue
+named_in [] = None
+named_in (word ∷ words) = option_and_then (λ command. command_on command (arguments_in words)) (command_named word.now)
+
+-- the same, or `serve` with ids
 abbrev pub command_in : List (Bor (List ℕ)) → Option InvocationValue
-command_in [] = None
-command_in (word ∷ words) = option_and_then (λ command. command_on command (arguments_in words)) (command_named word.now)
+command_in words = if asks_ids words then Some (Serve true) else named_in words
 
 -- a command that takes the options before it
 abbrev pub behind_options : OptionsValue × List (Bor (List ℕ)) → Option CommandLineValue
@@ -279,7 +288,7 @@ IsUnread words = reading words ≡ None
 -- whether what is asked for is answered from the input: a script, at once or line by line, its audit, or a question of each line
 abbrev pub is_script : InvocationValue → Bool
 is_script Script = true
-is_script Serve = true
+is_script (Serve has_ids) = true
 is_script (Audit workers) = true
 is_script (Each ending request) = true
 is_script (Verdict sddl user mask words) = false

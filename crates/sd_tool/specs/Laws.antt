@@ -17,7 +17,7 @@ is_shown (Print sddl) = false
 is_shown (ToBinary sddl) = false
 is_shown (FromBinary bytes) = false
 is_shown Script = false
-is_shown Serve = false
+is_shown (Serve has_ids) = false
 is_shown (Audit workers) = false
 is_shown (Each ending request) = false
 

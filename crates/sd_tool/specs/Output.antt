@@ -46,9 +46,10 @@ LeavesAnswerTo line input old new Thread = Keeps old new
 -- line by line, what was answered until then
 pub record LeavesServed (line : CommandLineValue) (input left old new : Option (List ℕ)) (error : RunError) : Type 0 where
   pub settings : Settings
-  pub asked : line.invocation ≡ Serve
+  pub has_ids : Bool
+  pub asked : line.invocation ≡ Serve has_ids
   pub said : AreSettings line.options settings
-  pub answers : LeavesAnswers (manner_of settings) input left old new error
+  pub answers : LeavesAnswers has_ids (manner_of settings) input left old new error
 
 -- the answers to the lines of an input, as far as it came
 pub record LeavesEach (line : CommandLineValue) (input left old new : Option (List ℕ)) (error : RunError) : Type 0 where

@@ -102,7 +102,7 @@ fn answer_under(
         Invocation::ToBinary { sddl } => answer_to_binary(alloc, settings, sddl),
         Invocation::FromBinary { bytes } => answer_from_binary(alloc, settings, bytes),
         Invocation::Script
-        | Invocation::Serve
+        | Invocation::Serve { .. }
         | Invocation::Audit { .. }
         | Invocation::Each { .. } => unreachable!(),
         Invocation::Help { command } => Ok(Answer::done(alloc, help(alloc, command)?)),

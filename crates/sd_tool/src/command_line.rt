@@ -1,7 +1,11 @@
 //! The reading of a command line: what its words ask for.
 ghost use Rattle.std.specs.Prelude.{◌≡◌, Some, false, option_map};
-ghost use Rattle.sd_tool.specs.CommandLine.{Each, Help, asked_by as asked_of, arguments_in as arguments_of, command_in as command_at, command_line_of, command_named, command_on as command_of, count_of, each_in as each_at, each_on as each_of, explains as explains_of, help_on as help_of, invocation_of, of_line as invocation_on, request_in as request_at, request_of, request_on as request_by, is_help_flag as is_help_flag_of, is_script, keeps_to_scripts as keeps_to_scripts_of, maps as maps_of, reading, reads_bytes as reads_bytes_of, reads_text as reads_text_of, run_by as run_of, runs_script as runs_script_of, shown_by as shown_of, spells_bytes as spells_bytes_of, suits as suits_of, takes, workers_of};
-ghost use Rattle.sd_tool.specs.Options.{options_of};
+ghost use Rattle.sd_tool.specs.CommandLine.{Help, arguments_in as arguments_of, command_in as command_at};
+ghost use Rattle.sd_tool.specs.CommandLine.{command_line_of, command_named, command_on as command_of, count_of};
+ghost use Rattle.sd_tool.specs.CommandLine.{each_in as each_at, each_on as each_of, help_on as help_of, invocation_of};
+ghost use Rattle.sd_tool.specs.CommandLine.{is_help_flag as is_help_flag_of, is_script, of_line as invocation_on};
+ghost use Rattle.sd_tool.specs.CommandLine.{reading, request_in as request_at, request_of, request_on as request_by};
+ghost use Rattle.sd_tool.specs.CommandLine.{run_by as run_of, shown_by as shown_of, workers_of};
 
 use crate::options::{Options, options_in};
 use sd_each::Ending;
@@ -49,8 +53,10 @@ pub(crate) enum Invocation<'a> {
     },
     /// The output of the script on standard input.
     Script,
-    /// The same, line by line.
-    Serve,
+    /// The same, line by line, where lines may have ids.
+    Serve {
+        has_ids: bool,
+    },
     /// The output of its audit by so many workers.
     Audit {
         workers: u64,
@@ -139,107 +145,6 @@ fn named(word: &str) -> Option<CommandName>
     }
 }
 
-impl<'a> Invocation<'a> {
-    /// The one command: what is asked of a line, where it is asked of each.
-    fn asked(self) -> Invocation<'a>
-        ensures { invocation_of result ≡ asked_of (invocation_of self.entry) }
-    {
-        match self {
-            Invocation::Each { request, .. } => request.of(""),
-            _ => self,
-        }
-    }
-
-    /// Whether each of the options is for what is asked.
-    fn takes(self, options: Options<'_>) -> bool
-        ensures { result ≡ takes (invocation_of self.entry) (options_of options.entry) }
-    {
-        (self.explains() || !options.names)
-            && (self.reads_text() || options.domain.is_none())
-            && (self.maps() || options.mapping.is_none())
-            && (self.reads_text() || self.reads_bytes() || !options.without_sacl)
-            && self.suits(options)
-    }
-
-    /// Whether the options of scripts alone are for one, and those that spell bytes for bytes.
-    fn suits(self, options: Options<'_>) -> bool
-        ensures { result ≡ suits_of (invocation_of self.entry) (options_of options.entry) }
-    {
-        self.keeps_to_scripts(options) && self.spells_bytes(options)
-    }
-
-    /// Whether the options of scripts alone are for one.
-    fn keeps_to_scripts(self, options: Options<'_>) -> bool
-        ensures { result ≡ keeps_to_scripts_of (invocation_of self.entry) (options_of options.entry) }
-    {
-        self.runs_script() || !(options.percent || options.strict)
-    }
-
-    /// Whether at most one option spells bytes, and that where bytes are read.
-    fn spells_bytes(self, options: Options<'_>) -> bool
-        ensures { result ≡ spells_bytes_of (invocation_of self.entry) (options_of options.entry) }
-    {
-        if self.reads_bytes() {
-            !(options.base64 && options.loose)
-        } else {
-            !(options.base64 || options.loose)
-        }
-    }
-
-    /// Whether rights may be told by their names.
-    fn explains(self) -> bool
-        ensures { result ≡ explains_of (invocation_of self.entry) }
-    {
-        matches!(self, Invocation::Why { .. })
-    }
-
-    /// Whether a descriptor's text is read.
-    fn reads_text(self) -> bool
-        ensures { result ≡ reads_text_of (invocation_of self.entry) }
-    {
-        matches!(
-            self,
-            Invocation::Verdict { .. }
-                | Invocation::Why { .. }
-                | Invocation::Lint { .. }
-                | Invocation::Print { .. }
-                | Invocation::ToBinary { .. }
-        )
-    }
-
-    /// Whether bytes are read.
-    fn reads_bytes(self) -> bool
-        ensures { result ≡ reads_bytes_of (invocation_of self.entry) }
-    {
-        matches!(self, Invocation::FromBinary { .. })
-    }
-
-    /// Whether it is a script, at once, line by line or as an audit.
-    fn runs_script(self) -> bool
-        ensures { result ≡ runs_script_of (invocation_of self.entry) }
-    {
-        matches!(
-            self,
-            Invocation::Script | Invocation::Serve | Invocation::Audit { .. }
-        )
-    }
-
-    /// Whether generic rights are mapped ([MS-DTYP] 2.4.3).
-    fn maps(self) -> bool
-        ensures { result ≡ maps_of (invocation_of self.entry) }
-    {
-        matches!(
-            self,
-            Invocation::Verdict { .. }
-                | Invocation::Why { .. }
-                | Invocation::Lint { .. }
-                | Invocation::Script
-                | Invocation::Serve
-                | Invocation::Audit { .. }
-        )
-    }
-}
-
 /// What the words ask for, of which the first is the program's name. `None`: they aren't a command line.
 pub(crate) fn read_command_line<'a>(words: &'a [&'a str]) -> Option<CommandLine<'a>>
     ensures { option_map command_line_of result ≡ reading words.entry.now }
@@ -284,12 +189,15 @@ fn run_by<'a>(words: &'a [&'a str]) -> Option<CommandLine<'a>>
     })
 }
 
-/// The command that the words begin with, and its arguments.
+/// The command that the words begin with, and its arguments. Behind `serve` alone may be `--ids`, and nothing else.
 fn command_in<'a>(words: &'a [&'a str]) -> Option<Invocation<'a>>
     ensures { option_map invocation_of result ≡ command_at words.entry.now }
 {
     match words {
         [] => None,
+        [word, flag] if *word == "serve" && *flag == "--ids" => {
+            Some(Invocation::Serve { has_ids: true })
+        }
         [word, words @ ..] => match named(word) {
             Some(command) => command_on(command, arguments_in(words)),
             None => None,
@@ -356,7 +264,7 @@ fn command_on<'a>(command: CommandName, arguments: &'a [&'a str]) -> Option<Invo
         (CommandName::ToBinary, [sddl]) => Some(Invocation::ToBinary { sddl }),
         (CommandName::FromBinary, [bytes]) => Some(Invocation::FromBinary { bytes }),
         (CommandName::Script, []) => Some(Invocation::Script),
-        (CommandName::Serve, []) => Some(Invocation::Serve),
+        (CommandName::Serve, []) => Some(Invocation::Serve { has_ids: false }),
         (CommandName::Audit, [workers]) => match workers_in(workers) {
             Some(workers) => Some(Invocation::Audit { workers }),
             None => None,

@@ -14,6 +14,7 @@
 mod answer;
 mod bytes;
 mod command_line;
+mod command_options;
 mod convert;
 mod descriptor;
 mod each;

@@ -68,7 +68,7 @@ pub(crate) fn perform<T: Threads + Wait + Sync, R: Read, W: Write>(
     ensures unused { is_script (invocation_of line.entry.invocation) ≡ false → reader.new ≡ reader.old }
 {
     match line.invocation {
-        Invocation::Script | Invocation::Serve | Invocation::Audit { .. } => {
+        Invocation::Script | Invocation::Serve { .. } | Invocation::Audit { .. } => {
             perform_script(rt, alloc, line, reader, writer)
         }
         Invocation::Each { ending, request } => {
@@ -135,7 +135,7 @@ fn run_under<T: Threads + Wait + Sync, R: Read, W: Write>(
     let manner = settings.manner();
     match line.invocation {
         Invocation::Script => run(alloc, &manner, reader, writer),
-        Invocation::Serve => serve(alloc, &manner, reader, writer),
+        Invocation::Serve { has_ids } => serve(alloc, &manner, has_ids, reader, writer),
         Invocation::Audit { workers } => {
             run_audit(rt, alloc, workers, &manner, reader, writer, &OpenGate)
         }

@@ -162,6 +162,12 @@ static WORKERS: [Argument; 1] = [Argument {
     help: "The number of workers, 1 to 64, in one or two decimal digits",
 }];
 
+static IDS: [Argument; 1] = [Argument {
+    name: "ids",
+    form: Form::Flag,
+    help: "Each line begins with an id, and so does each line of its answer",
+}];
+
 static QUESTION: [Argument; 3] = [
     Argument {
         name: "zero",
@@ -239,7 +245,7 @@ static SCRIPT: Description = Description {
 static SERVE: Description = Description {
     name: "serve",
     about: "Runs the script on standard input line by line, for a program that waits for each answer",
-    usage: "sdstore [OPTIONS] serve",
+    usage: "sdstore [OPTIONS] serve [--ids]",
     notes: SERVE_NOTES,
     spaces_help: false,
 };
@@ -283,7 +289,8 @@ impl CommandName {
             CommandName::Verdict | CommandName::Why => &REQUEST,
             CommandName::Lint | CommandName::Print | CommandName::ToBinary => &TEXT,
             CommandName::FromBinary => &BYTES,
-            CommandName::Script | CommandName::Serve => &[],
+            CommandName::Script => &[],
+            CommandName::Serve => &IDS,
             CommandName::Audit => &WORKERS,
             CommandName::Each => &QUESTION,
         }

@@ -138,7 +138,13 @@ Example:
 pub(crate) const SERVE_NOTES: &str = "\
 Has the output of 'sdstore script'. Every complete line is answered before more input is read: a
 program can write a line, wait for its answer, and write the next. The number of lines is unlimited.
-'--mapping', '--percent' and '--strict' go before 'serve', as before 'script'.
+'--mapping', '--percent' and '--strict' go before 'serve', as before 'script', and '--ids' after it.
+
+With '--ids' the first word of a line is its id, which comes before each line of its answer:
+  17 check 0 /a SY FR WD               17 seen 1 granted 0x120089
+So a program that was interrupted before it read an answer can't take it for that of its next line.
+An id has printable ASCII characters, and doesn't begin with '#'. A line without one changes nothing,
+and its answer has none. An id alone isn't answered.
 
 Statuses:
   0  the script was carried out to its end, even with faults and refusals

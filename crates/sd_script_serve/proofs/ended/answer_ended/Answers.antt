@@ -15,7 +15,8 @@ returns-in_err-grow-clause-err g c =
     let line = c.loop-rest.line.items in
     let refused = err_from_is_err_and c.from_residual.result c.from_residual.ensures.1 in
     rw (refused.1, refused.2)
-    (growth_stops c.args.carried.now c.loop-rest.carried c.args.line.now.items c.args.bytes.now so_far.ended so_far.printed
+    (growth_stops c.args.has_ids c.args.carried.now c.loop-rest.carried c.args.line.now.items c.args.bytes.now
+    so_far.ended so_far.printed
     (line ++ take end rest) (drop end rest) _ _ (so_far.parts ∙ parts_taken so_far.ended line rest end) so_far.whole
     (none_taken line rest end c.line_len-end.ensures.place so_far.unended) so_far.advances so_far.appended _ c.in_err-grow.ensures.err)
 
@@ -48,7 +49,8 @@ returns-in_err-answer_first-clause-err g c =
     c.deref.ensures.value ∙ c.in_ok-push.ensures.items ∙ ap (λ l. l ++ 10 ∷ []) c.in_ok-grow.ensures.ok in
     let refused = err_from_is_err_and c.from_residual-in_err-answer_first.result c.from_residual-in_err-answer_first.ensures.1 in
     rw (refused.1, refused.2)
-    (answer_stops c.args.carried.now c.loop-rest.carried c.answer_first.new.carried c.args.line.now.items c.args.bytes.now so_far.ended so_far.printed
+    (answer_stops c.args.has_ids c.args.carried.now c.loop-rest.carried c.answer_first.new.carried c.args.line.now.items
+    c.args.bytes.now so_far.ended so_far.printed
     (line ++ take end rest) _ _ _ _ (so_far.parts ∙ parts_at_feed so_far.ended line rest end c.line_len-end.ensures.place low) so_far.whole
     (none_taken line rest end c.line_len-end.ensures.place so_far.unended) so_far.advances so_far.appended _
     (rw text at c.in_err-answer_first.ensures.err))
@@ -70,7 +72,8 @@ loop-rest-preserved g c =
           ∙ parts_behind so_far.ended (line ++ take end rest) _ _ c.clear.ensures.items;
       whole = ended_line so_far.ended (line ++ take end rest);
       unended = rw c.clear.ensures.items none_in_nothing;
-      advances = advances_line c.args.carried.now c.loop-rest.carried c.answer_first.new.carried so_far.ended so_far.printed
+      advances = advances_line c.args.has_ids c.args.carried.now c.loop-rest.carried c.answer_first.new.carried
+          so_far.ended so_far.printed
           (line ++ take end rest) said.printed said.line said.behind so_far.advances
           (none_taken line rest end c.line_len-end.ensures.place so_far.unended) (rw text at said.first) said.answered;
       appended = Appends-trans _ _ _ so_far.printed said.printed so_far.appended said.wrote;

@@ -12,7 +12,7 @@ invariant-loop-rest g l = record {
   parts : l.initial.line.items ++ l.initial.rest ≡ ended ++ (l.line.items ++ l.rest);
   whole : IsEnded ended;
   unended : HasNoFeed l.line.items;
-  advances : Advances l.initial.carried ended printed l.carried;
+  advances : Advances l.has_ids l.initial.carried ended printed l.carried;
   appended : Appends (g.W.Write.contents (inner_of l.initial.writer)) (g.W.Write.contents (inner_of l.writer)) printed;
   unfailed : has_failed l.writer ≡ has_failed l.initial.writer;
 }

@@ -6,9 +6,11 @@ use Rattle.sd_script_serve.proofs.ended.answer_last.Goals as goal
 pub returns-clause-ok : goal.returns-clause-ok
 returns-clause-ok g c =
     let some : 0 < length c.args.line.now = let test = sym c.is_empty.ensures ∙ c.if-is_empty.false in grind (arith, nat_tests) in
-    on_ok c.answer_first.result c.answer_first.ensures.ok (all_of_first c.args.carried.now c.answer_first.new.carried c.args.line.now _ c.requires some)
+    on_ok c.answer_first.result c.answer_first.ensures.ok
+    (all_of_first c.args.has_ids c.args.carried.now c.answer_first.new.carried c.args.line.now _ c.requires some)
 
 pub returns-clause-err : goal.returns-clause-err
 returns-clause-err g c =
     let some : 0 < length c.args.line.now = let test = sym c.is_empty.ensures ∙ c.if-is_empty.false in grind (arith, nat_tests) in
-    if_err _ c.answer_first.result c.answer_first.ensures.err (last_fails c.args.carried.now c.answer_first.new.carried c.args.line.now _ _ c.requires some)
+    if_err _ c.answer_first.result c.answer_first.ensures.err
+    (last_fails c.args.has_ids c.args.carried.now c.answer_first.new.carried c.args.line.now _ _ c.requires some)

@@ -18,7 +18,7 @@ returns-in-Err-clause-err g c =
       consumed = Consumes-kept _ _ _ _ so_far.consumed c.in-Err.ensures.bytes;
       whole = so_far.whole;
       rest = so_far.unended;
-      output = ended_prints c.args.manner.now so_far.ended so_far.printed c.loop.carried so_far.advances;
+      output = ended_prints c.args.has_ids c.args.manner.now so_far.ended so_far.printed c.loop.carried so_far.advances;
       appended = so_far.appended;
     }
 
@@ -27,7 +27,8 @@ returns-in-Ok-eq0-clause-ok g c =
     let so_far = c.loop.invariant in
     let none : c.in-Ok-eq0.field-0 ≡ 0 = let test = c.in-Ok-eq0.field-0-test in grind (arith, nat_tests) in
     let end : IsAtEnd (g.R.Read.remaining (inner_of c.read.new.self)) = c.in-Ok-eq0.ensures.bytes.1 none (search rules) in
-    all_appended c.args.manner.now c.loop.carried c.answer_last.new.carried so_far.ended c.deref.result.now so_far.printed _ _ _ _ _
+    all_appended c.args.has_ids c.args.manner.now c.loop.carried c.answer_last.new.carried so_far.ended
+    c.deref.result.now so_far.printed _ _ _ _ _
     (rw c.deref.ensures.value (consumed_end _ _ _ (so_far.ended ++ c.loop.line.items) so_far.consumed (rw none at c.in-Ok-eq0.ensures.bytes.0)))
     end so_far.advances so_far.appended c.in_ok-answer_last-in-Ok-eq0.ensures.ok
 
@@ -38,7 +39,8 @@ returns-in_err-answer_last-in-Ok-eq0-clause-err g c =
     let end : IsAtEnd (g.R.Read.remaining (inner_of c.read.new.self)) = c.in-Ok-eq0.ensures.bytes.1 none (search rules) in
     let refused = err_from_is_err_and c.from_residual.result c.from_residual.ensures.1 in
     rw (refused.1, refused.2)
-    (last_leaves c.args.manner.now c.loop.carried c.answer_last.new.carried so_far.ended c.deref.result.now so_far.printed _ _ _ _ _
+    (last_leaves c.args.has_ids c.args.manner.now c.loop.carried c.answer_last.new.carried so_far.ended
+    c.deref.result.now so_far.printed _ _ _ _ _
     (rw c.deref.ensures.value (consumed_end _ _ _ (so_far.ended ++ c.loop.line.items) so_far.consumed (rw none at c.in-Ok-eq0.ensures.bytes.0)))
     end so_far.whole so_far.advances so_far.appended _ c.in_err-answer_last-in-Ok-eq0.ensures.err)
 
@@ -48,7 +50,8 @@ returns-in_err-answer_ended-in-Ok-clause-err g c =
     let so_far = c.loop.invariant in
     let refused = err_from_is_err_and c.from_residual-in_err-answer_ended-in-Ok.result c.from_residual-in_err-answer_ended-in-Ok.ensures.1 in
     rw (refused.1, refused.2)
-    (stop_leaves c.args.manner.now c.loop.carried so_far.ended c.loop.line.items _ so_far.printed _ _ _ _ _ _ so_far.consumed c.in-Ok.ensures.bytes.0
+    (stop_leaves c.args.has_ids c.args.manner.now c.loop.carried so_far.ended c.loop.line.items _ so_far.printed _ _ _ _
+    _ _ so_far.consumed c.in-Ok.ensures.bytes.0
     so_far.whole so_far.advances so_far.appended _ c.in_err-answer_ended-in-Ok.ensures.err)
 
 pub loop-preserved : goal.loop-preserved
@@ -61,7 +64,8 @@ loop-preserved g c =
       consumed = consumed_more _ _ _ so_far.ended c.loop.line.items _ more.ended c.answer_ended.new.line.items so_far.consumed c.in-Ok.ensures.bytes.0 more.parts;
       whole = ended_both so_far.ended more.ended so_far.whole more.whole;
       unended = more.unended;
-      advances = advances_both _ c.loop.carried c.answer_ended.new.carried so_far.ended more.ended so_far.printed more.printed so_far.advances more.advances;
+      advances = advances_both c.args.has_ids _ c.loop.carried c.answer_ended.new.carried so_far.ended more.ended
+          so_far.printed more.printed so_far.advances more.advances;
       appended = Appends-trans _ _ _ so_far.printed more.printed so_far.appended more.appended;
       read = search rules;
       written = search rules;
@@ -77,6 +81,6 @@ returns-clause-err g c =
       consumed = so_far.consumed;
       whole = so_far.whole;
       rest = tt;
-      output = ended_prints c.args.manner.now so_far.ended so_far.printed c.loop.carried so_far.advances;
+      output = ended_prints c.args.has_ids c.args.manner.now so_far.ended so_far.printed c.loop.carried so_far.advances;
       appended = so_far.appended;
     }

@@ -13,7 +13,7 @@ invariant-loop g l = record {
   consumed : Consumes (g.R.Read.remaining (inner_of l.initial.reader)) (g.R.Read.remaining (inner_of l.reader)) (ended ++ l.line.items);
   whole : IsEnded ended;
   unended : HasNoFeed l.line.items;
-  advances : Advances (begun l.manner) ended printed l.carried;
+  advances : Advances l.has_ids (begun l.manner) ended printed l.carried;
   appended : Appends (g.W.Write.contents (inner_of l.initial.writer)) (g.W.Write.contents (inner_of l.writer)) printed;
   read : has_failed l.reader ≡ has_failed l.initial.reader;
   written : has_failed l.writer ≡ has_failed l.initial.writer;

@@ -17,16 +17,26 @@ returns-in-Script-clause-err g c = rw (c.in-Script.is) (IfErr-weaker c.run.resul
 
 pub returns-in-Serve-clause-ok : goal.returns-in-Serve-clause-ok
 returns-in-Serve-clause-ok g c = rw (c.in-Serve.is) (IfOk-weaker c.serve.result _ _
-    (λ tally out told says. output_answers _ _ _ _ (served_answers (options_of c.args.line.options) c.args.settings.now c.requires.said _) tally told _ _ says out)
+    (λ tally out told says. output_answers _ _ _ _
+    (served_answers (options_of c.args.line.options) c.args.settings.now c.requires.said _ c.in-Serve.has_ids) tally
+    told _ _ says out)
     (rw (c.manner-manner.ensures) at c.serve.ensures.ok))
 
 pub returns-in-Serve-clause-err : goal.returns-in-Serve-clause-err
 returns-in-Serve-clause-err g c = rw (c.in-Serve.is) (IfErr-weaker c.serve.result _ _
-    (λ e leaves. inr (inl (record { settings = c.args.settings.now; asked = refl; said = c.requires.said; answers = leaves })))
+    (λ e leaves. inr (inl (record {
+      settings = c.args.settings.now;
+      has_ids = c.in-Serve.has_ids;
+      asked = refl;
+      said =
+          c.requires.said;
+      answers = leaves;
+    })))
     (rw (c.manner-manner.ensures) at c.serve.ensures.err))
 
 pub returns-in-Serve-clause-too_long : goal.returns-in-Serve-clause-too_long
-returns-in-Serve-clause-too_long g c = λ is. served_too_much _ _ _ _ _ (fails_so _ c.serve.result _ c.serve.ensures.err is)
+returns-in-Serve-clause-too_long g c = λ is. served_too_much _ _ _ _ _ _
+    (fails_so _ c.serve.result _ c.serve.ensures.err is)
 
 pub returns-in-Audit-clause-ok : goal.returns-in-Audit-clause-ok
 returns-in-Audit-clause-ok g c = rw (c.in-Audit.is) (IfOk-weaker c.run_audit.result _ _
