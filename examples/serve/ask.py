@@ -8,6 +8,7 @@ compared with what the file's entry grants; at the end it prints how many were a
 """
 
 import contextlib
+import itertools
 import subprocess
 import sys
 import time
@@ -24,18 +25,22 @@ def line_of(*words: str) -> str:
 class Server:
     """A store in another process. Lines are those of a script.
 
-    A question that an exception interrupts ends the store: its answer must not become that of the next question.
+    Each line is sent with an id of its own, and each line of its answer comes with that id. Anything else ends the
+    store: what an exception left unread of an answer, or unwritten of a line, never becomes the answer to another line.
     """
 
     def __init__(self, program: str, *options: str) -> None:
-        """Starts `sdstore serve` with these options before `serve`."""
-        self._process = subprocess.Popen([program, *options, "serve"], stdin=subprocess.PIPE, stdout=subprocess.PIPE)
-        self._is_asking = False
+        """Starts `sdstore serve --ids` with these options before `serve`."""
+        words = [program, *options, "serve", "--ids"]
+        self._process = subprocess.Popen(words, stdin=subprocess.PIPE, stdout=subprocess.PIPE)
+        self._ids = itertools.count(1)
 
     def __enter__(self) -> "Server":
         return self
 
-    def __exit__(self, *_: object) -> None:
+    def __exit__(self, kind: object, *_: object) -> None:
+        if kind:
+            self._process.kill()
         self.close()
 
     def ask(self, line: str) -> str:
@@ -43,52 +48,38 @@ class Server:
         is answered. EOFError: the server has ended."""
         if not line or line[0] == "#" or "\n" in line or line[-1] == "\r":
             raise ValueError("not one line that is answered: %r" % line)
-        given = line.encode() + b"\n"
-        if self._is_asking or self._process.stdin.closed:
-            self._abandon()
+        tag = b"%d " % next(self._ids)
+        given = tag + line.encode() + b"\n"
+        if self._process.stdin.closed:
             raise EOFError("the server has ended")
-        self._is_asking = True
-        try:
-            lines = self._exchange(given, line.split(" ", 1)[0] in ("why", "list", "dump"))
-        except BaseException:
-            self._abandon()
-            raise
-        self._is_asking = False
-        return "\n".join(lines)
-
-    def _exchange(self, given: bytes, has_several: bool) -> "list[str]":
         try:
             self._process.stdin.write(given)
             self._process.stdin.flush()
         except BrokenPipeError:
             raise EOFError("the server has ended") from None
-        lines = [self._line()]
-        if has_several:
-            lines += iter(self._line, "")
-        return lines
+        lines = [self._line(tag)]
+        if line.split(" ", 1)[0] in ("why", "list", "dump"):
+            lines += iter(lambda: self._line(tag), "")
+        return "\n".join(lines)
 
-    def _line(self) -> str:
-        """The next line that comes."""
+    def _line(self, tag: bytes) -> str:
+        """The next line that comes, which belongs to the answer with this tag."""
         line = self._process.stdout.readline()
-        if not line.endswith(b"\n"):
-            raise EOFError("the server has ended")
-        return line[:-1].decode()
+        if line.startswith(tag) and line.endswith(b"\n"):
+            return line[len(tag):-1].decode()
+        self._process.kill()
+        self.close()
+        raise EOFError("not the answer to this line: %r" % line if line else "the server has ended")
 
     def has_ended(self) -> bool:
         return self._process.poll() is not None
 
     def close(self) -> int:
         """Ends the server, and returns its status."""
-        if self._is_asking:
-            self._process.kill()
         with contextlib.suppress(OSError):
             self._process.stdin.close()
         self._process.stdout.close()
         return self._process.wait()
-
-    def _abandon(self) -> None:
-        self._process.kill()
-        self.close()
 
 
 def expect(answer: str, wanted: str) -> None:

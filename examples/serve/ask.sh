@@ -1,13 +1,13 @@
 # shellcheck shell=bash
-# Asks `sdstore serve` from Bash: source this, then `serve_with PROGRAM [OPTION ..]`, and `ask LINE` for each line of a
-# script. `answer` is set to the answer: one line, or to `why`, `list` and `dump` several. `ask` fails with status 2
-# if the line has no answer, and with 1 if the program has ended or an earlier `ask` was interrupted.
+# Asks `sdstore serve --ids` from Bash: source this, then `serve_with PROGRAM [OPTION ..]`, and `ask LINE` for each line
+# of a script. `answer` is set to the answer: one line, or to `why`, `list` and `dump` several. `ask` fails with status
+# 2 if the line has no answer, and with 1 if the program has ended, or gave the answer to another line, which ends it.
 # `end_serving` ends it.
 
 # serve_with PROGRAM [OPTION ..]: starts it, with these options before `serve`.
 serve_with() {
-    serving_is_asked=
-    coproc SERVING { exec "$@" serve; }
+    serving_id=0
+    coproc SERVING { exec "$@" serve --ids; }
 }
 
 # ask LINE: sets `answer` to the answer to the line.
@@ -18,29 +18,32 @@ ask() {
     case $1 in
     '' | '#'* | *$'\n'* | *$'\r') return 2 ;;
     esac
-    # The rest of an answer that an interrupt cut short must not become the answer to this line.
-    if [[ -n $serving_is_asked || -z ${SERVING[1]-} ]]; then
-        kill "${SERVING_PID:-}" 2>/dev/null
-        return 1
-    fi
-    serving_is_asked=yes
-    if ! { printf '%s\n' "$1" >&"${SERVING[1]}" && IFS= read -r answer <&"${SERVING[0]}"; }; then
-        answer=
-        return 1
-    fi
+    [[ -n $serving_id && -n ${SERVING[1]-} ]] || return 1
+    serving_id=$((serving_id + 1))
+    printf '%s\n' "$serving_id $1" >&"${SERVING[1]}" && next_line || return
+    answer=$line
     case ${1%% *} in
     why | list | dump)
         while true; do
-            if ! IFS= read -r line <&"${SERVING[0]}"; then
-                answer=
-                return 1
-            fi
+            next_line || return
             [[ -n $line ]] || break
             answer+=$'\n'$line
         done
         ;;
     esac
-    serving_is_asked=
+}
+
+# next_line: sets `line` to the next line of the answer to the last question. If that isn't what comes, as where an
+# interrupt cut an earlier answer short, the program is ended.
+next_line() {
+    if IFS= read -r line <&"${SERVING[0]}" && [[ $line == "$serving_id "* ]]; then
+        line=${line#* }
+    else
+        serving_id=''
+        answer=''
+        kill "${SERVING_PID:-}" 2>/dev/null
+        return 1
+    fi
 }
 
 # end_serving: no more lines come. Returns the program's status.
