@@ -88,10 +88,13 @@ class Program:
 
     @property
     def words(self) -> dict[str, list[str]]:
-        """By command, those of its arguments that the help lists by their whole names, as +take."""
+        """By command, those of its arguments that the help lists by their whole names, as +take; and its own options,
+        where it takes no command."""
         named = {}
         for name, command in self.commands.items():
             lines = [line.split()[0] for each in command.arguments for line in each.lines if line.startswith("+")]
+            if name not in self.inner:
+                lines += self._options_of(name)
             if lines:
                 named[name] = lines
         return named
@@ -108,9 +111,12 @@ class Program:
 
     @property
     def flags(self) -> dict[str, list[str]]:
-        """By such a command, its own options but for help."""
-        flags = {name: [flag for each in self.commands[name].options for flag in each.names] for name in self.inner}
-        return {name: [flag for flag in each if flag not in ("-h", "--help")] for name, each in flags.items()}
+        """By such a command, its own options."""
+        return {name: self._options_of(name) for name in self.inner}
+
+    def _options_of(self, name: str) -> list[str]:
+        """A command's own options but for help."""
+        return [flag for each in self.commands[name].options for flag in each.names if flag not in ("-h", "--help")]
 
     def _says(self, *words: str) -> str:
         command = [self._path, *words]
