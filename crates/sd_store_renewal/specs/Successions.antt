@@ -1,4 +1,4 @@
--- A store that goes on in another one: what holds between their journals.
+-- A store that continues in another one: what holds between their journals.
 use Rattle.std.specs.Prelude.{◌≡◌, List, ◌++◌, length}
 use Rattle.sd_tree.specs.Journal.{replay}
 use Rattle.sd_tree.specs.declared.edit.Edit.{Edit}
@@ -18,20 +18,21 @@ pub record IsSameTree (o : Opening) (journal : List Edit) (o' : Opening) (journa
   pub mapping : o'.mapping ≡ o.mapping
   pub tree : replay o' journal' ≡ replay o journal
 
--- whatever edits follow in both, no caller can tell the journals apart but by the room that they have left
+-- whatever edits follow in both, no answer differs, but for the room that the journals have left
 abbrev pub GoesOnAlike : Opening → List Edit → Opening → List Edit → Type 0
 GoesOnAlike o journal o' journal' = (more : List Edit) → AnswerAlike o (journal ++ more) o' (journal' ++ more)
 
 abbrev pub SameTreeGoesOnAlike : Type 0
 SameTreeGoesOnAlike =
-    (o o' : Opening) (journal journal' : List Edit) → IsSameTree o journal o' journal' → GoesOnAlike o journal o' journal'
+    (o o' : Opening) (journal journal' : List Edit)
+    → IsSameTree o journal o' journal' → GoesOnAlike o journal o' journal'
 
--- an answer of the next store by this journal of it: it is that of the old store's last journal, with these edits behind it
-pub record IsOnwardsBy (o : Opening) (turn : Turn) (found : List Edit) (query : Query) (answer : Answer) (more : List Edit) : Type 0 where
+-- an answer of the next store by this journal of it: it is that of the old store's last journal followed by these edits
+pub record IsOnwardsBy (o : Opening) (turn : Turn) (found more : List Edit) (q : Query) (given : Answer) : Type 0 where
   pub journal : found ≡ turn.first ++ more
-  pub seen : answer.seen ≡ length (turn.first ++ more)
-  pub reply : answer.reply ≡ reply_by o (turn.last ++ more) query
+  pub seen : given.seen ≡ length (turn.first ++ more)
+  pub reply : given.reply ≡ reply_by o (turn.last ++ more) q
 
 -- with what the next store has published since
 abbrev pub IsOnwards : Opening → Turn → List Edit → Query → Answer → Type 0
-IsOnwards o turn found query answer = (more : List Edit) × IsOnwardsBy o turn found query answer more
+IsOnwards o turn found query answer = (more : List Edit) × IsOnwardsBy o turn found more query answer

@@ -1,9 +1,8 @@
-//! Why a thread doesn't go over.
+//! Why a thread isn't moved to the next store.
 
 use thiserror::Error;
 
-/// The old store's checker has seen more than the succession tells of: something was published in the old store since.
-/// Nothing but what the old checker was told of has changed.
+/// The old store's checker has seen more than the succession's last journal: the old store was published again since.
 #[derive(Clone, Copy, Debug, PartialEq, Eq, Error)]
 #[error("the old store was published again")]
 pub struct Ahead;

@@ -1,7 +1,7 @@
-//! A store of many threads that goes on in another one, without a stop for its checkers.
+//! A store of many threads that continues in another one, while its checkers go on answering.
 //!
-//! A store has one history, whose journal never gets shorter and has an end. So a service that goes on for years opens
-//! another store with the tree of the first, and hands its threads over one by one. docs/STORE.md tells how.
+//! A store's journal never gets shorter, and has a limit. So a service that runs for years starts another store with
+//! the tree of the first, and moves its threads one by one. docs/STORE.md says how.
 //!
 //! ```text
 //! writer.publish(&rt)?;

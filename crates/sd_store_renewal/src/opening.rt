@@ -2,6 +2,7 @@
 
 ghost use Rattle.std.specs.Prelude.{◌≡◌, ◌∷◌, [], None, length, IfOk, IfErr, OnOk, All, vec_len};
 ghost use Rattle.sd_tree.specs.Journal.{opening_of, replay, IsLawful};
+ghost use Rattle.sd_share.specs.Starts.{IsReaderCount};
 ghost use Rattle.sd_store.specs.Errors.{IsStoreError};
 ghost use Rattle.sd_store.specs.Rules.{newcomer};
 ghost use Rattle.sd_tree_renewal.specs.Renewal.{Makes};
@@ -16,8 +17,9 @@ use sd_tree_renewal::Beginning;
 use std::alloc::{AllocError, Global};
 use std::sync::Wait;
 
-/// A store that begins with the tree that another one has published, of which `shortest` gave the beginning. The old
-/// store goes on; its checkers are handed over by what is told last. Errors are those of `start`, without `Root`.
+/// A store that starts with the tree that another one has published, of which `shortest` returned a compact journal.
+/// The old store continues; its checkers are moved by the succession. For 1 to 64 checkers; errors are those of
+/// `start`, without `Root`.
 pub fn succeed<J: Naming, K: Naming, R: Wait>(
     rt: &R,
     alloc: Global,
@@ -30,6 +32,7 @@ pub fn succeed<J: Naming, K: Naming, R: Wait>(
     requires opening { opening_of J.opening.mapping beginning.now.root ≡ K.opening }
     requires makes { Makes K.opening beginning.now.edits.items (replay J.opening old.old.journal) }
     ensures old { old.new ≡ old.old }
+    ensures accepted { OnOk result (IsReaderCount readers) }
     ensures writer { IfOk result (λ next. (next.0.journal ≡ beginning.now.edits.items)
         × (next.0.marks ≡ 0 ∷ length next.0.journal ∷ []) × (next.0.pending ≡ [])) }
     ensures count { IfOk result (λ next. vec_len next.1 ≡ readers) }

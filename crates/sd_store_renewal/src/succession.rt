@@ -2,6 +2,9 @@
 
 ghost use Rattle.std.specs.Prelude.{◌≡◌, ◌<◌, length, OnOk, OnErr, IfOk};
 ghost use mathlib.Core.List.{IsPrefix};
+ghost use Rattle.sd_tree.specs.Journal.{IsLawful};
+ghost use Rattle.sd_share.specs.Machine.{longer};
+ghost use Rattle.sd_store.specs.Marks.{last_of};
 ghost use Rattle.sd_store.specs.Sights.{IsGone};
 ghost use Rattle.sd_store_renewal.specs.Successions.{IsOnwards};
 
@@ -43,14 +46,19 @@ impl<J: Naming, K: Naming> Succession<J, K> {
         self.first.length()
     }
 
-    /// A thread goes over from its checker of the old store to one of the next. What the old one had seen or was told of
-    /// is a beginning of the old store's last journal, and whatever the new one answers from here on is by no less than
-    /// that same tree. Takes no memory, and waits for nobody.
+    /// A thread moves from its checker of the old store to one of the next. What the old one has seen is a prefix of
+    /// the old store's last journal, and each later answer of the new one is by that tree or a later one. The old one
+    /// learns that journal on success and on an error, the new one the next store's first journal on success. Allocates
+    /// nothing, and waits for nobody.
+    #[tactic(auto, using(crate::proofs::Longer::longer_than))]
     pub fn hand_over(&mut self, old: &mut Checker<J>, new: &mut Checker<K>) -> Result<(), Ahead>
         ensures same { self.new ≡ self.old }
         ensures seen { OnOk result (IsPrefix old.old.floor self.new.last) }
         ensures told { OnOk result (IsPrefix self.new.first new.new.floor × IsPrefix new.old.floor new.new.floor) }
-        ensures ahead { OnErr result ((length self.new.last < length old.new.floor) × (new.new ≡ new.old)) }
+        ensures ahead { OnErr result ((length self.new.last < length old.old.floor) × (new.new ≡ new.old)) }
+        ensures old { (old.new.floor ≡ longer old.old.floor self.old.last) × (old.new.view ≡ old.old.view) }
+        ensures new { OnOk result ((new.new.floor ≡ longer new.old.floor self.old.first)
+            × (new.new.view ≡ new.old.view)) }
     {
         old.learn(&mut self.last);
         if self.last.length() < old.seen() {
@@ -60,13 +68,18 @@ impl<J: Naming, K: Naming> Succession<J, K> {
         Ok(())
     }
 
-    /// `Checker::check` in the next store, told as of the old one ([MS-DTYP] 2.5.3.2): the answer is by the old store's
-    /// last journal, with what the next store has published since behind it.
+    /// `Checker::check` in the next store ([MS-DTYP] 2.5.3.2), whose answer is that of the old store's last journal
+    /// followed by what the next store has published since. `Gone` as there.
     pub fn check(&self, checker: &mut Checker<K>, query: &Query) -> Result<Answer, Gone>
         requires { IsPrefix self.now.first checker.old.floor }
         ensures onwards { IfOk result (λ answer.
             IsOnwards J.opening self.now checker.new.floor query.now answer) }
+        ensures floor { OnOk result (checker.new.floor ≡ checker.new.view.journal) }
         ensures extends { OnOk result (IsPrefix checker.old.floor checker.new.floor) }
+        ensures views { OnOk result (IsPrefix checker.old.view.journal checker.new.view.journal
+            × IsPrefix checker.old.view.marks checker.new.view.marks) }
+        ensures lawful { OnOk result (IsLawful K.opening checker.new.floor) }
+        ensures mark { IfOk result (λ answer. answer.seen ≡ last_of checker.new.view.marks) }
         ensures gone { OnErr result (IsGone checker.old checker.new) }
     {
         // That both journals make one tree.
