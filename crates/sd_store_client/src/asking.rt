@@ -1,8 +1,8 @@
-//! From edits to an answer behind them.
+//! From edits to an answer after them.
 
-ghost use Rattle.std.specs.Prelude.{◌≡◌, [], IfOk};
-ghost use Rattle.sd_tree.specs.Journal.{opening_of};
-ghost use Rattle.sd_store_client.specs.Behind.{IsBehind};
+ghost use Rattle.std.specs.Prelude.{◌≡◌, [], None, IfErr, IfOk, OnOk};
+ghost use Rattle.sd_tree.specs.Journal.{opening_of, root_refusal};
+ghost use Rattle.sd_store_client.specs.Behind.{IsAskError, IsAskedError, IsBehind};
 
 use crate::error::AskError;
 use sd_history::Opened;
@@ -13,8 +13,8 @@ use sd_tree::{Edit, RootSpec};
 use std::alloc::Global;
 use std::sync::Wait;
 
-/// The answer to a query ([MS-DTYP] 2.5.3.2) by the one checker of a new store, once the edits are published and the checker
-/// is told of it. The first error ends it; the store is ended on every path.
+/// The answer to a query ([MS-DTYP] 2.5.3.2) by the one checker of a new store, after the edits are published and the
+/// checker has learned it. The first error is returned; the store is ended on every path.
 pub fn answer_behind<J: Naming, R: Wait>(
     rt: &R,
     alloc: Global,
@@ -26,7 +26,9 @@ pub fn answer_behind<J: Naming, R: Wait>(
 ) -> Result<Answer, AskError>
     requires history { (history.book ≡ J.book) × (history.first ≡ J.first) }
     requires opening { opening_of mapping.now root.now ≡ J.opening }
-    ensures { IfOk result (λ answer. IsBehind (opening_of mapping.now root.now) edits.now query.now answer) }
+    ensures answer { IfOk result (λ answer. IsBehind (opening_of mapping.now root.now) edits.now query.now answer) }
+    ensures accepted { OnOk result (root_refusal (opening_of mapping.now root.now) ≡ None) }
+    ensures failed { IfErr result (λ error. IsAskError (opening_of mapping.now root.now) edits.now error) }
 {
     let (mut writer, mut checkers) = start::<J, R>(rt, alloc, history, mapping, root, 1)?;
     let answer = asked(rt, &mut writer, &mut checkers[0], edits, query);
@@ -43,7 +45,8 @@ fn asked<J: Naming, R: Wait>(
     query: &Query,
 ) -> Result<Answer, AskError>
     requires { (writer.old.journal ≡ []) × (writer.old.pending ≡ []) }
-    ensures { IfOk result (λ answer. IsBehind J.opening edits.now query.now answer) }
+    ensures answer { IfOk result (λ answer. IsBehind J.opening edits.now query.now answer) }
+    ensures failed { IfErr result (λ error. IsAskedError J.opening edits.now error) }
 {
     for edit in edits {
         writer.edit(edit)?;

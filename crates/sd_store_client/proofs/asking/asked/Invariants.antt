@@ -1,5 +1,9 @@
 use Rattle.std.proofs.Common.{◌≡◌, [], take}
+use Rattle.sd_tree.specs.Journal.{IsLawful}
 use Rattle.sd_store_client.proofs.asking.asked.Given as goal
 
 abbrev pub invariant-loop-edit : goal.invariant-loop-edit
-invariant-loop-edit g l = (l.writer.journal ≡ []) × (l.writer.pending ≡ take l.edit-index l.edits)
+invariant-loop-edit g l =
+    (l.writer.journal ≡ [])
+    × (l.writer.pending ≡ take l.edit-index l.edits)
+    × IsLawful g.J.Naming.opening (take l.edit-index l.edits)
