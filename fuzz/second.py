@@ -9,6 +9,7 @@ FLAGS = {"OI": OI, "CI": CI, "NP": NP, "IO": IO, "ID": ID, "SA": SA, "FA": FA}
 GENERIC = {0x80000000: 0x120089, 0x40000000: 0x120116, 0x20000000: 0x1200A0, 0x10000000: 0x1F01FF}
 MAXIMUM_ALLOWED, RESERVED, RIGHTS = 0x02000000, 0x0CE00000, 21
 READ_CONTROL, WRITE_DAC, WRITE_OWNER, SYSTEM_SECURITY = 17, 18, 19, 24
+OBJECT_RIGHTS = (1 << RIGHTS) - 1
 
 # A SID is an authority and its sub-authorities.
 ALIASES = {
@@ -56,9 +57,9 @@ def entry_text(e):
     return "(%s;%s;%s;;;%s)" % (e.kind, flags, RIGHT_NAMES.get(e.mask, hex(e.mask)), sid_text(e.sid))
 
 
-def mapped(mask):
+def mapped(mask, generic=GENERIC):
     own = mask & 0x0FFFFFFF
-    for bit, stands_for in GENERIC.items():
+    for bit, stands_for in generic.items():
         if mask & bit:
             own |= stands_for
     return own
@@ -277,6 +278,21 @@ def applies(owner, token, again, e):
         return subject in token.restricting
     states = [state for group, state in token.groups if group == subject]
     return subject == token.user or "" in states or (e.kind == "D" and "=deny" in states)
+
+
+def allowed(owner, dacl, token, again, generic=GENERIC):
+    """The bits that the pass allows by its entries, and those that are the owner's in it."""
+    mine = owner is not None and applies(owner, token, again, Entry("A", 0, 0, owner))
+    owned = 1 << READ_CONTROL | 1 << WRITE_DAC if mine else 0
+    if dacl is None:
+        return OBJECT_RIGHTS, owned
+    listed, undecided = 0, OBJECT_RIGHTS
+    for e in dacl:
+        if applies(owner, token, again, e):
+            decided = undecided & mapped(e.mask, generic)
+            undecided ^= decided
+            listed |= decided if e.kind == "A" else 0
+    return listed, 0 if any(e.sid == OWNER_RIGHTS and not e.flags & IO for e in dacl) else owned
 
 
 def by_entry(owner, dacl, token, again, bit):

@@ -1,0 +1,234 @@
+-- What a token is granted, pass by pass; and which demands on its passes make a gain.
+use Rattle.std.proofs.Common.{◌≡◌, ℕ, Bool, true, false, not, ◌&&◌, ◌||◌, ◌==◌, cond, List, ◌∷◌, Option, Some, None, ◌⊎◌, inl, inr, refl, sym, ◌∙◌, ap}
+use Rattle.std.specs.List.{list_any}
+use Rattle.std.specs.Option.{option_to_list}
+use Rattle.std.proofs.lemmas.Bool.{and_parts, and_from, or_cases, or_left, or_right, or_parts, or_from, and_left, and_right, false≢true, not-true, not_from_false}
+use Rattle.std.proofs.Math.Bool.{or-false, or_assoc}
+use Rattle.std.proofs.Math.Dec.{eqb-suc-zero}
+use Rattle.sd_sid.specs.Mapping.{MappingValue}
+use Rattle.sd_sid.specs.Sid.{SidValue, same_sid}
+use Rattle.sd_acl.specs.declared.ace.AceKind.{AceKind}
+use Rattle.sd_acl.specs.declared.ace.AceKind.TheVariants.{Allow}
+use Rattle.sd_check.specs.Check.{acl_grants, applies, applies_again, is_granted, is_given, limits_owner, stands_for_subject, is_restricting_subject, subject}
+use Rattle.sd_check.specs.Token.{TokenValue, is_restricted}
+use Rattle.sd_check.specs.declared.grounds.Pass.TheVariants.{First, Second}
+use Rattle.sd_check.specs.declared.token.GroupState.{GroupState}
+use Rattle.sd_analysis.specs.Sufficient.{Parts, gains, token_of, has_sid}
+use Rattle.sd_analysis.specs.Passes.{about, lists, owns, meets, stands_in, sids_stand}
+use Rattle.sd_analysis.specs.declared.witness.Demand.{Demand}
+use Rattle.sd_analysis.specs.declared.witness.PassSids.{PassSids}
+use Rattle.sd_analysis.specs.declared.witness.Witness.{Witness}
+
+-- ---- a token in its passes
+
+about_first : (t : TokenValue) (kind : AceKind) (who : Option SidValue) → stands_for_subject t kind who ≡ about (stands_in First t) kind who
+about_first t kind None = refl
+about_first t kind (Some s) = refl
+
+about_second : (t : TokenValue) (kind : AceKind) (who : Option SidValue) → is_restricting_subject t who ≡ about (stands_in Second t) kind who
+about_second t kind None = refl
+about_second t kind (Some s) = refl
+
+lists_first : (g : MappingValue) (parts : Parts) (t : TokenValue) (b : ℕ) → acl_grants g (applies t parts.owner) parts.dacl b ≡ lists g parts (stands_in First t) b
+lists_first g parts t b = λ i. acl_grants g (λ kind s. about_first t kind (subject parts.owner s) i) parts.dacl b
+
+lists_second : (g : MappingValue) (parts : Parts) (t : TokenValue) (b : ℕ) → acl_grants g (applies_again t parts.owner) parts.dacl b ≡ lists g parts (stands_in Second t) b
+lists_second g parts t b = λ i. acl_grants g (λ kind s. about_second t kind (subject parts.owner s) i) parts.dacl b
+
+-- what the privileges grant
+abbrev pub privileged : TokenValue → ℕ → Bool
+privileged t b = (t.privileges.take_ownership && b == 19) || (t.privileges.security && b == 24)
+
+abbrev pub in_passes : Bool → Bool → Bool → Bool
+in_passes restricted first second = first && (not restricted || second)
+
+owner_in_passes : (o p r limited place : Bool) → ((in_passes r o p && not limited) && place) ≡ in_passes r ((o && not limited) && place) ((p && not limited) && place)
+owner_in_passes false p r limited place = refl
+owner_in_passes true true true true place = refl
+owner_in_passes true false true true place = refl
+owner_in_passes true true true false true = refl
+owner_in_passes true false true false true = refl
+owner_in_passes true true true false false = refl
+owner_in_passes true false true false false = refl
+owner_in_passes true p false true place = refl
+owner_in_passes true p false false true = refl
+owner_in_passes true p false false false = refl
+
+pub granted_in_passes : (g : MappingValue) (parts : Parts) (t : TokenValue) (b : ℕ)
+    → is_granted parts.owner parts.dacl g t b
+    ≡ (in_passes (is_restricted t) (lists g parts (stands_in First t) b) (lists g parts (stands_in Second t) b)
+    || (in_passes (is_restricted t) (owns parts (stands_in First t) b) (owns parts (stands_in Second t) b) || privileged t b))
+granted_in_passes g parts t b =
+    let o = stands_for_subject t Allow parts.owner in
+    let p = is_restricting_subject t parts.owner in
+    let place = b == 17 || b == 18 in
+    (λ i. in_passes (is_restricted t) (lists_first g parts t b i) (lists_second g parts t b i) || is_given parts.owner parts.dacl t b)
+    ∙ ap (λ x. in_passes (is_restricted t) (lists g parts (stands_in First t) b) (lists g parts (stands_in Second t) b) || x)
+    (or_assoc ((in_passes (is_restricted t) o p && not (limits_owner parts.dacl)) && place) (t.privileges.take_ownership && b == 19) (t.privileges.security && b == 24)
+    ∙ ap (λ x. x || privileged t b)
+    (owner_in_passes o p (is_restricted t) (limits_owner parts.dacl) place
+    ∙ (λ i. in_passes (is_restricted t)
+    ((about_first t Allow parts.owner i && not (limits_owner parts.dacl)) && place)
+    ((about_second t Allow parts.owner i && not (limits_owner parts.dacl)) && place))))
+
+-- ---- demands
+
+-- what a demand asks of the grants in a pass: by the new DACL and as its owner's, by the old one and as its owner's
+abbrev pub asks : Demand → Bool → Bool → Bool → Bool → Bool
+asks demand l n m q = cond demand.by_owner n l && (not (demand.unlisted && m) && not (demand.unowned && q))
+
+-- where the old descriptor fails in a pass
+pick : (r m1 m2 : Bool) → in_passes r m1 m2 ≡ false → (here : Bool) × ((not (here && m1) ≡ true) × ((here ≡ true) ⊎ ((r ≡ true) × (not (not here && m2) ≡ true))))
+pick r false m2 h = (true, (refl, inl refl))
+pick false true m2 h = absurd (false≢true (sym h))
+pick true true false h = (false, (refl, inr (refl, refl)))
+pick true true true h = absurd (false≢true (sym h))
+
+there : (here m2 : Bool) → here ≡ true → not (not here && m2) ≡ true
+there true m2 h = refl
+there false m2 h = absurd (false≢true h)
+
+second_too : (r first second : Bool) → in_passes r first second ≡ true → r ≡ true → second ≡ true
+second_too true first second h is = (and_parts first second h).1
+second_too false first second h is = absurd (false≢true is)
+
+-- the old descriptor fails in the first pass alone, or the second pass shows the rest
+abbrev pub IsShown : (Demand → Bool) → (Demand → Bool) → Type 0
+IsShown first second =
+    (by_owner : Bool) × ((unlisted : Bool) × ((unowned : Bool)
+    × ((first (record { by_owner = by_owner; unlisted = unlisted; unowned = unowned }) ≡ true)
+    × (((unlisted ≡ true) × (unowned ≡ true))
+    ⊎ (second (record { by_owner = by_owner; unlisted = not unlisted; unowned = not unowned }) ≡ true)))))
+
+shown : (r l1 l2 n1 n2 m1 m2 q1 q2 by_owner : Bool) → in_passes r (cond by_owner n1 l1) (cond by_owner n2 l2) ≡ true
+    → in_passes r m1 m2 ≡ false → in_passes r q1 q2 ≡ false
+    → IsShown (λ demand. asks demand l1 n1 m1 q1) (λ demand. asks demand l2 n2 m2 q2)
+shown r l1 l2 n1 n2 m1 m2 q1 q2 by_owner granted not_listed not_owned =
+    let i = pick r m1 m2 not_listed in
+    let j = pick r q1 q2 not_owned in
+    let both : r ≡ true → cond by_owner n2 l2 ≡ true = second_too r (cond by_owner n1 l1) (cond by_owner n2 l2) granted in (
+      by_owner,
+      (
+        i.0,
+        (
+          j.0,
+          (
+            and_from _ _ (and_parts (cond by_owner n1 l1) _ granted).0 (and_from _ _ i.1.0 j.1.0),
+            elim i.1.1 [
+              | inl i_here ↦ elim j.1.1 [
+                | inl j_here ↦ inl (i_here, j_here)
+                | inr j_there ↦ inr (and_from _ _ (both j_there.0) (and_from _ _ (there i.0 m2 i_here) j_there.1))
+              ]
+              | inr i_there ↦ inr (and_from _ _ (both i_there.0) (and_from _ _ i_there.1 (elim j.1.1 [
+                | inl j_here ↦ there j.0 q2 j_here
+                | inr j_there ↦ j_there.1
+              ])))
+            ],
+          ),
+        ),
+      ),
+    )
+
+-- ---- gains
+
+neither : (x y z : Bool) → (x || (y || z)) ≡ false → (x ≡ false) × ((y ≡ false) × (z ≡ false))
+neither x y z h = let outer = or_parts x (y || z) h in let inner = or_parts y z outer.1 in (outer.0, (inner.0, inner.1))
+
+module _ (g : MappingValue) (old new : Parts) (b : ℕ) where
+  abbrev shows : (AceKind → SidValue → Bool) → Demand → Bool
+  shows stands demand = meets g old new demand stands b
+
+  -- where a token gains the bit, its passes show it
+  pub gain_shown : (t : TokenValue) → gains g old new t b ≡ true → IsShown (shows (stands_in First t)) (shows (stands_in Second t))
+  gain_shown t h =
+      let r = is_restricted t in
+      let l1 = lists g new (stands_in First t) b in
+      let l2 = lists g new (stands_in Second t) b in
+      let n1 = owns new (stands_in First t) b in
+      let n2 = owns new (stands_in Second t) b in
+      let m1 = lists g old (stands_in First t) b in
+      let m2 = lists g old (stands_in Second t) b in
+      let q1 = owns old (stands_in First t) b in
+      let q2 = owns old (stands_in Second t) b in
+      let outer = and_parts (is_granted new.owner new.dacl g t b) (not (is_granted old.owner old.dacl g t b)) h in
+      let granted = sym (granted_in_passes g new t b) ∙ outer.0 in
+      let refused = neither (in_passes r m1 m2) (in_passes r q1 q2) (privileged t b) (sym (granted_in_passes g old t b) ∙ not-true _ outer.1) in
+      elim (or_cases (in_passes r l1 l2) (in_passes r n1 n2 || privileged t b) granted) [
+        | inl listed ↦ shown r l1 l2 n1 n2 m1 m2 q1 q2 false listed refused.0 refused.1.0
+        | inr given ↦ elim (or_cases (in_passes r n1 n2) (privileged t b) given) [
+          | inl owned ↦ shown r l1 l2 n1 n2 m1 m2 q1 q2 true owned refused.0 refused.1.0
+          | inr power ↦ absurd (false≢true (sym refused.1.1 ∙ power))
+        ]
+      ]
+
+-- ---- and back: what the passes of a witness show, it gains
+
+refuse : (here m1 m2 : Bool) → not (here && m1) ≡ true → not (not here && m2) ≡ true → (m1 && m2) ≡ false
+refuse true m1 m2 first second = and_left m1 m2 (not-true m1 first)
+refuse false m1 m2 first second = and_right m1 m2 (not-true m2 second)
+
+either : (by_owner l1 l2 n1 n2 r : Bool) → in_passes r (cond by_owner n1 l1) (cond by_owner n2 l2) ≡ true
+    → (in_passes r l1 l2 || (in_passes r n1 n2 || false)) ≡ true
+either true l1 l2 n1 n2 r h = or_right (in_passes r l1 l2) _ (or_left (in_passes r n1 n2) false h)
+either false l1 l2 n1 n2 r h = or_left (in_passes r l1 l2) _ h
+
+unprivileged : (w : Witness) (base : List (SidValue × GroupState)) (b : ℕ) → privileged (token_of base w) b ≡ false
+unprivileged w base b = refl
+
+restricting_is : (allowed : SidValue) (denied : Option SidValue) (s : SidValue)
+    → list_any (λ one. same_sid one s) (allowed ∷ option_to_list denied) ≡ (same_sid allowed s || has_sid denied s)
+restricting_is allowed None s = refl
+restricting_is allowed (Some d) s = ap (λ x. same_sid allowed s || x) (or-false (same_sid d s))
+
+module _ (g : MappingValue) (old new : Parts) (base : List (SidValue × GroupState)) (b : ℕ) where
+  gain_of : (t : TokenValue) (by_owner : Bool) → privileged t b ≡ false
+      → in_passes (is_restricted t)
+      (cond by_owner (owns new (stands_in First t) b) (lists g new (stands_in First t) b))
+      (cond by_owner (owns new (stands_in Second t) b) (lists g new (stands_in Second t) b)) ≡ true
+      → in_passes (is_restricted t) (lists g old (stands_in First t) b) (lists g old (stands_in Second t) b) ≡ false
+      → in_passes (is_restricted t) (owns old (stands_in First t) b) (owns old (stands_in Second t) b) ≡ false
+      → gains g old new t b ≡ true
+  gain_of t by_owner none granted not_listed not_owned = and_from _ _
+      (granted_in_passes g new t b
+      ∙ ap (λ x. in_passes (is_restricted t) (lists g new (stands_in First t) b) (lists g new (stands_in Second t) b)
+      || (in_passes (is_restricted t) (owns new (stands_in First t) b) (owns new (stands_in Second t) b) || x)) none
+      ∙ either by_owner _ _ _ _ (is_restricted t) granted)
+      (not_from_false _ (granted_in_passes g old t b ∙ or_from _ _ not_listed (or_from _ _ not_owned none)))
+
+  -- by its first pass alone
+  pub unrestricted_gains : (by_owner : Bool) (sids : PassSids)
+      → meets g old new (record { by_owner = by_owner; unlisted = true; unowned = true }) (sids_stand First base sids) b ≡ true
+      → gains g old new (token_of base (record { first = sids; second = None })) b ≡ true
+  unrestricted_gains by_owner sids h =
+      let stands = sids_stand First base sids in
+      let outer = and_parts (cond by_owner (owns new stands b) (lists g new stands b)) _ h in
+      let inner = and_parts (not (lists g old stands b)) (not (owns old stands b)) outer.1 in
+      gain_of (token_of base (record { first = sids; second = None })) by_owner refl
+      (and_from _ _ outer.0 refl) (and_left _ _ (not-true _ inner.0)) (and_left _ _ (not-true _ inner.1))
+
+  again_is : (sids more : PassSids) → stands_in Second (token_of base (record { first = sids; second = Some more })) ≡ sids_stand Second base more
+  again_is sids more = λ i kind s. restricting_is more.allowed more.denied s i
+
+  restricted_is : (sids more : PassSids) → is_restricted (token_of base (record { first = sids; second = Some more })) ≡ true
+  restricted_is sids more = ap not (eqb-suc-zero _)
+
+  -- and by both
+  pub restricted_gains : (by_owner unlisted unowned : Bool) (sids more : PassSids)
+      → meets g old new (record { by_owner = by_owner; unlisted = unlisted; unowned = unowned }) (sids_stand First base sids) b ≡ true
+      → meets g old new (record { by_owner = by_owner; unlisted = not unlisted; unowned = not unowned }) (sids_stand Second base more) b ≡ true
+      → gains g old new (token_of base (record { first = sids; second = Some more })) b ≡ true
+  restricted_gains by_owner unlisted unowned sids more h k =
+      let stands = sids_stand First base sids in
+      let t = token_of base (record { first = sids; second = Some more }) in
+      let again : meets g old new (record { by_owner = by_owner; unlisted = not unlisted; unowned = not unowned }) (stands_in Second t) b ≡ true =
+      ap (λ who. meets g old new (record { by_owner = by_owner; unlisted = not unlisted; unowned = not unowned }) who b) (again_is sids more) ∙ k in
+      let now = stands_in Second t in
+      let outer = and_parts (cond by_owner (owns new stands b) (lists g new stands b)) _ h in
+      let inner = and_parts (not (unlisted && lists g old stands b)) (not (unowned && owns old stands b)) outer.1 in
+      let outer_again = and_parts (cond by_owner (owns new now b) (lists g new now b)) _ again in
+      let inner_again = and_parts (not (not unlisted && lists g old now b)) (not (not unowned && owns old now b)) outer_again.1 in
+      let both : (x y : Bool) → in_passes (is_restricted t) x y ≡ (x && y) = λ x y. ap (λ r. in_passes r x y) (restricted_is sids more) in
+      gain_of t by_owner refl
+      (both _ _ ∙ and_from _ _ outer.0 outer_again.0)
+      (both _ _ ∙ refuse unlisted _ _ inner.0 inner_again.0)
+      (both _ _ ∙ refuse unowned _ _ inner.1 inner_again.1)

@@ -1,0 +1,166 @@
+-- Verdicts on all requests are the same just where the same bits are granted.
+use Rattle.std.proofs.Common.{subst, suc, length, [], ◌∷◌, ◌++◌, take, drop, append-nil, ◌≡◌, ℕ, ◌^◌, ◌<◌, ◌≤◌, Bool, true, false, not, ◌&&◌, ◌||◌, ◌==◌, nat_lt, List, Option, Some, None, inl, inr, refl, sym, ◌∙◌, ap, arith, remove}
+use Rattle.std.proofs.Math.Bool.{and-false}
+use Rattle.std.proofs.Math.Dec.{eqb-suc-zero}
+use Rattle.std.proofs.lemmas.Bool.{and_parts, cases_lt, false≢true, le-ltb, ne_eqb, not-true, or_right}
+use Rattle.std.proofs.lemmas.List.{take_all, drop_all}
+use Rattle.std.proofs.lemmas.List.Elements.{All-head}
+use Rattle.sd_sid.specs.Mask.{holds, mask_of}
+use Rattle.sd_sid.specs.Mapping.{MappingValue}
+use Rattle.sd_sid.specs.Sid.{SidValue}
+use Rattle.sd_acl.specs.declared.ace.Ace.{Ace}
+use Rattle.sd_check.specs.Check.{first, applies_again, is_allowed_by, is_granted, is_implied, is_owner, judged, limits_owner, verdict}
+use Rattle.sd_acl.specs.declared.ace.AceKind.{AceKind}
+use Rattle.sd_check.specs.Token.{TokenValue, a_group_stands_for}
+use Rattle.sd_check.specs.declared.token.GroupState.{GroupState}
+use Rattle.sd_check.specs.declared.verdict.Verdict.{Verdict}
+use Rattle.sd_check.specs.declared.verdict.Verdict.TheVariants.{Granted}
+use Rattle.sd_check.proofs.LawProofs.{one_test}
+use Rattle.sd_analysis.specs.Base.{HasBase}
+use Rattle.sd_analysis.specs.Compare.{AreGains, HasABit}
+use Rattle.sd_analysis.specs.Effect.{HasEffect, HasNoEffect}
+use Rattle.sd_analysis.specs.Sufficient.{Parts, gains, token_of, with_denied}
+use Rattle.sd_analysis.specs.declared.compare_report.Change.{Change}
+use Rattle.sd_analysis.specs.declared.witness.Witness.{Witness}
+use Rattle.sd_analysis.proofs.BitChecks.{bit_is_its_check}
+
+-- for a list the verdict rests on which bits are granted
+judged_list : MappingValue → (ℕ → Bool) → ℕ → Verdict
+judged_list g p r = judged g p (mask_of (λ b. nat_lt b 21 && p b) 32) r
+
+pub same_verdicts : (owner : Option SidValue) (es fewer : List Ace) (g : MappingValue) (t : TokenValue)
+    → ((b : ℕ) → is_granted owner (Some fewer) g t b ≡ is_granted owner (Some es) g t b)
+    → (r : ℕ) → verdict owner (Some fewer) g t r ≡ verdict owner (Some es) g t r
+unfolding judged_list
+same_verdicts owner es fewer g t same r = ap (λ p. judged_list g p r) (one_test _ _ same)
+
+both_or_neither : (a b : Bool) → (a ≡ true → b ≡ true) → (b ≡ true → a ≡ true) → a ≡ b
+both_or_neither true b there back = sym (there refl)
+both_or_neither false true there back = back refl
+both_or_neither false false there back = refl
+
+-- neither list grants a token more than the other
+pub no_effect : (owner : Option SidValue) (es : List Ace) (g : MappingValue) (base : List (SidValue × GroupState)) (place : ℕ)
+    → ((t : TokenValue) (b : ℕ) → HasBase base t → is_granted owner (Some (remove es place)) g t b ≡ true → is_granted owner (Some es) g t b ≡ true)
+    → ((t : TokenValue) (b : ℕ) → HasBase base t → is_granted owner (Some es) g t b ≡ true → is_granted owner (Some (remove es place)) g t b ≡ true)
+    → HasNoEffect owner es g base place
+no_effect owner es g base place none_gained none_lost t r has =
+    same_verdicts owner es (remove es place) g t (λ b. both_or_neither _ _ (none_gained t b has) (none_lost t b has)) r
+
+-- from place 21 on no list grants anything, and the owner has nothing
+high_bit : (low first again restricted own limited take security : Bool) (b : ℕ) → low ≡ false → 21 ≤ b
+    → (((low && first) && (not restricted || (low && again))) || is_implied (own && not limited) take security b) ≡ is_implied false take security b
+high_bit low first again restricted own limited take security b is high =
+    let owners : (b == 17 || b == 18) ≡ false = rw (ne_eqb b 17 (λ e. absurd (omega arith)), ne_eqb b 18 (λ e. absurd (omega arith))) refl in
+    rw (is, owners, and-false (own && not limited)) refl
+
+same_high : (owner : Option SidValue) (es others : List Ace) (g : MappingValue) (t : TokenValue) (b : ℕ) → 21 ≤ b
+    → is_granted owner (Some es) g t b ≡ is_granted owner (Some others) g t b
+same_high owner es others g t b high = privileged es ∙ sym (privileged others) where
+  privileged : (list : List Ace) → is_granted owner (Some list) g t b ≡ is_implied false t.privileges.take_ownership t.privileges.security b
+  privileged list = high_bit (nat_lt b 21) _ (is_allowed_by (first g (applies_again t owner) list b)) _ (is_owner t owner) (limits_owner (Some list)) _ _ b (le-ltb b 21 high) high
+
+-- a bit that one list grants a token and the other doesn't is below place 21
+low_bit : (owner : Option SidValue) (es others : List Ace) (g : MappingValue) (t : TokenValue) (b : ℕ)
+    → is_granted owner (Some es) g t b ≡ true → is_granted owner (Some others) g t b ≡ false → b < 21
+low_bit owner es others g t b granted refused = elim (cases_lt b 21) [
+  | inl low ↦ low
+  | inr high ↦ absurd (false≢true (sym refused ∙ (sym (same_high owner es others g t b high) ∙ granted)))
+]
+
+-- and a request for it has two verdicts
+two_verdicts : (owner : Option SidValue) (es others : List Ace) (g : MappingValue) (t : TokenValue) (b : ℕ)
+    → is_granted owner (Some es) g t b ≡ true → is_granted owner (Some others) g t b ≡ false
+    → verdict owner (Some es) g t (2 ^ b) ≡ verdict owner (Some others) g t (2 ^ b) → ⊥
+two_verdicts owner es others g t b granted refused same =
+    let low = low_bit owner es others g t b granted refused in
+    let here : verdict owner (Some es) g t (2 ^ b) ≡ Granted (2 ^ b) = (bit_is_its_check owner (Some es) g t b low).1 granted in
+    false≢true (sym refused ∙ (bit_is_its_check owner (Some others) g t b low).0 (sym same ∙ here))
+
+gained_parts : (now before : Bool) → (now && not before) ≡ true → (now ≡ true) × (before ≡ false)
+gained_parts now before h = let parts = and_parts now (not before) h in (parts.0, not-true before parts.1)
+
+-- a token that gains a bit without the entry, or loses one
+pub effect_gains : (owner : Option SidValue) (es : List Ace) (g : MappingValue) (base : List (SidValue × GroupState)) (place : ℕ) (t : TokenValue) (b : ℕ)
+    → HasBase base t → (is_granted owner (Some (remove es place)) g t b && not (is_granted owner (Some es) g t b)) ≡ true
+    → HasEffect owner es g base place
+effect_gains owner es g base place t b has gained = record {
+  token = t;
+  has_base = has;
+  request = 2 ^ b;
+  differs = let parts = gained_parts _ _ gained in two_verdicts owner (remove es place) es g t b parts.0 parts.1;
+}
+
+pub effect_loses : (owner : Option SidValue) (es : List Ace) (g : MappingValue) (base : List (SidValue × GroupState)) (place : ℕ) (t : TokenValue) (b : ℕ)
+    → HasBase base t → (is_granted owner (Some es) g t b && not (is_granted owner (Some (remove es place)) g t b)) ≡ true
+    → HasEffect owner es g base place
+effect_loses owner es g base place t b has lost = record {
+  token = t;
+  has_base = has;
+  request = 2 ^ b;
+  differs = λ same. let parts = gained_parts _ _ lost in two_verdicts owner es (remove es place) g t b parts.0 parts.1 (sym same);
+}
+
+-- ---- what a comparison with the list without the entry comes to
+
+-- the list, and the same without the entry
+abbrev whole : Option SidValue → List Ace → Parts
+whole owner es = record { owner = owner; dacl = Some es }
+
+still_there : (base : List (SidValue × GroupState)) (denied : Option SidValue) (kind : AceKind) (s : SidValue)
+    → a_group_stands_for base kind s ≡ true → a_group_stands_for (with_denied base denied) kind s ≡ true
+still_there base None kind s h = h
+still_there base (Some d) kind s h = or_right _ _ h
+
+-- a witness has the base
+witness_has_base : (base : List (SidValue × GroupState)) (w : Witness) → HasBase base (token_of base w)
+witness_has_base base w kind s h = or_right _ _ (still_there base w.first.denied kind s h)
+
+-- a change shows a token with the base
+pub gains_show : (g : MappingValue) (base : List (SidValue × GroupState)) (old new : Parts) (changes : List Change)
+    → AreGains g base old new changes → (length changes == 0) ≡ false
+    → (t : TokenValue) × (b : ℕ) × (HasBase base t × (gains g old new t b ≡ true))
+gains_show g base old new [] are some = absurd cc
+gains_show g base old new (c ∷ cs) are some =
+    let bit = All-head (λ (change : Change). HasABit change.mask) c cs are.some in
+    let shown = All-head (λ (change : Change). (b : ℕ) → holds change.mask b ≡ true → gains g old new (token_of base change.witness) b ≡ true) c cs are.shown in
+    (token_of base c.witness, bit.0, (witness_has_base base c.witness, shown bit.0 bit.1.1))
+
+-- without changes nobody gains
+pub none_gains : (g : MappingValue) (base : List (SidValue × GroupState)) (old new : Parts) (changes : List Change)
+    → AreGains g base old new changes → (length changes == 0) ≡ true
+    → (t : TokenValue) (b : ℕ) → HasBase base t → is_granted new.owner new.dacl g t b ≡ true → is_granted old.owner old.dacl g t b ≡ true
+none_gains g base old new [] are none t b has granted = are.complete t b has refl granted
+none_gains g base old new (c ∷ cs) are none t b has granted = absurd (false≢true (sym (eqb-suc-zero (length cs)) ∙ none))
+
+module _ (owner : Option SidValue) (es others : List Ace) (g : MappingValue) (base : List (SidValue × GroupState)) (place : ℕ) (is : others ≡ remove es place) where
+  -- a token that gains a bit, or loses one
+  pub effect_by_gain : (changes : List Change) → AreGains g base (whole owner es) (whole owner others) changes → (length changes == 0) ≡ false
+      → HasEffect owner es g base place
+  effect_by_gain changes are some =
+      let shown = gains_show g base (whole owner es) (whole owner others) changes are some in
+      effect_gains owner es g base place shown.0 shown.1 shown.2.0
+      (subst (λ (list : List Ace). gains g (whole owner es) (whole owner list) shown.0 shown.1 ≡ true) is shown.2.1)
+
+  pub effect_by_loss : (changes : List Change) → AreGains g base (whole owner others) (whole owner es) changes → (length changes == 0) ≡ false
+      → HasEffect owner es g base place
+  effect_by_loss changes are some =
+      let shown = gains_show g base (whole owner others) (whole owner es) changes are some in
+      effect_loses owner es g base place shown.0 shown.1 shown.2.0
+      (subst (λ (list : List Ace). gains g (whole owner list) (whole owner es) shown.0 shown.1 ≡ true) is shown.2.1)
+
+  pub no_effect_by_none : (gained lost : List Change) → AreGains g base (whole owner es) (whole owner others) gained → AreGains g base (whole owner others) (whole owner es) lost
+      → (length gained == 0) ≡ true → (length lost == 0) ≡ true → HasNoEffect owner es g base place
+  no_effect_by_none gained lost are_gained are_lost none nothing =
+      no_effect owner es g base place
+      (λ t b has granted. none_gains g base (whole owner es) (whole owner others) gained are_gained none t b has
+      (subst (λ (list : List Ace). is_granted owner (Some list) g t b ≡ true) (sym is) granted))
+      (λ t b has granted. subst (λ (list : List Ace). is_granted owner (Some list) g t b ≡ true) is
+      (none_gains g base (whole owner others) (whole owner es) lost are_lost nothing t b has granted))
+
+-- there is no entry at a place beyond the list
+pub no_effect_beyond : (owner : Option SidValue) (es : List Ace) (g : MappingValue) (base : List (SidValue × GroupState)) (place : ℕ)
+    → length es ≤ place → HasNoEffect owner es g base place
+no_effect_beyond owner es g base place beyond t r has =
+    ap (λ (some : List Ace). verdict owner (Some some) g t r)
+    (ap (λ (front : List Ace). front ++ drop (suc place) es) (take_all place es beyond) ∙ ap (λ (back : List Ace). es ++ back) (drop_all (suc place) es (omega arith)) ∙ append-nil es)

@@ -1,0 +1,166 @@
+-- How findings become a report, and what a whole report says.
+use Rattle.std.proofs.Common.{◌≡◌, ℕ, ◌<◌, ◌+◌, Bool, true, false, not, List, [], ◌∷◌, length, get_or, take, Some, None, ◌⊎◌, inl, inr, refl, sym, ◌∙◌, ap, arith, subst}
+use Rattle.std.specs.List.{All}
+use Rattle.std.proofs.lemmas.Bool.{and_parts, and_from, or_cases, false≢true, cases_Bool, false_from_ne_true, true_from_ne_false, not_from_false, not-true, ltb-true, agree_below_at}
+use Rattle.std.proofs.lemmas.List.Folds.{list_any_more}
+use Rattle.sd_sid.specs.Mask.{holds}
+use Rattle.sd_sid.specs.Mapping.{MappingValue}
+use Rattle.sd_sid.specs.Sid.{SidValue}
+use Rattle.sd_check.specs.Check.{is_granted}
+use Rattle.sd_check.specs.Token.{TokenValue}
+use Rattle.sd_check.specs.declared.grounds.Pass.TheVariants.{First, Second}
+use Rattle.sd_analysis.specs.Base.{HasBase}
+use Rattle.sd_check.specs.declared.token.GroupState.{GroupState}
+use Rattle.sd_analysis.specs.Sufficient.{Parts, gains, token_of}
+use Rattle.sd_analysis.specs.Passes.{meets, sids_stand, stands_in}
+use Rattle.sd_analysis.specs.Compare.{AreGains}
+use Rattle.sd_analysis.specs.Report.{AreFindings, IsLess, IsRefused, IsRefusedAgain, IsReportOf, is_found, new_of, old_of, rest_of, token_meets}
+use Rattle.sd_analysis.specs.declared.compare_report.Change.{Change}
+use Rattle.sd_analysis.specs.declared.compare_report.Report.{Report}
+use Rattle.sd_analysis.specs.declared.compare_search.Case.{Case}
+use Rattle.sd_analysis.specs.declared.compare_search.Finding.{Finding}
+use Rattle.sd_analysis.specs.declared.witness.Demand.{Demand}
+use Rattle.sd_analysis.specs.declared.witness.Witness.{Witness}
+use Rattle.sd_analysis.proofs.Passed.{meets_low}
+use Rattle.sd_analysis.proofs.Bridged.{gain_shown, unrestricted_gains, restricted_gains}
+
+-- ---- loops over findings
+
+pub found_more : (fs : List Finding) (i : ℕ) (f : Finding) (b : ℕ) → i < length fs → f ≡ get_or fs i f
+    → is_found (take (i + 1) fs) b ≡ true → (is_found (take i fs) b ≡ true) ⊎ (holds f.mask b ≡ true)
+found_more fs i f b low is h =
+    elim (or_cases (is_found (take i fs) b) (holds (get_or fs i f).mask b) (sym (list_any_more (λ (x : Finding). holds x.mask b) fs i f low) ∙ h)) [
+      | inl before ↦ inl before
+      | inr now ↦ inr (ap (λ (x : Finding). holds x.mask b) is ∙ now)
+    ]
+
+pub still_gone : (before now : Report) (b : ℕ) → IsLess before now → holds before.wanted b ≡ false → holds now.wanted b ≡ false
+still_gone before now b less gone = false_from_ne_true _ (λ still. false≢true (sym gone ∙ less b still))
+
+pub at_item : {X : Type 0} (P : X → Type 0) (xs : List X) (i : ℕ) (x : X) → i < length xs → x ≡ get_or xs i x → All P xs → P x
+at_item P xs i x low is all = subst P (sym is) (all i x low)
+
+-- at the item of a step
+pub at_each : (shows : Witness → ℕ → Bool) (fs : List Finding) (i : ℕ) (f : Finding) → i < length fs → f ≡ get_or fs i f
+    → All (λ (x : Finding). (b : ℕ) → holds x.mask b ≡ true → shows (record { first = x.sids; second = None }) b ≡ true) fs
+    → (b : ℕ) → holds f.mask b ≡ true → shows (record { first = f.sids; second = None }) b ≡ true
+at_each shows fs i f low is all = at_item (λ (x : Finding). (b : ℕ) → holds x.mask b ≡ true → shows (record { first = x.sids; second = None }) b ≡ true) fs i f low is all
+
+pub at_second : (shows : Witness → ℕ → Bool) (first : Finding) (fs : List Finding) (i : ℕ) (f : Finding) → i < length fs → f ≡ get_or fs i f
+    → All (λ (x : Finding). (b : ℕ) → holds first.mask b ≡ true → holds x.mask b ≡ true → shows (record { first = first.sids; second = Some x.sids }) b ≡ true) fs
+    → (b : ℕ) → holds first.mask b ≡ true → holds f.mask b ≡ true → shows (record { first = first.sids; second = Some f.sids }) b ≡ true
+at_second shows first fs i f low is all = at_item (λ (x : Finding). (b : ℕ) → holds first.mask b ≡ true → holds x.mask b ≡ true → shows (record { first = first.sids; second = Some x.sids }) b ≡ true) fs i f low is all
+
+pub at_first : (shows : Witness → ℕ → Bool) (ss fs : List Finding) (i : ℕ) (f : Finding) → i < length fs → f ≡ get_or fs i f
+    → All (λ (x : Finding). All (λ (s : Finding). (b : ℕ) → holds x.mask b ≡ true → holds s.mask b ≡ true → shows (record { first = x.sids; second = Some s.sids }) b ≡ true) ss) fs
+    → All (λ (s : Finding). (b : ℕ) → holds f.mask b ≡ true → holds s.mask b ≡ true → shows (record { first = f.sids; second = Some s.sids }) b ≡ true) ss
+at_first shows ss fs i f low is all = at_item (λ (x : Finding). All (λ (s : Finding). (b : ℕ) → holds x.mask b ≡ true → holds s.mask b ≡ true → shows (record { first = x.sids; second = Some s.sids }) b ≡ true) ss) fs i f low is all
+
+pub none_found : (fs : List Finding) (b : ℕ) → length fs ≡ 0 → is_found fs b ≡ false
+none_found [] b h = refl
+none_found (f ∷ fs) b h = absurd (omega arith)
+
+-- ---- what witnesses gain
+
+module _ (case : Case) where
+  abbrev pub gains_of : Witness → ℕ → Bool
+  gains_of w b = gains case.mapping.now (old_of case) (new_of case) (token_of case.base.now w) b
+
+  pub each_gains : (by_owner : Bool) (wanted : ℕ) (fs xs : List Finding) → xs ≡ fs
+      → AreFindings case First (record { by_owner = by_owner; unlisted = true; unowned = true }) wanted fs
+      → All (λ (f : Finding). (b : ℕ) → holds f.mask b ≡ true → gains_of (record { first = f.sids; second = None }) b ≡ true) xs
+  each_gains by_owner wanted fs xs same are =
+      subst (All (λ (f : Finding). (b : ℕ) → holds f.mask b ≡ true → gains_of (record { first = f.sids; second = None }) b ≡ true)) (sym same) (λ k d low b h.
+      unrestricted_gains case.mapping.now (old_of case) (new_of case) case.base.now b by_owner (get_or fs k d).sids (are.shown k d low b h))
+
+  pub pairs_gain : (demand rest : Demand) (wanted more : ℕ) (fs ss xs ys : List Finding) → rest ≡ rest_of demand → xs ≡ fs → ys ≡ ss
+      → AreFindings case First demand wanted fs → AreFindings case Second rest more ss
+      → All (λ (f : Finding). All (λ (s : Finding). (b : ℕ) → holds f.mask b ≡ true → holds s.mask b ≡ true
+      → gains_of (record { first = f.sids; second = Some s.sids }) b ≡ true) ys) xs
+  pairs_gain demand rest wanted more fs ss xs ys is_rest same_first same_second first second = λ k d low i e small b h j.
+      let low_there : k < length fs = omega (arith, ap length same_first) in
+      let small_there : i < length ss = omega (arith, ap length same_second) in
+      ap (λ (f : Finding). gains_of (record { first = f.sids; second = Some (get_or ys i e).sids }) b) (ap (λ zs. get_or zs k d) same_first)
+      ∙ ap (λ (s : Finding). gains_of (record { first = (get_or fs k d).sids; second = Some s.sids }) b) (ap (λ zs. get_or zs i e) same_second)
+      ∙ restricted_gains case.mapping.now (old_of case) (new_of case) case.base.now b demand.by_owner demand.unlisted demand.unowned
+      (get_or fs k d).sids (get_or ss i e).sids
+      (first.shown k d low_there b (ap (λ zs. holds (get_or zs k d).mask b) (sym same_first) ∙ h))
+      (subst (λ r. meets case.mapping.now (old_of case) (new_of case) r (sids_stand Second case.base.now (get_or ss i e).sids) b ≡ true) is_rest
+      (second.shown i e small_there b (ap (λ zs. holds (get_or zs i e).mask b) (sym same_second) ∙ j)))
+
+  -- ---- which bits are left
+
+  pub each_refused : (demand : Demand) (wanted : ℕ) (fs xs : List Finding) (now : Report) → xs ≡ fs → AreFindings case First demand wanted fs
+      → ((b : ℕ) → holds now.wanted b ≡ true → holds wanted b ≡ true)
+      → ((b : ℕ) → b < 21 → is_found xs b ≡ true → holds now.wanted b ≡ false)
+      → (t : TokenValue) (b : ℕ) → b < 21 → HasBase case.base.now t → holds now.wanted b ≡ true → token_meets case First demand t b ≡ false
+  each_refused demand wanted fs xs now same are less gone t b low has still =
+      are.complete t b low has (less b still)
+      (false_from_ne_true _ (λ found. false≢true (sym (gone b low (ap (λ zs. is_found zs b) same ∙ found)) ∙ still)))
+
+  pub pairs_refused : (demand rest : Demand) (wanted : ℕ) (fs ss xs ys : List Finding) (now : Report) → rest ≡ rest_of demand → xs ≡ fs → ys ≡ ss
+      → AreFindings case First demand wanted fs → AreFindings case Second rest wanted ss
+      → ((b : ℕ) → holds now.wanted b ≡ true → holds wanted b ≡ true)
+      → ((b : ℕ) → b < 21 → is_found xs b ≡ true → is_found ys b ≡ true → holds now.wanted b ≡ false)
+      → (t : TokenValue) (b : ℕ) → b < 21 → HasBase case.base.now t → holds now.wanted b ≡ true → IsRefused case demand t b
+  pairs_refused demand rest wanted fs ss xs ys now is_rest same_first same_second first second less gone t b low has still = elim (cases_Bool (is_found fs b)) [
+    | inr none ↦ inl (first.complete t b low has (less b still) none)
+    | inl found ↦ inr (subst (λ r. token_meets case Second r t b ≡ false) is_rest (second.complete t b low has (less b still)
+        (false_from_ne_true _ (λ again. false≢true
+        (sym (gone b low (ap (λ zs. is_found zs b) same_first ∙ found) (ap (λ zs. is_found zs b) same_second ∙ again)) ∙ still)))))
+  ]
+
+  -- ---- the whole
+
+  abbrev pub IsWhole : Report → Bool → Type 0
+  IsWhole report by_owner =
+      (t : TokenValue) (b : ℕ) → b < 21 → HasBase case.base.now t → holds report.wanted b ≡ true
+      → (token_meets case First (record { by_owner = by_owner; unlisted = true; unowned = true }) t b ≡ false) × IsRefusedAgain case t by_owner b
+
+  refuted : {P Q : Bool} → (P ≡ false) ⊎ (Q ≡ false) → P ≡ true → Q ≡ true → ⊥
+  refuted (inl p) h k = false≢true (sym p ∙ h)
+  refuted (inr q) h k = false≢true (sym q ∙ k)
+
+  not_shown : (t : TokenValue) (b : ℕ) (by_owner unlisted unowned : Bool)
+      → (token_meets case First (record { by_owner = by_owner; unlisted = true; unowned = true }) t b ≡ false) × IsRefusedAgain case t by_owner b
+      → token_meets case First (record { by_owner = by_owner; unlisted = unlisted; unowned = unowned }) t b ≡ true
+      → ((unlisted ≡ true) × (unowned ≡ true)) ⊎ (token_meets case Second (record { by_owner = by_owner; unlisted = not unlisted; unowned = not unowned }) t b ≡ true)
+      → ⊥
+  not_shown t b by_owner true true none first rest = false≢true (sym none.0 ∙ first)
+  not_shown t b by_owner true false none first (inl both) = false≢true both.1
+  not_shown t b by_owner true false none first (inr second) = refuted none.1.owner_second first second
+  not_shown t b by_owner false true none first (inl both) = false≢true both.0
+  not_shown t b by_owner false true none first (inr second) = refuted none.1.list_second first second
+  not_shown t b by_owner false false none first (inl both) = false≢true both.0
+  not_shown t b by_owner false false none first (inr second) = refuted none.1.both_second first second
+
+  at_either : (P : Bool → Type 0) (x : Bool) → P false → P true → P x
+  at_either P false f t = f
+  at_either P true f t = t
+
+  pub whole_report : (report : Report) → IsReportOf case report → IsWhole report false → IsWhole report true
+      → AreGains case.mapping.now case.base.now (old_of case) (new_of case) report.changes.items
+  whole_report report is by_list by_owner = record {
+    complete = λ t b has none granted. true_from_ne_false _ (λ refused.
+        let shown = gain_shown case.mapping.now (old_of case) (new_of case) b t (and_from _ _ granted (not_from_false _ refused)) in
+        let low = ltb-true b 21 (meets_low case.mapping.now (old_of case) (new_of case) (stands_in First t) b _ shown.1.1.1.0) in
+        let still = is.left b low none in
+        not_shown t b shown.0 shown.1.0 shown.1.1.0 (at_either (λ o. (token_meets case First (record { by_owner = o; unlisted = true; unowned = true }) t b ≡ false) × IsRefusedAgain case t o b) shown.0 (by_list t b low has still) (by_owner t b low has still)) shown.1.1.1.0 shown.1.1.1.1);
+    shown = is.shown;
+    some = is.some;
+  }
+
+pub nothing_reported : (case : Case) (report : Report) → report.changes.items ≡ [] → report.wanted ≡ 0x001FFFFF → IsReportOf case report
+nothing_reported case report none all = record {
+  shown = λ k d low. absurd (omega (arith, ap length none));
+  some = λ k d low. absurd (omega (arith, ap length none));
+  left = λ b low h. ap (λ m. holds m b) all ∙ agree_below_at (holds 0x001FFFFF) (λ k. true) 21 b refl low;
+}
+
+-- a descriptor and itself have no gains
+pub nothing_gained : (g : MappingValue) (base : List (SidValue × GroupState)) (p : Parts) (changes : List Change) → AreGains g base p p changes → changes ≡ []
+nothing_gained g base p [] are = refl
+nothing_gained g base p (c ∷ changes) are =
+    let bit = are.some 0 c (omega arith) in
+    let parts = and_parts (is_granted p.owner p.dacl g (token_of base c.witness) bit.0) _ (are.shown 0 c (omega arith) bit.0 bit.1.1) in
+    absurd (false≢true (sym (not-true _ parts.1) ∙ parts.0))

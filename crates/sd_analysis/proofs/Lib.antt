@@ -1,0 +1,14 @@
+pub mod BitChecks
+pub mod Rights
+pub mod Walks
+pub mod Narrowed
+pub mod Kept
+pub mod Passed
+pub mod Bridged
+pub mod Suffices
+pub mod Reports
+pub mod Gathered
+pub mod Shares
+pub mod Searched
+pub mod Unnamed
+pub mod Effects

@@ -1,0 +1,104 @@
+-- How a search goes on: what it found stays found, and what is left is less.
+use Rattle.std.proofs.Common.{◌≡◌, ℕ, ◌<◌, ◌+◌, Bool, true, false, not, ◌&&◌, ◌||◌, List, [], ◌∷◌, ◌++◌, length, get_or, take, Option, Some, None, ◌⊎◌, inl, inr, refl, sym, ◌∙◌, ap, arith, subst, ◌==◌}
+use Rattle.std.specs.List.{All}
+use Rattle.std.proofs.lemmas.Bool.{and_from, or_cases, or_parts, false≢true, false_from_ne_true, not_from_false}
+use Rattle.std.proofs.lemmas.List.Elements.{All-push}
+use Rattle.std.proofs.lemmas.List.Folds.{list_any_more, list_any-append}
+use Rattle.std.proofs.Math.Bool.{or-false}
+use Rattle.sd_sid.specs.Mask.{holds, mask_of}
+use Rattle.sd_sid.specs.Sid.{SidValue, same_sid}
+use Rattle.sd_sid.proofs.Compared.{same_sid-true}
+use Rattle.sd_sid.proofs.Masks.{holds_place}
+use Rattle.sd_check.specs.declared.grounds.Pass.{Pass}
+use Rattle.sd_analysis.specs.Sufficient.{is_among}
+use Rattle.sd_analysis.specs.Passes.{meets, sids_stand}
+use Rattle.sd_analysis.specs.Report.{AreFindings, IsCase, IsFound, IsLessLeft, is_found, new_of, old_of, is_granted_alone}
+use Rattle.sd_analysis.specs.declared.compare_search.Case.{Case}
+use Rattle.sd_analysis.specs.declared.compare_search.Finding.{Finding}
+use Rattle.sd_analysis.specs.declared.compare_search.Found.{Found}
+use Rattle.sd_analysis.specs.declared.witness.Demand.{Demand}
+use Rattle.sd_analysis.specs.declared.witness.PassSids.{PassSids}
+use Rattle.sd_analysis.proofs.Passed.{two_suffice}
+use Rattle.sd_analysis.proofs.Reports.{in_both, none_held}
+
+pub among_more : (sids : List SidValue) (i : ℕ) (one s : SidValue) → i < length sids → one ≡ get_or sids i one
+    → is_among (take (i + 1) sids) s ≡ true → (is_among (take i sids) s ≡ true) ⊎ (one ≡ s)
+among_more sids i one s low is h =
+    elim (or_cases (is_among (take i sids) s) (same_sid (get_or sids i one) s) (sym (list_any_more (λ x. same_sid x s) sids i one low) ∙ h)) [
+      | inl before ↦ inl before
+      | inr now ↦ inr (same_sid-true one s (ap (λ x. same_sid x s) is ∙ now))
+    ]
+
+pub still_left : (before now : Found) (b : ℕ) → IsLessLeft before now → holds before.left b ≡ false → holds now.left b ≡ false
+still_left before now b less gone = false_from_ne_true _ (λ still. false≢true (sym gone ∙ less b still))
+
+found_push : (fs : List Finding) (f : Finding) (b : ℕ) → is_found (fs ++ f ∷ []) b ≡ (is_found fs b || holds f.mask b)
+found_push fs f b =
+    list_any-append (λ (x : Finding). holds x.mask b) fs (f ∷ []) ∙ ap (λ x. is_found fs b || x) (or-false (holds f.mask b))
+
+abbrev pub sids_meet : Case → Pass → Demand → PassSids → ℕ → Bool
+sids_meet case pass demand sids b = meets case.mapping.now (old_of case) (new_of case) demand (sids_stand pass case.base.now sids) b
+
+pub found_one_more : (case : Case) (pass : Pass) (demand : Demand) (wanted : ℕ) (before now : Found) (sids : PassSids) (met mask : ℕ)
+    → ((b : ℕ) → holds met b ≡ true → b < 21)
+    → ((b : ℕ) → b < 21 → holds met b ≡ sids_meet case pass demand sids b)
+    → mask ≡ mask_of (λ k. holds met k && holds before.left k) 32
+    → now.findings.items ≡ before.findings.items ++ record { mask = mask; sids = sids } ∷ []
+    → now.left ≡ mask_of (λ k. holds before.left k && not (holds mask k)) 32
+    → IsFound case pass demand wanted before → IsFound case pass demand wanted now
+found_one_more case pass demand wanted before now sids met mask within is_met is_mask is_items is_left found = record {
+  shown = subst (All (λ (f : Finding). (b : ℕ) → holds f.mask b ≡ true → sids_meet case pass demand f.sids b ≡ true)) (sym is_items)
+      (All-push (λ (f : Finding). (b : ℕ) → holds f.mask b ≡ true → sids_meet case pass demand f.sids b ≡ true)
+      before.findings.items (record { mask = mask; sids = sids }) found.shown
+      (λ b h. let held = (in_both met before.left b (sym (ap (λ m. holds m b) is_mask) ∙ h)).0 in sym (is_met b (within b held)) ∙ held));
+  left = λ b low in_wanted none.
+      let parts = or_parts (is_found before.findings.items b) (holds mask b)
+      (sym (ap (λ fs. is_found fs b) is_items ∙ found_push before.findings.items (record { mask = mask; sids = sids }) b) ∙ none) in
+      ap (λ m. holds m b) is_left ∙ holds_place (λ k. holds before.left k && not (holds mask k)) b (omega arith)
+      ∙ and_from _ _ (found.left b low in_wanted parts.0) (not_from_false _ parts.1);
+}
+
+-- a search that has tried all that may decide
+pub search_done : (case : Case) (is : IsCase case) (pass : Pass) (demand : Demand) (wanted : ℕ) (found : Found) → IsFound case pass demand wanted found
+    → ((sids : PassSids) (b : ℕ) → b < 21 → is_among case.allowed.items sids.allowed ≡ true
+    → ((s : SidValue) → sids.denied ≡ Some s → is_among case.denied.items s ≡ true)
+    → ((s : SidValue) → sids.denied ≡ Some s → demand.unlisted ≡ true)
+    → is_granted_alone case pass demand sids.allowed b ≡ true
+    → sids_meet case pass demand sids b ≡ true → holds found.left b ≡ false)
+    → AreFindings case pass demand wanted found.findings.items
+search_done case is pass demand wanted found so_far gone = record {
+  shown = so_far.shown;
+  complete = λ t b low has in_wanted none. false_from_ne_true _ (λ met.
+      let two = two_suffice case.mapping.now (old_of case) (new_of case) case.base.now t case.other b pass demand has is.not_old is.not_new met in
+      false≢true (sym (gone two.0 b low
+      (ap (λ sids. is_among sids two.0.allowed) is.allowed ∙ two.1.0.allowed)
+      (λ s eq. ap (λ sids. is_among sids s) is.denied ∙ two.1.0.denied s eq)
+      two.1.1.1.0 two.1.1.1.1 two.1.1.0) ∙ so_far.left b low in_wanted none));
+}
+
+pub nothing_found : (case : Case) (pass : Pass) (demand : Demand) (wanted : ℕ) (found : Found) → found.findings.items ≡ [] → found.left ≡ wanted
+    → IsFound case pass demand wanted found
+nothing_found case pass demand wanted found none all = record {
+  shown = λ k d low. absurd (omega (arith, ap length none));
+  left = λ b low in_wanted h. ap (λ m. holds m b) all ∙ in_wanted;
+}
+
+pub with_each : (case : Case) (pass : Pass) (demand : Demand) (allowed : SidValue) (left : ℕ)
+    → ((b : ℕ) → b < 21 → sids_meet case pass demand (record { allowed = allowed; denied = None }) b ≡ true → holds left b ≡ false)
+    → ((s : SidValue) (b : ℕ) → b < 21 → is_among case.denied.items s ≡ true → demand.unlisted ≡ true
+    → is_granted_alone case pass demand allowed b ≡ true
+    → sids_meet case pass demand (record { allowed = allowed; denied = Some s }) b ≡ true → holds left b ≡ false)
+    → (denied : Option SidValue) (b : ℕ) → b < 21 → ((s : SidValue) → denied ≡ Some s → is_among case.denied.items s ≡ true)
+    → ((s : SidValue) → denied ≡ Some s → demand.unlisted ≡ true)
+    → is_granted_alone case pass demand allowed b ≡ true
+    → sids_meet case pass demand (record { allowed = allowed; denied = denied }) b ≡ true → holds left b ≡ false
+with_each case pass demand allowed left alone each None b low among needed granted h = alone b low h
+with_each case pass demand allowed left alone each (Some s) b low among needed granted h = each s b low (among s refl) (needed s refl) granted h
+
+-- a search for nothing
+pub none_sought : (case : Case) (pass : Pass) (demand : Demand) (wanted : ℕ) (findings : List Finding) → findings ≡ [] → (wanted == 0) ≡ true
+    → AreFindings case pass demand wanted findings
+none_sought case pass demand wanted findings none empty = record {
+  shown = λ k d low. absurd (omega (arith, ap length none));
+  complete = λ t b low has in_wanted h. absurd (false≢true (sym (none_held wanted b empty) ∙ in_wanted));
+}

@@ -1,0 +1,17 @@
+-- What is found so far; and with the SIDs so far nothing is left to find.
+use Rattle.std.proofs.Common.{◌≡◌, ℕ, ◌<◌, true, false, Some, None, take}
+use Rattle.sd_sid.specs.Mask.{holds}
+use Rattle.sd_sid.specs.Sid.{SidValue}
+use Rattle.sd_analysis.specs.Sufficient.{is_among}
+use Rattle.sd_analysis.specs.Report.{IsFound, IsLessLeft}
+use Rattle.sd_analysis.proofs.Searched.{sids_meet}
+use Rattle.sd_analysis.proofs.compare_search.Case.try_with.Given as goal
+
+abbrev pub invariant-loop-denied : goal.invariant-loop-denied
+invariant-loop-denied l = record {
+  found : (wanted : ℕ) → IsFound l.self l.pass l.demand wanted l.fn.found → IsFound l.self l.pass l.demand wanted l.found;
+  less : IsLessLeft l.fn.found l.found;
+  alone : (b : ℕ) → b < 21 → sids_meet l.self l.pass l.demand (record { allowed = l.allowed; denied = None }) b ≡ true → holds l.found.left b ≡ false;
+  gone : (s : SidValue) (b : ℕ) → b < 21 → is_among (take l.denied-index l.denied-items) s ≡ true
+      → sids_meet l.self l.pass l.demand (record { allowed = l.allowed; denied = Some s }) b ≡ true → holds l.found.left b ≡ false;
+}

@@ -1,0 +1,12 @@
+-- What is left are the rights that the entries so far decide alike.
+use Rattle.std.proofs.Common.{◌≡◌, ℕ, ◌<◌, ◌==◌, ◌&&◌, ◌||◌, take}
+use Rattle.std.specs.Bool.{beq}
+use Rattle.std.specs.List.{list_all}
+use Rattle.sd_sid.specs.Mask.{holds}
+use Rattle.sd_analysis.proofs.Rights.{alike}
+use Rattle.sd_analysis.proofs.who_case.Case.alike.Given as goal
+
+abbrev pub invariant-loop-entry : goal.invariant-loop-entry
+invariant-loop-entry l =
+    (b : ℕ) → b < 32 → holds l.alike b ≡ (holds l.fn.among b && (beq (b == 17 || b == 18) (l.place == 17 || l.place == 18)
+    && list_all (alike l.self.mapping.now b l.place) (take l.entry-index l.self.entries.now)))

@@ -1,0 +1,89 @@
+-- How the gains of a change are gathered: what a search of one pass finds, and what is reported so far.
+use Rattle.std.specs.Prelude.{◌≡◌, ℕ, ◌<◌, Bool, true, false, not, ◌⊎◌, List, cond, None}
+use Rattle.std.specs.List.{All, list_any}
+use Rattle.sd_sid.specs.Mask.{holds}
+use Rattle.sd_sid.specs.Sid.{SidValue}
+use Rattle.sd_check.specs.Token.{TokenValue}
+use Rattle.sd_check.specs.declared.grounds.Pass.{Pass}
+use Rattle.sd_check.specs.declared.grounds.Pass.TheVariants.{First, Second}
+use Rattle.sd_analysis.specs.Base.{HasBase}
+use Rattle.sd_analysis.specs.Sufficient.{Parts, allowed_sids, denied_sids, gains, is_named, parts_of, token_of}
+use Rattle.sd_analysis.specs.Passes.{lists, meets, owns, sids_stand, stands_in}
+use Rattle.sd_analysis.specs.Compare.{HasABit, is_reported}
+use Rattle.sd_analysis.specs.declared.compare_report.Report.{Report}
+use Rattle.sd_analysis.specs.declared.compare_search.Case.{Case}
+use Rattle.sd_analysis.specs.declared.compare_search.Finding.{Finding}
+use Rattle.sd_analysis.specs.declared.compare_search.Found.{Found}
+use Rattle.sd_analysis.specs.declared.witness.Demand.{Demand}
+use Rattle.sd_analysis.specs.declared.witness.Witness.{Witness}
+
+abbrev pub old_of : Case → Parts
+old_of case = parts_of case.old.now
+
+abbrev pub new_of : Case → Parts
+new_of case = parts_of case.new.now
+
+-- neither descriptor names the case's other SID; and it has all SIDs that may decide
+pub record IsCase (case : Case) : Type 0 where
+  pub not_old : is_named (old_of case) case.other ≡ false
+  pub not_new : is_named (new_of case) case.other ≡ false
+  pub allowed : case.allowed.items ≡ allowed_sids case.other (new_of case)
+  pub denied : case.denied.items ≡ denied_sids (old_of case)
+
+-- a token meets the demand in the pass
+abbrev pub token_meets : Case → Pass → Demand → TokenValue → ℕ → Bool
+token_meets case pass demand t = meets case.mapping.now (old_of case) (new_of case) demand (stands_in pass t)
+
+-- the new descriptor grants what is demanded to the base with the SID alone
+abbrev pub is_granted_alone : Case → Pass → Demand → SidValue → ℕ → Bool
+is_granted_alone case pass demand s b =
+    cond demand.by_owner (owns (new_of case) (sids_stand pass case.base.now (record { allowed = s; denied = None })) b)
+    (lists case.mapping.now (new_of case) (sids_stand pass case.base.now (record { allowed = s; denied = None })) b)
+
+-- some finding has the bit
+abbrev pub is_found : List Finding → ℕ → Bool
+is_found findings b = list_any (λ (f : Finding). holds f.mask b) findings
+
+-- what a search for the bits finds: SIDs of the pass that meet the demand; and for a bit without any, no token does
+pub record AreFindings (case : Case) (pass : Pass) (demand : Demand) (wanted : ℕ) (findings : List Finding) : Type 0 where
+  pub shown : All (λ f. (b : ℕ) → holds f.mask b ≡ true
+      → meets case.mapping.now (old_of case) (new_of case) demand (sids_stand pass case.base.now f.sids) b ≡ true) findings
+  pub complete : (t : TokenValue) (b : ℕ) → b < 21 → HasBase case.base.now t → holds wanted b ≡ true → is_found findings b ≡ false
+      → token_meets case pass demand t b ≡ false
+
+-- what is found so far
+pub record IsFound (case : Case) (pass : Pass) (demand : Demand) (wanted : ℕ) (found : Found) : Type 0 where
+  pub shown : All (λ f. (b : ℕ) → holds f.mask b ≡ true
+      → meets case.mapping.now (old_of case) (new_of case) demand (sids_stand pass case.base.now f.sids) b ≡ true) found.findings.items
+  pub left : (b : ℕ) → b < 21 → holds wanted b ≡ true → is_found found.findings.items b ≡ false → holds found.left b ≡ true
+
+abbrev pub IsLessLeft : Found → Found → Type 0
+IsLessLeft before now = (b : ℕ) → holds now.left b ≡ true → holds before.left b ≡ true
+
+-- a report so far, of bits that `shows` shows of their witnesses
+pub record IsReport (shows : Witness → ℕ → Bool) (report : Report) : Type 0 where
+  pub shown : All (λ c. (b : ℕ) → holds c.mask b ≡ true → shows c.witness b ≡ true) report.changes.items
+  pub some : All (λ c. HasABit c.mask) report.changes.items
+  pub left : (b : ℕ) → b < 21 → is_reported report.changes.items b ≡ false → holds report.wanted b ≡ true
+
+-- of bits that the witnesses gain
+abbrev pub IsReportOf : Case → Report → Type 0
+IsReportOf case = IsReport (λ w. gains case.mapping.now (old_of case) (new_of case) (token_of case.base.now w))
+
+-- a bit that is still wanted was wanted before
+abbrev pub IsLess : Report → Report → Type 0
+IsLess before now = (b : ℕ) → holds now.wanted b ≡ true → holds before.wanted b ≡ true
+
+-- the demand that is left to the second pass
+abbrev pub rest_of : Demand → Demand
+rest_of demand = record { by_owner = demand.by_owner; unlisted = not demand.unlisted; unowned = not demand.unowned }
+
+-- the token doesn't meet the demand in the first pass, or not the rest in the second
+abbrev pub IsRefused : Case → Demand → TokenValue → ℕ → Type 0
+IsRefused case demand t b = (token_meets case First demand t b ≡ false) ⊎ (token_meets case Second (rest_of demand) t b ≡ false)
+
+-- and so for each demand that leaves something to the second pass
+pub record IsRefusedAgain (case : Case) (t : TokenValue) (by_owner : Bool) (b : ℕ) : Type 0 where
+  pub owner_second : IsRefused case (record { by_owner = by_owner; unlisted = true; unowned = false }) t b
+  pub list_second : IsRefused case (record { by_owner = by_owner; unlisted = false; unowned = true }) t b
+  pub both_second : IsRefused case (record { by_owner = by_owner; unlisted = false; unowned = false }) t b

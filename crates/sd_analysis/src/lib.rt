@@ -1,0 +1,39 @@
+//! Access analysis: who is granted a right by a descriptor at all, and who gains or loses one by a change.
+//!
+//! An analysis is about every token that has a base: groups that all tokens in question have. It answers by SIDs. The
+//! rules of the check are those of `sd_check` (specs/Check.antt there).
+//!
+//! ```text
+//! let base = Base { groups: &[] };
+//! for access in &who(alloc, descriptor.owner, dacl, &GenericMapping::file(), &base, Mask(0x0012_0089))? {
+//!     for alternative in &access.alternatives {
+//!         // alternative.holder has access.mask, unless one of access.denied[..alternative.unless] is in the token
+//!     }
+//! }
+//! let comparison = compare(alloc, &old, &new, &GenericMapping::file(), &base)?;
+//! for change in &comparison.gained {
+//!     // change.witness is a token that is granted change.mask by `new`, and none of it by `old`
+//! }
+//! ```
+#![tactic(auto)]
+
+mod base;
+mod compare_gains;
+mod compare_report;
+mod compare_search;
+mod compare_sides;
+mod effect;
+mod laws;
+mod who_case;
+mod who_has;
+mod who_walk;
+mod witness;
+
+pub use base::Base;
+pub use compare_gains::{Comparison, compare};
+pub use compare_report::Change;
+pub use compare_sides::DescriptorRef;
+pub use effect::has_effect;
+pub use laws::bit_is_its_check;
+pub use who_has::{Access, Alternative, Holder, who};
+pub use witness::{PassSids, Witness, two_sids_per_pass_suffice};
