@@ -14,11 +14,11 @@ use Rattle.sd_tree.specs.Plain.{dacl_at, row_at}
 use Rattle.sd_tree.specs.declared.node.Row.{Row}
 use Rattle.sd_share.specs.Machine.{Machine, with_look}
 use Rattle.sd_share.specs.declared.request.Request.TheVariants as requests
-use Rattle.sd_script.specs.Answer.{line}
+use Rattle.sd_answer.specs.Answer.{line}
 use Rattle.sd_script.specs.Laws.{BeginsAsCheck}
 use Rattle.sd_script.specs.Reply.{check_line, seen_line}
-use Rattle.sd_script.specs.Why.{listed, part_lines}
-use Rattle.sd_script.specs.declared.spelling.Spelling.TheVariants.{Number}
+use Rattle.sd_answer.specs.Why.{listed, part_lines}
+use Rattle.sd_answer.specs.declared.answer.Spelling.TheVariants.{Number}
 use Rattle.sd_script.specs.declared.session.Session.TheVariants.{Opened}
 use Rattle.sd_script.proofs.OneOutput.{explained, one_explained, one_step, outcome, pair, reasons}
 

@@ -43,21 +43,3 @@ last_part w some = by_test w (eqb (length w) 0) refl some
 
 pub lines_whole : (xs : List ℕ) → 0 < length xs → length xs ≤ position_or_len feeds xs → lines xs ≡ xs ∷ []
 lines_whole xs some whole = ap lines_of_parts (one_part xs whole) ∙ last_part xs some
-
--- the line before a line feed, and what stands behind that
-pub lines_before : (xs front : List ℕ) (end : ℕ) → end ≡ position_or_len feeds xs → end < length xs → front ≡ strip_carriage_return (take end xs)
-    → lines xs ≡ front ∷ lines (take (length xs - (end + 1)) (drop (end + 1) xs))
-lines_before xs front end place low is = rw (take_rest xs (end + 1), is, place) (lines_first xs (omega arith))
-
--- the last line, and nothing
-pub lines_last : (xs : List ℕ) (end : ℕ) → end ≡ position_or_len feeds xs → length xs ≤ end → 0 < length xs
-    → lines xs ≡ xs ∷ lines (take (length xs - end) (drop end xs))
-lines_last xs end place high some = rw (take_rest xs end, drop_all end xs high) (lines_whole xs some (omega arith))
-
--- the place that a search tells
-pub place_some : (b : Bool) (n i : ℕ) → Some i ≡ cond b (Some n) None → i ≡ n
-place_some true n i is = cc
-place_some false n i is = cc
-
-pub place_none : (n m : ℕ) → None ≡ cond (ltb n m) (Some n) None → m ≤ n
-place_none n m is = grind (arith, nat_tests)

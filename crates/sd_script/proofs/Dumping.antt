@@ -20,7 +20,7 @@ use Rattle.sd_tree.specs.declared.node.NodeKind.{NodeKind}
 use Rattle.sd_tree.specs.declared.node.Row.{Row}
 use Rattle.sd_tree.proofs.Moved.{entry_there}
 use Rattle.sd_tree.proofs.Rows.{one_path, path_itself}
-use Rattle.sd_script.specs.Answer.{line}
+use Rattle.sd_answer.specs.Answer.{line}
 use Rattle.sd_script.specs.Command.{line_asks}
 use Rattle.sd_script.specs.Dump.{adding_word, making, makings, making_line, IsAskedBy, AreAskedBy}
 use Rattle.sd_script.specs.Lines.{is_silent}

@@ -1,13 +1,11 @@
-pub mod Answered
 pub mod Askings
 pub mod Beginnings
 pub mod Cutting
 pub mod Dumping
+pub mod NoId
 pub mod OneOutput
 pub mod OneReading
 pub mod PathWords
 pub mod Readings
-pub mod RightNames
 pub mod Splitting
 pub mod Timely
-pub mod Words

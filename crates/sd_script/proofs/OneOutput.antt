@@ -22,13 +22,14 @@ use Rattle.sd_share.specs.declared.request.Request.{Request}
 use Rattle.sd_share.specs.declared.request.Request.TheVariants as requests
 use Rattle.sd_share.specs.declared.start.StartError.{StartError}
 use Rattle.sd_share.specs.declared.start.StartError.TheVariants as starts
-use Rattle.sd_script.specs.Answer.{line}
+use Rattle.sd_answer.specs.Answer.{line}
 use Rattle.sd_script.specs.Dump.{IsDump}
 use Rattle.sd_script.specs.Fault.{line_of_fault}
 use Rattle.sd_script.specs.Laws.{HasOneOutput}
 use Rattle.sd_script.specs.Lines.{is_silent}
 use Rattle.sd_script.specs.Importing.{IsImported}
-use Rattle.sd_script.specs.Output.{is_open, manner_of, IsOpened, IsDone, IsTold, IsAnswered, IsNext, AreAnswered, begun, closing_of}
+use Rattle.sd_lines.specs.Answers.{AreAnswered}
+use Rattle.sd_script.specs.Output.{is_open, manner_of, IsOpened, IsDone, IsTold, IsAnswered, IsNext, begun, closing_of}
 use Rattle.sd_script.specs.Reply.{check_line, counted_line, refused_line, reply_line, seen_line, shown_line, start_error_line}
 use Rattle.sd_script.specs.declared.asked.Asked.{Asked}
 use Rattle.sd_script.specs.declared.asked.Asked.TheVariants.{Opening, Asking, Explaining, Listing, Dumping, Importing}
@@ -38,8 +39,9 @@ use Rattle.sd_script.specs.declared.paths.PathSpelling.{PathSpelling}
 use Rattle.sd_script.specs.declared.session.Session.{Session}
 use Rattle.sd_script.specs.declared.session.Session.TheVariants.{Closed, Opened}
 use Rattle.sd_script.specs.Tally.{tallied}
-use Rattle.sd_script.specs.Why.{explained_reply, node_why_text, why_text}
-use Rattle.sd_script.specs.declared.spelling.Spelling.TheVariants.{Number}
+use Rattle.sd_script.specs.Reply.{explained_reply, node_why_text}
+use Rattle.sd_answer.specs.Why.{why_text}
+use Rattle.sd_answer.specs.declared.answer.Spelling.TheVariants.{Number}
 use Rattle.sd_check.specs.Token.{TokenValue}
 use Rattle.sd_script.proofs.OneReading.{line-one}
 
@@ -260,11 +262,11 @@ next-one old text p q x y one other =
     let same = answered-one old.session text p q x.session y.session one.answered other.answered in
     (same.0, both_same x y same.1 (one.counted ∙ ap (λ answer. tallied text answer old.tally) same.0 ∙ sym other.counted))
 
-all-one : (old : Carried) (texts : List (List ℕ)) (p q : List ℕ) (x y : Carried) → AreAnswered old texts p x → AreAnswered old texts q y → p ≡ q
+all-one : (old : Carried) (texts : List (List ℕ)) (p q : List ℕ) (x y : Carried) → AreAnswered IsNext old texts p x → AreAnswered IsNext old texts q y → p ≡ q
 all-one old [] p q x y one other = one.0 ∙ sym other.0
 all-one old (text ∷ texts) p q x y one other =
     let first = next-one old text one.0 other.0 one.1 other.1 one.3 other.3 in
-    let rest = all-one other.1 texts one.2 other.2 x y (subst (λ between. AreAnswered between texts one.2 x) first.1 one.4) other.4 in
+    let rest = all-one other.1 texts one.2 other.2 x y (subst (λ between. AreAnswered IsNext between texts one.2 x) first.1 one.4) other.4 in
     one.5 ∙ ap (λ xs. xs ++ one.2) first.0 ∙ ap (λ xs. other.0 ++ xs) rest ∙ sym other.5
 
 pub has_one_output : HasOneOutput

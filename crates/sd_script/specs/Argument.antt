@@ -19,7 +19,7 @@ use Rattle.sd_tree.specs.declared.node.NodeDacl.TheVariants.{Null, List as Entri
 use Rattle.sd_tree.specs.declared.opening.RootSpec.{RootSpec}
 use Rattle.sd_script.specs.Fault.{Reading, SomeOr, Then}
 use Rattle.sd_script.specs.Paths.{IsPath}
-use Rattle.sd_script.specs.Word.{IsToken, IsNoWordIn}
+use Rattle.sd_answer.specs.Word.{IsToken, IsNoWordIn}
 use Rattle.sd_script.specs.declared.fault.LineFault.{LineFault}
 use Rattle.sd_script.specs.declared.fault.LineFault.TheVariants.{Number, Path, Sid, Sddl, Parts, Mask, Token}
 use Rattle.sd_script.specs.declared.importing.Import.{Import}

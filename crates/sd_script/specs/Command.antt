@@ -14,7 +14,7 @@ use Rattle.sd_script.specs.Addition.{addition, row_of}
 use Rattle.sd_script.specs.Argument.{number, path, sid, mask, token, node, dacl, imported}
 use Rattle.sd_script.specs.Fault.{Reading, Just, Then}
 use Rattle.sd_script.specs.Lines.{words_of}
-use Rattle.sd_script.specs.Word.{texts}
+use Rattle.sd_answer.specs.Word.{texts}
 use Rattle.sd_script.specs.declared.asked.Asked.{Asked}
 use Rattle.sd_script.specs.declared.asked.Asked.TheVariants.{Opening, Asking, Explaining, Listing, Dumping, Importing}
 use Rattle.sd_script.specs.declared.asked.Question.{Question}

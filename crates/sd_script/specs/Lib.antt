@@ -1,4 +1,3 @@
-pub mod Answer
 pub mod Argument
 pub mod Command
 pub mod Fault
@@ -6,10 +5,7 @@ pub mod Laws
 pub mod Lines
 pub mod Output
 pub mod Reply
-pub mod Run
-pub mod Word
-pub mod Spelling
-pub mod Why
+pub mod Ids
 pub mod Listing
 pub mod Dump
 pub mod Addition

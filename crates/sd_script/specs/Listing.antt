@@ -13,7 +13,7 @@ use Rattle.sd_tree.specs.declared.node.NodeKind.{NodeKind}
 use Rattle.sd_tree.specs.declared.node.NodeKind.TheVariants.{Container, Object}
 use Rattle.sd_tree.specs.declared.node.Row.{Row}
 use Rattle.sd_share.specs.Machine.{Machine}
-use Rattle.sd_script.specs.Answer.{line, fault_line}
+use Rattle.sd_answer.specs.Answer.{line, fault_line}
 use Rattle.sd_script.specs.Paths.{is_split, path_word}
 use Rattle.sd_script.specs.declared.paths.PathSpelling.{PathSpelling}
 use Rattle.sd_script.specs.declared.paths.PathSpelling.TheVariants.{Plain, Percent}

@@ -8,6 +8,7 @@ use Rattle.sd_share.specs.Starts.{IsReaderCount, IsStartError}
 use Rattle.sd_share.specs.declared.request.Reply.{Reply}
 use Rattle.sd_share.specs.declared.request.Request.TheVariants.{Edit as Edits, Show}
 use Rattle.sd_share.specs.declared.start.StartError.{StartError}
+use Rattle.sd_lines.specs.Answers.{AreAnswered}
 use Rattle.sd_script.specs.Command.{line_asks}
 use Rattle.sd_script.specs.Fault.{Reading, line_of_fault}
 use Rattle.sd_script.specs.Dump.{IsDump}
@@ -16,7 +17,7 @@ use Rattle.sd_script.specs.Lines.{is_silent, wants_lines}
 use Rattle.sd_script.specs.Listing.{list_text}
 use Rattle.sd_script.specs.Reply.{counted_line, reply_line, start_error_line}
 use Rattle.sd_script.specs.Tally.{no_lines, tallied}
-use Rattle.sd_script.specs.Why.{explained_reply}
+use Rattle.sd_script.specs.Reply.{explained_reply}
 use Rattle.sd_script.specs.declared.asked.Asked.{Asked}
 use Rattle.sd_script.specs.declared.asked.Asked.TheVariants.{Opening as Opens, Asking, Explaining, Listing, Dumping, Importing}
 use Rattle.sd_script.specs.declared.carried.Carried.{Carried}
@@ -95,17 +96,10 @@ pub record IsNext (old : Carried) (line printed : List ℕ) (new : Carried) : Ty
   pub answered : IsAnswered old.session line printed new.session
   pub counted : new.tally ≡ tallied line printed old.tally
 
--- one line after the other, and what stands then
-abbrev pub AreAnswered : Carried → List (List ℕ) → List ℕ → Carried → Type 0
-AreAnswered old [] printed last = (printed ≡ []) × (last ≡ old)
-AreAnswered old (line ∷ lines) printed last =
-    (first : List ℕ) × (between : Carried) × (rest : List ℕ)
-    × IsNext old line first between × AreAnswered between lines rest last × (printed ≡ first ++ rest)
-
 -- the whole output of a script that is carried out in this manner, and what is counted of it
 abbrev pub PrintsAndCounts : Manner → List ℕ → List ℕ → Tally → Type 0
 PrintsAndCounts manner text printed tally =
-    (last : Carried) × AreAnswered (begun manner) (lines text) printed last × (tally ≡ last.tally)
+    (last : Carried) × AreAnswered IsNext (begun manner) (lines text) printed last × (tally ≡ last.tally)
 
 abbrev pub Prints : Manner → List ℕ → List ℕ → Type 0
 Prints manner text printed = (tally : Tally) × PrintsAndCounts manner text printed tally

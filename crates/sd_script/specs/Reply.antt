@@ -3,6 +3,8 @@ use Rattle.std.specs.Prelude.{ℕ, List, ◌++◌, Option, Some, None, codes}
 use Rattle.std.specs.Fmt.{decimal}
 use Rattle.sd_acl.specs.Descriptor.{descriptor_of}
 use Rattle.sd_acl.specs.declared.descriptor.Descriptor.{Descriptor}
+use Rattle.sd_check.specs.Token.{TokenValue}
+use Rattle.sd_sid.specs.Mapping.{MappingValue}
 use Rattle.sd_text.specs.Canon.{canon}
 use Rattle.sd_tree.specs.Refusals.{number_of, name_of}
 use Rattle.sd_tree.specs.declared.refusal.EditRefusal.{EditRefusal}
@@ -12,7 +14,9 @@ use Rattle.sd_share.specs.declared.request.Reply.{Reply}
 use Rattle.sd_share.specs.declared.request.Reply.TheVariants.{Edited, Refused, Published, Told, Learned, Answered, Shown, NoReader, NoNotice, Memory}
 use Rattle.sd_share.specs.declared.start.StartError.{StartError}
 use Rattle.sd_share.specs.declared.start.StartError.TheVariants as starts
-use Rattle.sd_script.specs.Answer.{line, verdict_line}
+use Rattle.sd_answer.specs.Answer.{line, verdict_line}
+use Rattle.sd_answer.specs.Why.{why_text}
+use Rattle.sd_answer.specs.declared.answer.Spelling.TheVariants.{Number}
 
 abbrev pub refused_line : EditRefusal → List ℕ
 refused_line refusal = line (codes "refused " ++ decimal (number_of refusal) ++ codes " " ++ name_of refusal)
@@ -52,3 +56,15 @@ start_error_line starts.Readers = Some (line (codes "refused readers"))
 start_error_line (starts.Root refusal) = Some (refused_line refusal)
 start_error_line starts.Memory = None
 start_error_line starts.Place = None
+
+-- ---- why
+
+-- the explanation by the descriptor of a node, where there is one
+abbrev pub node_why_text : MappingValue → TokenValue → ℕ → Option Descriptor → List ℕ
+node_why_text g t asked None = line (codes "nonode")
+node_why_text g t asked (Some d) = why_text g Number (descriptor_of d) t asked
+
+-- of the reply to a reader who asks for the descriptor of the node
+abbrev pub explained_reply : MappingValue → TokenValue → ℕ → Reply → Option (List ℕ)
+explained_reply g t asked (Shown seen d) = Some (seen_line seen (node_why_text g t asked d))
+explained_reply g t asked reply = reply_line reply

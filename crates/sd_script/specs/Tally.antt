@@ -2,7 +2,7 @@
 use Rattle.std.specs.Prelude.{ℕ, ◌+◌, ◌-◌, ◌^◌, Bool, false, ◌&&◌, ◌||◌, ◌==◌, nat_eq, List, [], ◌∷◌, min, Option, Some, None, if◌then◌else◌, codes, bytes_eq}
 use Rattle.std.specs.List.{starts_with}
 use Rattle.std.specs.Option.{option_or}
-use Rattle.sd_script.specs.Answer.{line}
+use Rattle.sd_answer.specs.Answer.{line}
 use Rattle.sd_script.specs.declared.tally.Tally.{Tally}
 
 abbrev pub no_lines : Tally

@@ -3,11 +3,11 @@ ghost use Rattle.std.specs.Prelude.{◌≡◌, IfOk};
 ghost use Rattle.sd_acl.specs.Descriptor.{descriptor_of};
 ghost use Rattle.sd_script.specs.Argument.{number, sid, mask, token, node, dacl, node_of, dacl_of, own_dacl};
 ghost use Rattle.sd_script.specs.Fault.{UnlessMemory};
-ghost use Rattle.sd_script.specs.Word.{texts};
+ghost use Rattle.sd_answer.specs.Word.{texts};
 
 use crate::fault::{LineFault, Stop};
-use crate::word::{TokenError, read_token};
 use sd_acl::{Dacl, Descriptor};
+use sd_answer::{TokenError, read_token};
 use sd_check::Token;
 use sd_sid::{Mask, Sid};
 use sd_text::{TextError, read_mask, read_sddl, read_sid_text};

@@ -2,7 +2,7 @@
 ghost use Rattle.std.specs.Prelude.{◌≡◌};
 ghost use Rattle.sd_script.specs.Command.{CommandValue, Open, AddContainer, AddObject, SetOwner, SetGroup, SetDacl, Remove, Protect, Move, Learn, Check, Why, Show, ListNodes, ImportNode, asks, question, command_value};
 ghost use Rattle.sd_script.specs.Fault.{UnlessMemory};
-ghost use Rattle.sd_script.specs.Word.{texts};
+ghost use Rattle.sd_answer.specs.Word.{texts};
 ghost use Rattle.sd_script.specs.declared.paths.PathSpelling.{PathSpelling as Spelling};
 
 use crate::argument::{dacl_in, mask_in, node_in, number_in, sid_in, token_in};

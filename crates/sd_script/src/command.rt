@@ -2,7 +2,7 @@
 ghost use Rattle.std.specs.Prelude.{◌≡◌, ◌∷◌, [], option_map};
 ghost use Rattle.std.specs.List.{list_any};
 ghost use Rattle.sd_script.specs.Command.{command_named, command_of, command_on, command_value, is_empty, is_untimely, kind_named};
-ghost use Rattle.sd_script.specs.Word.{texts};
+ghost use Rattle.sd_answer.specs.Word.{texts};
 
 use sd_tree::NodeKind;
 

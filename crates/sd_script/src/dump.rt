@@ -13,14 +13,15 @@ ghost use Rattle.sd_script.specs.Dump.{AreAskedBy, IsAskedBy, IsDumpOf, IsReadBa
 ghost use Rattle.sd_script.specs.declared.asked.Asked.TheVariants.{Asking};
 ghost use Rattle.sd_share.specs.declared.request.Request.TheVariants.{Publish};
 
-use crate::answer::fault_line;
 use crate::asked::Asked;
 use crate::fault::Stop;
 use crate::line::read_line;
-use crate::lines::{first_line, is_silent};
+use crate::lines::is_silent;
 use crate::paths::{PathSpelling, path_word};
 use crate::same::{is_making, is_publishing};
 use sd_acl::Descriptor;
+use sd_answer::fault_line;
+use sd_lines::{Ending, first_line};
 use sd_text::print_sddl;
 use sd_tree::{NodeKind, NodeRef, Tree};
 use std::alloc::{AllocError, Global};
@@ -132,7 +133,7 @@ fn is_read_back(
         if rest.is_empty() {
             return Ok(false);
         }
-        let (line, after) = first_line(rest);
+        let (line, after) = first_line(Ending::Feed, rest);
         if !is_read_as_node(alloc, paths, tree, readers, index, line)? {
             return Ok(false);
         }
@@ -194,7 +195,7 @@ fn is_read_as_publish(
     if text.is_empty() {
         return Ok(false);
     }
-    let (line, after) = first_line(text);
+    let (line, after) = first_line(Ending::Feed, text);
     if !after.is_empty() || is_silent(line) {
         return Ok(false);
     }

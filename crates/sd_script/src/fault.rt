@@ -3,7 +3,7 @@ ghost use Rattle.std.specs.Prelude.{◌≡◌, IfOk, string_bytes};
 ghost use Rattle.sd_script.specs.Fault.{line_of_fault};
 ghost use Rattle.sd_script.specs.declared.fault.Stop.TheVariants as stops;
 
-use crate::answer::{fault_line, sddl_fault_line};
+use sd_answer::{fault_line, sddl_fault_line};
 use sd_text::TextFault;
 use std::alloc::{AllocError, AllocFailed, Global};
 

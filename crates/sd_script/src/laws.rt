@@ -1,4 +1,5 @@
 //! What follows from the output of a script. A law is the contract of a function that does nothing.
+ghost use Rattle.sd_script.specs.Ids.{NoCommandWithoutAnId};
 ghost use Rattle.sd_script.specs.Laws.{BeginsAsCheck, HasOneOutput};
 
 /// A text has one output.
@@ -9,4 +10,9 @@ pub fn texts_have_one_output()
 /// What `why` tells begins with what `check` tells of the same question, and leaves the same store.
 pub fn why_begins_as_check()
     ensures { BeginsAsCheck }
+{}
+
+/// With ids a line whose first word is no id changes nothing: it opens no store, edits none, and raises no floor.
+pub fn no_command_without_an_id()
+    ensures { NoCommandWithoutAnId }
 {}

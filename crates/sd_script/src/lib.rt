@@ -11,17 +11,16 @@
 //! // printed holds "opened 1\nok\npublished 1\nseen 1 granted 0x1\n", and tally.first_fault is None
 //! ```
 //!
-//! What reads a line and what prints a reply is public, for who carries out a script in another way. The lines of verdicts
-//! and faults, and the words that make a token, are the command line's too.
+//! What reads a line and what prints a reply is public, for who carries out a script in another way.
 #![tactic(auto)]
 
-mod answer;
 mod argument;
 mod asked;
 mod carried;
 mod command;
 mod dump;
 mod fault;
+mod ids;
 mod importing;
 mod laws;
 mod line;
@@ -33,27 +32,21 @@ mod reply;
 mod same;
 mod script;
 mod session;
-mod spelling;
 mod streams;
 mod tally;
-mod why;
-mod word;
 
-pub use answer::{fault_line, sddl_fault_line, verdict_line};
 pub use asked::Asked;
 pub use carried::Carried;
 pub use fault::{LineFault, Stop, line_of_fault};
+pub use ids::LINES;
 pub use importing::import_line;
-pub use laws::{texts_have_one_output, why_begins_as_check};
+pub use laws::{no_command_without_an_id, texts_have_one_output, why_begins_as_check};
 pub use line::read_line;
-pub use lines::{first_line, is_silent, line_len};
+pub use lines::is_silent;
 pub use manner::Manner;
 pub use paths::PathSpelling;
 pub use reply::{counted_line, reply_line, start_error_line};
 pub use script::{answer_line, script_output};
 pub use session::Session;
-pub use spelling::{Spelling, spell};
-pub use streams::run;
+pub use streams::{run, serve};
 pub use tally::Tally;
-pub use why::why_text;
-pub use word::{TokenError, read_token};

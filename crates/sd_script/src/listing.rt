@@ -9,9 +9,9 @@ ghost use Rattle.sd_tree.specs.Listing.{listed};
 ghost use Rattle.sd_tree.specs.Names.{is_within};
 ghost use Rattle.sd_script.specs.Listing.{is_split_below as is_split_below_of, kind_word as kind_word_of, lacks_words as lacks_words_of, line_below as line_below_of, listed_in, node_line as node_line_of};
 
-use crate::answer::fault_line;
 use crate::paths::{PathSpelling, is_split, path_word};
 use sd_acl::Descriptor;
+use sd_answer::fault_line;
 use sd_text::print_sddl;
 use sd_tree::{NodeKind, NodeRef, Path, Tree};
 use std::alloc::{AllocError, Global};

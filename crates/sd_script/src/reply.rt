@@ -1,10 +1,13 @@
 //! The line of each reply of a store.
 ghost use Rattle.std.specs.Prelude.{◌≡◌, Some, IfOk, codes, string_bytes};
-ghost use Rattle.sd_script.specs.Reply.{check_line, counted_line, refused_line, reply_line, seen_line, shown_line, start_error_line};
+ghost use Rattle.sd_script.specs.Reply.{check_line, counted_line, explained_reply, node_why_text, refused_line};
+ghost use Rattle.sd_script.specs.Reply.{reply_line, seen_line, shown_line, start_error_line};
 
-use crate::answer::verdict_line;
 use sd_acl::Descriptor;
+use sd_answer::{Spelling, verdict_line, why_text};
+use sd_check::Token;
 use sd_share::{Reply, StartError};
+use sd_sid::{GenericMapping, Mask};
 use sd_text::print_sddl;
 use sd_tree::{CheckReply, EditRefusal};
 use std::alloc::{AllocError, Global};
@@ -62,7 +65,7 @@ fn refused_line(alloc: Global, refusal: EditRefusal) -> Result<String, AllocErro
 }
 
 /// By how long a journal, and what it gives to the end of the line.
-pub(crate) fn seen_line(alloc: Global, seen: u64, what: &str) -> Result<String, AllocError>
+fn seen_line(alloc: Global, seen: u64, what: &str) -> Result<String, AllocError>
     ensures { IfOk result (λ text. string_bytes text ≡ seen_line seen what.now) }
 {
     let text = format!(in alloc; "seen {seen} {what}")?;
@@ -87,5 +90,41 @@ fn shown_line(alloc: Global, descriptor: &Option<Descriptor>) -> Result<String, 
             let sddl = print_sddl(alloc, descriptor)?;
             format!(in alloc; "shown {sddl}\n")
         }
+    }
+}
+
+/// The lines for a reader who asked for the descriptor of a node, and was replied so: by how long a journal, and the
+/// explanation or `nonode`; or the line of another reply.
+pub(crate) fn explained_reply(
+    alloc: Global,
+    mapping: &GenericMapping,
+    token: &Token,
+    asked: Mask,
+    reply: &Reply,
+) -> Result<String, AllocError>
+    ensures { IfOk result (λ text. explained_reply mapping.now token.now asked reply.now ≡ Some (string_bytes text)) }
+{
+    match reply {
+        Reply::Shown { seen, descriptor } => {
+            let lines = node_why_text(alloc, mapping, token, asked, descriptor)?;
+            seen_line(alloc, *seen, &lines)
+        }
+        _ => reply_line(alloc, reply),
+    }
+}
+
+/// The lines of an explanation by the descriptor of a node, where there is one.
+fn node_why_text(
+    alloc: Global,
+    mapping: &GenericMapping,
+    token: &Token,
+    asked: Mask,
+    descriptor: &Option<Descriptor>,
+) -> Result<String, AllocError>
+    ensures { IfOk result (λ text. string_bytes text ≡ node_why_text mapping.now token.now asked descriptor.now) }
+{
+    match descriptor {
+        None => String::from_str(alloc, "nonode\n"),
+        Some(descriptor) => { why_text(alloc, mapping, Spelling::Number, descriptor, token, asked) }
     }
 }

@@ -7,16 +7,17 @@ use crate::asked::Asked;
 use crate::carried::Carried;
 use crate::dump::dump_text;
 use crate::fault::{Stop, line_of_fault};
+use crate::ids::{LINES, Script};
 use crate::importing::import_line;
 use crate::line::read_line;
-use crate::lines::{first_line, is_silent, wants_lines};
+use crate::lines::{is_silent, wants_lines};
 use crate::listing::list_text;
 use crate::manner::Manner;
-use crate::reply::{counted_line, reply_line, start_error_line};
+use crate::reply::{counted_line, explained_reply, reply_line, start_error_line};
 use crate::session::Session;
 use crate::tally::Tally;
-use crate::why::explained_reply;
 use sd_check::Token;
+use sd_lines::answer_text;
 use sd_share::{Desk, Request};
 use sd_sid::Mask;
 use sd_tree::{Edit, Entries, Path, RootSpec};
@@ -34,13 +35,8 @@ pub fn script_output(
 {
     let mut carried = Carried::begun(manner);
     let mut printed = Vec::new(alloc);
-    let mut rest = text;
-    while !rest.is_empty() {
-        let (line, after) = first_line(rest);
-        let answer = answer_line(alloc, &mut carried, line)?;
-        printed.extend_from_slice(answer.as_bytes())?;
-        rest = after;
-    }
+    let script = Script { has_ids: false };
+    answer_text(alloc, &script, &mut carried, LINES, text, &mut printed)?;
     Ok((printed, carried.tally))
 }
 

@@ -9,7 +9,7 @@ use Rattle.sd_share.specs.Machine.{accepted}
 use Rattle.sd_share.specs.declared.request.Request.TheVariants.{Check, Tell, Learn, Show}
 use Rattle.sd_store.specs.Audits.{reply_by}
 use Rattle.sd_store.specs.declared.query.Query.{Query}
-use Rattle.sd_script.specs.Answer.{fault_line}
+use Rattle.sd_answer.specs.Answer.{fault_line}
 use Rattle.sd_script.specs.Fault.{line_of_fault}
 use Rattle.sd_script.specs.Lines.{is_silent}
 use Rattle.sd_script.specs.Output.{IsDone, IsOpened, line_asks_in, manner_of}

@@ -11,9 +11,10 @@ use crate::answers::publish_and_answer;
 use crate::counted::Counted;
 use crate::queries::collect_queries;
 use sd_history::Opened;
+use sd_lines::{Ending, first_line};
 use sd_script::{
-    Asked, Manner, PathSpelling, Stop, Tally, counted_line, first_line, is_silent, line_of_fault,
-    read_line, start_error_line,
+    Asked, Manner, PathSpelling, Stop, Tally, counted_line, is_silent, line_of_fault, read_line,
+    start_error_line,
 };
 use sd_share::StartError;
 use sd_store::{Checker, Gate, Naming, StoreWriter, start};
@@ -40,7 +41,7 @@ pub(crate) fn audit_output<T: Threads + Wait + Sync, G: Gate + Sync>(
     let mut counted = Counted::new(alloc, Tally::of_no_lines());
     let mut rest = text;
     while !rest.is_empty() {
-        let (line, after) = first_line(rest);
+        let (line, after) = first_line(Ending::Feed, rest);
         if let Some(root) = opened_root(alloc, manner, line, &mut counted)? {
             let history = Opened::new();
             let is_open = open_and_audit::<Brand, T, G>(

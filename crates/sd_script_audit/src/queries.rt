@@ -9,13 +9,14 @@ ghost use Rattle.sd_script_audit.specs.Parts.{audited, machine_of, progress};
 ghost use Rattle.sd_script.specs.declared.paths.PathSpelling.{PathSpelling as Spelling};
 ghost use Rattle.sd_script.specs.declared.tally.Tally.{Tally};
 ghost use Rattle.sd_store.specs.declared.query.Query.{Query as Kept};
-ghost use Rattle.sd_script.specs.Answer.{fault_line as fault_line_of};
+ghost use Rattle.sd_answer.specs.Answer.{fault_line as fault_line_of};
 ghost use Rattle.sd_script.specs.declared.asked.Asked.TheVariants.{Asking, Importing};
 
 use crate::counted::Counted;
+use sd_answer::fault_line;
+use sd_lines::{Ending, first_line};
 use sd_script::{
-    Asked, PathSpelling, Stop, fault_line, first_line, import_line, is_silent, line_of_fault,
-    read_line, reply_line,
+    Asked, PathSpelling, Stop, import_line, is_silent, line_of_fault, read_line, reply_line,
 };
 use sd_share::{Reply, Request};
 use sd_store::{EditError, Naming, PublishError, Query, StoreWriter};
@@ -42,7 +43,7 @@ pub(crate) fn collect_queries<J: Naming, T: Wait>(
 {
     let mut rest = text;
     while !rest.is_empty() {
-        let (line, after) = first_line(rest);
+        let (line, after) = first_line(Ending::Feed, rest);
         let answer = answer_line(rt, alloc, paths, writer, queries, line)?;
         counted.answer(line, answer.as_bytes())?;
         rest = after;

@@ -4,7 +4,7 @@ ghost use Rattle.std.specs.Prelude.{◌≡◌, ◌||◌, Err, IfErr, IfOk};
 ghost use Rattle.sd_stream.specs.Watched.{inner_of, has_failed};
 ghost use Rattle.sd_stream.specs.Whole.{is_read_error, is_write_error, ReadsPart};
 ghost use Rattle.sd_script_audit.specs.Audit.{PrintsAudit, PrintsAuditAndCounts};
-ghost use Rattle.sd_script.specs.Run.{AppendsOutput, LeavesOutput};
+ghost use Rattle.sd_lines.specs.Output.{AppendsOutput, LeavesOutput};
 
 use crate::output::audit_output;
 use sd_script::{Manner, Tally};

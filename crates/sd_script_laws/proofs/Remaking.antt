@@ -19,7 +19,7 @@ use Rattle.sd_share.specs.Machine.{Machine}
 use Rattle.sd_share.specs.Starts.{IsReaderCount}
 use Rattle.sd_share.specs.declared.request.Request.TheVariants as requests
 use Rattle.sd_share.specs.declared.request.Reply.TheVariants as replies
-use Rattle.sd_script.specs.Answer.{line}
+use Rattle.sd_answer.specs.Answer.{line}
 use Rattle.sd_script.specs.Addition.{addition}
 use Rattle.sd_script.specs.Dump.{makings, root_of, dump_text, IsAskedBy, AreAskedBy, IsReadBack}
 use Rattle.sd_script.specs.Output.{is_open, manner_of, IsAnswered, IsDone, IsTold, closing_of}

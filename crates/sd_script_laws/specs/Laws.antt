@@ -4,7 +4,7 @@ use Rattle.std.specs.Str.Lines.{lines}
 use Rattle.sd_tree.specs.Journal.{replay, root_refusal, IsLawful}
 use Rattle.sd_share.specs.Machine.{Machine}
 use Rattle.sd_share.specs.Starts.{IsReaderCount}
-use Rattle.sd_script.specs.Answer.{fault_line}
+use Rattle.sd_answer.specs.Answer.{fault_line}
 use Rattle.sd_script.specs.Output.{IsAnswered, IsDone}
 use Rattle.sd_script.specs.declared.asked.Asked.TheVariants.{Dumping}
 use Rattle.sd_script.specs.declared.manner.Manner.{Manner}

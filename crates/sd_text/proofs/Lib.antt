@@ -11,6 +11,7 @@ pub mod Cuts
 pub mod CutSddl
 pub mod Placed
 pub mod Tables
+pub mod MaskNames
 pub mod Aliases
 pub mod Rooms
 pub mod Printing

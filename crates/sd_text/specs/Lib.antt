@@ -11,5 +11,6 @@ pub mod Entry
 pub mod Sddl
 pub mod Sacl
 pub mod Canon
+pub mod MaskNames
 pub mod Room
 pub mod Laws

@@ -18,6 +18,7 @@ mod domain;
 mod entry;
 mod fault;
 mod laws;
+mod mask_names;
 mod name;
 mod number;
 mod places;
@@ -35,6 +36,7 @@ pub use laws::{
     texts_have_one_fault, texts_have_one_value, texts_never_have_both,
     texts_without_a_sacl_are_read_alike,
 };
+pub use mask_names::print_mask_names;
 pub use print::{print_entry, print_full_sid, print_sddl, print_sid};
 pub use rights::read_mask;
 pub use sacl::{WithoutSacl, read_sddl_without_sacl};

@@ -6,8 +6,8 @@ use Rattle.sd_tool.specs.CommandLine.{InvocationValue, RequestValue, Audit as Au
 use Rattle.sd_tool.specs.Laws.{is_shown, shows, EachAsksTheCommand, HelpStandsAlone, DashesKeepTexts, DashesKeepTextsOfWhy, OptionsKeepTexts}
 use Rattle.sd_tool.specs.Options.{OptionsValue, no_options, options_in}
 use Rattle.std.specs.Prelude.{bytes_eq, codes}
-use Rattle.sd_each.specs.declared.ending.Ending.{Ending}
-use Rattle.sd_each.specs.declared.ending.Ending.TheVariants.{Feed, Zero}
+use Rattle.sd_lines.specs.declared.ending.Ending.{Ending}
+use Rattle.sd_lines.specs.declared.ending.Ending.TheVariants.{Feed, Zero}
 use Rattle.sd_usage.specs.declared.command_name.CommandName.{CommandName}
 use Rattle.sd_usage.specs.declared.command_name.CommandName.TheVariants.{Verdict, Why, Lint, Print, ToBinary, FromBinary, Script, Serve, Audit, Each}
 

@@ -7,7 +7,7 @@ use Rattle.std.specs.Str.Pattern.{FindsChar}
 use Rattle.std.proofs.lemmas.List.{take_more}
 use Rattle.std.proofs.lemmas.List.Sums.{position_or_len_is}
 use Rattle.std.proofs.lemmas.Str.Pattern.{find_char}
-use Rattle.sd_script.specs.Word.{IsFirstNoWord, texts}
+use Rattle.sd_answer.specs.Word.{IsFirstNoWord, texts}
 use Rattle.sd_text.specs.declared.domain.Domain.{Domain}
 use Rattle.sd_tool.specs.Told.{word_at}
 use Rattle.sd_tool.specs.Words.{AreSpelledOut, IsSpelledOut, sid_length}

@@ -8,12 +8,12 @@ use Rattle.sd_stream.specs.Whole.{AppendsBeginning, ReadsPart}
 use Rattle.sd_stream.specs.declared.error.RunError.{RunError}
 use Rattle.sd_stream.specs.declared.error.RunError.TheVariants.{Read, TooLong, Write, Memory, Thread}
 use Rattle.sd_script.specs.Output.{PrintsAndCounts}
-use Rattle.sd_script.specs.Run.{AppendsOutput, IsOutput, LeavesOutput}
+use Rattle.sd_lines.specs.Output.{AppendsOutput, IsOutput, LeavesAnswers, LeavesOutput}
 use Rattle.sd_script.specs.declared.manner.Manner.{Manner}
 use Rattle.sd_script.specs.declared.tally.Tally.{Tally}
 use Rattle.sd_script_audit.specs.Audit.{PrintsAuditAndCounts}
-use Rattle.sd_script_serve.specs.Ids.{PrintsAndCountsIn}
-use Rattle.sd_script_serve.specs.Serve.{LeavesAnswers}
+use Rattle.sd_script.specs.Ids.{PrintsAndCountsIn, PrintsIn}
+use Rattle.sd_script.specs.declared.ids.TheConstants.{LINES}
 use Rattle.sd_tool.specs.Answer.{AnswerValue, Answers, IsBadValue}
 use Rattle.sd_tool.specs.CommandLine.{CommandLineValue, InvocationValue, IsAudit, Verdict, Why, Lint, Print, ToBinary, FromBinary, Script, Serve, Audit, Each, Help, Version, reading, runs_script}
 use Rattle.sd_tool.specs.Options.{AreSettings, HasBadValue, OptionsValue}
@@ -168,12 +168,13 @@ bad_answers input options Version bad answer runs has is = absurd (cc (runs))
 
 -- too long a line is too much that was read
 pub served_too_much : (has_ids : Bool) (manner : Manner) (input left old new : Option (List ℕ))
-    → LeavesAnswers has_ids manner input left old new TooLong → ReadsPart input left TooLong
+    → LeavesAnswers LINES (PrintsIn has_ids manner) input left old new TooLong → ReadsPart input left TooLong
 served_too_much has_ids manner input left old new leaves =
-    let parts = leaves.rest in
-    let long : length (leaves.ended ++ leaves.behind) ≡ length leaves.ended + (length parts.0 + length parts.1) =
-    length-append leaves.ended leaves.behind ∙ ap (λ n. length leaves.ended + n) (ap length parts.2 ∙ length-append parts.0 parts.1) in
-    record { part = leaves.ended ++ leaves.behind; consumed = leaves.consumed; fits = omega (arith, parts.4, long) }
+    let ends = leaves.1 in
+    let parts = ends.rest in
+    let long : length (ends.ended ++ ends.behind) ≡ length ends.ended + (length parts.0 + length parts.1) =
+    length-append ends.ended ends.behind ∙ ap (λ n. length ends.ended + n) (ap length parts.2 ∙ length-append parts.0 parts.1) in
+    record { part = ends.ended ++ ends.behind; consumed = ends.consumed; fits = omega (arith, parts.4, long) }
 
 pub fails_so : {T : Type 0} (P : RunError → Type 0) (r : Result T RunError) (error : RunError) → IfErr r P → r ≡ Err error → P error
 fails_so P (Ok x) error given is = absurd (cc (is))

@@ -1,6 +1,6 @@
 -- What the program prints as an answer, and whether it did what was asked for. The arguments are read from left to
 -- right, and the first that isn't read is told as a fault.
-use Rattle.std.specs.Prelude.{◌≡◌, ◌⊎◌, ℕ, Bool, true, false, MatchBool, List, [], ◌++◌, Option, Some, None, IfSome, Result, Ok, Err, codes, string_bytes}
+use Rattle.std.specs.Prelude.{◌≡◌, ◌⊎◌, ℕ, Bool, ◌||◌, true, false, MatchBool, List, [], ◌++◌, Option, Some, None, IfSome, Result, Ok, Err, codes, string_bytes}
 use Rattle.std.specs.Borrow.{Bor}
 use Rattle.std.specs.Io.KnownBytes.{Appends}
 use Rattle.std.specs.Str.{IsUtf8}
@@ -23,18 +23,18 @@ use Rattle.sd_wire.specs.Writing.{wire_of}
 use Rattle.sd_wire.specs.declared.fault.WireFault.{WireFault}
 use Rattle.sd_check.specs.Check.{verdict, dacl_entries}
 use Rattle.sd_check.specs.Token.{TokenValue}
-use Rattle.sd_script.specs.Answer.{line, verdict_line, fault_line, sddl_fault_line}
-use Rattle.sd_script.specs.Why.{why_text}
-use Rattle.sd_script.specs.Word.{texts}
+use Rattle.sd_answer.specs.Answer.{line, verdict_line, fault_line, sddl_fault_line}
+use Rattle.sd_answer.specs.Why.{why_text}
+use Rattle.sd_answer.specs.Word.{texts}
 use Rattle.sd_script.specs.Output.{PrintsAndCounts}
-use Rattle.sd_script.specs.Run.{IsOutput}
+use Rattle.sd_lines.specs.Output.{IsOutput}
 use Rattle.sd_script.specs.declared.manner.Manner.{Manner}
 use Rattle.sd_script.specs.declared.tally.Tally.{Tally}
 use Rattle.sd_script_audit.specs.Audit.{PrintsAuditAndCounts}
-use Rattle.sd_script_serve.specs.Ids.{PrintsAndCountsIn}
-use Rattle.sd_each.specs.Answers.{AreAnswered}
-use Rattle.sd_each.specs.Lines.{lines_of}
-use Rattle.sd_each.specs.declared.ending.Ending.{Ending}
+use Rattle.sd_script.specs.Ids.{PrintsAndCountsIn}
+use Rattle.sd_lines.specs.Answers.{PrintsAndLeaves}
+use Rattle.sd_lines.specs.declared.ending.Ending.{Ending}
+use Rattle.sd_lines.specs.declared.form.Form.{Form as LineForm}
 use Rattle.sd_tool.specs.Bytes.{bytes_read, form_name, has_sacl, without_sacl}
 use Rattle.sd_tool.specs.Scripts.{IsToldOfScript, manner_of, script_outcome}
 use Rattle.sd_tool.specs.CommandLine.{CommandLineValue, InvocationValue, Verdict as AsksVerdict, Why as AsksWhy, Lint, Print, ToBinary, FromBinary, Script as AsksScript, Serve as AsksServe, Audit as AsksAudit, Each as AsksEach, Help, Version, RequestValue, WhyOfLine, LintOfLine, of_line}
@@ -276,11 +276,20 @@ AnswersLine options request told printed is_refused =
     (answer : AnswerValue) × AnswersTold options request told answer
     × (printed ≡ answer.printed ++ behind_answer request) × (is_refused ≡ is_refusal answer.outcome)
 
--- the lines' answers, one behind the other; refused where one is, and nothing is told beside them
+-- the same, and whether this line or one before it was refused
+abbrev pub AnswersNext : OptionsValue → RequestValue → Bool → Option (List ℕ) → List ℕ → Bool → Type 0
+AnswersNext options request was_refused told printed refused =
+    (is_refused : Bool) × AnswersLine options request told printed is_refused × (refused ≡ (was_refused || is_refused))
+
+-- the lines of an input, of which one that is too long is answered too
+abbrev pub form_of : Ending → LineForm
+form_of ending = record { ending = ending; skips_mark = true; stops_at_long = false; line_by_line = false }
+
+-- the lines' answers, one after the other; refused where one is, and nothing is told beside them
 abbrev pub AnswersEach : OptionsValue → Ending → RequestValue → Option (List ℕ) → AnswerValue → Type 0
 AnswersEach options ending request input answer =
     (text : List ℕ) × (refused : Bool) × IfSome input (λ bytes. text ≡ bytes)
-    × AreAnswered (AnswersLine options request) (lines_of ending text) answer.printed refused
+    × PrintsAndLeaves (form_of ending) (AnswersNext options request) false text answer.printed refused
     × (answer.told ≡ []) × (answer.outcome ≡ outcome_of_lines refused)
 
 -- known bytes grow by them

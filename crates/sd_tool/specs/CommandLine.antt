@@ -4,8 +4,8 @@ use Rattle.std.specs.Prelude.{◌≡◌, ℕ, List, [], ◌∷◌, ◌+◌, ◌-
 use Rattle.std.specs.Option.{option_map_or}
 use Rattle.std.specs.Borrow.{Bor}
 use Rattle.std.specs.Char.{is_ascii_digit}
-use Rattle.sd_each.specs.declared.ending.Ending.{Ending}
-use Rattle.sd_each.specs.declared.ending.Ending.TheVariants.{Feed, Zero}
+use Rattle.sd_lines.specs.declared.ending.Ending.{Ending}
+use Rattle.sd_lines.specs.declared.ending.Ending.TheVariants.{Feed, Zero}
 use Rattle.sd_usage.specs.declared.command_name.CommandName.{CommandName}
 use Rattle.sd_usage.specs.declared.command_name.CommandName.TheVariants as names
 use Rattle.sd_tool.specs.declared.command_line.CommandLine.{CommandLine}

@@ -12,7 +12,7 @@ use Rattle.sd_acl.specs.declared.descriptor.Dacl.{Dacl}
 use Rattle.sd_acl.specs.declared.descriptor.Dacl.TheVariants.{Absent, Null, List as Entries}
 use Rattle.sd_text.specs.Canon.{entry_canon}
 use Rattle.sd_explain.specs.Dead.{decides_before, is_dead}
-use Rattle.sd_script.specs.Answer.{line}
+use Rattle.sd_answer.specs.Answer.{line}
 use Rattle.sd_tool.specs.declared.answer.Outcome.{Outcome}
 use Rattle.sd_tool.specs.declared.answer.Outcome.TheVariants.{Done, Refused}
 

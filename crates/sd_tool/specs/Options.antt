@@ -7,8 +7,8 @@ use Rattle.sd_text.specs.Sid.{sid_text}
 use Rattle.sd_text.specs.declared.domain.Domain.{Domain}
 use Rattle.sd_script.specs.declared.paths.PathSpelling.{PathSpelling}
 use Rattle.sd_script.specs.declared.paths.PathSpelling.TheVariants as paths
-use Rattle.sd_script.specs.declared.spelling.Spelling.{Spelling}
-use Rattle.sd_script.specs.declared.spelling.Spelling.TheVariants.{Number, Names as ByNames}
+use Rattle.sd_answer.specs.declared.answer.Spelling.{Spelling}
+use Rattle.sd_answer.specs.declared.answer.Spelling.TheVariants.{Number, Names as ByNames}
 use Rattle.sd_tool.specs.Mapping.{GivesMapping, GivesNoMapping}
 use Rattle.sd_tool.specs.declared.options.Flag.{Flag}
 use Rattle.sd_tool.specs.declared.options.Flag.TheVariants.{Names, WithoutSacl, Base64, Loose, Percent, Strict}

@@ -5,11 +5,13 @@ use Rattle.std.specs.Borrow.{Bor}
 use Rattle.sd_stream.specs.Whole.{AppendsBeginning, ReadsPart, is_read_error, is_write_error}
 use Rattle.sd_stream.specs.declared.error.RunError.{RunError}
 use Rattle.sd_stream.specs.declared.error.RunError.TheVariants.{Read, TooLong, Write, Memory, Thread}
-use Rattle.sd_script.specs.Answer.{line}
-use Rattle.sd_script_serve.specs.Serve.{LeavesAnswers}
-use Rattle.sd_each.specs.Answers.{LeavesAnswers as LeavesLines}
-use Rattle.sd_each.specs.declared.ending.Ending.{Ending}
-use Rattle.sd_tool.specs.Answer.{AnswerValue, Answers, AnswersLine}
+use Rattle.sd_answer.specs.Answer.{line}
+use Rattle.sd_script.specs.Ids.{PrintsIn}
+use Rattle.sd_script.specs.declared.ids.TheConstants.{LINES}
+use Rattle.sd_lines.specs.Answers.{Prints}
+use Rattle.sd_lines.specs.Output.{LeavesAnswers}
+use Rattle.sd_lines.specs.declared.ending.Ending.{Ending}
+use Rattle.sd_tool.specs.Answer.{AnswerValue, Answers, AnswersNext, form_of}
 use Rattle.sd_tool.specs.CommandLine.{CommandLineValue, RequestValue, Each, Serve, reading, IsAudit, IsUnread}
 use Rattle.sd_tool.specs.Options.{AreSettings}
 use Rattle.sd_tool.specs.Scripts.{manner_of}
@@ -49,14 +51,15 @@ pub record LeavesServed (line : CommandLineValue) (input left old new : Option (
   pub has_ids : Bool
   pub asked : line.invocation ≡ Serve has_ids
   pub said : AreSettings line.options settings
-  pub answers : LeavesAnswers has_ids (manner_of settings) input left old new error
+  pub answers : LeavesAnswers LINES (PrintsIn has_ids (manner_of settings)) input left old new error
 
 -- the answers to the lines of an input, as far as it came
 pub record LeavesEach (line : CommandLineValue) (input left old new : Option (List ℕ)) (error : RunError) : Type 0 where
   pub ending : Ending
   pub request : RequestValue
   pub asked : line.invocation ≡ Each ending request
-  pub answers : LeavesLines (AnswersLine line.options request) ending input left old new error
+  pub answers : LeavesAnswers (form_of ending) (Prints (form_of ending) (AnswersNext line.options request) false)
+      input left old new error
 
 -- what was answered line by line until then
 abbrev pub LeavesLinesOf : CommandLineValue → Option (List ℕ) → Option (List ℕ) → Option (List ℕ) → Option (List ℕ) → RunError → Type 0

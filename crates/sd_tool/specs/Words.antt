@@ -4,7 +4,7 @@ use Rattle.std.specs.Prelude.{◌≡◌, ◌==◌, ◌⊎◌, ⊤, ℕ, List, []
 use Rattle.std.specs.List.{position_or_len}
 use Rattle.sd_sid.specs.Sid.{SidValue}
 use Rattle.sd_check.specs.Token.{TokenValue}
-use Rattle.sd_script.specs.Word.{IsToken, IsFirstNoWord}
+use Rattle.sd_answer.specs.Word.{IsToken, IsFirstNoWord}
 use Rattle.sd_text.specs.Canon.{sid_canon}
 use Rattle.sd_text.specs.Grammar.{Spells}
 use Rattle.sd_text.specs.Sid.{sid_text_in}

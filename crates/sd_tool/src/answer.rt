@@ -1,6 +1,6 @@
 //! The answer to an invocation: what is printed, and whether that is what was asked for.
 ghost use Rattle.std.specs.Prelude.{◌≡◌, ℕ, List, Option, false, IfErr, IfOk, codes, string_bytes};
-ghost use Rattle.sd_script.specs.Answer.{fault_line as fault_line_of, sddl_fault_line as sddl_fault_line_of};
+ghost use Rattle.sd_answer.specs.Answer.{fault_line as fault_line_of, sddl_fault_line as sddl_fault_line_of};
 ghost use Rattle.sd_tool.specs.Answer.{Answers, AnswersUnder, IsBadValue, IsDone, IsFault, answer_of};
 ghost use Rattle.sd_tool.specs.CommandLine.{command_line_of, invocation_of, is_script};
 ghost use Rattle.sd_tool.specs.Status.{outcome_status};
@@ -14,7 +14,7 @@ use crate::options::{BadValue, Settings};
 use crate::told::{sid_reason, told_fault, told_line};
 use crate::verdict::{Form, answer_verdict};
 use crate::version::version_text;
-use sd_script::{fault_line, sddl_fault_line};
+use sd_answer::{fault_line, sddl_fault_line};
 use sd_stream::RunError;
 use sd_text::TextFault;
 use sd_usage::help;

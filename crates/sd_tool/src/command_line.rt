@@ -8,7 +8,7 @@ ghost use Rattle.sd_tool.specs.CommandLine.{reading, request_in as request_at, r
 ghost use Rattle.sd_tool.specs.CommandLine.{run_by as run_of, shown_by as shown_of, workers_of};
 
 use crate::options::{Options, options_in};
-use sd_each::Ending;
+use sd_lines::Ending;
 use sd_usage::CommandName;
 
 /// What a command line asks for, and with which options.

@@ -1,7 +1,7 @@
 //! The answers to `print`, `tobin` and `frombin`: a descriptor in another form.
 ghost use Rattle.std.specs.Prelude.{◌≡◌, ◌++◌, IfErr, IfOk, codes, string_bytes};
 ghost use Rattle.sd_wire.specs.Reading.{descriptor_read};
-ghost use Rattle.sd_script.specs.Answer.{line};
+ghost use Rattle.sd_answer.specs.Answer.{line};
 ghost use Rattle.sd_tool.specs.Told.{told_line as told_line_of, wire_fault_text as wire_fault_text_of};
 ghost use Rattle.sd_tool.specs.Answer.{AnswersPrint, AnswersToBinary, AnswersFromBinary, AnswersBytes, AnswersRead, IsDone, IsFault, answer_of, wire_fault_line as wire_fault_line_of};
 

@@ -1,9 +1,10 @@
 //! The answers of one command to each line of an input.
-ghost use Rattle.std.specs.Prelude.{◌≡◌, ◌||◌, IfErr, IfOk, option_map};
-ghost use Rattle.sd_each.specs.Answers.{LeavesAnswers};
+ghost use Rattle.std.specs.Prelude.{◌≡◌, ◌||◌, false, IfErr, IfOk, option_map};
+ghost use Rattle.sd_lines.specs.Answers.{Prints};
+ghost use Rattle.sd_lines.specs.Output.{LeavesAnswers};
 ghost use Rattle.sd_stream.specs.Watched.{has_failed, inner_of};
 ghost use Rattle.sd_stream.specs.Whole.{is_read_error, is_write_error};
-ghost use Rattle.sd_tool.specs.Answer.{AnswersLine, AnswersTold, AppendsEach, answer_of, behind_answer, is_refusal, outcome_of_lines};
+ghost use Rattle.sd_tool.specs.Answer.{AnswersNext, AnswersTold, AppendsEach, answer_of, behind_answer, form_of, is_refusal, outcome_of_lines};
 ghost use Rattle.sd_tool.specs.CommandLine.{request_of};
 ghost use Rattle.sd_tool.specs.Options.{options_of};
 
@@ -11,7 +12,7 @@ use crate::answer::{Answer, Outcome, answer_to, fault};
 use crate::command_line::{CommandLine, Request};
 use crate::failure::Failure;
 use crate::options::Options;
-use sd_each::{Answers, Ending, each};
+use sd_lines::{Answers, Ending, Form, answer_lines};
 use sd_stream::{RunError, Watched};
 use std::alloc::{AllocError, Global};
 use std::io::{Read, Write};
@@ -25,20 +26,26 @@ pub(crate) struct Question<'a> {
 }
 
 impl Answers for Question<'_> {
-    ghost answers = { λ question told printed is_refused. AnswersLine (options_of question.options) (request_of question.request) told printed is_refused };
+    /// Whether a line so far was refused.
+    type State = bool;
+
+    ghost answers = { λ question was_refused told printed refused. AnswersNext (options_of question.options) (request_of question.request)
+        was_refused told printed refused };
 
     fn answer(
         &self,
         alloc: Global,
+        refused: &mut bool,
         line: Option<&[u8]>,
         text: &mut Vec<u8>,
-    ) -> Result<bool, AllocError> {
+    ) -> Result<(), AllocError> {
         let Ok(answer) = self.answer_told(alloc, line) else {
             return Err(AllocError);
         };
         text.extend_from_slice(answer.text.as_bytes())?;
         text.extend_from_slice(self.request.behind_answer().as_bytes())?;
-        Ok(answer.outcome.is_refusal())
+        *refused |= answer.outcome.is_refusal();
+        Ok(())
     }
 }
 
@@ -96,6 +103,18 @@ impl Outcome {
     }
 }
 
+/// The lines of an input, of which one that is too long is answered too.
+fn form_of(ending: Ending) -> Form
+    ensures { result ≡ form_of ending }
+{
+    Form {
+        ending,
+        skips_mark: true,
+        stops_at_long: false,
+        line_by_line: false,
+    }
+}
+
 /// Answers each line of an input.
 pub(crate) fn answer_each<R: Read, W: Write>(
     alloc: Global,
@@ -106,12 +125,21 @@ pub(crate) fn answer_each<R: Read, W: Write>(
 ) -> Result<Outcome, RunError>
     ensures ok { IfOk result (AppendsEach (options_of question.entry.options) ending (request_of question.entry.request) (R.remaining (inner_of reader.old))
         (W.contents (inner_of writer.old)) (W.contents (inner_of writer.new))) }
-    ensures err { IfErr result (LeavesAnswers (AnswersLine (options_of question.entry.options) (request_of question.entry.request)) ending
+    ensures err { IfErr result (LeavesAnswers (form_of ending)
+        (Prints (form_of ending) (AnswersNext (options_of question.entry.options) (request_of question.entry.request)) false)
         (R.remaining (inner_of reader.old)) (R.remaining (inner_of reader.new))
         (W.contents (inner_of writer.old)) (W.contents (inner_of writer.new))) }
     ensures read { has_failed reader.new ≡ (has_failed reader.old || is_read_error result) }
     ensures write { has_failed writer.new ≡ (has_failed writer.old || is_write_error result) }
 {
-    let is_refused = each(alloc, &question, ending, reader, writer)?;
-    Ok(Outcome::of_lines(is_refused))
+    let mut refused = false;
+    answer_lines(
+        alloc,
+        &question,
+        &mut refused,
+        form_of(ending),
+        reader,
+        writer,
+    )?;
+    Ok(Outcome::of_lines(refused))
 }

@@ -7,7 +7,8 @@ ghost use Rattle.sd_tool.specs.Scripts.{manner_of};
 ghost use Rattle.sd_tool.specs.Options.{AreSettings, GivesDomain, HasBadValue, IsNoDomain, byte_form_of, no_options, flag_named, setting_named, options_in as options_at, options_of, parted, paths_of, spelling_of, with_flag as with_flag_of, with_setting as with_setting_of};
 
 use crate::mapping::mapping_given;
-use sd_script::{Manner, PathSpelling, Spelling};
+use sd_answer::Spelling;
+use sd_script::{Manner, PathSpelling};
 use sd_sid::GenericMapping;
 use sd_text::{Domain, read_sid_text};
 

@@ -2,7 +2,7 @@
 ghost use Rattle.std.specs.Prelude.{◌≡◌, ◌<◌, IfErr, IfOk, length, string_bytes};
 ghost use Rattle.sd_acl.specs.Descriptor.{descriptor_of};
 ghost use Rattle.sd_check.specs.Check.{verdict as verdict_of, dacl_entries};
-ghost use Rattle.sd_script.specs.Word.{texts};
+ghost use Rattle.sd_answer.specs.Word.{texts};
 ghost use Rattle.sd_tool.specs.Answer.{AnswersVerdict, AnswersUser, AnswersMask, AnswersWords, IsWordFault, answer_of, form_text, verdict_outcome};
 ghost use Rattle.sd_tool.specs.Words.{IsFirstNoWordIn};
 
@@ -13,8 +13,8 @@ use crate::options::Settings;
 use crate::told::{told_line, word_argument, word_reason};
 use crate::words::token_in;
 use sd_acl::Descriptor;
+use sd_answer::{TokenError, verdict_line, why_text};
 use sd_check::{Token, Verdict, check};
-use sd_script::{TokenError, verdict_line, why_text};
 use sd_sid::{Mask, Sid};
 use sd_stream::RunError;
 use sd_text::{TextError, read_mask, read_sid_text_in};

@@ -1,11 +1,11 @@
 //! The words that make a token where a domain is given.
 ghost use Rattle.std.specs.Prelude.{◌≡◌, ◌<◌, ◌≤◌, ℕ, Err, IfOk, length, map, string_bytes};
 ghost use Rattle.std.specs.Str.{IsCharBoundary};
-ghost use Rattle.sd_script.specs.Word.{texts};
+ghost use Rattle.sd_answer.specs.Word.{texts};
 ghost use Rattle.sd_tool.specs.Words.{AreSpelledOut, IsFirstNoWordIn, IsSpelledOut, IsTokenIn, sid_length as sid_length_of};
 
+use sd_answer::{TokenError, read_token};
 use sd_check::Token;
-use sd_script::{TokenError, read_token};
 use sd_sid::Sid;
 use sd_text::{Domain, print_sid, read_sid_text_in};
 use std::alloc::{AllocError, Global};

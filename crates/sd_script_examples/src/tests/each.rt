@@ -1,5 +1,5 @@
 //! Inputs of every kind of line, that come in pieces of every length and break off at every byte.
-use sd_each::*;
+use sd_lines::*;
 use sd_stream::{RunError, Watched};
 use std::alloc::{AllocError, Global};
 use std::io;
@@ -12,22 +12,28 @@ use std::process::Abort;
 struct Brackets;
 
 impl Answers for Brackets {
-    ghost answers = { λ _ line printed is_refused. Unit {0} };
+    /// Whether a line so far was refused.
+    type State = bool;
+
+    ghost answers = { λ _ was_refused line printed refused. Unit {0} };
 
     fn answer(
         &self,
         _: Global,
+        refused: &mut bool,
         line: Option<&[u8]>,
         text: &mut Vec<u8>,
-    ) -> Result<bool, AllocError> {
+    ) -> Result<(), AllocError> {
         let Some(bytes) = line else {
             text.extend_from_slice(b"..\n")?;
-            return Ok(true);
+            *refused = true;
+            return Ok(());
         };
         text.push(b'[')?;
         text.extend_from_slice(bytes)?;
         text.extend_from_slice(b"]\n")?;
-        Ok(bytes.first() == Some(&b'!'))
+        *refused |= bytes.first() == Some(&b'!');
+        Ok(())
     }
 }
 
@@ -97,15 +103,31 @@ struct Ended<W: Drop> {
     writer: W,
 }
 
-fn asked<A: Answers, R: Read + Drop, W: Write + Drop>(
+fn asked<R: Read + Drop, W: Write + Drop>(
     alloc: Global,
-    answers: &A,
     ending: Ending,
     reader: R,
     writer: W,
 ) -> Ended<W> {
     let (mut reader, mut writer) = (Watched::new(reader), Watched::new(writer));
-    let answer = each(alloc, answers, ending, &mut reader, &mut writer);
+    let form = Form {
+        ending,
+        skips_mark: true,
+        stops_at_long: false,
+        line_by_line: false,
+    };
+    let mut refused = false;
+    let answer = match answer_lines(
+        alloc,
+        &Brackets,
+        &mut refused,
+        form,
+        &mut reader,
+        &mut writer,
+    ) {
+        Ok(()) => Ok(refused),
+        Err(error) => Err(error),
+    };
     Ended {
         answer,
         is_read_failed: reader.failed(),
@@ -124,7 +146,7 @@ fn answers_pieces_of_every_length(rt: HostRuntime) {
                 until_failure: usize::MAX,
             };
             let alloc = rt.alloc();
-            let ended = asked(alloc, &Brackets, ending, reader, Vec::new(alloc));
+            let ended = asked(alloc, ending, reader, Vec::new(alloc));
             assert_eq!(rt; ended.answer, Ok(is_refused), "{input:?} by {size}");
             assert_eq!(rt; ended.writer.as_slice(), wanted, "{input:?} by {size}");
         }
@@ -143,7 +165,7 @@ fn answers_what_had_ended_before_the_reader_failed(rt: HostRuntime) {
             until_failure,
         };
         let alloc = rt.alloc();
-        let ended = asked(alloc, &Brackets, Ending::Feed, reader, Vec::new(alloc));
+        let ended = asked(alloc, Ending::Feed, reader, Vec::new(alloc));
         assert_eq!(rt; ended.answer, Err(RunError::Read), "at {until_failure}");
         assert!(rt;
             ended.is_read_failed && !ended.is_write_failed,
@@ -187,7 +209,7 @@ fn writes_a_beginning_where_the_writer_fails(rt: HostRuntime) {
             taken: Vec::new(rt.alloc()),
             room,
         };
-        let ended = asked(rt.alloc(), &Brackets, Ending::Feed, reader, writer);
+        let ended = asked(rt.alloc(), Ending::Feed, reader, writer);
         assert_eq!(rt; ended.answer, Err(RunError::Write), "room for {room}");
         assert!(rt;
             ended.is_write_failed && !ended.is_read_failed,

@@ -1,6 +1,6 @@
 //! Masks in both spellings.
 
-use sd_script::{Spelling, spell};
+use sd_answer::{Spelling, spell};
 use sd_sid::Mask;
 use std::alloc::{AllocError, Global};
 use std::process::Abort;

@@ -1,6 +1,6 @@
 //! Scripts that come in pieces of every length, and that break off at every byte.
 use super::plain;
-use sd_script_serve::serve;
+use sd_script::serve;
 use sd_stream::{RunError, Watched};
 use std::alloc::{AllocError, Global};
 use std::io;

@@ -1,7 +1,7 @@
 -- A text with a fault is no mask.
 use Rattle.std.proofs.Common.{Err, ap, refl}
 use Rattle.sd_text.specs.Rights.{mask_text}
-use Rattle.sd_script.proofs.Words.{not_spelled}
+use Rattle.sd_answer.proofs.Words.{not_spelled}
 use Rattle.sd_script.proofs.argument.mask_in.Goals as goal
 
 pub returns-in-Err : goal.returns-in-Err

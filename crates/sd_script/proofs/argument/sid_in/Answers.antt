@@ -1,7 +1,7 @@
 -- A text with a fault is no SID.
 use Rattle.std.proofs.Common.{Err, ap, refl}
 use Rattle.sd_text.specs.Sid.{sid_text}
-use Rattle.sd_script.proofs.Words.{not_spelled}
+use Rattle.sd_answer.proofs.Words.{not_spelled}
 use Rattle.sd_script.proofs.argument.sid_in.Goals as goal
 
 pub returns-in-Err : goal.returns-in-Err

@@ -3,7 +3,7 @@ use Rattle.std.proofs.lemmas.Result.{err_from_is_err_and}
 use Rattle.sd_share.specs.declared.request.Request.TheVariants as requests
 use Rattle.sd_script.specs.declared.asked.Asked.TheVariants.{Asking}
 use Rattle.sd_script.specs.Command.{question}
-use Rattle.sd_script.specs.Word.{texts}
+use Rattle.sd_answer.specs.Word.{texts}
 use Rattle.sd_script.proofs.Askings.{question_read, question_stopped}
 use Rattle.sd_script.proofs.asked.checked.Goals as goal
 

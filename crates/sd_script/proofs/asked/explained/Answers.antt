@@ -2,7 +2,7 @@
 use Rattle.std.proofs.lemmas.Result.{err_from_is_err_and}
 use Rattle.sd_script.specs.declared.asked.Asked.TheVariants.{Explaining}
 use Rattle.sd_script.specs.Command.{question}
-use Rattle.sd_script.specs.Word.{texts}
+use Rattle.sd_answer.specs.Word.{texts}
 use Rattle.sd_script.proofs.Askings.{question_read, question_stopped}
 use Rattle.sd_script.proofs.asked.explained.Goals as goal
 

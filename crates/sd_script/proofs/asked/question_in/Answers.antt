@@ -4,7 +4,7 @@ use Rattle.std.proofs.lemmas.Result.{err_from_is_err_and}
 use Rattle.sd_script.specs.Argument.{sid, mask, token}
 use Rattle.sd_script.specs.Command.{question_by, question_with}
 use Rattle.sd_script.specs.Fault.{Just}
-use Rattle.sd_script.specs.Word.{texts}
+use Rattle.sd_answer.specs.Word.{texts}
 use Rattle.sd_script.proofs.Readings.{Then-value, Then-stop}
 use Rattle.sd_script.proofs.asked.question_in.Goals as goal
 

@@ -1,6 +1,6 @@
 use Rattle.std.proofs.Common.{ap, sym, ◌∙◌}
 use Rattle.sd_script.specs.Command.{command_value}
-use Rattle.sd_script.specs.Word.{texts}
+use Rattle.sd_answer.specs.Word.{texts}
 use Rattle.sd_script.proofs.Askings.{line_reads}
 use Rattle.sd_script.proofs.line.read_line.Goals as goal
 

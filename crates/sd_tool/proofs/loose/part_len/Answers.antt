@@ -3,7 +3,7 @@ use Rattle.std.specs.List.{position_or_len}
 use Rattle.std.proofs.lemmas.Iterator.{YieldsList-from_slice}
 use Rattle.std.proofs.lemmas.Iterator.Search.{position_from_yields_List}
 use Rattle.std.proofs.lemmas.List.Sums.{prefix_len-le-length}
-use Rattle.sd_script.proofs.Cutting.{place_some, place_none}
+use Rattle.sd_lines.proofs.Cutting.{place_some, place_none}
 use Rattle.sd_tool.specs.Bytes.{is_between}
 use Rattle.sd_tool.proofs.loose.part_len.Goals as goal
 

@@ -1,7 +1,7 @@
 -- The word is the one at the place.
 use Rattle.std.proofs.Common.{◌≡◌, ◌∙◌, ap, string_bytes, subst}
 use Rattle.std.proofs.lemmas.Result.{IfOk-weaker}
-use Rattle.sd_script.specs.Word.{texts}
+use Rattle.sd_answer.specs.Word.{texts}
 use Rattle.sd_tool.specs.Told.{IsWordReason, told_line, word_argument, word_at}
 use Rattle.sd_tool.proofs.SpelledOut.{word_is}
 use Rattle.sd_tool.proofs.verdict.word_fault.Goals as goal

@@ -1,6 +1,6 @@
 -- The texts so far are lent.
 use Rattle.std.proofs.Common.{◌≡◌, take, map, string_bytes}
-use Rattle.sd_script.specs.Word.{texts}
+use Rattle.sd_answer.specs.Word.{texts}
 use Rattle.sd_tool.proofs.words.lent_texts.Given as goal
 
 abbrev pub invariant-loop-full : goal.invariant-loop-full

@@ -1,6 +1,6 @@
 -- The words so far are spelled out.
 use Rattle.std.proofs.Common.{take, map, string_bytes}
-use Rattle.sd_script.specs.Word.{texts}
+use Rattle.sd_answer.specs.Word.{texts}
 use Rattle.sd_tool.specs.Words.{AreSpelledOut}
 use Rattle.sd_tool.proofs.words.spelled_out.Given as goal
 

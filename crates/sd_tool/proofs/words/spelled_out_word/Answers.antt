@@ -3,7 +3,7 @@ use Rattle.std.proofs.Common.{◌≡◌, Err, Some, ap, inr, sym, ◌∙◌, sub
 use Rattle.std.proofs.lemmas.Result.{IfOk-weaker}
 use Rattle.sd_text.specs.Grammar.{Spells}
 use Rattle.sd_text.specs.Sid.{sid_text_in}
-use Rattle.sd_script.proofs.Words.{not_spelled}
+use Rattle.sd_answer.proofs.Words.{not_spelled}
 use Rattle.sd_tool.specs.Words.{sid_length}
 use Rattle.sd_tool.proofs.words.spelled_out_word.Goals as goal
 

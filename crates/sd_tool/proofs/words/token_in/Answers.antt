@@ -1,6 +1,6 @@
 -- The words are read as they stand, or as they are spelled out.
 use Rattle.std.proofs.Common.{◌≡◌, ◌∙◌, ap, map, refl, string_bytes, subst}
-use Rattle.sd_script.specs.Word.{IsFirstNoWord, texts}
+use Rattle.sd_answer.specs.Word.{IsFirstNoWord, texts}
 use Rattle.sd_tool.proofs.SpelledOut.{first_within, spelled_within}
 use Rattle.sd_tool.proofs.words.token_in.Goals as goal
 

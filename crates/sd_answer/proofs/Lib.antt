@@ -1,0 +1,3 @@
+pub mod Words
+pub mod OneToken
+pub mod Joins

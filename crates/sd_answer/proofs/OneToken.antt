@@ -1,0 +1,115 @@
+-- A user and texts make one token, or one of the texts is no word.
+use Rattle.std.proofs.Common.{◌≡◌, ℕ, false, List, [], ◌∷◌, ◌++◌, length, drop, inl, inr, refl, sym, ◌∙◌, ap, subst, arith, ⊎_elim, append_assoc, eqb}
+use Rattle.std.specs.Prelude.{Option, Some, None, IfSome, IfNone, if◌then◌else◌, codes}
+use Rattle.std.proofs.lemmas.Bool.{eqb-false}
+use Rattle.std.proofs.lemmas.List.{append_cancel_right, length-append}
+use Rattle.std.proofs.Math.Seq.{drop-append_seam}
+use Rattle.sd_sid.specs.Sid.{SidValue}
+use Rattle.sd_text.specs.Alias.{aliases}
+use Rattle.sd_text.specs.Grammar.{Spells}
+use Rattle.sd_text.specs.Sid.{sid_text, sid as sid_grammar, domain_alias, no_alias}
+use Rattle.sd_text.proofs.Engine.{one_value}
+use Rattle.sd_check.specs.Token.{TokenValue}
+use Rattle.sd_check.specs.declared.token.GroupState.TheVariants.{Enabled, DenyOnly, Disabled}
+use Rattle.sd_answer.specs.Word.{AreWords, IsGroup, IsGroupWord, IsNoWordIn, IsToken, IsWord, is_group, token_of}
+use Rattle.sd_check.specs.declared.token.GroupState.{GroupState}
+use Rattle.sd_answer.specs.declared.word.Word.{Word}
+use Rattle.sd_answer.specs.declared.word.Word.TheVariants.{Group, Restricting, Security, TakeOwnership}
+
+-- two texts whose ends of the same length begin differently are two
+apart : (xs ys : List ℕ) (a b : ℕ) (us vs : List ℕ) → length us ≡ length vs → eqb a b ≡ false → xs ++ a ∷ us ≡ ys ++ b ∷ vs → ⊥
+apart xs ys a b us vs long differ same =
+    let longs : length xs ≡ length ys = omega (arith, length-append xs (a ∷ us), length-append ys (b ∷ vs), ap length same, long) in
+    let ends = sym (drop-append_seam xs (a ∷ us)) ∙ ap (drop (length xs)) same ∙ ap (λ n. drop n (ys ++ b ∷ vs)) longs ∙ drop-append_seam ys (b ∷ vs) in
+    let heads : a ≡ b = cc (ends) in
+    eqb-false a b differ heads
+
+-- no SID begins with a plus
+no_plus : (rest : List ℕ) (s : SidValue) → Spells sid_text (43 ∷ rest) s → ⊥
+unfolding sid_grammar domain_alias no_alias aliases
+no_plus rest s spelled = ⊎_elim (λ x. cc (x.0)) (λ x. ⊎_elim (λ y. cc (y)) (λ y. ⊎_elim (λ z. z.1) (λ z. ⊎_elim (λ u. u.1) (λ u. u.1) z.1) y.1) x.1) spelled.2
+
+-- a text with the ending of a restricting SID has no other
+not_denied : (text front other : List ℕ) → text ≡ front ++ codes "=restrict" → text ≡ other ++ codes "=deny" → ⊥
+not_denied text front other x y = apart (front ++ codes "=res") other 116 61 (codes "rict") (codes "deny") refl refl (append_assoc front (codes "=res") (codes "trict") ∙ sym x ∙ y)
+
+not_off : (text front other : List ℕ) → text ≡ front ++ codes "=restrict" → text ≡ other ++ codes "=off" → ⊥
+not_off text front other x y = apart (front ++ codes "=rest") other 114 61 (codes "ict") (codes "off") refl refl (append_assoc front (codes "=rest") (codes "rict") ∙ sym x ∙ y)
+
+not_security : (text front : List ℕ) → text ≡ front ++ codes "=restrict" → text ≡ codes "+security" → ⊥
+not_security text front x y = apart front [] 61 43 (codes "restrict") (codes "security") refl refl (sym x ∙ y)
+
+not_take : (text front : List ℕ) → text ≡ front ++ codes "=restrict" → text ≡ codes "+take" → ⊥
+not_take text front x y = apart (front ++ codes "=res") [] 116 43 (codes "rict") (codes "take") refl refl (append_assoc front (codes "=res") (codes "trict") ∙ sym x ∙ y)
+
+word_one : (text : List ℕ) (v w : Word) → IsWord text v → IsWord text w → v ≡ w
+word_one text (Group s Enabled) (Group t Enabled) x y = ap (λ a. Group a Enabled) (one_value sid_text text s t x y)
+word_one text (Group s Enabled) (Group t DenyOnly) x y = absurd (y.0 s x)
+word_one text (Group s Enabled) (Group t Disabled) x y = absurd (y.0 s x)
+word_one text (Group s Enabled) Security x y = absurd (no_plus (codes "security") s (subst (λ xs. Spells sid_text xs s) y x))
+word_one text (Group s Enabled) TakeOwnership x y = absurd (no_plus (codes "take") s (subst (λ xs. Spells sid_text xs s) y x))
+word_one text (Group s DenyOnly) (Group t Enabled) x y = absurd (x.0 t y)
+word_one text (Group s DenyOnly) (Group t DenyOnly) x y =
+    let front = append_cancel_right x.1.0 y.1.0 (codes "=deny") (sym x.1.1 ∙ y.1.1) in
+    ap (λ a. Group a DenyOnly) (one_value sid_text y.1.0 s t (subst (λ xs. Spells sid_text xs s) front x.1.2) y.1.2)
+word_one text (Group s DenyOnly) (Group t Disabled) x y = absurd (apart (x.1.0 ++ codes "=") y.1.0 100 61 (codes "eny") (codes "off") refl refl (append_assoc x.1.0 (codes "=") (codes "deny") ∙ sym x.1.1 ∙ y.1.1))
+word_one text (Group s DenyOnly) Security x y = absurd (apart x.1.0 (codes "+sec") 61 117 (codes "deny") (codes "rity") refl refl (sym x.1.1 ∙ y))
+word_one text (Group s DenyOnly) TakeOwnership x y = absurd (apart x.1.0 [] 61 43 (codes "deny") (codes "take") refl refl (sym x.1.1 ∙ y))
+word_one text (Group s Disabled) (Group t Enabled) x y = absurd (x.0 t y)
+word_one text (Group s Disabled) (Group t DenyOnly) x y = absurd (apart x.1.0 (y.1.0 ++ codes "=") 61 100 (codes "off") (codes "eny") refl refl (sym x.1.1 ∙ y.1.1 ∙ sym (append_assoc y.1.0 (codes "=") (codes "deny"))))
+word_one text (Group s Disabled) (Group t Disabled) x y =
+    let front = append_cancel_right x.1.0 y.1.0 (codes "=off") (sym x.1.1 ∙ y.1.1) in
+    ap (λ a. Group a Disabled) (one_value sid_text y.1.0 s t (subst (λ xs. Spells sid_text xs s) front x.1.2) y.1.2)
+word_one text (Group s Disabled) Security x y = absurd (apart x.1.0 (codes "+secu") 61 114 (codes "off") (codes "ity") refl refl (sym x.1.1 ∙ y))
+word_one text (Group s Disabled) TakeOwnership x y = absurd (apart x.1.0 (codes "+") 61 116 (codes "off") (codes "ake") refl refl (sym x.1.1 ∙ y))
+word_one text (Group s Enabled) (Restricting t) x y = absurd (y.0 s x)
+word_one text (Group s DenyOnly) (Restricting t) x y = absurd (not_denied text y.1.0 x.1.0 y.1.1 x.1.1)
+word_one text (Group s Disabled) (Restricting t) x y = absurd (not_off text y.1.0 x.1.0 y.1.1 x.1.1)
+word_one text (Restricting s) (Group t Enabled) x y = absurd (x.0 t y)
+word_one text (Restricting s) (Group t DenyOnly) x y = absurd (not_denied text x.1.0 y.1.0 x.1.1 y.1.1)
+word_one text (Restricting s) (Group t Disabled) x y = absurd (not_off text x.1.0 y.1.0 x.1.1 y.1.1)
+word_one text (Restricting s) (Restricting t) x y =
+    let front = append_cancel_right x.1.0 y.1.0 (codes "=restrict") (sym x.1.1 ∙ y.1.1) in
+    ap Restricting (one_value sid_text y.1.0 s t (subst (λ xs. Spells sid_text xs s) front x.1.2) y.1.2)
+word_one text (Restricting s) Security x y = absurd (not_security text x.1.0 x.1.1 y)
+word_one text (Restricting s) TakeOwnership x y = absurd (not_take text x.1.0 x.1.1 y)
+word_one text Security (Restricting t) x y = absurd (not_security text y.1.0 y.1.1 x)
+word_one text TakeOwnership (Restricting t) x y = absurd (not_take text y.1.0 y.1.1 x)
+word_one text Security (Group t Enabled) x y = absurd (no_plus (codes "security") t (subst (λ xs. Spells sid_text xs t) x y))
+word_one text Security (Group t DenyOnly) x y = absurd (apart y.1.0 (codes "+sec") 61 117 (codes "deny") (codes "rity") refl refl (sym y.1.1 ∙ x))
+word_one text Security (Group t Disabled) x y = absurd (apart y.1.0 (codes "+secu") 61 114 (codes "off") (codes "ity") refl refl (sym y.1.1 ∙ x))
+word_one text Security Security x y = refl
+word_one text Security TakeOwnership x y = absurd (let no = sym x ∙ y in cc (no))
+word_one text TakeOwnership (Group t Enabled) x y = absurd (no_plus (codes "take") t (subst (λ xs. Spells sid_text xs t) x y))
+word_one text TakeOwnership (Group t DenyOnly) x y = absurd (apart y.1.0 [] 61 43 (codes "deny") (codes "take") refl refl (sym y.1.1 ∙ x))
+word_one text TakeOwnership (Group t Disabled) x y = absurd (apart y.1.0 (codes "+") 61 116 (codes "off") (codes "ake") refl refl (sym y.1.1 ∙ x))
+word_one text TakeOwnership Security x y = absurd (let no = sym x ∙ y in cc (no))
+word_one text TakeOwnership TakeOwnership x y = refl
+
+words_one : (texts : List (List ℕ)) (xs ys : List Word) → AreWords texts xs → AreWords texts ys → xs ≡ ys
+words_one [] [] [] x y = refl
+words_one [] [] (w ∷ ws) x y = absurd y
+words_one [] (v ∷ vs) ys x y = absurd x
+words_one (text ∷ texts) [] ys x y = absurd x
+words_one (text ∷ texts) (v ∷ vs) [] x y = absurd y
+words_one (text ∷ texts) (v ∷ vs) (w ∷ ws) x y = cc (word_one text v w x.0 y.0, words_one texts vs ws x.1 y.1)
+
+words_or_none : (texts : List (List ℕ)) (words : List Word) → AreWords texts words → IsNoWordIn texts → ⊥
+words_or_none [] words are none = none
+words_or_none (text ∷ texts) [] are none = are
+words_or_none (text ∷ texts) (word ∷ words) are (inl never) = never word are.0
+words_or_none (text ∷ texts) (word ∷ words) are (inr rest) = words_or_none texts words are.1 rest
+
+pub token_one : (user : SidValue) (texts : List (List ℕ)) (one other : TokenValue) → IsToken user texts one → IsToken user texts other → one ≡ other
+token_one user texts one other x y = x.2 ∙ ap (token_of user) (words_one texts x.0 y.0 x.1 y.1) ∙ sym y.2
+
+pub token_or_none : (user : SidValue) (texts : List (List ℕ)) (token : TokenValue) → IsToken user texts token → IsNoWordIn texts → ⊥
+token_or_none user texts token x none = words_or_none texts x.0 x.1 none
+
+-- a word that a text is, if it is a group; where it isn't, the text is none
+pub group_if : (r : Option Word) (text : List ℕ) (word : Word) → IsWord text word → r ≡ (if is_group word then Some word else None)
+    → IfSome r (IsGroupWord text) × IfNone r ((sid : SidValue) (state : GroupState) → IsGroup text sid state → ⊥)
+group_if r text (Group s st) is same = rw same ((refl, is), tt)
+group_if r text (Restricting s) is same = rw same (tt, λ sid state group. absurd (let no = word_one text (Restricting s) (Group sid state) is group in cc (no)))
+group_if r text Security is same = rw same (tt, λ sid state group. absurd (let no = word_one text Security (Group sid state) is group in cc (no)))
+group_if r text TakeOwnership is same = rw same (tt, λ sid state group. absurd (let no = word_one text TakeOwnership (Group sid state) is group in cc (no)))

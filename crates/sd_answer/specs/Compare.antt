@@ -1,0 +1,38 @@
+-- What `compare` prints: `same`, or the rights that tokens gain and those that they lose, with a token that shows it.
+use Rattle.std.specs.Prelude.{ℕ, ◌==◌, ◌&&◌, ◌||◌, if◌then◌else◌, List, ◌++◌, length, map, codes}
+use Rattle.std.specs.List.{flat_map}
+use Rattle.std.specs.Option.{option_to_list}
+use Rattle.sd_sid.specs.Sid.{SidValue}
+use Rattle.sd_text.specs.Canon.{full_canon}
+use Rattle.sd_analysis.specs.Sufficient.{Parts, is_named, restricting_of}
+use Rattle.sd_analysis.specs.declared.compare_report.Change.{Change}
+use Rattle.sd_analysis.specs.declared.witness.Witness.{Witness}
+use Rattle.sd_answer.specs.Answer.{line}
+use Rattle.sd_answer.specs.Lines.{LineValue, lines_text}
+use Rattle.sd_answer.specs.declared.answer.Spelling.{Spelling}
+
+-- the user: everyone, where neither descriptor names it
+abbrev pub user_text : Parts → Parts → SidValue → List ℕ
+user_text old new s = if is_named old s || is_named new s then full_canon s else codes "everyone"
+
+-- SIDs with an ending, as ` S-1-5-32-546=deny`
+abbrev pub arguments_text : List ℕ → List SidValue → List ℕ
+arguments_text ending sids = flat_map (λ (s : SidValue). codes " " ++ full_canon s ++ ending) sids
+
+-- the token beside the base: its user, a group for denies alone, and restricting SIDs
+abbrev pub witness_text : Parts → Parts → Witness → List ℕ
+witness_text old new w =
+    codes " by " ++ user_text old new w.first.allowed
+    ++ arguments_text (codes "=deny") (option_to_list w.first.denied)
+    ++ arguments_text (codes "=restrict") (restricting_of w.second)
+
+abbrev pub change_line : Parts → Parts → Change → LineValue
+change_line old new change = (change.mask, witness_text old new change.witness)
+
+abbrev pub changes_text : Spelling → List ℕ → Parts → Parts → List Change → List ℕ
+changes_text spelling head old new changes = lines_text spelling head (map (change_line old new) changes)
+
+abbrev pub compare_text : Spelling → Parts → Parts → List Change → List Change → List ℕ
+compare_text spelling old new gained lost =
+    if length gained == 0 && length lost == 0 then line (codes "same")
+    else changes_text spelling (codes "gained ") old new gained ++ changes_text spelling (codes "lost ") old new lost

@@ -1,0 +1,6 @@
+pub mod Answer
+pub mod Word
+pub mod Why
+pub mod Lines
+pub mod Who
+pub mod Compare

@@ -1,0 +1,49 @@
+-- Lines of bits: those of which the same is said are in one, and the lines are in the order of their lowest bits.
+use Rattle.std.specs.Prelude.{ℕ, zero, suc, ◌^◌, ◌%◌, Bool, ◌==◌, ◌&&◌, ◌||◌, if◌then◌else◌}
+use Rattle.std.specs.Prelude.{List, [], ◌∷◌, ◌++◌, map, string_bytes}
+use Rattle.std.specs.List.{flat_map}
+use Rattle.std.specs.Str.{bytes_eq}
+use Rattle.sd_sid.specs.Mask.{holds, mask_of}
+use Rattle.sd_answer.specs.Answer.{line, spelled}
+use Rattle.sd_answer.specs.declared.answer.Spelling.{Spelling}
+use Rattle.sd_answer.specs.declared.lines.BitsLine.{BitsLine}
+
+-- bits, and what their line says of them
+abbrev pub LineValue : Type 0
+LineValue = ℕ × List ℕ
+
+abbrev pub value_of : BitsLine → LineValue
+value_of one = (one.mask, string_bytes one.said)
+
+abbrev pub values : List BitsLine → List LineValue
+values lines = map value_of lines
+
+abbrev pub union : ℕ → ℕ → ℕ
+union mask other = mask_of (λ b. holds mask b || holds other b) 32
+
+-- with more bits: they join those of which the same is said, or have a line of their own
+abbrev pub joined : List LineValue → ℕ → List ℕ → List LineValue
+joined [] mask said = (mask, said) ∷ []
+joined (one ∷ lines) mask said =
+    if bytes_eq one.1 said then (union one.0 mask, one.1) ∷ lines else one ∷ joined lines mask said
+
+-- the bit is the lowest of the mask
+abbrev pub is_lowest : ℕ → ℕ → Bool
+is_lowest mask b = holds mask b && (mask % 2 ^ b == 0)
+
+-- a line, as `gained 0x2 by S-1-1-0`
+abbrev pub bits_line : Spelling → List ℕ → LineValue → List ℕ
+bits_line spelling head one = line (head ++ spelled spelling one.0 ++ one.1)
+
+-- the lines whose lowest bit is this one
+abbrev pub lines_at : Spelling → List ℕ → List LineValue → ℕ → List ℕ
+lines_at spelling head lines b =
+    flat_map (λ (one : LineValue). if is_lowest one.0 b then bits_line spelling head one else []) lines
+
+-- those of the bits below n, in order
+unfoldable pub lines_below : Spelling → List ℕ → List LineValue → ℕ → List ℕ
+lines_below spelling head lines zero = []
+lines_below spelling head lines (suc k) = lines_below spelling head lines k ++ lines_at spelling head lines k
+
+abbrev pub lines_text : Spelling → List ℕ → List LineValue → List ℕ
+lines_text spelling head lines = lines_below spelling head lines 32

@@ -1,0 +1,81 @@
+-- What `why` prints: the verdict's line, and one for each part of the answer, in the order of their least bits.
+use Rattle.std.specs.Prelude.{ℕ, zero, suc, ◌+◌, List, [], ◌++◌, Option, Some, None, slice_get, if◌then◌else◌}
+use Rattle.std.specs.Prelude.{codes}
+use Rattle.std.specs.Fmt.{decimal}
+use Rattle.sd_sid.specs.Sid.{SidValue}
+use Rattle.sd_sid.specs.Mapping.{MappingValue}
+use Rattle.sd_acl.specs.Descriptor.{DescriptorValue}
+use Rattle.sd_check.specs.Check.{subject, verdict, dacl_entries}
+use Rattle.sd_acl.specs.declared.ace.Ace.{Ace}
+use Rattle.sd_text.specs.Canon.{full_canon, entry_canon}
+use Rattle.sd_check.specs.Token.{TokenValue}
+use Rattle.sd_explain.specs.Reasons.{grants, reasons_of}
+use Rattle.sd_explain.specs.Parts.{part_at, reason_in}
+use Rattle.sd_explain.specs.declared.explanation.Part.{Part}
+use Rattle.sd_explain.specs.declared.reason.Finding.{Finding}
+use Rattle.sd_explain.specs.declared.reason.Finding.TheVariants.{Allowed, Denied, NoEntry}
+use Rattle.sd_explain.specs.declared.reason.Cause.{Cause}
+use Rattle.sd_explain.specs.declared.reason.Cause.TheVariants.{NoList, Listed, Restricted, Owner}
+use Rattle.sd_explain.specs.declared.reason.Cause.TheVariants.{TakeOwnership, Security, NoSecurity, BeyondAll, Reserved}
+use Rattle.sd_explain.specs.declared.reason.Reason.{Reason}
+use Rattle.sd_answer.specs.Answer.{line, spelled, spelled_verdict_line}
+use Rattle.sd_answer.specs.declared.answer.Spelling.{Spelling}
+
+-- the SID that the token stands for, in full
+abbrev pub subject_text : Option SidValue → List ℕ
+subject_text None = []
+subject_text (Some s) = full_canon s
+
+-- an entry, counted from 1 and printed as the canonical text prints it, and whom it speaks of
+abbrev pub entry_text : Option SidValue → ℕ → Option Ace → List ℕ
+entry_text owner place None = []
+entry_text owner place (Some e) =
+    codes "by entry " ++ decimal (place + 1) ++ codes " " ++ entry_canon e
+    ++ codes " as " ++ subject_text (subject owner e.sid)
+
+abbrev pub finding_text : Option SidValue → List Ace → Finding → List ℕ
+finding_text owner es (Allowed place) = entry_text owner place (slice_get es place)
+finding_text owner es (Denied place) = entry_text owner place (slice_get es place)
+finding_text owner es NoEntry = codes "by no entry"
+
+-- of a restricted token each pass has its own reason
+abbrev pub cause_text : Option SidValue → List Ace → Cause → List ℕ
+cause_text owner es NoList = codes "without a list"
+cause_text owner es (Listed finding) = finding_text owner es finding
+cause_text owner es (Restricted first second) =
+    finding_text owner es first ++ codes ", restricted " ++ finding_text owner es second
+cause_text owner es Owner = codes "to the owner"
+cause_text owner es TakeOwnership = codes "by SeTakeOwnershipPrivilege"
+cause_text owner es Security = codes "by SeSecurityPrivilege"
+cause_text owner es NoSecurity = codes "without SeSecurityPrivilege"
+cause_text owner es BeyondAll = codes "beyond GENERIC_ALL"
+cause_text owner es Reserved = codes "as reserved"
+
+abbrev pub verb_of : Cause → List ℕ
+verb_of cause = if grants cause then codes "granted" else codes "denied"
+
+abbrev pub part_line : Spelling → Option SidValue → List Ace → Part → List ℕ
+part_line spelling owner es part =
+    line (verb_of part.cause ++ codes " " ++ spelled spelling part.mask ++ codes " " ++ cause_text owner es part.cause)
+
+-- the line of the part that begins at a place, where one does
+abbrev pub line_at : Spelling → Option SidValue → List Ace → Option Part → List ℕ
+line_at spelling owner es None = []
+line_at spelling owner es (Some part) = part_line spelling owner es part
+
+-- those of the places below n, in order
+unfoldable pub part_lines : Spelling → Option SidValue → List Ace → (ℕ → Option Reason) → ℕ → List ℕ
+part_lines spelling owner es reasons zero = []
+part_lines spelling owner es reasons (suc k) =
+    part_lines spelling owner es reasons k ++ line_at spelling owner es (part_at reasons k)
+
+-- the entries of a DACL, of which an absent or a null one has none
+abbrev pub listed : Option (List Ace) → List Ace
+listed None = []
+listed (Some es) = es
+
+abbrev pub why_text : MappingValue → Spelling → DescriptorValue → TokenValue → ℕ → List ℕ
+why_text g spelling d t asked =
+    spelled_verdict_line (spelled spelling) (verdict d.owner (dacl_entries d.dacl) g t asked)
+    ++ part_lines spelling d.owner (listed (dacl_entries d.dacl))
+    (reason_in (reasons_of d.owner (dacl_entries d.dacl) g t asked)) 32

@@ -1,0 +1,64 @@
+//! The lines of verdicts and of invalid arguments, and how they spell masks.
+ghost use Rattle.std.specs.Prelude.{◌≡◌, IfOk, string_bytes};
+ghost use Rattle.sd_answer.specs.Answer.{fault_line, mask_digits, sddl_fault_line, spelled, verdict_line};
+
+use sd_check::Verdict;
+use sd_sid::Mask;
+use sd_text::{TextFault, print_mask_names};
+use std::alloc::{AllocError, Global};
+
+/// How a mask is spelled.
+#[derive(Clone, Copy, Debug, PartialEq, Eq)]
+pub enum Spelling {
+    /// As a number, as `0x160089`.
+    Number,
+    /// By names of rights ([MS-DTYP] 2.5.1.1, ace-rights), as `FR+WD`.
+    Names,
+}
+
+/// The mask in this spelling ([MS-DTYP] 2.4.3).
+pub fn spell(alloc: Global, spelling: Spelling, mask: Mask) -> Result<String, AllocError>
+    ensures { IfOk result (λ text. string_bytes text ≡ spelled spelling mask) }
+{
+    match spelling {
+        Spelling::Number => number_text(alloc, mask),
+        Spelling::Names => print_mask_names(alloc, mask),
+    }
+}
+
+fn number_text(alloc: Global, mask: Mask) -> Result<String, AllocError>
+    ensures { IfOk result (λ text. string_bytes text ≡ mask_digits mask) }
+{
+    let bits = mask.bits();
+    format!(in alloc; "0x{bits:x}")
+}
+
+/// The line of a verdict ([MS-DTYP] 2.5.3.2): `granted 0x1`, `denied 0x2`, `reserved 0x200000` or `empty`.
+pub fn verdict_line(alloc: Global, verdict: Verdict) -> Result<String, AllocError>
+    ensures { IfOk result (λ text. string_bytes text ≡ verdict_line verdict) }
+{
+    match verdict {
+        Verdict::Granted(mask) => format!(in alloc; "granted 0x{:x}\n", mask.bits()),
+        Verdict::Denied { missing } => format!(in alloc; "denied 0x{:x}\n", missing.bits()),
+        Verdict::Reserved(mask) => format!(in alloc; "reserved 0x{:x}\n", mask.bits()),
+        Verdict::EmptyRequest => String::from_str(alloc, "empty\n"),
+    }
+}
+
+/// The line of an invalid argument: what it should have been, as `fault sid`.
+pub fn fault_line(alloc: Global, what: &str) -> Result<String, AllocError>
+    ensures { IfOk result (λ text. string_bytes text ≡ fault_line what.now) }
+{
+    format!(in alloc; "fault {what}\n")
+}
+
+/// The line of a descriptor's text with a fault: its number, its name and its offset in bytes, as
+/// `fault sddl 6 DomainAlias at 2`.
+pub fn sddl_fault_line(alloc: Global, fault: TextFault, place: u64) -> Result<String, AllocError>
+    ensures { IfOk result (λ text. string_bytes text ≡ sddl_fault_line fault place) }
+{
+    let number = fault.number();
+    let name = fault.name();
+    let text = format!(in alloc; "fault sddl {number} {name} at {place}\n")?;
+    Ok(text)
+}

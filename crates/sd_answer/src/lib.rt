@@ -1,0 +1,24 @@
+//! The arguments of a question and the lines of its answer, which scripts and the command line have in common.
+//!
+//! A question's WORDs, as `BU` or `+security`, make its token. Its answer is a line of its verdict, and where reasons
+//! are asked for, a line for each part of the mask; or the line of the first argument that is invalid.
+//!
+//! ```text
+//! let token = read_token(alloc, user, &["BU", "S-1-5-21-1-2-3-512=deny", "+take"])?;
+//! verdict_line(alloc, verdict)?;  // granted 0x1
+//! spell(alloc, Spelling::Names, Mask(0x160089))?; // FR+WD
+//! ```
+#![tactic(auto)]
+
+mod answer;
+mod compare;
+mod lines;
+mod who;
+mod why;
+mod word;
+
+pub use answer::{Spelling, fault_line, sddl_fault_line, spell, verdict_line};
+pub use compare::compare_text;
+pub use who::who_text;
+pub use why::why_text;
+pub use word::{TokenError, read_base, read_token};

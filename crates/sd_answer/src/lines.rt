@@ -1,0 +1,104 @@
+//! Lines of bits: those of which the same is said are in one, and the lines are in the order of their lowest bits.
+ghost use Rattle.std.specs.Prelude.{◌≡◌, ◌<◌, ◌++◌, OnOk, if◌then◌else◌, string_bytes};
+ghost use Rattle.std.specs.List.{position};
+ghost use Rattle.std.specs.Str.{bytes_eq};
+ghost use Rattle.sd_answer.specs.declared.lines.BitsLine.{BitsLine as BitsLineValue};
+ghost use Rattle.sd_answer.specs.Lines.{bits_line, is_lowest, joined, lines_at, lines_text, value_of, values};
+
+use crate::answer::{Spelling, spell};
+use sd_sid::Mask;
+use std::alloc::{AllocError, Global};
+
+/// The places of a mask's bits ([MS-DTYP] 2.4.3).
+const PLACES: u32 = 32;
+
+/// Bits, and what their line says of them, as ` to everyone`.
+#[derive(Drop)]
+pub(crate) struct BitsLine {
+    pub(crate) mask: Mask,
+    pub(crate) said: String,
+}
+
+/// Adds bits, to those of which the same is said, if there are any.
+pub(crate) fn join(lines: &mut Vec<BitsLine>, mask: Mask, said: String) -> Result<(), AllocError>
+    ensures { OnOk result (values lines.new.items ≡ joined (values lines.old.items) mask (string_bytes said)) }
+{
+    if let Some(place) = place_of(lines, said.as_str()) {
+        let mask = lines[place].mask.union(mask);
+        lines[place].mask = mask;
+        return Ok(());
+    }
+    lines.push(BitsLine { mask, said })?;
+    Ok(())
+}
+
+/// The line that says this, if there is one.
+fn place_of(lines: &[BitsLine], said: &str) -> Option<usize>
+    ensures { result ≡ position (λ (one : BitsLineValue). bytes_eq (string_bytes one.said) said.now) lines.now }
+{
+    lines.iter().position(|one| one.said.as_str() == said)
+}
+
+/// Adds the lines to the text, each after this head.
+pub(crate) fn push_lines(
+    alloc: Global,
+    text: &mut String,
+    spelling: Spelling,
+    head: &str,
+    lines: &[BitsLine],
+) -> Result<(), AllocError>
+    ensures { OnOk result (string_bytes text.new
+        ≡ string_bytes text.old ++ lines_text spelling head.now (values lines.now)) }
+{
+    for place in 0..PLACES {
+        push_lines_at(alloc, text, spelling, head, lines, place)?;
+    }
+    Ok(())
+}
+
+/// Adds those whose lowest bit is at the place.
+fn push_lines_at(
+    alloc: Global,
+    text: &mut String,
+    spelling: Spelling,
+    head: &str,
+    lines: &[BitsLine],
+    place: u32,
+) -> Result<(), AllocError>
+    requires { place < 32 }
+    ensures { OnOk result (string_bytes text.new
+        ≡ string_bytes text.old ++ lines_at spelling head.now (values lines.now) place) }
+{
+    for line in lines {
+        if is_lowest(line.mask, place) {
+            push_line(alloc, text, spelling, head, line)?;
+        }
+    }
+    Ok(())
+}
+
+/// Adds a line.
+fn push_line(
+    alloc: Global,
+    text: &mut String,
+    spelling: Spelling,
+    head: &str,
+    line: &BitsLine,
+) -> Result<(), AllocError>
+    ensures { OnOk result (string_bytes text.new
+        ≡ string_bytes text.old ++ bits_line spelling head.now (value_of line.now)) }
+{
+    let mask = spell(alloc, spelling, line.mask)?;
+    let (mask, said) = (mask.as_str(), line.said.as_str());
+    let line = format!(in alloc; "{head}{mask}{said}\n")?;
+    text.push_str(line.as_str())?;
+    Ok(())
+}
+
+/// Whether the bit at the place is the lowest of the mask.
+fn is_lowest(mask: Mask, place: u32) -> bool
+    requires { place < 32 }
+    ensures { result ≡ is_lowest mask place }
+{
+    mask.holds(place) && mask.bits() % (1 << place) == 0
+}

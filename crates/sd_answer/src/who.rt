@@ -1,0 +1,130 @@
+//! The lines of `who`: rights, and whom they are granted to.
+ghost use Rattle.std.specs.Prelude.{◌≡◌, ◌++◌, IfOk, OnOk, List, codes, fold, string_bytes, take};
+ghost use Rattle.sd_text.specs.Canon.{full_canon};
+ghost use Rattle.sd_analysis.specs.declared.who_has.Alternative.{Alternative as AlternativeValue};
+ghost use Rattle.sd_answer.specs.Lines.{LineValue, joined, values};
+ghost use Rattle.sd_answer.specs.Who.{alternative_text, holder_text, sids_text, unless_text, who_text, with_access};
+
+use crate::answer::Spelling;
+use crate::lines::{BitsLine, join, push_lines};
+use sd_analysis::{Access, Alternative, Holder};
+use sd_sid::{Mask, Sid};
+use sd_text::print_full_sid;
+use std::alloc::{AllocError, Global};
+
+/// The lines of accesses, as `0x120000 to S-1-1-0 unless S-1-5-32-546`: rights with the same alternative are in one
+/// line, and the lines are in the order of their lowest rights. The only error is out of memory.
+pub fn who_text(
+    alloc: Global,
+    spelling: Spelling,
+    accesses: &[Access],
+) -> Result<String, AllocError>
+    ensures { IfOk result (λ text. string_bytes text ≡ who_text spelling accesses.now) }
+{
+    let mut lines = Vec::new(alloc);
+    for access in accesses {
+        join_access(alloc, &mut lines, access)?;
+    }
+    let mut text = String::new(alloc);
+    push_lines(alloc, &mut text, spelling, "", &lines)?;
+    Ok(text)
+}
+
+/// Adds the rights of an access.
+fn join_access(alloc: Global, lines: &mut Vec<BitsLine>, access: &Access) -> Result<(), AllocError>
+    ensures { OnOk result (values lines.new.items ≡ with_access (values lines.old.items) access.now) }
+{
+    if access.alternatives.is_empty() {
+        let nobody = String::from_str(alloc, " to nobody")?;
+        return join(lines, access.mask, nobody);
+    }
+    join_each(
+        alloc,
+        lines,
+        access.mask,
+        &access.denied,
+        &access.alternatives,
+    )
+}
+
+/// Adds the rights to the line of each alternative.
+fn join_each(
+    alloc: Global,
+    lines: &mut Vec<BitsLine>,
+    mask: Mask,
+    denied: &[Sid],
+    alternatives: &[Alternative],
+) -> Result<(), AllocError>
+    ensures { OnOk result (values lines.new.items
+        ≡ fold (λ (so_far : List LineValue) (a : AlternativeValue). joined so_far mask (alternative_text denied.now a))
+        (values lines.old.items) alternatives.now) }
+{
+    for alternative in alternatives {
+        let said = alternative_text(alloc, denied, alternative)?;
+        join(lines, mask, said)?;
+    }
+    Ok(())
+}
+
+/// Whom an alternative is for, and unless which SIDs are in the token.
+fn alternative_text(
+    alloc: Global,
+    denied: &[Sid],
+    alternative: &Alternative,
+) -> Result<String, AllocError>
+    ensures { IfOk result (λ text. string_bytes text ≡ alternative_text denied.now alternative.now) }
+{
+    let holder = holder_text(alloc, &alternative.holder)?;
+    let unless = unless_text(alloc, first(denied, alternative.unless))?;
+    let (holder, unless) = (holder.as_str(), unless.as_str());
+    let text = format!(in alloc; " to {holder}{unless}")?;
+    Ok(text)
+}
+
+/// The first n SIDs, or all of them.
+fn first(sids: &[Sid], n: usize) -> &[Sid]
+    ensures { result.now ≡ take n sids.now }
+{
+    if n < sids.len() { &sids[..n] } else { sids }
+}
+
+fn holder_text(alloc: Global, holder: &Holder) -> Result<String, AllocError>
+    ensures { IfOk result (λ text. string_bytes text ≡ holder_text holder.now) }
+{
+    match holder {
+        Holder::Everyone => String::from_str(alloc, "everyone"),
+        Holder::Sid(sid) => print_full_sid(alloc, sid),
+        Holder::Owner(sid) => owner_text(alloc, sid),
+    }
+}
+
+fn owner_text(alloc: Global, sid: &Sid) -> Result<String, AllocError>
+    ensures { IfOk result (λ text. string_bytes text ≡ full_canon sid.now ++ codes " as the owner") }
+{
+    let mut text = print_full_sid(alloc, sid)?;
+    text.push_str(" as the owner")?;
+    Ok(text)
+}
+
+fn unless_text(alloc: Global, sids: &[Sid]) -> Result<String, AllocError>
+    ensures { IfOk result (λ text. string_bytes text ≡ unless_text sids.now) }
+{
+    if sids.is_empty() {
+        return Ok(String::new(alloc));
+    }
+    let mut text = String::from_str(alloc, " unless")?;
+    push_sids(alloc, &mut text, sids)?;
+    Ok(text)
+}
+
+/// Adds SIDs in full, each after a space ([MS-DTYP] 2.4.2.1).
+fn push_sids(alloc: Global, text: &mut String, sids: &[Sid]) -> Result<(), AllocError>
+    ensures { OnOk result (string_bytes text.new ≡ string_bytes text.old ++ sids_text sids.now) }
+{
+    for sid in sids {
+        let sid = print_full_sid(alloc, sid)?;
+        text.push_str(" ")?;
+        text.push_str(sid.as_str())?;
+    }
+    Ok(())
+}

@@ -1,0 +1,215 @@
+//! The lines of `why`: the verdict, and the reason of each bit.
+ghost use Rattle.std.specs.Prelude.{◌≡◌, ◌++◌, IfOk, OnOk, slice_get, string_bytes};
+ghost use Rattle.sd_check.specs.Check.{subject, dacl_entries};
+ghost use Rattle.sd_acl.specs.Descriptor.{descriptor_of};
+ghost use Rattle.sd_explain.specs.Parts.{reason_in};
+ghost use Rattle.sd_answer.specs.Answer.{line, spelled, spelled_verdict_line};
+ghost use Rattle.sd_answer.specs.Why.{cause_text, entry_text, finding_text, line_at, listed, part_line, part_lines};
+ghost use Rattle.sd_answer.specs.Why.{subject_text, verb_of, why_text};
+
+use crate::answer::{Spelling, spell};
+use sd_acl::{Ace, Dacl, Descriptor};
+use sd_check::{Token, Verdict, subject_of};
+use sd_explain::{Cause, Explanation, Finding, PLACES, Part, explain_descriptor};
+use sd_sid::{GenericMapping, Mask, Sid};
+use sd_text::{print_entry, print_full_sid};
+use std::alloc::{AllocError, Global};
+
+/// The lines of an explanation: the verdict's, and one for each part, as `denied 0x2 by entry 1 (D;;0x2;;;BU) as
+/// S-1-5-32-545` ([MS-DTYP] 2.5.3.2).
+pub fn why_text(
+    alloc: Global,
+    mapping: &GenericMapping,
+    spelling: Spelling,
+    descriptor: &Descriptor,
+    token: &Token,
+    asked: Mask,
+) -> Result<String, AllocError>
+    ensures { IfOk result (λ text. string_bytes text
+        ≡ why_text mapping.now spelling (descriptor_of descriptor.now) token.now asked) }
+{
+    let explanation = explain_descriptor(descriptor, mapping, token, asked);
+    let list = Listed {
+        spelling,
+        owner: &descriptor.owner,
+        entries: entries_in(&descriptor.dacl),
+    };
+    let mut text = spelled_verdict_line(alloc, spelling, explanation.verdict())?;
+    list.push_parts(alloc, &mut text, &explanation)?;
+    Ok(text)
+}
+
+fn spelled_verdict_line(
+    alloc: Global,
+    spelling: Spelling,
+    verdict: Verdict,
+) -> Result<String, AllocError>
+    ensures { IfOk result (λ text. string_bytes text ≡ spelled_verdict_line (spelled spelling) verdict) }
+{
+    match verdict {
+        Verdict::Granted(mask) => spelled_line(alloc, "granted ", spelling, mask),
+        Verdict::Denied { missing } => spelled_line(alloc, "denied ", spelling, missing),
+        Verdict::Reserved(mask) => spelled_line(alloc, "reserved ", spelling, mask),
+        Verdict::EmptyRequest => String::from_str(alloc, "empty\n"),
+    }
+}
+
+/// A line that ends with a mask.
+fn spelled_line(
+    alloc: Global,
+    head: &str,
+    spelling: Spelling,
+    mask: Mask,
+) -> Result<String, AllocError>
+    ensures { IfOk result (λ text. string_bytes text ≡ line (head.now ++ spelled spelling mask)) }
+{
+    let mask = spell(alloc, spelling, mask)?;
+    let mask = mask.as_str();
+    let text = format!(in alloc; "{head}{mask}\n")?;
+    Ok(text)
+}
+
+/// The entries of the DACL, where it has a list.
+fn entries_in(dacl: &Dacl) -> &[Ace]
+    ensures { result.now ≡ listed (dacl_entries dacl.now) }
+{
+    match dacl {
+        Dacl::Absent => &[],
+        Dacl::Null => &[],
+        Dacl::List(list) => list.entries(),
+    }
+}
+
+/// What the lines name: the entries, and the owner for whom those of OWNER RIGHTS stand; and how they spell masks.
+#[derive(Clone, Copy)]
+struct Listed<'a> {
+    spelling: Spelling,
+    owner: &'a Option<Sid>,
+    entries: &'a [Ace],
+}
+
+impl Listed<'_> {
+    /// Adds the line of each part, in the order of their least bits.
+    fn push_parts(
+        &self,
+        alloc: Global,
+        text: &mut String,
+        explanation: &Explanation,
+    ) -> Result<(), AllocError>
+        ensures { OnOk result (string_bytes text.new ≡ string_bytes text.old
+            ++ part_lines self.now.spelling self.now.owner.now self.now.entries.now
+            (reason_in explanation.now.reasons) 32) }
+    {
+        for place in 0..PLACES {
+            let line = self.line_at(alloc, explanation.part(place))?;
+            text.push_str(line.as_str())?;
+        }
+        Ok(())
+    }
+
+    /// The line of a part, where there is one.
+    fn line_at(&self, alloc: Global, part: Option<Part>) -> Result<String, AllocError>
+        ensures { IfOk result (λ text. string_bytes text
+            ≡ line_at self.now.spelling self.now.owner.now self.now.entries.now part) }
+    {
+        match part {
+            None => Ok(String::new(alloc)),
+            Some(part) => self.part_line(alloc, part),
+        }
+    }
+
+    /// A part's line.
+    fn part_line(&self, alloc: Global, part: Part) -> Result<String, AllocError>
+        ensures { IfOk result (λ text. string_bytes text
+            ≡ part_line self.now.spelling self.now.owner.now self.now.entries.now part) }
+    {
+        let verb = verb(part.cause);
+        let mask = spell(alloc, self.spelling, part.mask)?;
+        let cause = self.cause_text(alloc, part.cause)?;
+        let (mask, cause) = (mask.as_str(), cause.as_str());
+        let line = format!(in alloc; "{verb} {mask} {cause}\n")?;
+        Ok(line)
+    }
+
+    /// Why, in words.
+    fn cause_text(&self, alloc: Global, cause: Cause) -> Result<String, AllocError>
+        ensures { IfOk result (λ text. string_bytes text
+            ≡ cause_text self.now.owner.now self.now.entries.now cause) }
+    {
+        match cause {
+            Cause::NoList => String::from_str(alloc, "without a list"),
+            Cause::Listed(finding) => self.finding_text(alloc, finding),
+            Cause::Restricted(first, second) => self.restricted_text(alloc, first, second),
+            Cause::Owner => String::from_str(alloc, "to the owner"),
+            Cause::TakeOwnership => String::from_str(alloc, "by SeTakeOwnershipPrivilege"),
+            Cause::Security => String::from_str(alloc, "by SeSecurityPrivilege"),
+            Cause::NoSecurity => String::from_str(alloc, "without SeSecurityPrivilege"),
+            Cause::BeyondAll => String::from_str(alloc, "beyond GENERIC_ALL"),
+            Cause::Reserved => String::from_str(alloc, "as reserved"),
+        }
+    }
+
+    /// Of a restricted token, each pass by itself.
+    fn restricted_text(
+        &self,
+        alloc: Global,
+        first: Finding,
+        second: Finding,
+    ) -> Result<String, AllocError>
+        ensures { IfOk result (λ text. string_bytes text
+            ≡ cause_text self.now.owner.now self.now.entries.now (Cause.Restricted first second)) }
+    {
+        let first = self.finding_text(alloc, first)?;
+        let second = self.finding_text(alloc, second)?;
+        let (first, second) = (first.as_str(), second.as_str());
+        let text = format!(in alloc; "{first}, restricted {second}")?;
+        Ok(text)
+    }
+
+    /// What a pass found.
+    fn finding_text(&self, alloc: Global, finding: Finding) -> Result<String, AllocError>
+        ensures { IfOk result (λ text. string_bytes text
+            ≡ finding_text self.now.owner.now self.now.entries.now finding) }
+    {
+        match finding {
+            Finding::Allowed(place) => self.entry_text(alloc, place),
+            Finding::Denied(place) => self.entry_text(alloc, place),
+            Finding::NoEntry => String::from_str(alloc, "by no entry"),
+        }
+    }
+
+    /// The entry at the place, where there is one.
+    fn entry_text(&self, alloc: Global, place: usize) -> Result<String, AllocError>
+        ensures { IfOk result (λ text. string_bytes text
+            ≡ entry_text self.now.owner.now place (slice_get self.now.entries.now place)) }
+    {
+        match self.entries.get(place) {
+            None => String::from_str(alloc, ""),
+            Some(entry) => {
+                let number = place + 1;
+                let whom = self.subject_text(alloc, &entry.sid)?;
+                let entry = print_entry(alloc, entry)?;
+                let (entry, whom) = (entry.as_str(), whom.as_str());
+                let text = format!(in alloc; "by entry {number} {entry} as {whom}")?;
+                Ok(text)
+            }
+        }
+    }
+
+    /// Whom an entry for the SID speaks of, in full.
+    fn subject_text(&self, alloc: Global, sid: &Sid) -> Result<String, AllocError>
+        ensures { IfOk result (λ text. string_bytes text ≡ subject_text (subject self.now.owner.now sid.now)) }
+    {
+        match subject_of(self.owner, sid) {
+            None => String::from_str(alloc, ""),
+            Some(subject) => print_full_sid(alloc, subject),
+        }
+    }
+}
+
+/// What becomes of a bit of the cause.
+fn verb(cause: Cause) -> &'static str
+    ensures { result.now ≡ verb_of cause }
+{
+    if cause.grants() { "granted" } else { "denied" }
+}

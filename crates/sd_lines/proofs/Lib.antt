@@ -1,0 +1,4 @@
+pub mod Cutting
+pub mod Ends
+pub mod Parts
+pub mod Steps

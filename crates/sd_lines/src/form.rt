@@ -1,0 +1,50 @@
+//! What lines are, and when their answers are written.
+
+ghost use Rattle.std.specs.Prelude.{◌≡◌, ◌<◌, ◌++◌, length, option_map};
+ghost use Rattle.sd_lines.specs.Lines.{asked_of};
+
+use crate::ending::Ending;
+use sd_stream::MAX_INPUT_BYTES;
+
+/// What the lines of an input are, and when their answers are written.
+#[derive(Clone, Copy, Debug, PartialEq, Eq)]
+pub struct Form {
+    /// What ends a line.
+    pub ending: Ending,
+    /// Whether a byte order mark before the first line is no part of it.
+    pub skips_mark: bool,
+    /// Whether a line of more than 16,777,216 bytes ends the run. If not, it is answered without its text.
+    pub stops_at_long: bool,
+    /// Whether each answer is written before the next line is answered. If not, the answers to all lines that end in
+    /// the bytes of one read are written together.
+    pub line_by_line: bool,
+}
+
+impl Form {
+    /// What is asked of a line: its text, or `None` where it is too long and that doesn't end the run.
+    pub(crate) fn asked(self, line: &[u8]) -> Option<&[u8]>
+        ensures { option_map (λ bytes. bytes.now) result ≡ asked_of self line.now }
+    {
+        if self.stops_at_long || line.len() <= MAX_INPUT_BYTES {
+            Some(line)
+        } else {
+            None
+        }
+    }
+
+    /// The bytes whose answers are written together, and those after them.
+    pub(crate) fn part(self, bytes: &[u8]) -> (&[u8], &[u8])
+        ensures parts { bytes.now ≡ result.0.now ++ result.1.now }
+        ensures some { 0 < length bytes.now → 0 < length result.0.now }
+    {
+        if !self.line_by_line {
+            return (bytes, &bytes[bytes.len()..]);
+        }
+        let end = self.ending.place(bytes);
+        if end < bytes.len() {
+            (&bytes[..end + 1], &bytes[end + 1..])
+        } else {
+            (bytes, &bytes[bytes.len()..])
+        }
+    }
+}

@@ -1,0 +1,64 @@
+//! The lines of one stream, and their answers in another.
+
+ghost use Rattle.std.specs.Prelude.{◌≡◌, ◌||◌, IfErr, OnOk};
+ghost use Rattle.sd_stream.specs.Watched.{inner_of, has_failed};
+ghost use Rattle.sd_stream.specs.Whole.{is_read_error, is_write_error};
+ghost use Rattle.sd_lines.specs.Answers.{Prints, PrintsAndLeaves};
+ghost use Rattle.sd_lines.specs.Output.{AppendsOutput, LeavesAnswers};
+
+use crate::answers::Answers;
+use crate::begun::Begun;
+use crate::form::Form;
+use crate::part::{answer_last, answer_parts};
+use sd_stream::{RunError, Watched};
+use std::alloc::Global;
+use std::io::{Read, Write};
+
+/// The bytes that one read is asked for: as many as a pipe holds.
+const BUFFER_BYTES: usize = 65536;
+
+/// Reads an input to its end, and writes the answer to each of its lines. The lines that end in the bytes of one read
+/// are answered, and the answers flushed, before more is read. The last line may lack its end. There is no limit on the
+/// number of lines.
+///
+/// - `Read`: the reader failed; the lines that had ended are answered.
+/// - `TooLong`: a line is too long, and `Form` says that this ends the run; the lines before it are answered.
+/// - `Write`: the writer failed; a prefix of the answers to what was read was written.
+/// - `Memory`: out of memory; the lines that ended in the reads before are answered, and line by line all before the
+///   one whose answer failed.
+pub fn answer_lines<A: Answers, R: Read, W: Write>(
+    alloc: Global,
+    answers: &A,
+    state: &mut A::State,
+    form: Form,
+    reader: &mut Watched<R>,
+    writer: &mut Watched<W>,
+) -> Result<(), RunError>
+    ensures ok { OnOk result (AppendsOutput
+        (λ text printed. PrintsAndLeaves form (A.answers answers.now) state.old text printed state.new)
+        (R.remaining (inner_of reader.old))
+        (W.contents (inner_of writer.old)) (W.contents (inner_of writer.new))) }
+    ensures err { IfErr result (LeavesAnswers form (Prints form (A.answers answers.now) state.old)
+        (R.remaining (inner_of reader.old)) (R.remaining (inner_of reader.new))
+        (W.contents (inner_of writer.old)) (W.contents (inner_of writer.new))) }
+    ensures read { has_failed reader.new ≡ (has_failed reader.old || is_read_error result) }
+    ensures write { has_failed writer.new ≡ (has_failed writer.old || is_write_error result) }
+{
+    let mut line = Begun::new(alloc, form);
+    let mut text = Vec::new(alloc);
+    let mut buffer = [0u8; BUFFER_BYTES];
+    for _ in 0..u64::MAX {
+        match reader.read(&mut buffer) {
+            Err(_) => return Err(RunError::Read),
+            Ok(0) => return answer_last(alloc, answers, state, form, &line, &mut text, writer),
+            Ok(count) => {
+                let bytes = &buffer[..count];
+                answer_parts(
+                    alloc, answers, state, form, &mut line, bytes, &mut text, writer,
+                )?;
+            }
+        }
+    }
+    // (no run gets here)
+    Err(RunError::Memory)
+}

@@ -1,0 +1,105 @@
+-- A line whose first word is no id is no command.
+use Rattle.std.proofs.Common.{◌≡◌, ◌≤◌, ℕ, Bool, true, false, List, [], ◌∷◌, length, Option, Some, None, Ok, ap, arith, inl, inr, refl, sym, ◌∙◌}
+use Rattle.std.specs.Prelude.{◌++◌, ◌==◌, MatchBool, bytes_eq, codes, if◌then◌else◌, is_some, nat_lt, option_and_then, take}
+use Rattle.std.specs.List.{list_any}
+use Rattle.std.proofs.lemmas.Bool.Decides.{nat_tests}
+use Rattle.std.proofs.lemmas.List.{take_all}
+use Rattle.std.proofs.lemmas.List.Splits.{slice_split_first, slice_split_none}
+use Rattle.std.proofs.lemmas.List.Sums.{fails_before_first}
+use Rattle.std.proofs.lemmas.Slice.Eq.{bytes_eq-Decides}
+use Rattle.sd_script.specs.Command.{CommandValue, command_named, command_of, is_empty, line_asks}
+use Rattle.sd_script.specs.Lines.{is_silent, words_of}
+use Rattle.sd_script.specs.Output.{IsAnswered, IsTold, closing_of, is_open, manner_of}
+use Rattle.sd_script.specs.declared.asked.Asked.{Asked}
+use Rattle.sd_script.specs.declared.paths.PathSpelling.{PathSpelling}
+use Rattle.sd_script.specs.declared.session.Session.{Session}
+use Rattle.sd_script.specs.Ids.{NoCommandWithoutAnId, asked_of, is_id, word_len}
+
+-- a word that is this name, or another one
+one_of : {A : Type 0} → (word name : List ℕ) (found : A) (others : Option A)
+    → is_id name ≡ true → (is_some others ≡ true → is_id word ≡ true)
+    → is_some (if bytes_eq word name then Some found else others) ≡ true → is_id word ≡ true
+one_of {A} word name found others named next is = by_test (bytes_eq word name) refl is where
+  by_test : (test : Bool) → bytes_eq word name ≡ test → is_some (if test then Some found else others) ≡ true
+      → is_id word ≡ true
+  by_test true same is = let equal : word ≡ name = (bytes_eq-Decides word name).0 same in rw equal named
+  by_test false other is = next is
+
+name_is_id : (word : List ℕ) → is_some (command_named word) ≡ true → is_id word ≡ true
+name_is_id word =
+    one_of word (codes "open") _ _ refl
+    (one_of word (codes "addc") _ _ refl
+    (one_of word (codes "addo") _ _ refl
+    (one_of word (codes "owner") _ _ refl
+    (one_of word (codes "group") _ _ refl
+    (one_of word (codes "dacl") _ _ refl
+    (one_of word (codes "remove") _ _ refl
+    (one_of word (codes "protect") _ _ refl
+    (one_of word (codes "move") _ _ refl
+    (one_of word (codes "publish") _ _ refl
+    (one_of word (codes "tell") _ _ refl
+    (one_of word (codes "learn") _ _ refl
+    (one_of word (codes "check") _ _ refl
+    (one_of word (codes "why") _ _ refl
+    (one_of word (codes "show") _ _ refl
+    (one_of word (codes "list") _ _ refl
+    (one_of word (codes "dump") _ _ refl
+    (one_of word (codes "import") _ _ refl
+    (λ none. cc))))))))))))))))))
+
+-- the first of a line's words
+first_word : (line : List ℕ) → (words : List (List ℕ)) × (words_of line ≡ take (word_len line) line ∷ words)
+first_word line = by_test (nat_lt (word_len line) (length line)) refl where
+  by_test : (test : Bool) → nat_lt (word_len line) (length line) ≡ test
+      → (words : List (List ℕ)) × (words_of line ≡ take (word_len line) line ∷ words)
+  by_test true low = (_, slice_split_first (λ b. b == 0x20) line 0 (grind (arith, nat_tests, low)))
+  by_test false none =
+      let long : length line ≤ word_len line = grind (arith, nat_tests, none) in (
+        [],
+        slice_split_none (λ b. b == 0x20) line
+            (λ k d low. fails_before_first (λ b. b == 0x20) line k d (omega (arith, low, long)))
+            ∙ ap (λ word. word ∷ []) (sym (take_all (word_len line) line long)),
+      )
+
+neither : (test : Bool) (other : Option CommandValue) → other ≡ None → (if test then None else other) ≡ None
+neither true other is = refl
+neither false other is = is
+
+nothing_then : {A B : Type 0} → (named : Option A) (next : A → Option B) → (is_some named ≡ true → ⊥)
+    → option_and_then next named ≡ None
+nothing_then (Some x) next isnt = absurd (isnt refl)
+nothing_then None next isnt = refl
+
+no_name : (words : List (List ℕ)) (word : List ℕ) → is_id word ≡ false → command_of (word ∷ words) ≡ None
+no_name words word none =
+    neither (list_any is_empty (word ∷ words)) _
+    (nothing_then (command_named word) _ (λ named. cc (name_is_id word named, none)))
+
+no_command : (line : List ℕ) → is_id (take (word_len line) line) ≡ false → command_of (words_of line) ≡ None
+no_command line none =
+    let first = first_word line in
+    rw (first.1) (no_name first.0 (take (word_len line) line) none)
+
+-- so it asks for nothing
+asks_nothing : (paths : PathSpelling) (is_open : Bool) (line : List ℕ) (asked : Asked)
+    → is_id (take (word_len line) line) ≡ false → line_asks paths is_open line (Ok asked) → ⊥
+asks_nothing paths is_open line asked none (inl (utf8, asks)) = absurd (cc (rw (no_command line none) at asks))
+asks_nothing paths is_open line asked none (inr (other, is)) = absurd (cc is)
+
+unchanged : (old new : Session) (line answer : List ℕ)
+    → is_id (take (word_len line) line) ≡ false → IsAnswered old line answer new → new ≡ old
+unchanged old new line answer none answered = by_test (is_silent line) answered where
+  by_told : (told : List ℕ) → IsTold old line told new → new ≡ old
+  by_told told (inl (asked, asks, done)) =
+      absurd (asks_nothing (manner_of old).paths (is_open old) line asked none asks)
+  by_told told (inr (fault, asks, is, same)) = same
+
+  by_test : (test : Bool) → MatchBool test ((answer ≡ []) × (new ≡ old))
+      ((told : List ℕ) × IsTold old line told new × (answer ≡ told ++ closing_of line)) → new ≡ old
+  by_test true said = said.1
+  by_test false said = by_told said.0 said.1
+
+pub no_command_without_an_id : NoCommandWithoutAnId
+no_command_without_an_id old new line printed none next =
+    let whole : asked_of line ≡ line = rw none refl in
+    unchanged old.session new.session line next.0 none (rw whole at next.1.answered)

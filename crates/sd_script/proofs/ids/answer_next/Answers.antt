@@ -1,0 +1,20 @@
+-- With ids what the line asks is answered, with its tag.
+use Rattle.std.proofs.Common.{◌≡◌, ℕ, Bool, true, false, List}
+use Rattle.std.proofs.lemmas.Result.{IfOk-weaker}
+use Rattle.sd_script.specs.Output.{IsNext}
+use Rattle.sd_script.specs.declared.carried.Carried.{Carried}
+use Rattle.sd_script.specs.Ids.{IsNextIn, asked_of, tag_of, tagged}
+use Rattle.sd_script.proofs.ids.answer_next.Goals as goal
+
+with_tag : (has_ids : Bool) (old new : Carried) (line tag asked answer bytes printed : List ℕ)
+    → has_ids ≡ true → tag ≡ tag_of line → asked ≡ asked_of line → IsNext old asked answer new
+    → bytes ≡ answer → printed ≡ tagged tag true bytes → IsNextIn has_ids old line printed new
+with_tag true old new line tag asked answer bytes printed is first rest next same whole =
+    (answer, rw rest at next, rw (first, same) at whole)
+with_tag false old new line tag asked answer bytes printed is first rest next same whole = absurd (cc is)
+
+pub returns : goal.returns
+returns c = IfOk-weaker c.tagged.result _ _
+    (λ printed is. with_tag _ _ _ _ _ _ _ _ _ c.if-not-has_ids.false c.parted.ensures.tag c.parted.ensures.asked
+    c.in_ok-answer-2.ensures c.as_bytes.ensures.value is)
+    c.tagged.ensures

@@ -1,0 +1,61 @@
+-- Lines with ids: a line is an id and what it asks, and each line of its answer begins with the id.
+use Rattle.std.specs.Prelude.{◌≡◌, ℕ, ◌+◌, Bool, true, false, not, ◌&&◌, ◌==◌, List, [], ◌∷◌, ◌++◌, length, take, drop, min, if◌then◌else◌}
+use Rattle.std.specs.Char.{is_ascii_graphic}
+use Rattle.std.specs.List.{list_all, position_or_len}
+use Rattle.std.specs.Str.Lines.{lines}
+use Rattle.sd_script.specs.Lines.{is_silent}
+use Rattle.sd_lines.specs.Answers.{AreAnswered}
+use Rattle.sd_script.specs.Output.{IsNext, begun}
+use Rattle.sd_script.specs.declared.carried.Carried.{Carried}
+use Rattle.sd_script.specs.declared.manner.Manner.{Manner}
+use Rattle.sd_script.specs.declared.tally.Tally.{Tally}
+
+-- ---- of one line
+
+-- the bytes before the first space
+abbrev pub word_len : List ℕ → ℕ
+word_len line = position_or_len (λ b. b == 0x20) line
+
+-- a word is an id: it isn't empty, doesn't begin with `#`, and has printable ASCII characters alone
+abbrev pub is_id : List ℕ → Bool
+is_id word = not (is_silent word) && list_all is_ascii_graphic word
+
+-- the bytes of a line's id and of the space after it; none where the first word is no id
+abbrev pub tag_len : List ℕ → ℕ
+tag_len line = if is_id (take (word_len line) line) then min (length line) (word_len line + 1) else 0
+
+-- what each line of the answer begins with, and what is answered
+abbrev pub tag_of : List ℕ → List ℕ
+tag_of line = take (tag_len line) line
+
+abbrev pub asked_of : List ℕ → List ℕ
+asked_of line = drop (tag_len line) line
+
+-- a text with the tag at the beginning of each line, where the first may have begun before
+abbrev pub tagged : List ℕ → Bool → List ℕ → List ℕ
+tagged tag begins [] = []
+tagged tag begins (b ∷ bs) = (if begins then tag else []) ++ b ∷ tagged tag (b == 10) bs
+
+-- ---- of a script
+
+-- a line is answered, and counted: in a script; or with ids what it asks, with its tag
+abbrev pub IsNextIn : Bool → Carried → List ℕ → List ℕ → Carried → Type 0
+IsNextIn false old line printed new = IsNext old line printed new
+IsNextIn true old line printed new =
+    (answer : List ℕ) × IsNext old (asked_of line) answer new × (printed ≡ tagged (tag_of line) true answer)
+
+-- the whole output, and what is counted of it: without ids it is that of the script
+abbrev pub PrintsAndCountsIn : Bool → Manner → List ℕ → List ℕ → Tally → Type 0
+PrintsAndCountsIn has_ids manner text printed tally =
+    (last : Carried) × AreAnswered (IsNextIn has_ids) (begun manner) (lines text) printed last × (tally ≡ last.tally)
+
+abbrev pub PrintsIn : Bool → Manner → List ℕ → List ℕ → Type 0
+PrintsIn has_ids manner text printed =
+    (last : Carried) × AreAnswered (IsNextIn has_ids) (begun manner) (lines text) printed last
+
+-- ---- a law
+
+-- a line whose first word is no id changes nothing
+abbrev pub NoCommandWithoutAnId : Type 0
+NoCommandWithoutAnId = (old new : Carried) (line printed : List ℕ)
+    → is_id (take (word_len line) line) ≡ false → IsNextIn true old line printed new → new.session ≡ old.session

@@ -1,0 +1,120 @@
+//! How each line of a script is answered; with ids, each line of its answer begins with the line's id.
+
+ghost use Rattle.std.specs.Prelude.{◌≡◌, ◌≤◌, true, length, IfOk, IfSome};
+ghost use Rattle.sd_script.specs.Ids.{IsNextIn, asked_of, is_id, tag_len, tag_of, tagged, word_len};
+
+use crate::carried::Carried;
+use crate::lines::is_silent;
+use crate::script::answer_line;
+use sd_lines::{Answers, Ending, Form};
+use std::alloc::{AllocError, Global};
+
+/// The lines of a script. One that is too long ends it, and each answer is written before the next line is answered.
+pub const LINES: Form = Form {
+    ending: Ending::Feed,
+    skips_mark: false,
+    stops_at_long: true,
+    line_by_line: true,
+};
+
+/// A script, whose lines begin with ids or don't.
+#[derive(Clone, Copy, Debug)]
+pub(crate) struct Script {
+    pub(crate) has_ids: bool,
+}
+
+impl Answers for Script {
+    type State = Carried;
+
+    ghost answers = { λ script old line printed new. IfSome line (λ text. IsNextIn script.has_ids old text printed new) };
+
+    fn answer(
+        &self,
+        alloc: Global,
+        carried: &mut Carried,
+        line: Option<&[u8]>,
+        text: &mut Vec<u8>,
+    ) -> Result<(), AllocError> {
+        let Some(line) = line else {
+            // (a line that is too long has ended the script)
+            return Ok(());
+        };
+        let answer = answer_next(alloc, self.has_ids, carried, line)?;
+        text.extend_from_slice(&answer)
+    }
+}
+
+/// What a line is answered by, and counted: as in a script, or with ids what it asks, with its id. The only error is
+/// out of memory.
+fn answer_next(
+    alloc: Global,
+    has_ids: bool,
+    carried: &mut Carried,
+    line: &[u8],
+) -> Result<Vec<u8>, AllocError>
+    ensures { IfOk result (λ printed. IsNextIn has_ids carried.old line.now printed.items carried.new) }
+{
+    if !has_ids {
+        let answer = answer_line(alloc, carried, line)?;
+        return Ok(answer.into_bytes());
+    }
+    let (tag, asked) = parted(line);
+    let answer = answer_line(alloc, carried, asked)?;
+    tagged(alloc, tag, answer.as_bytes())
+}
+
+/// A line's id with the space after it, and what it asks. A line whose first word is no id asks all that it is.
+fn parted(line: &[u8]) -> (&[u8], &[u8])
+    ensures tag { result.0.now ≡ tag_of line.now }
+    ensures asked { result.1.now ≡ asked_of line.now }
+{
+    let len = tag_len(line);
+    (&line[..len], &line[len..])
+}
+
+/// The bytes of a line's id and of the space after it.
+fn tag_len(line: &[u8]) -> usize
+    ensures len { result ≡ tag_len line.now }
+    ensures within { result ≤ length line.now }
+{
+    let len = word_len(line);
+    if is_id(&line[..len]) {
+        line.len().min(len + 1)
+    } else {
+        0
+    }
+}
+
+/// The bytes before the first space.
+fn word_len(line: &[u8]) -> usize
+    ensures len { result ≡ word_len line.now }
+    ensures within { result ≤ length line.now }
+{
+    match line.iter().position(|b| *b == b' ') {
+        Some(len) => len,
+        None => line.len(),
+    }
+}
+
+/// Whether a word is an id: it isn't empty, doesn't begin with `#`, and has printable ASCII characters alone.
+fn is_id(word: &[u8]) -> bool
+    ensures { result ≡ is_id word.now }
+{
+    !is_silent(word) && word.iter().all(|b| b.is_ascii_graphic())
+}
+
+/// A text, each line of which begins with the tag. The only error is out of memory.
+fn tagged(alloc: Global, tag: &[u8], text: &[u8]) -> Result<Vec<u8>, AllocError>
+    ensures { IfOk result (λ lines. lines.items ≡ tagged tag.now true text.now) }
+{
+    let mut lines = Vec::new(alloc);
+    let mut begins = true;
+    for byte in text {
+        if begins {
+            lines.extend_from_slice(tag)?;
+        }
+        lines.push(*byte)?;
+        begins = *byte == b'\n';
+    }
+    Ok(lines)
+}

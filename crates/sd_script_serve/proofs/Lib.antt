@@ -1,4 +1,0 @@
-pub mod Ends
-pub mod Feeds
-pub mod NoId
-pub mod Steps

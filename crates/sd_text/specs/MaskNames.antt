@@ -1,0 +1,42 @@
+-- A mask by the names of rights ([MS-DTYP] 2.5.1.1, ace-rights).
+use Rattle.std.specs.Prelude.{ℕ, Bool, not, ◌&&◌, ◌==◌, if◌then◌else◌, List, [], ◌∷◌, ◌++◌, length, bit_and, bit_or, codes}
+use Rattle.sd_sid.specs.Mask.{holds, mask_of}
+use Rattle.sd_text.specs.Canon.{hex}
+use Rattle.sd_text.specs.Grammar.{Name}
+use Rattle.sd_text.specs.Rights.{bits}
+
+-- the names of rights, the greatest mask first; KX has the mask of KR
+unfoldable pub names_from_greatest : List (Name ℕ)
+names_from_greatest =
+    bits (codes "GR") 0x80000000 ∷ bits (codes "GW") 0x40000000 ∷ bits (codes "GX") 0x20000000 ∷ bits (codes "GA") 0x10000000
+    ∷ bits (codes "FA") 0x1F01FF ∷ bits (codes "FW") 0x120116 ∷ bits (codes "FX") 0x1200A0 ∷ bits (codes "FR") 0x120089
+    ∷ bits (codes "KA") 0xF003F ∷ bits (codes "WO") 0x80000 ∷ bits (codes "WD") 0x40000 ∷ bits (codes "KR") 0x20019
+    ∷ bits (codes "KW") 0x20006 ∷ bits (codes "RC") 0x20000 ∷ bits (codes "SD") 0x10000 ∷ bits (codes "CR") 0x100
+    ∷ bits (codes "LO") 0x80 ∷ bits (codes "DT") 0x40 ∷ bits (codes "WP") 0x20 ∷ bits (codes "RP") 0x10
+    ∷ bits (codes "SW") 0x8 ∷ bits (codes "LC") 0x4 ∷ bits (codes "DC") 0x2 ∷ bits (codes "CC") 0x1 ∷ []
+
+-- a name is due if all its bits are the mask's, and earlier names don't have all of them
+abbrev pub is_due : ℕ → ℕ → ℕ → Bool
+is_due mask named rights = bit_and mask rights == rights && not (bit_and named rights == rights)
+
+-- what is before a further word
+abbrev pub plus_after : List ℕ → List ℕ
+plus_after text = if length text == 0 then [] else codes "+"
+
+abbrev pub with_word : List ℕ → List ℕ → List ℕ
+with_word text word = (text ++ plus_after text) ++ word
+
+-- after the names, the bits that none of them has, as a number
+abbrev pub with_rest : List ℕ → ℕ → List ℕ
+with_rest text rest = if rest == 0 && not (length text == 0) then text else with_word text (codes "0x" ++ hex rest)
+
+-- from these names on, if earlier ones have these bits and this text
+unfoldable pub named_from : List (Name ℕ) → ℕ → ℕ → List ℕ → List ℕ
+named_from [] mask named text = with_rest text (mask_of (λ b. holds mask b && not (holds named b)) 32)
+named_from (name ∷ names) mask named text =
+    if is_due mask named name.stands_for then named_from names mask (bit_or named name.stands_for) (with_word text name.letters)
+    else named_from names mask named text
+
+-- a mask by names, as FR+WD
+abbrev pub mask_names : ℕ → List ℕ
+mask_names mask = named_from names_from_greatest mask 0 []
