@@ -582,6 +582,9 @@ HUDARIN_ANSWERS hudarin_written hudarin_sid_bytes_to_full_text(const void *bytes
 /* The mask that the text spells: a number, or names of rights. */
 HUDARIN_ANSWERS hudarin_mask hudarin_mask_from_text(const char *text, size_t text_length);
 
+/* The mask by names of rights, as "FR+WD"; the bits that no name has follow as a number, as in "FR+0x200". */
+HUDARIN_ANSWERS hudarin_written hudarin_mask_to_text(uint32_t mask, char *room, size_t room_length);
+
 /* ---- Handles, for callers that check often */
 
 /* Keeps the descriptor that the SDDL text spells. The answer's `length` is 0. */

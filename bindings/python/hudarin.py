@@ -61,6 +61,7 @@ __all__ = [
     "Verdict",
     "View",
     "mask",
+    "mask_names",
 ]
 
 _SIZE = ctypes.c_size_t
@@ -254,6 +255,7 @@ def _load() -> ctypes.CDLL:
         "descriptor_length": (given, _Written),
         "descriptor_trim": (given + [_U64, _U32] + buffer, _Trimmed),
         "mask_from_text": (given, _Mask),
+        "mask_to_text": ([_U32] + buffer, _Written),
         "check": (given + token + request, _Verdict),
         "keep_bytes": (given + [kept], _Written),
         "keep_token": (token + [kept], _Verdict),
@@ -387,6 +389,12 @@ def mask(text: str) -> int:
     """The mask that the text spells: names of rights, as "FR" or "RCWD", or a number, as "0x1f01ff"."""
     given = _text(text)
     return int(_checked(_library.hudarin_mask_from_text(given, len(given)), "mask").mask)
+
+
+def mask_names(mask: int) -> str:
+    """The mask by names of rights, as "FR+WD"; the bits that no name has follow as a number, as in "FR+0x200"."""
+    number = _number(mask, "mask")
+    return _filled(lambda *buffer: _library.hudarin_mask_to_text(number, *buffer), "mask")[0].decode()
 
 
 def _mask(value: object, what: str) -> int:

@@ -2,7 +2,7 @@
  * What each call costs that needs no store, in nanoseconds, by the clock: `calls TURNS` prints a row for each, by a list of 1 entry and a
  * token of 5 groups, of 16 and 20, and of 64 and 100. The entries are for groups that the token lacks, but for the last, which is
  * for the user's last group and settles the request. Each figure is the least of five rounds of so many turns. The figures of
- * docs/C.md are its output; the gate runs it with few turns to see that it runs.
+ * docs/C.md and bench/NOTES.md are its output; the gate runs it with few turns to see that it runs.
  */
 #include "tally.h"
 #include <time.h>

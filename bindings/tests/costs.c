@@ -1,6 +1,6 @@
 /*
  * What the calls over stores and views cost, in nanoseconds, by the clock: costs NODES EDITS has a tree of so many nodes and a journal
- * of at least so many edits. The figures of docs/C.md are its output; the gate runs it on a small tree to see that it runs.
+ * of at least so many edits. The figures of bench/NOTES.md are its output; the gate runs it on a small tree to see that it runs.
  */
 #include "tally.h"
 #include <time.h>

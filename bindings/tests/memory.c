@@ -47,7 +47,7 @@ void __wrap_free(void *block)
 
 /* The last five keep something or check. */
 enum call {
-    TO_BYTES, TRIM_TEXT, TO_SDDL, CANONICAL, LENGTH, SID_BYTES, SID_TEXT, FULL_TEXT, OWNER, ENTRY, SUBJECT,
+    TO_BYTES, TRIM_TEXT, TO_SDDL, CANONICAL, LENGTH, SID_BYTES, SID_TEXT, FULL_TEXT, MASK_TEXT, OWNER, ENTRY, SUBJECT,
     CHECK, KEEP_SDDL, KEEP_BYTES, KEEP_TOKEN, SHARE
 };
 
@@ -97,6 +97,7 @@ static const row rows[] = {
     { SID_BYTES, TOO_LONG_SID, NULL, 0, HUDARIN_TEXT_RANGE, 36 },
     { SID_TEXT, LONGEST_SID, LONGEST_SID, sizeof LONGEST_SID - 1, 0, 0 },
     { FULL_TEXT, "BU", "S-1-5-32-545", 12, 0, 0 },
+    { MASK_TEXT, "BU", "FR+WD", 5, 0, 0 },
     { TRIM_TEXT, ROW_1 "S:(AU;SA;FA;;;WD)", row_1, 76, 0, 0 },
     { TRIM_TEXT, ROW_1 "S:(A;;FA;;;WD)", NULL, 0, HUDARIN_TEXT_ENTRY_KIND, 25 },
     { OWNER, CHECKED, "01020000000000052000000020020000", 16, 0, 0 },
@@ -170,6 +171,7 @@ static void made(const row *row, outcome *it)
     case SID_BYTES: written(it, hudarin_sid_text_to_bytes(row->text, text, it->room, room)); break;
     case SID_TEXT: written(it, hudarin_sid_bytes_to_text(lent.bytes, lent.length, chars, room)); break;
     case FULL_TEXT: written(it, hudarin_sid_bytes_to_full_text(lent.bytes, lent.length, chars, room)); break;
+    case MASK_TEXT: written(it, hudarin_mask_to_text(0x160089u, chars, room)); break;
     case TRIM_TEXT: written(it, hudarin_sddl_trim(NULL, 0, row->text, text, it->room, room).written); break;
     case OWNER: written(it, hudarin_descriptor_owner(&descriptor, it->room, room)); break;
     case ENTRY: written(it, hudarin_descriptor_entry(&descriptor, 1, it->room, room).written); break;
@@ -226,7 +228,8 @@ static int is_wanted(const row *row, const outcome *it)
     if (row->wanted == NULL) {
         return 1;
     }
-    if (row->call != TO_SDDL && row->call != CANONICAL && row->call != SID_TEXT && row->call != FULL_TEXT) {
+    if (row->call != TO_SDDL && row->call != CANONICAL && row->call != SID_TEXT && row->call != FULL_TEXT &&
+        row->call != MASK_TEXT) {
         return bytes_of(row->wanted, bytes) == it->length && same(it->room, bytes, (size_t)it->length);
     }
     return strlen(row->wanted) == it->length && same(it->room, row->wanted, (size_t)it->length);

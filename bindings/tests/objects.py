@@ -29,6 +29,7 @@ from hudarin import (  # noqa: E402
     Verdict,
     View,
     mask,
+    mask_names,
 )
 from tally import close, gives, holds, raises  # noqa: E402
 
@@ -229,6 +230,7 @@ def one_exception() -> None:
     gives("an alias of a domain", ("sid", 6, "DomainAlias", 0, None), lambda: refused(lambda: Sid.from_text("DA")))
     gives("a SID's bytes", ("sid", 3, "Short", 0, None), lambda: refused(lambda: Sid(b"\x01\x01")))
     gives("a mask's text", ("mask", 1, "Syntax", 0, None), lambda: refused(lambda: mask("alice")))
+    gives("a mask by names", ("FR+WD", "FR+0x200", "0x0"), lambda: tuple(map(mask_names, (0x160089, 0x120289, 0))))
     gives("a descriptor's text", ("sddl", 1, "Syntax", 0, None), lambda: refused(lambda: Descriptor.from_sddl("alice")))
     texts: List[Tuple[str, Callable[[str], Any]]] = [
         ("SDDL", Descriptor.from_sddl),

@@ -171,6 +171,16 @@ static void full_texts(void)
     HOLDS(hudarin_sid_bytes_to_full_text(users, 15, (char *)room, sizeof room).fault == HUDARIN_SID_SHORT);
 }
 
+/* Of [MS-DTYP] 2.5.1.1 the names of rights, those with the most bits first. */
+static void mask_texts(void)
+{
+    WRITES(hudarin_mask_to_text(0x120089, room, length), "FR", 2);
+    WRITES(hudarin_mask_to_text(0x160089, room, length), "FR+WD", 5);
+    WRITES(hudarin_mask_to_text(0x120289, room, length), "FR+0x200", 8);
+    WRITES(hudarin_mask_to_text(0x80000001, room, length), "GR+CC", 5);
+    WRITES(hudarin_mask_to_text(0, room, length), "0x0", 3);
+}
+
 /* That the text is written as the other one, and that this is left out of it. */
 static void trims(const unsigned char *domain, size_t domain_length, const char *given, const char *same,
                   uint32_t left_out)
@@ -268,6 +278,7 @@ int main(void)
     without_owner();
     handles();
     full_texts();
+    mask_texts();
     without_sacl();
     names();
     return close_tally();

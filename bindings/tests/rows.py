@@ -1,9 +1,10 @@
-"""Asks the worked rows of the pages through the shared library, and compares each answer with the program's.
+"""Asks the worked rows of the pages and of tests/ through the shared library, and compares each answer with the program's.
 
-    rows.py PROGRAM USER PAGE ..
+    rows.py PROGRAM USER FILE ..
 
-Rows of tables are known by their heads, and lines `$ ./sdstore ..` of console blocks by their command. The last line is
-'N passed, M failed'."""
+Of a page, rows of tables are known by their heads, and lines `$ ./sdstore ..` of console blocks by their command; of a file
+of rows each command without options and escapes is asked, and each line of its `each`. The last line is 'N passed, M
+failed'."""
 
 import os
 import re
@@ -16,7 +17,8 @@ sys.path.insert(0, os.path.join(os.path.dirname(os.path.abspath(__file__)), ".."
 
 import hudarin  # noqa: E402
 
-PROGRAM, USER, PAGES = sys.argv[1], sys.argv[2], sys.argv[3:]
+PROGRAM, USER, FILES = sys.argv[1], sys.argv[2], sys.argv[3:]
+COMMANDS = ("verdict", "why", "print", "tobin", "frombin")
 STATES = {"deny": hudarin.DENY_ONLY, "off": hudarin.DISABLED}
 PRIVILEGES = {"+security": hudarin.SECURITY, "+take": hudarin.TAKE_OWNERSHIP}
 
@@ -208,33 +210,47 @@ class Table:
 def console(place, line):
     """A line of a console block that asks for an answer, and no more."""
     words = shlex.split(line[2:]) if " | " not in line and '"$' not in line else []
-    if words[:1] == ["./sdstore"] and words[1:2] and words[1] in ("verdict", "why", "print", "tobin", "frombin"):
+    if words[:1] == ["./sdstore"] and words[1:2] and words[1] in COMMANDS:
         if "help" not in line.replace("-- --help", "") and len(words) > 2:
             ask(place, *words[1:])
 
 
-def page(path):
-    before, table, language = passed + failed, None, None
-    name = os.path.basename(path)
-    with open(path, encoding="utf-8") as lines:
-        for number, line in enumerate(lines, 1):
-            place, line = f"{name}:{number}", line.rstrip("\n")
-            if line.startswith("```"):
-                language = None if language else line[3:] or "text"
-            elif language == "console" and line.startswith("$ "):
-                console(place, line)
-            elif language is None and line.startswith("|"):
-                cells = [cell.strip() for cell in line.strip("|").split("|")]
-                if table is None:
-                    table = Table(cells)
-                elif not line.startswith("|--"):
-                    table.row(place, cells)
-            elif language is None:
-                table = None
+def tests(name, lines):
+    """A file of rows; `each` is what the lines of its standard input are asked."""
+    each = []
+    for number, line in enumerate(lines, 1):
+        place, line = f"{name}:{number}", line.rstrip("\n")
+        if line.startswith("$"):
+            words = shlex.split(line[2:]) if line.startswith("$ ") else []
+            each = words[2:] if words[1:2] == ["each"] and words[2] in COMMANDS else []
+            if words[1:2] and words[1] in COMMANDS:
+                ask(place, *words[1:])
+        elif each and line.startswith("| "):
+            ask(place, each[0], line[2:].partition(" => ")[0], *each[1:])
+
+
+def page(name, lines):
+    table, language = None, None
+    for number, line in enumerate(lines, 1):
+        place, line = f"{name}:{number}", line.rstrip("\n")
+        if line.startswith("```"):
+            language = None if language else line[3:] or "text"
+        elif language == "console" and line.startswith("$ "):
+            console(place, line)
+        elif language is None and line.startswith("|"):
+            cells = [cell.strip() for cell in line.strip("|").split("|")]
+            if table is None:
+                table = Table(cells)
+            elif not line.startswith("|--"):
+                table.row(place, cells)
+        elif language is None:
+            table = None
+
+
+for path in FILES:
+    before, base = passed + failed, os.path.basename(path)
+    with open(path, encoding="utf-8") as text:
+        (page if base.endswith(".md") else tests)(base, text)
     if passed + failed == before:
-        miss(name, "no row of it was asked")
-
-
-for each in PAGES:
-    page(each)
+        miss(base, "no row of it was asked")
 print(f"{passed} passed, {failed} failed")

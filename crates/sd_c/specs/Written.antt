@@ -7,6 +7,7 @@ use Rattle.sd_acl.specs.Descriptor.{DescriptorValue}
 use Rattle.sd_text.specs.Canon.{canon, full_canon, sid_canon}
 use Rattle.sd_text.specs.Fault.{number_of}
 use Rattle.sd_text.specs.Grammar.{Grammar, Spells, HasFault}
+use Rattle.sd_text.specs.MaskNames.{mask_names}
 use Rattle.sd_text.specs.Sddl.{sddl}
 use Rattle.sd_text.specs.Sid.{sid_text}
 use Rattle.sd_wire.specs.Fault.{wire_fault_number}
@@ -149,3 +150,16 @@ abbrev pub AnswersMask : List ℕ → MaskAnswer → Type 0
 AnswersMask text answer =
     ((mask : ℕ) × Spells mask_text text mask × (answer ≡ mask_given mask))
     ⊎ ((why : Refusal) × RefusesMask text why × (answer ≡ no_mask why))
+
+-- the mask by names of rights
+abbrev pub IsNamesOf : ℕ → List ℕ → Type 0
+IsNamesOf mask names = names ≡ mask_names mask
+
+-- nothing is refused, except out of memory
+abbrev pub RefusesMemory : Refusal → Type 0
+RefusesMemory Memory = Unit {0}
+RefusesMemory (Utf8 place) = ⊥
+RefusesMemory (Text fault place) = ⊥
+RefusesMemory (Wire fault) = ⊥
+RefusesMemory (Sid fault) = ⊥
+RefusesMemory NoDomain = ⊥

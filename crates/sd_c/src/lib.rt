@@ -60,7 +60,7 @@ pub use stores::{
     hudarin_store_revert,
 };
 pub use text::{
-    hudarin_mask_from_text, hudarin_sddl_canonical, hudarin_sddl_to_bytes,
+    hudarin_mask_from_text, hudarin_mask_to_text, hudarin_sddl_canonical, hudarin_sddl_to_bytes,
     hudarin_sid_text_to_bytes,
 };
 pub use trim::{Trimmed, hudarin_descriptor_trim};

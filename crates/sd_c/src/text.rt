@@ -6,15 +6,17 @@ ghost use Rattle.sd_text.specs.Grammar.{Spells};
 ghost use Rattle.sd_text.specs.Rights.{mask_text};
 ghost use Rattle.sd_text.specs.Sddl.{sddl, sddl_in};
 ghost use Rattle.sd_text.specs.Sid.{sid_text, sid_text_in};
-ghost use Rattle.sd_c.specs.Written.{Answers, AnswersMask, IsCanonOf, IsFormOf, IsNotUtf8, IsSidOf, RefusesMask, RefusesText, text_refusal};
+ghost use Rattle.sd_c.specs.Written.{Answers, AnswersMask, IsCanonOf, IsFormOf, IsNamesOf, IsNotUtf8, IsSidOf, RefusesMask, RefusesMemory, RefusesText, text_refusal};
 
 use crate::answer::{MaskAnswer, Written, mask_given, no_mask, refused, write};
 use crate::refusal::Refusal;
 use sd_acl::Descriptor;
 use sd_sid::{Mask, Sid, sid_bytes};
-use sd_text::{Domain, TextError, print_sddl, read_mask, read_sddl_in, read_sid_text_in};
+use sd_text::{
+    Domain, TextError, print_mask_names, print_sddl, read_mask, read_sddl_in, read_sid_text_in,
+};
 use sd_wire::write_descriptor;
-use std::alloc::Global;
+use std::alloc::{AllocError, Global};
 
 /// Writes the self-relative form ([MS-DTYP] 2.4.6) of the descriptor that the SDDL text spells ([MS-DTYP] 2.5.1) into
 /// the buffer. Refused if the text isn't UTF-8 or has a fault, or out of memory; then, and if the buffer is too small,
@@ -62,6 +64,18 @@ pub extern "C" fn hudarin_mask_from_text(text: &[u8]) -> MaskAnswer
     match mask_of(text) {
         Ok(mask) => mask_given(mask),
         Err(why) => no_mask(why),
+    }
+}
+
+/// Writes the mask by names of rights, as `FR+WD` ([MS-DTYP] 2.5.1.1, ace-rights), into the buffer. Refused only out of
+/// memory.
+#[unsafe(no_mangle)]
+pub extern "C" fn hudarin_mask_to_text(alloc: Global, mask: u32, room: &mut [u8]) -> Written
+    ensures { Answers (IsNamesOf mask) RefusesMemory room.old room.new result }
+{
+    match print_mask_names(alloc, Mask(mask)) {
+        Ok(names) => write(names.as_bytes(), room),
+        Err(AllocError) => refused(Refusal::Memory),
     }
 }
 
