@@ -1,0 +1,133 @@
+"""The commands of estate."""
+
+import argparse
+import os
+import sys
+from collections.abc import Callable, Sequence
+
+import commands
+from errors import EstateError
+from names import read_names, shown_by
+from table import Table, say
+
+_DESCRIPTION = "Reads the descriptors of file systems into scripts for sdstore, and writes changes back."
+_END = """\
+statuses: 0 done; 1 a node is skipped, has a finding or forbids the write; 2 invalid arguments or input; 3 a read or
+write failed. The table is on standard output, messages are on standard error."""
+
+
+def main(words: Sequence[str] | None = None) -> int:
+    """Carries out a command, and returns the status."""
+    arguments = _parser().parse_args(words)
+    work: Callable[[argparse.Namespace, Table], int] = arguments.work
+    try:
+        status = work(arguments, Table(arguments.json, shown_by(read_names(arguments.names))))
+        sys.stdout.flush()
+        return status
+    except BrokenPipeError:
+        os.dup2(os.open(os.devnull, os.O_WRONLY), sys.stdout.fileno())
+        return 3
+    except EstateError as error:
+        say(str(error))
+        return error.status
+    except (MemoryError, KeyboardInterrupt) as error:
+        say("out of memory" if isinstance(error, MemoryError) else "interrupted")
+        return 3
+
+
+def _parser() -> argparse.ArgumentParser:
+    parser = argparse.ArgumentParser(prog="estate", description=_DESCRIPTION, epilog=_END, allow_abbrev=False)
+    commands_of = parser.add_subparsers(required=True, metavar="COMMAND")
+
+    def command(name: str, work: Callable[[argparse.Namespace, Table], int], text: str) -> argparse.ArgumentParser:
+        made = commands_of.add_parser(name, help=text, description=text, allow_abbrev=False)
+        made.set_defaults(work=work)
+        made.add_argument("--json", action="store_true", help="print each row as a JSON object on a line")
+        made.add_argument(
+            "--names",
+            action="append",
+            default=[],
+            metavar="FILE",
+            help="show SIDs by the names of FILE: see docs/ESTATES.md",
+        )
+        return made
+
+    _add_read(command("read", commands.read, "write a script of the nodes of a volume, a share or a text file"))
+    _add_plan(
+        command("plan", commands.plan, "print which nodes a script changes; with TARGET test that it can be written")
+    )
+    _add_write(command("write", commands.write, "write what a script changes to a volume or a share"))
+    _add_icacls(command("icacls", commands.icacls, "write what a script changes as a file for icacls /restore"))
+    _add_journal(command("resume", commands.resume, "write what a write that ended early left"))
+    _add_journal(command("undo", commands.undo, "restore what a write replaced"))
+    lint = command("lint", commands.lint, "print what is doubtful in the lists of a script's nodes")
+    lint.add_argument("script", metavar="SCRIPT")
+    report = command("report", commands.report, "write a page of a script's folders, as they are after its changes")
+    report.add_argument("script", metavar="SCRIPT")
+    report.add_argument("file", metavar="FILE", help="the HTML file to write")
+    report.add_argument("--title", metavar="TEXT", help="SCRIPT unless given")
+    return parser
+
+
+def _add_read(read: argparse.ArgumentParser) -> None:
+    read.add_argument(
+        "source", metavar="SOURCE", help="a mounted folder, a CSV of PowerShell, or a file of icacls /save"
+    )
+    read.add_argument("script", metavar="SCRIPT", help="the file to write")
+    read.add_argument(
+        "--folders", action="store_true", help="leave out files that have just what their folder passes down"
+    )
+    read.add_argument("--root", metavar="SDDL", help="the descriptor of the folder itself, where the source has none")
+    _add_attribute(read)
+    read.add_argument("--form", choices=("csv", "icacls"), help="of a text file; by its first line unless given")
+    read.add_argument("--owner", metavar="SID", help="of nodes of a text file without an owner")
+    read.add_argument("--group", metavar="SID", help="of nodes of a text file without a group")
+    read.add_argument("--domain", metavar="SID", help="whose accounts and groups a text file's aliases are, as DA")
+
+
+def _add_attribute(parser: argparse.ArgumentParser) -> None:
+    parser.add_argument(
+        "--attribute",
+        choices=commands.ATTRIBUTES,
+        help="which extended attribute has descriptors; by the folder's own unless given",
+    )
+
+
+def _add_plan(plan: argparse.ArgumentParser) -> None:
+    plan.add_argument("script", metavar="SCRIPT")
+    plan.add_argument("target", metavar="TARGET", nargs="?")
+    _add_leave(plan)
+
+
+def _add_leave(parser: argparse.ArgumentParser) -> None:
+    _add_attribute(parser)
+    parser.add_argument("--replace-differing", action="store_true", help="replace lists that differed from the tree's")
+    parser.add_argument("--leave-unread", action="store_true", help="leave nodes without a line as they are")
+
+
+def _add_write(write: argparse.ArgumentParser) -> None:
+    write.add_argument("script", metavar="SCRIPT")
+    write.add_argument("target", metavar="TARGET", help="the folder that was read")
+    write.add_argument(
+        "--journal", metavar="FILE", help="a new file for what each node had: SCRIPT.journal unless given"
+    )
+    _add_leave(write)
+
+
+def _add_icacls(write: argparse.ArgumentParser) -> None:
+    write.add_argument("script", metavar="SCRIPT")
+    write.add_argument("file", metavar="FILE")
+    write.add_argument(
+        "--folder", metavar="NAME", required=True, help="the root's path in FILE, as icacls /save has it"
+    )
+    write.add_argument(
+        "--old", action="store_true", help="write the lists that were read: such a file undoes the other"
+    )
+
+
+def _add_journal(parser: argparse.ArgumentParser) -> None:
+    parser.add_argument("journal", metavar="JOURNAL")
+    parser.add_argument(
+        "target", metavar="TARGET", nargs="?", help="where the volume is mounted, if elsewhere than before"
+    )
+    parser.add_argument("--leave-changed", action="store_true", help="leave nodes that somebody changed since")

@@ -1,0 +1,171 @@
+"""What each command does. Each returns its status."""
+
+import argparse
+import dataclasses
+import os
+from collections.abc import Callable, Iterable
+
+from hudarin import Descriptor, Refused, Sid
+
+import icacls as icacls_file
+import questions
+from errors import Invalid, Stopped
+from forms import Attribute
+from journal import Journal, Step, locked_journal, write_journal
+from names import read_names
+from paths import spelled
+from planning import Leave, Plan
+from progress import Progress
+from report import Report
+from reading import MAX_SCRIPT_BYTES, Counts, Reading
+from script import Script, read_script
+from table import Table, plural, say
+from texts import Assumed, TextFile
+from volumes import Volume
+from whole import whole_file
+from writing import Move, apply, backward, check_target, forward
+
+ATTRIBUTES = {"ntfs": Attribute.NTFS, "samba": Attribute.SAMBA}
+
+
+def read(arguments: argparse.Namespace, table: Table) -> int:
+    """The nodes of a source as a script."""
+    root = _descriptor("--root", arguments.root)
+    with whole_file(arguments.script) as script:
+        reading = Reading(script, table, arguments.folders)
+        if os.path.isdir(arguments.source):
+            with _volume(arguments.source, arguments) as volume, Progress(volume.node_count) as progress:
+                counts = reading.run(volume.walk(root), progress)
+        else:
+            source = TextFile(arguments.source, arguments.form, _assumed(arguments, root))
+            with Progress(source.node_count) as progress:
+                counts = reading.run(source.walk(), progress)
+    _sum_up(arguments, counts, table)
+    return 1 if counts.skipped or counts.unlisted else 0
+
+
+def _sum_up(arguments: argparse.Namespace, counts: Counts, table: Table) -> None:
+    said = [
+        f"{arguments.source}: {plural(counts.nodes, 'node')}",
+        f"{plural(counts.lines, 'line')} of nodes",
+        f"{plural(counts.left_out, 'file')} left out",
+        f"{counts.skipped:,} skipped",
+        f"{counts.differing:,} differing",
+        f"{plural(counts.sacls, 'SACL')} dropped",
+    ]
+    if counts.unlisted:
+        said.append(f"{plural(counts.unlisted, 'folder')} not listed")
+    table.end("read", ", ".join(said), {"source": arguments.source, **dataclasses.asdict(counts)})
+    if counts.bytes > MAX_SCRIPT_BYTES:
+        say(f"the script has {counts.bytes:,} bytes, and sdstore script takes {MAX_SCRIPT_BYTES:,}: use sdstore serve")
+
+
+def _volume(folder: str, arguments: argparse.Namespace) -> Volume:
+    return Volume(folder, ATTRIBUTES.get(arguments.attribute))
+
+
+def _assumed(arguments: argparse.Namespace, root: str | None) -> Assumed:
+    owner, group = _sid("--owner", arguments.owner), _sid("--group", arguments.group)
+    domain = _sid("--domain", arguments.domain)
+    return Assumed(None if owner is None else str(owner), None if group is None else str(group), root, domain)
+
+
+def _sid(option: str, text: str | None) -> Sid | None:
+    try:
+        return None if text is None else Sid.from_text(text)
+    except Refused as refused:
+        raise Invalid(f"{option} {text!a}: {refused}") from refused
+
+
+def _descriptor(option: str, text: str | None) -> str | None:
+    try:
+        return None if text is None else str(Descriptor.from_sddl(text))
+    except Refused as refused:
+        raise Invalid(f"{option} {text!a}: {refused}") from refused
+
+
+def plan(arguments: argparse.Namespace, table: Table) -> int:
+    """What a script changes, and what forbids to write it."""
+    with read_script(arguments.script) as script:
+        if arguments.target is not None:
+            with _volume(arguments.target, arguments) as volume:
+                count = len(_planned(script, volume, arguments, table).steps)
+            table.end("planned", f"{plural(count, 'node')} would be written", {"nodes": count})
+            return 0
+        count = 0
+        for change in script.changes():
+            count += 1
+            table.row("change", {"path": spelled(change.path), "before": change.before, "after": change.after})
+    table.end("planned", f"{plural(count, 'node')} of the script would change", {"nodes": count})
+    return 0
+
+
+def _planned(script: Script, volume: Volume, arguments: argparse.Namespace, table: Table) -> Plan:
+    made = Plan(script, volume, table, Leave(arguments.replace_differing, arguments.leave_unread))
+    made.make()
+    if made.stops:
+        raise Stopped(f"{plural(made.stops, 'node')} can't be written safely: nothing is written")
+    return made
+
+
+def write(arguments: argparse.Namespace, table: Table) -> int:
+    """A script's changes to a volume."""
+    name = arguments.journal or f"{arguments.script}.journal"
+    with read_script(arguments.script) as script, _volume(arguments.target, arguments) as volume:
+        made = _planned(script, volume, arguments, table)
+        journal = Journal(os.path.abspath(arguments.target), volume.attribute, made.steps)
+        check_target(volume, journal)
+        if not journal.steps:
+            table.end("written", "no node changes: nothing is written", {"nodes": 0})
+            return 0
+        write_journal(name, journal)
+        with locked_journal(name):
+            written = apply(volume, forward(journal.steps), table, False)
+    text = f"{plural(written, 'node')} written; 'estate undo {name}' restores what they had"
+    table.end("written", text, {"nodes": written, "journal": name})
+    return 0
+
+
+def icacls(arguments: argparse.Namespace, table: Table) -> int:
+    """A script's changes as a file for icacls."""
+    with read_script(arguments.script) as script:
+        count = icacls_file.write_icacls(script, arguments.file, arguments.folder, arguments.old, table)
+    table.end("written", f"{plural(count, 'node')} in {arguments.file}", {"nodes": count})
+    return 0
+
+
+def resume(arguments: argparse.Namespace, table: Table) -> int:
+    """The rest of a write."""
+    return _by_journal(arguments, table, forward, "written")
+
+
+def undo(arguments: argparse.Namespace, table: Table) -> int:
+    """A write, undone."""
+    return _by_journal(arguments, table, backward, "restored")
+
+
+def _by_journal(
+    arguments: argparse.Namespace, table: Table, moves_of: Callable[[Iterable[Step]], list[Move]], done: str
+) -> int:
+    with locked_journal(arguments.journal) as journal:
+        with Volume(arguments.target or journal.target, journal.attribute) as volume:
+            check_target(volume, journal)
+            written = apply(volume, moves_of(journal.steps), table, arguments.leave_changed)
+    table.end(done, f"{plural(written, 'node')} {done}", {"nodes": written})
+    return 0
+
+
+def lint(arguments: argparse.Namespace, table: Table) -> int:
+    """Findings about the lists of a script's nodes."""
+    with read_script(arguments.script) as script:
+        count = questions.lint(script, table)
+    table.end("linted", plural(count, "finding"), {"findings": count})
+    return 1 if count else 0
+
+
+def report(arguments: argparse.Namespace, table: Table) -> int:
+    """The nodes of a script as a page."""
+    with read_script(arguments.script) as script:
+        count = Report(script, read_names(arguments.names)).write(arguments.file, arguments.title or arguments.script)
+    table.end("written", f"{plural(count, 'node')} in {arguments.file}", {"nodes": count})
+    return 0

@@ -1,0 +1,45 @@
+"""Changes as a file for `icacls FOLDER /restore FILE`."""
+
+import re
+
+from errors import Stopped
+from paths import spelled
+from script import Change, Script
+from sddl import parts_of
+from table import Table, plural
+from whole import whole_file
+
+#: What no name has on Windows.
+_NOT_IN_NAMES = re.compile(r'[\x00-\x1f\x7f<>:"/\\|?*]')
+
+
+def write_icacls(script: Script, name: str, folder: str, is_old: bool, table: Table) -> int:
+    """Writes a line with the path and one with the DACL for each node that changes, in UTF-16 without a byte order
+    mark; if `is_old` the DACLs that were read. `folder` is the root's path in the file. Stopped if a change can't be
+    said so; otherwise returns how many nodes change."""
+    changes = list(script.changes())
+    stops = 0
+    for change in changes:
+        why = _why_not(script, change)
+        if why is not None:
+            stops += 1
+            table.row("stop", {"path": spelled(change.path), "why": why})
+    if stops:
+        raise Stopped(f"{plural(stops, 'node')} can't be written so: nothing is written")
+    with whole_file(name) as file:
+        for change in changes:
+            path = "\\".join([folder, *(part.decode() for part in change.path)])
+            text = change.read if is_old else change.after
+            file.write(f"{path}\r\n{text[text.index('D:') :]}\r\n".encode("utf-16-le"))
+    return len(changes)
+
+
+def _why_not(script: Script, change: Change) -> str | None:
+    before, after = parts_of(change.before), parts_of(change.after)
+    if (before.owner, before.group) != (after.owner, after.group):
+        return "its owner or group changes, which icacls /restore doesn't set"
+    if any(_NOT_IN_NAMES.search(name.decode()) for name in change.path):
+        return "its path has a character that no name has on Windows"
+    if change.is_passed_down and script.nodes[change.path].left_out:
+        return "its files have no lines, and would keep their entries: read without --folders"
+    return None

@@ -1,0 +1,191 @@
+"""`estate read`: the nodes of a source as a script of imports, and a table of what the script doesn't say as it is."""
+
+from collections.abc import Iterable
+from dataclasses import dataclass, field
+from typing import BinaryIO
+
+from errors import Invalid
+from found import Found
+from inheritance import Chain, Inheritance, TooMuch
+from paths import MAX_NODES, Path, fault_of, spelled
+from progress import Progress
+from sddl import Parts, parts_of
+from table import Table
+
+#: So many bytes has a script at most (docs/SCRIPT.md).
+MAX_SCRIPT_BYTES = 16_777_216
+
+
+@dataclass(slots=True)
+class Counts:
+    """What was found, and what became of it."""
+
+    nodes: int = 0
+    skipped: int = 0
+    differing: int = 0
+    left_out: int = 0
+    sacls: int = 0
+    #: Folders whose content couldn't be listed.
+    unlisted: int = 0
+    lines: int = 0
+    bytes: int = 0
+
+
+@dataclass(slots=True)
+class _Folder:
+    """A folder on the way to the node that is visited: what it and those above were given, its descriptor in the tree,
+    and how many of its files have no line."""
+
+    path: Path
+    chain: Chain
+    text: str
+    files: int = 0
+
+
+@dataclass(slots=True)
+class _Hidden:
+    """A folder without a line: nothing in it has one either."""
+
+    found: Found
+    why: str
+    below: int = 0
+
+
+@dataclass(slots=True)
+class Reading:
+    """One run over a source. The script is right only if `run` returns."""
+
+    script: BinaryIO
+    table: Table
+    folders_only: bool
+    counts: Counts = field(default_factory=Counts)
+    _inheritance: Inheritance = field(default_factory=Inheritance)
+    _above: list[_Folder] = field(default_factory=list)
+    _hidden: _Hidden | None = None
+
+    def run(self, source: Iterable[Found], progress: Progress) -> Counts:
+        """Writes the script: the root first, and each node after its folder. Invalid if no tree has the nodes."""
+        self._write("# Read by estate. Nodes: open and import; changes of descriptors may follow the last line.")
+        for found in source:
+            progress.step()
+            self.counts.nodes += 1
+            self.counts.sacls += found.has_sacl
+            if not self._is_hidden(found.path):
+                self._leave(found.path)
+                self._visit(found)
+        self._end_hidden()
+        self._leave(None)
+        self._write("publish")
+        if self.counts.lines > MAX_NODES:
+            raise Invalid(
+                f"{self.counts.lines:,} nodes, and {MAX_NODES:,} fit: read its folders alone by --folders, "
+                "or each part of it by itself; nothing is written"
+            )
+        return self.counts
+
+    # Each node
+
+    def _visit(self, found: Found) -> None:
+        if found.unlisted is not None:
+            self.counts.unlisted += 1
+            self.table.row("unlisted", {"path": spelled(found.path), "why": found.unlisted})
+        why = found.why or fault_of(found.path)
+        if found.text is None or why is not None:
+            self._skip(found, why or "")
+            return
+        try:
+            parts = parts_of(found.text)
+        except ValueError as error:
+            self._skip(found, f"its descriptor isn't supported: {error}")
+            return
+        if found.path:
+            self._import(found, parts)
+        else:
+            self._open(parts)
+
+    def _open(self, parts: Parts) -> None:
+        given = parts.as_root.own
+        text = self._inheritance.root(given)
+        self._above.append(_Folder((), (given,), text))
+        self._compare((), parts.as_root, parts_of(text))
+        self._write_node(f"open 1 {given}")
+
+    def _import(self, found: Found, parts: Parts) -> None:
+        above = self._above[-1]
+        try:
+            text = self._inheritance.child(above.chain, above.text, parts.own, found.is_container)
+        except TooMuch as refused:
+            self._skip(found, f"the tree refuses it: {refused}")
+            return
+        if self.folders_only and not found.is_container and self._is_passed_down(parts, text):
+            above.files += 1
+            self.counts.left_out += 1
+            return
+        self._compare(found.path, parts, parts_of(text))
+        kind = "container" if found.is_container else "object"
+        self._write_node(f"import {kind} {spelled(found.path)} {parts.text}")
+        if found.is_container:
+            self._above.append(_Folder(found.path, (*above.chain, parts.own), text))
+
+    def _is_passed_down(self, parts: Parts, tree: str) -> bool:
+        return parts.has_no_own and parts.dacl == parts_of(tree).dacl
+
+    def _compare(self, path: Path, source: Parts, tree: Parts) -> None:
+        """A row, if the tree has another DACL for the node than the source."""
+        why = None
+        if source.is_absent:
+            why = "it has no DACL, which grants everything: so does the null one of the script"
+        elif source.inherited != tree.inherited:
+            why = "it inherits otherwise than its folder passes down"
+        elif source.dacl != tree.dacl:
+            why = "its own entries are in another order: the script has denies first"
+        if why is not None:
+            self.counts.differing += 1
+            cells = {"path": spelled(path), "why": why, "source": source.text, "tree": tree.text}
+            self.table.row("differs", cells)
+
+    # Nodes without a line
+
+    def _skip(self, found: Found, why: str) -> None:
+        if not found.path:
+            raise Invalid(f"the folder itself can't be the root of a tree: {why}; --root gives it a descriptor")
+        if found.is_container:
+            self._hidden = _Hidden(found, why)
+        else:
+            self._row_of_skipped(found, why, 0)
+
+    def _is_hidden(self, path: Path) -> bool:
+        hidden = self._hidden
+        if hidden is not None and path[: len(hidden.found.path)] == hidden.found.path:
+            hidden.below += 1
+            return True
+        self._end_hidden()
+        return False
+
+    def _end_hidden(self) -> None:
+        if self._hidden is not None:
+            self._row_of_skipped(self._hidden.found, self._hidden.why, self._hidden.below)
+            self._hidden = None
+
+    def _row_of_skipped(self, found: Found, why: str, below: int) -> None:
+        self.counts.skipped += 1 + below
+        self.table.row("skipped", {"path": spelled(found.path), "why": why, "below": below})
+
+    # The script
+
+    def _leave(self, path: Path | None) -> None:
+        """Leaves each folder in which the node of the path isn't."""
+        while self._above and (path is None or path[: len(self._above[-1].path)] != self._above[-1].path):
+            folder = self._above.pop()
+            if folder.files:
+                self._write(f"# left out: {folder.files} files of {spelled(folder.path)}")
+                self.table.row("files", {"path": spelled(folder.path), "count": folder.files})
+
+    def _write_node(self, line: str) -> None:
+        self.counts.lines += 1
+        self._write(line)
+
+    def _write(self, line: str) -> None:
+        data = line.encode("ascii") + b"\n"
+        self.counts.bytes += len(data)
+        self.script.write(data)

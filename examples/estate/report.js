@@ -1,0 +1,257 @@
+"use strict";
+// All text is put in as text: no name from outside is ever markup.
+const data = JSON.parse(document.getElementById("data").textContent);
+const { sids, lists, nodes } = data;
+// A node is [depth, name, isContainer, owner, group, list, files]. A list is [kind, entries, findings], whose kind is 0
+// for one that inherits, 1 for a protected one, 2 for a null one. An entry is [isDeny, rights, applies, isInherited,
+// sid].
+const [DEPTH, NAME, CONTAINER, OWNER, GROUP, LIST, FILES] = [0, 1, 2, 3, 4, 5, 6];
+const AT_ONCE = 200;
+const FOUND_AT_ONCE = 500;
+
+const parents = [];
+{
+  const above = [];
+  nodes.forEach((node, index) => {
+    above.length = node[DEPTH];
+    parents.push(above.length ? above[above.length - 1] : -1);
+    above.push(index);
+  });
+}
+
+const make = (tag, attributes = {}, ...children) => {
+  const made = document.createElement(tag);
+  for (const [name, value] of Object.entries(attributes)) made.setAttribute(name, value);
+  made.append(...children);
+  return made;
+};
+
+const childrenOf = (index) => {
+  const found = [];
+  const depth = nodes[index][DEPTH] + 1;
+  for (let at = index + 1; at < nodes.length && nodes[at][DEPTH] >= depth; at++) {
+    if (nodes[at][DEPTH] === depth) found.push(at);
+  }
+  return found;
+};
+
+const hasChildren = (index) => index + 1 < nodes.length && nodes[index + 1][DEPTH] > nodes[index][DEPTH];
+const pathOf = (index) => {
+  const names = [];
+  for (let at = index; parents[at] >= 0; at = parents[at]) names.unshift(nodes[at][NAME]);
+  return "/" + names.join("/");
+};
+const nameOf = (sid) => sids[sid][1] || sids[sid][0];
+const hasOwn = (list) => list[1].some((entry) => !entry[3]);
+
+// What stands beside a node's name: a word each, so that nothing is said by colour alone.
+const marksOf = (index) => {
+  const list = lists[nodes[index][LIST]];
+  const marks = [];
+  if (list[0] === 2) marks.push(["null", "no DACL: everything is granted"]);
+  if (list[0] === 1) marks.push(["blocked", "inheritance blocked"]);
+  if (parents[index] >= 0 && list[0] === 0 && hasOwn(list)) marks.push(["own", "own entries"]);
+  if (list[2].length) marks.push(["lint", list[2].length === 1 ? "1 finding" : `${list[2].length} findings`]);
+  return marks;
+};
+
+// The tree, in which one item is in the order of the Tab key.
+const tree = document.getElementById("tree");
+const items = new Map();
+let current = null;
+
+const itemOf = (index, position, size) => {
+  const node = nodes[index];
+  const name = parents[index] < 0 ? "/" : node[NAME];
+  const marks = marksOf(index);
+  if (node[FILES]) marks.push(["files", `${node[FILES].toLocaleString("en")} files`]);
+  const row = make("div", { class: "row" }, make("span", { class: "name" }, name));
+  for (const [kind, text] of marks) row.append(make("span", { class: `mark ${kind}` }, text));
+  const item = make("li", {
+    role: "treeitem", tabindex: "-1", "aria-level": node[DEPTH] + 1, "aria-posinset": position, "aria-setsize": size,
+    "aria-selected": "false", "aria-label": [name, ...marks.map((mark) => mark[1])].join(", "),
+  }, row);
+  if (hasChildren(index)) item.setAttribute("aria-expanded", "false");
+  item.dataset.index = index;
+  items.set(index, item);
+  return item;
+};
+
+const addChildren = (index, group, children, from) => {
+  const until = Math.min(from + AT_ONCE, children.length);
+  for (let at = from; at < until; at++) group.append(itemOf(children[at], at + 1, children.length));
+  if (until < children.length) {
+    const left = children.length - until;
+    const more = make("button", { type: "button" }, `show ${Math.min(AT_ONCE, left)} of ${left} more`);
+    const line = make("li", { role: "none" }, more);
+    more.addEventListener("click", () => {
+      line.remove();
+      addChildren(index, group, children, until);
+      focus(items.get(children[until]));
+    });
+    group.append(line);
+  }
+};
+
+const setOpen = (item, isOpen) => {
+  if (!item.hasAttribute("aria-expanded")) return;
+  item.setAttribute("aria-expanded", String(isOpen));
+  let group = item.querySelector(":scope > [role=group]");
+  if (isOpen && !group) {
+    group = make("ul", { role: "group" });
+    const index = Number(item.dataset.index);
+    addChildren(index, group, childrenOf(index), 0);
+    item.append(group);
+  }
+  if (group) group.hidden = !isOpen;
+};
+
+const focus = (item) => {
+  if (current) current.tabIndex = -1;
+  current = item;
+  item.tabIndex = 0;
+  item.focus();
+};
+
+const choose = (item) => {
+  for (const chosen of tree.querySelectorAll("[aria-selected=true]")) chosen.setAttribute("aria-selected", "false");
+  item.setAttribute("aria-selected", "true");
+  showNode(Number(item.dataset.index));
+};
+
+// Opens the folders above a node, and puts it into the tree if it is beyond the first children.
+const reveal = (index) => {
+  if (parents[index] >= 0 && !items.has(index)) {
+    const above = reveal(parents[index]);
+    setOpen(above, true);
+    if (!items.has(index)) {
+      const children = childrenOf(parents[index]);
+      above.querySelector(":scope > [role=group]").prepend(itemOf(index, children.indexOf(index) + 1, children.length));
+    }
+  }
+  for (let at = parents[index]; at >= 0; at = parents[at]) setOpen(items.get(at), true);
+  return items.get(index);
+};
+
+const isShown = (item) => !item.parentElement.closest("[hidden]");
+const shown = () => [...tree.querySelectorAll("[role=treeitem]")].filter(isShown);
+
+const keys = {
+  ArrowDown: (item) => { const all = shown(); focus(all[all.indexOf(item) + 1] || item); },
+  ArrowUp: (item) => { const all = shown(); focus(all[all.indexOf(item) - 1] || item); },
+  Home: () => focus(shown()[0]),
+  End: () => focus(shown().at(-1)),
+  ArrowRight: (item) => {
+    if (item.getAttribute("aria-expanded") === "false") setOpen(item, true);
+    else focus(item.querySelector(":scope > [role=group] > [role=treeitem]") || item);
+  },
+  ArrowLeft: (item) => {
+    if (item.getAttribute("aria-expanded") === "true") setOpen(item, false);
+    else focus(item.parentElement.closest("[role=treeitem]") || item);
+  },
+  Enter: choose,
+  " ": choose,
+};
+
+tree.addEventListener("keydown", (event) => {
+  const item = event.target.closest("[role=treeitem]");
+  if (event.target !== item || !keys[event.key] || event.ctrlKey || event.altKey || event.metaKey) return;
+  event.preventDefault();
+  keys[event.key](item);
+});
+
+tree.addEventListener("click", (event) => {
+  const row = event.target.closest(".row");
+  if (!row) return;
+  const item = row.parentElement;
+  setOpen(item, item.getAttribute("aria-expanded") !== "true");
+  focus(item);
+  choose(item);
+});
+
+// One node.
+const whoOf = (sid) => {
+  const cell = make("td", {}, nameOf(sid));
+  if (sids[sid][1]) cell.append(make("div", { class: "sid" }, sids[sid][0]));
+  return cell;
+};
+
+const tableOf = (list) => {
+  const table = make("table", {}, make("caption", {}, "Entries, in the order in which they are checked"));
+  const heads = ["Kind", "Who", "Rights", "Applies to", "From"];
+  table.append(make("tr", {}, ...heads.map((text) => make("th", { scope: "col" }, text))));
+  for (const [isDeny, rights, applies, isInherited, sid] of list[1]) {
+    const kind = isDeny ? make("td", { class: "deny" }, "Deny") : make("td", {}, "Allow");
+    const from = isInherited ? make("td", {}, "inherited") : make("td", { class: "own" }, "own");
+    table.append(make("tr", {}, kind, whoOf(sid), make("td", {}, rights), make("td", {}, applies), from));
+  }
+  return table;
+};
+
+const showNode = (index) => {
+  const node = nodes[index];
+  const list = lists[node[LIST]];
+  document.getElementById("node-title").textContent = pathOf(index);
+  const kinds = ["inherits from its folder", "blocked", "no DACL: everything is granted to everyone"];
+  const facts = [
+    ["Kind", node[CONTAINER] ? "folder" : "file"],
+    ["Owner", nameOf(node[OWNER])],
+    ["Group", nameOf(node[GROUP])],
+    ["Inheritance", parents[index] < 0 && list[0] === 0 ? "the root" : kinds[list[0]]],
+  ];
+  if (node[FILES]) facts.push(["Files", `${node[FILES].toLocaleString("en")} inherit all of it, and have no line`]);
+  const details = make("dl");
+  for (const [name, value] of facts) details.append(make("dt", {}, name), make("dd", {}, value));
+  const parts = [details];
+  if (list[2].length) {
+    const findings = list[2].map((text) => make("li", {}, text));
+    parts.push(make("h3", { class: "lint" }, "Findings"), make("ul", {}, ...findings));
+  }
+  if (list[1].length) parts.push(tableOf(list));
+  else if (list[0] !== 2) parts.push(make("p", {}, "The list is empty: nothing is granted, but to the owner."));
+  document.getElementById("details").replaceChildren(...parts);
+};
+
+// Search: a node is found by its path, its owner, and the entries that it has itself.
+const texts = sids.map(([sid, name]) => `${sid} ${name}`.toLowerCase());
+const find = (words, isMarked) => {
+  const known = texts.map((text) => words !== "" && text.includes(words));
+  const inList = lists.map((list) => list[1].some((entry) => !entry[3] && known[entry[4]]));
+  const found = [];
+  nodes.forEach((node, index) => {
+    if (isMarked && !marksOf(index).length) return;
+    const isNamed = words === "" || known[node[OWNER]] || inList[node[LIST]];
+    if (isNamed || pathOf(index).toLowerCase().includes(words)) found.push(index);
+  });
+  return found;
+};
+
+const search = () => {
+  const words = document.getElementById("words").value.trim().toLowerCase();
+  const isMarked = document.getElementById("marked").checked;
+  const results = document.getElementById("results");
+  results.hidden = words === "" && !isMarked;
+  if (results.hidden) return;
+  const found = find(words, isMarked);
+  const some = found.length > FOUND_AT_ONCE ? `, of which ${FOUND_AT_ONCE} are listed` : "";
+  document.getElementById("results-title").textContent = `${found.length.toLocaleString("en")} found${some}`;
+  document.getElementById("found").replaceChildren(...found.slice(0, FOUND_AT_ONCE).map((index) => {
+    const link = make("button", { type: "button" }, pathOf(index));
+    link.addEventListener("click", () => { const item = reveal(index); choose(item); focus(item); });
+    return make("li", {}, link);
+  }));
+};
+
+let waiting = 0;
+const soon = () => { clearTimeout(waiting); waiting = setTimeout(search, 150); };
+document.getElementById("words").addEventListener("input", soon);
+document.getElementById("marked").addEventListener("change", search);
+document.getElementById("search").addEventListener("submit", (event) => { event.preventDefault(); search(); });
+
+document.getElementById("sum").textContent = data.sum;
+tree.append(itemOf(0, 1, 1));
+setOpen(items.get(0), true);
+current = items.get(0);
+current.tabIndex = 0;
+choose(current);
+document.documentElement.dataset.ready = String(Math.round(performance.now()));

@@ -1,0 +1,113 @@
+"""`estate report`: one HTML file with the folders of a script, that loads nothing and opens anywhere."""
+
+import base64
+import hashlib
+import html
+import json
+from dataclasses import dataclass, field
+from pathlib import Path as File
+from typing import Any
+
+from hudarin import Sid, mask
+
+from questions import findings_of
+from script import Script
+from sddl import Entry, Parts, parts_of
+from table import plural, safe
+from whole import whole_file
+
+_HERE = File(__file__).resolve().parent
+#: The masks of files that have a name in Windows' own editor.
+_RIGHTS = {
+    0x1F01FF: "full control",
+    0x1301BF: "modify",
+    0x1200A9: "read and execute",
+    0x120089: "read",
+    0x120116: "write",
+    0x10000000: "all (generic)",
+    0x80000000: "read (generic)",
+    0x40000000: "write (generic)",
+    0x20000000: "execute (generic)",
+}
+
+
+@dataclass(slots=True)
+class _Numbers:
+    """Values by the order in which they were first seen."""
+
+    numbers: dict[Any, int] = field(default_factory=dict)
+
+    def of(self, value: Any) -> int:
+        return self.numbers.setdefault(value, len(self.numbers))
+
+
+@dataclass(slots=True)
+class Report:
+    """The data of a report, by numbers of SIDs and lists: most nodes have the same."""
+
+    script: Script
+    names: dict[str, str]
+    _sids: _Numbers = field(default_factory=_Numbers)
+    _lists: dict[str, int] = field(default_factory=dict)
+    _made: list[list[Any]] = field(default_factory=list)
+
+    def write(self, name: str, title: str) -> int:
+        """Writes the report, and returns how many nodes it has."""
+        paths = sorted(self.script.nodes)
+        texts = {path: self.script.descriptor(path) for path in paths}
+        findings = findings_of(texts.values())
+        nodes = []
+        for path in paths:
+            node, parts = self.script.nodes[path], parts_of(texts[path])
+            label = safe(path[-1].decode()) if path else ""
+            owners = self._sid(parts.owner), self._sid(parts.group)
+            number = self._list(texts[path], parts, findings[texts[path]])
+            nodes.append([len(path), label, int(node.is_container), *owners, number, node.left_out])
+        folders = sum(node.is_container for node in self.script.nodes.values())
+        files = sum(node.left_out for node in self.script.nodes.values())
+        counts = {"folder": folders, "file": len(nodes) - folders}
+        said = [*(plural(count, what) for what, count in counts.items()), f"{plural(files, 'file')} without a line"]
+        self._put(name, title, {"sum": ", ".join(said), "sids": self._named(), "lists": self._made, "nodes": nodes})
+        return len(nodes)
+
+    def _sid(self, text: str) -> int:
+        return self._sids.of(Sid.from_text(text).full)
+
+    def _named(self) -> list[list[str]]:
+        return [[sid, safe(self.names.get(sid, ""))] for sid in self._sids.numbers]
+
+    def _list(self, text: str, parts: Parts, findings: list[str]) -> int:
+        number = self._lists.get(text)
+        if number is None:
+            number = self._lists[text] = len(self._made)
+            kind = 2 if parts.entries is None else int(parts.is_protected)
+            self._made.append([kind, [self._entry(entry) for entry in parts.entries or ()], findings])
+        return number
+
+    def _entry(self, entry: Entry) -> list[Any]:
+        rights, _, _, sid = entry.rest.split(";")
+        bits = mask(rights)
+        named = _RIGHTS.get(bits, f"{rights} ({bits:#x})" if not rights.startswith("0x") else rights)
+        return [int(entry.kind == "D"), named, _applies(entry), int(entry.is_inherited), self._sid(sid)]
+
+    def _put(self, name: str, title: str, data: dict[str, Any]) -> None:
+        style, script, page = ((_HERE / f"report.{kind}").read_text("utf-8") for kind in ("css", "js", "html"))
+        digest = base64.b64encode(hashlib.sha256(script.encode()).digest()).decode()
+        # ('<' ends the element that has the data, wherever it is)
+        inside = json.dumps(data, separators=(",", ":")).replace("<", "\\u003c")
+        values = {"hash": f"sha256-{digest}", "title": html.escape(safe(title)), "style": style, "script": script}
+        before, after = page.split("@data@")
+        for key, value in values.items():
+            before, after = before.replace(f"@{key}@", value), after.replace(f"@{key}@", value)
+        with whole_file(name) as file:
+            file.write((before + inside + after).encode())
+
+
+def _applies(entry: Entry) -> str:
+    """To what an entry applies, in words."""
+    flags = set(entry.flags)
+    targets = [] if "IO" in flags else ["this"]
+    targets += ["folders"] if "CI" in flags else []
+    targets += ["files"] if "OI" in flags else []
+    deep = ", one level down" if "NP" in flags else ""
+    return (" and ".join([", ".join(targets[:-1]), targets[-1]]) if len(targets) > 1 else "".join(targets)) + deep

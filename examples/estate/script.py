@@ -1,0 +1,195 @@
+"""A script that `estate read` wrote, with changes after it: its lines, and the trees before and after the changes."""
+
+import re
+from collections.abc import Callable, Iterator
+from dataclasses import dataclass, field
+
+from hudarin import Descriptor, Refused, Sid, Store, View
+
+from errors import Failed, Invalid
+from inheritance import Chain
+from paths import Path, parsed
+from sddl import parts_of
+
+#: Commands that change no descriptor.
+_QUESTIONS = {"tell", "learn", "check", "why", "show", "list", "dump", "who", "find", "review"}
+#: Commands that make, remove or move files.
+_OF_FILES = {"open", "import", "addc", "addo", "remove", "move"}
+_LEFT_OUT = re.compile(r"# left out: (\d+) files of (/\S*)")
+
+
+@dataclass(slots=True)
+class Node:
+    """A node that the script opens or imports: what its line says of it."""
+
+    is_container: bool
+    #: The descriptor of the source, in canonical SDDL; of the root what opens the tree.
+    text: str
+    #: How many files that inherit all have no line, by --folders.
+    left_out: int = 0
+
+
+@dataclass(slots=True)
+class Change:
+    """A node whose descriptor in the tree changes."""
+
+    path: Path
+    is_container: bool
+    #: What the script read.
+    read: str
+    #: The tree's descriptors, in canonical SDDL.
+    before: str
+    after: str
+
+    @property
+    def is_of_dacl(self) -> bool:
+        return parts_of(self.before).dacl != parts_of(self.after).dacl
+
+    @property
+    def is_passed_down(self) -> bool:
+        """Whether what is in the folder may change too."""
+        return parts_of(self.before).for_children != parts_of(self.after).for_children
+
+
+@dataclass(slots=True)
+class Script:
+    """The nodes of a script, and the trees before and after its changes: `with read_script(name) as script: ..`."""
+
+    name: str
+    nodes: dict[Path, Node] = field(default_factory=dict)
+    _store: Store | None = None
+    _before: View | None = None
+    _after: View | None = None
+
+    def __enter__(self) -> "Script":
+        return self
+
+    def __exit__(self, *_: object) -> None:
+        for held in (self._before, self._after, self._store):
+            if held is not None:
+                held.close()
+
+    @property
+    def before(self) -> View:
+        assert self._before is not None
+        return self._before
+
+    @property
+    def after(self) -> View:
+        assert self._after is not None
+        return self._after
+
+    def descriptor(self, path: Path) -> str:
+        """The node's descriptor in the tree after the changes, in canonical SDDL."""
+        return str(self.after.descriptor(plain(path)))
+
+    def changes(self) -> Iterator[Change]:
+        """The nodes that change, in the order of the paths."""
+        for path in sorted(self.nodes):
+            at = plain(path)
+            before, after = self.before.descriptor(at), self.after.descriptor(at)
+            if before != after:
+                node = self.nodes[path]
+                yield Change(path, node.is_container, node.text, str(before), str(after))
+
+    # Lines
+
+    def read_line(self, line: str) -> None:
+        """Carries out a line, or raises a ValueError."""
+        if not line or line.startswith("#"):
+            self._remember_left_out(line)
+            return
+        command, *words = line.split(" ")
+        if self._store is None:
+            self._open(command, words)
+        elif self._before is None and command != "publish":
+            self._import(command, words)
+        elif command == "publish":
+            self._publish()
+        elif command in _OF_FILES:
+            raise ValueError(f"{command}: files are neither made nor removed nor moved, so such a change isn't written")
+        elif command not in _QUESTIONS:
+            self._change(command, words)
+
+    def _remember_left_out(self, line: str) -> None:
+        found = _LEFT_OUT.fullmatch(line)
+        node = self.nodes.get(parsed(found[2])) if found else None
+        if found and node is not None:
+            node.left_out = int(found[1])
+
+    def _open(self, command: str, words: list[str]) -> None:
+        if command != "open" or len(words) != 2:
+            raise ValueError("'open 1 SDDL' is expected, as estate read writes it")
+        descriptor = Descriptor.from_sddl(words[1])
+        self._store = Store(descriptor)
+        self.nodes[()] = Node(True, str(descriptor))
+
+    def _import(self, command: str, words: list[str]) -> None:
+        if command != "import" or len(words) != 3 or words[0] not in ("container", "object"):
+            raise ValueError("'import KIND PATH SDDL' is expected, as estate read writes it, or 'publish'")
+        assert self._store is not None
+        path, text = parsed(words[1]), str(Descriptor.from_sddl(words[2]))
+        own = Descriptor.from_sddl(parts_of(text).own)
+        is_container = words[0] == "container"
+        (self._store.add_container if is_container else self._store.add_object)(plain(path), own)
+        self.nodes[path] = Node(is_container, text)
+
+    def _publish(self) -> None:
+        assert self._store is not None
+        view = self._store.publish()
+        if self._before is None:
+            self._before, self._after = view, view.share()
+        else:
+            self.after.close()
+            self._after = view
+
+    def _change(self, command: str, words: list[str]) -> None:
+        assert self._store is not None
+        store = self._store
+        edits: dict[str, tuple[int, Callable[..., None]]] = {
+            "owner": (2, lambda path, sid: store.set_owner(path, Sid.from_text(sid))),
+            "group": (2, lambda path, sid: store.set_group(path, Sid.from_text(sid))),
+            "dacl": (2, lambda path, text: store.set_dacl(path, Descriptor.from_sddl(text))),
+            "protect": (1, store.protect_keeping),
+        }
+        count, edit = edits.get(command, (0, None))
+        if edit is None or len(words) != count:
+            raise ValueError(f"{command!a}: not a command of a script, or a wrong number of arguments")
+        edit(plain(parsed(words[0])), *words[1:])
+
+    def end(self) -> None:
+        """Raises a ValueError if the script isn't complete."""
+        if self._store is None or self._before is None:
+            raise ValueError("it ends before 'publish': it isn't complete")
+        if len(self._store) != len(self.after):
+            raise ValueError("changes after the last 'publish' aren't published")
+
+
+def plain(path: Path) -> str:
+    """The path's text for the library, which encodes nothing."""
+    return "/" + "/".join(name.decode() for name in path)
+
+
+def chain_of(view: View, path: Path) -> Chain:
+    """What was given to the folder of the path and to those above it."""
+    return tuple(str(view.own(plain(path[:length])).own) for length in range(len(path) + 1))
+
+
+def read_script(name: str) -> Script:
+    """The script in a file. Invalid if a line can't be carried out, or is refused."""
+    script = Script(name)
+    number = 0
+    try:
+        with open(name, encoding="utf-8", newline="\n") as lines:
+            for number, line in enumerate(lines, 1):
+                script.read_line(line.removesuffix("\n").removesuffix("\r"))
+        script.end()
+    except Refused as refused:
+        script.__exit__()
+        raise Invalid(f"{name}: line {number}: refused: {refused}") from refused
+    except ValueError as error:
+        script.__exit__()
+        raise Invalid(f"{name}: line {number}: {error}") from error
+    except OSError as error:
+        raise Failed(f"{name}: {error.strerror}") from error
+    return script

@@ -1,0 +1,122 @@
+"""What a tree takes of a descriptor, by the canonical text that the library prints."""
+
+import dataclasses
+import functools
+import re
+from dataclasses import dataclass
+
+_SHAPE = re.compile(r"O:([^:]*)G:([^:]*?)(?:D:(NO_ACCESS_CONTROL|(P?)(?:AR)?(?:AI)?((?:\([^()]*\))*)))?")
+_ENTRY = re.compile(r"\((A|D);([A-Z]*);([^()]*)\)")
+
+
+@dataclass(frozen=True, slots=True)
+class Entry:
+    """An entry of a list: its kind, its flags in pairs of letters, and the rest of its text."""
+
+    kind: str
+    flags: tuple[str, ...]
+    rest: str
+
+    def __str__(self) -> str:
+        return f"({self.kind};{''.join(self.flags)};{self.rest})"
+
+    @property
+    def is_inherited(self) -> bool:
+        return "ID" in self.flags
+
+    @property
+    def is_for_children(self) -> bool:
+        """Whether it has a flag that only a container's entry has."""
+        return not {"OI", "CI", "IO", "NP"}.isdisjoint(self.flags)
+
+    @property
+    def made_own(self) -> "Entry":
+        return Entry(self.kind, tuple(flag for flag in self.flags if flag != "ID"), self.rest)
+
+
+@dataclass(frozen=True, slots=True)
+class Parts:
+    """The parts of a canonical text with owner and group. Without a list `entries` is None: the DACL is null, or absent
+    if `is_absent`."""
+
+    owner: str
+    group: str
+    is_protected: bool
+    is_absent: bool
+    entries: tuple[Entry, ...] | None
+
+    @property
+    def own(self) -> str:
+        """What `import` of a script gives a node of this descriptor: its own entries, denies first, and protection. An
+        absent DACL grants everything, so it is written as a null one, which does too."""
+        return self._with(None if self.entries is None else [each for each in self.entries if not each.is_inherited])
+
+    @property
+    def as_root(self) -> "Parts":
+        """The root of a tree: the entries that it inherited from a folder above are its own."""
+        entries = None if self.entries is None else tuple(each.made_own for each in self.entries)
+        return dataclasses.replace(self, entries=entries)
+
+    @property
+    def inherited(self) -> tuple[Entry, ...]:
+        return tuple(each for each in self.entries or () if each.is_inherited)
+
+    @property
+    def text(self) -> str:
+        """The descriptor for a line of `import`."""
+        return self._with(self.entries, in_order=True)
+
+    @property
+    def dacl(self) -> tuple[bool, tuple[Entry, ...] | None]:
+        """What two descriptors have alike if their DACLs grant alike and pass down alike."""
+        return self.is_protected, self.entries
+
+    @property
+    def for_children(self) -> tuple[Entry, ...]:
+        """The entries of which children inherit something: those of a null DACL are none."""
+        return tuple(each for each in self.entries or () if each.is_for_children)
+
+    @property
+    def has_no_own(self) -> bool:
+        """Whether all that it has is inherited."""
+        return self.entries is not None and not self.is_protected and all(each.is_inherited for each in self.entries)
+
+    def _with(self, entries: list[Entry] | tuple[Entry, ...] | None, in_order: bool = False) -> str:
+        owners = f"O:{self.owner}G:{self.group}"
+        if entries is None:
+            return f"{owners}D:NO_ACCESS_CONTROL"
+        ordered = entries if in_order else sorted(entries, key=lambda entry: entry.kind != "D")
+        return f"{owners}D:{'P' if self.is_protected else ''}{''.join(map(str, ordered))}"
+
+
+@functools.lru_cache(maxsize=65_536)
+def parts_of(text: str) -> Parts:
+    """The parts of a canonical text, or a ValueError if it has no owner or no group."""
+    found = _SHAPE.fullmatch(text)
+    if found is None or not found[1] or not found[2]:
+        raise ValueError("it lacks an owner or a group")
+    owner, group, dacl, protected, entries = found.groups()
+    if dacl is None or dacl == "NO_ACCESS_CONTROL":
+        return Parts(owner, group, False, dacl is None, None)
+    return Parts(owner, group, bool(protected), False, _entries_of(entries))
+
+
+def _entries_of(text: str) -> tuple[Entry, ...]:
+    return tuple(
+        Entry(kind, tuple(flags[at : at + 2] for at in range(0, len(flags), 2)), rest)
+        for kind, flags, rest in _ENTRY.findall(text)
+    )
+
+
+_SECTIONS = re.compile(r"(?:O:([^:]*?))?(?:G:([^:]*?))?(D:.*)?")
+
+
+def completed(text: str, owner: str | None, group: str | None) -> str:
+    """A canonical text with this owner and group where it has none, or a ValueError if one is missing still."""
+    found = _SECTIONS.fullmatch(text)
+    has_owner, has_group, dacl = found.groups() if found else (None, None, None)
+    owner, group = has_owner or owner, has_group or group
+    if owner is None or group is None:
+        option = "--owner" if owner is None else "--group"
+        raise ValueError(f"it lacks an owner or a group, which {option} gives")
+    return f"O:{owner}G:{group}{dacl or ''}"

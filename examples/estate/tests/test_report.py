@@ -1,0 +1,155 @@
+"""The report, in headless Chromium."""
+
+import unittest
+
+import chromium
+from rig import Case, needs_program
+
+USER = "S-1-5-21-1-2-3-1001"
+OTHER = "S-1-5-21-1-2-3-1002"
+INHERITED = f"(A;OICIID;FA;;;BA)(A;OICIID;0x1200a9;;;{USER})"
+HEAD = f"open 1 O:BAG:SYD:P(A;OICI;FA;;;BA)(A;OICI;0x1200a9;;;{USER})\n"
+SCRIPT = f"""\
+{HEAD}import container /%3Cb%3E%0A O:BAG:SYD:(D;OICI;FW;;;{OTHER})(D;OICI;FW;;;{OTHER}){INHERITED}
+import container /%3Cb%3E%0A/in O:BAG:SYD:P(A;;FR;;;BU)
+# left out: 1204 files of /%3Cb%3E%0A/in
+import container /%3Cb%3E%0A/none O:{OTHER}G:SYD:NO_ACCESS_CONTROL
+import container /plain O:BAG:SYD:{INHERITED}
+import object /plain/file O:BAG:SYD:(A;ID;FA;;;BA)(A;ID;0x1200a9;;;{USER})
+publish
+"""
+#: Seconds of a processor until a report of 20,000 folders can be used. (Seconds of a clock depend on what else runs.)
+SECONDS = 1.0
+FOLDERS = 20_000
+
+
+@needs_program
+@unittest.skipUnless(chromium.found(), "the package chromium is required")
+class Report(Case):
+    def page(self, script: str, *words: str) -> chromium.Page:
+        self.write("script", script)
+        self.runs(0, "report", *words, "script", "report.html")
+        page = chromium.Page(self.room / "report.html")
+        self.addCleanup(page.__exit__)
+        return page
+
+    def small(self) -> chromium.Page:
+        self.write("names", f'{USER} CORP\\alice\n{OTHER} CORP\\</script><img src=x onerror="alert(1)">\n')
+        return self.page(SCRIPT, "--names", "names", "--title", "</title><b>")
+
+    def items(self, page: chromium.Page) -> list[str]:
+        return list(page.value("shown().map((item) => item.querySelector('.row').innerText)"))
+
+    def focused(self, page: chromium.Page) -> str:
+        return str(page.value("document.activeElement.querySelector('.name').textContent"))
+
+    def test_texts_from_outside(self) -> None:
+        """Names and titles are texts and nothing else, and nothing is loaded."""
+        page = self.small()
+        self.assertEqual(page.value("document.title"), "</title><b>")
+        self.assertEqual(page.value("document.querySelectorAll('img, link, iframe, script[src]').length"), 0)
+        page.value("document.getElementById('words').value = 'onerror'; search()")
+        self.assertEqual(page.value("document.getElementById('results-title').textContent"), "2 found")
+        self.assertEqual(page.faults(), [])
+
+    def test_the_tree_by_keys(self) -> None:
+        page = self.small()
+        page.key("Tab", "Tab", "Tab")
+        self.assertEqual(self.focused(page), "/")
+        self.assertEqual(len(self.items(page)), 3)
+        page.key("ArrowDown", "ArrowRight", "ArrowRight")
+        self.assertEqual(self.focused(page), "in")
+        page.key("Enter")
+        self.assertEqual(page.value("document.getElementById('node-title').textContent"), "/<b>\\n/in")
+        page.key("ArrowLeft", "ArrowLeft")
+        self.assertEqual(len(self.items(page)), 3)
+        page.key("End", "ArrowRight")
+        self.assertEqual(self.items(page)[-1], "file")
+        page.key("Home")
+        self.assertEqual(self.focused(page), "/")
+        self.assertEqual(page.value("tree.querySelectorAll('[tabindex=\"0\"]').length"), 1)
+
+    def test_what_a_node_shows(self) -> None:
+        page = self.small()
+        page.key("Tab", "Tab", "Tab", "ArrowDown", "ArrowRight", "Enter")
+        marks = [text.split("\n")[1:] for text in self.items(page)]
+        self.assertEqual(
+            marks,
+            [
+                ["inheritance blocked"],
+                ["own entries", "2 findings"],
+                ["inheritance blocked", "1,204 files"],
+                ["no DACL: everything is granted", "1 finding"],
+                [],
+            ],
+        )
+        rows = page.value("[...document.querySelectorAll('#details tr')].map((row) => row.innerText)")
+        self.assertIn("Deny", rows[1])
+        self.assertIn("write\tthis, folders and files\town", rows[1])
+        self.assertEqual(
+            rows[4].split("\t"),
+            ["Allow", f"CORP\\alice\n{USER}\n", "read and execute", "this, folders and files", "inherited"],
+        )
+        self.assertIn("repeats entry 1", page.value("document.querySelector('#details ul').innerText"))
+
+    def test_the_search(self) -> None:
+        """By name, SID and path; a SID is found where it has entries or owns, not where they are inherited."""
+        page = self.small()
+        for words, found in (("alice", ["/"]), (OTHER, ["/<b>\\n", "/<b>\\n/none"]), ("PLAIN/", ["/plain/file"])):
+            page.value(f"document.getElementById('words').value = {words!r}; search()")
+            self.assertEqual(
+                page.value("[...document.querySelectorAll('#found button')].map((one) => one.textContent)"), found
+            )
+        page.value("document.querySelector('#found button').click()")
+        self.assertEqual(self.focused(page), "file")
+        page.value("document.getElementById('words').value = ''; document.getElementById('marked').click()")
+        self.assertEqual(page.value("document.getElementById('results-title').textContent"), "4 found")
+
+    def test_what_is_read_aloud(self) -> None:
+        """The browser's own tree for screen readers has names and levels of items, and of fields."""
+        page = self.small()
+        nodes = page.ask("Accessibility.getFullAXTree")["nodes"]
+        said = {(node["role"]["value"], node.get("name", {}).get("value", "")) for node in nodes if not node["ignored"]}
+        for wanted in (
+            ("tree", "Folders"),
+            ("treeitem", "/, inheritance blocked"),
+            ("treeitem", "<b>\\n, own entries, 2 findings"),
+            ("searchbox", "Search names, SIDs and paths"),
+            ("columnheader", "Rights"),
+            ("heading", "/"),
+        ):
+            self.assertIn(wanted, said)
+
+    def test_contrast(self) -> None:
+        """Each colour of text has a contrast of 4.5 or more on the panel and the page, in both themes (WCAG 2, AA)."""
+        page = self.small()
+        for theme in ("light", "dark"):
+            page.theme(theme)
+            for text in ("--text", "--soft", "--deny", "--own", "--warn"):
+                for ground in ("--page", "--panel", "--chosen"):
+                    self.assertGreaterEqual(
+                        contrast(*(self.colour(page, name) for name in (text, ground))), 4.5, (theme, text, ground)
+                    )
+
+    def colour(self, page: chromium.Page, name: str) -> str:
+        return str(page.value(f"getComputedStyle(document.documentElement).getPropertyValue({name!r})")).strip()
+
+    def test_twenty_thousand_folders(self) -> None:
+        lines = [f"import container /d{at} O:BAG:SYD:{INHERITED}\n" for at in range(200)]
+        lines += [f"import container /d{at % 200}/n{at} O:BAG:SYD:{INHERITED}\n" for at in range(FOLDERS - 201)]
+        page = self.page(HEAD + "".join(lines) + "publish\n")
+        self.assertEqual(page.value("nodes.length"), FOLDERS)
+        seconds = page.processor_seconds()
+        ready = page.value("document.documentElement.dataset.ready")
+        print(f"a report of {FOLDERS:,} folders opens in {ready} ms, with {seconds:.2f} s of a processor")
+        self.assertLess(seconds, SECONDS)
+
+
+def contrast(*colours: str) -> float:
+    """The ratio of contrast of two colours as #rrggbb, by WCAG 2."""
+    lights = []
+    for colour in colours:
+        parts = [int(colour[at : at + 2], 16) / 255 for at in (1, 3, 5)]
+        parts = [part / 12.92 if part <= 0.04045 else ((part + 0.055) / 1.055) ** 2.4 for part in parts]
+        lights.append(0.2126 * parts[0] + 0.7152 * parts[1] + 0.0722 * parts[2])
+    return (max(lights) + 0.05) / (min(lights) + 0.05)

@@ -1,0 +1,188 @@
+"""NTFS volumes, end to end: 5,000 nodes are read, changed, written, mounted again and read again. What each node has to
+have comes from a second implementation of the rules."""
+
+import os
+import subprocess
+
+import second
+from rig import Case, Names, Ntfs, by_sdstore, fill, needs_program, node_form, read_form
+from trees import BG, BU, SY, WD, Planted, allow, deny, planted
+
+NODES = 5000
+
+
+def spelled(path: Names) -> str:
+    return str(second.path_word(path, True))
+
+
+def imports(script: str) -> dict[str, tuple[str, str]]:
+    """The kind and the descriptor of each path that the script opens or imports."""
+    rows = {}
+    for line in script.splitlines():
+        words = line.split(" ")
+        if words[0] == "open":
+            rows["/"] = ("container", words[2])
+        elif words[0] == "import":
+            rows[words[2]] = (words[1], words[3])
+    return rows
+
+
+def table_of(lines: list[str]) -> dict[str, list[str]]:
+    """The rows of a table by their paths."""
+    return {cells[1]: cells for cells in (line.split("\t") for line in lines)}
+
+
+def wanted_after(tree: second.Tree, old: second.Tree, path: Names, old_text: str) -> str:
+    """What a node has to have after a change: what it had, unless the tree changed its descriptor."""
+    return old_text if tree.shown(path) == old.shown(path) else read_form(node_form(tree, path))[0]
+
+
+class Volumes(Case):
+    def setUp(self) -> None:
+        super().setUp()
+        self.volume = Ntfs(self.room)
+        self.addCleanup(self.volume.__exit__)
+
+    def plant(self, count: int) -> Planted:
+        made = planted(count)
+        fill(self.volume, made.tree, made.form)
+        return made
+
+    def read(self, name: str, *options: str, status: int = 1, says: str = "") -> tuple[str, dict[str, list[str]]]:
+        lines = self.runs(status, "read", *options, self.volume.folder, name, says=says)
+        return (self.room / name).read_text(), table_of(lines)
+
+    def blobs(self, tree: second.Tree) -> dict[Names, bytes]:
+        return {path: self.volume.get(path) for path in tree.nodes}
+
+
+class EndToEnd(Volumes):
+    def test_a_volume(self) -> None:
+        made = self.plant(NODES)
+        script, table = self.read("script", says=f"{made.sacl_count:,} SACLs dropped")
+        self.assert_table(made, table)
+        self.assert_read(made, script)
+        before, old = self.blobs(made.tree), made.tree.copy()
+        self.write("changed", script + self.change(made))
+        self.runs(1, "write", "changed", self.volume.folder, says="can't be written safely: nothing is written")
+        self.assertEqual(self.blobs(made.tree), before)
+        allowed = ("--replace-differing", "--leave-unread")
+        self.runs(0, "write", *allowed, "changed", self.volume.folder, says="nodes written")
+        self.volume.unmount()
+        self.volume.mount()
+        self.assert_written(made, old, before)
+        again, _ = self.read("again")
+        self.assert_read(made, again)
+        self.runs(0, "undo", "changed.journal", says="nodes restored")
+        self.assertEqual(self.blobs(made.tree), before)
+
+    def assert_table(self, made: Planted, table: dict[str, list[str]]) -> None:
+        """The table has just the nodes that were planted."""
+        said = {spelled(path): what for path, what in made.said.items()}
+        self.assertEqual({path: cells[0] for path, cells in table.items()}, said)
+
+    def assert_read(self, made: Planted, script: str) -> None:
+        """The script has each node as its bytes on the volume say."""
+        rows = imports(script)
+        for path, node in made.tree.nodes.items():
+            at = spelled(path)
+            if made.said.get(path) == "skipped":
+                self.assertNotIn(at, rows)
+                continue
+            text, _ = read_form(self.volume.get(path))
+            wanted = text if "D:" in text else text + "D:NO_ACCESS_CONTROL"
+            self.assertEqual(rows[at], ("container" if node.is_container else "object", wanted), at)
+
+    def change(self, made: Planted) -> str:
+        """Lines that change several nodes, which are changed in the second implementation too."""
+        folders = [path for path, node in sorted(made.tree.nodes.items()) if path and node.is_container]
+        deep = max(folders, key=len)
+        kept = next(path for path in folders if made.kinds[path] == "own deny")
+        owned = next(path for path in sorted(made.kinds) if made.kinds[path] == "audited")
+        edits = [
+            ("dacl", (), (False, [deny(BG, 0x2), allow(BU, 0x1200A9), allow(SY, 0x1F01FF)])),
+            ("dacl", deep, (True, [allow(WD, 0x1)])),
+            ("owner", owned, SY),
+            ("protect", kept, None),
+        ]
+        lines = []
+        for edit, path, given in edits:
+            made.tree.nodes = made.tree.edited(edit, path, given)
+            lines.append(" ".join(filter(None, (edit, spelled(path), self.text_of(given)))))
+        return "\n".join([*lines, "publish", ""])
+
+    def text_of(self, given: object) -> str:
+        if given is None:
+            return ""
+        if given == SY:
+            return "SY"
+        protected, entries = given  # type: ignore[misc]
+        return f"D:{'P' if protected else ''}" + "".join(map(second.entry_text, entries))
+
+    def assert_written(self, made: Planted, old: second.Tree, before: dict[Names, bytes]) -> None:
+        """Each node has just the changed list, owner and group, and the SACL and the manager's bit that it had."""
+        for path in made.tree.nodes:
+            if made.said.get(path) == "skipped":
+                self.assertEqual(self.volume.get(path), before[path])
+                continue
+            text, sacl = read_form(self.volume.get(path))
+            old_text, old_sacl = read_form(before[path])
+            wanted = wanted_after(made.tree, old, path, old_text)
+            self.assertEqual((text, sacl), (wanted, old_sacl), path)
+            self.assertEqual(self.volume.get(path)[3] & 0x40, before[path][3] & 0x40)
+
+
+@needs_program
+class ByTheProgram(Volumes):
+    def test_that_sdstore_has_the_same_tree(self) -> None:
+        """The program has each node as the second implementation, and finds the nodes that differ."""
+        made = self.plant(1000)
+        script, _ = self.read("script")
+        answers = by_sdstore(script + "list\n")
+        rows = [line.split(" ") for line in answers if line.startswith(("container ", "object "))]
+        wanted = {spelled(path): made.tree.shown(path) for path in made.tree.nodes if made.said.get(path) != "skipped"}
+        self.assertEqual({path: text for _, path, text in rows}, wanted)
+        self.assertEqual(answers.count("ok differs"), sum(kind == "moved" for kind in made.kinds.values()))
+
+
+class Folders(Volumes):
+    def test_folders_alone(self) -> None:
+        """Files that inherit all have no line and are counted; a change reaches them all the same."""
+        made = self.plant(1500)
+        whole, _ = self.read("whole")
+        lines = self.runs(1, "read", "--folders", self.volume.folder, "script")
+        script = (self.room / "script").read_text()
+        left_out = imports(whole).keys() - imports(script).keys()
+        for path, node in made.tree.nodes.items():
+            follows = not node.is_container and made.kinds[path] in ("inherits", "audited") and path not in made.said
+            self.assertEqual(spelled(path) in left_out, follows, path)
+        counts = [int(line.split("\t")[2]) for line in lines if line.startswith("files\t")]
+        self.assertEqual(sum(counts), len(left_out))
+        self.write("changed", script + "dacl / D:(A;OICI;FA;;;SY)\npublish\n")
+        made.tree.nodes = made.tree.edited("dacl", (), (False, [allow(SY, 0x1F01FF)]))
+        self.runs(0, "write", "--replace-differing", "--leave-unread", "changed", self.volume.folder)
+        for path in made.tree.nodes:
+            if path not in made.said:
+                self.assertEqual(read_form(self.volume.get(path))[0], read_form(node_form(made.tree, path))[0])
+
+
+class NotRead(Volumes):
+    def test_links_mounts_and_depths(self) -> None:
+        """Links, special files, other file systems and what is too deep have rows, and nothing beyond them is read."""
+        os.mkdir(self.volume.at(("folder",)))
+        os.symlink("/etc", self.volume.at(("folder", "link")))
+        os.mkfifo(self.volume.at(("folder", "pipe")))
+        os.mkdir(self.volume.at(("mounted",)))
+        subprocess.run(["mount", "-t", "tmpfs", "none", self.volume.at(("mounted",))], check=True)
+        self.addCleanup(subprocess.run, ["umount", self.volume.at(("mounted",))])
+        os.mkdir(self.volume.at(("mounted", "in")))
+        os.makedirs(self.volume.at(("d",) * 67))
+        script, table = self.read("script", says="4 skipped")
+        self.assertEqual(table["/folder/link"][2], "a link")
+        self.assertEqual(table["/folder/pipe"][2], "neither a folder nor a file")
+        self.assertEqual(table["/mounted"][2], "another file system is mounted there")
+        deep = "/d" * 65
+        self.assertIn("too deep: its path has 65 names, and 64 fit", table[deep][2])
+        rows = imports(script)
+        self.assertEqual({path for path in rows if "/d" not in path}, {"/", "/folder"})
+        self.assertEqual(max(path.count("/") for path in rows), 64)
