@@ -1,3 +1,0 @@
-pub mod Answers
-pub mod Lines
-pub mod Steps

@@ -1,9 +1,0 @@
--- The lines of the places so far stand behind the text.
-use Rattle.std.proofs.Common.{◌≡◌, ◌++◌, string_bytes}
-use Rattle.sd_explain.specs.Parts.{reason_in}
-use Rattle.sd_script.specs.Why.{part_lines}
-use Rattle.sd_script.proofs.why.Listed.push_parts.Given as goal
-
-abbrev pub invariant-loop-place : goal.invariant-loop-place
-invariant-loop-place l =
-    string_bytes l.text ≡ string_bytes l.initial.text ++ part_lines l.self.spelling l.self.owner.now l.self.entries.now (reason_in l.explanation.reasons) l.place
