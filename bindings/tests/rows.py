@@ -170,8 +170,6 @@ class Table:
         elif heads == "Text|Bytes":
             ask(place, "tobin", one)
             ask(place, "frombin", two)
-        elif heads == "Bytes|Answer":
-            ask(place, "frombin", one)
         elif heads.startswith("Place|Bytes of "):
             Table.bytes += two
         elif heads == "Cut to|Fault":
