@@ -183,7 +183,7 @@ class Table:
         elif heads == "Rights|Mask|Printed":
             ask(place, "print", f"D:(A;;{one};;;WD)")
             ask(place, "verdict", "D:NO_ACCESS_CONTROL", USER, one)
-        elif heads.startswith(("Alias|SID|", "Domain alias|", "Unknown alias|")):
+        elif heads.startswith(("Alias|SID|", "Domain alias|")):
             for alias, sid in pairs(cells):
                 ask(place, "print", f"O:{alias}")
                 ask(place, "verdict", "D:", alias, "0x1")
