@@ -3,10 +3,9 @@ use Rattle.std.specs.Prelude.{◌≡◌, ◌^◌, ◌<◌, ◌≤◌, bit_and, B
 use Rattle.std.specs.List.{AllByRecursion}
 use Rattle.sd_sid.specs.Sid.{SidValue, IsSid}
 use Rattle.sd_acl.specs.Ace.{acl_size_of, all_named}
-use Rattle.sd_acl.specs.Dacl.{IsAbsent}
+use Rattle.sd_acl.specs.Dacl.{Dacl, IsAbsent}
 use Rattle.sd_acl.specs.declared.ace.Ace.{Ace}
-use Rattle.sd_acl.specs.declared.descriptor.Dacl.{Dacl}
-use Rattle.sd_acl.specs.declared.descriptor.Dacl.TheVariants.{Absent, Null, List as Entries}
+use Rattle.sd_acl.specs.declared.descriptor.DaclOf.TheVariants.{Absent, Null, List as Entries}
 use Rattle.sd_acl.specs.declared.descriptor.Descriptor.{Descriptor}
 
 -- a descriptor: whose it is, and what its DACL says

@@ -6,16 +6,19 @@ ghost use Rattle.sd_acl.specs.Dacl.{IsAbsent};
 use crate::list::AceList;
 use sd_sid::Sid;
 
-/// The discretionary list of a descriptor ([MS-DTYP] 2.4.6, control bit DP and OffsetDacl).
-#[derive(Debug, Drop)]
-pub enum Dacl {
+/// The discretionary list of a descriptor ([MS-DTYP] 2.4.6, control bit DP and OffsetDacl), wherever its entries are.
+#[derive(Debug, Clone, Copy, Drop)]
+pub enum DaclOf<Entries> {
     /// There is none: each of the object's own rights and the standard ones is granted.
     Absent,
     /// There is one that is null, with the same meaning.
     Null,
     /// The entries grant; an empty list grants nothing.
-    List(AceList),
+    List(Entries),
 }
+
+/// A DACL with its entries.
+pub type Dacl = DaclOf<AceList>;
 
 /// A security descriptor without a SACL ([MS-DTYP] 2.4.6). The three flags speak of the DACL: they are false
 /// where there is none.

@@ -17,7 +17,7 @@ mod list;
 
 pub use ace::{Ace, AceKind};
 pub use canonical::{canonicalize, denies_stand_first, explicit_of, is_canonical};
-pub use descriptor::{Dacl, Descriptor};
+pub use descriptor::{Dacl, DaclOf, Descriptor};
 pub use flags::AceFlags;
 pub use lent::AceRef;
 pub use list::{ACL_HEADER_BYTES, AceList, AclTooLarge, MAX_ACL_BYTES, acl_size};

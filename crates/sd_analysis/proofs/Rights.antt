@@ -14,10 +14,9 @@ use Rattle.sd_sid.proofs.Masks.{holds_place, holds_when}
 use Rattle.sd_acl.specs.Ace.{is_inherit_only}
 use Rattle.sd_acl.specs.declared.ace.Ace.{Ace}
 use Rattle.sd_acl.specs.declared.ace.AceKind.TheVariants.{Allow}
-use Rattle.sd_check.specs.Check.{applies, applies_again, acl_grants, decides, first, is_allowed_by, is_given, is_granted, is_restricting_subject, entries_of, limits_owner, stands_for_subject}
+use Rattle.sd_check.specs.Check.{DaclRef, applies, applies_again, acl_grants, decides, first, is_allowed_by, is_given, is_granted, is_restricting_subject, entries_of, limits_owner, stands_for_subject}
 use Rattle.sd_check.specs.Laws.{restricted_to}
-use Rattle.sd_check.specs.declared.request.DaclRef.{DaclRef}
-use Rattle.sd_check.specs.declared.request.DaclRef.TheVariants as borrowed
+use Rattle.sd_acl.specs.declared.descriptor.DaclOf.TheVariants as dacls
 use Rattle.sd_check.specs.Token.{TokenValue, is_restricted}
 use Rattle.sd_check.specs.declared.token.GroupState.{GroupState}
 use Rattle.sd_check.proofs.RestrictionProofs.{restriction_grants_no_bit}
@@ -270,13 +269,13 @@ no_list_is_who owner g base rights r accesses is exact t b plain has low =
     ∙ without_list (nat_lt b 21) (holds rights b) (nat_lt b 21) (is_restricted t) (is_given owner None t b) plain.unrestricted
 
 pub everyone_is_who : (owner : Option SidValue) (dacl : DaclRef) (g : MappingValue) (base : List (SidValue × GroupState)) (rights r : ℕ) (accesses : List Access)
-    → ((es : Bor (List Ace)) → dacl ≡ borrowed.List es → ⊥)
+    → ((es : Bor (List Ace)) → dacl ≡ dacls.List es → ⊥)
     → r ≡ mask_of (λ k. holds rights k && holds 0x001FFFFF k) 32
     → ((t : TokenValue) (b : ℕ) → b < 32 → list_any (has_right t b) accesses ≡ holds r b)
     → IsWho owner (entries_of dacl) g base rights accesses
-everyone_is_who owner borrowed.Absent g base rights r accesses none is exact = no_list_is_who owner g base rights r accesses is exact
-everyone_is_who owner borrowed.Null g base rights r accesses none is exact = no_list_is_who owner g base rights r accesses is exact
-everyone_is_who owner (borrowed.List es) g base rights r accesses none is exact = absurd (none es refl)
+everyone_is_who owner dacls.Absent g base rights r accesses none is exact = no_list_is_who owner g base rights r accesses is exact
+everyone_is_who owner dacls.Null g base rights r accesses none is exact = no_list_is_who owner g base rights r accesses is exact
+everyone_is_who owner (dacls.List es) g base rights r accesses none is exact = absurd (none es refl)
 
 pub each_once : (rights r : ℕ) (accesses : List Access) → r ≡ mask_of (λ k. holds rights k && holds 0x001FFFFF k) 32
     → ((b : ℕ) → b < 32 → count_by (λ (one : Access). holds one.mask b) accesses ≡ cond (holds r b) 1 0) → HasEachOnce rights accesses

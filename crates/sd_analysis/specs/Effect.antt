@@ -3,8 +3,7 @@ use Rattle.std.specs.Prelude.{◌≡◌, ℕ, List, Option, Some, remove}
 use Rattle.sd_sid.specs.Mapping.{MappingValue}
 use Rattle.sd_sid.specs.Sid.{SidValue}
 use Rattle.sd_acl.specs.declared.ace.Ace.{Ace}
-use Rattle.sd_check.specs.Check.{entries_of, verdict}
-use Rattle.sd_check.specs.declared.request.DaclRef.{DaclRef}
+use Rattle.sd_check.specs.Check.{DaclRef, entries_of, verdict}
 use Rattle.sd_check.specs.Token.{TokenValue}
 use Rattle.sd_check.specs.declared.token.GroupState.{GroupState}
 use Rattle.sd_analysis.specs.Base.{HasBase}

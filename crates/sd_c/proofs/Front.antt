@@ -6,8 +6,8 @@ use Rattle.sd_sid.specs.SidBytes.{u32_at, bytes_of_sid}
 use Rattle.sd_sid.proofs.SidLaws.{length_of_sid}
 use Rattle.sd_acl.specs.Descriptor.{DescriptorValue, IsDescriptor}
 use Rattle.sd_acl.specs.declared.ace.Ace.{Ace}
-use Rattle.sd_acl.specs.declared.descriptor.Dacl.{Dacl}
-use Rattle.sd_acl.specs.declared.descriptor.Dacl.TheVariants.{Absent, Null, List as Entries}
+use Rattle.sd_acl.specs.Dacl.{Dacl}
+use Rattle.sd_acl.specs.declared.descriptor.DaclOf.TheVariants.{Absent, Null, List as Entries}
 use Rattle.sd_wire.specs.Reading.{u16_at, is_set, descriptor_read}
 use Rattle.sd_wire.specs.Standing.{Stands, TrusteeStands, EntryStands, EntriesStand, ListStands, DaclStands, IsPresent, IsWithout, Holds}
 use Rattle.sd_wire.specs.Writing.{entry_parts}

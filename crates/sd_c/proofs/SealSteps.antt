@@ -30,7 +30,7 @@ use Rattle.std_heap.specs.contracts.Global as Heap
 use Rattle.std_heap.specs.contracts.GlobalAllocator.TheImpl.{ghosts, dict}
 use Rattle.std_heap.proofs.Global.TheLaws as heap
 use Rattle.std.specs.Prelude.{None}
-use Rattle.sd_acl.specs.declared.descriptor.Dacl.TheVariants.{Absent}
+use Rattle.sd_acl.specs.declared.descriptor.DaclOf.TheVariants.{Absent}
 use Rattle.sd_c.specs.declared.handle.kept.Kept.TheVariants as Kinds
 use Rattle.sd_c.specs.Handle.{unless}
 use Rattle.sd_c.specs.contracts.handle.kept.Kept as Kept

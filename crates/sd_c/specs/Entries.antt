@@ -8,8 +8,8 @@ use Rattle.sd_check.specs.Check.{subject}
 use Rattle.sd_acl.specs.declared.ace.Ace.{Ace}
 use Rattle.sd_acl.specs.declared.ace.AceKind.{AceKind}
 use Rattle.sd_acl.specs.declared.ace.AceKind.TheVariants.{Allow, Deny}
-use Rattle.sd_acl.specs.declared.descriptor.Dacl.{Dacl}
-use Rattle.sd_acl.specs.declared.descriptor.Dacl.TheVariants as dacls
+use Rattle.sd_acl.specs.Dacl.{Dacl}
+use Rattle.sd_acl.specs.declared.descriptor.DaclOf.TheVariants as dacls
 use Rattle.sd_c.specs.declared.answer.Written.{Written}
 use Rattle.sd_c.specs.declared.entries.DaclAnswer.{DaclAnswer}
 use Rattle.sd_c.specs.declared.entries.EntryAnswer.{EntryAnswer}

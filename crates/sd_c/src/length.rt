@@ -2,7 +2,7 @@
 
 ghost use Rattle.std.specs.Prelude.{◌≡◌, ◌+◌, ◌<◌, ◌≤◌, ◌^◌, length, IfOk, IfErr, MatchOption};
 ghost use Rattle.sd_sid.specs.SidBytes.{u32_at};
-ghost use Rattle.sd_acl.specs.declared.descriptor.Dacl.TheVariants.{List as Entries};
+ghost use Rattle.sd_acl.specs.declared.descriptor.DaclOf.TheVariants.{List as Entries};
 ghost use Rattle.sd_acl.specs.Descriptor.{descriptor_of};
 ghost use Rattle.sd_wire.specs.Reading.{u16_at};
 ghost use Rattle.sd_wire.specs.Standing.{DaclStands, Holds};

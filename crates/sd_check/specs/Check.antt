@@ -1,6 +1,7 @@
 -- The rules of the access check ([MS-DTYP] 2.5.3.2): which entries apply, what they decide, what is granted without an entry,
 -- and what the verdict is. A DACL is the list of its entries, or None where it is absent or null.
 use Rattle.std.specs.Prelude.{ℕ, Bool, false, not, ◌&&◌, ◌||◌, ◌==◌, nat_lt, if◌then◌else◌, List, Option, Some, None, find}
+use Rattle.std.specs.Borrow.{Bor}
 use Rattle.std.specs.List.{list_any}
 use Rattle.sd_sid.specs.Mask.{holds, mask_of}
 use Rattle.sd_sid.specs.Mapping.{MappingValue, mapped}
@@ -9,26 +10,28 @@ use Rattle.sd_acl.specs.Ace.{is_allow, is_inherit_only}
 use Rattle.sd_acl.specs.declared.ace.Ace.{Ace}
 use Rattle.sd_acl.specs.declared.ace.AceKind.{AceKind}
 use Rattle.sd_acl.specs.declared.ace.AceKind.TheVariants.{Allow}
-use Rattle.sd_acl.specs.declared.descriptor.Dacl.{Dacl}
-use Rattle.sd_acl.specs.declared.descriptor.Dacl.TheVariants as owned
+use Rattle.sd_acl.specs.Dacl.{Dacl}
+use Rattle.sd_acl.specs.declared.descriptor.DaclOf.{DaclOf}
+use Rattle.sd_acl.specs.declared.descriptor.DaclOf.TheVariants as dacls
 use Rattle.sd_check.specs.Token.{TokenValue, stands_for, is_restricted, is_restricting}
 use Rattle.sd_check.specs.declared.grounds.Implied.{Implied}
 use Rattle.sd_check.specs.declared.grounds.Pass.{Pass}
 use Rattle.sd_check.specs.declared.grounds.Pass.TheVariants.{First, Second}
-use Rattle.sd_check.specs.declared.request.DaclRef.{DaclRef}
-use Rattle.sd_check.specs.declared.request.DaclRef.TheVariants as borrowed
 use Rattle.sd_check.specs.declared.verdict.Verdict.{Verdict}
 use Rattle.sd_check.specs.declared.verdict.Verdict.TheVariants.{Granted, Denied, Reserved, EmptyRequest}
 
 abbrev pub dacl_entries : Dacl → Option (List Ace)
-dacl_entries owned.Absent = None
-dacl_entries owned.Null = None
-dacl_entries (owned.List es) = Some es
+dacl_entries dacls.Absent = None
+dacl_entries dacls.Null = None
+dacl_entries (dacls.List es) = Some es
+
+abbrev pub DaclRef : Type 0
+DaclRef = DaclOf (Bor (List Ace))
 
 abbrev pub entries_of : DaclRef → Option (List Ace)
-entries_of borrowed.Absent = None
-entries_of borrowed.Null = None
-entries_of (borrowed.List es) = Some es.now
+entries_of dacls.Absent = None
+entries_of dacls.Null = None
+entries_of (dacls.List es) = Some es.now
 
 -- ---- which entries apply (2.5.3.1)
 

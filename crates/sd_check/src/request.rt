@@ -6,19 +6,11 @@ ghost use Rattle.sd_check.specs.Check.{dacl_entries, entries_of, verdict};
 use crate::question::Question;
 use crate::token::Token;
 use crate::verdict::Verdict;
-use sd_acl::{Ace, Dacl, Descriptor};
+use sd_acl::{Ace, Dacl, DaclOf, Descriptor};
 use sd_sid::{GenericMapping, Mask, Sid};
 
 /// A DACL that is borrowed for a check ([MS-DTYP] 2.4.6).
-#[derive(Clone, Copy)]
-pub enum DaclRef<'a> {
-    /// There is none.
-    Absent,
-    /// There is one that is null.
-    Null,
-    /// These entries, in this order.
-    List(&'a [Ace]),
-}
+pub type DaclRef<'a> = DaclOf<&'a [Ace]>;
 
 /// The verdict on a request, for a descriptor ([MS-DTYP] 2.5.3.2). Takes no memory.
 pub fn check(

@@ -5,8 +5,8 @@ use Rattle.sd_sid.specs.Sid.{SidValue}
 use Rattle.sd_acl.specs.Canonical.{canonical_order, is_explicit, is_inherited}
 use Rattle.sd_acl.specs.Descriptor.{DescriptorValue}
 use Rattle.sd_acl.specs.declared.ace.Ace.{Ace}
-use Rattle.sd_acl.specs.declared.descriptor.Dacl.{Dacl}
-use Rattle.sd_acl.specs.declared.descriptor.Dacl.TheVariants as dacls
+use Rattle.sd_acl.specs.Dacl.{Dacl}
+use Rattle.sd_acl.specs.declared.descriptor.DaclOf.TheVariants as dacls
 use Rattle.sd_text.specs.Grammar.{Spells, HasFault}
 use Rattle.sd_text.specs.Sddl.{sddl}
 use Rattle.sd_text.specs.Sid.{sid_text}

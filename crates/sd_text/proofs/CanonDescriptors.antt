@@ -4,11 +4,10 @@ use Rattle.std.specs.Prelude.{codes, IfSome, IsTrue, not, ◌&&◌}
 use Rattle.std.specs.List.{flat_map}
 use Rattle.std.proofs.lemmas.List.{append-nil}
 use Rattle.sd_sid.specs.Sid.{SidValue, IsSid}
-use Rattle.sd_acl.specs.Dacl.{IsAbsent}
+use Rattle.sd_acl.specs.Dacl.{Dacl, IsAbsent}
 use Rattle.sd_acl.specs.Descriptor.{DescriptorValue, IsDacl, IsDescriptor, HaveNamedFlags}
 use Rattle.sd_acl.specs.declared.ace.Ace.{Ace}
-use Rattle.sd_acl.specs.declared.descriptor.Dacl.{Dacl}
-use Rattle.sd_acl.specs.declared.descriptor.Dacl.TheVariants.{Absent, Null, List as Entries}
+use Rattle.sd_acl.specs.declared.descriptor.DaclOf.TheVariants.{Absent, Null, List as Entries}
 use Rattle.sd_text.specs.declared.descriptor.DaclWord.{DaclWord}
 use Rattle.sd_text.specs.declared.descriptor.DaclWord.TheVariants.{Protected, AutoReq, AutoInherited, NoAccessControl}
 use Rattle.sd_text.specs.declared.descriptor.DaclWords.{DaclWords}

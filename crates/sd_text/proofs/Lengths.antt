@@ -12,7 +12,7 @@ use Rattle.sd_acl.specs.Descriptor.{DescriptorValue}
 use Rattle.sd_acl.specs.declared.ace.Ace.{Ace}
 use Rattle.sd_acl.specs.declared.ace.AceKind.{AceKind}
 use Rattle.sd_acl.specs.declared.ace.AceKind.TheVariants.{Allow, Deny}
-use Rattle.sd_acl.specs.declared.descriptor.Dacl.TheVariants.{Null, List as Entries}
+use Rattle.sd_acl.specs.declared.descriptor.DaclOf.TheVariants.{Null, List as Entries}
 use Rattle.sd_text.specs.Grammar.{Name}
 use Rattle.sd_text.specs.Alias.{aliases, alias_in}
 use Rattle.sd_text.specs.Entry.{flag_names}

@@ -13,8 +13,8 @@ use Rattle.sd_acl.specs.Descriptor.{DescriptorValue, IsDacl, IsAce, AreEntries}
 use Rattle.sd_acl.specs.declared.ace.Ace.{Ace}
 use Rattle.sd_acl.specs.declared.ace.AceKind.{AceKind}
 use Rattle.sd_acl.specs.declared.ace.AceKind.TheVariants.{Allow, Deny}
-use Rattle.sd_acl.specs.declared.descriptor.Dacl.{Dacl}
-use Rattle.sd_acl.specs.declared.descriptor.Dacl.TheVariants.{Absent, Null, List as Entries}
+use Rattle.sd_acl.specs.Dacl.{Dacl}
+use Rattle.sd_acl.specs.declared.descriptor.DaclOf.TheVariants.{Absent, Null, List as Entries}
 use Rattle.sd_wire.specs.declared.fault.WireFault.{WireFault}
 use Rattle.sd_wire.specs.Reading.{u16_at, is_set, bad_sid, sid_read, kind_read, entry_read, entries_read, list_read, is_outside, trustee_read, dacl_read, control_read, descriptor_read}
 use Rattle.sd_wire.specs.Writing.{kind_byte, entry_parts}

@@ -11,11 +11,10 @@ use Rattle.sd_sid.specs.Sid.{SidValue, IsSid}
 use Rattle.sd_sid.specs.SidBytes.{u32_at, bytes_of_sid}
 use Rattle.sd_sid.proofs.SidLaws.{length_of_sid}
 use Rattle.sd_acl.specs.Ace.{all_named, ace_size, acl_size_of}
-use Rattle.sd_acl.specs.Dacl.{is_absent}
+use Rattle.sd_acl.specs.Dacl.{Dacl, is_absent}
 use Rattle.sd_acl.specs.Descriptor.{DescriptorValue, IsDescriptor, IsDacl, IsAce, AreEntries, HasNamedFlags, HaveNamedFlags}
 use Rattle.sd_acl.specs.declared.ace.Ace.{Ace}
-use Rattle.sd_acl.specs.declared.descriptor.Dacl.{Dacl}
-use Rattle.sd_acl.specs.declared.descriptor.Dacl.TheVariants.{Absent, Null, List as Entries}
+use Rattle.sd_acl.specs.declared.descriptor.DaclOf.TheVariants.{Absent, Null, List as Entries}
 use Rattle.sd_wire.specs.Reading.{u16_at, is_set}
 use Rattle.sd_wire.specs.Writing.{entry_parts, entry_bytes, list_bytes, trustee_part, dacl_part, is_list, offset_of, control_of, header_bytes, header_of, wire_of}
 use Rattle.sd_wire.specs.Standing.{TrusteeStands, EntryStands, EntriesStand, ListStands, DaclStands, IsPresent, IsWithout, Holds}

@@ -1,21 +1,24 @@
 -- A descriptor in parts, before its entries are parsed: their positions, and what parsing them would give.
 use Rattle.std.specs.Prelude.{◌≡◌, ℕ, ◌+◌, ◌≤◌, List, length, Result, Ok}
 use Rattle.sd_acl.specs.Descriptor.{DescriptorValue}
-use Rattle.sd_acl.specs.declared.descriptor.Dacl.{Dacl}
-use Rattle.sd_acl.specs.declared.descriptor.Dacl.TheVariants as owned
+use Rattle.sd_acl.specs.Dacl.{Dacl}
+use Rattle.sd_acl.specs.declared.descriptor.DaclOf.{DaclOf}
+use Rattle.sd_acl.specs.declared.descriptor.DaclOf.TheVariants as dacls
 use Rattle.sd_wire.specs.declared.fault.WireFault.{WireFault}
-use Rattle.sd_wire.specs.declared.parts.DaclPlace.{DaclPlace}
-use Rattle.sd_wire.specs.declared.parts.DaclPlace.TheVariants as places
 use Rattle.sd_wire.specs.declared.parts.Parts.{Parts}
 use Rattle.sd_wire.specs.declared.parts.EntryPlaces.{EntryPlaces}
 use Rattle.sd_wire.specs.Reading.{◌>>=◌, descriptor_read, entries_read, list_read, u16_at}
 use Rattle.sd_wire.specs.Standing.{ListBegins}
 
+-- where a DACL is
+abbrev pub DaclPlace : Type 0
+DaclPlace = DaclOf EntryPlaces
+
 -- the DACL, once its entries are parsed
 abbrev pub dacl_at : List ℕ → DaclPlace → Result Dacl WireFault
-dacl_at bytes places.Absent = Ok owned.Absent
-dacl_at bytes places.Null = Ok owned.Null
-dacl_at bytes (places.List p) = entries_read bytes p.place p.end p.count >>= λ es. Ok (owned.List es)
+dacl_at bytes dacls.Absent = Ok dacls.Absent
+dacl_at bytes dacls.Null = Ok dacls.Null
+dacl_at bytes (dacls.List p) = entries_read bytes p.place p.end p.count >>= λ es. Ok (dacls.List es)
 
 -- a list begins at the offset, and its entries are there
 pub record EntriesBegin (bytes : List ℕ) (o : ℕ) (found : EntryPlaces) : Type 0 where
@@ -27,9 +30,9 @@ pub record EntriesBegin (bytes : List ℕ) (o : ℕ) (found : EntryPlaces) : Typ
 
 -- the entries are within the bytes
 abbrev pub AreWithin : List ℕ → DaclPlace → Type 0
-AreWithin bytes places.Absent = Unit {0}
-AreWithin bytes places.Null = Unit {0}
-AreWithin bytes (places.List p) = (p.place ≤ p.end) × (p.end ≤ length bytes)
+AreWithin bytes dacls.Absent = Unit {0}
+AreWithin bytes dacls.Null = Unit {0}
+AreWithin bytes (dacls.List p) = (p.place ≤ p.end) × (p.end ≤ length bytes)
 
 -- the descriptor with another DACL
 abbrev pub with_dacl : DescriptorValue → Dacl → DescriptorValue

@@ -10,8 +10,8 @@ use Rattle.sd_acl.specs.Descriptor.{DescriptorValue}
 use Rattle.sd_acl.specs.declared.ace.Ace.{Ace}
 use Rattle.sd_acl.specs.declared.ace.AceKind.{AceKind}
 use Rattle.sd_acl.specs.declared.ace.AceKind.TheVariants.{Allow, Deny}
-use Rattle.sd_acl.specs.declared.descriptor.Dacl.{Dacl}
-use Rattle.sd_acl.specs.declared.descriptor.Dacl.TheVariants.{Absent, Null, List as Entries}
+use Rattle.sd_acl.specs.Dacl.{Dacl}
+use Rattle.sd_acl.specs.declared.descriptor.DaclOf.TheVariants.{Absent, Null, List as Entries}
 use Rattle.sd_wire.specs.declared.fault.WireFault.{WireFault}
 use Rattle.sd_wire.specs.declared.fault.WireFault.TheVariants.{Short, Revision, NotSelfRelative, HasSacl, BadOffset, BadSid, AclRevision, AclSize, EntrySize, EntryKind}
 use Rattle.sd_wire.specs.declared.fault.WireError.{WireError}

@@ -7,8 +7,8 @@ use Rattle.sd_sid.specs.SidBytes.{u32_at, bytes_of_sid}
 use Rattle.sd_acl.specs.Ace.{all_named, ace_size}
 use Rattle.sd_acl.specs.Descriptor.{DescriptorValue}
 use Rattle.sd_acl.specs.declared.ace.Ace.{Ace}
-use Rattle.sd_acl.specs.declared.descriptor.Dacl.{Dacl}
-use Rattle.sd_acl.specs.declared.descriptor.Dacl.TheVariants.{Absent, Null, List as Entries}
+use Rattle.sd_acl.specs.Dacl.{Dacl}
+use Rattle.sd_acl.specs.declared.descriptor.DaclOf.TheVariants.{Absent, Null, List as Entries}
 use Rattle.sd_wire.specs.Reading.{u16_at, is_set}
 use Rattle.sd_wire.specs.Writing.{entry_parts}
 

@@ -6,13 +6,12 @@ use Rattle.std.specs.List.{flat_map}
 use Rattle.sd_sid.specs.Sid.{SidValue}
 use Rattle.sd_sid.specs.SidBytes.{bytes_of_sid}
 use Rattle.sd_acl.specs.Ace.{all_named, ace_size, acl_size_of}
-use Rattle.sd_acl.specs.Dacl.{is_absent}
+use Rattle.sd_acl.specs.Dacl.{Dacl, is_absent}
 use Rattle.sd_acl.specs.Descriptor.{DescriptorValue}
 use Rattle.sd_acl.specs.declared.ace.Ace.{Ace}
 use Rattle.sd_acl.specs.declared.ace.AceKind.{AceKind}
 use Rattle.sd_acl.specs.declared.ace.AceKind.TheVariants.{Allow, Deny}
-use Rattle.sd_acl.specs.declared.descriptor.Dacl.{Dacl}
-use Rattle.sd_acl.specs.declared.descriptor.Dacl.TheVariants.{Absent, Null, List as Entries}
+use Rattle.sd_acl.specs.declared.descriptor.DaclOf.TheVariants.{Absent, Null, List as Entries}
 
 -- AceType
 abbrev pub kind_byte : AceKind → ℕ

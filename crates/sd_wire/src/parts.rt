@@ -12,6 +12,7 @@ use crate::header::{
 use crate::list::find_entries;
 use crate::number::read_u32;
 use crate::trustee::read_trustee;
+use sd_acl::DaclOf;
 use sd_sid::SidRef;
 
 /// What a check requires of a descriptor: its owner, and the position of its DACL.
@@ -22,15 +23,7 @@ pub struct Parts<'a> {
 }
 
 /// The position of a DACL.
-#[derive(Clone, Copy)]
-pub enum DaclPlace {
-    /// There is none.
-    Absent,
-    /// It is null.
-    Null,
-    /// It is a list with these entries.
-    List(EntryPlaces),
-}
+pub type DaclPlace = DaclOf<EntryPlaces>;
 
 /// The position of a list's entries: how many, the offset of the first, and the end, which none passes. `read_entry`
 /// parses each.

@@ -3,9 +3,8 @@ use Rattle.std.proofs.Common.{◌≡◌, ℕ, true, false, List, Option, Ok, ref
 use Rattle.sd_sid.specs.Sid.{SidValue}
 use Rattle.sd_sid.specs.SidBytes.{u32_at}
 use Rattle.sd_acl.specs.Descriptor.{DescriptorValue}
-use Rattle.sd_acl.specs.declared.descriptor.Dacl.TheVariants.{Absent}
-use Rattle.sd_wire.specs.declared.parts.DaclPlace.{DaclPlace}
-use Rattle.sd_wire.specs.Parts.{dacl_at, with_dacl}
+use Rattle.sd_acl.specs.declared.descriptor.DaclOf.TheVariants.{Absent}
+use Rattle.sd_wire.specs.Parts.{DaclPlace, dacl_at, with_dacl}
 use Rattle.sd_wire.specs.Reading.{◌>>=◌, control_read, dacl_read, descriptor_read, is_set, trustee_read}
 use Rattle.sd_wire.proofs.parts.read_parts.Goals as goal
 

@@ -3,24 +3,23 @@ use Rattle.std.proofs.Common.{◌≡◌, ℕ, List, Result, Ok, Err, refl, sym, 
 use Rattle.sd_sid.specs.Mapping.{MappingValue}
 use Rattle.sd_acl.specs.Descriptor.{DescriptorValue}
 use Rattle.sd_acl.specs.declared.ace.Ace.{Ace}
-use Rattle.sd_acl.specs.declared.descriptor.Dacl.TheVariants as owned
+use Rattle.sd_acl.specs.declared.descriptor.DaclOf.TheVariants as dacls
 use Rattle.sd_check.specs.Check.{verdict, dacl_entries}
 use Rattle.sd_check.specs.Token.{TokenValue}
 use Rattle.sd_wire.specs.Parts.{ArePartsOf, dacl_at, with_dacl}
 use Rattle.sd_wire.specs.Reading.{◌>>=◌, entries_read}
 use Rattle.sd_wire.specs.declared.fault.WireFault.{WireFault}
-use Rattle.sd_wire.specs.declared.parts.DaclPlace.TheVariants as places
 use Rattle.sd_wire.specs.declared.parts.EntryPlaces.{EntryPlaces}
 use Rattle.sd_wire.specs.declared.parts.Parts.{Parts}
 use Rattle.sd_wire_check.specs.Checked.{checked, entries_checked}
 use Rattle.sd_wire_check.proofs.bytes.check_bytes.Goals as goal
 
 regroup : (read : Result (List Ace) WireFault) (whole : DescriptorValue) (g : MappingValue) (t : TokenValue) (r : ℕ)
-    → (((read >>= λ es. Ok (owned.List es)) >>= λ dacl. Ok (with_dacl whole dacl)) >>= λ d. Ok (verdict d.owner (dacl_entries d.dacl) g t r)) ≡ entries_checked read whole.owner g t r
+    → (((read >>= λ es. Ok (dacls.List es)) >>= λ dacl. Ok (with_dacl whole dacl)) >>= λ d. Ok (verdict d.owner (dacl_entries d.dacl) g t r)) ≡ entries_checked read whole.owner g t r
 regroup (Ok es) whole g t r = refl
 regroup (Err fault) whole g t r = refl
 
-list_checked : (bytes : List ℕ) (parts : Parts) (entries : EntryPlaces) (g : MappingValue) (t : TokenValue) (r : ℕ) → ArePartsOf bytes parts → parts.dacl ≡ places.List entries
+list_checked : (bytes : List ℕ) (parts : Parts) (entries : EntryPlaces) (g : MappingValue) (t : TokenValue) (r : ℕ) → ArePartsOf bytes parts → parts.dacl ≡ dacls.List entries
     → checked bytes g t r ≡ entries_checked (entries_read bytes entries.place entries.end entries.count) parts.owner g t r
 list_checked bytes parts entries g t r are is =
     ap (λ read. read >>= λ (d : DescriptorValue). Ok (verdict d.owner (dacl_entries d.dacl) g t r)) are.read
