@@ -1,0 +1,32 @@
+-- Runs of a list: so many elements from a position on.
+use Rattle.std.specs.Prelude.{◌≡◌, ℕ, ◌+◌, ◌<◌, List, ◌++◌, length, take, drop}
+
+-- some of the elements from a position on, and at least one
+pub record IsRunAt {T : Type 0} (xs : List T) (at : ℕ) (ys : List T) : Type 0 where
+  pub some : 0 < length ys
+  pub elements : ys ≡ take (length ys) (drop at xs)
+
+-- the run of so many from a position on, and the list without it
+abbrev pub run_at : {T : Type 0} → ℕ → ℕ → List T → List T
+run_at from count xs = take count (drop from xs)
+
+abbrev pub without_run : {T : Type 0} → ℕ → ℕ → List T → List T
+without_run from count xs = take from xs ++ drop (from + count) xs
+
+-- the list with a run inserted before a position
+abbrev pub with_run : {T : Type 0} → ℕ → List T → List T → List T
+with_run at ys xs = take at xs ++ (ys ++ drop at xs)
+
+-- the list with another run in place of one
+abbrev pub replaced : {T : Type 0} → ℕ → ℕ → List T → List T → List T
+replaced from count ys xs = take from xs ++ (ys ++ drop (from + count) xs)
+
+-- the list with a run moved before a position, which is counted among the other elements
+abbrev pub moved : {T : Type 0} → ℕ → ℕ → ℕ → List T → List T
+moved from count to xs = with_run to (run_at from count xs) (without_run from count xs)
+
+-- two runs in place of one
+pub record AreParts {T : Type 0} (whole low high : List T) : Type 0 where
+  pub low_some : 0 < length low
+  pub high_some : 0 < length high
+  pub joins : low ++ high ≡ whole

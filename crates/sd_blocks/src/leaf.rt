@@ -1,0 +1,130 @@
+//! A run in one vector.
+
+ghost use Rattle.std.specs.Prelude.{◌≡◌, [], ◌∷◌, IfOk};
+ghost use Rattle.std.specs.Arc.{arc_value};
+
+use crate::run::Run;
+use crate::search::{Sought, search_items};
+use crate::try_copy::TryCopy;
+use std::alloc::{AllocError, Global};
+use std::marker::Model;
+use std::sync::Arc;
+
+/// A run that has this many elements is split before the next one is inserted.
+const MAX_ITEMS: usize = 128;
+
+/// A run in one vector.
+#[derive(Drop)]
+pub struct Leaf<T> {
+    items: Arc<Vec<T>>,
+}
+
+impl<T> Model for Leaf<T> {
+    ghost use Rattle.std.specs.Prelude.{List};
+    ghost use Rattle.std.specs.Arc.{arc_value};
+
+    ghost Value = { List T };
+
+    ghost view = { λ l. (arc_value l.items).items };
+}
+
+impl<T: TryCopy> Run<T> for Leaf<T> {
+    ghost elements = { λ l. l };
+
+    fn single(alloc: Global, item: T) -> Result<Leaf<T>, AllocError> {
+        let mut items = Vec::new(alloc);
+        items.push(item)?;
+        make_leaf(alloc, items)
+    }
+
+    fn count(&self) -> usize {
+        self.items.len()
+    }
+
+    fn get(&self, at: usize) -> &T {
+        &self.items[at]
+    }
+
+    fn run_from(&self, at: usize) -> &[T] {
+        &self.items[at..]
+    }
+
+    fn search<S: Sought<T>>(&self, sought: &S) -> Result<usize, usize> {
+        search_items(self.items.as_slice(), sought)
+    }
+
+    fn share(&self) -> Result<Leaf<T>, AllocError> {
+        let items = Arc::try_clone(&self.items)?;
+        Ok(Leaf { items })
+    }
+
+    fn set(&mut self, alloc: Global, at: usize, item: T) -> Result<(), AllocError> {
+        own(alloc, &mut self.items)?;
+        match Arc::get_mut(&mut self.items) {
+            Some(items) => {
+                items[at] = item;
+                Ok(())
+            }
+            None => Err(AllocError),
+        }
+    }
+
+    fn insert(&mut self, alloc: Global, at: usize, item: T) -> Result<(), AllocError> {
+        own(alloc, &mut self.items)?;
+        match Arc::get_mut(&mut self.items) {
+            Some(items) => {
+                items.insert(at, item)?;
+                Ok(())
+            }
+            None => Err(AllocError),
+        }
+    }
+
+    fn remove(&mut self, alloc: Global, at: usize) -> Result<T, AllocError> {
+        own(alloc, &mut self.items)?;
+        match Arc::get_mut(&mut self.items) {
+            Some(items) => Ok(items.remove(at)),
+            None => Err(AllocError),
+        }
+    }
+
+    fn split(&self, alloc: Global) -> Result<Option<(Leaf<T>, Leaf<T>)>, AllocError> {
+        let items = self.items.as_slice();
+        if items.len() < MAX_ITEMS {
+            return Ok(None);
+        }
+        let half = items.len() / 2;
+        let low = copy_items(alloc, &items[..half])?;
+        let high = copy_items(alloc, &items[half..])?;
+        Ok(Some((make_leaf(alloc, low)?, make_leaf(alloc, high)?)))
+    }
+}
+
+fn make_leaf<T: Drop>(alloc: Global, items: Vec<T>) -> Result<Leaf<T>, AllocError>
+    ensures { IfOk result (λ leaf. leaf ≡ items.items) }
+{
+    let items = Arc::new(alloc, items)?;
+    Ok(Leaf { items })
+}
+
+/// Replaces the vector by a copy where another list shares it.
+fn own<T: TryCopy>(alloc: Global, shared: &mut Arc<Vec<T>>) -> Result<(), AllocError>
+    ensures { (arc_value shared.new).items ≡ (arc_value shared.old).items }
+{
+    if Arc::strong_count(shared) != 1 {
+        let copy = copy_items(alloc, shared)?;
+        *shared = Arc::new(alloc, copy)?;
+    }
+    Ok(())
+}
+
+/// The elements, in a new vector.
+fn copy_items<T: TryCopy>(alloc: Global, items: &[T]) -> Result<Vec<T>, AllocError>
+    ensures { IfOk result (λ copy. copy.items ≡ items.now) }
+{
+    let mut copy = Vec::with_capacity(alloc, items.len())?;
+    for item in items {
+        copy.push(item.try_copy()?)?;
+    }
+    Ok(copy)
+}

@@ -1,0 +1,269 @@
+//! Lists in shared blocks beside vectors on which the same is done.
+
+ghost use Rattle.std.specs.Prelude.{◌≡◌, ◌<◌, ◌≤◌, length};
+
+use sd_blocks::{Blocks, Sought, snapshot_stays};
+use std::alloc::{AllocError, Global};
+use std::cmp::Ordering;
+use std::test::*;
+
+/// More elements than a hundred blocks have.
+const MANY: u64 = 20_000;
+
+/// A number that is sought among others.
+#[derive(Drop)]
+struct Number(u64);
+
+impl Sought<u64> for Number {
+    ghost use Rattle.std.specs.Ordering.{nat_cmp};
+
+    ghost ord = { λ number item. nat_cmp item number.0 };
+
+    fn compare(&self, item: &u64) -> Ordering {
+        item.cmp(&self.0)
+    }
+}
+
+/// The next of some numbers that look random.
+fn next(x: u64) -> u64 {
+    x.wrapping_mul(6_364_136_223_846_793_005)
+        .wrapping_add(1_442_695_040_888_963_407)
+}
+
+/// A position in a list of so many elements, or at its end.
+fn position(x: u64, len: usize) -> usize
+    requires { len < usize.MAX }
+    ensures { result ≤ len }
+{
+    (x >> 33) as usize % (len + 1)
+}
+
+/// Inserts an element into both, where the position is in both.
+fn insert(
+    alloc: Global,
+    list: &mut Blocks<u64>,
+    items: &mut Vec<u64>,
+    at: usize,
+    item: u64,
+) -> Result<(), AllocError> {
+    if at <= list.len() && at <= items.len() && list.len() < usize::MAX {
+        list.insert(alloc, at, item)?;
+        items.insert(at, item)?;
+    }
+    Ok(())
+}
+
+/// Removes an element of both, where the position is in both. Whether it is the same.
+fn remove(
+    alloc: Global,
+    list: &mut Blocks<u64>,
+    items: &mut Vec<u64>,
+    at: usize,
+) -> Result<bool, AllocError> {
+    if at >= list.len() || at >= items.len() {
+        return Ok(list.len() == items.len());
+    }
+    Ok(list.remove(alloc, at)? == items.remove(at))
+}
+
+/// Whether the list has just these elements, by each way to read it.
+fn is_same(list: &Blocks<u64>, items: &[u64]) -> bool {
+    if list.len() != items.len() || list.get(items.len()).is_some() {
+        return false;
+    }
+    for at in 0..list.len() {
+        if list.get(at) != items.get(at) || list.run_from(at).first() != items.get(at) {
+            return false;
+        }
+    }
+    true
+}
+
+/// A list and a vector of the even numbers below twice this one.
+fn evens(alloc: Global, count: u64) -> Result<(Blocks<u64>, Vec<u64>), AllocError> {
+    let mut list = Blocks::new(alloc);
+    let mut items = Vec::new(alloc);
+    for number in 0..count {
+        let at = items.len();
+        insert(alloc, &mut list, &mut items, at, number.wrapping_mul(2))?;
+    }
+    Ok((list, items))
+}
+
+/// Insertions and removals at random positions, many more of the first, then of the second.
+fn changed(alloc: Global) -> Result<bool, AllocError> {
+    let mut list = Blocks::new(alloc);
+    let mut items = Vec::new(alloc);
+    let mut x = 1;
+    for number in 0..MANY {
+        x = next(x);
+        let at = if items.len() < usize::MAX {
+            position(x, items.len())
+        } else {
+            0
+        };
+        let removes = if number < MANY / 2 {
+            x % 4 == 0
+        } else {
+            x % 4 != 0
+        };
+        if removes {
+            if !remove(alloc, &mut list, &mut items, at)? {
+                return Ok(false);
+            }
+        } else {
+            insert(alloc, &mut list, &mut items, at, number)?;
+        }
+    }
+    Ok(is_same(&list, &items))
+}
+
+#[test]
+fn a_list_has_what_a_vector_has(rt: HostRuntime) {
+    assert!(rt; changed(rt.alloc()).expect(&rt, "memory"));
+}
+
+/// Whether a snapshot stays while its list is written, gets elements and loses some, and the list has the changes.
+fn stays(alloc: Global) -> Result<bool, AllocError> {
+    let (mut list, mut items) = evens(alloc, MANY)?;
+    let snapshot = list.copy(alloc)?;
+    let (_, before) = evens(alloc, MANY)?;
+    for at in 0..items.len() {
+        if at % 100 == 0 && at < list.len() {
+            list.set(alloc, at, 1)?;
+            items[at] = 1;
+        }
+    }
+    insert(alloc, &mut list, &mut items, 7, 3)?;
+    let same = remove(alloc, &mut list, &mut items, 9_999)?;
+    Ok(same && is_same(&list, &items) && is_same(&snapshot, &before))
+}
+
+#[test]
+fn a_snapshot_stays(rt: HostRuntime) {
+    assert!(rt; stays(rt.alloc()).expect(&rt, "memory"));
+}
+
+/// A snapshot from before an insertion, where the position is in the list.
+fn snapshot(alloc: Global, list: &mut Blocks<u64>, at: usize, item: u64) -> Option<Blocks<u64>> {
+    if at > list.len() || list.len() == usize::MAX {
+        return None;
+    }
+    snapshot_stays(alloc, list, at, item).ok()
+}
+
+#[test]
+fn a_snapshot_is_from_before_an_insertion(rt: HostRuntime) {
+    let alloc = rt.alloc();
+    let mut list = list_of(alloc, &[1, 2, 3]).expect(&rt, "memory");
+    let before = snapshot(alloc, &mut list, 1, 9).expect(&rt, "memory");
+    assert!(rt; is_same(&before, &[1, 2, 3]) && is_same(&list, &[1, 9, 2, 3]));
+}
+
+/// Whether each even number below twice the count is found at its position, and each odd one would be inserted behind.
+fn all_found(alloc: Global, count: u64) -> Result<bool, AllocError> {
+    let (list, items) = evens(alloc, count)?;
+    for at in 0..items.len() {
+        let even = items[at];
+        let odd = even.wrapping_add(1);
+        if list.search(&Number(even)) != Ok(at) || list.search(&Number(odd)) != Err(at + 1) {
+            return Ok(false);
+        }
+    }
+    Ok(true)
+}
+
+#[test]
+fn each_element_is_found(rt: HostRuntime) {
+    for count in [0, 1, 127, 128, 129, MANY] {
+        assert!(rt;
+            all_found(rt.alloc(), count).expect(&rt, "memory"),
+            "of {count}"
+        );
+    }
+}
+
+/// A list of the numbers.
+fn list_of(alloc: Global, numbers: &[u64]) -> Result<Blocks<u64>, AllocError> {
+    let mut list = Blocks::new(alloc);
+    let mut items = Vec::new(alloc);
+    for number in numbers {
+        let at = items.len();
+        insert(alloc, &mut list, &mut items, at, *number)?;
+    }
+    Ok(list)
+}
+
+/// Removes a run, where the list has it.
+fn remove_run(
+    alloc: Global,
+    list: &mut Blocks<u64>,
+    from: usize,
+    count: usize,
+) -> Option<Vec<u64>> {
+    let len = list.len();
+    if from > len || count > len - from {
+        return None;
+    }
+    list.remove_run(alloc, from, count).ok()
+}
+
+/// Inserts a run. Whether the position is in the list.
+fn insert_run(alloc: Global, list: &mut Blocks<u64>, at: usize, run: Vec<u64>) -> bool {
+    let len = list.len();
+    if at > len || run.len() > usize::MAX - len {
+        return false;
+    }
+    list.insert_run(alloc, at, run).is_ok()
+}
+
+/// Replaces a run. Whether the list has it.
+fn replace_run(
+    alloc: Global,
+    list: &mut Blocks<u64>,
+    from: usize,
+    count: usize,
+    run: Vec<u64>,
+) -> bool {
+    let len = list.len();
+    if from > len || count > len - from || run.len() > usize::MAX - len {
+        return false;
+    }
+    list.replace_run(alloc, from, count, run).is_ok()
+}
+
+/// Moves a run. Whether the list has it, and the position.
+fn move_run(alloc: Global, list: &mut Blocks<u64>, from: usize, count: usize, to: usize) -> bool {
+    let len = list.len();
+    if count > len || from > len - count || to > len - count {
+        return false;
+    }
+    list.move_run(alloc, from, count, to).is_ok()
+}
+
+#[test]
+fn runs_are_removed_inserted_replaced_and_moved(rt: HostRuntime) {
+    let alloc = rt.alloc();
+    let mut list = list_of(alloc, &[0, 1, 2, 3, 4, 5, 6, 7]).expect(&rt, "memory");
+    let run = remove_run(alloc, &mut list, 2, 3).expect(&rt, "a run");
+    assert_eq!(rt; run.as_slice(), [2, 3, 4].as_slice());
+    assert!(rt; is_same(&list, &[0, 1, 5, 6, 7]));
+    assert!(rt; insert_run(alloc, &mut list, 4, run));
+    assert!(rt; is_same(&list, &[0, 1, 5, 6, 2, 3, 4, 7]));
+    assert!(rt; move_run(alloc, &mut list, 4, 3, 1));
+    assert!(rt; is_same(&list, &[0, 2, 3, 4, 1, 5, 6, 7]));
+    assert!(rt; move_run(alloc, &mut list, 1, 3, 5));
+    assert!(rt; is_same(&list, &[0, 1, 5, 6, 7, 2, 3, 4]));
+    let run = vec![in alloc; 8, 9].expect(&rt, "memory");
+    assert!(rt; replace_run(alloc, &mut list, 0, 4, run));
+    assert!(rt; is_same(&list, &[8, 9, 7, 2, 3, 4]));
+}
+
+/// A list may be read by several threads, and dropped by any.
+#[test]
+fn lists_cross_threads(rt: HostRuntime) {
+    may_cross(&list_of(rt.alloc(), &[1]).expect(&rt, "memory"));
+}
+
+/// Compiled only for what threads may share.
+fn may_cross<T: Send + Sync>(_: &T) {}
