@@ -9,6 +9,8 @@ pub mod Suffices
 pub mod Reports
 pub mod Gathered
 pub mod Shares
+pub mod Tables
 pub mod Searched
+pub mod Placed
 pub mod Unnamed
 pub mod Effects

@@ -1,5 +1,5 @@
 -- How a search goes on: what it found stays found, and what is left is less.
-use Rattle.std.proofs.Common.{◌≡◌, ℕ, ◌<◌, ◌+◌, Bool, true, false, not, ◌&&◌, ◌||◌, List, [], ◌∷◌, ◌++◌, length, get_or, take, Option, Some, None, ◌⊎◌, inl, inr, refl, sym, ◌∙◌, ap, arith, subst, ◌==◌}
+use Rattle.std.proofs.Common.{◌≡◌, ℕ, ◌<◌, ◌+◌, true, false, not, ◌&&◌, ◌||◌, List, [], ◌∷◌, ◌++◌, length, get_or, take, Option, Some, None, ◌⊎◌, inl, inr, refl, sym, ◌∙◌, ap, arith, subst, ◌==◌}
 use Rattle.std.specs.List.{All}
 use Rattle.std.proofs.lemmas.Bool.{and_from, or_cases, or_parts, false≢true, false_from_ne_true, not_from_false}
 use Rattle.std.proofs.lemmas.List.Elements.{All-push}
@@ -11,8 +11,7 @@ use Rattle.sd_sid.proofs.Compared.{same_sid-true}
 use Rattle.sd_sid.proofs.Masks.{holds_place}
 use Rattle.sd_check.specs.declared.grounds.Pass.{Pass}
 use Rattle.sd_analysis.specs.Sufficient.{is_among}
-use Rattle.sd_analysis.specs.Passes.{meets, sids_stand}
-use Rattle.sd_analysis.specs.Report.{AreFindings, IsCase, IsFound, IsLessLeft, is_found, new_of, old_of, is_granted_alone}
+use Rattle.sd_analysis.specs.Report.{AreFindings, IsCase, IsFound, IsLessLeft, is_found, is_granted_alone, new_of, old_of, sids_meet}
 use Rattle.sd_analysis.specs.declared.compare_search.Case.{Case}
 use Rattle.sd_analysis.specs.declared.compare_search.Finding.{Finding}
 use Rattle.sd_analysis.specs.declared.compare_search.Found.{Found}
@@ -35,9 +34,6 @@ still_left before now b less gone = false_from_ne_true _ (λ still. false≢true
 found_push : (fs : List Finding) (f : Finding) (b : ℕ) → is_found (fs ++ f ∷ []) b ≡ (is_found fs b || holds f.mask b)
 found_push fs f b =
     list_any-append (λ (x : Finding). holds x.mask b) fs (f ∷ []) ∙ ap (λ x. is_found fs b || x) (or-false (holds f.mask b))
-
-abbrev pub sids_meet : Case → Pass → Demand → PassSids → ℕ → Bool
-sids_meet case pass demand sids b = meets case.mapping.now (old_of case) (new_of case) demand (sids_stand pass case.base.now sids) b
 
 pub found_one_more : (case : Case) (pass : Pass) (demand : Demand) (wanted : ℕ) (before now : Found) (sids : PassSids) (met mask : ℕ)
     → ((b : ℕ) → holds met b ≡ true → b < 21)

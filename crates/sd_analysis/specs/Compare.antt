@@ -20,7 +20,8 @@ abbrev pub HasABit : ℕ → Type 0
 HasABit m = (b : ℕ) × ((b < 32) × (holds m b ≡ true))
 
 -- the changes are what tokens gain by going from the old descriptor to the new one
-pub record AreGains (g : MappingValue) (base : List (SidValue × GroupState)) (old new : Parts) (changes : List Change) : Type 0 where
+pub record AreGains (g : MappingValue) (base : List (SidValue × GroupState)) (old new : Parts)
+    (changes : List Change) : Type 0 where
   -- a bit that isn't reported is granted by the new one only where the old one grants it, to every token with the base
   pub complete : (t : TokenValue) (b : ℕ) → HasBase base t → is_reported changes b ≡ false
       → is_granted new.owner new.dacl g t b ≡ true → is_granted old.owner old.dacl g t b ≡ true

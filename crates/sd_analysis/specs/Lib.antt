@@ -4,5 +4,6 @@ pub mod WhoWalk
 pub mod Sufficient
 pub mod Passes
 pub mod Compare
+pub mod Table
 pub mod Report
 pub mod Effect

@@ -1,5 +1,6 @@
 -- One pass of the check by itself: which SIDs a token has for it, and what these show of two descriptors.
-use Rattle.std.specs.Prelude.{ℕ, ◌/◌, ◌%◌, [], ◌∷◌, Bool, false, not, ◌&&◌, ◌||◌, ◌==◌, List, Option, Some, None, if◌then◌else◌}
+use Rattle.std.specs.Prelude.{ℕ, ◌/◌, ◌%◌, [], ◌∷◌, Bool, false, not, ◌&&◌, ◌||◌, ◌==◌, List, Option, Some, None}
+use Rattle.std.specs.Prelude.{if◌then◌else◌}
 use Rattle.sd_sid.specs.Mapping.{MappingValue}
 use Rattle.sd_sid.specs.Sid.{SidValue, same_sid}
 use Rattle.sd_acl.specs.declared.ace.AceKind.{AceKind}
@@ -20,7 +21,8 @@ stands_in Second t = λ kind. is_restricting t
 
 -- and whom a base with the SIDs stands for: in the second pass the base has no part
 abbrev pub sids_stand : Pass → List (SidValue × GroupState) → PassSids → AceKind → SidValue → Bool
-sids_stand First base sids = λ kind s. same_sid sids.allowed s || a_group_stands_for (with_denied base sids.denied) kind s
+sids_stand First base sids = λ kind s. same_sid sids.allowed s
+    || a_group_stands_for (with_denied base sids.denied) kind s
 sids_stand Second base sids = λ kind s. same_sid sids.allowed s || has_sid sids.denied s
 
 -- an entry of the kind for somebody applies

@@ -1,5 +1,5 @@
 -- How the gains of a change are gathered: what a search of one pass finds, and what is reported so far.
-use Rattle.std.specs.Prelude.{◌≡◌, ℕ, ◌<◌, Bool, true, false, not, ◌⊎◌, List, cond, None}
+use Rattle.std.specs.Prelude.{◌≡◌, ℕ, ◌<◌, Bool, true, false, not, ◌⊎◌, ◌++◌, List, length, cond, None}
 use Rattle.std.specs.List.{All, list_any}
 use Rattle.sd_sid.specs.Mask.{holds}
 use Rattle.sd_sid.specs.Sid.{SidValue}
@@ -7,14 +7,18 @@ use Rattle.sd_check.specs.Token.{TokenValue}
 use Rattle.sd_check.specs.declared.grounds.Pass.{Pass}
 use Rattle.sd_check.specs.declared.grounds.Pass.TheVariants.{First, Second}
 use Rattle.sd_analysis.specs.Base.{HasBase}
-use Rattle.sd_analysis.specs.Sufficient.{Parts, allowed_sids, denied_sids, gains, is_named, parts_of, token_of}
+use Rattle.sd_analysis.specs.Sufficient.{Parts, allowed_sids, denied_sids, gains, is_among, is_named, parts_of}
+use Rattle.sd_analysis.specs.Sufficient.{token_of}
 use Rattle.sd_analysis.specs.Passes.{lists, meets, owns, sids_stand, stands_in}
 use Rattle.sd_analysis.specs.Compare.{HasABit, is_reported}
+use Rattle.sd_analysis.specs.Table.{IsTable, listed_of, place_in, point_at}
 use Rattle.sd_analysis.specs.declared.compare_report.Report.{Report}
 use Rattle.sd_analysis.specs.declared.compare_search.Case.{Case}
 use Rattle.sd_analysis.specs.declared.compare_search.Finding.{Finding}
 use Rattle.sd_analysis.specs.declared.compare_search.Found.{Found}
+use Rattle.sd_analysis.specs.declared.compare_table.Both.{Both}
 use Rattle.sd_analysis.specs.declared.witness.Demand.{Demand}
+use Rattle.sd_analysis.specs.declared.witness.PassSids.{PassSids}
 use Rattle.sd_analysis.specs.declared.witness.Witness.{Witness}
 
 abbrev pub old_of : Case → Parts
@@ -23,16 +27,40 @@ old_of case = parts_of case.old.now
 abbrev pub new_of : Case → Parts
 new_of case = parts_of case.new.now
 
--- neither descriptor names the case's other SID; and it has all SIDs that may decide
+-- the SIDs of its table
+abbrev pub sids_in : Case → List SidValue
+sids_in case = case.allowed.items ++ case.denied.items
+
+-- neither descriptor names the case's other SID; and it has all SIDs that may decide, and their table
 pub record IsCase (case : Case) : Type 0 where
   pub not_old : is_named (old_of case) case.other ≡ false
   pub not_new : is_named (new_of case) case.other ≡ false
   pub allowed : case.allowed.items ≡ allowed_sids case.other (new_of case)
   pub denied : case.denied.items ≡ denied_sids (old_of case)
+  pub table : IsTable case.mapping.now case.base.now (sids_in case) (old_of case) (new_of case) case.table
+
+-- the SID is one of the table's, and at this place
+pub record IsPlace (case : Case) (s : SidValue) (place : ℕ) : Type 0 where
+  pub among : is_among (sids_in case) s ≡ true
+  pub at : place_in (sids_in case) s ≡ place
+
+-- room to walk over both lists for all SIDs
+pub record HasRoom (case : Case) (both : Both) : Type 0 where
+  pub before : length both.before.own.items ≡ length (sids_in case)
+  pub after : length both.after.own.items ≡ length (sids_in case)
+
+-- what the new list grants with the SID of the place; what the owner has is left to a closer look
+abbrev pub granted_at : Both → Bool → ℕ → ℕ
+granted_at both by_owner at = cond by_owner 0x001FFFFF (listed_of (point_at both.after at))
 
 -- a token meets the demand in the pass
 abbrev pub token_meets : Case → Pass → Demand → TokenValue → ℕ → Bool
 token_meets case pass demand t = meets case.mapping.now (old_of case) (new_of case) demand (stands_in pass t)
+
+-- and the base with these SIDs does
+abbrev pub sids_meet : Case → Pass → Demand → PassSids → ℕ → Bool
+sids_meet case pass demand sids b =
+    meets case.mapping.now (old_of case) (new_of case) demand (sids_stand pass case.base.now sids) b
 
 -- the new descriptor grants what is demanded to the base with the SID alone
 abbrev pub is_granted_alone : Case → Pass → Demand → SidValue → ℕ → Bool
@@ -45,17 +73,20 @@ abbrev pub is_found : List Finding → ℕ → Bool
 is_found findings b = list_any (λ (f : Finding). holds f.mask b) findings
 
 -- what a search for the bits finds: SIDs of the pass that meet the demand; and for a bit without any, no token does
-pub record AreFindings (case : Case) (pass : Pass) (demand : Demand) (wanted : ℕ) (findings : List Finding) : Type 0 where
+pub record AreFindings (case : Case) (pass : Pass) (demand : Demand) (wanted : ℕ)
+    (findings : List Finding) : Type 0 where
   pub shown : All (λ f. (b : ℕ) → holds f.mask b ≡ true
-      → meets case.mapping.now (old_of case) (new_of case) demand (sids_stand pass case.base.now f.sids) b ≡ true) findings
-  pub complete : (t : TokenValue) (b : ℕ) → b < 21 → HasBase case.base.now t → holds wanted b ≡ true → is_found findings b ≡ false
+      → sids_meet case pass demand f.sids b ≡ true) findings
+  pub complete : (t : TokenValue) (b : ℕ) → b < 21 → HasBase case.base.now t → holds wanted b ≡ true
+      → is_found findings b ≡ false
       → token_meets case pass demand t b ≡ false
 
 -- what is found so far
 pub record IsFound (case : Case) (pass : Pass) (demand : Demand) (wanted : ℕ) (found : Found) : Type 0 where
   pub shown : All (λ f. (b : ℕ) → holds f.mask b ≡ true
-      → meets case.mapping.now (old_of case) (new_of case) demand (sids_stand pass case.base.now f.sids) b ≡ true) found.findings.items
-  pub left : (b : ℕ) → b < 21 → holds wanted b ≡ true → is_found found.findings.items b ≡ false → holds found.left b ≡ true
+      → sids_meet case pass demand f.sids b ≡ true) found.findings.items
+  pub left : (b : ℕ) → b < 21 → holds wanted b ≡ true → is_found found.findings.items b ≡ false
+      → holds found.left b ≡ true
 
 abbrev pub IsLessLeft : Found → Found → Type 0
 IsLessLeft before now = (b : ℕ) → holds now.left b ≡ true → holds before.left b ≡ true
@@ -80,7 +111,8 @@ rest_of demand = record { by_owner = demand.by_owner; unlisted = not demand.unli
 
 -- the token doesn't meet the demand in the first pass, or not the rest in the second
 abbrev pub IsRefused : Case → Demand → TokenValue → ℕ → Type 0
-IsRefused case demand t b = (token_meets case First demand t b ≡ false) ⊎ (token_meets case Second (rest_of demand) t b ≡ false)
+IsRefused case demand t b = (token_meets case First demand t b ≡ false)
+    ⊎ (token_meets case Second (rest_of demand) t b ≡ false)
 
 -- and so for each demand that leaves something to the second pass
 pub record IsRefusedAgain (case : Case) (t : TokenValue) (by_owner : Bool) (b : ℕ) : Type 0 where

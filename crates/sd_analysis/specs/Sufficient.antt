@@ -1,7 +1,9 @@
--- Two SIDs per pass are enough to tell two descriptors apart. What a token is granted depends on the first entry that decides,
--- in each descriptor and in each pass. Keep of the token the base, the SID through which the new descriptor grants, and the
--- SID through which the old one denies: both still decide, since no entry came to apply. All other SIDs can go.
-use Rattle.std.specs.Prelude.{◌≡◌, ℕ, Bool, true, false, not, ◌&&◌, ◌||◌, List, [], ◌∷◌, ◌++◌, Option, Some, None, if◌then◌else◌}
+-- Two SIDs per pass are enough to tell two descriptors apart. What a token is granted depends on the first entry that
+-- decides, in each descriptor and in each pass. Keep of the token the base, the SID through which the new descriptor
+-- grants, and the SID through which the old one denies: both still decide, since no entry came to apply. All other SIDs
+-- can go.
+use Rattle.std.specs.Prelude.{◌≡◌, ℕ, Bool, true, false, not, ◌&&◌, ◌||◌, List, [], ◌∷◌, ◌++◌, Option, Some, None}
+use Rattle.std.specs.Prelude.{if◌then◌else◌}
 use Rattle.std.specs.List.{list_any, filter_map}
 use Rattle.std.specs.Option.{option_to_list}
 use Rattle.sd_sid.specs.Mapping.{MappingValue}
@@ -99,7 +101,8 @@ pub record WitnessMayDecide (other : SidValue) (old new : Parts) (w : Witness) :
 -- if some token with the base gains the bit, so does one with two SIDs per pass, each of which may decide
 abbrev pub TwoSidsPerPassSuffice : Type 0
 TwoSidsPerPassSuffice =
-    (g : MappingValue) (old new : Parts) (base : List (SidValue × GroupState)) (t : TokenValue) (b : ℕ) (other : SidValue)
+    (g : MappingValue) (old new : Parts) (base : List (SidValue × GroupState)) (t : TokenValue) (b : ℕ)
+    (other : SidValue)
     → is_named old other ≡ false → is_named new other ≡ false
     → HasBase base t → gains g old new t b ≡ true
     → (w : Witness) × (WitnessMayDecide other old new w × (gains g old new (token_of base w) b ≡ true))

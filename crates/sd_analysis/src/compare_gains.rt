@@ -1,6 +1,6 @@
 //! What a change of a descriptor grants and takes away.
 
-ghost use Rattle.std.specs.Prelude.{◌≡◌, ◌<◌, ℕ, Bool, IfOk, OnOk, true, false, Some, None, []};
+ghost use Rattle.std.specs.Prelude.{◌≡◌, ◌<◌, ℕ, Bool, IfOk, OnOk, ◌++◌, true, false, Some, None, []};
 ghost use Rattle.std.specs.List.{All};
 ghost use Rattle.sd_sid.specs.Mask.{holds};
 ghost use Rattle.sd_check.specs.Token.{TokenValue};
@@ -8,19 +8,23 @@ ghost use Rattle.sd_check.specs.declared.grounds.Pass.TheVariants.{First, Second
 ghost use Rattle.sd_analysis.specs.Base.{HasBase};
 ghost use Rattle.sd_analysis.specs.Sufficient.{parts_of};
 ghost use Rattle.sd_analysis.specs.Compare.{AreGains};
-ghost use Rattle.sd_analysis.specs.Report.{AreFindings, IsCase, IsLess, IsRefused, IsRefusedAgain, IsReport, IsReportOf, is_found, new_of, old_of, token_meets};
+ghost use Rattle.sd_analysis.specs.Report.{AreFindings, IsCase, IsLess, IsRefused, IsRefusedAgain, IsReport};
+ghost use Rattle.sd_analysis.specs.Report.{IsReportOf, is_found, new_of, old_of, token_meets};
+ghost use Rattle.sd_analysis.specs.Table.{IsTable};
 ghost use Rattle.sd_analysis.specs.declared.witness.Witness.{Witness};
 
 use crate::base::Base;
 use crate::compare_report::{Change, Report};
 use crate::compare_search::{Case, Finding};
 use crate::compare_sides::{DescriptorRef, unnamed};
+use crate::compare_table::Table;
 use crate::witness::{Demand, Witness};
 use sd_check::Pass;
-use sd_sid::{GenericMapping, OBJECT_RIGHTS};
+use sd_sid::{GenericMapping, OBJECT_RIGHTS, Sid};
 use std::alloc::{AllocError, Global};
 
-/// What a change of a descriptor comes to: which bits tokens gain by it, and which they lose, each with a token that does.
+/// What a change of a descriptor comes to: which bits tokens gain by it, and which they lose, each with a token that
+/// does.
 #[derive(Debug, Drop)]
 pub struct Comparison {
     pub gained: Vec<Change>,
@@ -38,9 +42,11 @@ pub fn compare<'x>(
     mapping: &'x GenericMapping,
     base: &'x Base<'x>,
 ) -> Result<Comparison, AllocError>
-    ensures gained { IfOk result (λ c. AreGains mapping.now base.now (parts_of old.now) (parts_of new.now) c.gained.items) }
+    ensures gained { IfOk result (λ c.
+        AreGains mapping.now base.now (parts_of old.now) (parts_of new.now) c.gained.items) }
     ensures lost { IfOk result (λ c. AreGains mapping.now base.now (parts_of new.now) (parts_of old.now) c.lost.items) }
-    ensures same { IfOk result (λ c. parts_of old.now ≡ parts_of new.now → (c.gained.items ≡ []) × (c.lost.items ≡ [])) }
+    ensures same { IfOk result (λ c. parts_of old.now ≡ parts_of new.now
+        → (c.gained.items ≡ []) × (c.lost.items ≡ [])) }
 {
     let gained = gains(alloc, old, new, mapping, base)?;
     let lost = gains(alloc, new, old, mapping, base)?;
@@ -55,11 +61,13 @@ fn gains<'x>(
     mapping: &'x GenericMapping,
     base: &'x Base<'x>,
 ) -> Result<Vec<Change>, AllocError>
-    ensures { IfOk result (λ changes. AreGains mapping.now base.now (parts_of old.now) (parts_of new.now) changes.items) }
+    ensures { IfOk result (λ changes.
+        AreGains mapping.now base.now (parts_of old.now) (parts_of new.now) changes.items) }
 {
     let other = unnamed(old, new);
     let allowed = new.allowed(alloc, other)?;
     let denied = old.denied(alloc)?;
+    let table = table_of(alloc, &allowed, &denied, old, new, mapping, base)?;
     let case = Case {
         old,
         new,
@@ -68,15 +76,35 @@ fn gains<'x>(
         other,
         allowed,
         denied,
+        table,
     };
     case.gains(alloc)
+}
+
+/// The table of all SIDs that may decide.
+fn table_of(
+    alloc: Global,
+    allowed: &[Sid],
+    denied: &[Sid],
+    old: &DescriptorRef<'_>,
+    new: &DescriptorRef<'_>,
+    mapping: &GenericMapping,
+    base: &Base<'_>,
+) -> Result<Table, AllocError>
+    ensures { let before = parts_of old.now in let after = parts_of new.now in
+        IfOk result (IsTable mapping.now base.now (allowed.now ++ denied.now) before after) }
+{
+    let mut sids = Vec::from_slice(alloc, allowed)?;
+    sids.extend_from_slice(denied)?;
+    Table::new(alloc, &sids, old, new, mapping, base)
 }
 
 impl Case<'_> {
     /// The bits that tokens gain, each with one that does.
     pub(crate) fn gains(&self, alloc: Global) -> Result<Vec<Change>, AllocError>
         requires { IsCase self.now }
-        ensures { IfOk result (λ changes. let case = self.now in AreGains case.mapping.now case.base.now (old_of case) (new_of case) changes.items) }
+        ensures { IfOk result (λ changes. let case = self.now in AreGains case.mapping.now case.base.now
+            (old_of case) (new_of case) changes.items) }
     {
         let mut report = Report {
             changes: Vec::new(alloc),
@@ -99,8 +127,10 @@ impl Case<'_> {
         requires { IsCase self.now }
         ensures report { OnOk result (IsReportOf self.now report.old → IsReportOf self.now report.new) }
         ensures less { OnOk result (IsLess report.old report.new) }
-        ensures complete { OnOk result ((t : TokenValue) (b : ℕ) → b < 21 → HasBase self.now.base.now t → holds report.new.wanted b ≡ true
-            → token_meets self.now First (record { by_owner = by_owner; unlisted = true; unowned = true }) t b ≡ false) }
+        ensures complete { OnOk result ((t : TokenValue) (b : ℕ) → b < 21 → HasBase self.now.base.now t
+            → holds report.new.wanted b ≡ true
+            → token_meets self.now First (record { by_owner = by_owner; unlisted = true; unowned = true }) t b
+            ≡ false) }
     {
         let demand = Demand {
             by_owner,
@@ -112,8 +142,8 @@ impl Case<'_> {
         Ok(())
     }
 
-    /// Reports what restricted tokens gain beside: the old descriptor fails by its entries, or by its owner, in the second
-    /// pass alone.
+    /// Reports what restricted tokens gain beside: the old descriptor fails by its entries, or by its owner, in the
+    /// second pass alone.
     fn restricted(
         &self,
         alloc: Global,
@@ -123,7 +153,8 @@ impl Case<'_> {
         requires { IsCase self.now }
         ensures report { OnOk result (IsReportOf self.now report.old → IsReportOf self.now report.new) }
         ensures less { OnOk result (IsLess report.old report.new) }
-        ensures complete { OnOk result ((t : TokenValue) (b : ℕ) → b < 21 → HasBase self.now.base.now t → holds report.new.wanted b ≡ true
+        ensures complete { OnOk result ((t : TokenValue) (b : ℕ) → b < 21 → HasBase self.now.base.now t
+            → holds report.new.wanted b ≡ true
             → IsRefusedAgain self.now t by_owner b) }
     {
         self.both(
@@ -161,7 +192,8 @@ impl Case<'_> {
         requires { IsCase self.now }
         ensures report { OnOk result (IsReportOf self.now report.old → IsReportOf self.now report.new) }
         ensures less { OnOk result (IsLess report.old report.new) }
-        ensures complete { OnOk result ((t : TokenValue) (b : ℕ) → b < 21 → HasBase self.now.base.now t → holds report.new.wanted b ≡ true
+        ensures complete { OnOk result ((t : TokenValue) (b : ℕ) → b < 21 → HasBase self.now.base.now t
+            → holds report.new.wanted b ≡ true
             → IsRefused self.now demand t b) }
     {
         let first = self.search(alloc, Pass::First, demand, report.wanted)?;
@@ -177,7 +209,8 @@ impl Case<'_> {
 /// Reports the findings of the first pass, for tokens that nothing restricts.
 fn add_each(report: &mut Report, findings: &[Finding]) -> Result<(), AllocError>
     ensures report { OnOk result ((shows : Witness → ℕ → Bool) → IsReport shows report.old
-        → All (λ f. (b : ℕ) → holds f.mask b ≡ true → shows (record { first = f.sids; second = None }) b ≡ true) findings.now
+        → All (λ f. (b : ℕ) → holds f.mask b ≡ true
+        → shows (record { first = f.sids; second = None }) b ≡ true) findings.now
         → IsReport shows report.new) }
     ensures less { OnOk result (IsLess report.old report.new) }
     ensures gone { OnOk result ((b : ℕ) → b < 21 → is_found findings.now b ≡ true → holds report.new.wanted b ≡ false) }
@@ -199,7 +232,8 @@ fn add_pairs(report: &mut Report, first: &[Finding], second: &[Finding]) -> Resu
         → shows (record { first = f.sids; second = Some s.sids }) b ≡ true) second.now) first.now
         → IsReport shows report.new) }
     ensures less { OnOk result (IsLess report.old report.new) }
-    ensures gone { OnOk result ((b : ℕ) → b < 21 → is_found first.now b ≡ true → is_found second.now b ≡ true → holds report.new.wanted b ≡ false) }
+    ensures gone { OnOk result ((b : ℕ) → b < 21 → is_found first.now b ≡ true → is_found second.now b ≡ true
+        → holds report.new.wanted b ≡ false) }
 {
     for finding in first {
         pair(report, finding, second)?;
@@ -214,7 +248,8 @@ fn pair(report: &mut Report, first: &Finding, second: &[Finding]) -> Result<(), 
         → shows (record { first = first.now.sids; second = Some f.sids }) b ≡ true) second.now
         → IsReport shows report.new) }
     ensures less { OnOk result (IsLess report.old report.new) }
-    ensures gone { OnOk result ((b : ℕ) → b < 21 → holds first.now.mask b ≡ true → is_found second.now b ≡ true → holds report.new.wanted b ≡ false) }
+    ensures gone { OnOk result ((b : ℕ) → b < 21 → holds first.now.mask b ≡ true → is_found second.now b ≡ true
+        → holds report.new.wanted b ≡ false) }
 {
     for more in second {
         let witness = Witness {

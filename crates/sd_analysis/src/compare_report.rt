@@ -47,12 +47,14 @@ impl Report {
 /// Joins the bits with those that have the same witness already, if there are any.
 fn note(changes: &mut Vec<Change>, witness: &Witness, bits: Mask) -> Result<(), AllocError>
     requires { HasABit bits }
-    ensures reported { OnOk result ((b : ℕ) → b < 32 → is_reported changes.new.items b ≡ (is_reported changes.old.items b || holds bits b)) }
+    ensures reported { OnOk result ((b : ℕ) → b < 32
+        → is_reported changes.new.items b ≡ (is_reported changes.old.items b || holds bits b)) }
     ensures shown { OnOk result ((shows : Witness → ℕ → Bool)
         → All (λ c. (b : ℕ) → holds c.mask b ≡ true → shows c.witness b ≡ true) changes.old.items
         → ((b : ℕ) → holds bits b ≡ true → shows witness.now b ≡ true)
         → All (λ c. (b : ℕ) → holds c.mask b ≡ true → shows c.witness b ≡ true) changes.new.items) }
-    ensures some { OnOk result (All (λ c. HasABit c.mask) changes.old.items → All (λ c. HasABit c.mask) changes.new.items) }
+    ensures some { OnOk result (All (λ c. HasABit c.mask) changes.old.items
+        → All (λ c. HasABit c.mask) changes.new.items) }
 {
     if let Some(place) = place_of(changes, witness) {
         let mask = changes[place].mask.union(bits);
@@ -68,7 +70,8 @@ fn note(changes: &mut Vec<Change>, witness: &Witness, bits: Mask) -> Result<(), 
 
 /// Where the witness stands, if it does.
 fn place_of(changes: &[Change], witness: &Witness) -> Option<usize>
-    ensures { IfSome result (λ i. (i < length changes.now) × ((d : Change) → (slice_index_or changes.now i d).witness ≡ witness.now)) }
+    ensures { IfSome result (λ i. (i < length changes.now) × ((d : Change)
+        → (slice_index_or changes.now i d).witness ≡ witness.now)) }
 {
     changes.iter().position(|change| change.witness.is(witness))
 }

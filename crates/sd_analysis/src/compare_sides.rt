@@ -2,14 +2,15 @@
 
 ghost use Rattle.std.specs.Prelude.{◌≡◌, ◌||◌, ◌<◌, ◌≤◌, ◌++◌, ℕ, Some, IfOk, OnOk, false, length};
 ghost use Rattle.std.specs.List.{filter_map, list_any};
-ghost use Rattle.std.specs.Option.{option_to_list};
+ghost use Rattle.std.specs.Option.{is_some, option_to_list};
 ghost use Rattle.sd_sid.specs.Mask.{holds};
 ghost use Rattle.sd_sid.specs.Sid.{same_sid};
 ghost use Rattle.sd_acl.specs.declared.ace.Ace.{Ace};
 ghost use Rattle.sd_acl.specs.declared.ace.AceKind.{AceKind};
 ghost use Rattle.sd_check.specs.Check.{entries_of, is_limit, limits_owner, subject};
 ghost use Rattle.sd_check.specs.Fold.{part_of};
-ghost use Rattle.sd_analysis.specs.Sufficient.{allowed_sids, denied_sids, entries_or_none, has_sid, is_named, parts_of, subject_if, subjects_in};
+ghost use Rattle.sd_analysis.specs.Sufficient.{allowed_sids, denied_sids, entries_or_none, has_sid, is_named, parts_of};
+ghost use Rattle.sd_analysis.specs.Sufficient.{subject_if, subjects_in};
 ghost use Rattle.sd_analysis.specs.Passes.{about, lists, numbered, owns, sids_stand};
 
 use crate::compare_search::Case;
@@ -30,13 +31,24 @@ pub struct DescriptorRef<'a> {
 }
 
 impl DescriptorRef<'_> {
-    fn entries(&self) -> &[Ace]
+    pub(crate) fn entries(&self) -> &[Ace]
         ensures { result.now ≡ entries_or_none (entries_of self.now.dacl) }
     {
         match self.dacl {
             DaclRef::Absent => &[],
             DaclRef::Null => &[],
             DaclRef::List(entries) => entries,
+        }
+    }
+
+    /// Whether there is a list at all.
+    pub(crate) fn has_list(&self) -> bool
+        ensures { result ≡ is_some (entries_of self.now.dacl) }
+    {
+        match self.dacl {
+            DaclRef::Absent => false,
+            DaclRef::Null => false,
+            DaclRef::List(_) => true,
         }
     }
 
@@ -190,7 +202,9 @@ fn subject_if(allows: bool, owner: &Option<Sid>, entry: &Ace) -> Option<Sid>
 impl Case<'_> {
     /// The bits that the DACL grants in the pass to the base with the SIDs.
     pub(crate) fn listed(&self, side: &DescriptorRef<'_>, pass: Pass, sids: &PassSids) -> Mask
-        ensures { (b : ℕ) → b < 21 → holds result b ≡ lists self.now.mapping.now (parts_of side.now) (sids_stand pass self.now.base.now sids.now) b }
+        ensures { (b : ℕ) → b < 21
+            → holds result b ≡ lists self.now.mapping.now (parts_of side.now)
+            (sids_stand pass self.now.base.now sids.now) b }
     {
         match side.dacl {
             DaclRef::Absent => OBJECT_RIGHTS,
@@ -201,7 +215,8 @@ impl Case<'_> {
 
     fn listed_by(&self, owner: &Option<Sid>, entries: &[Ace], pass: Pass, sids: &PassSids) -> Mask
         ensures { (b : ℕ) → b < 21
-            → holds result b ≡ lists self.now.mapping.now (record { owner = owner.now; dacl = Some entries.now }) (sids_stand pass self.now.base.now sids.now) b }
+            → holds result b ≡ lists self.now.mapping.now (record { owner = owner.now; dacl = Some entries.now })
+            (sids_stand pass self.now.base.now sids.now) b }
     {
         let mut undecided = OBJECT_RIGHTS;
         let mut allowed = Mask(0);
@@ -215,7 +230,8 @@ impl Case<'_> {
 
     /// What the entry decides where no earlier one does ([MS-DTYP] 2.5.3.2).
     fn part(&self, owner: &Option<Sid>, entry: &Ace, pass: Pass, sids: &PassSids) -> Mask
-        ensures { result ≡ part_of self.now.mapping.now (λ kind s. about (sids_stand pass self.now.base.now sids.now) kind (subject owner.now s)) entry.now }
+        ensures { result ≡ part_of self.now.mapping.now (λ kind s. about
+            (sids_stand pass self.now.base.now sids.now) kind (subject owner.now s)) entry.now }
     {
         if entry.is_inherit_only() {
             return Mask(0);
@@ -231,7 +247,8 @@ impl Case<'_> {
 
     /// The bits that it grants as the owner's.
     pub(crate) fn owned(&self, side: &DescriptorRef<'_>, pass: Pass, sids: &PassSids) -> Mask
-        ensures { (b : ℕ) → b < 21 → holds result b ≡ owns (parts_of side.now) (sids_stand pass self.now.base.now sids.now) b }
+        ensures { (b : ℕ) → b < 21
+            → holds result b ≡ owns (parts_of side.now) (sids_stand pass self.now.base.now sids.now) b }
     {
         let is_owner = self.is_owner(side, pass, sids);
         OWNERS_RIGHTS.when(is_owner & !side.limits_owner())

@@ -19,9 +19,11 @@
 
 mod base;
 mod compare_gains;
+mod compare_pairs;
 mod compare_report;
 mod compare_search;
 mod compare_sides;
+mod compare_table;
 mod effect;
 mod laws;
 mod who_case;

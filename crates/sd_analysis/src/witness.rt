@@ -23,8 +23,8 @@ pub struct Witness {
     pub second: Option<PassSids>,
 }
 
-/// What a pass is to show of its SIDs: that the new descriptor grants the bit, by an entry or as the owner's; and that the
-/// old one grants it by no entry, or not as the owner's, or neither.
+/// What a pass is to show of its SIDs: that the new descriptor grants the bit, by an entry or as the owner's; and that
+/// the old one grants it by no entry, or not as the owner's, or neither.
 #[derive(Clone, Copy)]
 pub(crate) struct Demand {
     pub(crate) by_owner: bool,
@@ -32,8 +32,9 @@ pub(crate) struct Demand {
     pub(crate) unowned: bool,
 }
 
-/// Two SIDs per pass are enough to tell two descriptors apart: where some token with the base is granted a bit by the new
-/// one and not by the old one, so is a token that has the base and two further SIDs per pass at most, and no privilege.
+/// Two SIDs per pass are enough to tell two descriptors apart: where some token with the base is granted a bit by the
+/// new one and not by the old one, so is a token that has the base and two further SIDs per pass at most, and no
+/// privilege.
 pub fn two_sids_per_pass_suffice()
     ensures suffice { TwoSidsPerPassSuffice }
     ensures base { WitnessHasBase }

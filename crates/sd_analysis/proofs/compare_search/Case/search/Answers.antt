@@ -1,26 +1,18 @@
-use Rattle.std.proofs.Common.{◌∙◌, sym, ap, inl, inr, refl}
+use Rattle.std.proofs.Common.{◌≡◌, ◌∙◌, ◌+◌, ◌<◌, ◌≤◌, true, false, sym, ap, get_or, inl, inr, length, refl, subst, take}
 use Rattle.std.proofs.lemmas.Bool.{false≢true}
 use Rattle.std.proofs.lemmas.List.{take_all}
+use Rattle.sd_sid.specs.Mask.{holds}
+use Rattle.sd_sid.specs.Sid.{SidValue}
 use Rattle.sd_analysis.specs.Sufficient.{is_among}
-use Rattle.sd_analysis.specs.Report.{is_granted_alone}
-use Rattle.sd_analysis.proofs.Searched.{among_more, none_sought, nothing_found, search_done, sids_meet, still_left}
+use Rattle.sd_analysis.specs.Report.{is_granted_alone, sids_meet}
+use Rattle.sd_analysis.proofs.Searched.{among_more, none_sought, nothing_found, search_done, still_left}
 use Rattle.sd_analysis.proofs.compare_search.Case.search.Goals as goal
 
-pub loop-allowed-init : goal.loop-allowed-init
-loop-allowed-init c = record {
+pub loop-place-init : goal.loop-place-init
+loop-place-init c = record {
+  room = λ unlisted. record { before = c.in_ok-both.ensures.before ∙ c.room.ensures unlisted; after = c.in_ok-both.ensures.after ∙ c.room.ensures unlisted };
   found = nothing_found c.args.self.now c.args.pass c.args.demand c.args.wanted _ c.new.ensures.items refl;
   gone = λ sids b low among. absurd (false≢true among);
-}
-
-pub loop-allowed-preserved : goal.loop-allowed-preserved
-loop-allowed-preserved c = record {
-  found = c.in_ok-try_with.ensures.found c.args.wanted c.loop-allowed.invariant.found;
-  gone = λ sids b low among denied needed granted h. elim (among_more c.deref-allowed-items.result.now c.loop-allowed.allowed-index c.allowed-item.result sids.allowed c.loop-allowed-test.true c.allowed-item.is among) [
-    | inl before ↦ still_left c.loop-allowed.found c.try_with.new.found b c.in_ok-try_with.ensures.less (c.loop-allowed.invariant.gone sids b low before denied needed granted h)
-    | inr now ↦ c.in_ok-try_with.ensures.gone sids.denied b low denied needed
-        (ap (λ x. is_granted_alone c.args.self.now c.args.pass c.args.demand x b) now ∙ granted)
-        (ap (λ x. sids_meet c.args.self.now c.args.pass c.args.demand (record { allowed = x; denied = sids.denied }) b) now ∙ h)
-  ];
 }
 
 pub returns-then-is_empty : goal.returns-then-is_empty
@@ -28,6 +20,37 @@ returns-then-is_empty c =
     none_sought c.args.self.now c.args.pass c.args.demand c.args.wanted c.new.result.items c.new.ensures.items (sym c.is_empty.ensures ∙ c.if-is_empty.true)
 
 pub returns : goal.returns
-returns c = search_done c.args.self.now c.requires c.args.pass c.args.demand c.args.wanted c.loop-allowed.found c.loop-allowed.invariant.found
-    (λ sids b low among denied needed granted h. c.loop-allowed.invariant.gone sids b low
-    (ap (λ xs. is_among xs sids.allowed) (take_all c.loop-allowed.allowed-index c.deref-allowed-items.result.now c.loop-allowed-test.false ∙ c.deref-allowed-items.ensures.value) ∙ among) denied needed granted h)
+returns c = search_done c.args.self.now c.requires c.args.pass c.args.demand c.args.wanted c.loop-place.found c.loop-place.invariant.found
+    (λ sids b low among denied needed granted h. c.loop-place.invariant.gone sids b low
+    (ap (λ xs. is_among xs sids.allowed) (take_all c.loop-place.place c.args.self.now.allowed.items
+    (subst (λ xs. length xs ≤ c.loop-place.place) c.deref-allowed-items.ensures.value c.loop-place-test.false)) ∙ among) denied needed granted h)
+
+pub try_at-requires-clause-within : goal.try_at-requires-clause-within
+try_at-requires-clause-within c = subst (λ xs. c.loop-place.place < length xs) c.deref-allowed-items.ensures.value c.loop-place-test.true
+
+pub try_at-requires-clause-at : goal.try_at-requires-clause-at
+try_at-requires-clause-at c = c.allowed-item.is ∙ ap (λ xs. get_or xs c.loop-place.place c.allowed-item.result) c.deref-allowed-items.ensures.value
+
+pub loop-place-preserved : goal.loop-place-preserved
+loop-place-preserved c = record {
+  room = c.in_ok-try_at.ensures.room;
+  found = c.in_ok-try_at.ensures.found c.args.wanted c.loop-place.invariant.found;
+  gone = λ sids b low among denied needed granted h.
+      let same = c.deref-allowed-items.ensures.value in
+      let place = c.loop-place.place in
+      let tried : (x : SidValue) → is_among (take place c.args.self.now.allowed.items) x ≡ true → is_granted_alone c.args.self.now c.args.pass c.args.demand x b ≡ true
+      → sids_meet c.args.self.now c.args.pass c.args.demand (record { allowed = x; denied = sids.denied }) b ≡ true → holds c.try_at.new.found.left b ≡ false =
+      λ x before has met. still_left c.loop-place.found c.try_at.new.found b c.in_ok-try_at.ensures.less
+      (c.loop-place.invariant.gone (record { allowed = x; denied = sids.denied }) b low before denied needed has met) in
+      elim (among_more c.deref-allowed-items.result.now place c.allowed-item.result sids.allowed c.loop-place-test.true c.allowed-item.is
+      (ap (λ xs. is_among (take (place + 1) xs) sids.allowed) same ∙ among)) [
+        | inl before ↦ tried sids.allowed (sym (ap (λ xs. is_among (take place xs) sids.allowed) same) ∙ before) granted h
+        | inr now ↦
+            let has = ap (λ x. is_granted_alone c.args.self.now c.args.pass c.args.demand x b) now ∙ granted in
+            let met = ap (λ x. sids_meet c.args.self.now c.args.pass c.args.demand (record { allowed = x; denied = sids.denied }) b) now ∙ h in
+            elim (c.in_ok-try_at.ensures.gone sids.denied b low denied needed has met) [
+              | inl gone ↦ gone
+              | inr before ↦ tried c.allowed-item.result before has met
+            ]
+      ];
+}
