@@ -14,3 +14,4 @@ pub mod Searched
 pub mod Placed
 pub mod Unnamed
 pub mod Effects
+pub mod Judged

@@ -7,3 +7,4 @@ pub mod Compare
 pub mod Table
 pub mod Report
 pub mod Effect
+pub mod Redundant
