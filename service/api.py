@@ -1,0 +1,346 @@
+"""What each request of HTTP asks: its JSON becomes the words of a line, and the answer of the line JSON.
+
+docs/SERVICE.md and openapi.json have the requests."""
+
+import asyncio
+import functools
+import json
+from collections.abc import Callable, Sequence
+from dataclasses import dataclass
+from http import HTTPStatus
+from typing import Any
+
+from errors import Fault
+from script import Reader, is_key
+from service import Caller, Service
+from spelling import path_of, spelled
+from writer import Task
+
+
+@dataclass(frozen=True, slots=True)
+class Response:
+    """A status, and an object for JSON or a plain text."""
+
+    status: HTTPStatus
+    body: dict[str, Any] | str
+
+
+_Reply = Callable[[Response], None]
+#: The most paths of one request, and edits.
+_MOST_CHECKS, _MOST_EDITS = 10_000, 1_000
+
+
+@dataclass(frozen=True, slots=True)
+class _Request:
+    service: Service
+    caller: Caller
+    given: dict[str, Any]
+    reply: _Reply
+
+    def text(self, name: str, default: str | None = None) -> str:
+        return _text(self.given, name, default)
+
+
+def route(
+    service: Service, caller: Caller, method: str, target: str, fields: dict[str, str], body: bytes, reply: _Reply
+) -> None:
+    """Answers a request by one call of `reply`, now or later."""
+    methods = _ROUTES.get(target.partition("?")[0])
+    if methods is None:
+        reply(Response(HTTPStatus.NOT_FOUND, {"fault": "path of the request"}))
+    elif method not in methods:
+        reply(Response(HTTPStatus.METHOD_NOT_ALLOWED, {"fault": "method"}))
+    else:
+        role, work = methods[method]
+        try:
+            caller.require(role)
+            given = _object(fields, body) if method == "POST" else {}
+            work(_Request(service, caller, given, reply))
+        except Fault as fault:
+            reply(_fault(fault.answer))
+
+
+def _object(fields: dict[str, str], body: bytes) -> dict[str, Any]:
+    """The JSON object of a body, in which no name is there twice."""
+    if fields.get("content-type", "").partition(";")[0].strip().lower() != "application/json":
+        raise Fault("fault content-type")
+    try:
+        given = json.loads(body.decode(), object_pairs_hook=_once, parse_constant=_no_number)
+    except (ValueError, RecursionError):
+        raise Fault("fault json") from None
+    if not isinstance(given, dict):
+        raise Fault("fault json")
+    return given
+
+
+def _once(pairs: Sequence[tuple[str, Any]]) -> dict[str, Any]:
+    made = dict(pairs)
+    if len(made) != len(pairs):
+        raise ValueError("a name is there twice")
+    return made
+
+
+def _no_number(text: str) -> None:
+    raise ValueError(f"{text} is no number of JSON")
+
+
+_STATUSES = {
+    "fault role": HTTPStatus.FORBIDDEN,
+    "fault content-type": HTTPStatus.UNSUPPORTED_MEDIA_TYPE,
+    "fault key": HTTPStatus.CONFLICT,
+    "nonode": HTTPStatus.NOT_FOUND,
+    "nonotice": HTTPStatus.CONFLICT,
+}
+
+
+def _fault(answer: str) -> Response:
+    """The response to what isn't carried out: the line's answer without its first word."""
+    if answer.startswith("unavailable"):
+        return Response(HTTPStatus.SERVICE_UNAVAILABLE, {"unavailable": answer.partition(" ")[2]})
+    status = _STATUSES.get(answer, HTTPStatus.BAD_REQUEST)
+    return Response(status, {"fault": answer.removeprefix("fault ")})
+
+
+def _text(given: dict[str, Any], name: str, default: str | None = None) -> str:
+    """A text without what would make it two words of a line, or none."""
+    value = given.get(name, default)
+    if not isinstance(value, str) or not value or any(each in value for each in " \r\n"):
+        raise Fault(f"fault {name}")
+    return _encodable(value)
+
+
+def _encodable(value: str) -> str:
+    try:
+        value.encode()
+    except UnicodeEncodeError:
+        raise Fault("fault utf8") from None
+    return value
+
+
+def _path(given: dict[str, Any], name: str, default: str | None = None) -> str:
+    """A path, spelled as one word."""
+    value = given.get(name, default)
+    if not isinstance(value, str) or not value:
+        raise Fault(f"fault {name}")
+    return spelled(_encodable(value))
+
+
+def _list(given: dict[str, Any], name: str, most: int, default: list[Any] | None = None) -> list[Any]:
+    value = given.get(name, default)
+    if not isinstance(value, list) or len(value) > most:
+        raise Fault(f"fault {name}")
+    return value
+
+
+def _know(given: dict[str, Any], *names: str) -> None:
+    """Fault: there is a name besides these."""
+    if not given.keys() <= set(names):
+        raise Fault(f"fault {min(given.keys() - set(names))!a}")
+
+
+# Questions
+
+
+def _token(request: _Request) -> tuple[str, list[str]]:
+    """The user and the other words of a token."""
+    words = [_text({"groups": each}, "groups") for each in _list(request.given, "groups", 2_048, [])]
+    return request.text("user"), words
+
+
+def _require_seen(request: _Request) -> None:
+    """A client that has seen a state gets no answer by an earlier one, or of another store."""
+    store, seen = request.given.get("store", request.service.store), request.given.get("seen", 0)
+    if store != request.service.store:
+        raise Fault("nonotice")
+    if type(seen) is not int or seen < 0:
+        raise Fault("fault seen")
+    if seen > request.service.shown.length:
+        raise Fault("nonotice")
+
+
+def _state(request: _Request) -> dict[str, Any]:
+    shown = request.service.shown
+    return {"store": request.service.store, "epoch": shown.epoch, "seen": shown.length}
+
+
+def _asked(request: _Request, *words: str) -> str:
+    """The answer to the words without `seen L`. Fault: it is a fault."""
+    said = request.service.answer(words, request.caller, Reader())
+    if not said.startswith("seen "):
+        raise Fault(said)
+    return said.split(" ", 2)[2]
+
+
+def _check(request: _Request) -> None:
+    _know(request.given, "user", "groups", "checks", "store", "seen")
+    _require_seen(request)
+    user, words = _token(request)
+    checks = _list(request.given, "checks", _MOST_CHECKS)
+    asked: dict[str, list[int]] = {}
+    paths: list[str] = []
+    for at, each in enumerate(checks):
+        if not isinstance(each, dict):
+            raise Fault("fault checks")
+        _know(each, "path", "mask")
+        paths.append(_path(each, "path"))
+        asked.setdefault(_text(each, "mask"), []).append(at)
+    answers: list[dict[str, str]] = [{}] * len(checks)
+    for mask, places in asked.items():
+        said = _asked(request, "checks", "0", str(len(places)), *(paths[at] for at in places), user, mask, *words)
+        for at, verdict in zip(places, said.split(", ")):
+            answers[at] = _verdict(verdict)
+    request.reply(Response(HTTPStatus.OK, {**_state(request), "answers": answers}))
+
+
+def _verdict(said: str) -> dict[str, str]:
+    kind, _, mask = said.partition(" ")
+    return {"verdict": kind, "mask": mask} if mask else {"verdict": kind}
+
+
+def _why(request: _Request) -> None:
+    _know(request.given, "user", "groups", "path", "mask", "store", "seen")
+    _require_seen(request)
+    user, words = _token(request)
+    said = _asked(request, "why", "0", _path(request.given, "path"), user, request.text("mask"), *words)
+    verdict, *reasons = said.split("\n")
+    request.reply(Response(HTTPStatus.OK, {**_state(request), **_verdict(verdict), "reasons": reasons}))
+
+
+def _show(request: _Request) -> None:
+    _know(request.given, "path", "store", "seen")
+    _require_seen(request)
+    said = _asked(request, "show", "0", _path(request.given, "path"))
+    if said == "nonode":
+        raise Fault(said)
+    request.reply(Response(HTTPStatus.OK, {**_state(request), "descriptor": said.removeprefix("shown ")}))
+
+
+def _list_nodes(request: _Request) -> None:
+    _know(request.given, "path")
+    words = ["list", _path(request.given, "path", "/")]
+
+    async def work() -> None:
+        said = await request.service.long_answer(words, request.caller)
+        if said.startswith(("fault", "unavailable")) or said == "nonode":
+            request.reply(_fault(said))
+            return
+        nodes = [_node(*line.split(" ")) for line in said.split("\n")]
+        request.reply(Response(HTTPStatus.OK, {"store": request.service.store, "nodes": nodes}))
+
+    _tasks.add(task := asyncio.get_running_loop().create_task(work()))
+    task.add_done_callback(_tasks.discard)
+
+
+def _node(kind: str, path: str, descriptor: str) -> dict[str, str]:
+    return {"kind": kind, "path": path_of(path), "descriptor": descriptor}
+
+
+#: What keeps tasks from being collected before they end.
+_tasks: set["asyncio.Task[None]"] = set()
+
+
+def _status(request: _Request) -> None:
+    shown = request.service.shown
+    place = {"line": shown.place.number, "chain": shown.place.chain.hex()}
+    request.reply(Response(HTTPStatus.OK, {**_state(request), **place, "takes_edits": request.service.is_ready}))
+
+
+# Edits
+
+
+def _edit(request: _Request) -> None:
+    """Edits one after the other, each with its answer, and then a publish if it is asked for."""
+    _know(request.given, "edits", "publish", "key")
+    edits = [_words_of(each) for each in _list(request.given, "edits", _MOST_EDITS)]
+    publishes = request.given.get("publish", False)
+    if type(publishes) is not bool:
+        raise Fault("fault publish")
+    _submit(request, edits + ([["publish"]] if publishes else []))
+
+
+def _publish(request: _Request) -> None:
+    _know(request.given, "key")
+    _submit(request, [["publish"]])
+
+
+_VALUES = {
+    "addc": "descriptor", "addo": "descriptor", "dacl": "descriptor", "owner": "sid", "group": "sid",
+    "move": "target", "remove": "", "protect": "",
+}
+
+
+def _words_of(given: Any) -> list[str]:
+    """The words of an edit."""
+    if not isinstance(given, dict):
+        raise Fault("fault edits")
+    edit = given.get("edit")
+    if not isinstance(edit, str) or edit not in _VALUES:
+        raise Fault("fault edit")
+    value = _VALUES[edit]
+    _know(given, "edit", "path", *([value] if value else []))
+    words = [edit, _path(given, "path")]
+    if value:
+        words.append((_path if value == "target" else _text)(given, value))
+    return words
+
+
+def _submit(request: _Request, lines: Sequence[list[str]]) -> None:
+    """Has the lines made in their order, and replies once the last is answered. A line with a fault isn't made."""
+    key = request.given.get("key")
+    if key is not None and not (isinstance(key, str) and is_key(f"{key}/{len(lines)}")):
+        raise Fault("fault key")
+    answers: list[dict[str, Any]] = [{} for _ in lines]
+    left = set(range(len(lines)))
+
+    def answered(at: int, task: Task) -> None:
+        answers[at] = {"answer": task.answer, "line": task.number}
+        left.discard(at)
+        if not left:
+            request.reply(_edited(request, answers))
+
+    for at, words in enumerate(lines):
+        once = [] if key is None else ["once", f"{key}/{at}"]
+        try:
+            request.service.submit([*once, *words], request.caller, functools.partial(answered, at))
+        except Fault as fault:
+            answers[at] = {"answer": fault.answer, "line": 0}
+            left.discard(at)
+    if not left:
+        request.reply(_edited(request, answers))
+
+
+def _edited(request: _Request, answers: list[dict[str, Any]]) -> Response:
+    is_unavailable = any(each["answer"].startswith("unavailable") for each in answers)
+    status = HTTPStatus.SERVICE_UNAVAILABLE if is_unavailable else HTTPStatus.OK
+    return Response(status, {**_state(request), "answers": answers})
+
+
+# To watch
+
+
+def _healthz(request: _Request) -> None:
+    request.reply(Response(HTTPStatus.OK, "ok\n"))
+
+
+def _readyz(request: _Request) -> None:
+    ready = request.service.is_ready
+    status = HTTPStatus.OK if ready else HTTPStatus.SERVICE_UNAVAILABLE
+    request.reply(Response(status, "ready\n" if ready else "not ready\n"))
+
+
+def _metrics(request: _Request) -> None:
+    request.reply(Response(HTTPStatus.OK, request.service.metrics_text()))
+
+
+_ROUTES: dict[str, dict[str, tuple[str, Callable[[_Request], None]]]] = {
+    "/v1/check": {"POST": ("check", _check)},
+    "/v1/why": {"POST": ("check", _why)},
+    "/v1/show": {"POST": ("check", _show)},
+    "/v1/list": {"POST": ("check", _list_nodes)},
+    "/v1/status": {"GET": ("check", _status)},
+    "/v1/edit": {"POST": ("edit", _edit)},
+    "/v1/publish": {"POST": ("edit", _publish)},
+    "/healthz": {"GET": ("watch", _healthz)},
+    "/readyz": {"GET": ("watch", _readyz)},
+    "/metrics": {"GET": ("watch", _metrics)},
+}

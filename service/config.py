@@ -1,0 +1,170 @@
+"""The configuration, a TOML file. What it doesn't know it rejects."""
+
+import ipaddress
+import tomllib
+from dataclasses import dataclass, field, fields
+from pathlib import Path
+from typing import Any, TypeVar
+
+from errors import Failed, Invalid
+
+_T = TypeVar("_T")
+
+#: What a client may do: each role includes those before it.
+ROLES = ("watch", "check", "edit")
+PROTOCOLS = ("lines", "http")
+
+
+@dataclass(frozen=True)
+class Limits:
+    """What one client, and all together, may take. Each is a whole number of at least 1."""
+
+    #: The bytes of a line, or of a request with its head.
+    request_bytes: int = 1 << 20
+    #: The seconds in which a request that has begun has to be there, and an answer has to be taken.
+    request_seconds: int = 10
+    #: The seconds after which a client without a request is disconnected.
+    idle_seconds: int = 600
+    #: The clients at once.
+    connections: int = 2_048
+    #: The edits that one client, and all clients, may have in progress.
+    edits_of_client: int = 256
+    edits: int = 4_096
+    #: The `list` and `dump` that are answered at once.
+    long_answers: int = 2
+    #: After so many lines a new epoch starts.
+    lines_in_epoch: int = 100_000
+
+
+@dataclass(frozen=True)
+class Listen:
+    """Where clients connect, how they speak, and which of them may do what."""
+
+    protocol: str
+    #: A path, for a Unix socket, or an empty text.
+    unix: str = ""
+    #: An address and a port, for TCP.
+    tcp: tuple[str, int] = ("", 0)
+    #: For TCP: the service's certificate with its key, and the authority of the clients' certificates.
+    certificate: str = ""
+    key: str = ""
+    clients: str = ""
+    #: Roles by `uid:N` and `gid:N` of a Unix socket, and `cn:NAME` of certificates.
+    allow: dict[str, str] = field(default_factory=dict)
+
+    @property
+    def name(self) -> str:
+        return self.unix or "%s:%d" % self.tcp
+
+    @property
+    def is_plain(self) -> bool:
+        """TCP without certificates: of the loopback interface, and to watch alone."""
+        return not self.unix and not self.certificate
+
+
+@dataclass(frozen=True)
+class Config:
+    folder: Path
+    listen: tuple[Listen, ...]
+    limits: Limits = Limits()
+    #: Whether each check that isn't granted has a record in the log.
+    logs_denials: bool = False
+
+
+def read_config(file: Path) -> Config:
+    """The configuration of a file. Invalid: something in it is."""
+    try:
+        given = tomllib.loads(file.read_text(encoding="utf-8"))
+    except OSError as error:
+        raise Failed(f"{file}: {error.strerror}") from error
+    except ValueError as error:
+        raise Invalid(f"{file}: {error}") from error
+    try:
+        return _config(given)
+    except ValueError as error:
+        raise Invalid(f"{file}: {error}") from error
+
+
+def _config(given: dict[str, Any]) -> Config:
+    _know(given, {"folder", "listen", "limits", "log"}, "")
+    log = _typed(given, "log", dict, {})
+    _know(log, {"denials"}, "log: ")
+    listen = tuple(_listen(each) for each in _typed(given, "listen", list))
+    names = [each.name for each in listen]
+    if not listen or len(set(names)) != len(names):
+        raise ValueError("listen: at least one is required, and each at a place of its own")
+    folder = Path(_typed(given, "folder", str))
+    return Config(folder, listen, _limits(_typed(given, "limits", dict, {})), _typed(log, "denials", bool, False))
+
+
+def _limits(given: dict[str, Any]) -> Limits:
+    _know(given, {each.name for each in fields(Limits)}, "limits: ")
+    for name, value in given.items():
+        if type(value) is not int or value < 1:
+            raise ValueError(f"limits: {name}: a whole number of at least 1 is required")
+    return Limits(**given)
+
+
+def _listen(given: object) -> Listen:
+    if not isinstance(given, dict):
+        raise ValueError("listen: a table is required, as [[listen]]")
+    _know(given, {"unix", "tcp", "protocol", "certificate", "key", "clients", "allow"}, "listen: ")
+    protocol = _typed(given, "protocol", str)
+    if protocol not in PROTOCOLS:
+        raise ValueError(f"listen: the protocol {protocol!a} is none of {', '.join(PROTOCOLS)}")
+    unix, tcp = _typed(given, "unix", str, ""), _typed(given, "tcp", str, "")
+    if (unix == "") == (tcp == ""):
+        raise ValueError("listen: either 'unix' or 'tcp' is required")
+    files = {name: _typed(given, name, str, "") for name in ("certificate", "key", "clients")}
+    made = Listen(protocol, unix, _address(tcp) if tcp else ("", 0), **files, allow=_allow(given, unix != ""))
+    _require_certificates(made)
+    return made
+
+
+def _require_certificates(made: Listen) -> None:
+    given = [bool(text) for text in (made.certificate, made.key, made.clients)]
+    if made.unix and any(given):
+        raise ValueError(f"listen: {made.unix}: a Unix socket has no certificates")
+    if any(given) and not all(given):
+        raise ValueError(f"listen: {made.name}: 'certificate', 'key' and 'clients' are required together")
+    if made.is_plain:
+        if not ipaddress.ip_address(made.tcp[0]).is_loopback or made.allow or made.protocol != "http":
+            raise ValueError(f"listen: {made.name}: without certificates only http on the loopback interface is open, "
+                             "to watch, and has no 'allow'")
+    elif not made.allow:
+        raise ValueError(f"listen: {made.name}: 'allow' names nobody")
+
+
+def _address(text: str) -> tuple[str, int]:
+    host, _, port = text.rpartition(":")
+    host = host.removeprefix("[").removesuffix("]")
+    ipaddress.ip_address(host)
+    if not (port.isascii() and port.isdigit() and int(port) < 65_536):
+        raise ValueError(f"listen: {text!a}: an address and a port are required, as 127.0.0.1:7390")
+    return host, int(port)
+
+
+def _allow(given: dict[str, Any], is_unix: bool) -> dict[str, str]:
+    allow: dict[str, str] = _typed(given, "allow", dict, {})
+    for who, role in allow.items():
+        kind, _, name = who.partition(":")
+        is_number = name.isascii() and name.isdigit() and name == str(int(name))
+        is_known = kind in ("uid", "gid") and is_number if is_unix else kind == "cn" and name.isprintable() and name
+        if not is_known:
+            raise ValueError(f"listen: allow: {who!a} is neither uid:N nor gid:N of a Unix socket, nor cn:NAME of TCP")
+        if role not in ROLES:
+            raise ValueError(f"listen: allow: the role {role!a} is none of {', '.join(ROLES)}")
+    return allow
+
+
+def _typed(given: dict[str, Any], name: str, kind: type[_T], default: _T | None = None) -> _T:
+    value = given.get(name, default)
+    if type(value) is not kind:
+        raise ValueError(f"{name}: a value of the type {kind.__name__} is required")
+    return value
+
+
+def _know(given: dict[str, Any], names: set[str], where: str) -> None:
+    unknown = sorted(given.keys() - names)
+    if unknown:
+        raise ValueError(f"{where}{unknown[0]!a} is unknown")

@@ -1,0 +1,118 @@
+"""What all connections share: the limits of time and size, and answers that a client doesn't take."""
+
+import asyncio
+import time
+from collections.abc import Callable
+from typing import cast
+
+from errors import Fault
+from service import Caller, Service
+
+
+class Connection(asyncio.Protocol):
+    """One client. Its requests are answered in their order; nothing here waits, so none delays another client."""
+
+    def __init__(
+        self,
+        service: Service,
+        caller_of: Callable[[asyncio.BaseTransport], Caller],
+        connections: set["Connection"],
+    ) -> None:
+        """`caller_of` says who the client is, or raises a Fault; `connections` has those that are there."""
+        self.service = service
+        self._caller_of, self._connections = caller_of, connections
+        self.caller = Caller("", "watch")
+        self._buffer = bytearray()
+        #: The requests in progress, edits or long answers.
+        self.in_progress = 0
+        self._is_ended = False
+        self._is_full = False
+        #: Since when the client owes the rest of a request, or takes no answer; since when it asks nothing.
+        self._owes_since: float | None = None
+        self._full_since: float | None = None
+        self._idle_since = time.monotonic()
+
+    def connection_made(self, transport: asyncio.BaseTransport) -> None:
+        self.transport = cast(asyncio.Transport, transport)
+        self._connections.add(self)
+        self.admit_again(self._caller_of)
+
+    def admit_again(self, caller_of: Callable[[asyncio.BaseTransport], Caller]) -> None:
+        """Who the client is, and what it may do from here on; who isn't allowed to do anything is disconnected."""
+        try:
+            self.caller = caller_of(self.transport)
+        except (Fault, OSError) as error:
+            self.caller = Caller(str(error), "watch")
+            self.reject("not allowed")
+
+    def connection_lost(self, error: Exception | None) -> None:
+        self._connections.discard(self)
+        self.service.metrics.connections -= 1
+
+    def data_received(self, data: bytes) -> None:
+        if self.transport.is_closing():
+            return
+        self._buffer += data
+        self._idle_since = time.monotonic()
+        self.proceed()
+
+    def eof_received(self) -> bool:
+        """What was asked is answered yet; half a request isn't carried out."""
+        self._is_ended = True
+        self.proceed()
+        return True
+
+    def pause_writing(self) -> None:
+        self._is_full, self._full_since = True, time.monotonic()
+
+    def resume_writing(self) -> None:
+        self._is_full, self._full_since = False, None
+        self.proceed()
+
+    def proceed(self) -> None:
+        """Answers what can be answered now, and reads on if all is."""
+        if self.transport.is_closing():
+            return
+        waits = self.answer_waiting()
+        if self.transport.is_closing():
+            return
+        if waits:
+            self.transport.pause_reading()
+        else:
+            self.transport.resume_reading()
+        owes = bool(self._buffer) and not waits
+        self._owes_since = (self._owes_since or time.monotonic()) if owes else None
+        if self._is_ended and not waits and not self.in_progress:
+            self.transport.close()
+
+    def answer_waiting(self) -> bool:
+        """Answers the requests that are there, up to one that has to wait: then it returns True."""
+        raise NotImplementedError
+
+    @property
+    def may_answer(self) -> bool:
+        return not self._is_full
+
+    def finished(self) -> None:
+        """A request in progress is answered."""
+        self.in_progress -= 1
+        self._idle_since = time.monotonic()
+        self.proceed()
+
+    def reject(self, reason: str) -> None:
+        """Closes the connection at once."""
+        self.service.metrics.rejected[reason] += 1
+        self.service.log.event("rejected", who=self.caller.who, reason=reason)
+        self.transport.abort()
+
+    def tick(self, now: float) -> None:
+        """Ends a client that is too slow, or idle for too long."""
+        limits = self.service.limits
+        if self.transport.is_closing():
+            return
+        if self._owes_since is not None and now - self._owes_since > limits.request_seconds:
+            self.reject("half a request")
+        elif self._full_since is not None and now - self._full_since > limits.request_seconds:
+            self.reject("answers not taken")
+        elif not self.in_progress and now - self._idle_since > limits.idle_seconds:
+            self.transport.close()

@@ -1,0 +1,73 @@
+"""The edits of a script, by one table: their arguments, and the call of the library that makes each."""
+
+from collections.abc import Callable, Sequence
+from dataclasses import dataclass
+from typing import Any
+
+from hudarin import Refused, Store, View
+
+from errors import Fault
+from spelling import descriptor_of, fault_of, path_of, printed, sid_of, spelled
+
+
+@dataclass(frozen=True, slots=True)
+class Edit:
+    """An edit, and the one line that spells it: parsed again it makes the same edit."""
+
+    line: str
+    call: Callable[..., None]
+    arguments: tuple[Any, ...]
+
+    def make(self, store: Store) -> str:
+        """Makes it: `ok`, or why the library refuses it, and then the store is as it was."""
+        try:
+            self.call(store, *self.arguments)
+        except Refused as refused:
+            return fault_of(refused)
+        return "ok"
+
+
+#: What a word is parsed to, and how it is printed again.
+_PATH = (path_of, spelled)
+_SDDL = (descriptor_of, printed)
+_SID = (sid_of, str)
+#: The arguments of each edit, and its call.
+_EDITS: dict[str, tuple[tuple[tuple[Callable[[str], Any], Callable[[Any], str]], ...], Callable[..., None]]] = {
+    "addc": ((_PATH, _SDDL), Store.add_container),
+    "addo": ((_PATH, _SDDL), Store.add_object),
+    "owner": ((_PATH, _SID), Store.set_owner),
+    "group": ((_PATH, _SID), Store.set_group),
+    "dacl": ((_PATH, _SDDL), Store.set_dacl),
+    "remove": ((_PATH,), Store.remove),
+    "protect": ((_PATH,), Store.protect_keeping),
+    "move": ((_PATH, _PATH), Store.move),
+}
+NAMES = frozenset(_EDITS)
+#: The line that publishes all pending edits.
+PUBLISH = "publish"
+
+
+def edit_of(words: Sequence[str], view: View) -> Edit:
+    """The edit of a line's words. Fault: its first fault, arguments from the left; `view` only tests paths."""
+    parsers, call = _EDITS[words[0]]
+    if len(words) != len(parsers) + 1:
+        raise Fault("fault words")
+    arguments: list[Any] = []
+    try:
+        for (parse, _), word in zip(parsers, words[1:]):
+            arguments.append(parse(word))
+    except Fault:
+        require_paths(view, [given for given in arguments if isinstance(given, str)])
+        raise
+    line = " ".join([words[0], *(show(given) for (_, show), given in zip(parsers, arguments))])
+    return Edit(line, call, tuple(arguments))
+
+
+def require_paths(view: View, paths: Sequence[str]) -> None:
+    """Fault: the library takes one of these for no path."""
+    for path in paths:
+        try:
+            view.own(path)
+        except Refused as refused:
+            if refused.status != "no node":
+                raise Fault(fault_of(refused)) from None

@@ -1,0 +1,48 @@
+"""A line of the journal, and the chain of digests by which each names all lines before it."""
+
+import hashlib
+from dataclasses import dataclass
+
+
+@dataclass(frozen=True, slots=True)
+class Line:
+    """An accepted edit, or a publish, with its answer."""
+
+    epoch: int
+    number: int
+    #: When it was accepted, in milliseconds since 1970, and for whom.
+    time: int
+    who: str
+    #: The key by which its client may send it again, or an empty text.
+    key: str
+    line: str
+    answer: str
+
+    def chained(self, store: str, before: bytes) -> bytes:
+        """The digest of the chain before the line, and of the line in the store of this id."""
+        fields = (store, self.epoch, self.number, self.time, self.who, self.key, self.line, self.answer)
+        return hashlib.sha256(before + "\n".join(map(str, fields)).encode()).digest()
+
+
+@dataclass(frozen=True, slots=True)
+class Place:
+    """A state of a store: the number of its last line, and the chain up to it."""
+
+    number: int
+    chain: bytes
+
+
+@dataclass(frozen=True, slots=True)
+class Snapshot:
+    """An epoch: the published tree at a line, as the lines of `dump`, and the published length there."""
+
+    epoch: int
+    place: Place
+    length: int
+    lines: tuple[str, ...]
+
+    def digest(self, store: str, mapping: str) -> bytes:
+        head = (store, mapping, self.epoch, self.place.number, self.place.chain.hex(), self.length)
+        digest = hashlib.sha256("\n".join(map(str, head)).encode())
+        digest.update(("\n" + "\n".join(self.lines)).encode())
+        return digest.digest()

@@ -1,0 +1,150 @@
+"""HTTP/1.1: requests with a JSON object, or none, and their answers. What isn't understood is rejected, and the
+connection then ends."""
+
+import asyncio
+import json
+from collections.abc import Callable
+from dataclasses import dataclass
+from http import HTTPStatus
+
+from api import Response, route
+from connection import Connection
+from service import Caller, Service
+
+_HEAD_BYTES = 16 << 10
+_END = b"\r\n\r\n"
+_CONTINUE = b"HTTP/1.1 100 Continue\r\n\r\n"
+_NAME = frozenset(b"!#$%&'*+-.^_`|~0123456789abcdefghijklmnopqrstuvwxyzABCDEFGHIJKLMNOPQRSTUVWXYZ")
+
+
+class BadRequest(Exception):
+    """What isn't a request that is understood."""
+
+    def __init__(self, status: HTTPStatus, why: str) -> None:
+        super().__init__(why)
+        self.response = Response(status, {"fault": why})
+
+
+@dataclass(frozen=True, slots=True)
+class Head:
+    method: str
+    target: str
+    fields: dict[str, str]
+
+    @property
+    def length(self) -> int:
+        """The bytes of the body."""
+        text = self.fields.get("content-length", "0")
+        if not (text.isascii() and text.isdigit()) or len(text) > 12:
+            raise BadRequest(HTTPStatus.BAD_REQUEST, "content-length")
+        return int(text)
+
+    @property
+    def closes(self) -> bool:
+        return "close" in self.fields.get("connection", "").lower()
+
+
+class HttpConnection(Connection):
+    """One request after the other; the next one is read once its answer is there."""
+
+    def __init__(
+        self,
+        service: Service,
+        caller_of: Callable[[asyncio.BaseTransport], Caller],
+        connections: set[Connection],
+    ) -> None:
+        super().__init__(service, caller_of, connections)
+        self._head: Head | None = None
+
+    def answer_waiting(self) -> bool:
+        while self.may_answer and not self.in_progress and not self.transport.is_closing():
+            try:
+                request = self._next()
+            except BadRequest as bad:
+                self._head = None
+                self._answer(bad.response, closes=True)
+                return False
+            if request is None:
+                return False
+            self._ask(*request)
+        return True
+
+    def _next(self) -> tuple[Head, bytes] | None:
+        """The next request; None if it isn't all there."""
+        if self._head is None:
+            end = self._buffer.find(_END, 0, _HEAD_BYTES)
+            if end < 0:
+                if len(self._buffer) > _HEAD_BYTES:
+                    raise BadRequest(HTTPStatus.REQUEST_HEADER_FIELDS_TOO_LARGE, "head")
+                return None
+            self._head = self._begun(end)
+        head = self._head
+        if len(self._buffer) < head.length:
+            return None
+        self._head, body = None, bytes(self._buffer[: head.length])
+        del self._buffer[: head.length]
+        return head, body
+
+    def _begun(self, end: int) -> Head:
+        """The head that ends there, which is taken from the buffer."""
+        head = head_of(bytes(self._buffer[:end]))
+        del self._buffer[: end + len(_END)]
+        if head.length > self.service.limits.request_bytes:
+            raise BadRequest(HTTPStatus.REQUEST_ENTITY_TOO_LARGE, "length")
+        if len(self._buffer) < head.length and "100-continue" in head.fields.get("expect", "").lower():
+            self.transport.write(_CONTINUE)
+        return head
+
+    def _ask(self, head: Head, body: bytes) -> None:
+        """Has a request answered, at once or later."""
+        self.in_progress += 1
+
+        def reply(response: Response) -> None:
+            if not self.transport.is_closing():
+                self._answer(response, head.closes)
+            self.finished()
+
+        route(self.service, self.caller, head.method, head.target, head.fields, body, reply)
+
+    def finished(self) -> None:
+        # In the loop's next turn, so that many requests at once aren't many calls in one another.
+        self.in_progress -= 1
+        asyncio.get_running_loop().call_soon(self.proceed)
+
+    def _answer(self, response: Response, closes: bool) -> None:
+        body = response.body if isinstance(response.body, str) else json.dumps(response.body)
+        kind = "text/plain; version=0.0.4; charset=utf-8" if isinstance(response.body, str) else "application/json"
+        content = body.encode()
+        lines = [
+            f"HTTP/1.1 {response.status.value} {response.status.phrase}",
+            f"Content-Type: {kind}",
+            f"Content-Length: {len(content)}",
+            "Cache-Control: no-store",
+            *(["Connection: close"] if closes else []),
+        ]
+        self.transport.write("\r\n".join(lines).encode() + _END + content)
+        if closes:
+            self.transport.close()
+
+
+def head_of(text: bytes) -> Head:
+    """The head of a request. BadRequest: it is none, or has what isn't supported."""
+    try:
+        first, *others = text.decode("ascii").split("\r\n")
+        method, target, version = first.split(" ")
+    except ValueError:
+        raise BadRequest(HTTPStatus.BAD_REQUEST, "head") from None
+    if version != "HTTP/1.1":
+        raise BadRequest(HTTPStatus.HTTP_VERSION_NOT_SUPPORTED, "version")
+    fields: dict[str, str] = {}
+    for line in others:
+        name, colon, value = line.partition(":")
+        name = name.lower()
+        if not colon or not name or not _NAME.issuperset(name.encode()) or name in fields or "\r" in value:
+            raise BadRequest(HTTPStatus.BAD_REQUEST, "head")
+        fields[name] = value.strip(" \t")
+    if "transfer-encoding" in fields:
+        raise BadRequest(HTTPStatus.NOT_IMPLEMENTED, "transfer-encoding")
+    if "host" not in fields:
+        raise BadRequest(HTTPStatus.BAD_REQUEST, "host")
+    return Head(method, target, fields)

@@ -1,0 +1,209 @@
+"""The journal in SQLite: lines with their chain, and the snapshots of the last two epochs.
+
+A commit is on disk when it returns (WAL, synchronous=FULL). After it the mark, a small file beside the database, says
+how far the journal goes: SQLite drops the end of a cut write-ahead log without a word, and the mark shows it.
+"""
+
+import os
+import sqlite3
+from collections.abc import Iterator, Sequence
+from contextlib import closing, contextmanager
+from pathlib import Path
+
+from entry import Line, Place, Snapshot
+from errors import Failed, Mismatch
+from mark import Mark
+
+VERSION = 1
+#: A line that isn't needed to make the tree is kept while it is one of the last so many: so long a client's key counts.
+KEPT_LINES = 65_536
+#: The lines of a snapshot that one row has.
+_LINES_IN_ROW = 1_000
+DATABASE, MARK = "journal.sqlite", "mark"
+
+_TABLES = """
+CREATE TABLE store (one INTEGER PRIMARY KEY CHECK (one = 1), version INTEGER NOT NULL, id TEXT NOT NULL,
+    mapping TEXT NOT NULL, number INTEGER NOT NULL, chain BLOB NOT NULL) STRICT;
+CREATE TABLE epochs (epoch INTEGER PRIMARY KEY, number INTEGER NOT NULL, chain BLOB NOT NULL,
+    length INTEGER NOT NULL, digest BLOB NOT NULL) STRICT;
+CREATE TABLE snapshot (epoch INTEGER NOT NULL, place INTEGER NOT NULL, lines TEXT NOT NULL,
+    PRIMARY KEY (epoch, place)) STRICT, WITHOUT ROWID;
+CREATE TABLE lines (number INTEGER PRIMARY KEY, epoch INTEGER NOT NULL, time INTEGER NOT NULL, who TEXT NOT NULL,
+    key TEXT NOT NULL, line TEXT NOT NULL, answer TEXT NOT NULL, chain BLOB NOT NULL) STRICT;
+CREATE UNIQUE INDEX lines_by_key ON lines (key) WHERE key <> '';
+"""
+_LINE = "epoch, number, time, who, key, line, answer"
+
+
+class Journal:
+    """An open journal: `with Journal(folder / DATABASE) as journal: ..`. One process appends to it."""
+
+    def __init__(self, file: Path, mark: Mark | None = None, only_reads: bool = False) -> None:
+        """Failed: there is no such file. With `only_reads` all reads are of one moment."""
+        if not file.is_file():
+            raise Failed(f"{file}: there is no journal")
+        self.file = file
+        self._mark = mark
+        # What is marked now is there at the first read.
+        marked = mark.read() if mark is not None else None
+        self._database = _opened(file, only_reads)
+        with _named(file):
+            row = self._database.execute("SELECT version, id, mapping, number, chain FROM store").fetchone()
+        if row is None or row[0] != VERSION:
+            raise Mismatch(f"{file}: it is no journal of version {VERSION}")
+        self.store: str = row[1]
+        self.mapping: str = row[2]
+        #: The place before the first line that is kept.
+        self.start = Place(row[3], row[4])
+        if marked is not None and marked[0] != self.store:
+            raise Mismatch(f"{file}: its mark is that of another store")
+        #: The place of the mark, if the journal has one.
+        self.marked = None if marked is None else marked[1]
+
+    def __enter__(self) -> "Journal":
+        return self
+
+    def __exit__(self, *_: object) -> None:
+        self._database.close()
+
+    # Reads
+
+    def require_whole(self) -> None:
+        """Mismatch: SQLite finds a fault in the file."""
+        with _named(self.file):
+            found = self._database.execute("PRAGMA integrity_check(1)").fetchone()
+        if found != ("ok",):
+            raise Mismatch(f"{self.file}: {found[0] if found else 'it is no database'}")
+
+    def snapshots(self) -> list[Snapshot]:
+        """Those that are kept, the oldest first. Mismatch: one isn't what was written."""
+        with _named(self.file):
+            rows = self._database.execute("SELECT epoch, number, chain, length, digest FROM epochs ORDER BY epoch")
+            return [self._snapshot(*row) for row in rows.fetchall()]
+
+    def _snapshot(self, epoch: int, number: int, chain: bytes, length: int, digest: bytes) -> Snapshot:
+        rows = self._database.execute("SELECT lines FROM snapshot WHERE epoch = ? ORDER BY place", (epoch,))
+        lines = tuple(line for (text,) in rows for line in text.split("\n"))
+        made = Snapshot(epoch, Place(number, chain), length, lines)
+        if made.digest(self.store, self.mapping) != digest:
+            raise Mismatch(f"{self.file}: the snapshot of epoch {epoch} isn't the one that was written")
+        return made
+
+    def lines(self, after: int) -> Iterator[tuple[Line, bytes]]:
+        """The lines after this number, in order, each with its chain."""
+        with _named(self.file):
+            rows = self._database.execute(f"SELECT {_LINE}, chain FROM lines WHERE number > ? ORDER BY number", (after,
+                                                                                                                 ))
+            for *fields, chain in rows:
+                yield Line(*fields), chain
+
+    def by_key(self, key: str) -> Line | None:
+        """The line that was accepted with this key."""
+        row = self._database.execute(f"SELECT {_LINE} FROM lines WHERE key = ?", (key,)).fetchone()
+        return None if row is None else Line(*row)
+
+    def bytes_on_disk(self) -> int:
+        files = (self.file, Path(f"{self.file}-wal"))
+        return sum(each.stat().st_size for each in files if each.exists())
+
+    # Writes
+
+    def append(self, lines: Sequence[tuple[Line, bytes]]) -> None:
+        """Appends lines with their chains by one commit, which is on disk at the return."""
+        rows = [(each.number, each.epoch, each.time, each.who, each.key, each.line, each.answer, chain)
+                for each, chain in lines]
+        with self._transaction():
+            self._database.executemany("INSERT INTO lines VALUES (?, ?, ?, ?, ?, ?, ?, ?)", rows)
+        self._move_mark(Place(rows[-1][0], rows[-1][-1]))
+
+    def start_epoch(self, snapshot: Snapshot, last: int) -> None:
+        """Adds a snapshot by one commit, and drops what neither it nor the one before needs; `last` is the number of
+        the last line."""
+        with self._transaction():
+            self._write_snapshot(snapshot)
+            self._database.execute("DELETE FROM epochs WHERE epoch < ?", (snapshot.epoch - 1,))
+            self._database.execute("DELETE FROM snapshot WHERE epoch < ?", (snapshot.epoch - 1,))
+            (oldest,) = self._database.execute("SELECT min(number) FROM epochs").fetchone()
+            self._drop_lines(min(oldest, last - KEPT_LINES))
+
+    def _write_snapshot(self, snapshot: Snapshot) -> None:
+        place, digest = snapshot.place, snapshot.digest(self.store, self.mapping)
+        row = (snapshot.epoch, place.number, place.chain, snapshot.length, digest)
+        self._database.execute("INSERT INTO epochs VALUES (?, ?, ?, ?, ?)", row)
+        for at in range(0, len(snapshot.lines), _LINES_IN_ROW):
+            text = "\n".join(snapshot.lines[at : at + _LINES_IN_ROW])
+            self._database.execute("INSERT INTO snapshot VALUES (?, ?, ?)", (snapshot.epoch, at, text))
+
+    def _drop_lines(self, last: int) -> None:
+        """Drops the lines up to this number, whose chain stays."""
+        row = self._database.execute("SELECT number, chain FROM lines WHERE number = ?", (last,)).fetchone()
+        if row is not None:
+            self._database.execute("DELETE FROM lines WHERE number <= ?", (last,))
+            self._database.execute("UPDATE store SET number = ?, chain = ?", row)
+            self.start = Place(*row)
+
+    @contextmanager
+    def _transaction(self) -> Iterator[None]:
+        self._database.execute("BEGIN IMMEDIATE")
+        try:
+            yield
+            self._database.execute("COMMIT")
+        except BaseException:
+            if self._database.in_transaction:
+                self._database.execute("ROLLBACK")
+            raise
+
+    def _move_mark(self, place: Place) -> None:
+        if self._mark is not None:
+            self._mark.move(self.store, place)
+            self.marked = place
+
+    def close_log(self) -> None:
+        """Moves what is in the write-ahead log into the database."""
+        self._database.execute("PRAGMA wal_checkpoint(TRUNCATE)")
+
+    def copy_to(self, file: Path) -> None:
+        """Copies the journal as it is at one moment, while others may append to it."""
+        with closing(sqlite3.connect(file)) as other:
+            self._database.backup(other)
+            other.execute("PRAGMA journal_mode=DELETE")
+
+
+def create(file: Path, store: str, mapping: str, snapshot: Snapshot) -> None:
+    """Makes the database of a new store, complete and on disk at the return."""
+    with closing(sqlite3.connect(file, isolation_level=None)) as database:
+        database.execute("PRAGMA synchronous=FULL")
+        database.executescript(_TABLES)
+        place = snapshot.place
+        row = (1, VERSION, store, mapping, place.number, place.chain)
+        database.execute("INSERT INTO store VALUES (?, ?, ?, ?, ?, ?)", row)
+    with Journal(file) as journal, journal._transaction():
+        journal._write_snapshot(snapshot)
+
+
+@contextmanager
+def _named(file: Path) -> Iterator[None]:
+    """Mismatch: SQLite can't read the file."""
+    try:
+        yield
+    except sqlite3.Error as error:
+        raise Mismatch(f"{file}: {error}") from error
+
+
+def _opened(file: Path, only_reads: bool) -> sqlite3.Connection:
+    with _named(file):
+        database = sqlite3.connect(f"file:{_quoted(file)}?mode=rw", uri=True, isolation_level=None, timeout=10,
+                                   check_same_thread=False)
+        database.execute("PRAGMA trusted_schema=OFF")
+        if only_reads:
+            database.execute("PRAGMA query_only=ON")
+            database.execute("BEGIN")
+        else:
+            database.execute("PRAGMA journal_mode=WAL")
+            database.execute("PRAGMA synchronous=FULL")
+        return database
+
+
+def _quoted(file: Path) -> str:
+    """The absolute path as a URI has it: no character of it is a parameter of SQLite."""
+    return os.path.abspath(file).replace("%", "%25").replace("?", "%3f").replace("#", "%23")

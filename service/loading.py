@@ -1,0 +1,112 @@
+"""What a start reads: the newest snapshot and the lines after it, each of which must be the one that was acknowledged.
+Nothing is served after a Mismatch."""
+
+from collections.abc import Iterator, Sequence
+from dataclasses import dataclass
+
+from edits import PUBLISH, edit_of
+from entry import Line, Place, Snapshot
+from errors import Fault, Mismatch
+from journal import Journal
+from tree import Tree, built, dumped, first_difference
+
+
+@dataclass
+class Loaded:
+    """The state of a store after its last line."""
+
+    tree: Tree
+    epoch: int
+    last: Place
+    #: The place of the published tree.
+    published: Place
+    #: When the last line was accepted, in milliseconds since 1970; 0 if no line is kept.
+    time: int = 0
+
+    def replay(self, line: Line, chain: bytes) -> None:
+        """Carries out the next line. Mismatch: its answer isn't the one that was given."""
+        place = Place(line.number, chain)
+        if line.line == PUBLISH:
+            self.tree.publish().close()
+            self.published = place
+            answer = f"published {self.tree.length}"
+        else:
+            answer = self._made(line.line)
+        if answer != line.answer:
+            raise Mismatch(f"line {line.number}: it is answered {answer!a:.200}, and was answered {line.answer!a:.200}")
+        self.last, self.time = place, line.time
+
+    def _made(self, line: str) -> str:
+        try:
+            edit = edit_of(line.split(" "), self.tree.view)
+        except (Fault, KeyError) as error:
+            return f"fault {error}"
+        return self.tree.make(edit) if edit.line == line else "fault spelling"
+
+
+def load(journal: Journal) -> Loaded:
+    """The state after the journal's last line. Mismatch: a line isn't the one that was written, or answers otherwise
+    today, or lines are missing."""
+    journal.require_whole()
+    snapshots = journal.snapshots()
+    if not snapshots:
+        raise Mismatch(f"{journal.file}: there is no snapshot")
+    state = _at(snapshots[-1], journal.mapping)
+    try:
+        for line, chain in _chained(journal, snapshots):
+            if line.number > snapshots[-1].place.number:
+                state.replay(line, chain)
+    except BaseException:
+        state.tree.close()
+        raise
+    return state
+
+
+def verify(journal: Journal) -> Loaded:
+    """What `load` does; besides, the lines between two snapshots must make the newer one of the older one."""
+    state = load(journal)
+    snapshots = journal.snapshots()
+    for older, newer in zip(snapshots, snapshots[1:]):
+        made = _at(older, journal.mapping)
+        try:
+            for line, chain in journal.lines(older.place.number):
+                if line.number <= newer.place.number:
+                    made.replay(line, chain)
+            difference = first_difference(newer.lines, dumped(made.tree.view))
+        finally:
+            made.tree.close()
+        if difference is not None:
+            raise Mismatch(f"the snapshot of epoch {newer.epoch} isn't what its lines make: {difference}")
+    return state
+
+
+def _at(snapshot: Snapshot, mapping: str) -> Loaded:
+    tree = built(snapshot.lines, mapping, snapshot.length)
+    return Loaded(tree, snapshot.epoch, snapshot.place, snapshot.place)
+
+
+def _chained(journal: Journal, snapshots: Sequence[Snapshot]) -> Iterator[tuple[Line, bytes]]:
+    """All lines that are kept. Mismatch: one isn't chained to the one before, or a snapshot or the mark names another
+    one, or one that isn't there."""
+    wanted = {each.place.number: each.place.chain for each in snapshots}
+    mark = journal.marked
+    if mark is not None and wanted.setdefault(mark.number, mark.chain) != mark.chain:
+        raise Mismatch(f"line {mark.number} isn't the one that was acknowledged")
+    place, epoch = journal.start, 0
+    _compare(place, wanted)
+    for line, chain in journal.lines(place.number):
+        number = place.number + 1
+        if line.number != number or not epoch <= line.epoch <= snapshots[-1].epoch:
+            raise Mismatch(f"line {number} is missing: {line.number} of epoch {line.epoch} follows {place.number}")
+        if chain != line.chained(journal.store, place.chain):
+            raise Mismatch(f"line {number} isn't the one that was written")
+        place, epoch = Place(number, chain), line.epoch
+        _compare(place, wanted)
+        yield line, chain
+    if max(wanted) > place.number:
+        raise Mismatch(f"line {place.number + 1} is missing: {max(wanted)} were acknowledged")
+
+
+def _compare(place: Place, wanted: dict[int, bytes]) -> None:
+    if wanted.get(place.number, place.chain) != place.chain:
+        raise Mismatch(f"line {place.number} isn't the one that was acknowledged")

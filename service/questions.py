@@ -1,0 +1,155 @@
+"""The questions of a script, answered by a published tree: `check`, `why`, `show`, `list`, and the like."""
+
+from collections import OrderedDict
+from collections.abc import Sequence
+from dataclasses import dataclass
+
+import hudarin
+from hudarin import KeptDescriptor, Refused, Sid, Token, Verdict, View
+
+from edits import require_paths
+from errors import Fault
+from spelling import fault_of, sid_of, spelled
+from tree import MAPPINGS
+from writer import Shown
+
+#: The tokens, and the masks, that are kept parsed.
+_KEPT = 1024
+_STATES = {"": hudarin.ENABLED, "=deny": hudarin.DENY_ONLY, "=off": hudarin.DISABLED}
+_PRIVILEGES = {"+security": hudarin.SECURITY, "+take": hudarin.TAKE_OWNERSHIP}
+#: A number of a line is below this.
+_NUMBERS = 1 << 64
+
+
+class Tokens:
+    """Tokens and masks by the words that spell them; the last used tokens are kept."""
+
+    def __init__(self) -> None:
+        self._kept: OrderedDict[tuple[str, ...], Token] = OrderedDict()
+        self._masks: dict[str, int] = {}
+
+    def parsed(self, mask: str, words: tuple[str, ...]) -> tuple[Token, int]:
+        """The token of a user and words, and the mask. Fault: the first that is none, from the user over the mask to
+        the other words."""
+        token, bits = self._kept.get(words), self._masks.get(mask)
+        if token is None or bits is None:
+            user, bits = sid_of(words[0]), self._mask(mask)
+            if token is None:
+                token = self._keep(words, _token(user, words[1:]))
+        self._kept.move_to_end(words)
+        return token, bits
+
+    def _mask(self, word: str) -> int:
+        try:
+            bits = hudarin.mask(word)
+        except Refused:
+            raise Fault("fault mask") from None
+        if len(self._masks) == _KEPT:
+            self._masks.clear()
+        self._masks[word] = bits
+        return bits
+
+    def _keep(self, words: tuple[str, ...], token: Token) -> Token:
+        self._kept[words] = token
+        if len(self._kept) > _KEPT:
+            self._kept.popitem(last=False)[1].close()
+        return token
+
+
+def _token(user: Sid, words: Sequence[str]) -> Token:
+    groups: list[hudarin.Group] = []
+    restricting: list[Sid] = []
+    privileges = 0
+    for word in words:
+        front, mark, ending = word.partition("=")
+        try:
+            if word in _PRIVILEGES:
+                privileges |= _PRIVILEGES[word]
+            elif ending == "restrict":
+                restricting.append(sid_of(front))
+            else:
+                groups.append((sid_of(front), _STATES[mark + ending]))
+        except (Fault, KeyError):
+            raise Fault("fault token") from None
+    return Token(user, groups, privileges, restricting)
+
+
+def number_of(word: str) -> int:
+    """The number that a word spells in decimal digits. Fault: none below 2^64."""
+    digits = word.lstrip("0")
+    if not word or not word.isascii() or not (digits or "0").isdigit() or len(digits) > 20 or int(word) >= _NUMBERS:
+        raise Fault("fault number")
+    return int(word)
+
+
+@dataclass(frozen=True, slots=True)
+class Verdicts:
+    """The verdicts of one request, all by one published journal of this length; None where there is no node."""
+
+    length: int
+    verdicts: list[Verdict | None]
+
+    def __str__(self) -> str:
+        return f"seen {self.length} {', '.join('nonode' if each is None else str(each) for each in self.verdicts)}"
+
+
+class Questions:
+    """Answers by what readers see. Each raises a Fault for the first fault of its words, arguments from the left."""
+
+    def __init__(self, shown: Shown, store: str, mapping: str) -> None:
+        self.shown, self.store = shown, store
+        self._tokens, self._mapping = Tokens(), MAPPINGS[mapping]
+
+    def check(self, mask: str, words: tuple[str, ...], paths: Sequence[str]) -> Verdicts:
+        """Whether the token of the words, a user first, is granted the mask at each of the paths."""
+        shown = self.shown
+        try:
+            token, bits = self._tokens.parsed(mask, words)
+        except Fault:
+            require_paths(shown.view, paths)
+            raise
+        return Verdicts(shown.length, [_verdict(shown.view, path, token, bits) for path in paths])
+
+    def why(self, mask: str, words: tuple[str, ...], path: str) -> str:
+        """The answer of `check`, and the lines of its reasons."""
+        verdicts = self.check(mask, words, [path])
+        if verdicts.verdicts == [None]:
+            return str(verdicts)
+        token, bits = self._tokens.parsed(mask, words)
+        with KeptDescriptor(self.shown.view.descriptor(path)) as kept:
+            explained = kept.explain(token, bits, self._mapping)
+        return "\n".join([f"seen {verdicts.length} {explained.verdict}", *map(str, explained.parts)])
+
+    def show(self, path: str) -> str:
+        found = descriptor_in(self.shown.view, path)
+        return f"seen {self.shown.length} {'nonode' if found is None else f'shown {found}'}"
+
+
+def _verdict(view: View, path: str, token: Token, bits: int) -> Verdict | None:
+    try:
+        return view.check(path, token, bits)
+    except Refused as refused:
+        if refused.status == "no node":
+            return None
+        raise Fault(fault_of(refused)) from None
+
+
+def descriptor_in(view: View, path: str) -> str | None:
+    """The descriptor of the node with the entries that it inherits, in canonical SDDL; None without a node."""
+    try:
+        return str(view.descriptor(path))
+    except Refused as refused:
+        if refused.status == "no node":
+            return None
+        raise Fault(fault_of(refused)) from None
+
+
+def listed(view: View, path: str) -> str:
+    """The answer to `list`: the nodes at and below the path, each on a line."""
+    if descriptor_in(view, path) is None:
+        return "nonode"
+    return "\n".join(
+        f"{'container' if node.is_container else 'object'} {spelled(node.path)} {view.descriptor(node.path)}"
+        for node in view.nodes()
+        if path == "/" or node.path == path or node.path.startswith(path + "/")
+    )

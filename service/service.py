@@ -1,0 +1,177 @@
+"""What all connections ask: questions are answered at once by what is published, edits by the writer."""
+
+import asyncio
+import time
+from collections.abc import Callable, Sequence
+from concurrent.futures import ThreadPoolExecutor
+from dataclasses import dataclass
+
+from hudarin import View
+
+import script
+from config import ROLES, Config
+from edits import PUBLISH, edit_of
+from errors import Fault
+from journal import Journal
+from loading import Loaded
+from logs import Log
+from metrics import Metrics, seconds_since
+from questions import Questions
+from writer import NO_MEMORY, Shown, Task, Writer
+
+_VERDICTS = ("granted", "denied", "reserved", "empty", "nonode")
+
+
+@dataclass(frozen=True, slots=True)
+class Caller:
+    """Who a client is, by the system or its certificate, and what it may do."""
+
+    who: str
+    role: str
+
+    def require(self, role: str) -> None:
+        """Fault: the client may not do so."""
+        if ROLES.index(self.role) < ROLES.index(role):
+            raise Fault("fault role")
+
+
+class Service:
+    """All calls but those that say otherwise are made in the event loop's thread."""
+
+    def __init__(self, config: Config, journal: Journal, state: Loaded, log: Log) -> None:
+        self.limits, self.log, self.metrics = config.limits, log, Metrics()
+        self._logs_denials = config.logs_denials
+        self._loop = asyncio.get_running_loop()
+        self._journal = journal
+        self._writer = Writer(journal, state, self._done, self._warn, config.limits.lines_in_epoch)
+        self._questions = Questions(self._writer.shown(), journal.store, journal.mapping)
+        self._pool = ThreadPoolExecutor(config.limits.long_answers)
+        self._edits = self._long_answers = 0
+        self.is_stopping = False
+        self._writer.start()
+
+    @property
+    def shown(self) -> Shown:
+        return self._questions.shown
+
+    @property
+    def store(self) -> str:
+        return self._questions.store
+
+    @property
+    def is_ready(self) -> bool:
+        return self.shown.takes_edits and not self.is_stopping
+
+    def answer(self, words: Sequence[str], caller: Caller, reader: script.Reader) -> str:
+        """The answer to a question that doesn't take long."""
+        began = time.perf_counter()
+        try:
+            caller.require("check")
+            said = script.answer(words, self._questions, reader)
+        except Fault as fault:
+            return fault.answer
+        except MemoryError:
+            return NO_MEMORY
+        if words[0] in ("check", "checks"):
+            self._count(words, said, caller, began)
+        return said
+
+    def _count(self, words: Sequence[str], said: str, caller: Caller, began: float) -> None:
+        for verdict in _VERDICTS:
+            if count := said.count(verdict):
+                self.metrics.checks[verdict] += count
+        self.metrics.check_seconds.add(time.perf_counter() - began)
+        if self._logs_denials and ("denied" in said or "reserved" in said):
+            self.log.event("denial", who=caller.who, asked=" ".join(words), answer=said)
+
+    async def long_answer(self, words: Sequence[str], caller: Caller) -> str:
+        """The answer to `list` or `dump`, made in another thread."""
+        try:
+            caller.require("check")
+            if self._long_answers >= 4 * self.limits.long_answers:
+                return "unavailable busy"
+            view = self.shown.view.share()
+        except Fault as fault:
+            return fault.answer
+        self._long_answers += 1
+        try:
+            return await self._loop.run_in_executor(self._pool, _long_answer, words, view)
+        except Fault as fault:
+            return fault.answer
+        except MemoryError:
+            return NO_MEMORY
+        finally:
+            self._long_answers -= 1
+
+    def submit(self, words: list[str], caller: Caller, reply: Callable[[Task], None]) -> None:
+        """Has the writer make an edit or publish, and calls `reply` once it is answered. Fault: it isn't carried out,
+        and there is no reply."""
+        caller.require("edit")
+        key, words = script.without_key(words)
+        if words[0] == PUBLISH and len(words) > 1:
+            raise Fault("fault words")
+        try:
+            edit = None if words[0] == PUBLISH else edit_of(words, self.shown.view)
+        except MemoryError:
+            raise Fault(NO_MEMORY) from None
+        if self.is_stopping:
+            raise Fault("unavailable stopping")
+        if self._edits >= self.limits.edits:
+            raise Fault("unavailable busy")
+        self._edits += 1
+        self._writer.put(Task(edit, key, caller.who, reply))
+
+    def _done(self, tasks: list[Task], shown: Shown) -> None:
+        """In the writer's thread: the audit record of each edit is written before its answer goes out."""
+        for task in tasks:
+            self.log.event("edit", who=task.who, key=task.key, line=task.line, answer=task.answer, number=task.number)
+        self._loop.call_soon_threadsafe(self._deliver, tasks, shown)
+
+    def _warn(self, text: str) -> None:
+        self.log.event("warning", text=text)
+
+    def _deliver(self, tasks: list[Task], shown: Shown) -> None:
+        old, self._questions.shown = self.shown, shown
+        if old.view is not shown.view:
+            self._writer.retired.append(old.view)
+        self._edits -= len(tasks)
+        now = time.perf_counter()
+        for task in tasks:
+            self.metrics.edit_seconds.add(now - task.began)
+            if task.edit is None:
+                self.metrics.publishes += 1
+            else:
+                self.metrics.edits[_label(task.answer)] += 1
+            task.reply(task)
+
+    async def stop(self) -> None:
+        """Takes no more edits, and returns once those in progress are answered and the journal is at rest."""
+        self.is_stopping = True
+        await self._loop.run_in_executor(None, self._writer.stop)
+        while self._edits:
+            await asyncio.sleep(0.01)
+        self._pool.shutdown()
+        self._journal.close_log()
+
+    def metrics_text(self) -> str:
+        shown = self.shown
+        return self.metrics.text({
+            "published_length": shown.length,
+            "published_line": shown.place.number,
+            "epoch": shown.epoch,
+            "takes_edits": int(shown.takes_edits),
+            "edits_in_progress": self._edits,
+            "journal_bytes": self._journal.bytes_on_disk(),
+            "journal_age_seconds": seconds_since(shown.time) if shown.time else 0,
+        })
+
+
+def _long_answer(words: Sequence[str], view: View) -> str:
+    with view:
+        return script.long_answer(words, view)
+
+
+def _label(answer: str) -> str:
+    """An answer without its numbers: `ok`, a refusal's name, `fault` or `unavailable`."""
+    words = answer.split(" ")
+    return words[-1] if words[0] == "refused" else words[0]

@@ -1,0 +1,112 @@
+"""`sdstored run`: starts the service, and ends it at SIGTERM; SIGHUP has it read its configuration again."""
+
+import asyncio
+import contextlib
+import os
+import resource
+import signal
+import socket
+import time
+from pathlib import Path
+
+from config import Config, read_config
+from errors import Invalid, ServiceError
+from journal import Journal
+from listening import Listener
+from loading import Loaded, load
+from logs import Log
+from service import Service
+from stores import opened
+
+#: At a SIGTERM clients have so many seconds to take their answers.
+_DRAIN_SECONDS = 5
+#: Files besides those of connections.
+_OTHER_FILES = 64
+
+
+def serve(file: Path) -> int:
+    """Serves until a SIGTERM, and returns the status."""
+    config = read_config(file)
+    log = Log()
+    _raise_limit(config.limits.connections + _OTHER_FILES)
+    began = time.monotonic()
+    with opened(config.folder) as journal:
+        state = load(journal)
+        seconds = round(time.monotonic() - began, 3)
+        place = {"epoch": state.epoch, "line": state.last.number, "length": state.tree.length}
+        log.event("loaded", store=journal.store, **place, seconds=seconds)
+        asyncio.run(_serve(file, config, journal, state, log))
+    return 0
+
+
+async def _serve(file: Path, config: Config, journal: Journal, state: Loaded, log: Log) -> None:
+    service = Service(config, journal, state, log)
+    listeners: list[Listener] = []
+    try:
+        for listen in config.listen:
+            listeners.append(Listener(listen, service))
+        stop = _on_signals(file, listeners, log)
+        _notify("READY=1")
+        log.event("ready", listen=[each.listen.name for each in listeners])
+        while not stop.is_set():
+            with contextlib.suppress(asyncio.TimeoutError):
+                await asyncio.wait_for(stop.wait(), 1)
+            for each in listeners:
+                each.tick()
+    finally:
+        _notify("STOPPING=1")
+        for each in listeners:
+            await each.close()
+        await service.stop()
+        await _drain(listeners)
+        log.event("stopped")
+
+
+def _on_signals(file: Path, listeners: list[Listener], log: Log) -> asyncio.Event:
+    """An event that SIGTERM and SIGINT set; SIGHUP reads the configuration again."""
+    stop, loop = asyncio.Event(), asyncio.get_running_loop()
+    for each in (signal.SIGTERM, signal.SIGINT):
+        loop.add_signal_handler(each, stop.set)
+    loop.add_signal_handler(signal.SIGHUP, lambda: _reload(file, listeners, log))
+    return stop
+
+
+def _reload(file: Path, listeners: list[Listener], log: Log) -> None:
+    """Takes certificates and lists from the file. If something in it is invalid all stays as it is."""
+    try:
+        found = {each.name: each for each in read_config(file).listen}
+        made = [each.configured(found[each.listen.name]) for each in listeners]
+    except (ServiceError, KeyError) as error:
+        log.event("warning", text=f"the configuration isn't taken: {error}")
+        return
+    for listener, configured in zip(listeners, made):
+        listener.configure(configured)
+    log.event("reloaded")
+
+
+async def _drain(listeners: list[Listener]) -> None:
+    """Ends the connections once their answers are taken, or after some seconds."""
+    end = time.monotonic() + _DRAIN_SECONDS
+    connections = [connection for each in listeners for connection in each.connections]
+    for connection in connections:
+        connection.transport.close()
+    while any(each.connections for each in listeners) and time.monotonic() < end:
+        await asyncio.sleep(0.01)
+    for connection in connections:
+        connection.transport.abort()
+
+
+def _notify(text: str) -> None:
+    """Says so to systemd, if it started the service."""
+    where = os.environ.get("NOTIFY_SOCKET")
+    if where:
+        with socket.socket(socket.AF_UNIX, socket.SOCK_DGRAM) as out, contextlib.suppress(OSError):
+            out.sendto(text.encode(), "\0" + where[1:] if where.startswith("@") else where)
+
+
+def _raise_limit(files: int) -> None:
+    """Allows so many open files. Invalid: the system doesn't."""
+    soft, hard = resource.getrlimit(resource.RLIMIT_NOFILE)
+    if hard != resource.RLIM_INFINITY and hard < files:
+        raise Invalid(f"limits: connections: the system allows {hard} open files, and {files} are required")
+    resource.setrlimit(resource.RLIMIT_NOFILE, (max(soft, files), hard))

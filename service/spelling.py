@@ -1,0 +1,65 @@
+"""The words of a line: paths spelled by `%` as `sdstore --percent` has them, and descriptors in canonical SDDL."""
+
+from urllib.parse import quote_from_bytes, unquote_to_bytes
+
+from hudarin import Descriptor, Refused, Sid
+
+from errors import Fault
+
+#: What a printed path has as it is: all printable ASCII but `%`.
+_SAFE = "".join(map(chr, range(0x21, 0x7F))).replace("%", "")
+
+
+def spelled(path: str) -> str:
+    """The path as one word of a line."""
+    return quote_from_bytes(path.encode(), safe=_SAFE)
+
+
+def path_of(word: str) -> str:
+    """The path that a word spells, which may still be none by the library. Fault: it isn't UTF-8, or a slash is spelled
+    by `%`, which would make two names of one."""
+    if "%" not in word:
+        return word
+    if "%2f" in word.lower():
+        raise Fault("fault path")
+    try:
+        return unquote_to_bytes(word).decode()
+    except UnicodeDecodeError:
+        raise Fault("fault path") from None
+
+
+def descriptor_of(word: str) -> Descriptor:
+    """The descriptor that a word spells. Fault: it is invalid, or its printed text would be another one."""
+    try:
+        given = Descriptor.from_sddl(word)
+    except Refused as refused:
+        raise Fault(fault_of(refused)) from None
+    printed(given)
+    return given
+
+
+def printed(descriptor: Descriptor) -> str:
+    """The canonical text, which parses to the same bytes. Fault: it doesn't."""
+    text = str(descriptor)
+    if Descriptor.from_sddl(text) != descriptor:
+        raise Fault("fault parts")
+    return text
+
+
+def sid_of(word: str) -> Sid:
+    """The SID that a word spells."""
+    try:
+        return Sid.from_text(word)
+    except Refused:
+        raise Fault("fault sid") from None
+
+
+def fault_of(refused: Refused) -> str:
+    """The answer to a line whose argument, or whose edit, the library refuses."""
+    if refused.status == "refused":
+        return f"refused {refused.fault} {refused.name}"
+    if refused.status == "sddl":
+        return f"fault sddl {refused.fault} {refused.name} at {refused.place}"
+    if refused.status in ("path", "utf8"):
+        return f"fault {refused.status if refused.argument is None else 'path'}"
+    return f"fault {refused.status}"

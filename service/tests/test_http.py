@@ -1,0 +1,177 @@
+"""HTTP by real clients: curl, and promtool where it is there. Each answer is compared with openapi.json."""
+
+import json
+import shutil
+import subprocess
+import unittest
+from typing import Any
+
+import rig
+
+API = json.loads((rig.SERVICE / "openapi.json").read_text())
+
+
+def fits(value: Any, schema: dict[str, Any]) -> bool:
+    """Whether the value is one of the schema, by the few words of JSON Schema that openapi.json uses."""
+    if "$ref" in schema:
+        return fits(value, API["components"]["schemas"][schema["$ref"].rpartition("/")[2]])
+    if "oneOf" in schema:
+        return sum(fits(value, each) for each in schema["oneOf"]) == 1
+    if "enum" in schema or "const" in schema:
+        return value in schema.get("enum", [schema.get("const")])
+    if schema["type"] == "object":
+        known = schema["properties"]
+        return (isinstance(value, dict) and set(schema.get("required", ())) <= value.keys() <= known.keys()
+                and all(fits(each, known[name]) for name, each in value.items()))
+    if schema["type"] == "array":
+        return isinstance(value, list) and all(fits(each, schema["items"]) for each in value)
+    return type(value) is {"string": str, "integer": int, "boolean": bool}[schema["type"]]
+
+
+class Http(rig.Case):
+    def setUp(self) -> None:
+        super().setUp()
+        if shutil.which("curl") is None:
+            self.skipTest("the command curl is required")
+        self.make("open 1 O:BAG:SYD:(A;OICI;FR;;;BU)\naddc /d O:BAG:SYD:\npublish\n")
+
+    def curl(self, target: str, *words: str) -> tuple[int, str]:
+        """The status, and the body."""
+        command = ["curl", "-s", "--max-time", "30", "--unix-socket", str(self.http), "-w", "\n%{http_code}", *words,
+                   f"http://localhost{target}"]
+        said = subprocess.run(command, capture_output=True, text=True, check=True).stdout
+        body, _, status = said.rpartition("\n")
+        return int(status), body
+
+    def ask(self, target: str, given: object, kind: str = "application/json") -> tuple[int, dict[str, Any]]:
+        """What a POST is answered, which openapi.json has; so has what is asked, unless that is rejected."""
+        text = given if isinstance(given, str) else json.dumps(given)
+        status, body = self.curl(target, "-H", f"Content-Type: {kind}", "--data-binary", text)
+        answer = json.loads(body)
+        post = API["paths"][target]["post"]
+        response = post["responses"].get(str(status), {"$ref": "#/components/responses/Fault"})
+        if "$ref" in response:
+            response = API["components"]["responses"][response["$ref"].rpartition("/")[2]]
+        self.assertTrue(fits(answer, response["content"]["application/json"]["schema"]), (status, answer))
+        if status == 200:
+            self.assertTrue(fits(given, post["requestBody"]["content"]["application/json"]["schema"]), given)
+        return status, answer
+
+    def test_requests(self) -> None:
+        self.start()
+        edits = [{"edit": "addo", "path": "/d/a b\n", "descriptor": "O:BAG:SYD:(A;;FW;;;BU)"}, {"edit": "remove",
+                                                                                                "path": "/none"},
+                 {"edit": "owner", "path": "/d", "sid": "QQ"}, {"edit": "move", "path": "/d/a b\n", "target": "/d/é"},
+                 {"edit": "protect", "path": "/d"}, {"edit": "dacl", "path": "/d/é", "descriptor": "D:(A;;FA;;;BU)"}]
+        status, said = self.ask("/v1/edit", {"edits": edits, "publish": True, "key": "k"})
+        self.assertEqual((status, [each["answer"] for each in said["answers"]]),
+                         (200, ["ok", "refused 4 NoNode", "fault sid", "ok", "ok", "ok", "published 5"]))
+        status, said = self.ask("/v1/edit", {"edits": edits, "publish": True, "key": "k"})
+        self.assertEqual([each["line"] for each in said["answers"]], [1, 0, 0, 2, 3, 4, 5])
+        checks = [{"path": "/d/é", "mask": "FR"}, {"path": "/", "mask": "FA"}, {"path": "/x", "mask": "FR"},
+                  {"path": "/", "mask": "0"}]
+        status, said = self.ask("/v1/check", {"user": rig.USER, "groups": ["BU"], "checks": checks, "seen": 5})
+        self.assertEqual((status, said["seen"], said["answers"]), (200, 5, [
+            {"verdict": "granted", "mask": "0x120089"}, {"verdict": "denied", "mask": "0xd0176"},
+            {"verdict": "nonode"}, {"verdict": "empty"}]))
+        status, said = self.ask("/v1/why", {"user": rig.USER, "groups": ["BU"], "path": "/", "mask": "0x3"})
+        self.assertEqual((said["verdict"], said["reasons"]), ("denied", [
+            "granted 0x1 by entry 1 (A;OICI;FR;;;BU) as S-1-5-32-545", "denied 0x2 by no entry"]))
+        self.assertEqual(self.ask("/v1/why", {"user": rig.USER, "path": "/x", "mask": "0x3"})[1]["verdict"], "nonode")
+        self.assertEqual(self.ask("/v1/show", {"path": "/d/é"})[1]["descriptor"],
+                         "O:BAG:SYD:AI(A;;FA;;;BU)(A;ID;FR;;;BU)")
+        self.assertEqual(self.ask("/v1/show", {"path": "/x"}), (404, {"fault": "nonode"}))
+        self.assertEqual([each["path"] for each in self.ask("/v1/list", {})[1]["nodes"]], ["/", "/d", "/d/é"])
+        self.assertEqual([each["kind"] for each in self.ask("/v1/list", {"path": "/d"})[1]["nodes"]], ["container",
+                                                                                                       "object"])
+        self.assertEqual(self.ask("/v1/publish", {})[1]["answers"], [{"answer": "published 5", "line": 0}])
+        status, body = self.curl("/v1/status")
+        schema = API["paths"]["/v1/status"]["get"]["responses"]["200"]["content"]["application/json"]["schema"]
+        self.assertTrue(status == 200 and fits(json.loads(body), schema), body)
+
+    def test_faults(self) -> None:
+        self.start()
+        check = {"user": rig.USER, "groups": ["BU"], "checks": [{"path": "/", "mask": "FR"}]}
+        for target, given, status, fault in (
+            ("/v1/check", "{", 400, "json"), ("/v1/check", "[]", 400, "json"), ("/v1/check", '{"user": 1, "user": 2}',
+                                                                                400, "json"),
+            ("/v1/check", "[" * 100_000, 400, "json"), ("/v1/check", '{"seen": NaN}', 400, "json"), ("/v1/check", {},
+                                                                                                     400, "user"),
+            ("/v1/check", check | {"more": 1}, 400, "'more'"), ("/v1/check", check | {"user": "BU x"}, 400, "user"),
+            ("/v1/check", check | {"user": "QQ"}, 400, "sid"), ("/v1/check", check | {"groups": ["BU="]}, 400, "token"),
+            ("/v1/check", check | {"groups": ["BU\npublish"]}, 400, "groups"), ("/v1/check", check | {"groups": "BU"},
+                                                                                400, "groups"),
+            ("/v1/check", check | {"checks": [{"path": "a", "mask": "FR"}]}, 400, "path"),
+            ("/v1/check", check | {"checks": [{"path": "/", "mask": "QQ"}]}, 400, "mask"),
+            ("/v1/check", check | {"checks": [{"path": "/\ud800", "mask": "FR"}]}, 400, "utf8"),
+            ("/v1/check", check | {"checks": [{"path": "/a/b/%2F\0", "mask": "FR"}]}, 400, "path"),
+            ("/v1/check", check | {"checks": [7]}, 400, "checks"), ("/v1/check", check | {"seen": -1}, 400, "seen"),
+            ("/v1/check", check | {"seen": True}, 400, "seen"), ("/v1/check", check | {"seen": 9}, 409, "nonotice"),
+            ("/v1/check", check | {"store": "other"}, 409, "nonotice"), ("/v1/edit", {"edits": [{"edit": "open"}]},
+                                                                         400, "edit"),
+            ("/v1/edit", {"edits": [{"edit": "remove", "path": "/", "sid": "BU"}]}, 400, "'sid'"),
+            ("/v1/edit", {"edits": [], "publish": 1}, 400, "publish"), ("/v1/edit", {"edits": [], "key": "a b"}, 409,
+                                                                        "key"),
+            ("/v1/show", {"path": ""}, 400, "path"), ("/v1/list", {"path": "/none"}, 404, "nonode"), ("/v1/list",
+                                                                                                      {"path": "none"},
+                                                                                                      400, "path"),
+        ):
+            with self.subTest(given=str(given)[:80]):
+                self.assertEqual(self.ask(target, given), (status, {"fault": fault}))
+        self.assertEqual(self.ask("/v1/check", check, "text/plain"), (415, {"fault": "content-type"}))
+        self.assertEqual(self.curl("/v2"), (404, '{"fault": "path of the request"}'))
+        self.assertEqual(self.curl("/v1/check"), (405, '{"fault": "method"}'))
+        self.assertEqual(self.said("publish"), ["published 1"])
+
+    def test_requests_that_are_none(self) -> None:
+        """Heads that aren't understood, and bodies of no certain length, end the connection."""
+        self.start("request_bytes = 5000\nrequest_seconds = 1")
+        post = b"POST /v1/show HTTP/1.1\r\nHost: x\r\nContent-Type: application/json\r\n"
+        for given, status in (
+            (b"GET /healthz HTTP/1.0\r\nHost: x\r\n\r\n", b"505"), (b"GET /healthz\r\n\r\n", b"400"), (b"\r\n\r\n",
+                                                                                                       b"400"),
+            (b"GET /healthz HTTP/1.1\r\n\r\n", b"400"), (b"GET /healthz HTTP/1.1\r\nHost: x\r\nHost: y\r\n\r\n",
+                                                         b"400"),
+            (b"GET /healthz HTTP/1.1\r\nHost: x\r\n folded\r\n\r\n", b"400"),
+            (b"GET /h\xe9 HTTP/1.1\r\nHost: x\r\n\r\n", b"400"),
+            (b"GET /healthz HTTP/1.1\r\nHost : x\r\n\r\n", b"400"),
+            (post + b"Transfer-Encoding: chunked\r\n\r\n0\r\n\r\n", b"501"),
+            (post + b"Content-Length: +3\r\n\r\n{}", b"400"),
+            (post + b"Content-Length: 3\r\nContent-Length: 3\r\n\r\n{} ", b"400"),
+            (post + b"Content-Length: 5001\r\n\r\n", b"413"), (b"GET / HTTP/1.1\r\nx: " + b"y" * 20_000, b"431"),
+        ):
+            with self.subTest(given[:80]):
+                said = self.raw(given)
+                self.assertEqual(said[:12], b"HTTP/1.1 " + status)
+                self.assertEqual(said.count(b"HTTP/1.1"), 1)
+        self.assertEqual(self.raw(post + b"Content-Length: 50\r\n\r\n{"), b"")
+        two = b"GET /healthz HTTP/1.1\r\nHost: x\r\n\r\n" * 2
+        said = self.raw(two + b"GET /readyz HTTP/1.1\r\nHost: x\r\nConnection: close\r\n\r\n")
+        self.assertEqual([said.count(b"ok\n"), said.count(b"\r\n\r\nready\n")], [2, 1])
+
+    def raw(self, given: bytes) -> bytes:
+        with rig.Lines(self.http) as asked:
+            asked.send(given)
+            return asked.rest()
+
+    def test_watching(self) -> None:
+        self.start(more='[[listen]]\ntcp = "127.0.0.1:0"\nprotocol = "http"')
+        self.said("addo /x O:BAG:SYD:", "addo /x O:BAG:SYD:", "publish", f"check 0 /x {rig.USER} FR BU",
+                  f"check 0 /x {rig.USER} FW BU")
+        self.assertEqual([self.curl(each) for each in ("/healthz", "/readyz")], [(200, "ok\n"), (200, "ready\n")])
+        status, text = self.curl("/metrics")
+        values = dict(line.rsplit(" ", 1) for line in text.splitlines() if not line.startswith("#"))
+        for name, value in (('sdstored_checks_total{verdict="granted"}', "1"),
+                            ('sdstored_checks_total{verdict="denied"}', "1"),
+                            ('sdstored_edits_total{answer="ok"}', "1"), ('sdstored_edits_total{answer="Exists"}', "1"),
+                            ("sdstored_publishes_total", "1"), ("sdstored_published_length", "2"),
+                            ("sdstored_edit_seconds_count", "3")):
+            self.assertEqual(values.get(name), value, name)
+        if shutil.which("promtool") is None:
+            self.skipTest("the command promtool of the package prometheus is required for the format of /metrics")
+        said = subprocess.run(["promtool", "check", "metrics"], input=text, capture_output=True, text=True, check=False)
+        self.assertEqual((said.returncode, said.stdout, said.stderr), (0, "", ""))
+
+
+if __name__ == "__main__":
+    unittest.main()

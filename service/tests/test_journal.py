@@ -1,0 +1,280 @@
+"""Journals that aren't what was written: a start names what differs, and serves nothing."""
+
+import os
+import random
+import shutil
+import sqlite3
+import subprocess
+import threading
+import unittest
+from contextlib import closing
+from pathlib import Path
+
+import rig
+
+import loading
+import stores
+from edits import edit_of
+from entry import Line
+from errors import Mismatch, ServiceError
+from tree import dumped
+
+#: The bytes that are flipped in a journal, each by itself.
+FLIPS = 150
+
+
+class Journals(rig.Case):
+    def fill(self, limits: str = "lines_in_epoch = 30", count: int = 70) -> None:
+        """A store of two epochs and some lines after them, whose service is killed: its log is as it was."""
+        self.make()
+        self.start(limits)
+        for at in range(count):
+            self.assertEqual(self.said(f"once k{at} addo /n{at} O:BAG:SYD:(A;;FR;;;BU)"), ["ok"])
+            if at % 10 == 9:
+                self.said("publish")
+        self.wait_for(lambda: int(self.said("status")[0].split(" ")[2]) > 2)
+        self.dumped = self.dump()
+        self.assertEqual(self.said("addo /last O:BAG:SYD:", "move /last /moved%20last"), ["ok", "ok"])
+        self.kill()
+
+    def assert_refused(self, text: str) -> None:
+        """What a start does ends by the journal, with this text, and so does verify."""
+        for work in (loading.load, loading.verify):
+            with self.assertRaises(Mismatch) as refused, stores.opened(self.store) as journal:
+                work(journal)
+            self.assertIn(text, str(refused.exception))
+
+    def assert_not_served(self, text: str) -> None:
+        """The commands end with status 1 and say so, and nothing is served."""
+        for words in (("run", self.config), ("verify", self.store)):
+            said = rig.run(*words, status=1).stderr
+            self.assertIn(text, said)
+            self.assertNotIn('"ready"', said)
+        with self.assertRaises(OSError):
+            self.said("tell")
+
+    def database(self) -> closing[sqlite3.Connection]:
+        return closing(sqlite3.connect(self.store / "journal.sqlite", isolation_level=None))
+
+    def test_starts_and_epochs(self) -> None:
+        self.fill()
+        said = rig.run("verify", self.store).stdout
+        self.assertRegex(said, r"epoch [2-9], line 79, published 70\n")
+        self.start()
+        self.assertEqual(self.dump(), self.dumped)
+        self.assertEqual(self.said("publish", "show 0 /moved%20last")[1], "seen 72 shown O:BAG:SYD:AI(A;ID;FR;;;BU)")
+
+    def test_a_key_is_made_once(self) -> None:
+        self.fill()
+        self.start()
+        again = ["once k3 addo /n3 O:BAG:SYD:(A;;FR;;;BU)", "once k3 addo /other O:BAG:SYD:", "once k3 remove /n3"]
+        self.assertEqual(self.said(*again, "show 0 /other"), ["ok", "fault key", "fault key", "seen 70 nonode"])
+        self.assertEqual(self.said("addo /n3 O:BAG:SYD:"), ["refused 3 Exists"])
+
+    def test_lines_that_are_not_what_was_written(self) -> None:
+        self.fill()
+        whole = self.room / "whole"
+        self.stash(whole)
+        for change, text in (
+            ("UPDATE lines SET answer = 'ok ' WHERE number = (SELECT max(number) FROM lines)",
+             "isn't the one that was written"),
+            ("UPDATE lines SET line = 'remove /n1' WHERE number = 5", "line 5 isn't the one that was written"),
+            ("UPDATE lines SET who = 'uid:7' WHERE number = 6", "line 6 isn't the one that was written"),
+            ("UPDATE lines SET time = time + 1 WHERE number = 7", "line 7 isn't the one that was written"),
+            ("UPDATE lines SET key = 'other' WHERE number = 8", "line 8 isn't the one that was written"),
+            ("DELETE FROM lines WHERE number = 9", "line 9 is missing"),
+            ("DELETE FROM lines WHERE number = (SELECT max(number) FROM lines)", "is missing"),
+            ("DELETE FROM lines WHERE number > 40", "line 41 is missing"),
+            ("UPDATE lines SET number = 1000 WHERE number = (SELECT max(number) FROM lines)", "is missing"),
+            ("UPDATE snapshot SET lines = replace(lines, 'FR', 'FA')", "the snapshot of epoch"),
+            ("DELETE FROM snapshot", "the snapshot of epoch"),
+            ("UPDATE epochs SET length = length + 1", "the snapshot of epoch"),
+            ("DELETE FROM epochs", "there is no snapshot"),
+            ("UPDATE store SET id = 'ab'", "its mark is that of another store"),
+            ("UPDATE store SET mapping = 'key'", "the snapshot of epoch"),
+            ("UPDATE store SET version = 9", "it is no journal of version 1"),
+            ("DELETE FROM store", "it is no journal of version 1"),
+            ("DROP TABLE lines", "no such table"),
+        ):
+            with self.subTest(change):
+                self.unstash(whole)
+                with self.database() as database:
+                    database.execute(change)
+                self.assert_refused(text)
+        self.assert_not_served(text)
+
+    def stash(self, where: Path) -> None:
+        shutil.copytree(self.store, where)
+
+    def unstash(self, where: Path) -> None:
+        shutil.rmtree(self.store)
+        shutil.copytree(where, self.store)
+
+    def test_a_line_that_is_chained_and_refused(self) -> None:
+        """A chain that somebody made again doesn't help: the library refuses the edit."""
+        self.fill()
+        with stores.opened(self.store) as journal:
+            *_, (last, chain) = journal.lines(0)
+            line = Line(last.epoch, last.number + 1, 0, "uid:0", "", "addo /n1 O:BAG:SYD:", "ok")
+            journal.append([(line, line.chained(journal.store, chain))])
+        self.assert_refused(f"line {line.number}: it is answered 'refused 3 Exists', and was answered 'ok'")
+
+    def test_cut_logs(self) -> None:
+        """SQLite drops the end of a cut write-ahead log without a word; the mark shows it."""
+        self.fill()
+        whole = self.room / "whole"
+        self.stash(whole)
+        size = (whole / "journal.sqlite-wal").stat().st_size
+        self.assertGreater(size, 8192)
+        for length in (0, 1, 32, size // 3, size // 2, size - 5000, size - 1):
+            with self.subTest(length):
+                self.unstash(whole)
+                os.truncate(self.store / "journal.sqlite-wal", length)
+                self.assert_refused("line")
+        self.unstash(whole)
+        os.unlink(self.store / "journal.sqlite-wal")
+        self.assert_refused("line")
+
+    def test_cut_databases(self) -> None:
+        self.fill()
+        self.start()
+        self.stop()
+        whole = self.room / "whole"
+        self.stash(whole)
+        size = (whole / "journal.sqlite").stat().st_size
+        for length in (0, 1, 100, 4096, size // 2, size - 4096, size - 1):
+            with self.subTest(length):
+                self.unstash(whole)
+                os.truncate(self.store / "journal.sqlite", length)
+                self.assertTrue(self._is_named() or length == size - 1)
+
+    def test_flipped_bits(self) -> None:
+        """A flipped bit is named, or changes nothing: it is in no line, snapshot or index."""
+        self.fill()
+        whole = self.room / "whole"
+        self.stash(whole)
+        chance = random.Random(7)
+        named = 0
+        for name in ("journal.sqlite", "journal.sqlite-wal", "mark"):
+            for _ in range(FLIPS // 3):
+                self.unstash(whole)
+                data = bytearray((self.store / name).read_bytes())
+                data[chance.randrange(len(data))] ^= 1 << chance.randrange(8)
+                (self.store / name).write_bytes(data)
+                named += self._is_named()
+        self.assertGreater(named, FLIPS // 4)
+
+    def _is_named(self) -> bool:
+        """Whether a start ends by the journal. Else it serves exactly what was acknowledged."""
+        try:
+            with stores.opened(self.store) as journal:
+                state = loading.load(journal)
+        except (ServiceError, sqlite3.Error):
+            return True
+        self.assertEqual(list(dumped(state.tree.view)), self.dumped)
+        edit = edit_of(["addo", "/moved%20last", "O:BAG:SYD:"], state.tree.view)
+        self.assertEqual(state.tree.make(edit), "refused 3 Exists")
+        state.tree.close()
+        return False
+
+    def test_marks(self) -> None:
+        self.fill()
+        mark = (self.store / "mark").read_bytes()
+        for text, said in ((b"", "it isn't a mark"), (b"x" * 128, "it isn't a mark"), (mark[::-1], "it isn't a mark")):
+            (self.store / "mark").write_bytes(text)
+            self.assert_refused(said)
+        os.unlink(self.store / "mark")
+        self.assert_not_served("the mark of the journal is missing")
+
+    def test_one_process_alone(self) -> None:
+        self.make()
+        self.start()
+        said = rig.run("run", self.config, status=3).stderr
+        self.assertIn("another process serves this store", said)
+        self.assertEqual(self.said("tell"), ["told 0"])
+
+    def test_backup_and_restore(self) -> None:
+        self.fill()
+        self.start()
+        stop = threading.Event()
+        edits = threading.Thread(target=self._edit_until, args=(stop,))
+        edits.start()
+        for at in range(3):
+            rig.run("backup", self.store, self.room / f"copy{at}")
+        stop.set()
+        edits.join()
+        self.assertIn("there is a file already", rig.run("backup", self.store, self.room / "copy0", status=2).stderr)
+        rig.run("restore", self.room / "copy1", self.room / "other")
+        self.assertIn("isn't an empty folder", rig.run("restore", self.room / "copy1", self.store, status=2).stderr)
+        store = self.said("status")[0].split(" ")[1]
+        self.said("publish")
+        self.stop()
+        self.store = self.room / "other"
+        self.start()
+        self.assertNotEqual(self.said("status")[0].split(" ")[1], store)
+        self.assertEqual(self.said("publish")[0].split(" ")[0], "published")
+        self.assertEqual(set(self.dumped) - set(self.dump()), set())
+        self.stop()
+        rig.run("verify", self.store)
+        with open(self.room / "copy2", "r+b") as copy:
+            copy.seek(5000)
+            copy.write(b"\xff" * 9000)
+        rig.run("verify", self.room / "copy2", status=1)
+        rig.run("restore", self.room / "copy2", self.room / "third", status=1)
+        self.assertFalse((self.room / "third").exists())
+
+    def _edit_until(self, stop: threading.Event) -> None:
+        with self.connect() as asked:
+            at = 0
+            while not stop.is_set():
+                at += 1
+                assert asked.ask(f"addo /e{at} O:BAG:SYD:") == "ok"
+
+    def test_init(self) -> None:
+        for dump in ("", "publish\n", "open 1 O:BAG:SYD:\n", "open 1 D:\npublish\n",
+                     "open 1 O:BAG:SYD:\nowner / BU\npublish\n",
+                     "open 1 O:BAG:SYD:\naddo /a/b O:BAG:SYD:\npublish\n",
+                     "open 1 O:BAG:SYD:(A;ID;FR;;;BU)\npublish\n"):
+            with self.subTest(dump):
+                rig.run("init", self.store, given=dump, status=2)
+                self.assertFalse(self.store.exists())
+        self.make("open 1 O:BAG:SYD:(A;OICI;GR;;;BU)\naddc /d O:BAG:SYD:\naddo /d/a%20b O:BAG:SYD:\npublish\n",
+                  "--mapping", "key")
+        self.start()
+        self.assertEqual(self.said(f"check 0 /d/a%20b {rig.USER} 0x10 BU"), ["seen 2 granted 0x10"])
+        self.assertIn("isn't an empty folder", rig.run("init", self.store, given=rig.DUMP, status=2).stderr)
+
+    def test_full_disks(self) -> None:
+        """Where the disk is full an edit is answered `unavailable journal`, and reads go on; later edits are taken."""
+        if os.geteuid() != 0:
+            self.skipTest("root is required for a small file system")
+        small = self.room / "small"
+        small.mkdir()
+        if subprocess.run(["mount", "-t", "tmpfs", "-o", "size=1m", "tmpfs", str(small)], check=False).returncode != 0:
+            self.skipTest("no file system can be mounted here")
+        self.addCleanup(subprocess.run, ["umount", "-l", str(small)], check=False)
+        self.store = small / "store"
+        self.make()
+        self.start()
+        accepted, answer = 0, "ok"
+        with self.connect() as asked:
+            while answer == "ok":
+                answer = asked.ask(f"addo /n{accepted} O:BAG:SYD:(A;;FR;;;{rig.USER}){'(A;;FR;;;BU)' * 100}")
+                accepted += answer == "ok"
+                if accepted == 50:
+                    asked.ask("publish")
+            self.assertEqual(answer, "unavailable journal")
+            self.assertGreater(accepted, 50)
+            self.assertEqual(asked.ask("tell"), "told 50")
+            self.assertEqual(asked.ask(f"check 0 /n3 {rig.USER} FR"), "seen 50 granted 0x120089")
+            subprocess.run(["mount", "-o", "remount,size=64m", str(small)], check=True)
+            self.assertEqual(asked.ask("addo /after O:BAG:SYD:"), "ok")
+            self.assertEqual(asked.ask("publish"), f"published {accepted + 1}")
+        self.kill()
+        self.start()
+        self.assertEqual(self.said("tell"), [f"told {accepted + 1}"])
+        self.stop()
+
+
+if __name__ == "__main__":
+    unittest.main()

@@ -1,0 +1,224 @@
+"""TCP with certificates of both sides, and the Python clients over it and over the Unix socket."""
+
+import asyncio
+import shutil
+import signal
+import socket
+import ssl
+import subprocess
+import threading
+import time
+import unittest
+from pathlib import Path
+
+import rig
+
+from client import AsyncClient, Behind, Client, OtherStore, Rejected, Unavailable
+
+
+def free_port() -> int:
+    with socket.socket() as found:
+        found.bind(("127.0.0.1", 0))
+        return int(found.getsockname()[1])
+
+
+class Certificates:
+    """An authority, and what it signs."""
+
+    def __init__(self, room: Path, name: str) -> None:
+        self.room, self.name = room, name
+        self._run("req", "-x509", "-newkey", "ec", "-pkeyopt", "ec_paramgen_curve:P-256", "-nodes", "-days", "2",
+                  "-subj",
+                  f"/CN={name}", "-keyout", f"{name}.key", "-out", f"{name}.pem")
+
+    def _run(self, *words: str) -> None:
+        subprocess.run(["openssl", *words], cwd=self.room, check=True, capture_output=True)
+
+    def sign(self, name: str, subject: str) -> None:
+        """A certificate and its key, NAME.pem and NAME.key."""
+        (self.room / "extensions").write_text("subjectAltName=IP:127.0.0.1\nbasicConstraints=CA:FALSE\n")
+        self._run("req", "-new", "-newkey", "ec", "-pkeyopt", "ec_paramgen_curve:P-256", "-nodes", "-subj", subject,
+                  "-keyout", f"{name}.key", "-out", f"{name}.csr")
+        self._run("x509", "-req", "-in", f"{name}.csr", "-CA", f"{self.name}.pem", "-CAkey", f"{self.name}.key",
+                  "-days", "2",
+                  "-extfile", "extensions", "-out", f"{name}.pem")
+
+    def context(self, name: str | None) -> ssl.SSLContext:
+        """That of a client, with a certificate or without one."""
+        context = ssl.create_default_context(cafile=str(self.room / "authority.pem"))
+        if name:
+            context.load_cert_chain(self.room / f"{name}.pem", self.room / f"{name}.key")
+        return context
+
+
+class Tls(rig.Case):
+    def setUp(self) -> None:
+        super().setUp()
+        if shutil.which("openssl") is None:
+            self.skipTest("the command openssl is required")
+        self.ours, self.others = Certificates(self.room, "authority"), Certificates(self.room, "others")
+        self.ours.sign("server", "/CN=service")
+        self.ours.sign("web", "/CN=web")
+        self.ours.sign("mail", "/CN=mail")
+        self.ours.sign("two", "/CN=web/CN=mail")
+        self.others.sign("foreign", "/CN=web")
+        self.port = free_port()
+        self.make()
+        self.start(more=self.listen('{"cn:web" = "edit", "cn:watch" = "watch"}'))
+
+    def listen(self, allow: str) -> str:
+        files = "".join(f'{name} = "{self.room / file}"\n' for name, file in
+                        (("certificate", "server.pem"), ("key", "server.key"), ("clients", "authority.pem")))
+        return f'[[listen]]\ntcp = "127.0.0.1:{self.port}"\nprotocol = "lines"\n{files}allow = {allow}'
+
+    def client(self, name: str | None, timeout: float = 1.0) -> Client:
+        return Client(("127.0.0.1", self.port), self.ours.context(name), timeout)
+
+    def test_certificates(self) -> None:
+        with self.client("web") as client:
+            client.edit("addo", "/a b", "O:BAG:SYD:(A;;FW;;;BU)")
+            self.assertEqual(client.publish(), 1)
+            self.assertTrue(client.check("/a b", rig.USER, "FW", ["BU"]))
+        for name in (None, "mail", "two", "foreign"):
+            with self.subTest(name), self.client(name) as client, self.assertRaises(Unavailable):
+                client.check("/", rig.USER, "FR")
+        with socket.create_connection(("127.0.0.1", self.port)) as plain:
+            plain.settimeout(30)
+            plain.sendall(b"1 tell\n")
+            self.assertNotIn(b"told", plain.recv(1000))
+        self.assertEqual(self.said("tell"), ["told 1"])
+
+    def test_hang_up_takes_other_certificates(self) -> None:
+        with self.client("web") as client:
+            client.publish()
+            self.configure(more=self.listen('{"cn:mail" = "edit"}'))
+            self.ours.sign("server", "/CN=service")
+            self.process.send_signal(signal.SIGHUP)
+            self.wait_for(lambda: any(each["event"] == "reloaded" for each in self.events()))
+            with self.assertRaises(Unavailable):
+                client.publish()
+        with self.client("mail") as client:
+            self.assertEqual(client.publish(), 0)
+
+    def test_a_handshake_that_never_ends(self) -> None:
+        """It delays nobody."""
+        with socket.create_connection(("127.0.0.1", self.port)), self.client("web") as client:
+            self.assertEqual(client.publish(), 0)
+
+
+class Clients(rig.Case):
+    def test_calls(self) -> None:
+        self.make()
+        self.start()
+        with Client(str(self.lines)) as client:
+            client.edit("addc", "/d", "O:BAG:SYD:")
+            client.edit("addo", "/d/50% a", "O:BAG:SYD:(A;;FW;;;BU)")
+            client.edit("move", "/d/50% a", "/d/b c")
+            client.edit("owner", "/d", "BU")
+            self.assertEqual(client.publish(), 4)
+            self.assertEqual([(each.kind, each.mask, each.seen) for each in client.checks(["/", "/d/b c", "/x"],
+                                                                                          rig.USER, "FW", ["BU"])],
+                             [("denied", 0x116, 4), ("granted", 0x120116, 4), ("nonode", 0, 4)])
+            self.assertEqual(client.checks([], rig.USER, "FW"), [])
+            verdict, reasons = client.why("/d/b c", rig.USER, "0x2", ["BU"])
+            self.assertEqual((bool(verdict), reasons), (True, ["granted 0x2 by entry 1 (A;;FW;;;BU) as S-1-5-32-545"]))
+            self.assertEqual((client.show("/x"), client.show("/d/b c")), (None,
+                                                                          "O:BAG:SYD:AI(A;;FW;;;BU)(A;ID;FR;;;BU)"))
+            self.assertEqual(client.lines("list", "/d")[1], "object /d/b%20c O:BAG:SYD:AI(A;;FW;;;BU)(A;ID;FR;;;BU)")
+            for words, answer in (
+                (("remove", "/x"), "refused 4 NoNode"), (("remove", "x"), "fault path"), (("frob",), "fault words")
+            ):
+                with self.assertRaises(Rejected) as rejected:
+                    client.edit(*words)
+                self.assertEqual(str(rejected.exception), answer)
+            for words in (("remove", "/a", "b c"), ("owner", "/d", "BU\npublish"), ("owner", "/d", "")):
+                with self.assertRaises(ValueError):
+                    client.edit(*words)
+        with self.assertRaises(ValueError):
+            Client(("127.0.0.1", 1))
+
+    def test_kills(self) -> None:
+        """Each edit is made once, though the service is killed again and again; answers never go back."""
+        self.make()
+        self.start()
+        made: list[str] = []
+        faults: list[BaseException] = []
+
+        def edit() -> None:
+            try:
+                with Client(str(self.lines), timeout=30) as client:
+                    while len(made) < 400:
+                        client.edit("addo", f"/n{len(made)}", "O:BAG:SYD:")
+                        made.append(f"/n{len(made)}")
+                        if len(made) % 5 == 0:
+                            client.publish()
+                            assert client.show(made[-1]) is not None
+            except BaseException as error:
+                faults.append(error)
+
+        thread = threading.Thread(target=edit)
+        thread.start()
+        while thread.is_alive():
+            time.sleep(0.2)
+            self.kill()
+            self.launch()
+            self.wait_until_ready()
+        thread.join()
+        self.assertEqual(faults, [])
+        self.assertEqual(self.said("publish"), ["published 400"])
+
+    def test_another_store_and_one_behind(self) -> None:
+        self.make()
+        rig.run("backup", self.store, self.room / "copy")
+        self.start()
+        with Client(str(self.lines), timeout=1) as client:
+            client.edit("addo", "/a", "O:BAG:SYD:")
+            client.publish()
+            self.kill()
+            shutil.rmtree(self.store)
+            rig.run("restore", self.room / "copy", self.store)
+            self.start()
+            with self.assertRaises(OtherStore):
+                client.check("/a", rig.USER, "FR")
+            client.store = ""
+            with self.assertRaises(Behind):
+                client.check("/a", rig.USER, "FR")
+
+    def test_an_interrupted_answer(self) -> None:
+        """What an exception left unread is never taken for the next answer."""
+        self.make()
+        self.start()
+        with Client(str(self.lines)) as client:
+            client.edit("addo", "/a", "O:BAG:SYD:(A;;FW;;;BU)")
+            client.publish()
+            client._socket.sendall(b"left.1 tell\n")
+            time.sleep(0.2)
+            self.assertEqual(client.check("/a", rig.USER, "FW", ["BU"]).kind, "granted")
+
+    def test_tasks(self) -> None:
+        self.make()
+        self.start()
+
+        async def work() -> None:
+            async with AsyncClient(str(self.lines), timeout=5) as client:
+                await asyncio.gather(*(client.edit("addo", f"/n{at}", "O:BAG:SYD:") for at in range(20)))
+                self.assertEqual(await client.publish(), 20)
+                task = asyncio.ensure_future(client.lines("dump"))
+                await asyncio.sleep(0)
+                task.cancel()
+                self.assertTrue(await client.check("/n3", rig.USER, "FR", ["BU"]))
+                self.assertEqual((await client.why("/n3", rig.USER, "FR", ["BU"]))[0].kind, "granted")
+                self.assertEqual(await client.show("/n3"), "O:BAG:SYD:AI(A;ID;FR;;;BU)")
+                self.assertEqual(len(await client.lines("dump")), 22)
+                with self.assertRaises(Rejected):
+                    await client.edit("remove", "/x")
+                self.kill()
+                client._timeout = 1
+                with self.assertRaises(Unavailable):
+                    await client.publish()
+
+        asyncio.run(work())
+
+
+if __name__ == "__main__":
+    unittest.main()

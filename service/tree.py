@@ -1,0 +1,122 @@
+"""A store of the library: what edits change, what readers see, and the length of its journal over all epochs."""
+
+from collections.abc import Iterable, Iterator, Sequence
+
+import hudarin
+from hudarin import Descriptor, Store, View
+
+from edits import PUBLISH, Edit, edit_of
+from errors import Fault, Mismatch
+from spelling import descriptor_of, fault_of, printed, spelled
+
+MAPPINGS = {
+    "file": hudarin.FILES,
+    "key": hudarin.KEYS,
+    "service": hudarin.SERVICES,
+    "process": hudarin.PROCESSES,
+}
+
+
+class Tree:
+    """A length counts all edits that were ever accepted, so it goes on where a compact journal takes over."""
+
+    def __init__(self, root: Descriptor, mapping: str) -> None:
+        self._store = Store(root, MAPPINGS[mapping])
+        self._before = 0
+        #: The published tree.
+        self.view = self._store.publish()
+
+    def make(self, edit: Edit) -> str:
+        """Makes the edit: `ok`, or why it is refused."""
+        return edit.make(self._store)
+
+    def publish(self) -> View:
+        """Publishes all pending edits, and returns the view that was published until now, which the caller closes."""
+        old, self.view = self.view, self._store.publish()
+        return old
+
+    @property
+    def length(self) -> int:
+        """The number of published edits."""
+        return self._before + len(self.view)
+
+    @property
+    def has_pending(self) -> bool:
+        return len(self._store) != len(self.view)
+
+    @property
+    def own_length(self) -> int:
+        """The number of edits in the library's journal, of which it takes 1,048,576."""
+        return len(self._store)
+
+    def continue_from(self, length: int) -> None:
+        """Makes the published length this one: what was counted before is counted on."""
+        self._before = length - len(self.view)
+
+    def close(self) -> None:
+        self.view.close()
+        self.close_store()
+
+    def close_store(self) -> None:
+        """Ends the edits; the published view stays."""
+        self._store.close()
+
+
+def built(lines: Sequence[str], mapping: str, length: int | None = None) -> Tree:
+    """The tree of the lines of a dump, published. Mismatch: one isn't carried out, by its number."""
+    tree = _opened(lines, mapping)
+    for number, line in enumerate(lines[1:], 2):
+        if line == PUBLISH and number == len(lines):
+            tree.publish().close()
+            break
+        words = line.split(" ")
+        if words[0] not in ("addc", "addo"):
+            raise Mismatch(f"line {number} of the snapshot: {line!a:.200} is no addition")
+        answer = made_by(tree, words)
+        if answer != "ok":
+            raise Mismatch(f"line {number} of the snapshot: {line!a:.200}: {answer}")
+    else:
+        raise Mismatch("the snapshot doesn't end with a line 'publish'")
+    if length is not None:
+        tree.continue_from(length)
+    return tree
+
+
+def _opened(lines: Sequence[str], mapping: str) -> Tree:
+    words = lines[0].split(" ") if lines else []
+    if len(words) != 3 or words[0] != "open":
+        raise Mismatch(f"line 1 of the snapshot: 'open N SDDL' is expected, not {lines[:1]!a:.200}")
+    try:
+        return Tree(descriptor_of(words[2]), mapping)
+    except Fault as fault:
+        raise Mismatch(f"line 1 of the snapshot: {fault.answer}") from None
+    except hudarin.Refused as refused:
+        raise Mismatch(f"line 1 of the snapshot: {fault_of(refused)}") from None
+
+
+def made_by(tree: Tree, words: Sequence[str]) -> str:
+    """The answer to the edit of these words."""
+    try:
+        edit = edit_of(words, tree.view)
+    except Fault as fault:
+        return fault.answer
+    return tree.make(edit)
+
+
+def dumped(view: View) -> Iterator[str]:
+    """The lines that make the tree of the view again, as `dump` prints them."""
+    nodes = view.nodes()
+    yield f"open 1 {printed(next(nodes).own)}"
+    for node in nodes:
+        yield f"{'addc' if node.is_container else 'addo'} {spelled(node.path)} {printed(node.own)}"
+    yield PUBLISH
+
+
+def first_difference(lines: Iterable[str], others: Iterable[str]) -> str | None:
+    """The first line in which two dumps differ, or None."""
+    one, two = iter(lines), iter(others)
+    for line in one:
+        other = next(two, "nothing")
+        if line != other:
+            return f"{line!a:.200} and {other!a:.200}"
+    return next((f"nothing and {other!a:.200}" for other in two), None)

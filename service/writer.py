@@ -1,0 +1,277 @@
+"""The one thread that edits: it makes what clients send, commits it, and only then has it answered.
+
+Edits that arrive during a commit share the next one. A new epoch starts in the background: a snapshot of the published
+tree is made and compared, and the store goes on in one built of it, whose journal is short again."""
+
+import queue
+import sqlite3
+import threading
+import time
+from collections import deque
+from collections.abc import Callable
+from dataclasses import dataclass, field
+
+from hudarin import View
+
+from edits import PUBLISH, Edit
+from entry import Line, Place, Snapshot
+from errors import Fault, ServiceError
+from journal import Journal
+from loading import Loaded, load
+from tree import Tree, built, dumped, first_difference
+
+#: The edits that share one commit at most.
+MOST_AT_ONCE = 512
+#: A library's journal takes 1,048,576 edits; a new epoch starts well before.
+MOST_EDITS = 900_000
+UNAVAILABLE, NO_MEMORY = "unavailable journal", "unavailable memory"
+
+
+@dataclass(slots=True)
+class Task:
+    """An edit, or a publish, on its way: its answer is given once it is on disk."""
+
+    edit: Edit | None
+    key: str
+    who: str
+    reply: Callable[["Task"], None]
+    answer: str = ""
+    #: The number of its line in the journal; 0 if it has none.
+    number: int = 0
+    began: float = field(default_factory=time.perf_counter)
+
+    @property
+    def line(self) -> str:
+        return PUBLISH if self.edit is None else self.edit.line
+
+
+@dataclass(frozen=True, slots=True)
+class Shown:
+    """What readers see."""
+
+    view: View
+    length: int
+    place: Place
+    epoch: int
+    #: When the last line was accepted, in milliseconds since 1970; and whether edits are taken.
+    time: int
+    takes_edits: bool
+
+
+@dataclass(slots=True)
+class Batch:
+    """The lines of one commit, with their chains, and by their keys."""
+
+    lines: list[tuple[Line, bytes]] = field(default_factory=list)
+    by_key: dict[str, Line] = field(default_factory=dict)
+
+
+@dataclass(frozen=True, slots=True)
+class NextEpoch:
+    """A snapshot, and the tree that was built of it and compared with the published one."""
+
+    snapshot: Snapshot
+    tree: Tree
+
+
+@dataclass
+class Writer:
+    """`start` runs the thread, `put` hands it a task, `stop` ends it after all tasks before. `done` is called in the
+    thread after each commit, with the tasks that are answered, and with what readers see from then on."""
+
+    journal: Journal
+    state: Loaded
+    done: Callable[[list[Task], Shown], None]
+    #: Called in the thread with a text for the log.
+    warn: Callable[[str], None]
+    #: So many lines after its snapshot a new epoch starts.
+    lines_in_epoch: int = 100_000
+    waiting: "queue.SimpleQueue[Task | NextEpoch | None]" = field(default_factory=queue.SimpleQueue)
+    #: Views that no reader uses any more: the thread closes them.
+    retired: deque[View] = field(default_factory=deque)
+    _thread: threading.Thread | None = None
+    _maker: threading.Thread | None = None
+    #: What `done` was called with last.
+    _shown: Shown | None = None
+    #: The store isn't the journal's since a commit failed.
+    _is_lost: bool = False
+    _snapshot_number: int = 0
+
+    def start(self) -> None:
+        self._snapshot_number = self.journal.snapshots()[-1].place.number
+        self._thread = threading.Thread(target=self._run, name="writer")
+        self._thread.start()
+
+    def put(self, task: Task) -> None:
+        self.waiting.put(task)
+
+    def stop(self) -> None:
+        """Returns once all that was put is answered."""
+        self.waiting.put(None)
+        if self._thread is not None:
+            self._thread.join()
+        if self._maker is not None:
+            self._maker.join()
+
+    def shown(self) -> Shown:
+        state = self.state
+        view, length = state.tree.view, state.tree.length
+        return Shown(view, length, state.published, state.epoch, state.time, not self._is_lost)
+
+    # In the thread
+
+    def _run(self) -> None:
+        is_last = False
+        while not is_last:
+            tasks, epoch, is_last = self._take()
+            while self.retired:
+                self.retired.popleft().close()
+            if tasks:
+                self._carry_out(tasks)
+            if epoch is not None:
+                self._begin(epoch)
+            self._shown = self.shown()
+            self.done(tasks, self._shown)
+            if not is_last:
+                self._make_epoch_if_due()
+
+    def _take(self) -> tuple[list[Task], NextEpoch | None, bool]:
+        """Waits for a task, and takes those that wait with it, up to a new epoch or the end."""
+        tasks: list[Task] = []
+        item = self.waiting.get()
+        while isinstance(item, Task):
+            tasks.append(item)
+            if len(tasks) == MOST_AT_ONCE:
+                return tasks, None, False
+            try:
+                item = self.waiting.get_nowait()
+            except queue.Empty:
+                return tasks, None, False
+        return tasks, item, item is None
+
+    def _carry_out(self, tasks: list[Task]) -> None:
+        """Makes the edits and commits them. If that fails none is acknowledged, and the store is read again."""
+        batch = Batch()
+        try:
+            if self._is_lost:
+                self._reload()
+            for task in tasks:
+                self._make(task, batch)
+            if batch.lines:
+                self.journal.append(batch.lines)
+        except (sqlite3.Error, OSError, ServiceError, MemoryError) as error:
+            self._is_lost = True
+            self.warn(f"the journal takes no edits: {error}")
+            for task in tasks:
+                task.answer, task.number = UNAVAILABLE, 0
+
+    def _make(self, task: Task, batch: Batch) -> None:
+        """Makes one edit or publish, and adds its line to those to commit."""
+        if task.key and self._was_made(task, batch):
+            return
+        try:
+            is_logged = self._publish(task) if task.edit is None else self._edit(task, task.edit)
+        except MemoryError:
+            task.answer = NO_MEMORY
+            return
+        if is_logged:
+            self._log(task, batch)
+
+    def _edit(self, task: Task, edit: Edit) -> bool:
+        task.answer = self.state.tree.make(edit)
+        return task.answer == "ok"
+
+    def _publish(self, task: Task) -> bool:
+        """Publishes what is pending; without that nothing changes."""
+        tree = self.state.tree
+        has_pending = tree.has_pending
+        if has_pending:
+            self._drop(tree.publish())
+        task.answer = f"published {tree.length}"
+        return has_pending
+
+    def _was_made(self, task: Task, batch: Batch) -> bool:
+        """Whether the key's line is there: its answer is given again. Another line, or another client's, isn't made."""
+        made = batch.by_key.get(task.key) or self.journal.by_key(task.key)
+        if made is None:
+            return False
+        is_same = (made.line, made.who) == (task.line, task.who)
+        task.answer, task.number = (made.answer, made.number) if is_same else ("fault key", 0)
+        return True
+
+    def _log(self, task: Task, batch: Batch) -> None:
+        state = self.state
+        state.time = time.time_ns() // 1_000_000
+        task.number = state.last.number + 1
+        line = Line(state.epoch, task.number, state.time, task.who, task.key, task.line, task.answer)
+        chain = line.chained(self.journal.store, state.last.chain)
+        batch.lines.append((line, chain))
+        if task.key:
+            batch.by_key[task.key] = line
+        state.last = Place(task.number, chain)
+        if task.edit is None:
+            state.published = state.last
+
+    def _drop(self, view: View) -> None:
+        """Closes a view, unless readers may use it: then they retire it."""
+        if self._shown is None or view is not self._shown.view:
+            view.close()
+
+    def _reload(self) -> None:
+        """Reads the store again, as a start does. Readers keep what was published, which is on disk."""
+        state = load(self.journal)
+        self._go_on_in(state)
+        self._is_lost = False
+
+    def _go_on_in(self, state: Loaded) -> None:
+        old, self.state = self.state.tree, state
+        self._drop(old.view)
+        old.close_store()
+
+    # A new epoch
+
+    def _make_epoch_if_due(self) -> None:
+        """Starts to make one in the background, if there are enough lines and none is being made."""
+        state = self.state
+        lines = state.last.number - self._snapshot_number
+        is_due = lines >= self.lines_in_epoch or (state.tree.own_length >= MOST_EDITS and lines > 0)
+        if is_due and not self._is_lost and (self._maker is None or not self._maker.is_alive()):
+            shown = self.shown()
+            arguments = (shown, shown.view.share(), self.journal.mapping)
+            self._maker = threading.Thread(target=self._make_epoch, args=arguments, name="epoch")
+            self._maker.start()
+
+    def _make_epoch(self, shown: Shown, view: View, mapping: str) -> None:
+        """In a thread of its own: the snapshot, and the tree built of it."""
+        try:
+            with view:
+                lines = tuple(dumped(view))
+                tree = built(lines, mapping, shown.length)
+                difference = first_difference(lines, dumped(tree.view))
+        except (Fault, ServiceError, MemoryError) as error:
+            self.warn(f"no new epoch: {error}")
+            return
+        if difference is not None:
+            self.warn(f"no new epoch: the snapshot isn't the tree: {difference}")
+            return
+        self.waiting.put(NextEpoch(Snapshot(shown.epoch + 1, shown.place, shown.length, lines), tree))
+
+    def _begin(self, made: NextEpoch) -> None:
+        """Commits the snapshot and goes on in its tree, after the lines that came meanwhile."""
+        state, place = self.state, made.snapshot.place
+        following = Loaded(made.tree, made.snapshot.epoch, place, place)
+        try:
+            for line, chain in self.journal.lines(place.number):
+                following.replay(line, chain)
+            if following.last != state.last:
+                raise ServiceError(f"the journal ends at line {following.last.number}, not {state.last.number}")
+            self.journal.start_epoch(made.snapshot, state.last.number)
+        except (sqlite3.Error, OSError, ServiceError, MemoryError) as error:
+            # It may be on disk all the same, so the journal is read again.
+            self._is_lost = True
+            self.warn(f"no new epoch: {error}")
+            made.tree.close()
+            return
+        following.time = state.time
+        self._snapshot_number = place.number
+        self._go_on_in(following)
