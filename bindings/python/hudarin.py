@@ -23,8 +23,8 @@ import itertools
 import os
 import re
 import threading
-from typing import Any, Callable, ContextManager, Iterable, Iterator, NamedTuple, NoReturn, Optional, SupportsBytes
-from typing import Tuple, Type, TypeVar, Union, cast
+from typing import Any, Callable, ContextManager, Iterable, Iterator, List, NamedTuple, NoReturn, Optional
+from typing import SupportsBytes, Tuple, Type, TypeVar, Union, cast
 
 __version__ = "0.1.0"
 
@@ -288,6 +288,10 @@ def _load() -> ctypes.CDLL:
 
 
 _library = _load()
+
+# The same call without leaving Python's lock in between, of which many calls in a row would lose their turn each.
+_view_check = ctypes.PyDLL(_library._name, handle=_library._handle).hudarin_view_check
+_view_check.argtypes, _view_check.restype = _library.hudarin_view_check.argtypes, _ViewVerdict
 
 
 def _fault_names(status: int) -> Iterator[str]:
@@ -924,6 +928,17 @@ class View(_Held):
         with self._turn, token._turn:
             checked = _library.hudarin_view_check(self._kept, given, len(given), token._kept, bits)
         return _verdict(_checked(checked.answer))
+
+    def check_all(self, paths: Iterable[str], token: Token, asked: Mask = 0) -> List[Optional[Verdict]]:
+        """The same for the node of each path, faster than one by one. None where there is no such node."""
+        _of_type(token, Token, "token")
+        if isinstance(paths, str):
+            raise TypeError(f"paths: expected paths, not {paths!r}")
+        given, bits = [_text(path) for path in paths], _mask(asked, "asked")
+        with self._turn, token._turn:
+            held = self._kept, token._kept
+            answers = [_view_check(held[0], path, len(path), held[1], bits).answer for path in given]
+        return [None if answer.status == _NO_NODE else _verdict(_checked(answer)) for answer in answers]
 
     def descriptor(self, path: str) -> Descriptor:
         """The descriptor of the node of the path, with the entries that it inherits."""

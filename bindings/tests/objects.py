@@ -208,6 +208,7 @@ def names() -> None:
             ("explain", lambda asked: READERS.explain(USER, [USERS], asked).verdict),
             ("kept.explain", lambda asked: kept.explain(token, asked).verdict),
             ("view", lambda asked: view.check("/", token, asked)),
+            ("view, all", lambda asked: view.check_all(["/"], token, asked)[0]),
         ]
         for name, ask in asks:
             for text in ("FR", "0x1", "FW", "RCWD", "0x80000000", "fr", "01", ""):
@@ -268,7 +269,13 @@ def one_exception() -> None:
             gives(f"{name}, closed", ("handle", 0, None, 0, "view"), lambda: refused(lambda: find("/")))
             view = store.publish()
         closed = ("handle", 0, None, 0)
+        both = [view.check("/", token, "FR"), None]
+        gives("check_all", both, lambda: view.check_all(iter(["/", "/x"]), token, "FR"))
+        gives("check_all of none", [], lambda: view.check_all([], token, "FR"))
+        gives("check_all, no path", ("path", 1, "Syntax", 0, "path"), lambda: refused(lambda: view.check_all(["x"], token)))
+        raises("check_all of one text", TypeError, lambda: view.check_all("/", token, "FR"))
         view.close()
+        gives("check_all of a closed view", closed + ("view",), lambda: refused(lambda: view.check_all(["/"], token)))
         gives("revert to a closed view", closed + ("view",), lambda: refused(lambda: store.revert(view)))
         gives("nodes of a closed view", closed + ("view",), lambda: refused(lambda: list(view.nodes())))
         gives("the length of a closed view", closed + ("view",), lambda: refused(lambda: len(view)))
