@@ -11,7 +11,8 @@ from http import HTTPStatus
 from typing import Any
 
 from errors import Fault
-from script import Reader, is_key
+from questions import MOST_WORDS
+from script import MOST_PATHS, Reader, is_key
 from service import Caller, Service
 from spelling import path_of, spelled
 from writer import Task
@@ -26,8 +27,8 @@ class Response:
 
 
 _Reply = Callable[[Response], None]
-#: The most paths of one request, and edits.
-_MOST_CHECKS, _MOST_EDITS = 10_000, 1_000
+#: The most edits of one request.
+_MOST_EDITS = 1_000
 
 
 @dataclass(frozen=True, slots=True)
@@ -143,7 +144,7 @@ def _know(given: dict[str, Any], *names: str) -> None:
 
 def _token(request: _Request) -> tuple[str, list[str]]:
     """The user and the other words of a token."""
-    words = [_text({"groups": each}, "groups") for each in _list(request.given, "groups", 2_048, [])]
+    words = [_text({"groups": each}, "groups") for each in _list(request.given, "groups", MOST_WORDS, [])]
     return request.text("user"), words
 
 
@@ -175,7 +176,7 @@ def _check(request: _Request) -> None:
     _know(request.given, "user", "groups", "checks", "store", "seen")
     _require_seen(request)
     user, words = _token(request)
-    checks = _list(request.given, "checks", _MOST_CHECKS)
+    checks = _list(request.given, "checks", MOST_PATHS)
     asked: dict[str, list[int]] = {}
     paths: list[str] = []
     for at, each in enumerate(checks):

@@ -11,7 +11,7 @@ from errors import Failed, Invalid
 _T = TypeVar("_T")
 
 #: What a client may do: each role includes those before it.
-ROLES = ("watch", "check", "edit")
+ROLES = ("watch", "check", "follow", "edit")
 PROTOCOLS = ("lines", "http")
 
 
@@ -63,9 +63,23 @@ class Listen:
 
 
 @dataclass(frozen=True)
+class Leader:
+    """Whom a replica follows: where its lines are, and for TCP this replica's certificate and the leader's authority."""
+
+    unix: str = ""
+    tcp: tuple[str, int] = ("", 0)
+    certificate: str = ""
+    key: str = ""
+    authority: str = ""
+    #: A replica that has known nothing of its leader for so long answers nothing.
+    max_age_seconds: int = 10
+
+
+@dataclass(frozen=True)
 class Config:
     folder: Path
     listen: tuple[Listen, ...]
+    leader: Leader | None = None
     limits: Limits = Limits()
     #: Whether each check that isn't granted has a record in the log.
     logs_denials: bool = False
@@ -86,15 +100,36 @@ def read_config(file: Path) -> Config:
 
 
 def _config(given: dict[str, Any]) -> Config:
-    _know(given, {"folder", "listen", "limits", "log"}, "")
+    _know(given, {"folder", "listen", "leader", "limits", "log"}, "")
     log = _typed(given, "log", dict, {})
     _know(log, {"denials"}, "log: ")
     listen = tuple(_listen(each) for each in _typed(given, "listen", list))
     names = [each.name for each in listen]
     if not listen or len(set(names)) != len(names):
         raise ValueError("listen: at least one is required, and each at a place of its own")
-    folder = Path(_typed(given, "folder", str))
-    return Config(folder, listen, _limits(_typed(given, "limits", dict, {})), _typed(log, "denials", bool, False))
+    leader = _leader(_typed(given, "leader", dict)) if "leader" in given else None
+    limits = _limits(_typed(given, "limits", dict, {}))
+    return Config(Path(_typed(given, "folder", str)), listen, leader, limits, _typed(log, "denials", bool, False))
+
+
+def _leader(given: dict[str, Any]) -> Leader:
+    _know(given, {each.name for each in fields(Leader)}, "leader: ")
+    unix, tcp = _place(given, "leader")
+    files = {name: _typed(given, name, str, "") for name in ("certificate", "key", "authority")}
+    if {bool(name) for name in files.values()} != {not unix}:
+        raise ValueError("leader: 'certificate', 'key' and 'authority' are required for TCP, and for nothing else")
+    seconds = _typed(given, "max_age_seconds", int, 10)
+    if seconds < 1:
+        raise ValueError("leader: max_age_seconds: a whole number of at least 1 is required")
+    return Leader(unix, tcp, **files, max_age_seconds=seconds)
+
+
+def _place(given: dict[str, Any], where: str) -> tuple[str, tuple[str, int]]:
+    """Either a path of a Unix socket, or an address and a port."""
+    unix, tcp = _typed(given, "unix", str, ""), _typed(given, "tcp", str, "")
+    if (unix == "") == (tcp == ""):
+        raise ValueError(f"{where}: either 'unix' or 'tcp' is required")
+    return unix, _address(tcp) if tcp else ("", 0)
 
 
 def _limits(given: dict[str, Any]) -> Limits:
@@ -112,11 +147,9 @@ def _listen(given: object) -> Listen:
     protocol = _typed(given, "protocol", str)
     if protocol not in PROTOCOLS:
         raise ValueError(f"listen: the protocol {protocol!a} is none of {', '.join(PROTOCOLS)}")
-    unix, tcp = _typed(given, "unix", str, ""), _typed(given, "tcp", str, "")
-    if (unix == "") == (tcp == ""):
-        raise ValueError("listen: either 'unix' or 'tcp' is required")
+    unix, tcp = _place(given, "listen")
     files = {name: _typed(given, name, str, "") for name in ("certificate", "key", "clients")}
-    made = Listen(protocol, unix, _address(tcp) if tcp else ("", 0), **files, allow=_allow(given, unix != ""))
+    made = Listen(protocol, unix, tcp, **files, allow=_allow(given, unix != ""))
     _require_certificates(made)
     return made
 
@@ -140,7 +173,7 @@ def _address(text: str) -> tuple[str, int]:
     host = host.removeprefix("[").removesuffix("]")
     ipaddress.ip_address(host)
     if not (port.isascii() and port.isdigit() and int(port) < 65_536):
-        raise ValueError(f"listen: {text!a}: an address and a port are required, as 127.0.0.1:7390")
+        raise ValueError(f"{text!a}: an address and a port are required, as 127.0.0.1:7390")
     return host, int(port)
 
 

@@ -9,6 +9,10 @@ from errors import Fault
 from service import Caller, Service
 
 
+#: A client with many requests at once has the loop for so long, and then others have it.
+_TURN_SECONDS = 0.002
+
+
 class Connection(asyncio.Protocol):
     """One client. Its requests are answered in their order; nothing here waits, so none delays another client."""
 
@@ -31,6 +35,9 @@ class Connection(asyncio.Protocol):
         self._owes_since: float | None = None
         self._full_since: float | None = None
         self._idle_since = time.monotonic()
+        self._loop = asyncio.get_running_loop()
+        #: When others have their turn; and whether this client has another one already.
+        self._turn_ends, self._has_turn = 0.0, False
 
     def connection_made(self, transport: asyncio.BaseTransport) -> None:
         self.transport = cast(asyncio.Transport, transport)
@@ -73,6 +80,7 @@ class Connection(asyncio.Protocol):
         """Answers what can be answered now, and reads on if all is."""
         if self.transport.is_closing():
             return
+        self._turn_ends = time.perf_counter() + _TURN_SECONDS
         waits = self.answer_waiting()
         if self.transport.is_closing():
             return
@@ -86,12 +94,22 @@ class Connection(asyncio.Protocol):
             self.transport.close()
 
     def answer_waiting(self) -> bool:
-        """Answers the requests that are there, up to one that has to wait: then it returns True."""
+        """Answers the requests that are there, while `may_answer`, up to one that has to wait: then it returns True."""
         raise NotImplementedError
 
     @property
     def may_answer(self) -> bool:
-        return not self._is_full
+        """Whether the client takes its answers, and has had no more than its turn."""
+        if time.perf_counter() < self._turn_ends:
+            return not self._is_full
+        if not self._has_turn:
+            self._has_turn = True
+            self._loop.call_soon(self._take_turn)
+        return False
+
+    def _take_turn(self) -> None:
+        self._has_turn = False
+        self.proceed()
 
     def finished(self) -> None:
         """A request in progress is answered."""

@@ -12,19 +12,22 @@ from spelling import descriptor_of, fault_of, path_of, printed, sid_of, spelled
 
 @dataclass(frozen=True, slots=True)
 class Edit:
-    """An edit, and the one line that spells it: parsed again it makes the same edit."""
+    """An edit: its name, and its arguments in the order of its words."""
 
-    line: str
-    call: Callable[..., None]
+    name: str
     arguments: tuple[Any, ...]
 
     def make(self, store: Store) -> str:
         """Makes it: `ok`, or why the library refuses it, and then the store is as it was."""
         try:
-            self.call(store, *self.arguments)
+            _EDITS[self.name][1](store, *self.arguments)
         except Refused as refused:
             return fault_of(refused)
         return "ok"
+
+    def line(self) -> str:
+        """The one line that spells it: parsed again it is the same edit."""
+        return " ".join([self.name, *(show(given) for (_, show), given in zip(_EDITS[self.name][0], self.arguments))])
 
 
 #: What a word is parsed to, and how it is printed again.
@@ -49,7 +52,7 @@ PUBLISH = "publish"
 
 def edit_of(words: Sequence[str], view: View) -> Edit:
     """The edit of a line's words. Fault: its first fault, arguments from the left; `view` only tests paths."""
-    parsers, call = _EDITS[words[0]]
+    parsers = _EDITS[words[0]][0]
     if len(words) != len(parsers) + 1:
         raise Fault("fault words")
     arguments: list[Any] = []
@@ -59,8 +62,7 @@ def edit_of(words: Sequence[str], view: View) -> Edit:
     except Fault:
         require_paths(view, [given for given in arguments if isinstance(given, str)])
         raise
-    line = " ".join([words[0], *(show(given) for (_, show), given in zip(parsers, arguments))])
-    return Edit(line, call, tuple(arguments))
+    return Edit(words[0], tuple(arguments))
 
 
 def require_paths(view: View, paths: Sequence[str]) -> None:

@@ -18,7 +18,7 @@ VERSION = 1
 #: A line that isn't needed to make the tree is kept while it is one of the last so many: so long a client's key counts.
 KEPT_LINES = 65_536
 #: The lines of a snapshot that one row has.
-_LINES_IN_ROW = 1_000
+_LINES_IN_ROW = 256
 DATABASE, MARK = "journal.sqlite", "mark"
 
 _TABLES = """
@@ -96,6 +96,12 @@ class Journal:
                                                                                                                  ))
             for *fields, chain in rows:
                 yield Line(*fields), chain
+
+    def last_number(self) -> int:
+        """The number of the last line, or the place before the first."""
+        with _named(self.file):
+            (number,) = self._database.execute("SELECT max(number) FROM lines").fetchone()
+        return self.start.number if number is None else int(number)
 
     def by_key(self, key: str) -> Line | None:
         """The line that was accepted with this key."""

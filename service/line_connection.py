@@ -6,11 +6,11 @@ from collections.abc import Callable
 
 from connection import Connection
 from errors import Fault
-from script import CHANGES, OF_LINES, Reader, words_of
+from script import CHANGES, OF_JOURNAL, OF_LINES, Reader, words_of
 from service import Caller, Service
 from writer import Task
 
-_LONG = frozenset({"list", "dump"})
+_LONG = OF_JOURNAL | {"list", "dump"}
 _GRAPHIC = frozenset(range(0x21, 0x7F))
 
 

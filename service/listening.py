@@ -22,7 +22,7 @@ _KINDS: dict[str, type[Connection]] = {"lines": LineConnection, "http": HttpConn
 _SO_PEERGROUPS = 59
 #: Python asks for no more bytes. Of a process in more groups than these the primary one alone counts.
 _GROUPS_BYTES = 1024
-_BACKLOG = 128
+_BACKLOG = 1024
 
 
 class Listener:

@@ -1,8 +1,10 @@
 """What a start reads: the newest snapshot and the lines after it, each of which must be the one that was acknowledged.
 Nothing is served after a Mismatch."""
 
-from collections.abc import Iterator, Sequence
+from collections.abc import Callable, Iterator, Sequence
 from dataclasses import dataclass
+
+from hudarin import View
 
 from edits import PUBLISH, edit_of
 from entry import Line, Place, Snapshot
@@ -23,25 +25,26 @@ class Loaded:
     #: When the last line was accepted, in milliseconds since 1970; 0 if no line is kept.
     time: int = 0
 
-    def replay(self, line: Line, chain: bytes) -> None:
-        """Carries out the next line. Mismatch: its answer isn't the one that was given."""
+    def replay(self, line: Line, chain: bytes, drop: Callable[[View], None] = View.close) -> None:
+        """Carries out the next line; `drop` takes the view that a publish replaces. Mismatch: its answer isn't the one
+        that was given."""
         place = Place(line.number, chain)
         if line.line == PUBLISH:
-            self.tree.publish().close()
+            drop(self.tree.publish())
             self.published = place
             answer = f"published {self.tree.length}"
         else:
             answer = self._made(line.line)
         if answer != line.answer:
             raise Mismatch(f"line {line.number}: it is answered {answer!a:.200}, and was answered {line.answer!a:.200}")
-        self.last, self.time = place, line.time
+        self.last, self.time, self.epoch = place, line.time, max(self.epoch, line.epoch)
 
     def _made(self, line: str) -> str:
         try:
             edit = edit_of(line.split(" "), self.tree.view)
         except (Fault, KeyError) as error:
             return f"fault {error}"
-        return self.tree.make(edit) if edit.line == line else "fault spelling"
+        return self.tree.make(edit)
 
 
 def load(journal: Journal) -> Loaded:
@@ -96,7 +99,7 @@ def _chained(journal: Journal, snapshots: Sequence[Snapshot]) -> Iterator[tuple[
     _compare(place, wanted)
     for line, chain in journal.lines(place.number):
         number = place.number + 1
-        if line.number != number or not epoch <= line.epoch <= snapshots[-1].epoch:
+        if line.number != number or line.epoch < epoch:
             raise Mismatch(f"line {number} is missing: {line.number} of epoch {line.epoch} follows {place.number}")
         if chain != line.chained(journal.store, place.chain):
             raise Mismatch(f"line {number} isn't the one that was written")

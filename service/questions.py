@@ -1,7 +1,7 @@
 """The questions of a script, answered by a published tree: `check`, `why`, `show`, `list`, and the like."""
 
 from collections import OrderedDict
-from collections.abc import Sequence
+from collections.abc import Iterator, Sequence
 from dataclasses import dataclass
 
 import hudarin
@@ -13,8 +13,10 @@ from spelling import fault_of, sid_of, spelled
 from tree import MAPPINGS
 from writer import Shown
 
-#: The tokens, and the masks, that are kept parsed.
-_KEPT = 1024
+#: The most words of a token: a Windows token has at most 1,024 groups.
+MOST_WORDS = 2_048
+#: The words of the tokens that are kept parsed, and the masks; a longer mask's text is parsed each time.
+_KEPT_WORDS, _KEPT_MASKS, _MASK_LENGTH = 65_536, 1_024, 64
 _STATES = {"": hudarin.ENABLED, "=deny": hudarin.DENY_ONLY, "=off": hudarin.DISABLED}
 _PRIVILEGES = {"+security": hudarin.SECURITY, "+take": hudarin.TAKE_OWNERSHIP}
 #: A number of a line is below this.
@@ -27,6 +29,8 @@ class Tokens:
     def __init__(self) -> None:
         self._kept: OrderedDict[tuple[str, ...], Token] = OrderedDict()
         self._masks: dict[str, int] = {}
+        #: The words of all that are kept.
+        self._count = 0
 
     def parsed(self, mask: str, words: tuple[str, ...]) -> tuple[Token, int]:
         """The token of a user and words, and the mask. Fault: the first that is none, from the user over the mask to
@@ -44,19 +48,25 @@ class Tokens:
             bits = hudarin.mask(word)
         except Refused:
             raise Fault("fault mask") from None
-        if len(self._masks) == _KEPT:
+        if len(self._masks) == _KEPT_MASKS:
             self._masks.clear()
-        self._masks[word] = bits
+        if len(word) <= _MASK_LENGTH:
+            self._masks[word] = bits
         return bits
 
     def _keep(self, words: tuple[str, ...], token: Token) -> Token:
         self._kept[words] = token
-        if len(self._kept) > _KEPT:
-            self._kept.popitem(last=False)[1].close()
+        self._count += len(words)
+        while self._count > _KEPT_WORDS:
+            old, stale = self._kept.popitem(last=False)
+            self._count -= len(old)
+            stale.close()
         return token
 
 
 def _token(user: Sid, words: Sequence[str]) -> Token:
+    if len(words) > MOST_WORDS:
+        raise Fault("fault token")
     groups: list[hudarin.Group] = []
     restricting: list[Sid] = []
     privileges = 0
@@ -90,7 +100,8 @@ class Verdicts:
     verdicts: list[Verdict | None]
 
     def __str__(self) -> str:
-        return f"seen {self.length} {', '.join('nonode' if each is None else str(each) for each in self.verdicts)}"
+        texts = {each: "nonode" if each is None else str(each) for each in set(self.verdicts)}
+        return f"seen {self.length} {', '.join(texts[each] for each in self.verdicts)}"
 
 
 class Questions:
@@ -108,7 +119,10 @@ class Questions:
         except Fault:
             require_paths(shown.view, paths)
             raise
-        return Verdicts(shown.length, [_verdict(shown.view, path, token, bits) for path in paths])
+        try:
+            return Verdicts(shown.length, shown.view.check_all(paths, token, bits))
+        except Refused as refused:
+            raise Fault(fault_of(refused)) from None
 
     def why(self, mask: str, words: tuple[str, ...], path: str) -> str:
         """The answer of `check`, and the lines of its reasons."""
@@ -125,15 +139,6 @@ class Questions:
         return f"seen {self.shown.length} {'nonode' if found is None else f'shown {found}'}"
 
 
-def _verdict(view: View, path: str, token: Token, bits: int) -> Verdict | None:
-    try:
-        return view.check(path, token, bits)
-    except Refused as refused:
-        if refused.status == "no node":
-            return None
-        raise Fault(fault_of(refused)) from None
-
-
 def descriptor_in(view: View, path: str) -> str | None:
     """The descriptor of the node with the entries that it inherits, in canonical SDDL; None without a node."""
     try:
@@ -144,12 +149,11 @@ def descriptor_in(view: View, path: str) -> str | None:
         raise Fault(fault_of(refused)) from None
 
 
-def listed(view: View, path: str) -> str:
-    """The answer to `list`: the nodes at and below the path, each on a line."""
+def listed(view: View, path: str) -> Iterator[str]:
+    """The lines of the answer to `list`: the nodes at and below the path."""
     if descriptor_in(view, path) is None:
-        return "nonode"
-    return "\n".join(
-        f"{'container' if node.is_container else 'object'} {spelled(node.path)} {view.descriptor(node.path)}"
-        for node in view.nodes()
-        if path == "/" or node.path == path or node.path.startswith(path + "/")
-    )
+        yield "nonode"
+        return
+    for node in view.nodes():
+        if path == "/" or node.path == path or node.path.startswith(path + "/"):
+            yield f"{'container' if node.is_container else 'object'} {spelled(node.path)} {view.descriptor(node.path)}"

@@ -18,9 +18,15 @@ from tree import dumped
 #: Commands that change the store: the writer answers them.
 CHANGES = NAMES | {PUBLISH}
 #: Commands whose answer ends with an empty line, also after a fault.
-OF_LINES = frozenset({"why", "list", "dump"})
+OF_LINES = frozenset({"why", "list", "dump", "snapshot", "lines"})
+#: What a replica asks of its leader's journal.
+OF_JOURNAL = frozenset({"snapshot", "lines"})
 #: The most printable ASCII characters of a key.
 _KEY_LENGTH = 100
+#: The most paths of one request: its answer delays others by a few milliseconds.
+MOST_PATHS = 1_000
+#: The most characters of one answer.
+_ANSWER_LENGTH = 1 << 28
 
 
 @dataclass(slots=True)
@@ -68,9 +74,13 @@ def long_answer(words: Sequence[str], view: View) -> str:
     """The answer to `list` or `dump` by a view."""
     if len(words) > (2 if words[0] == "list" else 1):
         raise Fault("fault words")
-    if words[0] == "dump":
-        return "\n".join(dumped(view))
-    return listed(view, path_of(words[1]) if words[1:] else "/")
+    lines, length = [], 0
+    for line in dumped(view) if words[0] == "dump" else listed(view, path_of(words[1]) if words[1:] else "/"):
+        lines.append(line)
+        length += len(line)
+        if length > _ANSWER_LENGTH:
+            raise Fault("unavailable large")
+    return "\n".join(lines)
 
 
 def _by_reader(number: str, said: str, questions: Questions, reader: Reader) -> str:
@@ -104,6 +114,8 @@ def _check(words: Sequence[str], questions: Questions, reader: Reader) -> str:
 def _checks(words: Sequence[str], questions: Questions, reader: Reader) -> str:
     number_of(words[1])
     count = number_of(words[2])
+    if count > MOST_PATHS:
+        raise Fault("fault paths")
     if len(words) < count + 5:
         raise Fault("fault words")
     paths = [path_of(word) for word in words[3 : 3 + count]]

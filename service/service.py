@@ -1,6 +1,8 @@
 """What all connections ask: questions are answered at once by what is published, edits by the writer."""
 
 import asyncio
+import functools
+import math
 import time
 from collections.abc import Callable, Sequence
 from concurrent.futures import ThreadPoolExecutor
@@ -8,10 +10,12 @@ from dataclasses import dataclass
 
 from hudarin import View
 
+import leading
 import script
 from config import ROLES, Config
 from edits import PUBLISH, edit_of
-from errors import Fault
+from errors import Fault, Mismatch
+from following import Following
 from journal import Journal
 from loading import Loaded
 from logs import Log
@@ -44,11 +48,14 @@ class Service:
         self._loop = asyncio.get_running_loop()
         self._journal = journal
         self._writer = Writer(journal, state, self._done, self._warn, config.limits.lines_in_epoch)
+        if config.leader is not None:
+            self._writer.fresh_until = -math.inf
         self._questions = Questions(self._writer.shown(), journal.store, journal.mapping)
         self._pool = ThreadPoolExecutor(config.limits.long_answers)
         self._edits = self._long_answers = 0
         self.is_stopping = False
         self._writer.start()
+        self._following = None if config.leader is None else Following(config.leader, self._writer)
 
     @property
     def shown(self) -> Shown:
@@ -60,48 +67,71 @@ class Service:
 
     @property
     def is_ready(self) -> bool:
-        return self.shown.takes_edits and not self.is_stopping
+        """Whether it does what it is for: edits are taken, or a replica knows enough of its leader."""
+        does = self.shown.takes_edits if self._following is None else time.monotonic() <= self.shown.fresh_until
+        return does and not self.is_stopping
+
+    @property
+    def failure(self) -> Mismatch | None:
+        """Why nothing more is served."""
+        return self._writer.failure
 
     def answer(self, words: Sequence[str], caller: Caller, reader: script.Reader) -> str:
         """The answer to a question that doesn't take long."""
         began = time.perf_counter()
         try:
             caller.require("check")
+            self._require_fresh()
             said = script.answer(words, self._questions, reader)
         except Fault as fault:
             return fault.answer
         except MemoryError:
             return NO_MEMORY
-        if words[0] in ("check", "checks"):
+        if words[0] in ("check", "checks") and said.startswith("seen "):
             self._count(words, said, caller, began)
         return said
 
     def _count(self, words: Sequence[str], said: str, caller: Caller, began: float) -> None:
-        for verdict in _VERDICTS:
-            if count := said.count(verdict):
-                self.metrics.checks[verdict] += count
+        if words[0] == "check":
+            self.metrics.checks[said.split(" ", 3)[2]] += 1
+        else:
+            for verdict in _VERDICTS:
+                self.metrics.checks[verdict] += said.count(verdict)
         self.metrics.check_seconds.add(time.perf_counter() - began)
         if self._logs_denials and ("denied" in said or "reserved" in said):
             self.log.event("denial", who=caller.who, asked=" ".join(words), answer=said)
 
     async def long_answer(self, words: Sequence[str], caller: Caller) -> str:
-        """The answer to `list` or `dump`, made in another thread."""
+        """The answer to `list`, `dump` or a replica, made in another thread."""
         try:
-            caller.require("check")
-            if self._long_answers >= 4 * self.limits.long_answers:
-                return "unavailable busy"
-            view = self.shown.view.share()
+            work = self._long_work(words, caller)
         except Fault as fault:
             return fault.answer
         self._long_answers += 1
         try:
-            return await self._loop.run_in_executor(self._pool, _long_answer, words, view)
+            return await self._loop.run_in_executor(self._pool, work)
         except Fault as fault:
             return fault.answer
         except MemoryError:
             return NO_MEMORY
         finally:
             self._long_answers -= 1
+
+    def _long_work(self, words: Sequence[str], caller: Caller) -> Callable[[], str]:
+        """What the other thread does."""
+        if self._long_answers >= 4 * self.limits.long_answers:
+            raise Fault("unavailable busy")
+        if words[0] in script.OF_JOURNAL:
+            caller.require("follow")
+            return functools.partial(leading.answer, self._journal.file, words)
+        caller.require("check")
+        self._require_fresh()
+        return functools.partial(_long_answer, words, self.shown.view.share())
+
+    def _require_fresh(self) -> None:
+        """Fault: a replica, which doesn't know enough of its leader."""
+        if time.monotonic() > self.shown.fresh_until:
+            raise Fault("unavailable behind")
 
     def submit(self, words: list[str], caller: Caller, reply: Callable[[Task], None]) -> None:
         """Has the writer make an edit or publish, and calls `reply` once it is answered. Fault: it isn't carried out,
@@ -112,14 +142,17 @@ class Service:
             raise Fault("fault words")
         try:
             edit = None if words[0] == PUBLISH else edit_of(words, self.shown.view)
+            line = PUBLISH if edit is None else edit.line()
         except MemoryError:
             raise Fault(NO_MEMORY) from None
+        if self._following is not None:
+            raise Fault("unavailable replica")
         if self.is_stopping:
             raise Fault("unavailable stopping")
         if self._edits >= self.limits.edits:
             raise Fault("unavailable busy")
         self._edits += 1
-        self._writer.put(Task(edit, key, caller.who, reply))
+        self._writer.put(Task(edit, line, key, caller.who, reply))
 
     def _done(self, tasks: list[Task], shown: Shown) -> None:
         """In the writer's thread: the audit record of each edit is written before its answer goes out."""
@@ -147,6 +180,8 @@ class Service:
     async def stop(self) -> None:
         """Takes no more edits, and returns once those in progress are answered and the journal is at rest."""
         self.is_stopping = True
+        if self._following is not None:
+            await self._loop.run_in_executor(None, self._following.stop)
         await self._loop.run_in_executor(None, self._writer.stop)
         while self._edits:
             await asyncio.sleep(0.01)
@@ -155,7 +190,8 @@ class Service:
 
     def metrics_text(self) -> str:
         shown = self.shown
-        return self.metrics.text({
+        following = {} if self._following is None else self._following.gauges()
+        return self.metrics.text(following | {
             "published_length": shown.length,
             "published_line": shown.place.number,
             "epoch": shown.epoch,

@@ -10,13 +10,14 @@ import time
 from pathlib import Path
 
 from config import Config, read_config
-from errors import Invalid, ServiceError
-from journal import Journal
+from errors import Invalid, Mismatch, ServiceError
+from following import fetch
+from journal import DATABASE, Journal
 from listening import Listener
 from loading import Loaded, load
 from logs import Log
 from service import Service
-from stores import opened
+from stores import make, opened
 
 #: At a SIGTERM clients have so many seconds to take their answers.
 _DRAIN_SECONDS = 5
@@ -30,16 +31,21 @@ def serve(file: Path) -> int:
     log = Log()
     _raise_limit(config.limits.connections + _OTHER_FILES)
     began = time.monotonic()
+    if config.leader is not None and not (config.folder / DATABASE).exists():
+        make(config.folder, *fetch(config.leader))
     with opened(config.folder) as journal:
         state = load(journal)
         seconds = round(time.monotonic() - began, 3)
         place = {"epoch": state.epoch, "line": state.last.number, "length": state.tree.length}
         log.event("loaded", store=journal.store, **place, seconds=seconds)
-        asyncio.run(_serve(file, config, journal, state, log))
+        failure = asyncio.run(_serve(file, config, journal, state, log))
+        if failure is not None:
+            raise failure
     return 0
 
 
-async def _serve(file: Path, config: Config, journal: Journal, state: Loaded, log: Log) -> None:
+async def _serve(file: Path, config: Config, journal: Journal, state: Loaded, log: Log) -> Mismatch | None:
+    """Serves until a signal, or until a replica has a failure, which is returned."""
     service = Service(config, journal, state, log)
     listeners: list[Listener] = []
     try:
@@ -48,7 +54,7 @@ async def _serve(file: Path, config: Config, journal: Journal, state: Loaded, lo
         stop = _on_signals(file, listeners, log)
         _notify("READY=1")
         log.event("ready", listen=[each.listen.name for each in listeners])
-        while not stop.is_set():
+        while not stop.is_set() and service.failure is None:
             with contextlib.suppress(asyncio.TimeoutError):
                 await asyncio.wait_for(stop.wait(), 1)
             for each in listeners:
@@ -60,6 +66,7 @@ async def _serve(file: Path, config: Config, journal: Journal, state: Loaded, lo
         await service.stop()
         await _drain(listeners)
         log.event("stopped")
+    return service.failure
 
 
 def _on_signals(file: Path, listeners: list[Listener], log: Log) -> asyncio.Event:

@@ -29,13 +29,11 @@ def path_of(word: str) -> str:
 
 
 def descriptor_of(word: str) -> Descriptor:
-    """The descriptor that a word spells. Fault: it is invalid, or its printed text would be another one."""
+    """The descriptor that a word spells."""
     try:
-        given = Descriptor.from_sddl(word)
+        return Descriptor.from_sddl(word)
     except Refused as refused:
         raise Fault(fault_of(refused)) from None
-    printed(given)
-    return given
 
 
 def printed(descriptor: Descriptor) -> str:

@@ -38,7 +38,7 @@ def init(folder: Path, mapping: str, lines: Sequence[str]) -> int:
     except (Mismatch, Fault) as error:
         raise Invalid(str(error)) from error
     snapshot = Snapshot(1, Place(0, b""), tree.length, made)
-    _make(folder, mapping, snapshot, [])
+    make(folder, secrets.token_hex(16), mapping, snapshot)
     return tree.length
 
 
@@ -81,13 +81,12 @@ def restore(file: Path, folder: Path) -> Loaded:
         pending = [line for line, _ in journal.lines(state.published.number)]
         mapping = journal.mapping
     snapshot = Snapshot(state.epoch + 1, state.published, state.tree.length, tuple(dumped(state.tree.view)))
-    _make(folder, mapping, snapshot, pending)
+    make(folder, secrets.token_hex(16), mapping, snapshot, pending)
     return state
 
 
-def _make(folder: Path, mapping: str, snapshot: Snapshot, pending: Sequence[Line]) -> None:
+def make(folder: Path, store: str, mapping: str, snapshot: Snapshot, pending: Sequence[Line] = ()) -> None:
     """A new store of a snapshot and the pending edits after it."""
-    store = secrets.token_hex(16)
 
     def fill(made: Path) -> None:
         create(made / DATABASE, store, mapping, snapshot)

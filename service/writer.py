@@ -3,6 +3,7 @@
 Edits that arrive during a commit share the next one. A new epoch starts in the background: a snapshot of the published
 tree is made and compared, and the store goes on in one built of it, whose journal is short again."""
 
+import math
 import queue
 import sqlite3
 import threading
@@ -13,9 +14,9 @@ from dataclasses import dataclass, field
 
 from hudarin import View
 
-from edits import PUBLISH, Edit
+from edits import Edit
 from entry import Line, Place, Snapshot
-from errors import Fault, ServiceError
+from errors import Fault, Mismatch, ServiceError
 from journal import Journal
 from loading import Loaded, load
 from tree import Tree, built, dumped, first_difference
@@ -32,6 +33,7 @@ class Task:
     """An edit, or a publish, on its way: its answer is given once it is on disk."""
 
     edit: Edit | None
+    line: str
     key: str
     who: str
     reply: Callable[["Task"], None]
@@ -39,10 +41,6 @@ class Task:
     #: The number of its line in the journal; 0 if it has none.
     number: int = 0
     began: float = field(default_factory=time.perf_counter)
-
-    @property
-    def line(self) -> str:
-        return PUBLISH if self.edit is None else self.edit.line
 
 
 @dataclass(frozen=True, slots=True)
@@ -56,6 +54,8 @@ class Shown:
     #: When the last line was accepted, in milliseconds since 1970; and whether edits are taken.
     time: int
     takes_edits: bool
+    #: No answer is given after that, by the monotonic clock: a replica knows no more of its leader.
+    fresh_until: float
 
 
 @dataclass(slots=True)
@@ -64,6 +64,17 @@ class Batch:
 
     lines: list[tuple[Line, bytes]] = field(default_factory=list)
     by_key: dict[str, Line] = field(default_factory=dict)
+
+
+@dataclass(frozen=True, slots=True)
+class Received:
+    """Lines of the leader, the number of its last one, and until when its replica may answer by them if that is all."""
+
+    lines: list[tuple[Line, bytes]]
+    last: int
+    fresh_until: float
+    #: Set once the lines are on disk, or can't be.
+    ended: threading.Event
 
 
 @dataclass(frozen=True, slots=True)
@@ -86,7 +97,11 @@ class Writer:
     warn: Callable[[str], None]
     #: So many lines after its snapshot a new epoch starts.
     lines_in_epoch: int = 100_000
-    waiting: "queue.SimpleQueue[Task | NextEpoch | None]" = field(default_factory=queue.SimpleQueue)
+    waiting: "queue.SimpleQueue[Task | NextEpoch | Received | None]" = field(default_factory=queue.SimpleQueue)
+    #: That of what is shown. A replica starts without.
+    fresh_until: float = math.inf
+    #: Why nothing more is served: the leader's lines aren't those of this store.
+    failure: Mismatch | None = None
     #: Views that no reader uses any more: the thread closes them.
     retired: deque[View] = field(default_factory=deque)
     _thread: threading.Thread | None = None
@@ -116,27 +131,30 @@ class Writer:
     def shown(self) -> Shown:
         state = self.state
         view, length = state.tree.view, state.tree.length
-        return Shown(view, length, state.published, state.epoch, state.time, not self._is_lost)
+        takes_edits = not self._is_lost and self.fresh_until == math.inf
+        return Shown(view, length, state.published, state.epoch, state.time, takes_edits, self.fresh_until)
 
     # In the thread
 
     def _run(self) -> None:
         is_last = False
         while not is_last:
-            tasks, epoch, is_last = self._take()
+            tasks, other, is_last = self._take()
             while self.retired:
                 self.retired.popleft().close()
             if tasks:
                 self._carry_out(tasks)
-            if epoch is not None:
-                self._begin(epoch)
+            if isinstance(other, NextEpoch):
+                self._begin(other)
+            elif other is not None:
+                self._receive(other)
             self._shown = self.shown()
             self.done(tasks, self._shown)
             if not is_last:
                 self._make_epoch_if_due()
 
-    def _take(self) -> tuple[list[Task], NextEpoch | None, bool]:
-        """Waits for a task, and takes those that wait with it, up to a new epoch or the end."""
+    def _take(self) -> tuple[list[Task], NextEpoch | Received | None, bool]:
+        """Waits for a task, and takes those that wait with it, up to another item or the end."""
         tasks: list[Task] = []
         item = self.waiting.get()
         while isinstance(item, Task):
@@ -227,6 +245,32 @@ class Writer:
         old, self.state = self.state.tree, state
         self._drop(old.view)
         old.close_store()
+
+    # Of a replica
+
+    def _receive(self, received: Received) -> None:
+        """Makes the leader's next lines, and commits them."""
+        try:
+            if self._is_lost:
+                # They are asked for again.
+                self._reload()
+                return
+            for line, chain in received.lines:
+                last = self.state.last
+                if line.number != last.number + 1 or chain != line.chained(self.journal.store, last.chain):
+                    raise Mismatch(f"line {last.number + 1} of the leader isn't the one that follows here")
+                self.state.replay(line, chain, self._drop)
+            if received.lines:
+                self.journal.append(received.lines)
+            if self.state.last.number >= received.last:
+                self.fresh_until = received.fresh_until
+        except Mismatch as mismatch:
+            self.failure, self.fresh_until = mismatch, -math.inf
+        except (sqlite3.Error, OSError, ServiceError, MemoryError) as error:
+            self._is_lost = True
+            self.warn(f"the journal takes no lines: {error}")
+        finally:
+            received.ended.set()
 
     # A new epoch
 

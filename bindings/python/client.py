@@ -31,7 +31,7 @@ Where = Union[str, Tuple[str, int]]
 
 _SAFE = "".join(map(chr, range(0x21, 0x7F))).replace("%", "")
 _PATHS = {"move": 2, "list": 1, "addc": 1, "addo": 1, "owner": 1, "group": 1, "dacl": 1, "remove": 1, "protect": 1}
-_OF_LINES = ("why", "list", "dump")
+_OF_LINES = ("why", "list", "dump", "snapshot", "lines")
 _PAUSE = 0.05
 
 

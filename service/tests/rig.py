@@ -122,8 +122,10 @@ class Case(unittest.TestCase):
     def wait_for(self, is_so: Callable[[], bool]) -> None:
         end = time.monotonic() + PATIENCE
         while not is_so():
-            if self.process is None or self.process.poll() is not None or time.monotonic() > end:
-                raise AssertionError(self.log.read_text()[self.log_start :][-3000:])
+            ended = self.process is None or self.process.poll() is not None
+            if ended or time.monotonic() > end:
+                log = self.log.read_text()[self.log_start :][-3000:]
+                raise AssertionError(f"{'the service ended' if ended else f'not so in {PATIENCE} s'}: {log}")
             time.sleep(0.005)
 
     def events(self) -> list[dict[str, object]]:
