@@ -36,11 +36,12 @@ uint32_t mask_of_adding(bool is_folder);
 /* ---- say.c: the log, on standard error */
 
 void say(const char *format, ...) __attribute__((format(printf, 1, 2)));
-/* From now on an operation's lines have the uid and the pid of its caller. */
-void say_serving(void);
+/* Whether an operation's lines have the uid and the pid of its caller, from now on. */
+void say_serving(bool is);
 
 /* ---- steps.c: a test may end the process at a step of an edit, the one whose number HUDARINFS_STEP tells, counted
- * from steps_begin, or have it wait HUDARINFS_WAIT microseconds where FOLDER has changed and the view hasn't. */
+ * from steps_begin, or have it wait HUDARINFS_WAIT microseconds where FOLDER has changed and the view hasn't, and
+ * before it closes a file. */
 
 #ifdef STEPS
 void steps_begin(void);
@@ -300,6 +301,11 @@ int edit_descriptor(const char *path, const char *text);
 int proc_is_ours(void);
 /* Unmounts what a server that was killed has left at MOUNT. */
 void unmount_dead(const char *mount);
+
+/* ---- serve.c: MOUNT, from the mount to its end */
+
+/* Serves until MOUNT is unmounted, which is 0, or a signal comes, whose number is the answer. */
+int serve(const char *mount);
 
 /* ---- operations.c: what FUSE calls */
 

@@ -5,7 +5,6 @@
 #include "hudarinfs.h"
 
 #include <errno.h>
-#include <fuse.h>
 #include <signal.h>
 #include <stdio.h>
 #include <stdlib.h>
@@ -164,21 +163,20 @@ static int start(const struct words *words)
 
 int main(int count, char **arguments)
 {
-    static char options[] = "allow_other,nosuid,nodev,fsname=hudarinfs,max_threads=16,"
-                            "max_idle_threads=16";
     struct words words;
     if (!read_words(count, arguments, &words)) {
         return usage();
     }
     int result = start(&words);
+    if (result >= 0) {
+        unmount_dead(words.mount);
+        /* A terminal or a log that closes, or a wish for the log's rotation, is no reason to unmount. */
+        (void)signal(SIGHUP, SIG_IGN);
+        (void)signal(SIGPIPE, SIG_IGN);
+        result = serve(words.mount);
+    }
     if (result < 0) {
         say("%s isn't served: %s", words.folder, strerror(-result));
-        return 1;
     }
-    unmount_dead(words.mount);
-    /* A terminal that closes, or a wish for the log's rotation, is no reason to unmount. */
-    (void)signal(SIGHUP, SIG_IGN);
-    char *fuse[] = { arguments[0], "-f", "-o", options, (char *)(uintptr_t)words.mount, NULL };
-    int status = fuse_main(5, fuse, operations(), NULL);
-    return status == 0 ? 0 : 1;
+    return result == 0 ? 0 : 1;
 }

@@ -269,6 +269,7 @@ static int op_release(const char *path, struct fuse_file_info *info)
 {
     (void)path;
     uid_t uid = opener_of(fd_of(info));
+    linger();
     int result = result_of(close(fd_of(info)));
     open_give_back(uid);
     return result;
@@ -393,7 +394,7 @@ static void *op_init(struct fuse_conn_info *connection, struct fuse_config *conf
     config->negative_timeout = 0;
     steps_begin();
     say("ready");
-    say_serving();
+    say_serving(true);
     return NULL;
 }
 

@@ -29,12 +29,12 @@ static struct count counts[COUNTS]; /* under the lock */
 static pthread_mutex_t count_lock = PTHREAD_MUTEX_INITIALIZER;
 static atomic_bool is_serving;
 
-void say_serving(void)
+void say_serving(bool is)
 {
-    atomic_store(&is_serving, true);
+    atomic_store(&is_serving, is);
 }
 
-/* The caller whose operation this thread carries out, or NULL. libfuse has none before it serves. */
+/* The caller whose operation this thread carries out, or NULL. libfuse has none before it serves, nor behind it. */
 static const struct fuse_context *caller(void)
 {
     return atomic_load(&is_serving) ? fuse_get_context() : NULL;

@@ -1,4 +1,4 @@
-/* For tests alone: the process ends at a step, as by a crash, or waits between FOLDER and the view. */
+/* For tests alone: the process ends at a step, as by a crash, or waits between FOLDER and the view, or before a close. */
 #include "hudarinfs.h"
 
 #ifdef STEPS

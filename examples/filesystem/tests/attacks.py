@@ -2,7 +2,7 @@
 """
 What a user may not do to others: take over files by renames, take all open files or nodes, veto an administrator's
 entries, forge or flood the log. What the server may not do: serve names whose descriptors a restore has lost, end by a
-SIGHUP, need an unmount after a SIGKILL. The groups of tests with these names, or all.
+SIGHUP, need an unmount after a SIGKILL, fail by an unmount. The groups of tests with these names, or all.
 
     attacks.py [NAME ..]
 """
@@ -120,7 +120,7 @@ def renames_by(tally: Tally, room: Room) -> None:
     tally.holds("PAI" not in room.bob.call("text", mount.path("/q/mine"))[1], "it inherits at its new place")
     tally.same("a name is changed", said(room.alice, "rename", "/share/report", "/share/other"), "ok")
     texts = [room.root.call("text", mount.path(path)) for path in ("/v/folder", "/v/folder/inner", "/share/other")]
-    tally.same("the status, and the sanitizers", mount.stop(), 0)
+    mount.end(tally)
     tally.holds(mount.start(ROOTS), "the second start", mount.said())
     tally.same("the same after a start", [room.root.call("text", mount.path(path)) for path in
                                           ("/v/folder", "/v/folder/inner", "/share/other")], texts)
@@ -149,7 +149,7 @@ def renames(tally: Tally) -> None:
                 renames_by(tally, room)
                 if not in_file:
                     keeps_too_much(tally, room)
-                tally.same("the status, and the sanitizers", room.mount.stop(), 0)
+                room.mount.end(tally)
         finally:
             room.close()
 
@@ -189,7 +189,7 @@ def opens(tally: Tally) -> None:
         tally.holds("no open is left" in room.mount.said(), "the log", room.mount.said())
         tally.same("the opens are closed", room.carol.call("let_go")[0], "ok")
         tally.holds(until(lambda: room.carol.call("read", at)[0] == "ok"), "the user reads")
-        tally.same("the status, and the sanitizers", room.mount.stop(), 0)
+        room.mount.end(tally)
         if not tally.holds(room.mount.start(before=few_descriptors_for_good), "the start", room.mount.said()):
             return
         tally.same("the opens of one", room.carol.call("hold", at, 3000), ("ok", [384, 24]))
@@ -199,11 +199,11 @@ def opens(tally: Tally) -> None:
         tally.same("a folder is made", room.said(room.root, "mkdir", "/folder"), "ok")
         for caller in (room.carol, room.alice, room.root):
             caller.call("let_go")
-        tally.same("the status, and the sanitizers", room.mount.stop(), 0)
+        room.mount.end(tally)
         tally.holds(room.mount.start(options=("-o", "5")), "the start", room.mount.said())
         tally.same("five opens", room.carol.call("hold", at, 3000), ("ok", [5, 24]))
         room.carol.call("let_go")
-        tally.same("the status, and the sanitizers", room.mount.stop(), 0)
+        room.mount.end(tally)
     finally:
         room.close()
 
@@ -226,7 +226,7 @@ def nodes(tally: Tally) -> None:
         tally.same("and one made", room.said(room.alice, "create", "/all/a0"), "ok")
         tally.same("one is replaced", room.said(room.alice, "rename", "/all/a0", "/all/a1"), "ok")
         tally.same("and one made", room.said(room.alice, "create", "/all/a0"), "ok")
-        tally.same("the status, and the sanitizers", room.mount.stop(), 0)
+        room.mount.end(tally)
         tally.holds(room.mount.start(options=("-n", "20")), "the second start", room.mount.said())
         tally.same("one more after it", room.said(room.alice, "create", "/all/more"), "EDQUOT")
         for number in range(20):
@@ -235,7 +235,7 @@ def nodes(tally: Tally) -> None:
         tally.same("one more", room.said(room.alice, "create", "/all/more"), "ok")
         tally.same("the group has its quota", room.said(room.alice, "set", "/all/more", "O:" + group), "EDQUOT")
         tally.same("root has none", room.said(room.root, "set", "/all/more", "O:S-1-22-1-0"), "ok")
-        tally.same("the status, and the sanitizers", room.mount.stop(), 0)
+        room.mount.end(tally)
     finally:
         room.close()
 
@@ -268,7 +268,7 @@ def lists(tally: Tally) -> None:
         said = room.said(room.root, "set", "/", admin + entry * 100)
         tally.same("an entry that has no room", said, "E2BIG")
         tally.holds("below is that of /d/file" in room.mount.said()[behind:], "the log", room.mount.said()[behind:])
-        tally.same("the status, and the sanitizers", room.mount.stop(), 0)
+        room.mount.end(tally)
     finally:
         room.close()
 
@@ -302,7 +302,7 @@ def archived(tally: Tally, room: Room, texts: list) -> None:
         tally.holds(other.mount.start(), "a start of what tar restores", other.mount.said())
         tally.same("its descriptors", [other.root.call("text", other.mount.path(path)) for path in
                                        ("/", "/d", "/d/secret", "/file")], texts)
-        tally.same("the status, and the sanitizers", other.mount.stop(), 0)
+        other.mount.end(tally)
     finally:
         other.close()
 
@@ -313,7 +313,7 @@ def restores_by(tally: Tally, room: Room, other: Room) -> None:
     room.make(tally, "create", "/d/secret", "D:P(A;;FA;;;S-1-22-1-0)")
     room.make(tally, "create", "/file")
     texts = [room.root.call("text", mount.path(path)) for path in ("/", "/d", "/d/secret", "/file")]
-    tally.same("the status, and the sanitizers", mount.stop(), 0)
+    mount.end(tally)
     copied(mount, restored)
     tally.holds(not restored.start(ROOTS), "a start without what was kept", restored.said())
     tally.same("its status", restored.ended(), 1)
@@ -332,7 +332,7 @@ def restores_by(tally: Tally, room: Room, other: Room) -> None:
     tally.holds(restored.start(), "a start with it", restored.said())
     tally.same("the descriptors", [other.root.call("text", restored.path(path)) for path in
                                    ("/", "/d", "/d/secret", "/file")], texts)
-    tally.same("the status, and the sanitizers", restored.stop(), 0)
+    restored.end(tally)
     if not mount.in_file:
         os.removexattr(restored.folder, "user.hudarin.own")
         tally.holds(not restored.start(ROOTS), "a start without the root's", restored.said())
@@ -349,10 +349,10 @@ def restores_by(tally: Tally, room: Room, other: Room) -> None:
     tally.same("it is root's, and inherits", text, ("ok", "O:S-1-22-1-0G:S-1-22-2-0D:AI(A;OICIID;FA;;;S-1-22-1-0)"
                                                     if mount.in_file else
                                                     "O:S-1-22-1-0G:S-1-22-2-0D:AI(A;ID;FA;;;S-1-22-1-0)"))
-    tally.same("the status, and the sanitizers", restored.stop(), 0)
+    restored.end(tally)
     tally.holds(restored.start(), "the next start", restored.said())
     tally.same("the same then", other.root.call("text", restored.path("/d/secret")), text)
-    tally.same("the status, and the sanitizers", restored.stop(), 0)
+    restored.end(tally)
 
 
 def restores(tally: Tally) -> None:
@@ -393,7 +393,7 @@ def log(tally: Tally) -> None:
         tally.same("denied often", room.carol.call("denied_often", room.mount.path("/file"), 2000), ("ok", 2000))
         most = 21 * (int(time.monotonic() - began) + 2)
         found = len(room.mount.said().splitlines()) - behind
-        tally.holds(found <= min(most, 1900), "so many lines", (found, most))
+        tally.holds(found <= most, "so many lines", (found, most))
         tally.same("another user's", room.said(room.bob, "write", "/file"), "EACCES")
         tally.holds("uid %d pid" % BOB.uid in room.mount.said(), "its line", room.mount.said()[-300:])
 
@@ -401,7 +401,7 @@ def log(tally: Tally) -> None:
             room.said(room.carol, "write", "/file")
             return "lines before this one are left out" in room.mount.said()
         tally.holds(until(is_said), "what is left out is said", room.mount.said()[-300:])
-        tally.same("the status, and the sanitizers", room.mount.stop(), 0)
+        room.mount.end(tally)
     finally:
         room.close()
 
@@ -413,10 +413,9 @@ def ends(tally: Tally) -> None:
         if not tally.holds(room.mount.start(ROOTS), "the start", room.mount.said()):
             return
         room.make(tally, "create", "/file")
+        tally.holds(room.mount.ignores(signal.SIGHUP), "SIGHUP is ignored")
         room.mount.signal(signal.SIGHUP)
-        time.sleep(1)
         tally.same("a read after a SIGHUP", room.said(room.root, "read", "/file"), "ok")
-        tally.holds(room.mount.is_running(), "it serves after a SIGHUP")
         room.mount.kill()
         tally.same("a read after a SIGKILL", room.said(room.root, "read", "/file"), "ENOTCONN")
         tally.holds(room.mount.start(), "a start after a SIGKILL", room.mount.said())
@@ -425,6 +424,22 @@ def ends(tally: Tally) -> None:
         tally.same("the status after a SIGTERM", room.mount.ended(), 1)
         tally.holds("Sanitizer" not in room.mount.said(), "the sanitizers", room.mount.said())
         tally.holds(not os.path.ismount(room.mount.at), "it is unmounted")
+    finally:
+        room.close()
+
+
+def unmounts(tally: Tally) -> None:
+    """An unmount while a user's closes are still to be answered is an end like any other."""
+    room = Room()
+    try:
+        for turn in range(20):
+            if not tally.holds(room.mount.start(ROOTS, wait=500), "the start", room.mount.said()):
+                return
+            if turn == 0:
+                room.make(tally, "create", "/file", "D:P(A;;FA;;;S-1-22-1-0)(A;;FR;;;WD)")
+            tally.same("opens", room.carol.call("hold", room.mount.path("/file"), 1000), ("ok", [1000, 0]))
+            tally.same("the opens are closed", room.carol.call("let_go")[0], "ok")
+            room.mount.end(tally, waits=False)
     finally:
         room.close()
 
@@ -440,7 +455,7 @@ def namespaces(tally: Tally) -> None:
                  room.mount.path("/file")]
         below = subprocess.run(["unshare", "--pid", "--fork", *reads], stderr=subprocess.PIPE, check=False)
         tally.same("a process of a container", below.returncode, 0)
-        tally.same("the status, and the sanitizers", room.mount.stop(), 0)
+        room.mount.end(tally)
         tally.holds(not room.mount.start(prefix=("unshare", "--pid", "--fork")), "a start by another's /proc")
         tally.holds("another PID namespace" in room.mount.said(), "the log", room.mount.said())
         room.mount.ended()
@@ -459,7 +474,7 @@ def namespaces(tally: Tally) -> None:
         room.close()
 
 
-GROUPS = [renames, opens, nodes, lists, restores, log, ends, namespaces]
+GROUPS = [renames, opens, nodes, lists, restores, log, ends, unmounts, namespaces]
 
 
 def main(names: list) -> int:

@@ -176,7 +176,7 @@ def main(program: str, seconds: float) -> int:
             for wanted in WANTED:
                 tally.holds(met[wanted] >= LEAST, "hardly any " + wanted, dict(met))
             tally.holds(made > 20, "hardly any edits", made)
-            tally.same("the status, and the sanitizers", mount.stop(), 0)
+            mount.end(tally)
     finally:
         mount.close()
     return tally.close()

@@ -167,7 +167,7 @@ def kill_at(tally: Tally, program: str, caller: Caller, call: tuple, number: int
         for setting in SETTING:
             tally.same("the setting %s" % (setting,), ask(mount, caller, setting), "ok")
             tally.same("its line", model.edit(*script_lines(setting, model)), "ok")
-        mount.stop()
+        mount.end(tally)
         before = wanted(model)
         tally.holds(mount.start(ROOTS, step=number), "the start", mount.said())
         said = ask_once(mount, caller, call)
@@ -183,7 +183,7 @@ def kill_at(tally: Tally, program: str, caller: Caller, call: tuple, number: int
         after = wanted(model)
         is_held = found == after or (said != "ok" and found in (before, between))
         tally.holds(is_held, "behind step %d of %s" % (number, call), (said, found, before, after))
-        tally.same("the status, and the sanitizers", mount.stop(), 0)
+        mount.end(tally)
         return said
     finally:
         model.close()
@@ -214,7 +214,7 @@ def kill(tally: Tally, program: str, kills: int, in_file: bool) -> None:
             tally.holds(counts["answered"] >= kills, "hardly any edits", counts)
             tally.same("what FOLDER has", sorted(os.listdir(mount.folder)), model.children("/"))
             tally.same("whether a file is beside it", os.path.exists(mount.kept), in_file)
-            tally.same("the status, and the sanitizers", mount.stop(), 0)
+            mount.end(tally)
             kill_at_each_step(tally, program, caller, in_file)
     finally:
         caller.close()

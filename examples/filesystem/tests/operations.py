@@ -168,11 +168,11 @@ def try_all(tally: Tally, program: str, changes: int, in_file: bool) -> None:
                 tally.same("change %s" % (tried,), said, wanted)
             print("changes: " + ", ".join("%s %d" % pair for pair in sorted(counts.items())))
             same_trees(tally, mount, model, callers)
-            tally.same("the status, and the sanitizers", mount.stop(), 0)
+            mount.end(tally)
             tally.holds(mount.start(), "the second start", mount.said())
             same_trees(tally, mount, model, callers)
             look(tally, mount, model, callers[2])
-            tally.same("the status behind that", mount.stop(), 0)
+            mount.end(tally, "the status behind that")
     finally:
         for caller in callers:
             caller.close()

@@ -154,7 +154,7 @@ def maps(tally: Tally, mount: Mount, alice: Caller, root: Caller) -> None:
     tally.same("a list", root.call("set", mount.path("/file"), "D:P(A;;FR;;;%s)" % sid)[0], "ok")
     tally.same("who is mapped", alice.call("read", mount.path("/file"))[0], "ok")
     tally.same("who isn't", root.call("read", mount.path("/file"))[0], "EACCES")
-    tally.same("the status", mount.stop(), 0)
+    mount.end(tally, "the status")
     for text in ("uid x S-1-5-7\n", "who 1 S-1-5-7\n", "uid 1 S-1\n", "uid 1\n", "uid 1 WD more\n"):
         with open(path, "w", encoding="utf-8") as file:
             file.write(text)
@@ -180,7 +180,7 @@ def full_tree(tally: Tally) -> None:
         tally.holds(not os.path.exists(mount.folder + "/more"), "nothing is half done")
         tally.same("one goes", caller.call("unlink", mount.path("/last"))[0], "ok")
         tally.same("one comes", caller.call("create", mount.path("/more"))[0], "ok")
-        tally.same("the status", mount.stop(), 0)
+        mount.end(tally, "the status")
     finally:
         caller.close()
         alice.close()
@@ -230,7 +230,7 @@ def refuses_attributes(tally: Tally, mount: Mount) -> None:
     os.mkdir(staged)
     tally.same("a folder beside it", outcome(os.mkdir, mount.path("/beside")), "ok")
     tally.same("FOLDER", sorted(os.listdir(mount.folder + "/beside")), [])
-    tally.same("the status", mount.stop(), 0)
+    mount.end(tally, "the status")
 
 
 def refuses_starts(tally: Tally, mount: Mount) -> None:
@@ -254,7 +254,7 @@ def refuses_starts(tally: Tally, mount: Mount) -> None:
     second.folder = mount.folder
     tally.holds(not second.start(ROOTS), "a second server of one folder")
     second.close()
-    tally.same("the status behind that", mount.stop(), 0)
+    mount.end(tally, "the status behind that")
 
 
 def keeps_file(tally: Tally, caller: Caller) -> None:
@@ -265,7 +265,7 @@ def keeps_file(tally: Tally, caller: Caller) -> None:
             tally.same("a file", caller.call("create", mount.path("/d/f"))[0], "ok")
             long = "D:P(A;;FA;;;S-1-22-1-0)" + "(A;;FR;;;WD)" * 3000
             tally.same("a long list", caller.call("set", mount.path("/d/f"), long)[0], "ok")
-            tally.same("the status, and the sanitizers", mount.stop(), 0)
+            mount.end(tally)
             refuses_starts(tally, mount)
     finally:
         mount.close()
@@ -283,7 +283,7 @@ def main() -> int:
             makes_unseen(tally, mount, alice, caller)
             if not mount.in_file:
                 refuses_long_attributes(tally, mount, caller)
-            tally.same("the status, and the sanitizers", mount.stop(), 0)
+            mount.end(tally)
             if not mount.in_file:
                 refuses_attributes(tally, mount)
             maps(tally, mount, alice, caller)

@@ -47,6 +47,11 @@ def until(is_so) -> bool:
     return False
 
 
+def read_number(path: str) -> int:
+    with open(path, encoding="ascii") as file:
+        return int(file.read())
+
+
 class Tally:
     """How many tests held; what didn't hold is told in a line of its own, for the first twenty."""
 
@@ -163,8 +168,10 @@ class Mount:
         self.at = os.path.join(self.room, "mount")
         self.kept = self.folder + ".hudarin"
         self.log = os.path.join(self.room, "log")
+        self._connections = os.path.join(self.room, "connections")
         os.mkdir(self.folder, 0o700)
         os.mkdir(self.at)
+        os.mkdir(self._connections)
         self._server = None
 
     def path(self, path: str) -> str:
@@ -177,8 +184,8 @@ class Mount:
     def start(self, *words: str, options: tuple = (), step: int = 0, wait: int = 0, before=None, prefix: tuple = (),
               is_seen: bool = True) -> bool:
         """Whether it serves. It ends at a step of its edits, if one is given, or waits so many microseconds when FOLDER
-        has changed and the view hasn't. `before` runs in its process, `prefix` is a command that runs it, and `is_seen`
-        says whether its mount is in this mount namespace."""
+        has changed and the view hasn't, and before each close. `before` runs in its process, `prefix` is a command that
+        runs it, and `is_seen` says whether its mount is in this mount namespace."""
         # (where there are no attributes a file is kept without being asked for)
         asked = ["-f"] if self.in_file and len(WAYS_TO_KEEP) > 1 else []
         command = [*prefix, self.program, *asked, *options, self.folder, self.at, *words]
@@ -195,6 +202,11 @@ class Mount:
     def signal(self, number: int) -> None:
         self._server.send_signal(number)
 
+    def ignores(self, number: int) -> bool:
+        with open("/proc/%d/status" % self._server.pid, encoding="utf-8") as file:
+            words = dict(line.split(":", 1) for line in file)
+        return int(words["SigIgn"], 16) >> (number - 1) & 1 == 1
+
     def is_running(self) -> bool:
         return self._server.poll() is None
 
@@ -206,12 +218,34 @@ class Mount:
     def ended(self) -> int:
         return self._server.wait(timeout=LONGEST)
 
+    def _is_idle(self) -> bool:
+        """Whether the server has answered all calls: Linux closes a file, and a folder, behind its process's back."""
+        with open("/proc/self/mountinfo", encoding="utf-8") as file:
+            devices = [words[2].split(":")[1] for words in (line.split() for line in file) if words[4] == self.at]
+        waiting = [os.path.join(self._connections, device, "waiting") for device in devices]
+        return all(read_number(path) == 0 for path in waiting if os.path.exists(path))
+
+    def _wait_for_closes(self) -> None:
+        """An unmount aborts what the server hasn't read, and libfuse frees an open folder by its close alone: what it
+        didn't free would be a leak to the sanitizers. (Where a container may not mount fusectl this doesn't wait.)"""
+        if subprocess.run(["mount", "-t", "fusectl", "fusectl", self._connections], check=False,
+                          stderr=subprocess.DEVNULL).returncode == 0:
+            until(lambda: self._is_idle() or not self.is_running())
+            subprocess.run(["umount", self._connections], check=True)
+
     def stop(self) -> int:
         """Unmounts; the status of the server, whose sanitizers have found nothing where it is 0."""
         # (a call that has just ended may keep the mount busy for a moment)
         until(lambda: subprocess.run(["umount", self.at], check=False, stderr=subprocess.DEVNULL).returncode == 0
               or not self.is_running())
         return self.ended()
+
+    def end(self, tally: Tally, place: str = "the status, and the sanitizers", waits: bool = True) -> None:
+        """Unmounts: the status is 0, or else what the server said is told. `waits`: its calls are answered first."""
+        if waits:
+            self._wait_for_closes()
+        status = self.stop()
+        tally.holds(status == 0, place, "got %d, where 0 was wanted, of %r" % (status, self.said()[-4000:]))
 
     def kill(self) -> None:
         """What it leaves at its mount is for the next start to unmount."""
