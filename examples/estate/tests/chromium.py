@@ -6,6 +6,7 @@ import os
 import shutil
 import subprocess
 import tempfile
+from contextlib import suppress
 from pathlib import Path
 from typing import Any
 
@@ -56,9 +57,11 @@ class Page:
 
     def __exit__(self, *_: object) -> None:
         self._session = None
-        self.ask("Browser.close")
+        # (it may end before it answers)
+        with suppress(RuntimeError):
+            self.ask("Browser.close")
         try:
-            self._browser.wait(20)
+            self._browser.wait(60)
         except subprocess.TimeoutExpired:
             self._browser.kill()
             self._browser.wait()

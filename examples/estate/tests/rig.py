@@ -28,10 +28,14 @@ AI, PROTECTED, SACL, PRESENT, MANAGER = 0x400, 0x1000, 0x10, 0x4, 0x4000
 Names = tuple[str, ...]
 
 
-def estate(*words: str | Path, room: Path) -> "subprocess.CompletedProcess[str]":
+#: Far more seconds than any run takes: a busy machine only takes longer.
+PATIENCE = 3000
+
+
+def estate(*words: str | Path, room: Path, by: Path = HERE.parent) -> "subprocess.CompletedProcess[str]":
     """Runs the tool in a folder."""
-    command = [sys.executable, str(HERE.parent), *map(str, words)]
-    return subprocess.run(command, cwd=room, capture_output=True, text=True, timeout=600)
+    command = [sys.executable, *map(str, (by, *words))]
+    return subprocess.run(command, cwd=room, capture_output=True, text=True, timeout=PATIENCE)
 
 
 def by_sdstore(script: str) -> list[str]:
@@ -140,17 +144,19 @@ class Ntfs:
 
     def mount(self, *options: str) -> None:
         subprocess.run(["ntfs-3g", *options, self.image, self.folder], check=True, capture_output=True)
-        self._server = self._found_server()
+        #: The process that serves this one mount: the volume disappears where it is killed.
+        self.server = self._found_server()
 
     def unmount(self) -> None:
-        subprocess.run(["umount", self.folder], check=True)
+        # (a call that has just ended may keep the mount busy for a moment)
+        end = time.monotonic() + PATIENCE
+        while subprocess.run(["umount", self.folder], capture_output=True).returncode != 0:
+            if time.monotonic() > end:
+                raise RuntimeError(f"{self.folder} can't be unmounted")
+            time.sleep(0.05)
         # (the server ends after umount, and writes until then)
         while subprocess.run(["ntfs-3g.probe", "--readwrite", self.image], capture_output=True).returncode == 16:
             time.sleep(0.05)
-
-    def kill(self) -> None:
-        """The volume disappears: what serves this one mount is killed."""
-        os.kill(self._server, 9)
 
     def _found_server(self) -> int:
         for process in Path("/proc").glob("[0-9]*"):
@@ -200,6 +206,12 @@ class Case(unittest.TestCase):
         self.assertIn(says, ran.stderr)
         self.assertNotIn("Traceback", ran.stderr)
         return ran.stdout.splitlines()
+
+    def breaks(self, call: str, count: int, number: int, process: int, status: int, *words: str) -> str:
+        """Runs estate by breaking.py, whose status has to be this one, and returns its messages."""
+        ran = estate(call, str(count), str(int(number)), str(process), *words, room=self.room, by=HERE / "breaking.py")
+        self.assertEqual(ran.returncode, status, f"{words}: {ran.stdout[-2000:]}{ran.stderr[-2000:]}")
+        return ran.stderr
 
     def write(self, name: str, text: str | bytes, encoding: str = "utf-8") -> Path:
         path = self.room / name

@@ -4,11 +4,8 @@ and files that nobody should trust."""
 import json
 import os
 import signal
-import subprocess
-import sys
-import time
 
-from rig import HERE, NTFS, Case, Names, needs_program
+from rig import NTFS, Case, Names, needs_program
 from test_volumes import Volumes
 from trees import Planted
 
@@ -27,21 +24,6 @@ class Writes(Volumes):
 
     allowed = ("--replace-differing", "--leave-unread")
 
-    def start(self, *words: str) -> "subprocess.Popen[str]":
-        command = [sys.executable, str(HERE.parent), *words]
-        return subprocess.Popen(command, cwd=self.room, stderr=subprocess.PIPE, stdout=subprocess.PIPE, text=True)
-
-    def kill_after(self, made: Planted, before: dict[Names, bytes], written: int, *words: str) -> int:
-        """Kills a run once so many nodes have other bytes than before, and returns how many have."""
-        process = self.start(*words)
-        probes = sorted(made.tree.nodes)
-        while process.poll() is None:
-            if sum(self.volume.get(path) != before[path] for path in probes[: 4 * written]) >= written:
-                break
-        process.kill()
-        process.communicate()
-        return self.changed(made, before)
-
     def test_kills(self) -> None:
         """A write that was killed is resumed, an undo too."""
         made = self.prepare()
@@ -54,23 +36,20 @@ class Writes(Volumes):
         self.runs(0, "undo", "changed.journal")
         self.assertEqual(self.blobs(made.tree), before)
         (self.room / "changed.journal").unlink()
-        stopped = self.kill_after(made, before, 20, *whole)
-        self.assertTrue(0 < stopped < total, stopped)
-        self.runs(0, "resume", "changed.journal", says=f"{total - stopped:,} node")
+        self.breaks("write", 20, signal.SIGKILL, 0, -signal.SIGKILL, *whole)
+        self.assertEqual(self.changed(made, before), 20)
+        self.runs(0, "resume", "changed.journal", says=f"{total - 20:,} node")
         self.assertEqual(self.blobs(made.tree), after)
-        self.kill_after(made, after, 20, "undo", "changed.journal")
+        self.breaks("write", 20, signal.SIGKILL, 0, -signal.SIGKILL, "undo", "changed.journal")
+        self.assertEqual(self.changed(made, after), 20)
         self.runs(0, "undo", "changed.journal")
         self.assertEqual(self.blobs(made.tree), before)
 
     def test_a_volume_that_disappears(self) -> None:
         made = self.prepare()
         before = self.blobs(made.tree)
-        process = self.start("write", *self.allowed, "changed", str(self.volume.folder))
-        while process.poll() is None and self.volume.get(()) == before[()]:
-            pass
-        self.volume.kill()
-        _, said = process.communicate()
-        self.assertEqual(process.returncode, 3, said)
+        words = ("write", *self.allowed, "changed", str(self.volume.folder))
+        said = self.breaks("write", 20, signal.SIGKILL, self.volume.server, 3, *words)
         self.assertIn("'estate resume' writes the others by the journal, 'estate undo' restores these", said)
         self.volume.unmount()
         self.volume.mount("-o", "recover")
@@ -79,12 +58,8 @@ class Writes(Volumes):
 
     def test_a_volume_that_disappears_from_a_read(self) -> None:
         self.plant(2000)
-        process = self.start("read", str(self.volume.folder), "script")
-        while process.poll() is None and not any(made.stat().st_size for made in self.room.glob(".estate-*")):
-            pass
-        self.volume.kill()
-        _, said = process.communicate()
-        self.assertEqual(process.returncode, 3, said)
+        words = ("read", str(self.volume.folder), "script")
+        said = self.breaks("read", 1000, signal.SIGKILL, self.volume.server, 3, *words)
         self.assertIn("the volume disappeared at /", said)
         self.assertFalse((self.room / "script").exists())
         self.assertFalse(list(self.room.glob(".estate-*")))
@@ -235,12 +210,6 @@ class Untrusted(Case):
 class Signals(Volumes):
     def test_an_interrupt(self) -> None:
         self.plant(800)
-        command = [sys.executable, str(HERE.parent), "read", str(self.volume.folder), "script"]
-        process = subprocess.Popen(command, cwd=self.room, stderr=subprocess.PIPE, text=True)
-        while process.poll() is None and not list(self.room.glob(".estate-*")):
-            time.sleep(0.01)
-        process.send_signal(signal.SIGINT)
-        _, said = process.communicate()
-        self.assertEqual(process.returncode, 3, said)
+        said = self.breaks("read", 400, signal.SIGINT, 0, 3, "read", str(self.volume.folder), "script")
         self.assertIn("interrupted", said)
         self.assertEqual(list(self.room.glob("*script*")) + list(self.room.glob(".estate-*")), [])

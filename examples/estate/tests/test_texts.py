@@ -1,5 +1,7 @@
 """CSV of PowerShell and files of icacls: what they say, and files that nobody should trust."""
 
+import errno
+import io
 import os
 import pty
 import subprocess
@@ -27,6 +29,16 @@ def csv_of(*rows: tuple[str, str]) -> str:
 
 
 THREE = csv_of(("C:\\share", ROOT), ("C:\\share\\a b", CHILD), ("C:\\share\\a b\\c%\u00e9.txt", FILE))
+
+
+def all_of(terminal: io.FileIO) -> bytes:
+    """What is to be read next of a terminal: nothing where all that wrote to it are gone."""
+    try:
+        return terminal.read(4096) or b""
+    except OSError as error:
+        if error.errno != errno.EIO:
+            raise
+        return b""
 
 
 class Texts(Case):
@@ -168,7 +180,7 @@ class Texts(Case):
         with open(ours, "rb", buffering=0) as terminal:
             subprocess.run(command, cwd=self.room, stderr=theirs, check=True)
             os.close(theirs)
-            said = terminal.read(4096)
+            said = b"".join(iter(lambda: all_of(terminal), b""))
         self.assertTrue(said.startswith(b"\r[##########                    ] 1 of 3 nodes\x1b[K"), said)
         self.assertIn(b"\r\x1b[Kestate: source: 3 nodes", said)
         self.assertNotIn("[#", rig.estate("read", "source", "script", room=self.room).stderr)
