@@ -17,7 +17,8 @@ pub record IsBlockOf {T : Type 0} (blocks : List (ℕ × List T)) (at k : ℕ) :
   pub first : (d : ℕ × List T) → (slice_index_or blocks k d).0 ≡ length (joined (take k blocks))
   pub from : (d : ℕ × List T) → (slice_index_or blocks k d).0 ≤ at
   pub to : (d : ℕ × List T) → at ≤ (slice_index_or blocks k d).0 + length (slice_index_or blocks k d).1
-  pub before_end : (d : ℕ × List T) → at < length (joined blocks) → at < (slice_index_or blocks k d).0 + length (slice_index_or blocks k d).1
+  pub before_end : (d : ℕ × List T) → at < length (joined blocks)
+      → at < (slice_index_or blocks k d).0 + length (slice_index_or blocks k d).1
 
 -- two blocks in place of one
 pub record AreHalves {T : Type 0} (whole low high : ℕ × List T) : Type 0 where

@@ -121,8 +121,7 @@ impl<T, R: Run<T>> Block<T, R> {
 
     /// Inserts an element before a position.
     pub(crate) fn insert(&mut self, alloc: Global, at: usize, item: T) -> Result<(), AllocError>
-        requires place { at ≤ length self.old.1 }
-        requires room { length self.old.1 < usize.MAX }
+        requires { at ≤ length self.old.1 }
         ensures start { self.new.0 ≡ self.old.0 }
         ensures done { OnOk result (self.new.1 ≡ insert self.old.1 at item) }
         ensures refused { OnErr result (self.new.1 ≡ self.old.1) }

@@ -1,6 +1,6 @@
 //! Laws of lists in shared blocks.
 
-ghost use Rattle.std.specs.Prelude.{◌≡◌, ◌<◌, ◌≤◌, length, IfOk, OnOk, OnErr};
+ghost use Rattle.std.specs.Prelude.{◌≡◌, ◌≤◌, length, IfOk, OnOk, OnErr};
 ghost use Rattle.std.specs.List.{insert};
 
 use crate::level::Level;
@@ -14,8 +14,7 @@ pub fn snapshot_stays<T: Drop, R: Run<T>>(
     at: usize,
     item: T,
 ) -> Result<Level<T, R>, AllocError>
-    requires place { at ≤ length list.old }
-    requires room { length list.old < usize.MAX }
+    requires { at ≤ length list.old }
     ensures snapshot { IfOk result (λ snapshot. snapshot ≡ list.old) }
     ensures done { OnOk result (list.new ≡ insert list.old at item) }
     ensures refused { OnErr result (list.new ≡ list.old) }

@@ -112,11 +112,13 @@ impl<T: Drop, R: Run<T>> Level<T, R> {
 
     /// Inserts an element before a position. It fails only when memory is out, and then the list is as it was.
     pub fn insert(&mut self, alloc: Global, at: usize, item: T) -> Result<(), AllocError>
-        requires place { at ≤ length self.old }
-        requires room { length self.old < usize.MAX }
+        requires { at ≤ length self.old }
         ensures done { OnOk result (self.new ≡ insert self.old at item) }
         ensures refused { OnErr result (self.new ≡ self.old) }
     {
+        if self.len == usize::MAX {
+            return Err(AllocError);
+        }
         if self.blocks.is_empty() {
             let block = Block::single(alloc, item)?;
             self.blocks.push(block)?;

@@ -51,8 +51,7 @@ pub trait Run<T>: Sized + Drop {
 
     /// Inserts an element before a position.
     fn insert(&mut self, alloc: Global, at: usize, item: T) -> Result<(), AllocError>
-        requires place { at ≤ length (elements self.old) }
-        requires room { length (elements self.old) < usize.MAX }
+        requires { at ≤ length (elements self.old) }
         ensures done { OnOk result (elements self.new ≡ insert (elements self.old) at item) }
         ensures refused { OnErr result (elements self.new ≡ elements self.old) };
 
@@ -65,5 +64,6 @@ pub trait Run<T>: Sized + Drop {
 
     /// The run as two, where it is so long that the next insertion should find a shorter one.
     fn split(&self, alloc: Global) -> Result<Option<(Self, Self)>, AllocError>
-        ensures { IfOk result (λ parts. IfSome parts (λ p. AreParts (elements self.now) (elements p.0) (elements p.1))) };
+        ensures { IfOk result (λ parts. IfSome parts
+            (λ p. AreParts (elements self.now) (elements p.0) (elements p.1))) };
 }

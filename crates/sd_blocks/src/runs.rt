@@ -29,8 +29,7 @@ impl<T: Drop, R: Run<T>> Level<T, R> {
 
     /// Inserts elements before a position. It fails only when memory is out, and then the list is as it was.
     pub fn insert_run(&mut self, alloc: Global, at: usize, run: Vec<T>) -> Result<(), AllocError>
-        requires place { at ≤ length self.old }
-        requires room { length self.old + length run.items ≤ usize.MAX }
+        requires { at ≤ length self.old }
         ensures done { OnOk result (self.new ≡ with_run at run.items self.old) }
         ensures refused { OnErr result (self.new ≡ self.old) }
     {
@@ -49,8 +48,7 @@ impl<T: Drop, R: Run<T>> Level<T, R> {
         count: usize,
         run: Vec<T>,
     ) -> Result<(), AllocError>
-        requires run { from + count ≤ length self.old }
-        requires room { length self.old + length run.items ≤ usize.MAX }
+        requires { from + count ≤ length self.old }
         ensures done { OnOk result (self.new ≡ replaced from count run.items self.old) }
         ensures refused { OnErr result (self.new ≡ self.old) }
     {
@@ -98,8 +96,7 @@ impl<T: Drop, R: Run<T>> Level<T, R> {
 
     /// Inserts elements before a position, the last one first. After an error some are there.
     fn put_run(&mut self, alloc: Global, at: usize, mut run: Vec<T>) -> Result<(), AllocError>
-        requires place { at ≤ length self.old }
-        requires room { length self.old + length run.items ≤ usize.MAX }
+        requires { at ≤ length self.old }
         ensures { OnOk result (self.new ≡ with_run at run.items self.old) }
     {
         while let Some(item) = run.pop() {

@@ -46,7 +46,7 @@ fn insert(
     at: usize,
     item: u64,
 ) -> Result<(), AllocError> {
-    if at <= list.len() && at <= items.len() && list.len() < usize::MAX {
+    if at <= list.len() && at <= items.len() {
         list.insert(alloc, at, item)?;
         items.insert(at, item)?;
     }
@@ -146,7 +146,7 @@ fn a_snapshot_stays(rt: HostRuntime) {
 
 /// A snapshot from before an insertion, where the position is in the list.
 fn snapshot(alloc: Global, list: &mut Blocks<u64>, at: usize, item: u64) -> Option<Blocks<u64>> {
-    if at > list.len() || list.len() == usize::MAX {
+    if at > list.len() {
         return None;
     }
     snapshot_stays(alloc, list, at, item).ok()
@@ -210,8 +210,7 @@ fn remove_run(
 
 /// Inserts a run. Whether the position is in the list.
 fn insert_run(alloc: Global, list: &mut Blocks<u64>, at: usize, run: Vec<u64>) -> bool {
-    let len = list.len();
-    if at > len || run.len() > usize::MAX - len {
+    if at > list.len() {
         return false;
     }
     list.insert_run(alloc, at, run).is_ok()
@@ -226,7 +225,7 @@ fn replace_run(
     run: Vec<u64>,
 ) -> bool {
     let len = list.len();
-    if from > len || count > len - from || run.len() > usize::MAX - len {
+    if from > len || count > len - from {
         return false;
     }
     list.replace_run(alloc, from, count, run).is_ok()

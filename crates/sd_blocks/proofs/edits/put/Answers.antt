@@ -1,6 +1,5 @@
-use Rattle.std.proofs.Common.{arith, rules}
+use Rattle.std.proofs.Common.{rules}
 use Rattle.sd_blocks.proofs.Changes.{put_joined, put_starts, same_joined, same_starts, rest_below}
-use Rattle.sd_blocks.proofs.Searched.{block_end}
 use Rattle.sd_blocks.proofs.edits.put.Goals as goal
 
 pub returns-in_err-insert-clause-starts : goal.returns-in_err-insert-clause-starts
@@ -26,9 +25,3 @@ pub returns-clause-done : goal.returns-clause-done
 returns-clause-done g c =
     let found = rw c.as_slice.ensures.value at c.locate-k.ensures in
     rw c.move_up_from.ensures (put_joined c.args.blocks.now.items c.args.at c.locate-k.result c.index_mut-block.result.now c.insert.new.self c.start.result c.args.item found c.index_mut-block.ensures.value c.start.ensures c.in_ok-insert.ensures.done)
-
-pub insert-requires-clause-room : goal.insert-requires-clause-room
-insert-requires-clause-room g c =
-    let found = rw c.as_slice.ensures.value at c.locate-k.ensures in
-    let end = block_end c.args.blocks.now.items c.locate-k.result c.index_mut-block.result.now c.start.result c.requires.starts found.inside c.index_mut-block.ensures.value c.start.ensures in
-    omega (arith, end, c.requires.fits)

@@ -1,12 +1,11 @@
 -- What is left of the run, inserted, makes of the list what the whole run makes of it.
-use Rattle.std.proofs.Common.{◌≡◌, ◌+◌, ◌≤◌, length}
+use Rattle.std.proofs.Common.{◌≡◌, ◌≤◌, length}
 use Rattle.sd_blocks.specs.Runs.{with_run}
 use Rattle.sd_blocks.proofs.level.Level.put_run.Given as goal
 
 abbrev pub invariant-loop-item : goal.invariant-loop-item
 invariant-loop-item g l = record {
   place : l.at ≤ length l.self;
-  room : length l.self + length l.run.items ≤ 18446744073709551615;
   whole : with_run l.at l.run.items l.self ≡ with_run l.at l.initial.run.items l.initial.self;
 }
 

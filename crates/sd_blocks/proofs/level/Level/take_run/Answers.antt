@@ -1,5 +1,4 @@
 use Rattle.std.proofs.Common.{◌≡◌, ◌<◌, ◌+◌, [], ◌∷◌, ◌++◌, length, arith, ap, sym, refl, ◌∙◌, length-append}
-use Rattle.std.specs.List.{remove}
 use Rattle.sd_blocks.specs.Runs.{run_at, without_run}
 use Rattle.sd_blocks.proofs.RunSteps.{removed_step, taken_step, without_none, length_without}
 use Rattle.sd_blocks.proofs.level.Level.take_run.Goals as goal
