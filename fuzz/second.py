@@ -204,6 +204,12 @@ class Tree:
         below = [path for path in sorted(self.nodes) if path[: len(top)] == top]
         return ["%s %s %s" % (kinds[self.nodes[path].is_container], path_word(path, percent), self.shown(path)) for path in below]
 
+    def found(self, top, percent, token, asked):
+        """The paths that `find` prints, of the nodes at and below the path."""
+        below = [path for path in sorted(self.nodes) if path[: len(top)] == top]
+        granted = [path for path in below if verdict(self.nodes[path].owner, self.dacl(path), token, asked).startswith("granted")]
+        return [path_word(path, percent) for path in granted]
+
     def dumped(self, readers, percent):
         """The lines of `dump`."""
         edits = {True: "addc", False: "addo"}
@@ -322,6 +328,46 @@ def reason(owner, dacl, token, named, bit):
         if bit == WRITE_OWNER and token.take:
             return True, "by SeTakeOwnershipPrivilege"
     return found
+
+
+def alternatives(owner, dacl, base, bit):
+    """Whom the bit is granted to, of the tokens with the base: texts, and at the end nothing more that counts."""
+    if dacl is None:
+        return ["everyone"]
+    enabled = {sid for sid, state in base if state == ""}
+    present = {sid for sid, state in base if state != "=off"}
+    away, holders, found = [], set(), []
+
+    def add(sid, text):
+        holders.add(sid)
+        found.append("everyone" if sid in enabled else text)
+        found[-1] += " unless " + " ".join(map(full_text, away)) if away else ""
+        return sid in enabled
+
+    limited = any(e.sid == OWNER_RIGHTS and not e.flags & IO for e in dacl)
+    if bit in (READ_CONTROL, WRITE_DAC) and not limited and add(owner, full_text(owner) + " as the owner"):
+        return found
+    for e in dacl:
+        sid = owner if e.sid == OWNER_RIGHTS else e.sid
+        if e.flags & IO or not mapped(e.mask) >> bit & 1 or sid in away:
+            continue
+        if e.kind == "D" and sid in present:
+            break
+        if e.kind == "D":
+            away.append(sid)
+        elif sid not in holders and add(sid, full_text(sid)):
+            break
+    return found
+
+
+def who_lines(owner, dacl, base, asked):
+    """What `who` prints: rights, and whom they are granted to, in the order of the lowest right of each line."""
+    rights = OBJECT_RIGHTS if asked & MAXIMUM_ALLOWED else mapped(asked) & OBJECT_RIGHTS
+    lines = {}
+    for bit in (bit for bit in range(RIGHTS) if rights >> bit & 1):
+        for text in alternatives(owner, dacl, base, bit) or ["nobody"]:
+            lines[text] = lines.get(text, 0) | 1 << bit
+    return ["%s to %s" % (hex(mask), text) for text, mask in lines.items()] or ["empty"]
 
 
 def why_lines(owner, dacl, token, asked):

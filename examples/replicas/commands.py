@@ -11,7 +11,7 @@ from urllib.parse import quote_from_bytes
 
 sys.path.append(str(Path(__file__).resolve().parent.parent / "serve"))
 
-from ask import Server, line_of  # noqa: E402 (it is in the other example)
+from ask import SEVERAL, Server, line_of  # noqa: E402 (it is in the other example)
 
 __all__ = ["COMMANDS", "Server", "Unknown", "has_changed", "is_logged", "line_of", "line_of_words", "server"]
 
@@ -47,9 +47,11 @@ COMMANDS = {
     "learn": Command(None),
     "check": Command(None, (2,)),
     "why": Command(None, (2,)),
+    "find": Command(None, (2,)),
     "show": Command(None, (2,)),
     "list": Command(None, (1,)),
     "dump": Command(None),
+    "who": Command(None, (1,)),
 }
 #: Answers after which the store is as it was.
 UNCHANGED = re.compile("(refused|fault) .*")

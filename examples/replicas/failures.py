@@ -10,7 +10,7 @@ import time
 from contextlib import suppress
 
 from caller import Caller
-from commands import COMMANDS
+from commands import COMMANDS, SEVERAL
 from log import chained
 from messages import Answer, Differs, Fault, Mark, NotReady, Question, Reply, Stale, to_line
 from rig import HERE, UNHURRIED, Redis, Replicas, eventually, writer
@@ -96,7 +96,7 @@ class Failures:
         if source.exists():
             names = set(re.findall(r'"([a-z]+)" => Some\(CommandName::', source.read_text()))
             self.equal("the commands of a script", names, set(COMMANDS))
-        asked = {words[0] for words, *_ in WORDS} | {"why", "list", "dump"}
+        asked = {words[0] for words, *_ in WORDS} | set(SEVERAL)
         self.equal("commands without a test", set(COMMANDS) - asked, set())
         with writer(self.program, self.url, "--stream", "every", errors=subprocess.DEVNULL) as first:
             for words, answer, is_logged in WORDS:
@@ -107,6 +107,10 @@ class Failures:
             place = self.redis.xlen("every")
             why = first.ask_for_lines("why", "0", "/Program Files", USER, "FR", "BU")
             self.holds("why", why[0].endswith(GRANTED), why)
+            found = first.ask_for_lines("find", "0", "/Program Files", USER, "FR", "BU")
+            self.holds("find", found[1:2] == ["/Program%20Files"], found)
+            who = first.ask_for_lines("who", "/Program Files", "FR", "BU")
+            self.holds("who", who[0].endswith(" to everyone"), who)
             lists = first.ask_for_lines("list"), first.ask_for_lines("dump")
             self.equal("reads in the log", self.redis.xlen("every"), place)
         with writer(self.program, self.url, "--stream", "every", errors=subprocess.DEVNULL) as second:

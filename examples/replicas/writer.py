@@ -5,7 +5,7 @@
 
 The words are those of a script's line, as `["open", "1", "O:BAG:SYD:"]`, `["addo", "/a b", "O:BAG:SYD:(A;;FR;;;BU)"]`
 or `["publish"]`, with paths as they are; the answer is that of `sdstore --percent serve`. What was accepted is in the
-log before its answer comes. To `why`, `list` and `dump` the answer has several lines, the last of them empty.
+log before its answer comes. An answer of several lines ends with an empty one.
 `["mark"]` is answered by the mark of what is published: a caller that carries it to a replica reads what this writer
 wrote.
 """
@@ -14,7 +14,7 @@ import json
 import sys
 
 from command_line import parser_of
-from commands import Server, Unknown, has_changed, line_of_words, server
+from commands import SEVERAL, Server, Unknown, has_changed, line_of_words, server
 from log import Log, LogError, mark_at
 from messages import Mark
 
@@ -69,7 +69,7 @@ def main() -> None:
                 try:
                     words = words_in(text)
                     answer = writer.mark() if words == ["mark"] else writer.carry_out(*words)
-                    if words[0] in ("why", "list", "dump"):
+                    if words[0] in SEVERAL:
                         answer += "\n"
                 except (ValueError, RecursionError) as error:
                     answer = f"not asked: {error}"

@@ -13,6 +13,9 @@ import subprocess
 import sys
 import time
 
+#: The commands whose answers have several lines, and an empty one after them.
+SEVERAL = ("why", "find", "list", "dump", "who")
+
 
 def line_of(*words: str) -> str:
     """The line of these words, which may be untrusted. ValueError: one of them isn't exactly one word of a line."""
@@ -44,8 +47,8 @@ class Server:
         self.close()
 
     def ask(self, line: str) -> str:
-        """The answer to one line: one line, or to `why`, `list` and `dump` several. ValueError: it isn't one line that
-        is answered. EOFError: the server has ended."""
+        """The answer to one line, without an empty line after it. ValueError: it isn't one line that is answered.
+        EOFError: the server has ended."""
         if not line or line[0] == "#" or "\n" in line or line[-1] == "\r":
             raise ValueError("not one line that is answered: %r" % line)
         tag = b"%d " % next(self._ids)
@@ -58,7 +61,7 @@ class Server:
         except BrokenPipeError:
             raise EOFError("the server has ended") from None
         lines = [self._line(tag)]
-        if line.split(" ", 1)[0] in ("why", "list", "dump"):
+        if line.split(" ", 1)[0] in SEVERAL:
             lines += iter(lambda: self._line(tag), "")
         return "\n".join(lines)
 

@@ -1,8 +1,8 @@
 # shellcheck shell=bash
 # Asks `sdstore serve --ids` from Bash: source this, then `serve_with PROGRAM [OPTION ..]`, and `ask LINE` for each line
-# of a script. `answer` is set to the answer: one line, or to `why`, `list` and `dump` several. `ask` fails with status
-# 2 if the line has no answer, and with 1 if the program has ended, or gave the answer to another line, which ends it.
-# `end_serving` ends it.
+# of a script. `answer` is set to the answer, without an empty line after it. `ask` fails with status 2 if the line has
+# no answer, and with 1 if the program has ended, or gave the answer to another line, which ends it. `end_serving` ends
+# it.
 
 # serve_with PROGRAM [OPTION ..]: starts it, with these options before `serve`.
 serve_with() {
@@ -23,7 +23,7 @@ ask() {
     printf '%s\n' "$serving_id $1" >&"${SERVING[1]}" && next_line || return
     answer=$line
     case ${1%% *} in
-    why | list | dump)
+    why | find | list | dump | who)
         while true; do
             next_line || return
             [[ -n $line ]] || break

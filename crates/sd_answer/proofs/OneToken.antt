@@ -1,5 +1,5 @@
 -- A user and texts make one token, or one of the texts is no word.
-use Rattle.std.proofs.Common.{◌≡◌, ℕ, false, List, [], ◌∷◌, ◌++◌, length, drop, inl, inr, refl, sym, ◌∙◌, ap, subst, arith, ⊎_elim, append_assoc, eqb}
+use Rattle.std.proofs.Common.{◌≡◌, ℕ, zero, suc, false, List, [], ◌∷◌, ◌++◌, length, drop, inl, inr, refl, sym, ◌∙◌, ap, subst, arith, ⊎_elim, append_assoc, eqb}
 use Rattle.std.specs.Prelude.{Option, Some, None, IfSome, IfNone, if◌then◌else◌, codes}
 use Rattle.std.proofs.lemmas.Bool.{eqb-false}
 use Rattle.std.proofs.lemmas.List.{append_cancel_right, length-append}
@@ -11,7 +11,7 @@ use Rattle.sd_text.specs.Sid.{sid_text, sid as sid_grammar, domain_alias, no_ali
 use Rattle.sd_text.proofs.Engine.{one_value}
 use Rattle.sd_check.specs.Token.{TokenValue}
 use Rattle.sd_check.specs.declared.token.GroupState.TheVariants.{Enabled, DenyOnly, Disabled}
-use Rattle.sd_answer.specs.Word.{AreWords, IsGroup, IsGroupWord, IsNoWordIn, IsToken, IsWord, is_group, token_of}
+use Rattle.sd_answer.specs.Word.{AreGroups, AreWords, IsFirstNoGroup, IsGroup, IsGroupWord, IsNoWordIn, IsToken, IsWord, is_group, token_of}
 use Rattle.sd_check.specs.declared.token.GroupState.{GroupState}
 use Rattle.sd_answer.specs.declared.word.Word.{Word}
 use Rattle.sd_answer.specs.declared.word.Word.TheVariants.{Group, Restricting, Security, TakeOwnership}
@@ -105,6 +105,25 @@ token_one user texts one other x y = x.2 ∙ ap (token_of user) (words_one texts
 
 pub token_or_none : (user : SidValue) (texts : List (List ℕ)) (token : TokenValue) → IsToken user texts token → IsNoWordIn texts → ⊥
 token_or_none user texts token x none = words_or_none texts x.0 x.1 none
+
+-- texts are one list of groups, or one of them is none
+pub groups_one : (texts : List (List ℕ)) (xs ys : List (SidValue × GroupState)) → AreGroups texts xs → AreGroups texts ys → xs ≡ ys
+groups_one [] [] [] x y = refl
+groups_one [] [] (w ∷ ws) x y = absurd y
+groups_one [] (v ∷ vs) ys x y = absurd x
+groups_one (text ∷ texts) [] ys x y = absurd x
+groups_one (text ∷ texts) (v ∷ vs) [] x y = absurd y
+groups_one (text ∷ texts) ((s, st) ∷ vs) ((t, su) ∷ ws) x y =
+    let same = word_one text (Group s st) (Group t su) x.0 y.0 in
+    let sids : s ≡ t = cc (same) in
+    let states : st ≡ su = cc (same) in
+    ap (λ (z : SidValue). (z, st) ∷ vs) sids ∙ ap (λ (z : GroupState). (t, z) ∷ vs) states ∙ ap (λ zs. (t, su) ∷ zs) (groups_one texts vs ws x.1 y.1)
+
+pub groups_or_none : (texts : List (List ℕ)) (groups : List (SidValue × GroupState)) (place : ℕ) → AreGroups texts groups → IsFirstNoGroup texts place → ⊥
+groups_or_none [] groups place are none = none
+groups_or_none (text ∷ texts) [] place are none = are
+groups_or_none (text ∷ texts) (group ∷ groups) zero are none = none group.0 group.1 are.0
+groups_or_none (text ∷ texts) (group ∷ groups) (suc place) are none = groups_or_none texts groups place are.1 none.1
 
 -- a word that a text is, if it is a group; where it isn't, the text is none
 pub group_if : (r : Option Word) (text : List ℕ) (word : Word) → IsWord text word → r ≡ (if is_group word then Some word else None)

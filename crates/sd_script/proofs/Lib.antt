@@ -2,6 +2,8 @@ pub mod Askings
 pub mod Beginnings
 pub mod Cutting
 pub mod Dumping
+pub mod Found
+pub mod Granted
 pub mod NoId
 pub mod OneOutput
 pub mod OneReading

@@ -8,12 +8,12 @@ use Rattle.std.proofs.lemmas.List.Splits.{slice_split_first, slice_split_none}
 use Rattle.std.proofs.lemmas.List.Sums.{fails_before_first}
 use Rattle.std.proofs.lemmas.Slice.Eq.{bytes_eq-Decides}
 use Rattle.sd_script.specs.Command.{CommandValue, command_named, command_of, is_empty, line_asks}
-use Rattle.sd_script.specs.Lines.{is_silent, words_of}
+use Rattle.sd_script.specs.Lines.{is_silent, word_len, words_of}
 use Rattle.sd_script.specs.Output.{IsAnswered, IsTold, closing_of, is_open, manner_of}
 use Rattle.sd_script.specs.declared.asked.Asked.{Asked}
 use Rattle.sd_script.specs.declared.paths.PathSpelling.{PathSpelling}
 use Rattle.sd_script.specs.declared.session.Session.{Session}
-use Rattle.sd_script.specs.Ids.{NoCommandWithoutAnId, asked_of, is_id, word_len}
+use Rattle.sd_script.specs.Ids.{NoCommandWithoutAnId, asked_of, is_id}
 
 -- a word that is this name, or another one
 one_of : {A : Type 0} → (word name : List ℕ) (found : A) (others : Option A)
@@ -41,11 +41,13 @@ name_is_id word =
     (one_of word (codes "learn") _ _ refl
     (one_of word (codes "check") _ _ refl
     (one_of word (codes "why") _ _ refl
+    (one_of word (codes "find") _ _ refl
     (one_of word (codes "show") _ _ refl
     (one_of word (codes "list") _ _ refl
     (one_of word (codes "dump") _ _ refl
+    (one_of word (codes "who") _ _ refl
     (one_of word (codes "import") _ _ refl
-    (λ none. cc))))))))))))))))))
+    (λ none. cc))))))))))))))))))))
 
 -- the first of a line's words
 first_word : (line : List ℕ) → (words : List (List ℕ)) × (words_of line ≡ take (word_len line) line ∷ words)

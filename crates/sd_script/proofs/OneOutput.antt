@@ -1,14 +1,16 @@
 -- A text has one output: a line is read as one thing, and a request has one reply that has a line.
 use Rattle.std.proofs.Common.{◌≡◌, ℕ, ◌<◌, ◌≤◌, Bool, true, false, List, [], ◌∷◌, ◌++◌, length, Option, Some, None, Ok, Err, inl, inr, refl, sym, ◌∙◌, ap, subst, arith, take}
 use Rattle.std.specs.Prelude.{MatchBool, codes, if◌then◌else◌, nat_lt, nat_le, option_map}
+use Rattle.std.specs.List.{All}
 use Rattle.std.specs.Str.Lines.{lines}
 use Rattle.std.proofs.lemmas.Bool.{lt-ltb, le-ltb, le-leb, lt-leb}
+use Rattle.std.proofs.lemmas.List.Elements.{All-head, All-tail}
 use Rattle.sd_sid.specs.Mapping.{MappingValue}
 use Rattle.sd_acl.specs.declared.ace.Ace.{Ace}
 use Rattle.sd_acl.specs.Descriptor.{DescriptorValue, descriptor_of}
 use Rattle.sd_acl.specs.declared.descriptor.Descriptor.{Descriptor}
 use Rattle.sd_text.specs.Canon.{canon}
-use Rattle.sd_tree.specs.Answers.{answer, descriptor_at}
+use Rattle.sd_tree.specs.Answers.{answer, descriptor_at, kind_at}
 use Rattle.sd_tree.specs.Journal.{replay}
 use Rattle.sd_tree.specs.Names.{Names}
 use Rattle.sd_tree.specs.declared.edit.Edit.{Edit}
@@ -25,20 +27,25 @@ use Rattle.sd_share.specs.declared.start.StartError.TheVariants as starts
 use Rattle.sd_answer.specs.Answer.{line}
 use Rattle.sd_script.specs.Dump.{IsDump}
 use Rattle.sd_script.specs.Fault.{line_of_fault}
-use Rattle.sd_script.specs.Laws.{HasOneOutput}
+use Rattle.sd_script.specs.Find.{found_in, found_reply}
+use Rattle.sd_script.specs.Laws.{AsksNoAnalysis, HasOneAnswer, HasOneOutput, is_analysis}
 use Rattle.sd_script.specs.Lines.{is_silent}
 use Rattle.sd_script.specs.Importing.{IsImported}
 use Rattle.sd_lines.specs.Answers.{AreAnswered}
-use Rattle.sd_script.specs.Output.{is_open, manner_of, IsOpened, IsDone, IsTold, IsAnswered, IsNext, begun, closing_of}
+use Rattle.sd_script.specs.Output.{is_open, manner_of, IsOpened, IsDone, IsTold, IsNext, begun, closing_of}
 use Rattle.sd_script.specs.Reply.{check_line, counted_line, refused_line, reply_line, seen_line, shown_line, start_error_line}
 use Rattle.sd_script.specs.declared.asked.Asked.{Asked}
-use Rattle.sd_script.specs.declared.asked.Asked.TheVariants.{Opening, Asking, Explaining, Listing, Dumping, Importing}
+use Rattle.sd_script.specs.declared.asked.Asked.TheVariants.{Opening, Asking, Explaining, Finding, Viewing, Importing}
 use Rattle.sd_script.specs.declared.carried.Carried.{Carried}
 use Rattle.sd_script.specs.declared.manner.Manner.{Manner}
 use Rattle.sd_script.specs.declared.paths.PathSpelling.{PathSpelling}
 use Rattle.sd_script.specs.declared.session.Session.{Session}
 use Rattle.sd_script.specs.declared.session.Session.TheVariants.{Closed, Opened}
 use Rattle.sd_script.specs.Tally.{tallied}
+use Rattle.sd_script.specs.View.{IsViewed}
+use Rattle.sd_script.specs.declared.listing.Which.TheVariants.{Granting}
+use Rattle.sd_script.specs.declared.view.View.{View}
+use Rattle.sd_script.specs.declared.view.View.TheVariants.{List as Lists, Dump, Who}
 use Rattle.sd_script.specs.Reply.{explained_reply, node_why_text}
 use Rattle.sd_answer.specs.Why.{why_text}
 use Rattle.sd_answer.specs.declared.answer.Spelling.TheVariants.{Number}
@@ -139,6 +146,25 @@ one_explained old reader names t asked (replies.Shown seen d) new printed is tex
 one_explained old reader names t asked replies.Memory new printed is text = absurd (cc (text))
 one_explained old reader names t asked reply new printed is text = absurd is
 
+-- the nodes that are found, and the machine then
+abbrev found : PathSpelling → Machine → ℕ → Names → TokenValue → ℕ → List ℕ × Machine
+found paths m reader names t asked = for_reader m reader (
+  found_in paths m.opening.mapping (replay m.opening m.published) names (Granting t asked) (length m.published)
+      (kind_at (replay m.opening m.published) names),
+  with_look m reader,
+)
+
+one_found : (paths : PathSpelling) (old : Machine) (reader : ℕ) (names : Names) (t : TokenValue) (asked : ℕ) (reply : Reply) (new : Machine) (printed : List ℕ)
+    → Steps old (requests.Show reader names) reply new → found_reply paths new names (Granting t asked) reply ≡ Some printed
+    → pair printed new ≡ found paths old reader names t asked
+one_found paths old reader names t asked replies.NoReader new printed is text =
+    printed_is _ printed _ new text is.1 ∙ sym (absent old reader _ is.0)
+one_found paths old reader names t asked (replies.Shown seen d) new printed is text =
+    printed_is _ printed _ new (ap (λ n. found_reply paths (with_look old reader) names (Granting t asked) (replies.Shown n d)) (sym is.1)
+    ∙ ap (λ n. found_reply paths n names (Granting t asked) (replies.Shown seen d)) (sym is.3) ∙ text) is.3 ∙ sym (there old reader _ is.0)
+one_found paths old reader names t asked replies.Memory new printed is text = absurd (cc (text))
+one_found paths old reader names t asked reply new printed is text = absurd is
+
 -- ---- openings
 
 errors-one : (e f : StartError) (readers : ℕ) (due : Option EditRefusal) (p q : List ℕ) → IsStartError e readers due → IsStartError f readers due
@@ -208,67 +234,83 @@ step-one m e replies.Edited s x y p q path inherited one other first second = ab
 step-one m e (replies.Refused refusal) s x y p q path inherited one other first second = absurd other
 step-one m e r s x y p q path inherited one other first second = absurd one
 
+-- ---- views
+
+viewed-one : (paths : PathSpelling) (m : Machine) (view : View) (p q : List ℕ) → is_analysis (Viewing view) ≡ false
+    → IsViewed paths m view p → IsViewed paths m view q → p ≡ q
+viewed-one paths m (Lists path) p q plain one other = one ∙ sym other
+viewed-one paths m Dump p q plain one other = dump-one paths m p q one other
+viewed-one paths m (Who path groups asked) p q plain one other = absurd (cc (plain))
+
 -- ---- the whole output
 
-done-one : (old : Session) (asked : Asked) (p q : List ℕ) (x y : Session) → IsDone old asked p x → IsDone old asked q y → (p ≡ q) × (x ≡ y)
-done-one old (Opening readers root) p q x y one other = opened-one (manner_of old) readers root p q x y one other
+-- what is done leaves one store, and unless it is an analysis is told in one way
+done-one : (old : Session) (asked : Asked) (p q : List ℕ) (x y : Session) → IsDone old asked p x → IsDone old asked q y
+    → (is_analysis asked ≡ false → p ≡ q) × (x ≡ y)
+done-one old (Opening readers root) p q x y one other =
+    let same = opened-one (manner_of old) readers root p q x y one other in (λ plain. same.0, same.1)
 done-one (Opened paths m) (Asking r) p q x y one other =
     let same = one_step m r one.0 one.1 p one.2 one.3 ∙ sym (one_step m r other.0 other.1 q other.2 other.3) in
-    (ap (λ (z : List ℕ × Machine). z.0) same, one.4 ∙ ap (λ (z : List ℕ × Machine). Opened paths z.1) same ∙ sym other.4)
+    (λ plain. ap (λ (z : List ℕ × Machine). z.0) same, one.4 ∙ ap (λ (z : List ℕ × Machine). Opened paths z.1) same ∙ sym other.4)
 done-one (Closed manner) (Asking r) p q x y one other = absurd one
 done-one (Opened paths m) (Explaining reader names t asked) p q x y one other =
     let same = one_explained m reader names t asked one.0 one.1 p one.2 one.3 ∙ sym (one_explained m reader names t asked other.0 other.1 q other.2 other.3) in
-    (ap (λ (z : List ℕ × Machine). z.0) same, one.4 ∙ ap (λ (z : List ℕ × Machine). Opened paths z.1) same ∙ sym other.4)
+    (λ plain. ap (λ (z : List ℕ × Machine). z.0) same, one.4 ∙ ap (λ (z : List ℕ × Machine). Opened paths z.1) same ∙ sym other.4)
 done-one (Closed manner) (Explaining reader names t asked) p q x y one other = absurd one
-done-one (Opened paths m) (Listing path) p q x y one other = (one.0 ∙ sym other.0, one.1 ∙ sym other.1)
-done-one (Closed manner) (Listing path) p q x y one other = absurd one
-done-one (Opened paths m) Dumping p q x y one other = (dump-one paths m p q one.0 other.0, one.1 ∙ sym other.1)
-done-one (Closed manner) Dumping p q x y one other = absurd one
+done-one (Opened paths m) (Finding reader names t asked) p q x y one other =
+    let same = one_found paths m reader names t asked one.0 one.1 p one.2 one.3 ∙ sym (one_found paths m reader names t asked other.0 other.1 q other.2 other.3) in
+    (λ plain. ap (λ (z : List ℕ × Machine). z.0) same, one.4 ∙ ap (λ (z : List ℕ × Machine). Opened paths z.1) same ∙ sym other.4)
+done-one (Closed manner) (Finding reader names t asked) p q x y one other = absurd one
+done-one (Opened paths m) (Viewing view) p q x y one other = (λ plain. viewed-one paths m view p q plain one.0 other.0, one.1 ∙ sym other.1)
+done-one (Closed manner) (Viewing view) p q x y one other = absurd one
 done-one (Opened paths m) (Importing e path inherited) p q x y one other =
     let stepped = step-one m e one.0 other.0 one.1 other.1 p q path inherited one.2 other.2 one.3 other.3 in
-    (stepped.0, one.4 ∙ ap (Opened paths) stepped.1 ∙ sym other.4)
+    (λ plain. stepped.0, one.4 ∙ ap (Opened paths) stepped.1 ∙ sym other.4)
 done-one (Closed manner) (Importing e path inherited) p q x y one other = absurd one
 
-told-one : (old : Session) (text p q : List ℕ) (x y : Session) → IsTold old text p x → IsTold old text q y → (p ≡ q) × (x ≡ y)
+told-one : (old : Session) (text p q : List ℕ) (x y : Session) → IsTold old text p x → IsTold old text q y
+    → (AsksNoAnalysis text → p ≡ q) × (x ≡ y)
 told-one old text p q x y (inl one) (inl other) =
     let same = line-one (manner_of old).paths (is_open old) text (Ok one.0) (Ok other.0) one.1 other.1 in
     let asked : one.0 ≡ other.0 = cc (same) in
-    done-one old other.0 p q x y (subst (λ a. IsDone old a p x) asked one.2) other.2
+    let done = done-one old other.0 p q x y (subst (λ a. IsDone old a p x) asked one.2) other.2 in
+    (λ plain. done.0 (plain (manner_of old).paths (is_open old) other.0 other.1), done.1)
 told-one old text p q x y (inl one) (inr other) = absurd (let no = line-one (manner_of old).paths (is_open old) text (Ok one.0) (Err other.0) one.1 other.1 in cc (no))
 told-one old text p q x y (inr one) (inl other) = absurd (let no = line-one (manner_of old).paths (is_open old) text (Err one.0) (Ok other.0) one.1 other.1 in cc (no))
 told-one old text p q x y (inr one) (inr other) =
     let same = line-one (manner_of old).paths (is_open old) text (Err one.0) (Err other.0) one.1 other.1 in
     let fault : one.0 ≡ other.0 = cc (same) in
-    (one.2 ∙ ap line_of_fault fault ∙ sym other.2, one.3 ∙ sym other.3)
+    (λ plain. one.2 ∙ ap line_of_fault fault ∙ sym other.2, one.3 ∙ sym other.3)
 
 by_silence : (silent : Bool) (old : Session) (text p q : List ℕ) (x y : Session)
     → MatchBool silent ((p ≡ []) × (x ≡ old)) ((told : List ℕ) × IsTold old text told x × (p ≡ told ++ closing_of text))
-    → MatchBool silent ((q ≡ []) × (y ≡ old)) ((told : List ℕ) × IsTold old text told y × (q ≡ told ++ closing_of text)) → (p ≡ q) × (x ≡ y)
-by_silence true old text p q x y one other = (one.0 ∙ sym other.0, one.1 ∙ sym other.1)
+    → MatchBool silent ((q ≡ []) × (y ≡ old)) ((told : List ℕ) × IsTold old text told y × (q ≡ told ++ closing_of text))
+    → (AsksNoAnalysis text → p ≡ q) × (x ≡ y)
+by_silence true old text p q x y one other = (λ plain. one.0 ∙ sym other.0, one.1 ∙ sym other.1)
 by_silence false old text p q x y one other =
     let same = told-one old text one.0 other.0 x y one.1 other.1 in
-    (one.2 ∙ ap (λ told. told ++ closing_of text) same.0 ∙ sym other.2, same.1)
+    (λ plain. one.2 ∙ ap (λ told. told ++ closing_of text) (same.0 plain) ∙ sym other.2, same.1)
 
-pub answered-one : (old : Session) (text p q : List ℕ) (x y : Session) → IsAnswered old text p x → IsAnswered old text q y → (p ≡ q) × (x ≡ y)
-answered-one old text p q x y one other = by_silence (is_silent text) old text p q x y one other
+pub has_one_answer : HasOneAnswer
+has_one_answer old line one other new next x y = by_silence (is_silent line) old line one other new next x y
 
 -- and counted
 both_same : (x y : Carried) → x.session ≡ y.session → x.tally ≡ y.tally → x ≡ y
 both_same x y session tally =
     subst (λ u. x ≡ record { session = y.session; tally = u }) tally (subst (λ u. x ≡ record { session = u; tally = x.tally }) session refl)
 
-next-one : (old : Carried) (text p q : List ℕ) (x y : Carried) → IsNext old text p x → IsNext old text q y → (p ≡ q) × (x ≡ y)
-next-one old text p q x y one other =
-    let same = answered-one old.session text p q x.session y.session one.answered other.answered in
-    (same.0, both_same x y same.1 (one.counted ∙ ap (λ answer. tallied text answer old.tally) same.0 ∙ sym other.counted))
+next-one : (old : Carried) (text p q : List ℕ) (x y : Carried) → AsksNoAnalysis text → IsNext old text p x → IsNext old text q y → (p ≡ q) × (x ≡ y)
+next-one old text p q x y plain one other =
+    let same = has_one_answer old.session text p q x.session y.session one.answered other.answered in
+    (same.0 plain, both_same x y same.1 (one.counted ∙ ap (λ answer. tallied text answer old.tally) (same.0 plain) ∙ sym other.counted))
 
-all-one : (old : Carried) (texts : List (List ℕ)) (p q : List ℕ) (x y : Carried) → AreAnswered IsNext old texts p x → AreAnswered IsNext old texts q y → p ≡ q
-all-one old [] p q x y one other = one.0 ∙ sym other.0
-all-one old (text ∷ texts) p q x y one other =
-    let first = next-one old text one.0 other.0 one.1 other.1 one.3 other.3 in
-    let rest = all-one other.1 texts one.2 other.2 x y (subst (λ between. AreAnswered IsNext between texts one.2 x) first.1 one.4) other.4 in
+all-one : (old : Carried) (texts : List (List ℕ)) (p q : List ℕ) (x y : Carried) → All AsksNoAnalysis texts → AreAnswered IsNext old texts p x → AreAnswered IsNext old texts q y → p ≡ q
+all-one old [] p q x y plain one other = one.0 ∙ sym other.0
+all-one old (text ∷ texts) p q x y plain one other =
+    let first = next-one old text one.0 other.0 one.1 other.1 (All-head AsksNoAnalysis text texts plain) one.3 other.3 in
+    let rest = all-one other.1 texts one.2 other.2 x y (All-tail AsksNoAnalysis text texts plain) (subst (λ between. AreAnswered IsNext between texts one.2 x) first.1 one.4) other.4 in
     one.5 ∙ ap (λ xs. xs ++ one.2) first.0 ∙ ap (λ xs. other.0 ++ xs) rest ∙ sym other.5
 
 pub has_one_output : HasOneOutput
-has_one_output manner text one other prints other_prints =
-    all-one (begun manner) (lines text) one other prints.1.0 other_prints.1.0 prints.1.1 other_prints.1.1
+has_one_output manner text one other plain prints other_prints =
+    all-one (begun manner) (lines text) one other prints.1.0 other_prints.1.0 plain prints.1.1 other_prints.1.1

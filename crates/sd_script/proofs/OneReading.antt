@@ -1,24 +1,26 @@
 -- A line is read as one thing, or has one fault.
-use Rattle.std.proofs.Common.{◌≡◌, ℕ, Bool, true, false, List, [], ◌∷◌, ◌++◌, length, drop, Option, Some, None, Result, Ok, Err, inl, inr, refl, sym, ◌∙◌, ap, subst, arith, ⊎_elim, append_assoc, eqb}
-use Rattle.std.specs.Prelude.{MatchBool, codes}
+use Rattle.std.proofs.Common.{◌≡◌, ℕ, Bool, true, false, List, Option, Some, None, Result, Ok, Err, inl, inr, sym, ◌∙◌, ap, subst}
+use Rattle.std.specs.Prelude.{MatchBool}
 use Rattle.sd_sid.specs.Sid.{SidValue}
 use Rattle.sd_text.specs.Grammar.{Spells}
 use Rattle.sd_text.specs.Rights.{mask_text}
 use Rattle.sd_text.specs.Sddl.{sddl}
 use Rattle.sd_text.specs.Sid.{sid_text}
 use Rattle.sd_text.proofs.Engine.{one_value, no_fault, one_fault}
-use Rattle.sd_answer.proofs.OneToken.{token_one, token_or_none}
+use Rattle.sd_answer.proofs.OneToken.{groups_one, token_one, token_or_none}
+use Rattle.sd_answer.specs.Word.{AreGroups}
 use Rattle.sd_tree.specs.Names.{Names}
 use Rattle.sd_tree.specs.declared.edit.Edit.TheVariants as edits
 use Rattle.sd_share.specs.declared.request.Request.TheVariants as requests
 use Rattle.sd_script.specs.Addition.{addition, row_of}
-use Rattle.sd_script.specs.Argument.{IsNumber, number, path, sid, mask, token, descriptor, node, node_of, dacl, dacl_of, imported, import_of}
-use Rattle.sd_script.specs.Command.{CommandValue, Open, AddContainer, AddObject, SetOwner, SetGroup, SetDacl, Remove, Protect, Move, Publish, Tell, Learn, Check, Why, Show, ListNodes, Dump, ImportNode, asks, asks_where, command_of, edit, is_untimely, line_asks, posed, question, question_by, question_with, request}
+use Rattle.sd_script.specs.Argument.{IsNumber, number, path, sid, mask, token, base, descriptor, node, node_of, dacl, dacl_of, imported, import_of}
+use Rattle.sd_script.specs.Command.{CommandValue, Open, AddContainer, AddObject, SetOwner, SetGroup, SetDacl, Remove, Protect, Move, Publish, Tell, Learn, Check, Why, Find, Show, ListNodes, Dump, Who, ImportNode, asks, asks_where, command_of, edit, is_untimely, line_asks, posed, question, question_by, question_with, request, view}
 use Rattle.sd_script.specs.Fault.{Reading, SomeOr, Just, Then}
 use Rattle.sd_script.specs.Lines.{words_of}
 use Rattle.sd_script.specs.Paths.{IsPath}
 use Rattle.sd_script.specs.declared.asked.Asked.{Asked}
-use Rattle.sd_script.specs.declared.asked.Asked.TheVariants.{Opening, Asking, Explaining, Listing, Importing}
+use Rattle.sd_script.specs.declared.asked.Asked.TheVariants.{Opening, Asking, Explaining, Finding, Importing}
+use Rattle.sd_script.specs.declared.view.View.TheVariants as views
 use Rattle.sd_script.specs.declared.asked.Question.{Question}
 use Rattle.sd_script.specs.declared.fault.LineFault.{LineFault}
 use Rattle.sd_script.specs.declared.fault.LineFault.TheVariants as faults
@@ -76,6 +78,9 @@ token-one user words (Ok t) (Err f) x y = absurd (token_or_none user words t x y
 token-one user words (Err f) (Ok t) x y = absurd (token_or_none user words t y x.0)
 token-one user words (Err f) (Err g) x y = ap Err (x.1 ∙ sym y.1)
 
+base-one : (words : List (List ℕ)) → IsOne (base words)
+base-one words = SomeOr-one (AreGroups words) faults.Token (groups_one words)
+
 -- ---- lines
 
 descriptor-one : (word : List ℕ) → IsOne (descriptor word)
@@ -126,9 +131,14 @@ asks-one paths Tell = Just-one _
 asks-one paths (Learn reader len) = Then-one (number reader) (λ i. Then (number len) (λ n. request (requests.Learn i n))) (number-one reader) (λ i. Then-one (number len) (λ n. request (requests.Learn i n)) (number-one len) (λ n. Just-one _))
 asks-one paths (Check reader at user asked words) = posed-one (λ i p q. Asking (requests.Check i p q.token q.asked)) paths reader at (question user asked words) (question-one user asked words)
 asks-one paths (Why reader at user asked words) = posed-one (λ i p q. Explaining i p q.token q.asked) paths reader at (question user asked words) (question-one user asked words)
+asks-one paths (Find reader at user asked words) = posed-one (λ i p q. Finding i p q.token q.asked) paths reader at (question user asked words) (question-one user asked words)
 asks-one paths (Show reader at) = Then-one (number reader) (λ i. Then (path paths at) (λ p. request (requests.Show i p))) (number-one reader) (λ i. Then-one (path paths at) (λ p. request (requests.Show i p)) (path-one paths at) (λ p. Just-one _))
-asks-one paths (ListNodes at) = Then-one (path paths at) (λ p. Just (Listing p)) (path-one paths at) (λ p. Just-one _)
+asks-one paths (ListNodes at) = Then-one (path paths at) (λ p. view (views.List p)) (path-one paths at) (λ p. Just-one _)
 asks-one paths Dump = Just-one _
+asks-one paths (Who at asked words) =
+    Then-one (path paths at) (λ p. Then (mask asked) (λ m. Then (base words) (λ groups. view (views.Who p groups m)))) (path-one paths at) (λ p.
+    Then-one (mask asked) (λ m. Then (base words) (λ groups. view (views.Who p groups m))) (mask-one asked) (λ m.
+    Then-one (base words) (λ groups. view (views.Who p groups m)) (base-one words) (λ groups. Just-one _)))
 asks-one paths (ImportNode kind at text) = Then-one (path paths at) (λ p. Then (imported text) (λ m. Just (Importing (addition kind p (row_of kind m.node)) p m.inherited))) (path-one paths at) (λ p. Then-one (imported text) (λ m. Just (Importing (addition kind p (row_of kind m.node)) p m.inherited)) (imported-one text) (λ m. Just-one _))
 
 by_time : (paths : PathSpelling) (untimely : Bool) (command : CommandValue) (r s : Result Asked LineFault)

@@ -1,12 +1,12 @@
 -- What a line can ask for: an opening where no store is open, and something of a store where one is.
 use Rattle.std.proofs.Common.{◌≡◌, ⊎_elim, ℕ, List, Bool, true, false, not, Option, Some, None, Ok, Err, refl, sym, ap, subst, ◌∙◌}
 use Rattle.std.specs.Prelude.{MatchBool, if◌then◌else◌}
-use Rattle.sd_script.specs.Command.{CommandValue, Open, AddContainer, AddObject, SetOwner, SetGroup, SetDacl, Remove, Protect, Move, Publish, Tell, Learn, Check, Why, Show, ListNodes, Dump, ImportNode, asks, asks_where, is_untimely, line_asks, command_of}
+use Rattle.sd_script.specs.Command.{CommandValue, Open, AddContainer, AddObject, SetOwner, SetGroup, SetDacl, Remove, Protect, Move, Publish, Tell, Learn, Check, Why, Find, Show, ListNodes, Dump, Who, ImportNode, asks, asks_where, is_untimely, line_asks, command_of}
 use Rattle.sd_script.specs.Fault.{Just, Reading}
 use Rattle.sd_script.specs.Lines.{words_of}
 use Rattle.sd_script.specs.Output.{is_open, line_asks_in}
 use Rattle.sd_script.specs.declared.asked.Asked.{Asked}
-use Rattle.sd_script.specs.declared.asked.Asked.TheVariants.{Opening, Asking, Explaining, Listing, Dumping, Importing}
+use Rattle.sd_script.specs.declared.asked.Asked.TheVariants.{Opening, Asking, Explaining, Finding, Viewing, Importing}
 use Rattle.sd_script.specs.declared.fault.LineFault.TheVariants as faults
 use Rattle.sd_script.specs.declared.paths.PathSpelling.{PathSpelling}
 use Rattle.sd_script.specs.declared.session.Session.{Session}
@@ -23,8 +23,8 @@ abbrev pub opens : Asked → Bool
 opens (Opening readers root) = true
 opens (Asking r) = false
 opens (Explaining reader path token asked) = false
-opens (Listing path) = false
-opens Dumping = false
+opens (Finding reader path token asked) = false
+opens (Viewing view) = false
 opens (Importing edit path inherited) = false
 
 abbrev is_opening : CommandValue → Bool
@@ -42,9 +42,11 @@ is_opening Tell = false
 is_opening (Learn reader len) = false
 is_opening (Check reader path user mask words) = false
 is_opening (Why reader path user mask words) = false
+is_opening (Find reader path user mask words) = false
 is_opening (Show reader path) = false
 is_opening (ListNodes path) = false
 is_opening Dump = false
+is_opening (Who path mask words) = false
 is_opening (ImportNode kind path sddl) = false
 
 abbrev Opens : Bool → Asked → Type 0
@@ -68,9 +70,11 @@ words_open paths Tell a is = same_opens a _ is
 words_open paths (Learn reader len) a is = ⊎_elim (λ w. ⊎_elim (λ x. same_opens a _ x.2) (λ x. absurd (cc (x.2))) w.2) (λ w. absurd (cc (w.2))) is
 words_open paths (Check reader at user asked words) a is = ⊎_elim (λ w. ⊎_elim (λ x. ⊎_elim (λ y. same_opens a _ y.2) (λ y. absurd (cc (y.2))) x.2) (λ x. absurd (cc (x.2))) w.2) (λ w. absurd (cc (w.2))) is
 words_open paths (Why reader at user asked words) a is = ⊎_elim (λ w. ⊎_elim (λ x. ⊎_elim (λ y. same_opens a _ y.2) (λ y. absurd (cc (y.2))) x.2) (λ x. absurd (cc (x.2))) w.2) (λ w. absurd (cc (w.2))) is
+words_open paths (Find reader at user asked words) a is = ⊎_elim (λ w. ⊎_elim (λ x. ⊎_elim (λ y. same_opens a _ y.2) (λ y. absurd (cc (y.2))) x.2) (λ x. absurd (cc (x.2))) w.2) (λ w. absurd (cc (w.2))) is
 words_open paths (Show reader at) a is = ⊎_elim (λ w. ⊎_elim (λ x. same_opens a _ x.2) (λ x. absurd (cc (x.2))) w.2) (λ w. absurd (cc (w.2))) is
 words_open paths (ListNodes at) a is = ⊎_elim (λ w. same_opens a _ w.2) (λ w. absurd (cc (w.2))) is
 words_open paths Dump a is = same_opens a _ is
+words_open paths (Who at asked words) a is = ⊎_elim (λ w. ⊎_elim (λ x. ⊎_elim (λ y. same_opens a _ y.2) (λ y. absurd (cc (y.2))) x.2) (λ x. absurd (cc (x.2))) w.2) (λ w. absurd (cc (w.2))) is
 words_open paths (ImportNode kind at sddl) a is = ⊎_elim (λ w. ⊎_elim (λ x. same_opens a _ x.2) (λ x. absurd (cc (x.2))) w.2) (λ w. absurd (cc (w.2))) is
 
 untimely_is : (is_open : Bool) (command : CommandValue) → is_untimely is_open command ≡ (if is_opening command then is_open else not is_open)
@@ -88,9 +92,11 @@ untimely_is is_open Tell = refl
 untimely_is is_open (Learn reader len) = refl
 untimely_is is_open (Check reader path user mask words) = refl
 untimely_is is_open (Why reader path user mask words) = refl
+untimely_is is_open (Find reader path user mask words) = refl
 untimely_is is_open (Show reader path) = refl
 untimely_is is_open (ListNodes path) = refl
 untimely_is is_open Dump = refl
+untimely_is is_open (Who path mask words) = refl
 untimely_is is_open (ImportNode kind path sddl) = refl
 
 by_test : (paths : PathSpelling) (is_open is : Bool) (command : CommandValue) (b : Asked) → is_opening command ≡ is

@@ -19,7 +19,8 @@ use Rattle.sd_tree.specs.declared.node.NodeDacl.TheVariants.{Null, List as Entri
 use Rattle.sd_tree.specs.declared.opening.RootSpec.{RootSpec}
 use Rattle.sd_script.specs.Fault.{Reading, SomeOr, Then}
 use Rattle.sd_script.specs.Paths.{IsPath}
-use Rattle.sd_answer.specs.Word.{IsToken, IsNoWordIn}
+use Rattle.sd_check.specs.declared.token.GroupState.{GroupState}
+use Rattle.sd_answer.specs.Word.{AreGroups, IsNoWordIn, IsToken}
 use Rattle.sd_script.specs.declared.fault.LineFault.{LineFault}
 use Rattle.sd_script.specs.declared.fault.LineFault.TheVariants.{Number, Path, Sid, Sddl, Parts, Mask, Token}
 use Rattle.sd_script.specs.declared.importing.Import.{Import}
@@ -45,6 +46,10 @@ mask word = SomeOr (Spells mask_text word) Mask
 abbrev pub token : SidValue → List (List ℕ) → Reading TokenValue
 token user words (Ok t) = IsToken user words t
 token user words (Err told) = IsNoWordIn words × (told ≡ Token)
+
+-- the groups that words are
+abbrev pub base : List (List ℕ) → Reading (List (SidValue × GroupState))
+base words = SomeOr (AreGroups words) Token
 
 -- a descriptor, or the first fault of its text, at its place
 abbrev pub descriptor : List ℕ → Reading DescriptorValue

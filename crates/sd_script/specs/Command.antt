@@ -11,12 +11,12 @@ use Rattle.sd_tree.specs.declared.node.NodeKind.TheVariants.{Container, Object}
 use Rattle.sd_share.specs.declared.request.Request.{Request}
 use Rattle.sd_share.specs.declared.request.Request.TheVariants as requests
 use Rattle.sd_script.specs.Addition.{addition, row_of}
-use Rattle.sd_script.specs.Argument.{number, path, sid, mask, token, node, dacl, imported}
+use Rattle.sd_script.specs.Argument.{number, path, sid, mask, token, base, node, dacl, imported}
 use Rattle.sd_script.specs.Fault.{Reading, Just, Then}
 use Rattle.sd_script.specs.Lines.{words_of}
 use Rattle.sd_answer.specs.Word.{texts}
 use Rattle.sd_script.specs.declared.asked.Asked.{Asked}
-use Rattle.sd_script.specs.declared.asked.Asked.TheVariants.{Opening, Asking, Explaining, Listing, Dumping, Importing}
+use Rattle.sd_script.specs.declared.asked.Asked.TheVariants.{Opening, Asking, Explaining, Finding, Viewing, Importing}
 use Rattle.sd_script.specs.declared.asked.Question.{Question}
 use Rattle.sd_script.specs.declared.command.Command.{Command}
 use Rattle.sd_script.specs.declared.command.Command.TheVariants as lent
@@ -24,6 +24,8 @@ use Rattle.sd_script.specs.declared.command.CommandName.{CommandName}
 use Rattle.sd_script.specs.declared.command.CommandName.TheVariants as names
 use Rattle.sd_script.specs.declared.fault.LineFault.TheVariants as faults
 use Rattle.sd_script.specs.declared.paths.PathSpelling.{PathSpelling}
+use Rattle.sd_script.specs.declared.view.View.{View}
+use Rattle.sd_script.specs.declared.view.View.TheVariants as views
 
 -- ---- commands, with their words as they stand
 
@@ -42,10 +44,12 @@ pub data CommandValue : Type 0 where
   Learn : List ℕ → List ℕ → CommandValue
   Check : List ℕ → List ℕ → List ℕ → List ℕ → List (List ℕ) → CommandValue
   Why : List ℕ → List ℕ → List ℕ → List ℕ → List (List ℕ) → CommandValue
+  Find : List ℕ → List ℕ → List ℕ → List ℕ → List (List ℕ) → CommandValue
   Show : List ℕ → List ℕ → CommandValue
   ListNodes : List ℕ → CommandValue
   ImportNode : NodeKind → List ℕ → List ℕ → CommandValue
   Dump : CommandValue
+  Who : List ℕ → List ℕ → List (List ℕ) → CommandValue
 
 abbrev pub command_value : Command → CommandValue
 command_value (lent.Open readers sddl) = Open readers.now sddl.now
@@ -62,10 +66,12 @@ command_value lent.Tell = Tell
 command_value (lent.Learn reader length) = Learn reader.now length.now
 command_value (lent.Check reader path user mask words) = Check reader.now path.now user.now mask.now (texts words.now)
 command_value (lent.Why reader path user mask words) = Why reader.now path.now user.now mask.now (texts words.now)
+command_value (lent.Find reader path user mask words) = Find reader.now path.now user.now mask.now (texts words.now)
 command_value (lent.Show reader path) = Show reader.now path.now
 command_value (lent.ListNodes path) = ListNodes path.now
 command_value (lent.ImportNode kind path sddl) = ImportNode kind path.now sddl.now
 command_value lent.Dump = Dump
+command_value (lent.Who path mask words) = Who path.now mask.now (texts words.now)
 
 -- the command that the word names
 abbrev pub command_named : List ℕ → Option CommandName
@@ -84,9 +90,11 @@ command_named word =
     else if bytes_eq word (codes "learn") then Some names.Learn
     else if bytes_eq word (codes "check") then Some names.Check
     else if bytes_eq word (codes "why") then Some names.Why
+    else if bytes_eq word (codes "find") then Some names.Find
     else if bytes_eq word (codes "show") then Some names.Show
     else if bytes_eq word (codes "list") then Some names.ListNodes
     else if bytes_eq word (codes "dump") then Some names.Dump
+    else if bytes_eq word (codes "who") then Some names.Who
     else if bytes_eq word (codes "import") then Some names.ImportNode
     else None
 
@@ -98,27 +106,37 @@ kind_named word =
     else None
 
 -- the command with these arguments, where they are as many as it takes
+abbrev pub command_taking : CommandName → List (List ℕ) → Option CommandValue
+command_taking names.Open (readers ∷ sddl ∷ []) = Some (Open readers sddl)
+command_taking names.AddContainer (path ∷ sddl ∷ []) = Some (AddContainer path sddl)
+command_taking names.AddObject (path ∷ sddl ∷ []) = Some (AddObject path sddl)
+command_taking names.SetOwner (path ∷ sid ∷ []) = Some (SetOwner path sid)
+command_taking names.SetGroup (path ∷ sid ∷ []) = Some (SetGroup path sid)
+command_taking names.SetDacl (path ∷ sddl ∷ []) = Some (SetDacl path sddl)
+command_taking names.Remove (path ∷ []) = Some (Remove path)
+command_taking names.Protect (path ∷ []) = Some (Protect path)
+command_taking names.Move (source ∷ target ∷ []) = Some (Move source target)
+command_taking names.Publish [] = Some Publish
+command_taking names.Tell [] = Some Tell
+command_taking names.Learn (reader ∷ length ∷ []) = Some (Learn reader length)
+command_taking names.Check (reader ∷ path ∷ user ∷ mask ∷ words) = Some (Check reader path user mask words)
+command_taking names.Why (reader ∷ path ∷ user ∷ mask ∷ words) = Some (Why reader path user mask words)
+command_taking names.Find (reader ∷ path ∷ user ∷ mask ∷ words) = Some (Find reader path user mask words)
+command_taking names.Show (reader ∷ path ∷ []) = Some (Show reader path)
+command_taking names.ListNodes [] = Some (ListNodes (codes "/"))
+command_taking names.ListNodes (path ∷ []) = Some (ListNodes path)
+command_taking names.Dump [] = Some Dump
+command_taking names.ImportNode (kind ∷ path ∷ sddl ∷ []) = option_map (λ is. ImportNode is path sddl) (kind_named kind)
+command_taking name arguments = None
+
+-- the one on a path, a mask and groups
+abbrev pub command_with_base : List (List ℕ) → Option CommandValue
+command_with_base (path ∷ mask ∷ words) = Some (Who path mask words)
+command_with_base arguments = None
+
 abbrev pub command_on : CommandName → List (List ℕ) → Option CommandValue
-command_on names.Open (readers ∷ sddl ∷ []) = Some (Open readers sddl)
-command_on names.AddContainer (path ∷ sddl ∷ []) = Some (AddContainer path sddl)
-command_on names.AddObject (path ∷ sddl ∷ []) = Some (AddObject path sddl)
-command_on names.SetOwner (path ∷ sid ∷ []) = Some (SetOwner path sid)
-command_on names.SetGroup (path ∷ sid ∷ []) = Some (SetGroup path sid)
-command_on names.SetDacl (path ∷ sddl ∷ []) = Some (SetDacl path sddl)
-command_on names.Remove (path ∷ []) = Some (Remove path)
-command_on names.Protect (path ∷ []) = Some (Protect path)
-command_on names.Move (source ∷ target ∷ []) = Some (Move source target)
-command_on names.Publish [] = Some Publish
-command_on names.Tell [] = Some Tell
-command_on names.Learn (reader ∷ length ∷ []) = Some (Learn reader length)
-command_on names.Check (reader ∷ path ∷ user ∷ mask ∷ words) = Some (Check reader path user mask words)
-command_on names.Why (reader ∷ path ∷ user ∷ mask ∷ words) = Some (Why reader path user mask words)
-command_on names.Show (reader ∷ path ∷ []) = Some (Show reader path)
-command_on names.ListNodes [] = Some (ListNodes (codes "/"))
-command_on names.ListNodes (path ∷ []) = Some (ListNodes path)
-command_on names.Dump [] = Some Dump
-command_on names.ImportNode (kind ∷ path ∷ sddl ∷ []) = option_map (λ is. ImportNode is path sddl) (kind_named kind)
-command_on name arguments = None
+command_on names.Who arguments = command_with_base arguments
+command_on name arguments = command_taking name arguments
 
 abbrev pub is_empty : List ℕ → Bool
 is_empty word = length word == 0
@@ -142,6 +160,9 @@ edit e = Just (Asking (requests.Edit e))
 
 abbrev pub request : Request → Reading Asked
 request r = Just (Asking r)
+
+abbrev pub view : View → Reading Asked
+view v = Just (Viewing v)
 
 -- a question: the user, what is asked, and the user's groups and privileges
 abbrev pub question_with : List (List ℕ) → SidValue → ℕ → Reading Question
@@ -175,9 +196,13 @@ asks paths (Check reader at user asked words) =
     posed (λ i p q. Asking (requests.Check i p q.token q.asked)) paths reader at (question user asked words)
 asks paths (Why reader at user asked words) =
     posed (λ i p q. Explaining i p q.token q.asked) paths reader at (question user asked words)
+asks paths (Find reader at user asked words) =
+    posed (λ i p q. Finding i p q.token q.asked) paths reader at (question user asked words)
 asks paths (Show reader at) = Then (number reader) (λ i. Then (path paths at) (λ p. request (requests.Show i p)))
-asks paths (ListNodes at) = Then (path paths at) (λ p. Just (Listing p))
-asks paths Dump = Just Dumping
+asks paths (ListNodes at) = Then (path paths at) (λ p. view (views.List p))
+asks paths Dump = view views.Dump
+asks paths (Who at asked words) =
+    Then (path paths at) (λ p. Then (mask asked) (λ m. Then (base words) (λ groups. view (views.Who p groups m))))
 asks paths (ImportNode kind at sddl) =
     Then (path paths at) (λ p. Then (imported sddl) (λ m. Just (Importing (addition kind p (row_of kind m.node)) p m.inherited)))
 

@@ -1,9 +1,9 @@
 -- Lines with ids: a line is an id and what it asks, and each line of its answer begins with the id.
 use Rattle.std.specs.Prelude.{◌≡◌, ℕ, ◌+◌, Bool, true, false, not, ◌&&◌, ◌==◌, List, [], ◌∷◌, ◌++◌, length, take, drop, min, if◌then◌else◌}
 use Rattle.std.specs.Char.{is_ascii_graphic}
-use Rattle.std.specs.List.{list_all, position_or_len}
+use Rattle.std.specs.List.{list_all}
 use Rattle.std.specs.Str.Lines.{lines}
-use Rattle.sd_script.specs.Lines.{is_silent}
+use Rattle.sd_script.specs.Lines.{is_silent, word_len}
 use Rattle.sd_lines.specs.Answers.{AreAnswered}
 use Rattle.sd_script.specs.Output.{IsNext, begun}
 use Rattle.sd_script.specs.declared.carried.Carried.{Carried}
@@ -11,10 +11,6 @@ use Rattle.sd_script.specs.declared.manner.Manner.{Manner}
 use Rattle.sd_script.specs.declared.tally.Tally.{Tally}
 
 -- ---- of one line
-
--- the bytes before the first space
-abbrev pub word_len : List ℕ → ℕ
-word_len line = position_or_len (λ b. b == 0x20) line
 
 -- a word is an id: it isn't empty, doesn't begin with `#`, and has printable ASCII characters alone
 abbrev pub is_id : List ℕ → Bool

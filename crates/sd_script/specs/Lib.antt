@@ -3,6 +3,7 @@ pub mod Command
 pub mod Fault
 pub mod Laws
 pub mod Lines
+pub mod Find
 pub mod Output
 pub mod Reply
 pub mod Ids
@@ -12,3 +13,5 @@ pub mod Addition
 pub mod Paths
 pub mod Importing
 pub mod Tally
+pub mod View
+pub mod Who

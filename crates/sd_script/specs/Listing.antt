@@ -1,5 +1,5 @@
--- What `list` tells of the published tree: a line for each node at and below a path, in the order of their paths.
-use Rattle.std.specs.Prelude.{ℕ, Bool, false, ◌&&◌, List, [], ◌++◌, Option, Some, None, if◌then◌else◌, codes}
+-- Lines of the nodes at and below a path, in the order of their paths: what `list` and `find` tell of the published tree.
+use Rattle.std.specs.Prelude.{ℕ, Bool, true, false, ◌&&◌, List, [], ◌++◌, Option, Some, None, if◌then◌else◌, codes}
 use Rattle.std.specs.List.{flat_map, list_any}
 use Rattle.std.specs.FinMap.{entries}
 use Rattle.sd_sid.specs.Mapping.{MappingValue}
@@ -7,14 +7,19 @@ use Rattle.sd_acl.specs.Descriptor.{DescriptorValue}
 use Rattle.sd_text.specs.Canon.{canon}
 use Rattle.sd_tree.specs.Names.{Names, is_within}
 use Rattle.sd_tree.specs.Plain.{PlainTree}
-use Rattle.sd_tree.specs.Answers.{descriptor_at, kind_at}
+use Rattle.sd_check.specs.declared.verdict.Verdict.TheVariants.{Granted, Denied, Reserved, EmptyRequest}
+use Rattle.sd_tree.specs.Answers.{descriptor_at, kind_at, reply_in}
 use Rattle.sd_tree.specs.Journal.{replay}
 use Rattle.sd_tree.specs.declared.node.NodeKind.{NodeKind}
 use Rattle.sd_tree.specs.declared.node.NodeKind.TheVariants.{Container, Object}
 use Rattle.sd_tree.specs.declared.node.Row.{Row}
+use Rattle.sd_tree.specs.declared.tree.CheckReply.{CheckReply}
+use Rattle.sd_tree.specs.declared.tree.CheckReply.TheVariants.{Verdict, NoNode}
 use Rattle.sd_share.specs.Machine.{Machine}
 use Rattle.sd_answer.specs.Answer.{line, fault_line}
 use Rattle.sd_script.specs.Paths.{is_split, path_word}
+use Rattle.sd_script.specs.declared.listing.Which.{Which}
+use Rattle.sd_script.specs.declared.listing.Which.TheVariants.{All, Granting}
 use Rattle.sd_script.specs.declared.paths.PathSpelling.{PathSpelling}
 use Rattle.sd_script.specs.declared.paths.PathSpelling.TheVariants.{Plain, Percent}
 
@@ -27,8 +32,22 @@ abbrev pub node_line : PathSpelling → NodeKind → Names → Option Descriptor
 node_line paths kind path None = []
 node_line paths kind path (Some d) = line (kind_word kind ++ codes " " ++ path_word paths path ++ codes " " ++ canon d)
 
-abbrev pub line_below : PathSpelling → MappingValue → PlainTree → Names → Names × Row → List ℕ
-line_below paths g t top node = if is_within top node.0 then node_line paths node.1.kind node.0 (descriptor_at g t node.0) else []
+-- a check is granted
+abbrev pub grants : CheckReply → Bool
+grants (Verdict (Granted mask)) = true
+grants (Verdict (Denied missing)) = false
+grants (Verdict (Reserved mask)) = false
+grants (Verdict EmptyRequest) = false
+grants NoNode = false
+
+-- a node's line: of all nodes that with the descriptor; or of those whose check grants what is asked the path
+abbrev pub line_of : PathSpelling → MappingValue → PlainTree → Which → Names × Row → List ℕ
+line_of paths g t All node = node_line paths node.1.kind node.0 (descriptor_at g t node.0)
+line_of paths g t (Granting token asked) node =
+    if grants (reply_in g t node.0 token asked) then line (path_word paths node.0) else []
+
+abbrev pub line_below : PathSpelling → MappingValue → PlainTree → Names → Which → Names × Row → List ℕ
+line_below paths g t top which node = if is_within top node.0 then line_of paths g t which node else []
 
 -- the node stands at or below the path, and its own path would be more than one word
 abbrev pub is_split_below : Names → Names × Row → Bool
@@ -46,7 +65,7 @@ unless_none (Some kind) text = text
 
 abbrev pub listed_in : PathSpelling → MappingValue → PlainTree → Names → List ℕ
 listed_in paths g t top = unless_none (kind_at t top)
-    (if lacks_words paths t top then fault_line (codes "name") else flat_map (line_below paths g t top) (entries t))
+    (if lacks_words paths t top then fault_line (codes "name") else flat_map (line_below paths g t top All) (entries t))
 
 abbrev pub list_text : PathSpelling → Machine → Names → List ℕ
 list_text paths m top = listed_in paths m.opening.mapping (replay m.opening m.published) top

@@ -11,19 +11,19 @@ use Rattle.sd_share.specs.declared.start.StartError.{StartError}
 use Rattle.sd_lines.specs.Answers.{AreAnswered}
 use Rattle.sd_script.specs.Command.{line_asks}
 use Rattle.sd_script.specs.Fault.{Reading, line_of_fault}
-use Rattle.sd_script.specs.Dump.{IsDump}
+use Rattle.sd_script.specs.Find.{found_reply}
 use Rattle.sd_script.specs.Importing.{IsImported}
 use Rattle.sd_script.specs.Lines.{is_silent, wants_lines}
-use Rattle.sd_script.specs.Listing.{list_text}
 use Rattle.sd_script.specs.Reply.{counted_line, reply_line, start_error_line}
 use Rattle.sd_script.specs.Tally.{no_lines, tallied}
 use Rattle.sd_script.specs.Reply.{explained_reply}
+use Rattle.sd_script.specs.View.{IsViewed}
 use Rattle.sd_script.specs.declared.asked.Asked.{Asked}
-use Rattle.sd_script.specs.declared.asked.Asked.TheVariants.{Opening as Opens, Asking, Explaining, Listing, Dumping, Importing}
+use Rattle.sd_script.specs.declared.asked.Asked.TheVariants.{Opening as Opens, Asking, Explaining, Finding, Viewing, Importing}
 use Rattle.sd_script.specs.declared.carried.Carried.{Carried}
 use Rattle.sd_script.specs.declared.fault.LineFault.{LineFault}
+use Rattle.sd_script.specs.declared.listing.Which.TheVariants.{Granting}
 use Rattle.sd_script.specs.declared.manner.Manner.{Manner}
-use Rattle.sd_script.specs.declared.paths.PathSpelling.{PathSpelling}
 use Rattle.sd_script.specs.declared.session.Session.{Session}
 use Rattle.sd_script.specs.declared.session.Session.TheVariants.{Closed, Opened}
 use Rattle.sd_script.specs.declared.tally.Tally.{Tally}
@@ -60,10 +60,12 @@ IsDone (Opened paths old) (Explaining reader path token asked) printed new =
     (reply : Reply) × (machine : Machine) × Steps old (Show reader path) reply machine
     × (explained_reply old.opening.mapping token asked reply ≡ Some printed) × (new ≡ Opened paths machine)
 IsDone (Closed manner) (Explaining reader path token asked) printed new = ⊥
-IsDone (Opened paths old) (Listing path) printed new = (printed ≡ list_text paths old path) × (new ≡ Opened paths old)
-IsDone (Closed manner) (Listing path) printed new = ⊥
-IsDone (Opened paths old) Dumping printed new = IsDump paths old printed × (new ≡ Opened paths old)
-IsDone (Closed manner) Dumping printed new = ⊥
+IsDone (Opened paths old) (Finding reader path token asked) printed new =
+    (reply : Reply) × (machine : Machine) × Steps old (Show reader path) reply machine
+    × (found_reply paths machine path (Granting token asked) reply ≡ Some printed) × (new ≡ Opened paths machine)
+IsDone (Closed manner) (Finding reader path token asked) printed new = ⊥
+IsDone (Opened paths old) (Viewing view) printed new = IsViewed paths old view printed × (new ≡ Opened paths old)
+IsDone (Closed manner) (Viewing view) printed new = ⊥
 IsDone (Opened paths old) (Importing edit path inherited) printed new =
     (reply : Reply) × (machine : Machine) × Steps old (Edits edit) reply machine
     × IsImported machine path inherited reply printed × (new ≡ Opened paths machine)

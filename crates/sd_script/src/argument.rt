@@ -1,13 +1,14 @@
 //! The words of a line after its command, each read as what it stands for.
 ghost use Rattle.std.specs.Prelude.{◌≡◌, IfOk};
 ghost use Rattle.sd_acl.specs.Descriptor.{descriptor_of};
-ghost use Rattle.sd_script.specs.Argument.{number, sid, mask, token, node, dacl, node_of, dacl_of, own_dacl};
+ghost use Rattle.sd_script.specs.Argument.{base, number, sid, mask, token, node, dacl, node_of, dacl_of, own_dacl};
 ghost use Rattle.sd_script.specs.Fault.{UnlessMemory};
 ghost use Rattle.sd_answer.specs.Word.{texts};
 
 use crate::fault::{LineFault, Stop};
+use crate::view::Groups;
 use sd_acl::{Dacl, Descriptor};
-use sd_answer::{TokenError, read_token};
+use sd_answer::{TokenError, read_base, read_token};
 use sd_check::Token;
 use sd_sid::{Mask, Sid};
 use sd_text::{TextError, read_mask, read_sddl, read_sid_text};
@@ -54,6 +55,17 @@ pub(crate) fn token_in(alloc: Global, user: Sid, words: &[&str]) -> Result<Token
     match read_token(alloc, user, words) {
         Ok(token) => Ok(token),
         Err(TokenError::NoWord { .. }) => Err(Stop::Fault(LineFault::Token)),
+        Err(TokenError::Memory) => Err(Stop::Memory),
+    }
+}
+
+/// The groups that words are.
+pub(crate) fn base_in(alloc: Global, words: &[&str]) -> Result<Groups, Stop>
+    ensures { UnlessMemory (base (texts words.now)) result }
+{
+    match read_base(alloc, words) {
+        Ok(groups) => Ok(Groups::new(groups)),
+        Err(TokenError::NoWord { place: _ }) => Err(Stop::Fault(LineFault::Token)),
         Err(TokenError::Memory) => Err(Stop::Memory),
     }
 }

@@ -1,15 +1,16 @@
 //! What a line asks for, and how its words are read.
 ghost use Rattle.std.specs.Prelude.{◌≡◌};
-ghost use Rattle.sd_script.specs.Command.{CommandValue, Open, AddContainer, AddObject, SetOwner, SetGroup, SetDacl, Remove, Protect, Move, Learn, Check, Why, Show, ListNodes, ImportNode, asks, question, command_value};
+ghost use Rattle.sd_script.specs.Command.{CommandValue, Open, AddContainer, AddObject, SetOwner, SetGroup, SetDacl, Remove, Protect, Move, Learn, Check, Why, Find, Show, ListNodes, Who, ImportNode, asks, question, command_value};
 ghost use Rattle.sd_script.specs.Fault.{UnlessMemory};
 ghost use Rattle.sd_answer.specs.Word.{texts};
 ghost use Rattle.sd_script.specs.declared.paths.PathSpelling.{PathSpelling as Spelling};
 
-use crate::argument::{dacl_in, mask_in, node_in, number_in, sid_in, token_in};
+use crate::argument::{base_in, dacl_in, mask_in, node_in, number_in, sid_in, token_in};
 use crate::command::Command;
 use crate::fault::Stop;
 use crate::importing::{Import, addition, import_in};
 use crate::paths::{PathSpelling, path_in};
+use crate::view::View;
 use sd_check::Token;
 use sd_share::Request;
 use sd_sid::Mask;
@@ -33,12 +34,15 @@ pub enum Asked {
         token: Token,
         asked: Mask,
     },
-    /// The nodes at and below a path of the published tree.
-    Listing {
+    /// Of the store that is open, which nodes at and below a path grant what a reader asks for ([MS-DTYP] 2.5.3.2).
+    Finding {
+        reader: u64,
         path: Path,
+        token: Token,
+        asked: Mask,
     },
-    /// The published tree, as lines of a script.
-    Dumping,
+    /// A view of the published tree.
+    Viewing(View),
     /// A node, and whether it inherits what it had inherited elsewhere.
     Importing {
         edit: Edit,
@@ -89,9 +93,17 @@ pub(crate) fn asked_by(
             mask,
             words,
         } => explained(alloc, paths, reader, path, user, mask, words),
+        Command::Find {
+            reader,
+            path,
+            user,
+            mask,
+            words,
+        } => sought(alloc, paths, reader, path, user, mask, words),
         Command::Show { reader, path } => shown(alloc, paths, reader, path),
         Command::ListNodes { path } => listed(alloc, paths, path),
-        Command::Dump => Ok(Asked::Dumping),
+        Command::Dump => Ok(Asked::Viewing(View::Dump)),
+        Command::Who { path, mask, words } => granted(alloc, paths, path, mask, words),
         Command::ImportNode { kind, path, sddl } => importing(alloc, paths, kind, path, sddl),
     }
 }
@@ -235,6 +247,29 @@ fn explained(
     })
 }
 
+fn sought(
+    alloc: Global,
+    paths: PathSpelling,
+    reader: &str,
+    path: &str,
+    user: &str,
+    mask: &str,
+    words: &[&str],
+) -> Result<Asked, Stop>
+    ensures { UnlessMemory
+        (asks paths (Find reader.now path.now user.now mask.now (texts words.now))) result }
+{
+    let reader = number_in(reader)?;
+    let path = path_in(alloc, paths, path)?;
+    let Question { token, asked } = question_in(alloc, user, mask, words)?;
+    Ok(Asked::Finding {
+        reader,
+        path,
+        token,
+        asked,
+    })
+}
+
 /// A user with its words, and what is asked for it.
 fn question_in(alloc: Global, user: &str, mask: &str, words: &[&str]) -> Result<Question, Stop>
     ensures { UnlessMemory (question user.now mask.now (texts words.now)) result }
@@ -257,7 +292,26 @@ fn listed(alloc: Global, paths: PathSpelling, path: &str) -> Result<Asked, Stop>
     ensures { UnlessMemory (asks paths (ListNodes path.now)) result }
 {
     let path = path_in(alloc, paths, path)?;
-    Ok(Asked::Listing { path })
+    Ok(Asked::Viewing(View::List { path }))
+}
+
+fn granted(
+    alloc: Global,
+    paths: PathSpelling,
+    path: &str,
+    mask: &str,
+    words: &[&str],
+) -> Result<Asked, Stop>
+    ensures { UnlessMemory (asks paths (Who path.now mask.now (texts words.now))) result }
+{
+    let path = path_in(alloc, paths, path)?;
+    let asked = mask_in(mask)?;
+    let groups = base_in(alloc, words)?;
+    Ok(Asked::Viewing(View::Who {
+        path,
+        groups,
+        asked,
+    }))
 }
 
 fn importing(

@@ -1,7 +1,7 @@
 //! The commands of a script, with their words as they stand.
 ghost use Rattle.std.specs.Prelude.{◌≡◌, ◌∷◌, [], option_map};
 ghost use Rattle.std.specs.List.{list_any};
-ghost use Rattle.sd_script.specs.Command.{command_named, command_of, command_on, command_value, is_empty, is_untimely, kind_named};
+ghost use Rattle.sd_script.specs.Command.{command_named, command_of, command_on, command_taking, command_value, command_with_base, is_empty, is_untimely, kind_named};
 ghost use Rattle.sd_answer.specs.Word.{texts};
 
 use sd_tree::NodeKind;
@@ -23,9 +23,11 @@ pub(crate) enum CommandName {
     Learn,
     Check,
     Why,
+    Find,
     Show,
     ListNodes,
     Dump,
+    Who,
     ImportNode,
 }
 
@@ -100,6 +102,14 @@ pub(crate) enum Command<'a> {
         mask: &'a str,
         words: &'a [&'a str],
     },
+    /// A reader asks which nodes at and below a path grant such a request.
+    Find {
+        reader: &'a str,
+        path: &'a str,
+        user: &'a str,
+        mask: &'a str,
+        words: &'a [&'a str],
+    },
     /// A reader asks for a node's descriptor.
     Show {
         reader: &'a str,
@@ -111,6 +121,12 @@ pub(crate) enum Command<'a> {
     },
     /// The tree is told as a script.
     Dump,
+    /// Who is granted which of the rights, of the users that have the groups that the words are.
+    Who {
+        path: &'a str,
+        mask: &'a str,
+        words: &'a [&'a str],
+    },
     /// A node is added with the descriptor that it had elsewhere.
     ImportNode {
         kind: NodeKind,
@@ -138,9 +154,11 @@ impl CommandName {
             "learn" => Some(CommandName::Learn),
             "check" => Some(CommandName::Check),
             "why" => Some(CommandName::Why),
+            "find" => Some(CommandName::Find),
             "show" => Some(CommandName::Show),
             "list" => Some(CommandName::ListNodes),
             "dump" => Some(CommandName::Dump),
+            "who" => Some(CommandName::Who),
             "import" => Some(CommandName::ImportNode),
             _ => None,
         }
@@ -184,6 +202,27 @@ fn has_empty(words: &[&str]) -> bool
 fn command_on<'a>(name: CommandName, arguments: &'a [&'a str]) -> Option<Command<'a>>
     ensures { option_map command_value result ≡ command_on name (texts arguments.entry.now) }
 {
+    match name {
+        CommandName::Who => command_with_base(arguments),
+        _ => command_taking(name, arguments),
+    }
+}
+
+/// The command on a path, a mask and groups.
+fn command_with_base<'a>(arguments: &'a [&'a str]) -> Option<Command<'a>>
+    ensures { option_map command_value result ≡ command_with_base (texts arguments.entry.now) }
+{
+    match arguments {
+        [path, mask, words @ ..] => Some(Command::Who { path, mask, words }),
+        [_] => None,
+        [] => None,
+    }
+}
+
+/// The command on these arguments, whose number they tell, or on a question.
+fn command_taking<'a>(name: CommandName, arguments: &'a [&'a str]) -> Option<Command<'a>>
+    ensures { option_map command_value result ≡ command_taking name (texts arguments.entry.now) }
+{
     match arguments {
         [] => command_alone(name),
         [path] => command_on_one(name, path),
@@ -197,7 +236,7 @@ fn command_on<'a>(name: CommandName, arguments: &'a [&'a str]) -> Option<Command
 
 /// The command without an argument.
 fn command_alone<'a>(name: CommandName) -> Option<Command<'a>>
-    ensures { option_map command_value result ≡ command_on name [] }
+    ensures { option_map command_value result ≡ command_taking name [] }
 {
     match name {
         CommandName::Publish => Some(Command::Publish),
@@ -210,7 +249,7 @@ fn command_alone<'a>(name: CommandName) -> Option<Command<'a>>
 
 /// The command on one argument.
 fn command_on_one<'a>(name: CommandName, path: &'a str) -> Option<Command<'a>>
-    ensures { option_map command_value result ≡ command_on name (path.now ∷ []) }
+    ensures { option_map command_value result ≡ command_taking name (path.now ∷ []) }
 {
     match name {
         CommandName::Remove => Some(Command::Remove { path }),
@@ -222,7 +261,7 @@ fn command_on_one<'a>(name: CommandName, path: &'a str) -> Option<Command<'a>>
 
 /// The command on two arguments.
 fn command_on_two<'a>(name: CommandName, first: &'a str, second: &'a str) -> Option<Command<'a>>
-    ensures { option_map command_value result ≡ command_on name (first.now ∷ second.now ∷ []) }
+    ensures { option_map command_value result ≡ command_taking name (first.now ∷ second.now ∷ []) }
 {
     let (path, sddl, sid) = (first, second, second);
     match name {
@@ -259,7 +298,7 @@ fn command_on_three<'a>(
     sddl: &'a str,
 ) -> Option<Command<'a>>
     ensures { option_map command_value result
-        ≡ command_on name (kind.now ∷ path.now ∷ sddl.now ∷ []) }
+        ≡ command_taking name (kind.now ∷ path.now ∷ sddl.now ∷ []) }
 {
     match name {
         CommandName::ImportNode => {
@@ -291,7 +330,7 @@ fn command_on_question<'a>(
     words: &'a [&'a str],
 ) -> Option<Command<'a>>
     ensures { option_map command_value result
-        ≡ command_on name (reader.now ∷ path.now ∷ user.now ∷ mask.now ∷ texts words.entry.now) }
+        ≡ command_taking name (reader.now ∷ path.now ∷ user.now ∷ mask.now ∷ texts words.entry.now) }
 {
     match name {
         CommandName::Check => Some(Command::Check {
@@ -302,6 +341,13 @@ fn command_on_question<'a>(
             words,
         }),
         CommandName::Why => Some(Command::Why {
+            reader,
+            path,
+            user,
+            mask,
+            words,
+        }),
+        CommandName::Find => Some(Command::Find {
             reader,
             path,
             user,

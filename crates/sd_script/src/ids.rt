@@ -1,10 +1,10 @@
 //! How each line of a script is answered; with ids, each line of its answer begins with the line's id.
 
 ghost use Rattle.std.specs.Prelude.{◌≡◌, ◌≤◌, true, length, IfOk, IfSome};
-ghost use Rattle.sd_script.specs.Ids.{IsNextIn, asked_of, is_id, tag_len, tag_of, tagged, word_len};
+ghost use Rattle.sd_script.specs.Ids.{IsNextIn, asked_of, is_id, tag_len, tag_of, tagged};
 
 use crate::carried::Carried;
-use crate::lines::is_silent;
+use crate::lines::{is_silent, word_len};
 use crate::script::answer_line;
 use sd_lines::{Answers, Ending, Form};
 use std::alloc::{AllocError, Global};
@@ -82,17 +82,6 @@ fn tag_len(line: &[u8]) -> usize
         line.len().min(len + 1)
     } else {
         0
-    }
-}
-
-/// The bytes before the first space.
-fn word_len(line: &[u8]) -> usize
-    ensures len { result ≡ word_len line.now }
-    ensures within { result ≤ length line.now }
-{
-    match line.iter().position(|b| *b == b' ') {
-        Some(len) => len,
-        None => line.len(),
     }
 }
 

@@ -1,8 +1,13 @@
 //! What follows from the output of a script. A law is the contract of a function that does nothing.
 ghost use Rattle.sd_script.specs.Ids.{NoCommandWithoutAnId};
-ghost use Rattle.sd_script.specs.Laws.{BeginsAsCheck, HasOneOutput};
+ghost use Rattle.sd_script.specs.Laws.{BeginsAsCheck, HasOneAnswer, HasOneOutput};
 
-/// A text has one output.
+/// A line leaves one store and has one answer, unless it asks who is granted a right, whose lines are exact in what they say.
+pub fn lines_have_one_answer()
+    ensures { HasOneAnswer }
+{}
+
+/// A text without such lines has one output.
 pub fn texts_have_one_output()
     ensures { HasOneOutput }
 {}

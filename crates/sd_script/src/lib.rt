@@ -1,7 +1,7 @@
 //! Scripts: lines of text that build a tree of securable nodes, edit it, publish and ask.
 //!
-//! Each line is a command with its words, and is answered by one line, and `why`, `list` and `dump` by several: by what a store
-//! replies, or by the first thing that is wrong with it. `script_output` takes a whole text and gives the whole output, which is what
+//! Each line is a command with its words, and is answered by one line, and `why`, `find`, `list`, `dump` and `who` by several: by
+//! what a store replies, or by the first thing that is wrong with it. `script_output` takes a whole text and gives the whole output, which is what
 //! `Prints` in specs/Output.antt says. The commands are told in docs/SCRIPT.md.
 //!
 //! ```text
@@ -20,6 +20,7 @@ mod carried;
 mod command;
 mod dump;
 mod fault;
+mod find;
 mod ids;
 mod importing;
 mod laws;
@@ -34,13 +35,17 @@ mod script;
 mod session;
 mod streams;
 mod tally;
+mod view;
+mod who;
 
 pub use asked::Asked;
 pub use carried::Carried;
 pub use fault::{LineFault, Stop, line_of_fault};
 pub use ids::LINES;
 pub use importing::import_line;
-pub use laws::{no_command_without_an_id, texts_have_one_output, why_begins_as_check};
+pub use laws::{
+    lines_have_one_answer, no_command_without_an_id, texts_have_one_output, why_begins_as_check,
+};
 pub use line::read_line;
 pub use lines::is_silent;
 pub use manner::Manner;
@@ -50,3 +55,4 @@ pub use script::{answer_line, script_output};
 pub use session::Session;
 pub use streams::{run, serve};
 pub use tally::Tally;
+pub use view::{Groups, View};

@@ -1,6 +1,6 @@
 //! Lines that ask for nothing, and the words of a line.
-ghost use Rattle.std.specs.Prelude.{◌≡◌, IfOk};
-ghost use Rattle.sd_script.specs.Lines.{begins_with, is_silent, wants_lines, words_of};
+ghost use Rattle.std.specs.Prelude.{◌≡◌, ◌≤◌, length, IfOk};
+ghost use Rattle.sd_script.specs.Lines.{is_silent, wants_lines, word_len, words_of};
 ghost use Rattle.sd_answer.specs.Word.{texts};
 
 use std::alloc::{AllocError, Global};
@@ -15,16 +15,27 @@ pub fn is_silent(line: &[u8]) -> bool
     }
 }
 
-/// Whether a line is answered by several: its first word is `why`, `list` or `dump`.
+/// Whether a line is answered by several, by its first word.
 pub(crate) fn wants_lines(line: &[u8]) -> bool
     ensures { result ≡ wants_lines line.now }
 {
-    line == b"why".as_slice()
-        || line.starts_with(b"why ")
-        || line == b"list".as_slice()
-        || line.starts_with(b"list ")
-        || line == b"dump".as_slice()
-        || line.starts_with(b"dump ")
+    let word = &line[..word_len(line)];
+    word == b"why".as_slice()
+        || word == b"find".as_slice()
+        || word == b"list".as_slice()
+        || word == b"dump".as_slice()
+        || word == b"who".as_slice()
+}
+
+/// The bytes before the first space.
+pub(crate) fn word_len(line: &[u8]) -> usize
+    ensures len { result ≡ word_len line.now }
+    ensures within { result ≤ length line.now }
+{
+    match line.iter().position(|b| *b == b' ') {
+        Some(len) => len,
+        None => line.len(),
+    }
 }
 
 /// The words of a line, parted by single spaces.

@@ -7,14 +7,25 @@ ghost use Rattle.sd_tree.specs.Answers.{descriptor_at};
 ghost use Rattle.sd_tree.specs.Journal.{replay};
 ghost use Rattle.sd_tree.specs.Listing.{listed};
 ghost use Rattle.sd_tree.specs.Names.{is_within};
-ghost use Rattle.sd_script.specs.Listing.{is_split_below as is_split_below_of, kind_word as kind_word_of, lacks_words as lacks_words_of, line_below as line_below_of, listed_in, node_line as node_line_of};
+ghost use Rattle.sd_script.specs.Listing.{is_split_below as is_split_below_of, kind_word as kind_word_of, grants, lacks_words as lacks_words_of, line_below as line_below_of, line_of as line_of_of, listed_in, node_line as node_line_of};
 
 use crate::paths::{PathSpelling, is_split, path_word};
 use sd_acl::Descriptor;
 use sd_answer::fault_line;
+use sd_check::{Token, Verdict};
+use sd_sid::Mask;
 use sd_text::print_sddl;
-use sd_tree::{NodeKind, NodeRef, Path, Tree};
+use sd_tree::{CheckReply, NodeKind, NodeRef, Path, Tree};
 use std::alloc::{AllocError, Global};
+
+/// Which nodes have a line.
+#[derive(Debug, Drop)]
+pub(crate) enum Which {
+    /// All, each with its descriptor.
+    All,
+    /// Those that grant a token what is asked for ([MS-DTYP] 2.5.3.2), each by its path.
+    Granting { token: Token, asked: Mask },
+}
 
 /// The lines of the nodes at and below a path, in the order of their paths; `nonode` where none stands there, and `fault name`
 /// where the path of one would be more than one word.
@@ -33,11 +44,11 @@ pub(crate) fn list_text(
     if lacks_words(alloc, paths, tree, top)? {
         return fault_line(alloc, "name");
     }
-    lines_below(alloc, paths, tree, top)
+    lines_below(alloc, paths, tree, top, &Which::All)
 }
 
 /// Whether the path of some node that stands at or below this one can't be told.
-fn lacks_words(
+pub(crate) fn lacks_words(
     alloc: Global,
     paths: PathSpelling,
     tree: &Tree,
@@ -85,20 +96,21 @@ fn is_split_below(alloc: Global, top: &Path, node: &NodeRef<'_>) -> Result<bool,
     is_split(alloc, node.path)
 }
 
-/// The lines of all nodes that stand at or below the path.
-fn lines_below(
+/// The lines of the nodes that stand at or below the path, of those that have one.
+pub(crate) fn lines_below(
     alloc: Global,
     paths: PathSpelling,
     tree: &Tree,
     top: &Path,
+    which: &Which,
 ) -> Result<String, AllocError>
     ensures { IfOk result (λ text. string_bytes text ≡ flat_map
-        (line_below_of paths tree.now.opening.mapping (replay tree.now.opening tree.now.journal) top.now)
+        (line_below_of paths tree.now.opening.mapping (replay tree.now.opening tree.now.journal) top.now which.now)
         (entries (replay tree.now.opening tree.now.journal))) }
 {
     let mut text = String::new(alloc);
     for index in 0..tree.node_count() {
-        let line = line_at(alloc, paths, tree, top, index)?;
+        let line = line_at(alloc, paths, tree, top, which, index)?;
         text.push_str(&line)?;
     }
     Ok(text)
@@ -110,15 +122,16 @@ fn line_at(
     paths: PathSpelling,
     tree: &Tree,
     top: &Path,
+    which: &Which,
     index: usize,
 ) -> Result<String, AllocError>
     requires { index < length (entries (replay tree.now.opening tree.now.journal)) }
     ensures { IfOk result (λ text. Some (string_bytes text) ≡ option_map
-        (line_below_of paths tree.now.opening.mapping (replay tree.now.opening tree.now.journal) top.now)
+        (line_below_of paths tree.now.opening.mapping (replay tree.now.opening tree.now.journal) top.now which.now)
         (slice_get (entries (replay tree.now.opening tree.now.journal)) index)) }
 {
     match tree.node(index) {
-        Some(node) => line_below(alloc, paths, tree, top, &node),
+        Some(node) => line_below(alloc, paths, tree, top, which, &node),
         None => unreachable!(),
     }
 }
@@ -128,16 +141,47 @@ fn line_below(
     paths: PathSpelling,
     tree: &Tree,
     top: &Path,
+    which: &Which,
     node: &NodeRef<'_>,
 ) -> Result<String, AllocError>
     ensures { IfOk result (λ text. string_bytes text ≡ line_below_of paths tree.now.opening.mapping
-        (replay tree.now.opening tree.now.journal) top.now (listed node.now)) }
+        (replay tree.now.opening tree.now.journal) top.now which.now (listed node.now)) }
 {
     if !node.path.as_path_ref().is_within(&top.as_path_ref()) {
         return Ok(String::new(alloc));
     }
-    let descriptor = tree.descriptor(node.path)?;
-    node_line(alloc, paths, node.kind, node.path, &descriptor)
+    line_of(alloc, paths, tree, which, node)
+}
+
+fn line_of(
+    alloc: Global,
+    paths: PathSpelling,
+    tree: &Tree,
+    which: &Which,
+    node: &NodeRef<'_>,
+) -> Result<String, AllocError>
+    ensures { IfOk result (λ text. string_bytes text ≡ line_of_of paths tree.now.opening.mapping
+        (replay tree.now.opening tree.now.journal) which.now (listed node.now)) }
+{
+    match which {
+        Which::All => {
+            let descriptor = tree.descriptor(node.path)?;
+            node_line(alloc, paths, node.kind, node.path, &descriptor)
+        }
+        Which::Granting { token, asked } if grants(tree.check(node.path, token, *asked)) => {
+            let mut line = path_word(alloc, paths, node.path)?;
+            line.push_str("\n")?;
+            Ok(line)
+        }
+        Which::Granting { .. } => Ok(String::new(alloc)),
+    }
+}
+
+/// Whether a check is granted.
+fn grants(reply: CheckReply) -> bool
+    ensures { result ≡ grants reply }
+{
+    matches!(reply, CheckReply::Verdict(Verdict::Granted(_)))
 }
 
 /// The line of a node with this descriptor.

@@ -65,7 +65,7 @@ fn refused_line(alloc: Global, refusal: EditRefusal) -> Result<String, AllocErro
 }
 
 /// By how long a journal, and what it gives to the end of the line.
-fn seen_line(alloc: Global, seen: u64, what: &str) -> Result<String, AllocError>
+pub(crate) fn seen_line(alloc: Global, seen: u64, what: &str) -> Result<String, AllocError>
     ensures { IfOk result (λ text. string_bytes text ≡ seen_line seen what.now) }
 {
     let text = format!(in alloc; "seen {seen} {what}")?;

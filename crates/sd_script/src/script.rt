@@ -1,21 +1,22 @@
 //! The whole output of a script.
 ghost use Rattle.std.specs.Prelude.{◌≡◌, true, IfOk, string_bytes};
 ghost use Rattle.sd_script.specs.Output.{IsAnswered, IsDone, IsNext, IsTold, PrintsAndCounts, is_open};
-ghost use Rattle.sd_script.specs.declared.asked.Asked.TheVariants.{Asking, Dumping, Explaining, Importing, Listing, Opening};
+ghost use Rattle.sd_script.specs.declared.asked.Asked.TheVariants.{Asking, Explaining, Finding, Importing, Opening, Viewing};
 
 use crate::asked::Asked;
 use crate::carried::Carried;
-use crate::dump::dump_text;
 use crate::fault::{Stop, line_of_fault};
+use crate::find::found_reply;
 use crate::ids::{LINES, Script};
 use crate::importing::import_line;
 use crate::line::read_line;
 use crate::lines::{is_silent, wants_lines};
-use crate::listing::list_text;
+use crate::listing::Which;
 use crate::manner::Manner;
 use crate::reply::{counted_line, explained_reply, reply_line, start_error_line};
 use crate::session::Session;
 use crate::tally::Tally;
+use crate::view::{View, view_text};
 use sd_check::Token;
 use sd_lines::answer_text;
 use sd_share::{Desk, Request};
@@ -24,7 +25,7 @@ use sd_tree::{Edit, Entries, Path, RootSpec};
 use std::alloc::{AllocError, Global};
 
 /// The whole output of a script that is carried out in this manner, and what is counted of its lines. Each line is answered by one
-/// line, and `why`, `list` and `dump` by several, an empty one the last; an empty line, and one that begins with `#`, by none. A line
+/// line, and a question that has several by them, an empty one the last; an empty line, and one that begins with `#`, by none. A line
 /// that can't be carried out is answered by its first fault, and the script goes on. Fails only where memory is refused.
 pub fn script_output(
     alloc: Global,
@@ -40,8 +41,8 @@ pub fn script_output(
     Ok((printed, carried.tally))
 }
 
-/// What a line, without its end, is answered by: a line, of `why`, `list` and `dump` several, an empty one the last, or nothing
-/// where it is empty or begins with `#`. The line is counted. Fails only where memory is refused.
+/// What a line, without its end, is answered by: a line, or several, an empty one the last, or nothing where it is empty or
+/// begins with `#`. The line is counted. Fails only where memory is refused.
 pub fn answer_line(alloc: Global, carried: &mut Carried, line: &[u8]) -> Result<String, AllocError>
     ensures { IfOk result (λ text. IsNext carried.old line.now (string_bytes text) carried.new) }
 {
@@ -79,8 +80,15 @@ fn told(alloc: Global, session: &mut Session, line: &[u8]) -> Result<String, All
                 asked,
             },
         ) => explain(alloc, session, reader, path, &token, asked),
-        Ok(Asked::Listing { path }) => list(alloc, session, &path),
-        Ok(Asked::Dumping) => dump(alloc, session),
+        Ok(
+            Asked::Finding {
+                reader,
+                path,
+                token,
+                asked,
+            },
+        ) => find(alloc, session, reader, path, token, asked),
+        Ok(Asked::Viewing(asked)) => viewed(alloc, session, &asked),
         Ok(
             Asked::Importing {
                 edit,
@@ -152,26 +160,37 @@ fn explain(
     }
 }
 
-/// Tells, of the store that is open, the nodes at and below a path.
-fn list(alloc: Global, session: &Session, path: &Path) -> Result<String, AllocError>
-    requires { is_open session.now ≡ true }
-    ensures { IfOk result (λ text. IsDone session.now (Listing path.now) (string_bytes text) session.now) }
+/// Finds, in the store that is open, the nodes at and below a path that grant what a reader asks for. The reader asks for the
+/// descriptor of the path's node, and all are checked in the tree that it sees.
+fn find(
+    alloc: Global,
+    session: &mut Session,
+    reader: u64,
+    path: Path,
+    token: Token,
+    asked: Mask,
+) -> Result<String, AllocError>
+    requires { is_open session.old ≡ true }
+    ensures { IfOk result (λ text. IsDone session.old (Finding reader path token asked) (string_bytes text) session.new) }
 {
     match session {
-        Session::Opened(paths, desk) => list_text(alloc, *paths, desk.published(), path),
+        Session::Opened(paths, desk) => {
+            let which = Which::Granting { token, asked };
+            let copy = path.copy(alloc)?;
+            let reply = desk.step(&Request::Show { reader, path: copy });
+            found_reply(alloc, *paths, desk.published(), &path, &which, &reply)
+        }
         Session::Closed(_) => unreachable!(),
     }
 }
 
-/// Tells the tree of the store that is open as lines of a script.
-fn dump(alloc: Global, session: &Session) -> Result<String, AllocError>
+/// Tells a view of the published tree of the store that is open.
+fn viewed(alloc: Global, session: &Session, view: &View) -> Result<String, AllocError>
     requires { is_open session.now ≡ true }
-    ensures { IfOk result (λ text. IsDone session.now Dumping (string_bytes text) session.now) }
+    ensures { IfOk result (λ text. IsDone session.now (Viewing view.now) (string_bytes text) session.now) }
 {
     match session {
-        Session::Opened(paths, desk) => {
-            dump_text(alloc, *paths, desk.published(), desk.readers())
-        },
+        Session::Opened(paths, desk) => view_text(alloc, *paths, desk, view),
         Session::Closed(_) => unreachable!(),
     }
 }

@@ -16,7 +16,7 @@ use Rattle.sd_script.specs.Output.{IsDone, IsOpened, line_asks_in, manner_of}
 use Rattle.sd_script.specs.Reply.{check_line, counted_line, seen_line}
 use Rattle.sd_script.specs.Tally.{no_lines, tallied}
 use Rattle.sd_script.specs.declared.asked.Asked.{Asked}
-use Rattle.sd_script.specs.declared.asked.Asked.TheVariants.{Opening as Opens, Asking, Explaining, Listing, Dumping}
+use Rattle.sd_script.specs.declared.asked.Asked.TheVariants.{Opening as Opens, Asking, Explaining, Finding, Viewing}
 use Rattle.sd_script.specs.declared.fault.LineFault.{LineFault}
 use Rattle.sd_script.specs.declared.manner.Manner.{Manner}
 use Rattle.sd_script.specs.declared.session.Session.{Session}
@@ -37,7 +37,7 @@ abbrev pub IsForScripts : Progress → List ℕ → Progress → Type 0
 IsForScripts old printed new = (printed ≡ fault_line (codes "audit")) × (new ≡ old)
 
 -- what is asked is done as in a script, but that a store is opened for the workers, that a check is kept, and that an
--- audit tells, teaches, shows, explains, lists and dumps nothing
+-- audit tells, teaches, shows, explains, finds and views nothing
 abbrev pub IsDoneInAudit : ℕ → Progress → Asked → List ℕ → Progress → Type 0
 IsDoneInAudit workers old (Opens readers root) printed new = IsOpened (manner_of old.store) workers root printed new.store × (new.queries ≡ old.queries)
 IsDoneInAudit workers old (Asking (Check reader path token asked)) printed new =
@@ -46,8 +46,8 @@ IsDoneInAudit workers old (Asking Tell) printed new = IsForScripts old printed n
 IsDoneInAudit workers old (Asking (Learn reader len)) printed new = IsForScripts old printed new
 IsDoneInAudit workers old (Asking (Show reader path)) printed new = IsForScripts old printed new
 IsDoneInAudit workers old (Explaining reader path token asked) printed new = IsForScripts old printed new
-IsDoneInAudit workers old (Listing path) printed new = IsForScripts old printed new
-IsDoneInAudit workers old Dumping printed new = IsForScripts old printed new
+IsDoneInAudit workers old (Finding reader path token asked) printed new = IsForScripts old printed new
+IsDoneInAudit workers old (Viewing view) printed new = IsForScripts old printed new
 IsDoneInAudit workers old asked printed new = IsDone old.store asked printed new.store × (new.queries ≡ old.queries)
 
 -- a line is answered: by nothing, by what it asks for, or by its fault

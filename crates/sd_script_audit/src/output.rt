@@ -86,8 +86,8 @@ fn opened_root(
     match read_line(alloc, manner.paths, false, line) {
         Ok(Asked::Opening { readers: _, root }) => Ok(Some(root)),
         Ok(Asked::Asking(_) | Asked::Explaining { .. }) => unreachable!(),
-        Ok(Asked::Listing { .. }) => unreachable!(),
-        Ok(Asked::Dumping) => unreachable!(),
+        Ok(Asked::Finding { .. }) => unreachable!(),
+        Ok(Asked::Viewing(_)) => unreachable!(),
         Ok(Asked::Importing { .. }) => unreachable!(),
         Err(Stop::Fault(fault)) => {
             let answer = line_of_fault(alloc, fault)?;

@@ -76,7 +76,7 @@ fn answer_line<J: Naming, T: Wait>(
                 inherited,
             },
         ) => import(alloc, writer, &edit, &path, &inherited),
-        Ok(Asked::Explaining { .. } | Asked::Listing { .. } | Asked::Dumping) => {
+        Ok(Asked::Explaining { .. } | Asked::Finding { .. } | Asked::Viewing(_)) => {
             only_in_scripts(alloc)
         }
         Ok(Asked::Opening { .. }) => unreachable!(),

@@ -30,7 +30,7 @@ use Rattle.sd_script.specs.declared.manner.Manner.{Manner}
 use Rattle.sd_script.specs.declared.paths.PathSpelling.{PathSpelling}
 use Rattle.sd_script.specs.declared.session.Session.{Session}
 use Rattle.sd_script.specs.declared.session.Session.TheVariants.{Closed, Opened}
-use Rattle.sd_script.proofs.OneOutput.{answered-one}
+use Rattle.sd_script.proofs.OneOutput.{has_one_answer}
 use Rattle.sd_script.proofs.Timely.{line_opens}
 use Rattle.sd_script_laws.specs.Laws.{Reaches, same_manner, IsSound, IsSameAgain, DumpMakesTheTreeAgain}
 
@@ -126,7 +126,7 @@ lines_reach manner n row nodes (text ∷ texts) count fits lawful are =
 one_end : (old : Session) (texts : List (List ℕ)) (one other : Session) → Reaches old texts one → Reaches old texts other → one ≡ other
 one_end old [] one other first second = first ∙ sym second
 one_end old (text ∷ texts) one other first second =
-    let same = answered-one old text first.0 second.0 first.1 second.1 first.2 second.2 in
+    let same = has_one_answer old text first.0 second.0 first.1 second.1 first.2 second.2 in
     one_end second.1 texts one other (subst (λ between. Reaches between texts one) same.1 first.3) second.3
 
 -- ---- the law

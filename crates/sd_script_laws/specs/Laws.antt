@@ -6,11 +6,12 @@ use Rattle.sd_share.specs.Machine.{Machine}
 use Rattle.sd_share.specs.Starts.{IsReaderCount}
 use Rattle.sd_answer.specs.Answer.{fault_line}
 use Rattle.sd_script.specs.Output.{IsAnswered, IsDone}
-use Rattle.sd_script.specs.declared.asked.Asked.TheVariants.{Dumping}
+use Rattle.sd_script.specs.declared.asked.Asked.TheVariants.{Viewing}
 use Rattle.sd_script.specs.declared.manner.Manner.{Manner}
 use Rattle.sd_script.specs.declared.paths.PathSpelling.{PathSpelling}
 use Rattle.sd_script.specs.declared.session.Session.{Session}
 use Rattle.sd_script.specs.declared.session.Session.TheVariants.{Closed, Opened}
+use Rattle.sd_script.specs.declared.view.View.TheVariants.{Dump}
 
 -- the lines are answered one after the other, and then this stands
 abbrev pub Reaches : Session → List (List ℕ) → Session → Type 0
@@ -38,6 +39,6 @@ same_manner paths m = record { mapping = m.opening.mapping; paths = paths }
 -- where what is told isn't the fault
 abbrev pub DumpMakesTheTreeAgain : Type 0
 DumpMakesTheTreeAgain =
-    (paths : PathSpelling) (m : Machine) (printed : List ℕ) (new : Session) → IsSound m → IsDone (Opened paths m) Dumping printed new → printed ≢ fault_line (codes "name")
+    (paths : PathSpelling) (m : Machine) (printed : List ℕ) (new : Session) → IsSound m → IsDone (Opened paths m) (Viewing Dump) printed new → printed ≢ fault_line (codes "name")
     → (again : Machine) × IsSameAgain m again × Reaches (Closed (same_manner paths m)) (lines printed) (Opened paths again)
     × ((other : Session) → Reaches (Closed (same_manner paths m)) (lines printed) other → other ≡ Opened paths again)

@@ -1,4 +1,4 @@
-//! What `list` and `dump` print of names that no line of a script can give.
+//! What is printed of nodes whose names no line of a script can give.
 
 use super::plain;
 use sd_script::{Carried, PathSpelling, Session, answer_line};
@@ -57,6 +57,8 @@ fn a_name_that_no_script_gives_is_a_fault(rt: HostRuntime) {
     tells(&rt, "/a b", plain, "list", "fault name\n\n");
     tells(&rt, "/a\nb", plain, "list", "fault name\n\n");
     tells(&rt, "/a b", plain, "list /a", "nonode\n\n");
+    tells(&rt, "/a b", plain, "find 0 / BA RC", "fault name\n\n");
+    tells(&rt, "/a b", plain, "find 0 /a BA RC", "seen 1 nonode\n\n");
     tells(
         &rt,
         "/#",

@@ -24,6 +24,12 @@ returns-in-Check c = rw (c.in-Check.is) c.checked.ensures
 pub returns-in-Why : goal.returns-in-Why
 returns-in-Why c = rw (c.in-Why.is) c.explained.ensures
 
+pub returns-in-Find : goal.returns-in-Find
+returns-in-Find c = rw (c.in-Find.is) c.sought.ensures
+
+pub returns-in-Who : goal.returns-in-Who
+returns-in-Who c = rw (c.in-Who.is) c.granted.ensures
+
 pub returns-in-ListNodes : goal.returns-in-ListNodes
 returns-in-ListNodes c = rw (c.in-ListNodes.is) c.listed.ensures
 

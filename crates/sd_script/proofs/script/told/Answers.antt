@@ -1,6 +1,6 @@
 -- Where a line asks something of a store, one is open.
 use Rattle.std.proofs.Common.{refl}
-use Rattle.sd_script.specs.declared.asked.Asked.TheVariants.{Asking, Dumping, Explaining, Importing, Listing}
+use Rattle.sd_script.specs.declared.asked.Asked.TheVariants.{Asking, Explaining, Finding, Importing, Viewing}
 use Rattle.sd_script.proofs.Timely.{open_where_asked}
 use Rattle.sd_script.proofs.script.told.Goals as goal
 
@@ -17,17 +17,18 @@ explain-requires c =
     let explaining = Explaining c.in-Ok-Explaining.reader c.in-Ok-Explaining.path c.in-Ok-Explaining.token c.in-Ok-Explaining.asked in
     open_where_asked c.args.session.now c.args.line.now explaining refl standing
 
-pub list-requires : goal.list-requires
-list-requires c =
-    let asked = rw (c.in-Ok-Listing.field-0-is) at c.in-Ok-Listing.ensures in
+pub find-requires : goal.find-requires
+find-requires c =
+    let asked = rw (c.in-Ok-Finding.field-0-is) at c.in-Ok-Finding.ensures in
     let standing = rw (c.is_open.ensures, c.manner.ensures) at asked in
-    open_where_asked c.args.session.now c.args.line.now (Listing c.in-Ok-Listing.path) refl standing
+    let finding = Finding c.in-Ok-Finding.reader c.in-Ok-Finding.path c.in-Ok-Finding.token c.in-Ok-Finding.asked in
+    open_where_asked c.args.session.now c.args.line.now finding refl standing
 
-pub dump-requires : goal.dump-requires
-dump-requires c =
-    let asked = rw (c.in-Ok-Dumping.field-0-is) at c.in-Ok-Dumping.ensures in
+pub viewed-requires : goal.viewed-requires
+viewed-requires c =
+    let asked = rw (c.in-Ok-Viewing.field-0-is) at c.in-Ok-Viewing.ensures in
     let standing = rw (c.is_open.ensures, c.manner.ensures) at asked in
-    open_where_asked c.args.session.now c.args.line.now Dumping refl standing
+    open_where_asked c.args.session.now c.args.line.now (Viewing c.in-Ok-Viewing.asked) refl standing
 
 pub import-requires : goal.import-requires
 import-requires c =

@@ -2,9 +2,9 @@ use Rattle.std.proofs.Common.{◌≤◌, ◌==◌, ℕ, Bool, Some, None, length
 use Rattle.std.proofs.lemmas.Iterator.{YieldsList-from_slice}
 use Rattle.std.proofs.lemmas.Iterator.Search.{position_from_yields_List}
 use Rattle.std.proofs.lemmas.List.Sums.{prefix_len-le-length}
-use Rattle.sd_script.specs.Ids.{word_len}
+use Rattle.sd_script.specs.Lines.{word_len}
 use Rattle.sd_lines.proofs.Cutting.{place_some, place_none}
-use Rattle.sd_script.proofs.ids.word_len.Goals as goal
+use Rattle.sd_script.proofs.lines.word_len.Goals as goal
 
 abbrev spaces : ℕ → Bool
 spaces b = b == 0x20

@@ -1,0 +1,82 @@
+//! What a script is told of the published tree at once, and no reader asks for.
+ghost use Rattle.std.specs.Prelude.{◌≡◌, IfOk, string_bytes};
+ghost use Rattle.sd_script.specs.View.{IsViewed};
+
+use crate::dump::dump_text;
+use crate::listing::list_text;
+use crate::paths::PathSpelling;
+use crate::who::node_who_text;
+use sd_check::GroupState;
+use sd_share::Desk;
+use sd_sid::{Mask, Sid};
+use sd_tree::Path;
+use std::alloc::{AllocError, Global};
+use std::marker::Model;
+
+/// Groups that all tokens of a question have ([MS-DTYP] 2.5.2). Contracts see them as the list.
+#[derive(Debug, Drop)]
+pub struct Groups {
+    items: Vec<(Sid, GroupState)>,
+}
+
+impl Model for Groups {
+    ghost use Rattle.std.specs.Prelude.{List};
+    ghost use Rattle.sd_sid.specs.Sid.{SidValue};
+    ghost use Rattle.sd_check.specs.declared.token.GroupState.{GroupState};
+
+    ghost Value = { List (SidValue × GroupState) };
+
+    ghost view = { λ g. g.items.items };
+}
+
+impl Groups {
+    pub(crate) fn new(items: Vec<(Sid, GroupState)>) -> Groups
+        ensures { result ≡ items.items }
+    {
+        Groups { items }
+    }
+
+    pub(crate) fn as_slice(&self) -> &[(Sid, GroupState)]
+        ensures { result.now ≡ self.now }
+    {
+        &self.items
+    }
+}
+
+/// A view of the published tree. It changes nothing, and raises no floor.
+#[derive(Debug, Drop)]
+pub enum View {
+    /// The nodes at and below a path.
+    List {
+        path: Path,
+    },
+    /// The tree, as lines of a script.
+    Dump,
+    /// Who is granted which of the rights by the node of a path, of the tokens that have these groups.
+    Who {
+        path: Path,
+        groups: Groups,
+        asked: Mask,
+    },
+}
+
+/// The lines of a view. Fails only where memory is refused.
+pub(crate) fn view_text(
+    alloc: Global,
+    paths: PathSpelling,
+    desk: &Desk,
+    view: &View,
+) -> Result<String, AllocError>
+    ensures { IfOk result (λ text. IsViewed paths desk.now view.now (string_bytes text)) }
+{
+    let tree = desk.published();
+    match view {
+        View::List { path } => list_text(alloc, paths, tree, path),
+        View::Dump => dump_text(alloc, paths, tree, desk.readers()),
+        View::Who {
+            path,
+            groups,
+            asked,
+        } => node_who_text(alloc, tree, path, groups, *asked),
+    }
+}

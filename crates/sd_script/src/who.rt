@@ -1,0 +1,92 @@
+//! Who is granted which rights by a node of the published tree.
+ghost use Rattle.std.specs.Prelude.{◌≡◌, IfOk, Some, string_bytes};
+ghost use Rattle.sd_acl.specs.Descriptor.{descriptor_of};
+ghost use Rattle.sd_check.specs.Check.{dacl_entries, entries_of};
+ghost use Rattle.sd_tree.specs.Answers.{descriptor_at};
+ghost use Rattle.sd_tree.specs.Journal.{replay};
+ghost use Rattle.sd_script.specs.Who.{IsWhoText, or_empty, rights_asked};
+
+use crate::view::Groups;
+use sd_acl::{Dacl, Descriptor};
+use sd_analysis::{Base, who};
+use sd_answer::{Spelling, who_text};
+use sd_check::{DaclRef, MAXIMUM_PLACE};
+use sd_sid::{GenericMapping, Mask, OBJECT_RIGHTS};
+use sd_tree::{Path, Tree};
+use std::alloc::{AllocError, Global};
+
+/// The lines of the node of a path: whom its descriptor grants which of the rights, of the tokens that have these groups
+/// ([MS-DTYP] 2.5.3.2). `nonode` where none stands there, and `empty` where no right is asked about.
+pub(crate) fn node_who_text(
+    alloc: Global,
+    tree: &Tree,
+    path: &Path,
+    groups: &Groups,
+    asked: Mask,
+) -> Result<String, AllocError>
+    ensures { IfOk result (λ text. IsWhoText tree.now.opening.mapping
+        (descriptor_at tree.now.opening.mapping (replay tree.now.opening tree.now.journal) path.now)
+        asked groups.now (string_bytes text)) }
+{
+    match tree.descriptor(path)? {
+        None => String::from_str(alloc, "nonode\n"),
+        Some(descriptor) => {
+            descriptor_who_text(alloc, tree.mapping(), &descriptor, groups, asked)
+        }
+    }
+}
+
+/// The lines of a descriptor.
+fn descriptor_who_text(
+    alloc: Global,
+    mapping: &GenericMapping,
+    descriptor: &Descriptor,
+    groups: &Groups,
+    asked: Mask,
+) -> Result<String, AllocError>
+    ensures { IfOk result (λ text. IsWhoText mapping.now (Some (descriptor_of descriptor.now)) asked groups.now
+        (string_bytes text)) }
+{
+    let base = Base {
+        groups: groups.as_slice(),
+    };
+    let dacl = lent(&descriptor.dacl);
+    let rights = rights_asked(mapping, asked);
+    let accesses = who(alloc, descriptor.owner, dacl, mapping, &base, rights)?;
+    let text = who_text(alloc, Spelling::Number, &accesses)?;
+    let lines = or_empty(alloc, text)?;
+    Ok(lines)
+}
+
+/// The text, or `empty` where it has no line: where no right was asked about.
+fn or_empty(alloc: Global, text: String) -> Result<String, AllocError>
+    ensures { IfOk result (λ line. string_bytes line ≡ or_empty (string_bytes text)) }
+{
+    if text.is_empty() {
+        String::from_str(alloc, "empty\n")
+    } else {
+        Ok(text)
+    }
+}
+
+/// The rights that are asked about: those of the mask, or all where it has MAXIMUM_ALLOWED ([MS-DTYP] 2.4.3).
+fn rights_asked(mapping: &GenericMapping, asked: Mask) -> Mask
+    ensures { result ≡ rights_asked mapping.now asked }
+{
+    if asked.holds(MAXIMUM_PLACE) {
+        OBJECT_RIGHTS
+    } else {
+        mapping.map(asked)
+    }
+}
+
+/// The DACL, borrowed for an analysis.
+fn lent(dacl: &Dacl) -> DaclRef<'_>
+    ensures { entries_of result ≡ dacl_entries dacl.now }
+{
+    match dacl {
+        Dacl::Absent => DaclRef::Absent,
+        Dacl::Null => DaclRef::Null,
+        Dacl::List(list) => DaclRef::List(list.entries()),
+    }
+}
