@@ -2,7 +2,7 @@
 -- place of its subject. What the entries decide for everybody is kept once, and beside it at each place what those of
 -- its SID decide.
 use Rattle.std.specs.Prelude.{◌≡◌, ℕ, ◌<◌, suc, Bool, true, false, not, ◌&&◌, ◌||◌, ◌==◌, cond, List, [], ◌∷◌, length}
-use Rattle.std.specs.Prelude.{map, Option, Some, None, slice_index_or}
+use Rattle.std.specs.Prelude.{◌-◌, map, Option, Some, None, slice_index, slice_index_or}
 use Rattle.std.specs.Option.{is_some, option_map}
 use Rattle.sd_sid.specs.Mask.{holds, mask_of}
 use Rattle.sd_sid.specs.Mapping.{MappingValue, mapped}
@@ -31,6 +31,10 @@ use Rattle.sd_analysis.specs.declared.compare_table.Table.{Table}
 abbrev pub place_in : List SidValue → SidValue → ℕ
 place_in [] s = 0
 place_in (one ∷ sids) s = cond (same_sid one s) 0 (suc (place_in sids s))
+
+-- its last sub-authority, in which SIDs differ most
+abbrev pub last_sub : SidValue → ℕ
+last_sub s = slice_index s.subs (length s.subs - 1)
 
 -- of an entry that speaks of the SID, or of nobody: what it decides, and the place of its subject
 abbrev pub mask_for : MappingValue → Option SidValue → Ace → ℕ

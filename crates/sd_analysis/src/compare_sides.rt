@@ -250,8 +250,10 @@ impl Case<'_> {
         ensures { (b : ℕ) → b < 21
             → holds result b ≡ owns (parts_of side.now) (sids_stand pass self.now.base.now sids.now) b }
     {
-        let is_owner = self.is_owner(side, pass, sids);
-        OWNERS_RIGHTS.when(is_owner & !side.limits_owner())
+        if !self.is_owner(side, pass, sids) {
+            return Mask(0);
+        }
+        OWNERS_RIGHTS.when(!side.limits_owner())
     }
 
     fn is_owner(&self, side: &DescriptorRef<'_>, pass: Pass, sids: &PassSids) -> bool
