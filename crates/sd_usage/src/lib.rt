@@ -1,19 +1,25 @@
-//! The help of the program `sdstore`, and the errors for arguments that aren't a valid command line, by `clap`.
+//! The command line of the program `sdstore`: the one table of its commands and options, and what follows from it: help
+//! and the errors for arguments that aren't a valid command line, by `clap`.
 //!
-//! `sd_tool` parses the arguments, and proves how. This crate has the texts about them. `clap` makes them, and its
-//! contracts say nothing about a text: the texts are tested.
+//! `sd_tool` parses arguments by the table. The contracts of `clap` say nothing about a text: the texts are tested.
 //!
 //! ```text
+//! let command = command_named("verdict");
 //! let text = help(alloc, Some(CommandName::Verdict))?;
 //! let error = refusal(alloc, &["sdstore", "frob"])?;
 //! ```
 #![tactic(auto)]
 
-mod command_name;
-mod commands;
-mod description;
+mod described;
 mod notes;
+mod row;
+mod table;
+mod texts;
 mod usage;
 
-pub use command_name::CommandName;
+pub use row::{
+    Argument, Arguments, Command, CommandName, CommandRow, Flag, OptionName, OptionRow, OptionSet,
+    ProgramOption, Value, command_named, option_named,
+};
+pub use table::{COMMANDS, OPTIONS};
 pub use usage::{ByClap, by_clap, help, refusal};

@@ -1,5 +1,23 @@
 //! The end of the help on each command, and on the program.
 
+use crate::row::CommandName;
+
+/// The end of a command's help, before its example.
+pub(crate) fn notes_of(command: CommandName) -> &'static str {
+    match command {
+        CommandName::Verdict => VERDICT_NOTES,
+        CommandName::Why => WHY_NOTES,
+        CommandName::Lint => LINT_NOTES,
+        CommandName::Print => PRINT_NOTES,
+        CommandName::ToBinary => TO_BINARY_NOTES,
+        CommandName::FromBinary => FROM_BINARY_NOTES,
+        CommandName::Script => SCRIPT_NOTES,
+        CommandName::Serve => SERVE_NOTES,
+        CommandName::Audit => AUDIT_NOTES,
+        CommandName::Each => EACH_NOTES,
+    }
+}
+
 pub(crate) const NOTES: &str = "\
 Options go before the command, and before 'each' those of its command. 'sdstore help COMMAND' has
 the help on a command.
@@ -16,7 +34,7 @@ Statuses:
 Example:
   sdstore verdict 'D:(A;;FR;;;WD)' S-1-5-21-1-2-3-1001 0x1 WD";
 
-pub(crate) const VERDICT_NOTES: &str = "\
+const VERDICT_NOTES: &str = "\
 A first '--' after 'verdict' is dropped, and everything after it is an argument: write
 'sdstore verdict -- \"$sddl\" ..' for untrusted text. Options go before 'verdict': 'sdstore help'
 lists them.
@@ -33,12 +51,9 @@ Statuses:
   0  granted
   1  another verdict, or an invalid argument
   2  the arguments aren't a valid command line
-  3  out of memory, or an output error
+  3  out of memory, or an output error";
 
-Example:
-  sdstore verdict 'D:(D;;0x2;;;S-1-5-21-1-2-3-1001)(A;;0x1f01ff;;;S-1-5-21-1-2-3-1001)' S-1-5-21-1-2-3-1001 0x1";
-
-pub(crate) const WHY_NOTES: &str = "\
+const WHY_NOTES: &str = "\
 A first '--' after 'why' is dropped, and everything after it is an argument. Options go before
 'why': 'sdstore help' lists them.
 
@@ -53,12 +68,9 @@ Statuses:
   0  granted
   1  another verdict, or an invalid argument
   2  the arguments aren't a valid command line
-  3  out of memory, or an output error
+  3  out of memory, or an output error";
 
-Example:
-  sdstore why 'D:(D;;0x2;;;BU)(A;;FR;;;BU)' S-1-5-21-1-2-3-1001 0x10003 BU";
-
-pub(crate) const LINT_NOTES: &str = "\
+const LINT_NOTES: &str = "\
 A first '--' after 'lint' is dropped. Options go before 'lint': 'sdstore help' lists them.
 
 Prints a line for each finding, or 'clean':
@@ -75,33 +87,21 @@ Statuses:
   0  clean
   1  a finding, or an invalid argument
   2  the arguments aren't a valid command line
-  3  out of memory, or an output error
+  3  out of memory, or an output error";
 
-Example:
-  sdstore lint 'D:(A;;FR;;;BU)(D;;FW;;;BU)(A;;0x1;;;BU)'";
+const PRINT_NOTES: &str = "\
+A first '--' after 'print' is dropped. Options go before 'print': 'sdstore help' lists them.";
 
-pub(crate) const PRINT_NOTES: &str = "\
-A first '--' after 'print' is dropped. Options go before 'print': 'sdstore help' lists them.
+const TO_BINARY_NOTES: &str = "\
+A first '--' after 'tobin' is dropped. Options go before 'tobin': 'sdstore help' lists them.";
 
-Example:
-  sdstore print 'o:s-1-5-18d:(a;;0x1f01ff;;;s-1-1-0)'";
-
-pub(crate) const TO_BINARY_NOTES: &str = "\
-A first '--' after 'tobin' is dropped. Options go before 'tobin': 'sdstore help' lists them.
-
-Example:
-  sdstore tobin O:BA";
-
-pub(crate) const FROM_BINARY_NOTES: &str = "\
+const FROM_BINARY_NOTES: &str = "\
 A first '--' after 'frombin' is dropped. Options go before 'frombin': 'sdstore help' lists them.
 
 With '--loose' bytes may be separated by tabs, spaces, commas, backslashes and line ends, and each
-part may begin with '0x', as in a .reg file or a dump.
+part may begin with '0x', as in a .reg file or a dump.";
 
-Example:
-  sdstore frombin 010000801400000000000000000000000000000001020000000000052000000020020000";
-
-pub(crate) const SCRIPT_NOTES: &str = "\
+const SCRIPT_NOTES: &str = "\
 Each line is a command, and has one line of output. An empty line and one that begins with '#' have
 none. 'why', 'list' and 'dump' have several lines of output, the last of which is empty:
   open N SDDL                          opens the store with a root, and readers 0 to N - 1
@@ -130,12 +130,9 @@ Statuses:
   1  with '--strict', a line had a fault or was refused: standard error reports the first such line;
      or the value of an option is invalid: its fault was printed, and no input was read
   2  the arguments aren't a valid command line
-  3  out of memory, an input error, more than 16777216 bytes of input, or an output error
+  3  out of memory, an input error, more than 16777216 bytes of input, or an output error";
 
-Example:
-  printf 'open 1 O:BAG:SYD:\\naddo /a O:BAG:SYD:(A;;FR;;;WD)\\npublish\\ncheck 0 /a SY FR WD\\n' | sdstore script";
-
-pub(crate) const SERVE_NOTES: &str = "\
+const SERVE_NOTES: &str = "\
 Has the output of 'sdstore script'. Every complete line is answered before more input is read: a
 program can write a line, wait for its answer, and write the next. The number of lines is unlimited.
 '--mapping', '--percent' and '--strict' go before 'serve', as before 'script', and '--ids' after it.
@@ -152,12 +149,9 @@ Statuses:
      or the value of an option is invalid: its fault was printed, and no input was read
   2  the arguments aren't a valid command line
   3  out of memory, an input error, a line of more than 16777216 bytes, or an output error. The
-     complete lines before are answered; after an output error a prefix of the answers was written
+     complete lines before are answered; after an output error a prefix of the answers was written";
 
-Example:
-  printf 'open 1 O:BAG:SYD:\\naddo /a O:BAG:SYD:(A;;FR;;;WD)\\npublish\\ncheck 0 /a SY FR WD\\n' | sdstore serve";
-
-pub(crate) const AUDIT_NOTES: &str = "\
+const AUDIT_NOTES: &str = "\
 Has the output of 'sdstore script', except for these lines:
   open N SDDL                          opens the store with a reader for each worker
   check I PATH USER MASK [WORD]...     is answered at the end, for any number I
@@ -171,12 +165,9 @@ Statuses:
      or the value of an option is invalid: its fault was printed, and no input was read
   2  the arguments aren't a valid command line
   3  out of memory, an input error, more than 16777216 bytes of input, an output error, or no
-     answers from the workers
+     answers from the workers";
 
-Example:
-  printf 'open 1 O:BAG:SYD:\\naddo /a O:BAG:SYD:(A;;FR;;;WD)\\ncheck 0 /a SY FR WD\\n' | sdstore audit 4";
-
-pub(crate) const EACH_NOTES: &str = "\
+const EACH_NOTES: &str = "\
 Each line of standard input is the descriptor, the first argument of COMMAND, and has one answer,
 in order, a fault too. Every complete line is answered before more input is read: a program can
 write a line, wait for its answer, and write the next. Answers of 'why' and 'lint', which may have
@@ -194,7 +185,4 @@ Statuses:
   0  each line was answered with status 0
   1  a line was answered with status 1
   2  the arguments aren't a valid command line
-  3  out of memory, an input error, or an output error
-
-Example:
-  printf 'D:(A;;FR;;;WD)\\nD:(A;;FX;;;WD)\\n' | sdstore each verdict S-1-5-21-1-2-3-1001 0x1 WD";
+  3  out of memory, an input error, or an output error";

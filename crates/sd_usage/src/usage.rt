@@ -1,26 +1,13 @@
 //! The help texts, and the errors for arguments that aren't a valid command line, by `clap`. It doesn't decide which
 //! arguments are valid: `command_line` of `sd_tool` does.
-use crate::command_name::CommandName;
-use crate::commands::{COMMANDS, OPTIONS, PROGRAM};
+
+use crate::described::{Texts, described};
+use crate::row::{CommandName, CommandRow, OptionName, OptionRow};
+use crate::table::{COMMANDS, OPTIONS};
+use crate::texts::{CommandTexts, commands_with, line_commands, listed};
 use clap::error::ErrorKind;
 use clap::{Command, Error};
 use std::alloc::{AllocError, Global};
-
-// What `clap` would print as the version. The program's own parser answers all arguments that ask for it.
-const WITHOUT_CLAP: &str = "";
-
-// The error for options that `clap` accepts: before any command, or with a `=` before the value.
-const MISPLACED_OPTION: &str = "\
-an option goes before its command, at most once, and its value is the next argument:
-  --names         why
-  --without-sacl  verdict, why, lint, print, tobin, frombin
-  --base64        frombin, without --loose
-  --loose         frombin, without --base64
-  --percent       script, serve, audit
-  --strict        script, serve, audit
-  --domain        verdict, why, lint, print, tobin
-  --mapping       verdict, why, lint, script, serve, audit
-before 'each' go the options of its command";
 
 // The error for arguments that `clap` would answer with help or the version.
 const STANDS_ALONE: &str = "\
@@ -31,32 +18,43 @@ the version by '--version' alone";
 const WORKERS: &str =
     "the one argument of 'audit' is the number of workers: 1 to 64, in one or two decimal digits";
 
-// The error for arguments of `each` that `clap` accepts: it doesn't know how many arguments a command has.
-const QUESTION: &str = "\
-after 'each' go an optional '-0', the command 'verdict', 'why', 'lint', 'print', 'tobin' or \
-'frombin', and all its arguments except the descriptor";
-
 // The error for other arguments that `clap` accepts, since it drops a later `--` too.
 const LATER_DASHES: &str =
     "only a first '--' after the command is dropped, and any further one is an argument";
 
 /// The help on a command, or on the program, in ASCII. The only error is out of memory.
 pub fn help(alloc: Global, command: Option<CommandName>) -> Result<String, AllocError> {
-    let mut described = match command {
-        None => sdstore(alloc)?,
-        Some(name) => described(alloc, name)?,
-    };
+    if let Some(name) = command {
+        for row in COMMANDS {
+            if row.1.name == name {
+                return command_help(alloc, row);
+            }
+        }
+    }
+    let texts = Texts::new(alloc)?;
+    let mut program = texts.program(alloc)?;
+    program.render_help()
+}
+
+fn command_help(alloc: Global, row: &'static CommandRow) -> Result<String, AllocError> {
+    let texts = CommandTexts::new(alloc, row)?;
+    let mut described = described(alloc, row, &texts)?;
     described.render_help()
 }
 
 /// Why the arguments, of which the first is the program's name, aren't a valid command line: `clap`'s reason if it
 /// rejects them too. The text has arguments unescaped. The only error is out of memory.
 pub fn refusal(alloc: Global, arguments: &[&str]) -> Result<String, AllocError> {
-    let error = refusal_of(alloc, arguments)?;
-    text_of(alloc, error)
+    let texts = Texts::new(alloc)?;
+    let mut program = texts.program(alloc)?;
+    match error_on(&mut program, arguments) {
+        Some(error) if error.use_stderr() => text_of(alloc, error),
+        Some(_shown) => reason(alloc, &mut program, STANDS_ALONE),
+        None => reason_beside_clap(alloc, &mut program, arguments),
+    }
 }
 
-/// What `clap` parses arguments as, by this crate's description of the command line.
+/// What `clap` parses arguments as, by the table of commands.
 #[derive(Clone, Copy, Debug, PartialEq, Eq)]
 pub enum ByClap {
     /// They ask for a command.
@@ -71,8 +69,9 @@ pub enum ByClap {
 
 /// What `clap` parses the arguments as, of which the first is the program's name. The only error is out of memory.
 pub fn by_clap(alloc: Global, arguments: &[&str]) -> Result<ByClap, AllocError> {
-    let mut sdstore = sdstore(alloc)?;
-    let made = match error_on(&mut sdstore, arguments) {
+    let texts = Texts::new(alloc)?;
+    let mut program = texts.program(alloc)?;
+    let made = match error_on(&mut program, arguments) {
         None => ByClap::Command,
         Some(error) => match error.kind() {
             ErrorKind::DisplayHelp => ByClap::Help,
@@ -84,31 +83,99 @@ pub fn by_clap(alloc: Global, arguments: &[&str]) -> Result<ByClap, AllocError> 
     Ok(made)
 }
 
-fn refusal_of<'a>(alloc: Global, arguments: &'a [&'a str]) -> Result<Error, AllocError> {
-    let mut sdstore = sdstore(alloc)?;
-    match error_on(&mut sdstore, arguments) {
-        Some(error) if error.use_stderr() => Ok(error),
-        Some(_shown) => sdstore.error(ErrorKind::UnknownArgument, STANDS_ALONE),
-        None => match arguments {
-            [_, option, ..] if option.starts_with("--") => {
-                sdstore.error(ErrorKind::UnknownArgument, MISPLACED_OPTION)
-            }
-            [_, "audit", ..] => {
-                let mut audit = described(alloc, CommandName::Audit)?;
-                audit.error(ErrorKind::ValueValidation, WORKERS)
-            }
-            [_, "each", ..] => {
-                let mut each = described(alloc, CommandName::Each)?;
-                each.error(ErrorKind::ValueValidation, QUESTION)
-            }
-            _ => sdstore.error(ErrorKind::UnknownArgument, LATER_DASHES),
-        },
+/// The error for arguments that `clap` accepts.
+fn reason_beside_clap<'a>(
+    alloc: Global,
+    program: &mut Command<'a>,
+    arguments: &[&str],
+) -> Result<String, AllocError> {
+    let Some(first) = arguments.get(1) else {
+        return reason(alloc, program, LATER_DASHES);
+    };
+    if first.starts_with("--") {
+        let misplaced = misplaced_option(alloc)?;
+        return reason(alloc, program, misplaced.as_str());
+    }
+    for row in COMMANDS {
+        if row.0 == *first {
+            return reason_of_command(alloc, row);
+        }
+    }
+    reason(alloc, program, LATER_DASHES)
+}
+
+/// The error for arguments of a command that `clap` accepts.
+fn reason_of_command(alloc: Global, row: &'static CommandRow) -> Result<String, AllocError> {
+    let texts = CommandTexts::new(alloc, row)?;
+    let mut described = described(alloc, row, &texts)?;
+    match row.1.name {
+        CommandName::Audit => reason(alloc, &mut described, WORKERS),
+        CommandName::Each => {
+            let question = question_reason(alloc)?;
+            reason(alloc, &mut described, question.as_str())
+        }
+        _ => reason(alloc, &mut described, LATER_DASHES),
     }
 }
 
+// The error for arguments of `each` that `clap` accepts: it doesn't know how many arguments a command has.
+fn question_reason(alloc: Global) -> Result<String, AllocError> {
+    let commands = listed(alloc, &line_commands(alloc)?, "'")?;
+    let commands = commands.as_str();
+    format!(in alloc;
+        "after 'each' go an optional '-0', the command {commands}, and all its arguments except the descriptor"
+    )
+}
+
+// The error for options that `clap` accepts: before any command, or with a `=` before the value.
+fn misplaced_option(alloc: Global) -> Result<String, AllocError> {
+    let mut text = String::from_str(
+        alloc,
+        "an option goes before its command, at most once, and its value is the next argument:\n",
+    )?;
+    for row in OPTIONS {
+        push_option(alloc, &mut text, row)?;
+    }
+    text.push_str("before 'each' go the options of its command")?;
+    Ok(text)
+}
+
+/// Adds the line of an option: its name, and the commands that take it.
+fn push_option(alloc: Global, text: &mut String, row: &OptionRow) -> Result<(), AllocError> {
+    let name = row.0;
+    let line = format!(in alloc; "  {name:<16}")?;
+    text.push_str(line.as_str())?;
+    let mut comma = "";
+    for command in &commands_with(alloc, row.1.name)? {
+        text.push_str(comma)?;
+        text.push_str(command)?;
+        comma = ", ";
+    }
+    if let Some(other) = row.1.excludes {
+        text.push_str(", without ")?;
+        text.push_str(option_name(other))?;
+    }
+    text.push_str("\n")?;
+    Ok(())
+}
+
+fn option_name(option: OptionName) -> &'static str {
+    for row in OPTIONS {
+        if row.1.name == option {
+            return row.0;
+        }
+    }
+    ""
+}
+
+fn reason<'a>(alloc: Global, command: &mut Command<'a>, text: &str) -> Result<String, AllocError> {
+    let error = command.error(ErrorKind::ValueValidation, text)?;
+    text_of(alloc, error)
+}
+
 // `clap`'s error for the arguments, which can also be the help or the version.
-fn error_on<'a>(sdstore: &mut Command<'a>, arguments: &'a [&'a str]) -> Option<Error> {
-    match sdstore.try_get_matches_from_mut(arguments) {
+fn error_on<'a>(program: &mut Command<'a>, arguments: &'a [&'a str]) -> Option<Error> {
+    match program.try_get_matches_from_mut(arguments) {
         Ok(_matches) => None,
         Err(error) => Some(error),
     }
@@ -119,20 +186,4 @@ fn text_of(alloc: Global, error: Error) -> Result<String, AllocError> {
         return Err(AllocError);
     }
     format!(in alloc; "{error}")
-}
-
-// The program, with all its commands.
-fn sdstore<'a>(alloc: Global) -> Result<Command<'a>, AllocError> {
-    let mut sdstore = PROGRAM
-        .command(alloc, &OPTIONS)?
-        .version(WITHOUT_CLAP)
-        .subcommand_required(true);
-    for name in COMMANDS {
-        sdstore = sdstore.subcommand(described(alloc, name)?)?;
-    }
-    Ok(sdstore)
-}
-
-fn described<'a>(alloc: Global, name: CommandName) -> Result<Command<'a>, AllocError> {
-    name.description().command(alloc, name.arguments())
 }

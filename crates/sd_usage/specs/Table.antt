@@ -1,0 +1,60 @@
+-- What the table of commands and options says: which row a text names, and what a command takes.
+use Rattle.std.specs.Prelude.{ℕ, Bool, false, ◌==◌, ◌||◌, ◌&&◌, nat_le, if◌then◌else◌, List, [], ◌∷◌}
+use Rattle.std.specs.Prelude.{Option, Some, None, is_some, codes, bytes_eq}
+use Rattle.sd_usage.specs.declared.row.Arguments.{Arguments}
+use Rattle.sd_usage.specs.declared.row.Arguments.TheVariants as arguments
+use Rattle.sd_usage.specs.declared.row.Command.{Command}
+use Rattle.sd_usage.specs.declared.row.Flag.{Flag}
+use Rattle.sd_usage.specs.declared.row.Flag.TheVariants.{Ids, Zero}
+use Rattle.sd_usage.specs.declared.row.OptionName.{OptionName}
+use Rattle.sd_usage.specs.declared.row.OptionName.TheVariants.{Base64, Domain, Loose, Mapping}
+use Rattle.sd_usage.specs.declared.row.OptionName.TheVariants.{Names, Percent, Strict, WithoutSacl}
+use Rattle.sd_usage.specs.declared.row.ProgramOption.{ProgramOption}
+use Rattle.sd_usage.specs.declared.table.TheConstants.{COMMANDS, OPTIONS}
+
+-- what the first row has for which the test holds
+abbrev pub first_of : {Row Value : Type 0} → (Row → Bool) → (Row → Value) → List Row → Option Value
+first_of test value [] = None
+first_of test value (row ∷ rows) = if test row then Some (value row) else first_of test value rows
+
+-- the command, and the option, that the text names
+unfoldable pub command_named : List ℕ → Option Command
+command_named text = first_of (λ row. bytes_eq row.0.now text) (λ row. row.1) COMMANDS.now
+
+unfoldable pub option_named : List ℕ → Option ProgramOption
+option_named text = first_of (λ row. bytes_eq row.0.now text) (λ row. row.1) OPTIONS.now
+
+-- how many arguments a command requires
+abbrev pub count_of : Arguments → ℕ
+count_of arguments.Nothing = 0
+count_of (arguments.One first) = 1
+count_of (arguments.Two first second) = 2
+count_of (arguments.Three first second third) = 3
+
+-- it takes so many
+abbrev pub takes_count : Command → ℕ → Bool
+takes_count command count =
+    nat_le (count_of command.arguments) count && (is_some command.repeated || count == count_of command.arguments)
+
+-- the option may go before it
+abbrev pub takes_option : Command → OptionName → Bool
+takes_option command Names = command.options.names
+takes_option command WithoutSacl = command.options.without_sacl
+takes_option command Base64 = command.options.base64
+takes_option command Loose = command.options.loose
+takes_option command Percent = command.options.percent
+takes_option command Strict = command.options.strict
+takes_option command Domain = command.options.domain
+takes_option command Mapping = command.options.mapping
+
+abbrev pub flag_name : Flag → List ℕ
+flag_name Ids = codes "--ids"
+flag_name Zero = codes "-0"
+
+-- the text is the command's own option
+abbrev pub is_flag_of : Option Flag → List ℕ → Bool
+is_flag_of None text = false
+is_flag_of (Some flag) text = bytes_eq (flag_name flag) text
+
+abbrev pub is_flag : Command → List ℕ → Bool
+is_flag command text = is_flag_of command.flag text

@@ -1,0 +1,104 @@
+//! The program and its commands as values of `clap`, made of the table.
+
+use crate::notes::NOTES;
+use crate::row::{Argument, CommandRow, Flag, OptionRow, Value};
+use crate::table::{COMMANDS, OPTIONS};
+use crate::texts::{CommandTexts, argument_name, flag_help, option_help, required};
+use clap::{Arg, ArgAction, Command};
+use std::alloc::{AllocError, Global};
+
+// What `clap` would print as the version. The program's own parser answers all arguments that ask for it.
+const WITHOUT_CLAP: &str = "";
+
+/// The texts on the program that the table doesn't have word for word.
+#[derive(Drop)]
+pub(crate) struct Texts {
+    /// On each command.
+    commands: Vec<CommandTexts>,
+    /// The help on each option.
+    options: Vec<String>,
+}
+
+impl Texts {
+    pub(crate) fn new(alloc: Global) -> Result<Texts, AllocError> {
+        let mut commands = Vec::new(alloc);
+        for row in COMMANDS {
+            commands.push(CommandTexts::new(alloc, row)?)?;
+        }
+        let mut options = Vec::new(alloc);
+        for row in OPTIONS {
+            options.push(option_help(alloc, row)?)?;
+        }
+        Ok(Texts { commands, options })
+    }
+
+    /// The program, with all its commands.
+    pub(crate) fn program<'a>(&'a self, alloc: Global) -> Result<Command<'a>, AllocError> {
+        let mut program = Command::new(alloc, "sdstore")
+            .about("Windows security descriptors and access checks by [MS-DTYP]")
+            .override_usage("sdstore [OPTIONS] <COMMAND>")
+            .after_help(NOTES)
+            .version(WITHOUT_CLAP)
+            .subcommand_required(true);
+        for (row, help) in OPTIONS.iter().zip(self.options.iter()) {
+            program = program.arg(option(alloc, row, help.as_str()))?;
+        }
+        for (row, texts) in COMMANDS.iter().zip(self.commands.iter()) {
+            program = program.subcommand(described(alloc, row, texts)?)?;
+        }
+        Ok(program)
+    }
+}
+
+/// A command, with its arguments.
+pub(crate) fn described<'a>(
+    alloc: Global,
+    row: &'static CommandRow,
+    texts: &'a CommandTexts,
+) -> Result<Command<'a>, AllocError> {
+    // Help with a list in it begins on a line of its own.
+    let has_words = row.1.repeated == Some(Argument::Word);
+    let mut described = Command::new(alloc, row.0)
+        .about(row.2)
+        .override_usage(texts.usage.as_str())
+        .after_help(texts.notes.as_str())
+        .next_line_help(has_words);
+    if let Some(flag) = row.1.flag {
+        let (name, help) = (flag.name(), flag_help(flag));
+        described = described.arg(own_option(alloc, flag, name, help))?;
+    }
+    for argument in &required(alloc, row.1.arguments)? {
+        let (name, help) = (argument_name(*argument), texts.help(*argument));
+        described = described.arg(value(alloc, name, help).required(true))?;
+    }
+    if let Some(argument) = row.1.repeated {
+        let (name, help) = (argument_name(argument), texts.help(argument));
+        described = described.arg(value(alloc, name, help).num_args(0..))?;
+    }
+    Ok(described)
+}
+
+/// An argument, even if it begins with a hyphen.
+fn value<'a>(alloc: Global, name: &'a str, help: &'a str) -> Arg<'a> {
+    Arg::new(alloc, name).help(help).allow_hyphen_values(true)
+}
+
+/// A command's own option.
+fn own_option<'a>(alloc: Global, flag: Flag, name: &'a str, help: &'a str) -> Arg<'a> {
+    let option = Arg::new(alloc, name).help(help).action(ArgAction::SetTrue);
+    match flag {
+        Flag::Ids => option.long("ids"),
+        Flag::Zero => option.short('0'),
+    }
+}
+
+/// An option before a command.
+fn option<'a>(alloc: Global, row: &'static OptionRow, help: &'a str) -> Arg<'a> {
+    let name = row.0.strip_prefix("--").unwrap_or(row.0);
+    let option = Arg::new(alloc, name).long(name).help(help);
+    match row.1.value {
+        Some(Value::Sid) => option.value_name("SID").allow_hyphen_values(true),
+        Some(Value::Kind) => option.value_name("KIND").allow_hyphen_values(true),
+        None => option.action(ArgAction::SetTrue),
+    }
+}

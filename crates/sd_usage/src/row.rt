@@ -1,0 +1,243 @@
+//! What the rows of the table of commands and options are made of, and what a row says. Definitions can't name a
+//! constant whose structs hold references, so a row is a tuple: of texts, and of a struct without any.
+ghost use Rattle.std.specs.Prelude.{◌≡◌, bytes_eq};
+ghost use Rattle.sd_usage.specs.Table.{command_named, count_of, first_of, flag_name, is_flag, option_named};
+ghost use Rattle.sd_usage.specs.Table.{takes_count, takes_option};
+
+use crate::table::{COMMANDS, OPTIONS};
+
+/// The name of a command, the command, what it does, and a command line that runs as it stands.
+pub type CommandRow = (&'static str, Command, &'static str, &'static str);
+
+/// The name of an option before a command, the option, and what it does, after the commands that it goes before.
+pub type OptionRow = (&'static str, ProgramOption, &'static str);
+
+/// A command of the program.
+#[derive(Clone, Copy, Debug, PartialEq, Eq)]
+pub enum CommandName {
+    /// `verdict`.
+    Verdict,
+    /// `why`.
+    Why,
+    /// `lint`.
+    Lint,
+    /// `print`.
+    Print,
+    /// `tobin`.
+    ToBinary,
+    /// `frombin`.
+    FromBinary,
+    /// `script`.
+    Script,
+    /// `serve`.
+    Serve,
+    /// `audit`.
+    Audit,
+    /// `each`.
+    Each,
+}
+
+/// An option before a command.
+#[derive(Clone, Copy, PartialEq, Eq)]
+pub enum OptionName {
+    /// `--names`.
+    Names,
+    /// `--without-sacl`.
+    WithoutSacl,
+    /// `--base64`.
+    Base64,
+    /// `--loose`.
+    Loose,
+    /// `--percent`.
+    Percent,
+    /// `--strict`.
+    Strict,
+    /// `--domain`.
+    Domain,
+    /// `--mapping`.
+    Mapping,
+}
+
+/// A command, and what follows it.
+#[derive(Clone, Copy)]
+pub struct Command {
+    pub name: CommandName,
+    /// Its own option, which goes after it.
+    pub flag: Option<Flag>,
+    /// The arguments that it requires.
+    pub arguments: Arguments,
+    /// What any number of further arguments are, if it takes them.
+    pub repeated: Option<Argument>,
+    /// The options that may go before it.
+    pub options: OptionSet,
+}
+
+/// A command's own option.
+#[derive(Clone, Copy)]
+pub enum Flag {
+    /// `--ids`.
+    Ids,
+    /// `-0`.
+    Zero,
+}
+
+/// The arguments that a command requires.
+#[derive(Clone, Copy)]
+pub enum Arguments {
+    Nothing,
+    One(Argument),
+    Two(Argument, Argument),
+    Three(Argument, Argument, Argument),
+}
+
+/// An argument of a command.
+#[derive(Clone, Copy, PartialEq, Eq)]
+pub enum Argument {
+    /// `SDDL`: a descriptor in SDDL ([MS-DTYP] 2.5.1.1).
+    Descriptor,
+    /// `BYTES`: a descriptor in self-relative form ([MS-DTYP] 2.4.6).
+    Bytes,
+    /// `USER`: a user's SID ([MS-DTYP] 2.4.2.1).
+    User,
+    /// `MASK`: an access mask ([MS-DTYP] 2.4.3).
+    Mask,
+    /// `WORD`: a group, a restricting SID or a privilege.
+    Word,
+    /// `N`: a number of workers.
+    Workers,
+    /// `COMMAND`: the command of `each`.
+    Command,
+    /// `ARG`: an argument of that command.
+    CommandArgument,
+}
+
+/// Options before a command.
+#[derive(Clone, Copy)]
+pub struct OptionSet {
+    pub names: bool,
+    pub without_sacl: bool,
+    pub base64: bool,
+    pub loose: bool,
+    pub percent: bool,
+    pub strict: bool,
+    pub domain: bool,
+    pub mapping: bool,
+}
+
+/// An option before a command.
+#[derive(Clone, Copy)]
+pub struct ProgramOption {
+    pub name: OptionName,
+    /// What its value is, which is the next argument, if it has one.
+    pub value: Option<Value>,
+    /// The option beside which it can't be given.
+    pub excludes: Option<OptionName>,
+}
+
+/// The value of an option.
+#[derive(Clone, Copy)]
+pub enum Value {
+    /// `SID`: a domain's SID ([MS-DTYP] 2.4.2.4).
+    Sid,
+    /// `KIND`: a generic mapping ([MS-DTYP] 2.4.3).
+    Kind,
+}
+
+/// The command that the text names.
+#[tactic(auto, unfolding(crate::specs::Table::command_named))]
+pub fn command_named(text: &str) -> Option<Command>
+    ensures { result ≡ command_named text.now }
+{
+    command_in(COMMANDS, text)
+}
+
+/// The command of the first of these rows with that name.
+fn command_in(rows: &[CommandRow], text: &str) -> Option<Command>
+    ensures { result ≡ first_of (λ row. bytes_eq row.0.now text.now) (λ row. row.1) rows.now }
+{
+    match rows {
+        [] => None,
+        [row, _rows @ ..] if row.0 == text => Some(row.1),
+        [_row, rows @ ..] => command_in(rows, text),
+    }
+}
+
+/// The option that the text names.
+#[tactic(auto, unfolding(crate::specs::Table::option_named))]
+pub fn option_named(text: &str) -> Option<ProgramOption>
+    ensures { result ≡ option_named text.now }
+{
+    option_in(OPTIONS, text)
+}
+
+/// The option of the first of these rows with that name.
+fn option_in(rows: &[OptionRow], text: &str) -> Option<ProgramOption>
+    ensures { result ≡ first_of (λ row. bytes_eq row.0.now text.now) (λ row. row.1) rows.now }
+{
+    match rows {
+        [] => None,
+        [row, _rows @ ..] if row.0 == text => Some(row.1),
+        [_row, rows @ ..] => option_in(rows, text),
+    }
+}
+
+impl Command {
+    /// Whether it takes so many arguments.
+    pub fn takes_count(self, count: usize) -> bool
+        ensures { result ≡ takes_count self count }
+    {
+        let least = self.arguments.count();
+        least <= count && (self.repeated.is_some() || count == least)
+    }
+
+    /// Whether the option may go before it.
+    pub fn takes_option(self, option: OptionName) -> bool
+        ensures { result ≡ takes_option self option }
+    {
+        match option {
+            OptionName::Names => self.options.names,
+            OptionName::WithoutSacl => self.options.without_sacl,
+            OptionName::Base64 => self.options.base64,
+            OptionName::Loose => self.options.loose,
+            OptionName::Percent => self.options.percent,
+            OptionName::Strict => self.options.strict,
+            OptionName::Domain => self.options.domain,
+            OptionName::Mapping => self.options.mapping,
+        }
+    }
+
+    /// Whether the text is its own option.
+    pub fn is_flag(self, text: &str) -> bool
+        ensures { result ≡ is_flag self text.now }
+    {
+        match self.flag {
+            Some(flag) => flag.name() == text,
+            None => false,
+        }
+    }
+}
+
+impl Flag {
+    /// The option's name.
+    pub(crate) fn name(self) -> &'static str
+        ensures { result.now ≡ flag_name self }
+    {
+        match self {
+            Flag::Ids => "--ids",
+            Flag::Zero => "-0",
+        }
+    }
+}
+
+impl Arguments {
+    fn count(self) -> usize
+        ensures { result ≡ count_of self }
+    {
+        match self {
+            Arguments::Nothing => 0,
+            Arguments::One(..) => 1,
+            Arguments::Two(..) => 2,
+            Arguments::Three(..) => 3,
+        }
+    }
+}

@@ -1,0 +1,260 @@
+//! The table of commands and options. Nothing else says which arguments are a command line.
+
+use crate::row::{
+    Argument, Arguments, Command, CommandName, CommandRow, Flag, OptionName, OptionRow, OptionSet,
+    ProgramOption, Value,
+};
+
+const NO_OPTIONS: OptionSet = OptionSet {
+    names: false,
+    without_sacl: false,
+    base64: false,
+    loose: false,
+    percent: false,
+    strict: false,
+    domain: false,
+    mapping: false,
+};
+
+// Of commands that parse a descriptor's text.
+const TEXT_OPTIONS: OptionSet = OptionSet {
+    without_sacl: true,
+    domain: true,
+    ..NO_OPTIONS
+};
+
+// Of those that map generic rights too.
+const MAPPED_TEXT_OPTIONS: OptionSet = OptionSet {
+    mapping: true,
+    ..TEXT_OPTIONS
+};
+
+const BYTES_OPTIONS: OptionSet = OptionSet {
+    without_sacl: true,
+    base64: true,
+    loose: true,
+    ..NO_OPTIONS
+};
+
+const SCRIPT_OPTIONS: OptionSet = OptionSet {
+    percent: true,
+    strict: true,
+    mapping: true,
+    ..NO_OPTIONS
+};
+
+/// The commands, in the order in which help lists them.
+pub const COMMANDS: &[CommandRow] = &[
+    (
+        "verdict",
+        Command {
+            name: CommandName::Verdict,
+            flag: None,
+            arguments: Arguments::Three(Argument::Descriptor, Argument::User, Argument::Mask),
+            repeated: Some(Argument::Word),
+            options: MAPPED_TEXT_OPTIONS,
+        },
+        "Prints whether a descriptor grants an access mask to a user",
+        "\
+sdstore verdict 'D:(D;;0x2;;;S-1-5-21-1-2-3-1001)(A;;0x1f01ff;;;S-1-5-21-1-2-3-1001)' S-1-5-21-1-2-3-1001 0x1",
+    ),
+    (
+        "why",
+        Command {
+            name: CommandName::Why,
+            flag: None,
+            arguments: Arguments::Three(Argument::Descriptor, Argument::User, Argument::Mask),
+            repeated: Some(Argument::Word),
+            options: OptionSet {
+                names: true,
+                ..MAPPED_TEXT_OPTIONS
+            },
+        },
+        "Prints whether a descriptor grants an access mask to a user, and why",
+        "sdstore why 'D:(D;;0x2;;;BU)(A;;FR;;;BU)' S-1-5-21-1-2-3-1001 0x10003 BU",
+    ),
+    (
+        "lint",
+        Command {
+            name: CommandName::Lint,
+            flag: None,
+            arguments: Arguments::One(Argument::Descriptor),
+            repeated: None,
+            options: MAPPED_TEXT_OPTIONS,
+        },
+        "Prints what is doubtful in a descriptor's DACL",
+        "sdstore lint 'D:(A;;FR;;;BU)(D;;FW;;;BU)(A;;0x1;;;BU)'",
+    ),
+    (
+        "print",
+        Command {
+            name: CommandName::Print,
+            flag: None,
+            arguments: Arguments::One(Argument::Descriptor),
+            repeated: None,
+            options: TEXT_OPTIONS,
+        },
+        "Prints a descriptor in canonical SDDL",
+        "sdstore print 'o:s-1-5-18d:(a;;0x1f01ff;;;s-1-1-0)'",
+    ),
+    (
+        "tobin",
+        Command {
+            name: CommandName::ToBinary,
+            flag: None,
+            arguments: Arguments::One(Argument::Descriptor),
+            repeated: None,
+            options: TEXT_OPTIONS,
+        },
+        "Prints a descriptor in self-relative form, in hexadecimal",
+        "sdstore tobin O:BA",
+    ),
+    (
+        "frombin",
+        Command {
+            name: CommandName::FromBinary,
+            flag: None,
+            arguments: Arguments::One(Argument::Bytes),
+            repeated: None,
+            options: BYTES_OPTIONS,
+        },
+        "Prints a descriptor in self-relative form as canonical SDDL",
+        "sdstore frombin 010000801400000000000000000000000000000001020000000000052000000020020000",
+    ),
+    (
+        "script",
+        Command {
+            name: CommandName::Script,
+            flag: None,
+            arguments: Arguments::Nothing,
+            repeated: None,
+            options: SCRIPT_OPTIONS,
+        },
+        "Runs the script on standard input: builds a tree of nodes, edits it and checks access",
+        "\
+printf 'open 1 O:BAG:SYD:\\naddo /a O:BAG:SYD:(A;;FR;;;WD)\\npublish\\ncheck 0 /a SY FR WD\\n' | sdstore script",
+    ),
+    (
+        "serve",
+        Command {
+            name: CommandName::Serve,
+            flag: Some(Flag::Ids),
+            arguments: Arguments::Nothing,
+            repeated: None,
+            options: SCRIPT_OPTIONS,
+        },
+        "Runs the script on standard input line by line, for a program that waits for each answer",
+        "\
+printf 'open 1 O:BAG:SYD:\\naddo /a O:BAG:SYD:(A;;FR;;;WD)\\npublish\\ncheck 0 /a SY FR WD\\n' | sdstore serve",
+    ),
+    (
+        "audit",
+        Command {
+            name: CommandName::Audit,
+            flag: None,
+            arguments: Arguments::One(Argument::Workers),
+            repeated: None,
+            options: SCRIPT_OPTIONS,
+        },
+        "Runs the script on standard input, and answers its checks at the end",
+        "printf 'open 1 O:BAG:SYD:\\naddo /a O:BAG:SYD:(A;;FR;;;WD)\\ncheck 0 /a SY FR WD\\n' | sdstore audit 4",
+    ),
+    (
+        "each",
+        Command {
+            name: CommandName::Each,
+            flag: Some(Flag::Zero),
+            arguments: Arguments::One(Argument::Command),
+            repeated: Some(Argument::CommandArgument),
+            options: NO_OPTIONS,
+        },
+        "Runs a command for each line of standard input, with the line as the descriptor",
+        "printf 'D:(A;;FR;;;WD)\\nD:(A;;FX;;;WD)\\n' | sdstore each verdict S-1-5-21-1-2-3-1001 0x1 WD",
+    ),
+];
+
+/// The options before a command, in the order in which help lists them.
+pub const OPTIONS: &[OptionRow] = &[
+    (
+        "--names",
+        ProgramOption {
+            name: OptionName::Names,
+            value: None,
+            excludes: None,
+        },
+        "prints rights by their names, as FR+WD instead of 0x160089",
+    ),
+    (
+        "--without-sacl",
+        ProgramOption {
+            name: OptionName::WithoutSacl,
+            value: None,
+            excludes: None,
+        },
+        "\
+drops a section S: of audit and label entries, or the SACL in bytes, and reports it on standard
+error",
+    ),
+    (
+        "--base64",
+        ProgramOption {
+            name: OptionName::Base64,
+            value: None,
+            excludes: Some(OptionName::Loose),
+        },
+        "the bytes are in base64",
+    ),
+    (
+        "--loose",
+        ProgramOption {
+            name: OptionName::Loose,
+            value: None,
+            excludes: Some(OptionName::Base64),
+        },
+        "\
+the bytes are in hexadecimal, in parts that tabs, spaces, commas, backslashes and line ends
+separate, each with or without '0x'",
+    ),
+    (
+        "--percent",
+        ProgramOption {
+            name: OptionName::Percent,
+            value: None,
+            excludes: None,
+        },
+        "\
+paths are percent-encoded, in the input and in the output: '%' and two hexadecimal digits are a byte",
+    ),
+    (
+        "--strict",
+        ProgramOption {
+            name: OptionName::Strict,
+            value: None,
+            excludes: None,
+        },
+        "\
+the status is 1 if a line has a fault or is refused, and standard error reports the first such line",
+    ),
+    (
+        "--domain",
+        ProgramOption {
+            name: OptionName::Domain,
+            value: Some(Value::Sid),
+            excludes: None,
+        },
+        "\
+the aliases of a domain's accounts and groups, as DA, are SIDs of the domain with this SID:
+S-1-5-21 and three numbers, as S-1-5-21-1-2-3",
+    ),
+    (
+        "--mapping",
+        ProgramOption {
+            name: OptionName::Mapping,
+            value: Some(Value::Kind),
+            excludes: None,
+        },
+        "\
+the generic mapping, that of a 'file' (the default), of a registry 'key', of a 'service' or of a
+'process', or R,W,X,A, the four masks of GR, GW, GX and GA",
+    ),
+];
