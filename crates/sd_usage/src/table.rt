@@ -223,7 +223,8 @@ separate, each with or without '0x'",
             excludes: None,
         },
         "\
-paths are percent-encoded, in the input and in the output: '%' and two hexadecimal digits are a byte",
+paths are percent-encoded, in the input and in the output: '%' and two hexadecimal digits are a
+byte",
     ),
     (
         "--strict",
@@ -233,7 +234,8 @@ paths are percent-encoded, in the input and in the output: '%' and two hexadecim
             excludes: None,
         },
         "\
-the status is 1 if a line has a fault or is refused, and standard error reports the first such line",
+the status is 1 if a line has a fault or is refused, and standard error reports the first such
+line",
     ),
     (
         "--domain",
