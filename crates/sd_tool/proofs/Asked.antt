@@ -1,17 +1,12 @@
 -- What needs no input is answered by its arguments alone.
 use Rattle.std.proofs.Common.{◌≡◌, ℕ, List, Option, false}
 use Rattle.sd_tool.specs.Answer.{AnswerValue, AnswersArguments, AnswersInvocation}
-use Rattle.sd_tool.specs.CommandLine.{InvocationValue, Verdict, Why, Lint, Print, ToBinary, FromBinary, Script, Serve, Audit, Each, Help, Version, is_script}
+use Rattle.sd_tool.specs.CommandLine.{InvocationValue, Ask, Script, Serve, Audit, Each, Help, Version, is_script}
 use Rattle.sd_tool.specs.Options.{OptionsValue}
 
 pub answered : (input : Option (List ℕ)) (options : OptionsValue) (invocation : InvocationValue) (answer : AnswerValue)
     → is_script invocation ≡ false → AnswersArguments options invocation answer → AnswersInvocation input options invocation answer
-answered input options (Verdict sddl user mask words) answer h is = is
-answered input options (Why sddl user mask words) answer h is = is
-answered input options (Lint sddl) answer h is = is
-answered input options (Print sddl) answer h is = is
-answered input options (ToBinary sddl) answer h is = is
-answered input options (FromBinary bytes) answer h is = is
+answered input options (Ask text request) answer h is = is
 answered input options (Help command) answer h is = is
 answered input options Version answer h is = is
 answered input options Script answer h is = cc

@@ -6,4 +6,3 @@ pub mod Texts
 pub mod LintLines
 pub mod BytesByPart
 pub mod SpelledOut
-pub mod EachLines

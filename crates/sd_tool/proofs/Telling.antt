@@ -15,7 +15,7 @@ use Rattle.sd_script_audit.specs.Audit.{PrintsAuditAndCounts}
 use Rattle.sd_script.specs.Ids.{PrintsAndCountsIn, PrintsIn}
 use Rattle.sd_script.specs.declared.ids.TheConstants.{LINES}
 use Rattle.sd_tool.specs.Answer.{AnswerValue, Answers, IsBadValue}
-use Rattle.sd_tool.specs.CommandLine.{CommandLineValue, InvocationValue, IsAudit, Verdict, Why, Lint, Print, ToBinary, FromBinary, Script, Serve, Audit, Each, Help, Version, reading, runs_script}
+use Rattle.sd_tool.specs.CommandLine.{CommandLineValue, InvocationValue, IsAudit, Ask, Script, Serve, Audit, Each, Help, Version, reading, runs_script}
 use Rattle.sd_tool.specs.Options.{AreSettings, HasBadValue, OptionsValue}
 use Rattle.sd_tool.specs.declared.answer.Outcome.{Outcome}
 use Rattle.sd_tool.specs.declared.options.BadValue.{BadValue}
@@ -154,12 +154,7 @@ pub bad_answers : (input : Option (List ℕ)) (options : OptionsValue) (invocati
 bad_answers input options Script bad answer runs has is = inr (bad, has, is)
 bad_answers input options (Serve has_ids) bad answer runs has is = inr (bad, has, is)
 bad_answers input options (Audit workers) bad answer runs has is = inr (bad, has, is)
-bad_answers input options (Verdict sddl user mask words) bad answer runs has is = absurd (cc (runs))
-bad_answers input options (Why sddl user mask words) bad answer runs has is = absurd (cc (runs))
-bad_answers input options (Lint sddl) bad answer runs has is = absurd (cc (runs))
-bad_answers input options (Print sddl) bad answer runs has is = absurd (cc (runs))
-bad_answers input options (ToBinary sddl) bad answer runs has is = absurd (cc (runs))
-bad_answers input options (FromBinary bytes) bad answer runs has is = absurd (cc (runs))
+bad_answers input options (Ask text request) bad answer runs has is = absurd (cc (runs))
 bad_answers input options (Each ending request) bad answer runs has is = absurd (cc (runs))
 bad_answers input options (Help command) bad answer runs has is = absurd (cc (runs))
 bad_answers input options Version bad answer runs has is = absurd (cc (runs))

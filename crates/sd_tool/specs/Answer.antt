@@ -1,6 +1,7 @@
 -- What the program prints as an answer, and whether it did what was asked for. The arguments are read from left to
 -- right, and the first that isn't read is told as a fault.
-use Rattle.std.specs.Prelude.{◌≡◌, ◌⊎◌, ℕ, Bool, ◌||◌, true, false, MatchBool, List, [], ◌++◌, Option, Some, None, IfSome, Result, Ok, Err, codes, string_bytes}
+use Rattle.std.specs.Prelude.{◌≡◌, ◌⊎◌, ℕ, Bool, ◌||◌, true, false, MatchBool, List, [], ◌++◌, Option, Some, None, IfSome, Result, Ok, Err, codes, string_bytes, drop, slice_get}
+use Rattle.std.specs.Option.{option_map_or}
 use Rattle.std.specs.Borrow.{Bor}
 use Rattle.std.specs.Io.KnownBytes.{Appends}
 use Rattle.std.specs.Str.{IsUtf8}
@@ -37,7 +38,9 @@ use Rattle.sd_lines.specs.declared.ending.Ending.{Ending}
 use Rattle.sd_lines.specs.declared.form.Form.{Form as LineForm}
 use Rattle.sd_tool.specs.Bytes.{bytes_read, form_name, has_sacl, without_sacl}
 use Rattle.sd_tool.specs.Scripts.{IsToldOfScript, manner_of, script_outcome}
-use Rattle.sd_tool.specs.CommandLine.{CommandLineValue, InvocationValue, Verdict as AsksVerdict, Why as AsksWhy, Lint, Print, ToBinary, FromBinary, Script as AsksScript, Serve as AsksServe, Audit as AsksAudit, Each as AsksEach, Help, Version, RequestValue, WhyOfLine, LintOfLine, of_line}
+use Rattle.sd_usage.specs.declared.row.Question.{Question}
+use Rattle.sd_usage.specs.declared.row.Question.TheVariants as questions
+use Rattle.sd_tool.specs.CommandLine.{CommandLineValue, InvocationValue, Ask, Script as AsksScript, Serve as AsksServe, Audit as AsksAudit, Each as AsksEach, Help, Version, RequestValue}
 use Rattle.sd_tool.specs.Lint.{dacl_lines, or_clean, lint_outcome}
 use Rattle.sd_tool.specs.Options.{OptionsValue, AreSettings, HasBadValue}
 use Rattle.sd_tool.specs.Told.{fault_text, sacl_note, told_line, wire_fault_text, word_argument, word_at, IsSidReason, IsWordReason}
@@ -92,6 +95,12 @@ abbrev pub IsTextFault : {A : Type 0} → Grammar A → List ℕ → List ℕ �
 IsTextFault grammar text expected argument answer =
     (fault : TextFault) × (place : ℕ) × HasFault grammar text fault place × IsFault expected (told_line argument (fault_text fault place)) answer
 
+-- ---- arguments
+
+-- the argument at the place, empty where there is none
+abbrev pub argument : List (Bor (List ℕ)) → ℕ → List ℕ
+argument arguments place = option_map_or (λ text. text.now) (slice_get arguments place) []
+
 -- ---- a descriptor's text
 
 -- the text is this descriptor's; whether the section of a SACL was left out
@@ -110,22 +119,25 @@ abbrev pub IsUnread : Settings → List ℕ → TextError → Type 0
 IsUnread settings written (Fault fault place) = IsUnreadAt settings written fault place
 IsUnread settings written Memory = Unit {0}
 
--- the fault is printed
-abbrev pub AnswersSddlFault : Settings → List ℕ → AnswerValue → Type 0
-AnswersSddlFault settings written answer =
+-- the fault of the argument of this name is printed
+abbrev pub AnswersSddlFault : List ℕ → Settings → List ℕ → AnswerValue → Type 0
+AnswersSddlFault argument settings written answer =
     (fault : TextFault) × (place : ℕ) × IsUnreadAt settings written fault place
-    × IsFault (sddl_fault_line fault place) (told_line (codes "SDDL") (fault_text fault place)) answer
+    × IsFault (sddl_fault_line fault place) (told_line argument (fault_text fault place)) answer
 
 -- what is answered otherwise, and where a SACL was left out, that is told first
 abbrev pub Noting : List ℕ → Bool → (AnswerValue → Type 0) → AnswerValue → Type 0
 Noting argument left_out Answers answer =
     (inner : AnswerValue) × Answers inner × (answer ≡ record inner { told = sacl_note argument left_out ++ inner.told })
 
--- what is answered of the descriptor that the text is, or the text's fault
+-- what is answered of the descriptor that the argument of this name is, or the fault of its text
+abbrev pub AnswersOfArgument : List ℕ → Settings → List ℕ → (DescriptorValue → AnswerValue → Type 0) → AnswerValue → Type 0
+AnswersOfArgument argument settings written Answers answer =
+    ((d : DescriptorValue) × (left_out : Bool) × IsRead settings written d left_out × Noting argument left_out (Answers d) answer)
+    ⊎ AnswersSddlFault argument settings written answer
+
 abbrev pub AnswersOfText : Settings → List ℕ → (DescriptorValue → AnswerValue → Type 0) → AnswerValue → Type 0
-AnswersOfText settings written Answers answer =
-    ((d : DescriptorValue) × (left_out : Bool) × IsRead settings written d left_out × Noting (codes "SDDL") left_out (Answers d) answer)
-    ⊎ AnswersSddlFault settings written answer
+AnswersOfText settings written Answers answer = AnswersOfArgument (codes "SDDL") settings written Answers answer
 
 -- ---- verdicts
 
@@ -164,8 +176,13 @@ AnswersUser settings form user mask words d answer =
     ((sid : SidValue) × Spells (sid_text_in settings.domain) user sid × AnswersMask settings form d sid mask words answer)
     ⊎ IsTextFault (sid_text_in settings.domain) user (fault_line (codes "sid")) (codes "USER") answer
 
-abbrev pub AnswersVerdict : Settings → Form → List ℕ → List ℕ → List ℕ → List (Bor (List ℕ)) → AnswerValue → Type 0
-AnswersVerdict settings form written user mask words answer = AnswersOfText settings written (AnswersUser settings form user mask words) answer
+abbrev pub AnswersVerdictOf : Settings → Form → List ℕ → List ℕ → List ℕ → List (Bor (List ℕ)) → AnswerValue → Type 0
+AnswersVerdictOf settings form written user mask words answer = AnswersOfText settings written (AnswersUser settings form user mask words) answer
+
+-- the arguments after the descriptor are the user, the mask and words
+abbrev pub AnswersVerdict : Settings → Form → List ℕ → List (Bor (List ℕ)) → AnswerValue → Type 0
+AnswersVerdict settings form written arguments answer =
+    AnswersVerdictOf settings form written (argument arguments 0) (argument arguments 1) (drop 2 arguments) answer
 
 -- ---- findings
 
@@ -216,14 +233,18 @@ AnswersScript Prints input settings answer =
 
 -- ---- command lines
 
+-- what a command answers to a text and the arguments after it
+abbrev pub AnswersQuestion : Settings → Question → List ℕ → List (Bor (List ℕ)) → AnswerValue → Type 0
+AnswersQuestion settings questions.Verdict text arguments answer = AnswersVerdict settings Short text arguments answer
+AnswersQuestion settings questions.Why text arguments answer = AnswersVerdict settings Explained text arguments answer
+AnswersQuestion settings questions.Lint text arguments answer = AnswersLint settings text answer
+AnswersQuestion settings questions.Print text arguments answer = AnswersPrint settings text answer
+AnswersQuestion settings questions.ToBinary text arguments answer = AnswersToBinary settings text answer
+AnswersQuestion settings questions.FromBinary text arguments answer = AnswersFromBinary settings text answer
+
 -- what is printed for an invocation that needs no input, under these settings; the help's text is `clap`'s
 abbrev pub AnswersUnder : Settings → InvocationValue → AnswerValue → Type 0
-AnswersUnder settings (AsksVerdict sddl user mask words) answer = AnswersVerdict settings Short sddl user mask words answer
-AnswersUnder settings (AsksWhy sddl user mask words) answer = AnswersVerdict settings Explained sddl user mask words answer
-AnswersUnder settings (Lint sddl) answer = AnswersLint settings sddl answer
-AnswersUnder settings (Print sddl) answer = AnswersPrint settings sddl answer
-AnswersUnder settings (ToBinary sddl) answer = AnswersToBinary settings sddl answer
-AnswersUnder settings (FromBinary bytes) answer = AnswersFromBinary settings bytes answer
+AnswersUnder settings (Ask text request) answer = AnswersQuestion settings request.question text request.arguments answer
 AnswersUnder settings (Help command) answer = (answer.told ≡ []) × (answer.outcome ≡ Done)
 AnswersUnder settings Version answer = IsDone version_lines answer
 AnswersUnder settings AsksScript answer = ⊥
@@ -253,14 +274,14 @@ AnswersArguments options invocation answer = AnswersWith options (λ settings. A
 abbrev pub AnswersTold : OptionsValue → RequestValue → Option (List ℕ) → AnswerValue → Type 0
 AnswersTold options request None answer = IsFault (fault_line (codes "long")) [] answer
 AnswersTold options request (Some text) answer =
-    (IsUtf8 text × AnswersArguments options (of_line request text) answer)
+    (IsUtf8 text × AnswersArguments options (Ask text request) answer)
     ⊎ ((IsUtf8 text → ⊥) × IsFault (fault_line (codes "utf8")) [] answer)
 
--- what stands behind each answer: an empty line, where an answer may have several lines
-abbrev pub behind_answer : RequestValue → List ℕ
-behind_answer (WhyOfLine user mask words) = codes "\n"
-behind_answer LintOfLine = codes "\n"
-behind_answer request = []
+-- what follows each answer: an empty line, where an answer may have several lines
+abbrev pub after_answer : Question → List ℕ
+after_answer questions.Why = codes "\n"
+after_answer questions.Lint = codes "\n"
+after_answer question = []
 
 abbrev pub is_refusal : Outcome → Bool
 is_refusal Done = false
@@ -274,7 +295,7 @@ outcome_of_lines false = Done
 abbrev pub AnswersLine : OptionsValue → RequestValue → Option (List ℕ) → List ℕ → Bool → Type 0
 AnswersLine options request told printed is_refused =
     (answer : AnswerValue) × AnswersTold options request told answer
-    × (printed ≡ answer.printed ++ behind_answer request) × (is_refused ≡ is_refusal answer.outcome)
+    × (printed ≡ answer.printed ++ after_answer request.question) × (is_refused ≡ is_refusal answer.outcome)
 
 -- the same, and whether this line or one before it was refused
 abbrev pub AnswersNext : OptionsValue → RequestValue → Bool → Option (List ℕ) → List ℕ → Bool → Type 0

@@ -1,12 +1,12 @@
 //! The answer to an invocation: what is printed, and whether that is what was asked for.
-ghost use Rattle.std.specs.Prelude.{◌≡◌, ℕ, List, Option, false, IfErr, IfOk, codes, string_bytes};
+ghost use Rattle.std.specs.Prelude.{◌≡◌, ℕ, List, Option, false, IfErr, IfOk, string_bytes};
 ghost use Rattle.sd_answer.specs.Answer.{fault_line as fault_line_of, sddl_fault_line as sddl_fault_line_of};
-ghost use Rattle.sd_tool.specs.Answer.{Answers, AnswersUnder, IsBadValue, IsDone, IsFault, answer_of};
+ghost use Rattle.sd_tool.specs.Answer.{Answers, AnswersQuestion, AnswersUnder, IsBadValue, IsDone, IsFault, answer_of};
 ghost use Rattle.sd_tool.specs.CommandLine.{command_line_of, invocation_of, is_script};
 ghost use Rattle.sd_tool.specs.Status.{outcome_status};
 ghost use Rattle.sd_tool.specs.Told.{fault_text, told_line as told_line_of};
 
-use crate::command_line::{CommandLine, Invocation};
+use crate::command_line::{CommandLine, Invocation, Request};
 use crate::convert::{answer_from_binary, answer_print, answer_to_binary};
 use crate::failure::Failure;
 use crate::lint::answer_lint;
@@ -17,7 +17,7 @@ use crate::version::version_text;
 use sd_answer::{fault_line, sddl_fault_line};
 use sd_stream::RunError;
 use sd_text::TextFault;
-use sd_usage::help;
+use sd_usage::{Question, help};
 use std::alloc::Global;
 
 /// What came of an invocation.
@@ -85,28 +85,34 @@ fn answer_under(
     ensures err { IfErr result (λ failure. failure ≡ Failure.Run RunError.Memory) }
 {
     match invocation {
-        Invocation::Verdict {
-            sddl,
-            user,
-            mask,
-            words,
-        } => answer_verdict(alloc, settings, Form::Short, sddl, user, mask, words),
-        Invocation::Why {
-            sddl,
-            user,
-            mask,
-            words,
-        } => answer_verdict(alloc, settings, Form::Explained, sddl, user, mask, words),
-        Invocation::Lint { sddl } => answer_lint(alloc, settings, sddl),
-        Invocation::Print { sddl } => answer_print(alloc, settings, sddl),
-        Invocation::ToBinary { sddl } => answer_to_binary(alloc, settings, sddl),
-        Invocation::FromBinary { bytes } => answer_from_binary(alloc, settings, bytes),
+        Invocation::Ask { text, request } => answer_question(alloc, settings, text, request),
         Invocation::Script
         | Invocation::Serve { .. }
         | Invocation::Audit { .. }
         | Invocation::Each { .. } => unreachable!(),
         Invocation::Help { command } => Ok(Answer::done(alloc, help(alloc, command)?)),
         Invocation::Version => Ok(Answer::done(alloc, version_text(alloc)?)),
+    }
+}
+
+/// The answer of a command to a text and the arguments after it.
+fn answer_question(
+    alloc: Global,
+    settings: Settings,
+    text: &str,
+    request: Request<'_>,
+) -> Result<Answer, Failure>
+    ensures ok { IfOk result (λ answer. AnswersQuestion settings request.entry.question text.now request.entry.arguments.now (answer_of answer)) }
+    ensures err { IfErr result (λ failure. failure ≡ Failure.Run RunError.Memory) }
+{
+    let arguments = request.arguments;
+    match request.question {
+        Question::Verdict => answer_verdict(alloc, settings, Form::Short, text, arguments),
+        Question::Why => answer_verdict(alloc, settings, Form::Explained, text, arguments),
+        Question::Lint => answer_lint(alloc, settings, text),
+        Question::Print => answer_print(alloc, settings, text),
+        Question::ToBinary => answer_to_binary(alloc, settings, text),
+        Question::FromBinary => answer_from_binary(alloc, settings, text),
     }
 }
 
@@ -158,14 +164,19 @@ pub(crate) fn text_fault(
     fault(alloc, what, told_fault(alloc, argument, text_fault, place)?)
 }
 
-/// The answer to a descriptor's text with a fault.
-pub(crate) fn sddl_fault(alloc: Global, fault: TextFault, place: u64) -> Result<Answer, Failure>
-    ensures ok { IfOk result (λ answer. IsFault (sddl_fault_line_of fault place) (told_line_of (codes "SDDL") (fault_text fault place)) (answer_of answer)) }
+/// The answer to a descriptor's text with a fault, which is the argument of this name.
+pub(crate) fn sddl_fault(
+    alloc: Global,
+    argument: &str,
+    fault: TextFault,
+    place: u64,
+) -> Result<Answer, Failure>
+    ensures ok { IfOk result (λ answer. IsFault (sddl_fault_line_of fault place) (told_line_of argument.now (fault_text fault place)) (answer_of answer)) }
     ensures err { IfErr result (λ failure. failure ≡ Failure.Run RunError.Memory) }
 {
     Ok(Answer {
         text: sddl_fault_line(alloc, fault, place)?,
-        told: told_fault(alloc, "SDDL", fault, place)?,
+        told: told_fault(alloc, argument, fault, place)?,
         outcome: Outcome::Refused,
     })
 }

@@ -1,15 +1,13 @@
-//! The reading of a command line: what its words ask for.
-ghost use Rattle.std.specs.Prelude.{◌≡◌, Some, false, option_map};
-ghost use Rattle.sd_tool.specs.CommandLine.{Help, arguments_in as arguments_of, command_in as command_at};
-ghost use Rattle.sd_tool.specs.CommandLine.{command_line_of, command_named, command_on as command_of, count_of};
-ghost use Rattle.sd_tool.specs.CommandLine.{each_in as each_at, each_on as each_of, help_on as help_of, invocation_of};
-ghost use Rattle.sd_tool.specs.CommandLine.{is_help_flag as is_help_flag_of, is_script, of_line as invocation_on};
-ghost use Rattle.sd_tool.specs.CommandLine.{reading, request_in as request_at, request_of, request_on as request_by};
-ghost use Rattle.sd_tool.specs.CommandLine.{run_by as run_of, shown_by as shown_of, workers_of};
+//! The parser of a command line: what its arguments ask for, by the table of commands and options.
+ghost use Rattle.std.specs.Prelude.{◌≡◌, option_map};
+ghost use Rattle.sd_tool.specs.CommandLine.{after_flag, arguments_in, asked_by, asked_of, command_help, command_in};
+ghost use Rattle.sd_tool.specs.CommandLine.{command_line_of, count_of, each_in, ending_of, has_flag, help_on};
+ghost use Rattle.sd_tool.specs.CommandLine.{invocation_of, is_help_flag, line_request, reading, request_by};
+ghost use Rattle.sd_tool.specs.CommandLine.{request_on, run_by, shown_by, workers_of};
 
 use crate::options::{Options, options_in};
 use sd_lines::Ending;
-use sd_usage::CommandName;
+use sd_usage::{Command, CommandName, Question, command_named};
 
 /// What a command line asks for, and with which options.
 #[derive(Clone, Copy, Debug)]
@@ -21,35 +19,10 @@ pub(crate) struct CommandLine<'a> {
 /// What is asked for.
 #[derive(Clone, Copy, Debug)]
 pub(crate) enum Invocation<'a> {
-    /// Whether a descriptor grants a mask to a user, whose groups and privileges the words tell.
-    Verdict {
-        sddl: &'a str,
-        user: &'a str,
-        mask: &'a str,
-        words: &'a [&'a str],
-    },
-    /// The same with the reason of each bit.
-    Why {
-        sddl: &'a str,
-        user: &'a str,
-        mask: &'a str,
-        words: &'a [&'a str],
-    },
-    /// What is doubtful in a descriptor.
-    Lint {
-        sddl: &'a str,
-    },
-    /// The canonical text of a descriptor.
-    Print {
-        sddl: &'a str,
-    },
-    /// The self-relative form of a descriptor.
-    ToBinary {
-        sddl: &'a str,
-    },
-    /// The text of a descriptor in self-relative form.
-    FromBinary {
-        bytes: &'a str,
+    /// The answer to a text.
+    Ask {
+        text: &'a str,
+        request: Request<'a>,
     },
     /// The output of the script on standard input.
     Script,
@@ -61,7 +34,7 @@ pub(crate) enum Invocation<'a> {
     Audit {
         workers: u64,
     },
-    /// What the request asks, of each line of standard input.
+    /// The answer to each line of standard input.
     Each {
         ending: Ending,
         request: Request<'a>,
@@ -74,78 +47,21 @@ pub(crate) enum Invocation<'a> {
     Version,
 }
 
-/// A command with its arguments, but for the descriptor.
+/// A command that answers a text, with its arguments after that.
 #[derive(Clone, Copy, Debug)]
-pub(crate) enum Request<'a> {
-    /// `verdict`.
-    Verdict {
-        user: &'a str,
-        mask: &'a str,
-        words: &'a [&'a str],
-    },
-    /// `why`.
-    Why {
-        user: &'a str,
-        mask: &'a str,
-        words: &'a [&'a str],
-    },
-    /// `lint`.
-    Lint,
-    /// `print`.
-    Print,
-    /// `tobin`.
-    ToBinary,
-    /// `frombin`.
-    FromBinary,
+pub(crate) struct Request<'a> {
+    pub(crate) question: Question,
+    pub(crate) arguments: &'a [&'a str],
 }
 
-impl<'a> Request<'a> {
-    /// The command with this descriptor.
-    pub(crate) fn of(self, line: &'a str) -> Invocation<'a>
-        ensures invocation { invocation_of result ≡ invocation_on (request_of self.entry) line.entry.now }
-        ensures no_input { is_script (invocation_of result) ≡ false }
-    {
-        match self {
-            Request::Verdict { user, mask, words } => Invocation::Verdict {
-                sddl: line,
-                user,
-                mask,
-                words,
-            },
-            Request::Why { user, mask, words } => Invocation::Why {
-                sddl: line,
-                user,
-                mask,
-                words,
-            },
-            Request::Lint => Invocation::Lint { sddl: line },
-            Request::Print => Invocation::Print { sddl: line },
-            Request::ToBinary => Invocation::ToBinary { sddl: line },
-            Request::FromBinary => Invocation::FromBinary { bytes: line },
-        }
-    }
+/// What is asked for, and the command: of `each` the one for its lines.
+#[derive(Clone, Copy)]
+struct Asked<'a> {
+    command: Command,
+    invocation: Invocation<'a>,
 }
 
-/// The command of that name.
-fn named(word: &str) -> Option<CommandName>
-    ensures { result ≡ command_named word.now }
-{
-    match word {
-        "verdict" => Some(CommandName::Verdict),
-        "why" => Some(CommandName::Why),
-        "lint" => Some(CommandName::Lint),
-        "print" => Some(CommandName::Print),
-        "tobin" => Some(CommandName::ToBinary),
-        "frombin" => Some(CommandName::FromBinary),
-        "script" => Some(CommandName::Script),
-        "serve" => Some(CommandName::Serve),
-        "audit" => Some(CommandName::Audit),
-        "each" => Some(CommandName::Each),
-        _ => None,
-    }
-}
-
-/// What the words ask for, of which the first is the program's name. `None`: they aren't a command line.
+/// What the arguments ask for, of which the first is the program's name. `None`: they aren't a command line.
 pub(crate) fn read_command_line<'a>(words: &'a [&'a str]) -> Option<CommandLine<'a>>
     ensures { option_map command_line_of result ≡ reading words.entry.now }
 {
@@ -161,9 +77,9 @@ pub(crate) fn read_command_line<'a>(words: &'a [&'a str]) -> Option<CommandLine<
     }
 }
 
-/// The help or the version that the words behind the program's name ask for.
+/// The help or the version that the arguments after the program's name ask for.
 fn shown_by<'a>(words: &[&str]) -> Option<Invocation<'a>>
-    ensures { option_map invocation_of result ≡ shown_of words.now }
+    ensures { option_map invocation_of result ≡ shown_by words.now }
 {
     match words {
         [word] if is_help_flag(word) || *word == "help" => Some(Invocation::Help { command: None }),
@@ -174,13 +90,16 @@ fn shown_by<'a>(words: &[&str]) -> Option<Invocation<'a>>
     }
 }
 
-/// A command behind options that it takes.
+/// A command after options that it takes.
 fn run_by<'a>(words: &'a [&'a str]) -> Option<CommandLine<'a>>
-    ensures { option_map command_line_of result ≡ run_of words.entry.now }
+    ensures { option_map command_line_of result ≡ run_by words.entry.now }
 {
     let (options, words) = options_in(words)?;
-    let invocation = command_in(words)?;
-    if !invocation.asked().takes(options) {
+    let Asked {
+        command,
+        invocation,
+    } = command_in(words)?;
+    if !options.suit(command) {
         return None;
     }
     Some(CommandLine {
@@ -189,25 +108,120 @@ fn run_by<'a>(words: &'a [&'a str]) -> Option<CommandLine<'a>>
     })
 }
 
-/// The command that the words begin with, and its arguments. Behind `serve` alone may be `--ids`, and nothing else.
-fn command_in<'a>(words: &'a [&'a str]) -> Option<Invocation<'a>>
-    ensures { option_map invocation_of result ≡ command_at words.entry.now }
+/// The command that the arguments begin with, and what it asks for.
+fn command_in<'a>(words: &'a [&'a str]) -> Option<Asked<'a>>
+    ensures { option_map asked_of result ≡ command_in words.entry.now }
 {
     match words {
         [] => None,
-        [word, flag] if *word == "serve" && *flag == "--ids" => {
-            Some(Invocation::Serve { has_ids: true })
-        }
-        [word, words @ ..] => match named(word) {
-            Some(command) => command_on(command, arguments_in(words)),
+        [word, words @ ..] => match command_named(word) {
+            Some(command) => asked_by(command, words),
             None => None,
         },
     }
 }
 
-/// The help that a word after `help` asks for: on the command that it names, or, as `help` itself, on the program.
+/// What a command asks for with what follows it: its own option first, then a first `--`, then its arguments.
+fn asked_by<'a>(command: Command, words: &'a [&'a str]) -> Option<Asked<'a>>
+    ensures { option_map asked_of result ≡ asked_by command words.entry.now }
+{
+    let is_flagged = has_flag(command, words);
+    request_on(
+        command,
+        is_flagged,
+        arguments_in(after_flag(command, words)),
+    )
+}
+
+/// What a command asks for with these arguments.
+fn request_on<'a>(command: Command, is_flagged: bool, arguments: &'a [&'a str]) -> Option<Asked<'a>>
+    ensures { option_map asked_of result ≡ request_on command is_flagged arguments.entry.now }
+{
+    if !command.takes_count(arguments.len()) {
+        return None;
+    }
+    request_by(command, is_flagged, arguments)
+}
+
+/// The same of as many arguments as it takes.
+fn request_by<'a>(command: Command, is_flagged: bool, arguments: &'a [&'a str]) -> Option<Asked<'a>>
+    ensures { option_map asked_of result ≡ request_by command.name command is_flagged arguments.entry.now }
+{
+    match (command.name, arguments) {
+        (CommandName::Ask(question), [text, arguments @ ..]) => Some(Asked {
+            command,
+            invocation: Invocation::Ask {
+                text,
+                request: Request {
+                    question,
+                    arguments,
+                },
+            },
+        }),
+        (CommandName::Script, _) => Some(Asked {
+            command,
+            invocation: Invocation::Script,
+        }),
+        (CommandName::Serve, _) => Some(Asked {
+            command,
+            invocation: Invocation::Serve {
+                has_ids: is_flagged,
+            },
+        }),
+        (CommandName::Audit, [workers, ..]) => match workers_in(workers) {
+            Some(workers) => Some(Asked {
+                command,
+                invocation: Invocation::Audit { workers },
+            }),
+            None => None,
+        },
+        (CommandName::Each, words) => each_in(ending_of(is_flagged), words),
+        _ => None,
+    }
+}
+
+/// The command for each line, and its arguments without the line.
+fn each_in<'a>(ending: Ending, words: &'a [&'a str]) -> Option<Asked<'a>>
+    ensures { option_map asked_of result ≡ each_in ending words.entry.now }
+{
+    match words {
+        [] => None,
+        [word, words @ ..] => match command_named(word) {
+            Some(command) => line_request(command, ending, arguments_in(words)),
+            None => None,
+        },
+    }
+}
+
+/// What a command asks of each line, with these arguments beside it.
+fn line_request<'a>(command: Command, ending: Ending, arguments: &'a [&'a str]) -> Option<Asked<'a>>
+    ensures { option_map asked_of result ≡ line_request command ending arguments.entry.now }
+{
+    let CommandName::Ask(question) = command.name else {
+        return None;
+    };
+    if !command.takes_count(arguments.len() + 1) {
+        return None;
+    }
+    let request = Request {
+        question,
+        arguments,
+    };
+    Some(Asked {
+        command,
+        invocation: Invocation::Each { ending, request },
+    })
+}
+
+fn ending_of(is_zero: bool) -> Ending
+    ensures { result ≡ ending_of is_zero }
+{
+    if is_zero { Ending::Zero } else { Ending::Feed }
+}
+
+/// The help that a text after `help` asks for: on the command that it names, or, as `help` itself, on the program.
 fn help_on<'a>(word: &str) -> Option<Invocation<'a>>
-    ensures { option_map invocation_of result ≡ help_of word.now }
+    ensures { option_map invocation_of result ≡ help_on word.now }
 {
     if word == "help" {
         return Some(Invocation::Help { command: None });
@@ -215,108 +229,49 @@ fn help_on<'a>(word: &str) -> Option<Invocation<'a>>
     help_on_command(word)
 }
 
-/// The help on the command that the word names.
+/// The help on the command that the text names.
 fn help_on_command<'a>(word: &str) -> Option<Invocation<'a>>
-    ensures { option_map invocation_of result ≡ option_map (λ command. Help (Some command)) (command_named word.now) }
+    ensures { option_map invocation_of result ≡ command_help word.now }
 {
-    match named(word) {
+    match command_named(word) {
         Some(command) => Some(Invocation::Help {
-            command: Some(command),
+            command: Some(command.name),
         }),
         None => None,
     }
 }
 
 fn is_help_flag(word: &str) -> bool
-    ensures { result ≡ is_help_flag_of word.now }
+    ensures { result ≡ is_help_flag word.now }
 {
     word == "-h" || word == "--help"
 }
 
-/// The words after a command, without a first `--`: a way to say that what follows is no flag.
-fn arguments_in<'a>(words: &'a [&'a str]) -> &'a [&'a str]
-    ensures { result.now ≡ arguments_of words.entry.now }
+fn has_flag(command: Command, words: &[&str]) -> bool
+    ensures { result ≡ has_flag command words.now }
 {
     match words {
-        [word, rest @ ..] if *word == "--" => rest,
+        [] => false,
+        [word, ..] => command.is_flag(word),
+    }
+}
+
+fn after_flag<'a>(command: Command, words: &'a [&'a str]) -> &'a [&'a str]
+    ensures { result.now ≡ after_flag command words.entry.now }
+{
+    match words {
+        [word, rest @ ..] if command.is_flag(word) => rest,
         _ => words,
     }
 }
 
-fn command_on<'a>(command: CommandName, arguments: &'a [&'a str]) -> Option<Invocation<'a>>
-    ensures { option_map invocation_of result ≡ command_of command arguments.entry.now }
-{
-    match (command, arguments) {
-        (CommandName::Verdict, [sddl, user, mask, words @ ..]) => Some(Invocation::Verdict {
-            sddl,
-            user,
-            mask,
-            words,
-        }),
-        (CommandName::Why, [sddl, user, mask, words @ ..]) => Some(Invocation::Why {
-            sddl,
-            user,
-            mask,
-            words,
-        }),
-        (CommandName::Lint, [sddl]) => Some(Invocation::Lint { sddl }),
-        (CommandName::Print, [sddl]) => Some(Invocation::Print { sddl }),
-        (CommandName::ToBinary, [sddl]) => Some(Invocation::ToBinary { sddl }),
-        (CommandName::FromBinary, [bytes]) => Some(Invocation::FromBinary { bytes }),
-        (CommandName::Script, []) => Some(Invocation::Script),
-        (CommandName::Serve, []) => Some(Invocation::Serve { has_ids: false }),
-        (CommandName::Audit, [workers]) => match workers_in(workers) {
-            Some(workers) => Some(Invocation::Audit { workers }),
-            None => None,
-        },
-        (CommandName::Each, words) => each_on(words),
-        _ => None,
-    }
-}
-
-/// What the words behind `each` ask for: first may stand `-0`.
-fn each_on<'a>(words: &'a [&'a str]) -> Option<Invocation<'a>>
-    ensures { option_map invocation_of result ≡ each_of words.entry.now }
+/// The arguments after a command, without a first `--`: a way to say that what follows is no flag.
+fn arguments_in<'a>(words: &'a [&'a str]) -> &'a [&'a str]
+    ensures { result.now ≡ arguments_in words.entry.now }
 {
     match words {
-        [word, words @ ..] if *word == "-0" => each_in(Ending::Zero, words),
-        _ => each_in(Ending::Feed, words),
-    }
-}
-
-fn each_in<'a>(ending: Ending, words: &'a [&'a str]) -> Option<Invocation<'a>>
-    ensures { option_map invocation_of result ≡ each_at ending words.entry.now }
-{
-    let request = request_in(words)?;
-    Some(Invocation::Each { ending, request })
-}
-
-/// The command that the words begin with, and its arguments but for the descriptor.
-fn request_in<'a>(words: &'a [&'a str]) -> Option<Request<'a>>
-    ensures { option_map request_of result ≡ request_at words.entry.now }
-{
-    match words {
-        [] => None,
-        [word, words @ ..] => match named(word) {
-            Some(command) => request_on(command, arguments_in(words)),
-            None => None,
-        },
-    }
-}
-
-fn request_on<'a>(command: CommandName, arguments: &'a [&'a str]) -> Option<Request<'a>>
-    ensures { option_map request_of result ≡ request_by command arguments.entry.now }
-{
-    match (command, arguments) {
-        (CommandName::Verdict, [user, mask, words @ ..]) => {
-            Some(Request::Verdict { user, mask, words })
-        }
-        (CommandName::Why, [user, mask, words @ ..]) => Some(Request::Why { user, mask, words }),
-        (CommandName::Lint, []) => Some(Request::Lint),
-        (CommandName::Print, []) => Some(Request::Print),
-        (CommandName::ToBinary, []) => Some(Request::ToBinary),
-        (CommandName::FromBinary, []) => Some(Request::FromBinary),
-        _ => None,
+        [word, rest @ ..] if *word == "--" => rest,
+        _ => words,
     }
 }
 

@@ -23,7 +23,9 @@ pub(crate) fn answer_print(alloc: Global, settings: Settings, sddl: &str) -> Res
 {
     let read = match read_text(alloc, settings, sddl) {
         Ok(read) => read,
-        Err(TextError::Fault { fault, place }) => return sddl_fault(alloc, fault, place),
+        Err(TextError::Fault { fault, place }) => {
+            return sddl_fault(alloc, "SDDL", fault, place);
+        }
         Err(TextError::Memory) => return Err(Failure::Run(RunError::Memory)),
     };
     let answer = printed(alloc, print_sddl(alloc, &read.descriptor)?)?;
@@ -41,7 +43,9 @@ pub(crate) fn answer_to_binary(
 {
     let read = match read_text(alloc, settings, sddl) {
         Ok(read) => read,
-        Err(TextError::Fault { fault, place }) => return sddl_fault(alloc, fault, place),
+        Err(TextError::Fault { fault, place }) => {
+            return sddl_fault(alloc, "SDDL", fault, place);
+        }
         Err(TextError::Memory) => return Err(Failure::Run(RunError::Memory)),
     };
     let bytes = write_descriptor(alloc, &read.descriptor)?;

@@ -4,28 +4,29 @@ ghost use Rattle.sd_lines.specs.Answers.{Prints};
 ghost use Rattle.sd_lines.specs.Output.{LeavesAnswers};
 ghost use Rattle.sd_stream.specs.Watched.{has_failed, inner_of};
 ghost use Rattle.sd_stream.specs.Whole.{is_read_error, is_write_error};
-ghost use Rattle.sd_tool.specs.Answer.{AnswersNext, AnswersTold, AppendsEach, answer_of, behind_answer, form_of, is_refusal, outcome_of_lines};
+ghost use Rattle.sd_tool.specs.Answer.{AnswersNext, AnswersTold, AppendsEach, after_answer, answer_of, form_of, is_refusal, outcome_of_lines};
 ghost use Rattle.sd_tool.specs.CommandLine.{request_of};
 ghost use Rattle.sd_tool.specs.Options.{options_of};
 
 use crate::answer::{Answer, Outcome, answer_to, fault};
-use crate::command_line::{CommandLine, Request};
+use crate::command_line::{CommandLine, Invocation, Request};
 use crate::failure::Failure;
 use crate::options::Options;
 use sd_lines::{Answers, Ending, Form, answer_lines};
 use sd_stream::{RunError, Watched};
+use sd_usage::Question;
 use std::alloc::{AllocError, Global};
 use std::io::{Read, Write};
 use std::str::from_utf8;
 
 /// A command with its arguments, under its options, that is asked of each line.
 #[derive(Clone, Copy, Debug)]
-pub(crate) struct Question<'a> {
+pub(crate) struct LineQuestion<'a> {
     pub(crate) options: Options<'a>,
     pub(crate) request: Request<'a>,
 }
 
-impl Answers for Question<'_> {
+impl Answers for LineQuestion<'_> {
     /// Whether a line so far was refused.
     type State = bool;
 
@@ -43,13 +44,13 @@ impl Answers for Question<'_> {
             return Err(AllocError);
         };
         text.extend_from_slice(answer.text.as_bytes())?;
-        text.extend_from_slice(self.request.behind_answer().as_bytes())?;
+        text.extend_from_slice(after_answer(self.request.question).as_bytes())?;
         *refused |= answer.outcome.is_refusal();
         Ok(())
     }
 }
 
-impl Question<'_> {
+impl LineQuestion<'_> {
     /// The answer to a line, of which there is no text where it is too long.
     fn answer_told(&self, alloc: Global, line: Option<&[u8]>) -> Result<Answer, Failure>
         ensures { IfOk result (λ answer. AnswersTold (options_of self.now.options) (request_of self.now.request)
@@ -65,21 +66,22 @@ impl Question<'_> {
             alloc,
             CommandLine {
                 options: self.options,
-                invocation: self.request.of(text),
+                invocation: Invocation::Ask {
+                    text,
+                    request: self.request,
+                },
             },
         )
     }
 }
 
-impl Request<'_> {
-    /// What stands behind each answer: an empty line, where an answer may have several lines.
-    fn behind_answer(self) -> &'static str
-        ensures { result.now ≡ behind_answer (request_of self.entry) }
-    {
-        match self {
-            Request::Why { .. } | Request::Lint => "\n",
-            _ => "",
-        }
+/// What follows each answer: an empty line, where an answer may have several lines.
+fn after_answer(question: Question) -> &'static str
+    ensures { result.now ≡ after_answer question }
+{
+    match question {
+        Question::Why | Question::Lint => "\n",
+        _ => "",
     }
 }
 
@@ -118,7 +120,7 @@ fn form_of(ending: Ending) -> Form
 /// Answers each line of an input.
 pub(crate) fn answer_each<R: Read, W: Write>(
     alloc: Global,
-    question: Question<'_>,
+    question: LineQuestion<'_>,
     ending: Ending,
     reader: &mut Watched<R>,
     writer: &mut Watched<W>,

@@ -14,7 +14,6 @@
 mod answer;
 mod bytes;
 mod command_line;
-mod command_options;
 mod convert;
 mod descriptor;
 mod each;
@@ -33,7 +32,7 @@ mod verdict;
 mod version;
 mod words;
 
-pub use laws::{dashes_keep_texts, each_asks_the_command, help_stands_alone};
+pub use laws::{dashes_keep_texts, each_asks_the_command, help_stands_alone, names_are_distinct};
 pub use program::drive;
 pub use sd_script::{Manner, PathSpelling, Tally, run};
 pub use sd_script_audit::run_audit;

@@ -23,7 +23,9 @@ pub(crate) fn answer_lint(alloc: Global, settings: Settings, sddl: &str) -> Resu
 {
     let read = match read_text(alloc, settings, sddl) {
         Ok(read) => read,
-        Err(TextError::Fault { fault, place }) => return sddl_fault(alloc, fault, place),
+        Err(TextError::Fault { fault, place }) => {
+            return sddl_fault(alloc, "SDDL", fault, place);
+        }
         Err(TextError::Memory) => return Err(Failure::Run(RunError::Memory)),
     };
     let lines = dacl_lines(alloc, &settings.mapping, &read.descriptor.dacl)?;

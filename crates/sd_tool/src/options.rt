@@ -1,42 +1,21 @@
 //! What may stand between the program's name and the command, and what it says.
-ghost use Rattle.std.specs.Prelude.{◌≡◌, IfErr, IfNone, IfOk, IfSome, option_map};
+ghost use Rattle.std.specs.Prelude.{◌≡◌, IfErr, IfNone, IfOk, IfSome, false, option_map};
+ghost use Rattle.std.specs.List.{list_any};
+ghost use Rattle.std.specs.Option.{option_map_or};
 ghost use Rattle.sd_text.specs.Domain.{domain_sid};
 ghost use Rattle.sd_text.specs.Grammar.{Spells};
 ghost use Rattle.sd_text.specs.Sid.{sid_text};
 ghost use Rattle.sd_tool.specs.Scripts.{manner_of};
-ghost use Rattle.sd_tool.specs.Options.{AreSettings, GivesDomain, HasBadValue, IsNoDomain, byte_form_of, no_options, flag_named, setting_named, options_in as options_at, options_of, parted, paths_of, spelling_of, with_flag as with_flag_of, with_setting as with_setting_of};
+ghost use Rattle.sd_tool.specs.Options.{AreSettings, GivesDomain, HasBadValue, IsNoDomain, byte_form_of, given, has};
+ghost use Rattle.sd_tool.specs.Options.{is_misplaced, no_options, options_in, options_of, parted, paths_of};
+ghost use Rattle.sd_tool.specs.Options.{spelling_of, suits, with_option, with_value};
 
 use crate::mapping::mapping_given;
 use sd_answer::Spelling;
 use sd_script::{Manner, PathSpelling};
 use sd_sid::GenericMapping;
 use sd_text::{Domain, read_sid_text};
-
-/// An option without a value.
-#[derive(Clone, Copy, Debug, PartialEq, Eq)]
-pub(crate) enum Flag {
-    /// `--names`.
-    Names,
-    /// `--without-sacl`.
-    WithoutSacl,
-    /// `--base64`.
-    Base64,
-    /// `--loose`.
-    Loose,
-    /// `--percent`.
-    Percent,
-    /// `--strict`.
-    Strict,
-}
-
-/// An option whose value is the next word.
-#[derive(Clone, Copy, Debug, PartialEq, Eq)]
-pub(crate) enum Setting {
-    /// `--domain`.
-    InDomain,
-    /// `--mapping`.
-    Mapping,
-}
+use sd_usage::{Command, OPTIONS, OptionName, OptionRow, ProgramOption, option_named};
 
 /// How the bytes of a descriptor are spelled.
 #[derive(Clone, Copy, Debug, PartialEq, Eq)]
@@ -58,25 +37,18 @@ pub(crate) enum BadValue<'a> {
     NoMapping,
 }
 
-/// The options of a command line. Each stands before the command, at most once.
+/// The options of a command line, which go before the command, each at most once: the values of those that are given,
+/// empty for one without a value.
 #[derive(Clone, Copy, Debug)]
 pub(crate) struct Options<'a> {
-    /// `--names`: rights are told by their names.
-    pub(crate) names: bool,
-    /// `--without-sacl`: a SACL is left out.
-    pub(crate) without_sacl: bool,
-    /// `--base64`: bytes in base64.
-    pub(crate) base64: bool,
-    /// `--loose`: bytes in hexadecimal with signs between them.
-    pub(crate) loose: bool,
-    /// `--percent`: `%` and two hexadecimal digits stand for a byte of a script's path.
-    pub(crate) percent: bool,
-    /// `--strict`: a script's first fault or refusal is told, and the status is 1.
-    pub(crate) strict: bool,
-    /// `--domain SID`: the aliases of a domain are read as SIDs of this one.
-    pub(crate) domain: Option<&'a str>,
-    /// `--mapping KIND`: what the generic rights stand for.
-    pub(crate) mapping: Option<&'a str>,
+    names: Option<&'a str>,
+    without_sacl: Option<&'a str>,
+    base64: Option<&'a str>,
+    loose: Option<&'a str>,
+    percent: Option<&'a str>,
+    strict: Option<&'a str>,
+    domain: Option<&'a str>,
+    mapping: Option<&'a str>,
 }
 
 /// What the options say.
@@ -110,121 +82,105 @@ impl Settings {
     }
 }
 
-impl Flag {
-    fn named(word: &str) -> Option<Flag>
-        ensures { result ≡ flag_named word.now }
-    {
-        match word {
-            "--names" => Some(Flag::Names),
-            "--without-sacl" => Some(Flag::WithoutSacl),
-            "--base64" => Some(Flag::Base64),
-            "--loose" => Some(Flag::Loose),
-            "--percent" => Some(Flag::Percent),
-            "--strict" => Some(Flag::Strict),
-            _ => None,
-        }
-    }
-}
-
-impl Setting {
-    fn named(word: &str) -> Option<Setting>
-        ensures { result ≡ setting_named word.now }
-    {
-        match word {
-            "--domain" => Some(Setting::InDomain),
-            "--mapping" => Some(Setting::Mapping),
-            _ => None,
-        }
-    }
-}
-
 impl<'a> Options<'a> {
     /// None of them.
     pub(crate) fn none() -> Options<'a>
         ensures { options_of result ≡ no_options }
     {
         Options {
-            names: false,
-            without_sacl: false,
-            base64: false,
-            loose: false,
-            percent: false,
-            strict: false,
+            names: None,
+            without_sacl: None,
+            base64: None,
+            loose: None,
+            percent: None,
+            strict: None,
             domain: None,
             mapping: None,
         }
     }
 
-    /// These and one more. `None`: it is one of these already.
-    fn with_flag(self, flag: Flag) -> Option<Options<'a>>
-        ensures { option_map options_of result ≡ with_flag_of (options_of self.entry) flag }
+    /// The value of an option, if it is given.
+    fn given(self, option: OptionName) -> Option<&'a str>
+        ensures { option_map (λ text. text.now) result ≡ given (options_of self.entry) option }
     {
-        match flag {
-            Flag::Names => match self.names {
-                true => None,
-                false => Some(Options {
-                    names: true,
-                    ..self
-                }),
+        match option {
+            OptionName::Names => self.names,
+            OptionName::WithoutSacl => self.without_sacl,
+            OptionName::Base64 => self.base64,
+            OptionName::Loose => self.loose,
+            OptionName::Percent => self.percent,
+            OptionName::Strict => self.strict,
+            OptionName::Domain => self.domain,
+            OptionName::Mapping => self.mapping,
+        }
+    }
+
+    fn has(self, option: OptionName) -> bool
+        ensures { result ≡ has (options_of self.entry) option }
+    {
+        match self.given(option) {
+            Some(_) => true,
+            None => false,
+        }
+    }
+
+    /// These, and this one.
+    fn with_value(self, option: OptionName, value: &'a str) -> Options<'a>
+        ensures { options_of result ≡ with_value (options_of self.entry) option value.now }
+    {
+        let value = Some(value);
+        match option {
+            OptionName::Names => Options {
+                names: value,
+                ..self
             },
-            Flag::WithoutSacl => match self.without_sacl {
-                true => None,
-                false => Some(Options {
-                    without_sacl: true,
-                    ..self
-                }),
+            OptionName::WithoutSacl => Options {
+                without_sacl: value,
+                ..self
             },
-            Flag::Base64 => match self.base64 {
-                true => None,
-                false => Some(Options {
-                    base64: true,
-                    ..self
-                }),
+            OptionName::Base64 => Options {
+                base64: value,
+                ..self
             },
-            Flag::Loose => match self.loose {
-                true => None,
-                false => Some(Options {
-                    loose: true,
-                    ..self
-                }),
+            OptionName::Loose => Options {
+                loose: value,
+                ..self
             },
-            Flag::Percent => match self.percent {
-                true => None,
-                false => Some(Options {
-                    percent: true,
-                    ..self
-                }),
+            OptionName::Percent => Options {
+                percent: value,
+                ..self
             },
-            Flag::Strict => match self.strict {
-                true => None,
-                false => Some(Options {
-                    strict: true,
-                    ..self
-                }),
+            OptionName::Strict => Options {
+                strict: value,
+                ..self
+            },
+            OptionName::Domain => Options {
+                domain: value,
+                ..self
+            },
+            OptionName::Mapping => Options {
+                mapping: value,
+                ..self
             },
         }
     }
 
-    /// These and one more with its value. `None`: it is one of these already.
-    fn with_setting(self, setting: Setting, value: &'a str) -> Option<Options<'a>>
-        ensures { option_map options_of result ≡ with_setting_of (options_of self.entry) setting value.now }
+    /// These and one more. `None`: it is one of these already.
+    fn with_option(self, option: OptionName, value: &'a str) -> Option<Options<'a>>
+        ensures { option_map options_of result ≡ with_option (options_of self.entry) option value.now }
     {
-        match setting {
-            Setting::InDomain => match self.domain {
-                Some(_) => None,
-                None => Some(Options {
-                    domain: Some(value),
-                    ..self
-                }),
-            },
-            Setting::Mapping => match self.mapping {
-                Some(_) => None,
-                None => Some(Options {
-                    mapping: Some(value),
-                    ..self
-                }),
-            },
+        if self.has(option) {
+            return None;
         }
+        Some(self.with_value(option, value))
+    }
+
+    /// Whether each of them may go before the command, and beside the others.
+    #[tactic(auto, unfolding(crate::specs::Options::suits))]
+    pub(crate) fn suit(self, command: Command) -> bool
+        ensures { result ≡ suits command (options_of self.entry) }
+    {
+        !has_misplaced(OPTIONS, command, self)
     }
 
     /// What they say, or whose value isn't read: first `--domain`'s, which is a domain's SID ([MS-DTYP] 2.4.2.4).
@@ -240,10 +196,10 @@ impl<'a> Options<'a> {
             spelling: self.spelling(),
             domain,
             mapping,
-            without_sacl: self.without_sacl,
+            without_sacl: self.has(OptionName::WithoutSacl),
             bytes: self.byte_form(),
             paths: self.paths(),
-            strict: self.strict,
+            strict: self.has(OptionName::Strict),
         })
     }
 
@@ -264,9 +220,9 @@ impl<'a> Options<'a> {
     fn byte_form(self) -> ByteForm
         ensures { result ≡ byte_form_of (options_of self.entry) }
     {
-        if self.base64 {
+        if self.has(OptionName::Base64) {
             ByteForm::Base64
-        } else if self.loose {
+        } else if self.has(OptionName::Loose) {
             ByteForm::Loose
         } else {
             ByteForm::Hex
@@ -276,7 +232,7 @@ impl<'a> Options<'a> {
     fn paths(self) -> PathSpelling
         ensures { result ≡ paths_of (options_of self.entry) }
     {
-        if self.percent {
+        if self.has(OptionName::Percent) {
             PathSpelling::Percent
         } else {
             PathSpelling::Plain
@@ -286,11 +242,36 @@ impl<'a> Options<'a> {
     fn spelling(self) -> Spelling
         ensures { result ≡ spelling_of (options_of self.entry) }
     {
-        if self.names {
+        if self.has(OptionName::Names) {
             Spelling::Names
         } else {
             Spelling::Number
         }
+    }
+}
+
+/// Whether one of these options is given and may not be.
+fn has_misplaced(rows: &[OptionRow], command: Command, options: Options<'_>) -> bool
+    ensures { result ≡ list_any (λ row. is_misplaced command (options_of options.entry) row.1) rows.now }
+{
+    rows.iter().any(|row| is_misplaced(command, options, row.1))
+}
+
+/// Whether the option is given and may not be: the command doesn't take it, or one that it excludes is given too.
+fn is_misplaced(command: Command, options: Options<'_>, option: ProgramOption) -> bool
+    ensures { result ≡ is_misplaced command (options_of options.entry) option }
+{
+    options.has(option.name)
+        && (!command.takes_option(option.name) || has_excluded(options, option))
+}
+
+/// Whether an option is given that this one excludes.
+fn has_excluded(options: Options<'_>, option: ProgramOption) -> bool
+    ensures { result ≡ option_map_or (has (options_of options.entry)) option.excludes false }
+{
+    match option.excludes {
+        Some(other) => options.has(other),
+        None => false,
     }
 }
 
@@ -305,34 +286,34 @@ fn domain_in(text: &str) -> Option<Domain>
     }
 }
 
-/// The options that the words begin with, and the words behind them. `None`: one of them stands there twice, or lacks
+/// The options that the arguments begin with, and the arguments after them. `None`: one of them is there twice, or lacks
 /// its value.
 pub(crate) fn options_in<'a>(words: &'a [&'a str]) -> Option<(Options<'a>, &'a [&'a str])>
-    ensures { option_map parted result ≡ options_at no_options words.entry.now }
+    ensures { option_map parted result ≡ options_in no_options words.entry.now }
 {
-    options_behind(Options::none(), words)
+    options_after(Options::none(), words)
 }
 
 /// The same with those before.
-fn options_behind<'a>(
+fn options_after<'a>(
     options: Options<'a>,
     words: &'a [&'a str],
 ) -> Option<(Options<'a>, &'a [&'a str])>
-    ensures { option_map parted result ≡ options_at (options_of options.entry) words.entry.now }
+    ensures { option_map parted result ≡ options_in (options_of options.entry) words.entry.now }
 {
-    let [word, behind @ ..] = words else {
+    let [word, after @ ..] = words else {
         return Some((options, words));
     };
-    if let Some(flag) = Flag::named(word) {
-        let options = options.with_flag(flag)?;
-        return options_behind(options, behind);
-    }
-    let Some(setting) = Setting::named(word) else {
+    let Some(option) = option_named(word) else {
         return Some((options, words));
     };
-    let [value, behind @ ..] = behind else {
+    let Some(_) = option.value else {
+        let options = options.with_option(option.name, "")?;
+        return options_after(options, after);
+    };
+    let [value, after @ ..] = after else {
         return None;
     };
-    let options = options.with_setting(setting, value)?;
-    options_behind(options, behind)
+    let options = options.with_option(option.name, value)?;
+    options_after(options, after)
 }

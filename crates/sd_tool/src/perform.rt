@@ -12,7 +12,7 @@ ghost use Rattle.sd_tool.specs.Status.{outcome_status};
 
 use crate::answer::{Answer, Outcome, answer_to, bad_value};
 use crate::command_line::{CommandLine, Invocation, Request};
-use crate::each::{Question, answer_each};
+use crate::each::{LineQuestion, answer_each};
 use crate::failure::Failure;
 use crate::options::{Options, Settings};
 use crate::scripts::{script_outcome, told_of_script};
@@ -162,7 +162,7 @@ fn perform_each<R: Read, W: Write>(
     ensures too_long { result ≢ Err (Failure.Run RunError.TooLong) }
     ensures thread { result ≢ Err (Failure.Run RunError.Thread) }
 {
-    let question = Question { options, request };
+    let question = LineQuestion { options, request };
     let outcome = answer_each(alloc, question, ending, reader, writer)?;
     Ok(Ended::quiet(alloc, outcome))
 }

@@ -3,7 +3,7 @@ ghost use Rattle.std.specs.Prelude.{◌≡◌, ◌<◌, IfErr, IfOk, length, str
 ghost use Rattle.sd_acl.specs.Descriptor.{descriptor_of};
 ghost use Rattle.sd_check.specs.Check.{verdict as verdict_of, dacl_entries};
 ghost use Rattle.sd_answer.specs.Word.{texts};
-ghost use Rattle.sd_tool.specs.Answer.{AnswersVerdict, AnswersUser, AnswersMask, AnswersWords, IsWordFault, answer_of, form_text, verdict_outcome};
+ghost use Rattle.sd_tool.specs.Answer.{AnswersVerdict, AnswersVerdictOf, AnswersUser, AnswersMask, AnswersWords, IsWordFault, answer_of, form_text, verdict_outcome};
 ghost use Rattle.sd_tool.specs.Words.{IsFirstNoWordIn};
 
 use crate::answer::{Answer, Outcome, fault, sddl_fault, text_fault};
@@ -11,7 +11,7 @@ use crate::descriptor::{noting, read_text};
 use crate::failure::Failure;
 use crate::options::Settings;
 use crate::told::{told_line, word_argument, word_reason};
-use crate::words::token_in;
+use crate::words::{argument, arguments_from, token_in};
 use sd_acl::Descriptor;
 use sd_answer::{TokenError, verdict_line, why_text};
 use sd_check::{Token, Verdict, check};
@@ -29,8 +29,25 @@ pub(crate) enum Form {
     Explained,
 }
 
-/// The verdict on these texts, or the fault of the first from the left that isn't read.
+/// The verdict on a descriptor's text, where the user, the mask and words are the arguments after it; or the fault of the
+/// first from the left that is invalid.
 pub(crate) fn answer_verdict(
+    alloc: Global,
+    settings: Settings,
+    form: Form,
+    sddl: &str,
+    arguments: &[&str],
+) -> Result<Answer, Failure>
+    ensures ok { IfOk result (λ answer. AnswersVerdict settings form sddl.now arguments.now (answer_of answer)) }
+    ensures err { IfErr result (λ failure. failure ≡ Failure.Run RunError.Memory) }
+{
+    let user = argument(arguments, 0);
+    let mask = argument(arguments, 1);
+    let words = arguments_from(arguments, 2);
+    verdict_on_text(alloc, settings, form, sddl, user, mask, words)
+}
+
+fn verdict_on_text(
     alloc: Global,
     settings: Settings,
     form: Form,
@@ -39,12 +56,14 @@ pub(crate) fn answer_verdict(
     mask: &str,
     words: &[&str],
 ) -> Result<Answer, Failure>
-    ensures ok { IfOk result (λ answer. AnswersVerdict settings form sddl.now user.now mask.now words.now (answer_of answer)) }
+    ensures ok { IfOk result (λ answer. AnswersVerdictOf settings form sddl.now user.now mask.now words.now (answer_of answer)) }
     ensures err { IfErr result (λ failure. failure ≡ Failure.Run RunError.Memory) }
 {
     let read = match read_text(alloc, settings, sddl) {
         Ok(read) => read,
-        Err(TextError::Fault { fault, place }) => return sddl_fault(alloc, fault, place),
+        Err(TextError::Fault { fault, place }) => {
+            return sddl_fault(alloc, "SDDL", fault, place);
+        }
         Err(TextError::Memory) => return Err(Failure::Run(RunError::Memory)),
     };
     let answer = verdict_for_user(alloc, settings, form, &read.descriptor, user, mask, words)?;

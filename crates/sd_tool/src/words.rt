@@ -1,7 +1,8 @@
 //! The words that make a token where a domain is given.
-ghost use Rattle.std.specs.Prelude.{◌≡◌, ◌<◌, ◌≤◌, ℕ, Err, IfOk, length, map, string_bytes};
+ghost use Rattle.std.specs.Prelude.{◌≡◌, ◌<◌, ◌≤◌, ℕ, Err, IfOk, drop, length, map, string_bytes};
 ghost use Rattle.std.specs.Str.{IsCharBoundary};
 ghost use Rattle.sd_answer.specs.Word.{texts};
+ghost use Rattle.sd_tool.specs.Answer.{argument};
 ghost use Rattle.sd_tool.specs.Words.{AreSpelledOut, IsFirstNoWordIn, IsSpelledOut, IsTokenIn, sid_length as sid_length_of};
 
 use sd_answer::{TokenError, read_token};
@@ -9,6 +10,27 @@ use sd_check::Token;
 use sd_sid::Sid;
 use sd_text::{Domain, print_sid, read_sid_text_in};
 use std::alloc::{AllocError, Global};
+
+/// The argument at the place, empty where there is none.
+pub(crate) fn argument<'a>(arguments: &'a [&'a str], place: usize) -> &'a str
+    ensures { result.now ≡ argument arguments.entry.now place }
+{
+    match arguments.get(place) {
+        Some(text) => text,
+        None => "",
+    }
+}
+
+/// The arguments from the place on.
+pub(crate) fn arguments_from<'a>(arguments: &'a [&'a str], place: usize) -> &'a [&'a str]
+    ensures { result.now ≡ drop place arguments.entry.now }
+{
+    if place < arguments.len() {
+        &arguments[place..]
+    } else {
+        &[]
+    }
+}
 
 /// The token of a user and of these words, in which the aliases of domains are those of the one that is given.
 pub(crate) fn token_in(

@@ -5,7 +5,7 @@
 //!
 //! ```text
 //! let command = command_named("verdict");
-//! let text = help(alloc, Some(CommandName::Verdict))?;
+//! let text = help(alloc, Some(CommandName::Script))?;
 //! let error = refusal(alloc, &["sdstore", "frob"])?;
 //! ```
 #![tactic(auto)]
@@ -19,7 +19,7 @@ mod usage;
 
 pub use row::{
     Argument, Arguments, Command, CommandName, CommandRow, Flag, OptionName, OptionRow, OptionSet,
-    ProgramOption, Value, command_named, option_named,
+    ProgramOption, Question, Value, command_named, option_named,
 };
 pub use table::{COMMANDS, OPTIONS};
 pub use usage::{ByClap, by_clap, help, refusal};

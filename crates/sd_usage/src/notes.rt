@@ -1,16 +1,16 @@
 //! The end of the help on each command, and on the program.
 
-use crate::row::CommandName;
+use crate::row::{CommandName, Question};
 
 /// The end of a command's help, before its example.
 pub(crate) fn notes_of(command: CommandName) -> &'static str {
     match command {
-        CommandName::Verdict => VERDICT_NOTES,
-        CommandName::Why => WHY_NOTES,
-        CommandName::Lint => LINT_NOTES,
-        CommandName::Print => PRINT_NOTES,
-        CommandName::ToBinary => TO_BINARY_NOTES,
-        CommandName::FromBinary => FROM_BINARY_NOTES,
+        CommandName::Ask(Question::Verdict) => VERDICT_NOTES,
+        CommandName::Ask(Question::Why) => WHY_NOTES,
+        CommandName::Ask(Question::Lint) => LINT_NOTES,
+        CommandName::Ask(Question::Print) => PRINT_NOTES,
+        CommandName::Ask(Question::ToBinary) => TO_BINARY_NOTES,
+        CommandName::Ask(Question::FromBinary) => FROM_BINARY_NOTES,
         CommandName::Script => SCRIPT_NOTES,
         CommandName::Serve => SERVE_NOTES,
         CommandName::Audit => AUDIT_NOTES,

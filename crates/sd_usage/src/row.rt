@@ -15,6 +15,21 @@ pub type OptionRow = (&'static str, ProgramOption, &'static str);
 /// A command of the program.
 #[derive(Clone, Copy, Debug, PartialEq, Eq)]
 pub enum CommandName {
+    /// One that answers its arguments, of which the first can be a line of `each`.
+    Ask(Question),
+    /// `script`.
+    Script,
+    /// `serve`.
+    Serve,
+    /// `audit`.
+    Audit,
+    /// `each`.
+    Each,
+}
+
+/// A command that answers its arguments.
+#[derive(Clone, Copy, Debug, PartialEq, Eq)]
+pub enum Question {
     /// `verdict`.
     Verdict,
     /// `why`.
@@ -27,14 +42,6 @@ pub enum CommandName {
     ToBinary,
     /// `frombin`.
     FromBinary,
-    /// `script`.
-    Script,
-    /// `serve`.
-    Serve,
-    /// `audit`.
-    Audit,
-    /// `each`.
-    Each,
 }
 
 /// An option before a command.

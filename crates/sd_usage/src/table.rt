@@ -2,7 +2,7 @@
 
 use crate::row::{
     Argument, Arguments, Command, CommandName, CommandRow, Flag, OptionName, OptionRow, OptionSet,
-    ProgramOption, Value,
+    ProgramOption, Question, Value,
 };
 
 const NO_OPTIONS: OptionSet = OptionSet {
@@ -48,7 +48,7 @@ pub const COMMANDS: &[CommandRow] = &[
     (
         "verdict",
         Command {
-            name: CommandName::Verdict,
+            name: CommandName::Ask(Question::Verdict),
             flag: None,
             arguments: Arguments::Three(Argument::Descriptor, Argument::User, Argument::Mask),
             repeated: Some(Argument::Word),
@@ -61,7 +61,7 @@ sdstore verdict 'D:(D;;0x2;;;S-1-5-21-1-2-3-1001)(A;;0x1f01ff;;;S-1-5-21-1-2-3-1
     (
         "why",
         Command {
-            name: CommandName::Why,
+            name: CommandName::Ask(Question::Why),
             flag: None,
             arguments: Arguments::Three(Argument::Descriptor, Argument::User, Argument::Mask),
             repeated: Some(Argument::Word),
@@ -76,7 +76,7 @@ sdstore verdict 'D:(D;;0x2;;;S-1-5-21-1-2-3-1001)(A;;0x1f01ff;;;S-1-5-21-1-2-3-1
     (
         "lint",
         Command {
-            name: CommandName::Lint,
+            name: CommandName::Ask(Question::Lint),
             flag: None,
             arguments: Arguments::One(Argument::Descriptor),
             repeated: None,
@@ -88,7 +88,7 @@ sdstore verdict 'D:(D;;0x2;;;S-1-5-21-1-2-3-1001)(A;;0x1f01ff;;;S-1-5-21-1-2-3-1
     (
         "print",
         Command {
-            name: CommandName::Print,
+            name: CommandName::Ask(Question::Print),
             flag: None,
             arguments: Arguments::One(Argument::Descriptor),
             repeated: None,
@@ -100,7 +100,7 @@ sdstore verdict 'D:(D;;0x2;;;S-1-5-21-1-2-3-1001)(A;;0x1f01ff;;;S-1-5-21-1-2-3-1
     (
         "tobin",
         Command {
-            name: CommandName::ToBinary,
+            name: CommandName::Ask(Question::ToBinary),
             flag: None,
             arguments: Arguments::One(Argument::Descriptor),
             repeated: None,
@@ -112,7 +112,7 @@ sdstore verdict 'D:(D;;0x2;;;S-1-5-21-1-2-3-1001)(A;;0x1f01ff;;;S-1-5-21-1-2-3-1
     (
         "frombin",
         Command {
-            name: CommandName::FromBinary,
+            name: CommandName::Ask(Question::FromBinary),
             flag: None,
             arguments: Arguments::One(Argument::Bytes),
             repeated: None,

@@ -1,7 +1,7 @@
 //! Texts that follow from the table: lists of names, usage lines, and the help on arguments and options.
 
 use crate::notes::notes_of;
-use crate::row::{Argument, Arguments, Command, CommandRow, Flag, OptionName, OptionRow};
+use crate::row::{Argument, Arguments, CommandName, CommandRow, Flag, OptionName, OptionRow};
 use crate::table::COMMANDS;
 use std::alloc::{AllocError, Global};
 
@@ -142,20 +142,11 @@ pub(crate) fn commands_with(
     Ok(names)
 }
 
-fn takes_line(command: Command) -> bool {
-    match command.arguments {
-        Arguments::Nothing => false,
-        Arguments::One(first) | Arguments::Two(first, _) | Arguments::Three(first, _, _) => {
-            matches!(first, Argument::Descriptor | Argument::Bytes)
-        }
-    }
-}
-
-/// The names of the commands that `each` takes: the first argument of each is a descriptor.
+/// The names of the commands that `each` takes.
 pub(crate) fn line_commands(alloc: Global) -> Result<Vec<&'static str>, AllocError> {
     let mut names = Vec::new(alloc);
     for row in COMMANDS {
-        if takes_line(row.1) {
+        if matches!(row.1.name, CommandName::Ask(_)) {
             names.push(row.0)?;
         }
     }

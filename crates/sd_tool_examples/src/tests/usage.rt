@@ -37,7 +37,10 @@ fn expect_both(
 }
 
 /// Words that ask for a command.
-const COMMANDS: [&[&str]; 74] = [
+const COMMANDS: [&[&str]; 77] = [
+    &["serve", "--ids"],
+    &["serve", "--ids", "--"],
+    &["each", "-0", "--", "print"],
     &["--percent", "script"],
     &["--strict", "--percent", "serve"],
     &["--mapping", "key", "--strict", "audit", "1"],
@@ -175,7 +178,9 @@ fn both_read_help_and_version(rt: HostRuntime) -> Result<(), AllocError> {
 }
 
 /// Words that are no command line.
-const REFUSED: [&[&str]; 67] = [
+const REFUSED: [&[&str]; 69] = [
+    &["serve", "--", "--ids"],
+    &["serve", "--ids", "--ids"],
     &["--percent", "--percent", "script"],
     &["--strict", "--strict", "script"],
     &["--loose", "--loose", "frombin", "00"],
@@ -367,7 +372,8 @@ fn clap_knows_no_numbers(rt: HostRuntime) -> Result<(), AllocError> {
 // `clap` doesn't know how many arguments the command of `each` has.
 #[test]
 fn clap_counts_no_arguments_of_a_question(rt: HostRuntime) -> Result<(), AllocError> {
-    let rows: [&[&str]; 7] = [
+    let rows: [&[&str]; 8] = [
+        &["each", "--", "-0", "print"],
         &["each", "frob"],
         &["each", "script"],
         &["each", "each", "print"],

@@ -1,16 +1,6 @@
-use Rattle.std.proofs.Common.{codes, inl}
-use Rattle.sd_acl.specs.Descriptor.{descriptor_of}
-use Rattle.sd_tool.specs.Answer.{AnswersUser, answer_of}
-use Rattle.sd_tool.proofs.Texts.{noted}
+-- The arguments are the user, the mask and words.
 use Rattle.sd_tool.proofs.verdict.answer_verdict.Goals as goal
 
 pub returns-clause-ok : goal.returns-clause-ok
 returns-clause-ok c =
-    let d = descriptor_of c.in-Ok.read.descriptor in
-    inl (
-      d,
-      c.in-Ok.read.left_out,
-      c.in-Ok.ensures.read,
-      noted (codes "SDDL") c.in-Ok.read.left_out (AnswersUser c.args.settings c.args.form c.args.user.now c.args.mask.now c.args.words.now d)
-          (answer_of c.in_ok-answer.answer) (answer_of c.in_ok-noting.field-0) c.in_ok-answer.ensures.ok c.in_ok-noting.ensures,
-    )
+    rw (c.argument-user.ensures, c.argument-mask.ensures, c.arguments_from-words.ensures) at c.verdict_on_text.ensures.ok
