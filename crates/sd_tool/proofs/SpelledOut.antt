@@ -7,7 +7,7 @@ use Rattle.std.specs.Str.Pattern.{FindsChar}
 use Rattle.std.proofs.lemmas.List.{take_more}
 use Rattle.std.proofs.lemmas.List.Sums.{position_or_len_is}
 use Rattle.std.proofs.lemmas.Str.Pattern.{find_char}
-use Rattle.sd_answer.specs.Word.{IsFirstNoWord, texts}
+use Rattle.sd_answer.specs.Word.{IsFirstNoGroup, IsFirstNoWord, texts}
 use Rattle.sd_text.specs.declared.domain.Domain.{Domain}
 use Rattle.sd_tool.specs.Told.{word_at}
 use Rattle.sd_tool.specs.Words.{AreSpelledOut, IsSpelledOut, sid_length}
@@ -40,6 +40,21 @@ spelled_within domain [] (f ∷ fulls) place are first = absurd are
 spelled_within domain (w ∷ lent) [] place are first = absurd are
 spelled_within domain (w ∷ lent) (f ∷ fulls) zero are first = omega arith
 spelled_within domain (w ∷ lent) (f ∷ fulls) (suc place) are first = let low = spelled_within domain lent fulls place are.1 first.1 in omega (arith, low)
+
+-- the same of groups
+pub first_group_within : (lent : List (Bor (List ℕ))) (place : ℕ) → IsFirstNoGroup (texts lent) place → place < length lent
+first_group_within [] place first = absurd first
+first_group_within (w ∷ lent) zero first = omega arith
+first_group_within (w ∷ lent) (suc place) first = let low = first_group_within lent place first.1 in omega (arith, low)
+
+pub spelled_group_within : (domain : Domain) (lent : List (Bor (List ℕ))) (fulls : List (List ℕ)) (place : ℕ)
+    → AreSpelledOut domain (texts lent) fulls → IsFirstNoGroup fulls place → place < length lent
+spelled_group_within domain [] [] place are first = absurd first
+spelled_group_within domain [] (f ∷ fulls) place are first = absurd are
+spelled_group_within domain (w ∷ lent) [] place are first = absurd are
+spelled_group_within domain (w ∷ lent) (f ∷ fulls) zero are first = omega arith
+spelled_group_within domain (w ∷ lent) (f ∷ fulls) (suc place) are first =
+    let low = spelled_group_within domain lent fulls place are.1 first.1 in omega (arith, low)
 
 -- the word at a place, as it stands among those that are lent
 pub word_is : (lent : List (Bor (List ℕ))) (place : ℕ) (d : Bor (List ℕ)) → place < length lent → (get_or lent place d).now ≡ word_at (texts lent) place

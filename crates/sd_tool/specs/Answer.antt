@@ -25,6 +25,12 @@ use Rattle.sd_wire.specs.declared.fault.WireFault.{WireFault}
 use Rattle.sd_check.specs.Check.{verdict, dacl_entries}
 use Rattle.sd_check.specs.Token.{TokenValue}
 use Rattle.sd_answer.specs.Answer.{line, verdict_line, fault_line, sddl_fault_line}
+use Rattle.sd_analysis.specs.Compare.{AreGains}
+use Rattle.sd_analysis.specs.declared.compare_report.Change.{Change}
+use Rattle.sd_analysis.specs.declared.who_has.Access.{Access}
+use Rattle.sd_check.specs.declared.token.GroupState.{GroupState}
+use Rattle.sd_answer.specs.Compare.{compare_text}
+use Rattle.sd_answer.specs.Who.{who_text}
 use Rattle.sd_answer.specs.Why.{why_text}
 use Rattle.sd_answer.specs.Word.{texts}
 use Rattle.sd_script.specs.Output.{PrintsAndCounts}
@@ -36,6 +42,7 @@ use Rattle.sd_script.specs.Ids.{PrintsAndCountsIn}
 use Rattle.sd_lines.specs.Answers.{PrintsAndLeaves}
 use Rattle.sd_lines.specs.declared.ending.Ending.{Ending}
 use Rattle.sd_lines.specs.declared.form.Form.{Form as LineForm}
+use Rattle.sd_tool.specs.Analysis.{AreAccesses, IsBaseIn, IsFirstNoGroupIn, compare_outcome, parts_in, rights_asked}
 use Rattle.sd_tool.specs.Bytes.{bytes_read, form_name, has_sacl, without_sacl}
 use Rattle.sd_tool.specs.Scripts.{IsToldOfScript, manner_of, script_outcome}
 use Rattle.sd_usage.specs.declared.row.Question.{Question}
@@ -43,7 +50,7 @@ use Rattle.sd_usage.specs.declared.row.Question.TheVariants as questions
 use Rattle.sd_tool.specs.CommandLine.{CommandLineValue, InvocationValue, Ask, Script as AsksScript, Serve as AsksServe, Audit as AsksAudit, Each as AsksEach, Help, Version, RequestValue}
 use Rattle.sd_tool.specs.Lint.{dacl_lines, or_clean, lint_outcome}
 use Rattle.sd_tool.specs.Options.{OptionsValue, AreSettings, HasBadValue}
-use Rattle.sd_tool.specs.Told.{fault_text, sacl_note, told_line, wire_fault_text, word_argument, word_at, IsSidReason, IsWordReason}
+use Rattle.sd_tool.specs.Told.{fault_text, sacl_note, told_line, wire_fault_text, word_argument, word_at, IsSidReason, IsStateReason, IsWordReason}
 use Rattle.sd_tool.specs.Words.{IsTokenIn, IsFirstNoWordIn}
 use Rattle.sd_tool.specs.declared.answer.Answer.{Answer}
 use Rattle.sd_tool.specs.declared.answer.Outcome.{Outcome}
@@ -222,6 +229,59 @@ AnswersDecoded settings (Err reason) answer = IsFault (fault_line (form_name set
 abbrev pub AnswersFromBinary : Settings → List ℕ → AnswerValue → Type 0
 AnswersFromBinary settings written answer = AnswersDecoded settings (bytes_read settings.bytes written) answer
 
+-- ---- whom rights are granted to, and changes
+
+-- the first of the words that is no group, and why
+abbrev pub IsGroupFault : Settings → List (Bor (List ℕ)) → AnswerValue → Type 0
+IsGroupFault settings words answer =
+    (place : ℕ) × IsFirstNoGroupIn settings.domain (texts words) place
+    × (reason : List ℕ) × IsStateReason settings.domain (argument words place) reason
+    × IsFault (fault_line (codes "token")) (told_line (word_argument place (argument words place)) reason) answer
+
+-- the words are a base, of which this is answered; or one of them is no group
+abbrev pub AnswersOfBase : Settings → List (Bor (List ℕ)) → (List (SidValue × GroupState) → AnswerValue → Type 0) → AnswerValue → Type 0
+AnswersOfBase settings words Answers answer =
+    ((base : List (SidValue × GroupState)) × IsBaseIn settings.domain (texts words) base × Answers base answer)
+    ⊎ IsGroupFault settings words answer
+
+-- whom the rights are granted to is printed
+abbrev pub PrintsWho : Settings → ℕ → DescriptorValue → List (SidValue × GroupState) → AnswerValue → Type 0
+PrintsWho settings asked d base answer =
+    (accesses : List Access) × AreAccesses settings.mapping d base (rights_asked settings.mapping asked) accesses
+    × IsDone (who_text settings.spelling accesses) answer
+
+abbrev pub AnswersWhoMask : Settings → List ℕ → List (Bor (List ℕ)) → DescriptorValue → AnswerValue → Type 0
+AnswersWhoMask settings mask words d answer =
+    ((asked : ℕ) × Spells mask_text mask asked × AnswersOfBase settings words (PrintsWho settings asked d) answer)
+    ⊎ IsTextFault mask_text mask (fault_line (codes "mask")) (codes "MASK") answer
+
+abbrev pub AnswersWhoOf : Settings → List ℕ → List ℕ → List (Bor (List ℕ)) → AnswerValue → Type 0
+AnswersWhoOf settings written mask words answer = AnswersOfText settings written (AnswersWhoMask settings mask words) answer
+
+-- the arguments after the descriptor are the mask and a base
+abbrev pub AnswersWho : Settings → List ℕ → List (Bor (List ℕ)) → AnswerValue → Type 0
+AnswersWho settings written arguments answer = AnswersWhoOf settings written (argument arguments 0) (drop 1 arguments) answer
+
+-- what tokens gain and lose is printed, or that they are the same
+abbrev pub PrintsComparison : Settings → DescriptorValue → DescriptorValue → List (SidValue × GroupState) → AnswerValue → Type 0
+PrintsComparison settings old new base answer =
+    (gained : List Change) × (lost : List Change)
+    × AreGains settings.mapping base (parts_in old) (parts_in new) gained
+    × AreGains settings.mapping base (parts_in new) (parts_in old) lost
+    × (answer.printed ≡ compare_text settings.spelling (parts_in old) (parts_in new) gained lost)
+    × (answer.told ≡ []) × (answer.outcome ≡ compare_outcome gained lost)
+
+abbrev pub AnswersNew : Settings → List ℕ → List (Bor (List ℕ)) → DescriptorValue → AnswerValue → Type 0
+AnswersNew settings new words old answer =
+    AnswersOfArgument (codes "NEW") settings new (λ d. AnswersOfBase settings words (PrintsComparison settings old d)) answer
+
+abbrev pub AnswersCompareOf : Settings → List ℕ → List ℕ → List (Bor (List ℕ)) → AnswerValue → Type 0
+AnswersCompareOf settings old new words answer = AnswersOfArgument (codes "OLD") settings old (AnswersNew settings new words) answer
+
+-- the arguments after the old descriptor are the new one and a base
+abbrev pub AnswersCompare : Settings → List ℕ → List (Bor (List ℕ)) → AnswerValue → Type 0
+AnswersCompare settings old arguments answer = AnswersCompareOf settings old (argument arguments 0) (drop 1 arguments) answer
+
 -- ---- scripts
 
 -- the output of the script on the input, as this is printed and counted
@@ -237,6 +297,8 @@ AnswersScript Prints input settings answer =
 abbrev pub AnswersQuestion : Settings → Question → List ℕ → List (Bor (List ℕ)) → AnswerValue → Type 0
 AnswersQuestion settings questions.Verdict text arguments answer = AnswersVerdict settings Short text arguments answer
 AnswersQuestion settings questions.Why text arguments answer = AnswersVerdict settings Explained text arguments answer
+AnswersQuestion settings questions.Who text arguments answer = AnswersWho settings text arguments answer
+AnswersQuestion settings questions.Compare text arguments answer = AnswersCompare settings text arguments answer
 AnswersQuestion settings questions.Lint text arguments answer = AnswersLint settings text answer
 AnswersQuestion settings questions.Print text arguments answer = AnswersPrint settings text answer
 AnswersQuestion settings questions.ToBinary text arguments answer = AnswersToBinary settings text answer
@@ -280,6 +342,8 @@ AnswersTold options request (Some text) answer =
 -- what follows each answer: an empty line, where an answer may have several lines
 abbrev pub after_answer : Question → List ℕ
 after_answer questions.Why = codes "\n"
+after_answer questions.Who = codes "\n"
+after_answer questions.Compare = codes "\n"
 after_answer questions.Lint = codes "\n"
 after_answer question = []
 

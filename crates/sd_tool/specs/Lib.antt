@@ -10,3 +10,4 @@ pub mod Told
 pub mod Lint
 pub mod Words
 pub mod Scripts
+pub mod Analysis

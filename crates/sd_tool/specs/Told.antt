@@ -58,11 +58,13 @@ IsSidReason domain unfit text reason =
     ((sid : SidValue) × Spells (sid_text_in domain) text sid × (reason ≡ unfit))
     ⊎ ((fault : TextFault) × (place : ℕ) × HasFault (sid_text_in domain) text fault place × (reason ≡ fault_text fault place))
 
+-- why a text is no SID with a state
+abbrev pub IsStateReason : Option Domain → List ℕ → List ℕ → Type 0
+IsStateReason domain word reason = IsSidReason domain (codes "no such state") (take (sid_length word) word) reason
+
 -- why a text is no word
 abbrev pub IsWordReason : Option Domain → List ℕ → List ℕ → Type 0
-IsWordReason domain word reason = MatchBool (begins_by_plus word)
-    (reason ≡ codes "no such privilege")
-    (IsSidReason domain (codes "no such state") (take (sid_length word) word) reason)
+IsWordReason domain word reason = MatchBool (begins_by_plus word) (reason ≡ codes "no such privilege") (IsStateReason domain word reason)
 
 -- the word at a place
 abbrev pub word_at : List (List ℕ) → ℕ → List ℕ

@@ -6,6 +6,7 @@ ghost use Rattle.sd_tool.specs.CommandLine.{command_line_of, invocation_of, is_s
 ghost use Rattle.sd_tool.specs.Status.{outcome_status};
 ghost use Rattle.sd_tool.specs.Told.{fault_text, told_line as told_line_of};
 
+use crate::analysis::{answer_compare, answer_who};
 use crate::command_line::{CommandLine, Invocation, Request};
 use crate::convert::{answer_from_binary, answer_print, answer_to_binary};
 use crate::failure::Failure;
@@ -109,6 +110,8 @@ fn answer_question(
     match request.question {
         Question::Verdict => answer_verdict(alloc, settings, Form::Short, text, arguments),
         Question::Why => answer_verdict(alloc, settings, Form::Explained, text, arguments),
+        Question::Who => answer_who(alloc, settings, text, arguments),
+        Question::Compare => answer_compare(alloc, settings, text, arguments),
         Question::Lint => answer_lint(alloc, settings, text),
         Question::Print => answer_print(alloc, settings, text),
         Question::ToBinary => answer_to_binary(alloc, settings, text),

@@ -80,7 +80,7 @@ fn after_answer(question: Question) -> &'static str
     ensures { result.now ≡ after_answer question }
 {
     match question {
-        Question::Why | Question::Lint => "\n",
+        Question::Why | Question::Who | Question::Compare | Question::Lint => "\n",
         _ => "",
     }
 }

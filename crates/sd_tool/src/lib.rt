@@ -11,6 +11,7 @@
 //! ```
 #![tactic(auto)]
 
+mod analysis;
 mod answer;
 mod bytes;
 mod command_line;

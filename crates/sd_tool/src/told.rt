@@ -1,6 +1,6 @@
 //! What standard error is told beside an answer: which argument isn't read, and why; or that a SACL is left out.
 ghost use Rattle.std.specs.Prelude.{◌≡◌, ◌<◌, ◌^◌, IfOk, string_bytes};
-ghost use Rattle.sd_tool.specs.Told.{IsSidReason, IsWordReason, begins_by_plus as begins_by_plus_of, fault_text as fault_text_of, sacl_note as sacl_note_of, told_line as told_line_of, word_argument as word_argument_of};
+ghost use Rattle.sd_tool.specs.Told.{IsSidReason, IsStateReason, IsWordReason, begins_by_plus as begins_by_plus_of, fault_text as fault_text_of, sacl_note as sacl_note_of, told_line as told_line_of, word_argument as word_argument_of};
 
 use crate::shown::shown_word;
 use crate::words::sid_length;
@@ -76,6 +76,17 @@ pub(crate) fn word_reason(
     if begins_by_plus(word) {
         return String::from_str(alloc, "no such privilege");
     }
+    state_reason(alloc, domain, word)
+}
+
+/// Why a text is no SID with a state.
+pub(crate) fn state_reason(
+    alloc: Global,
+    domain: Option<Domain>,
+    word: &str,
+) -> Result<String, AllocError>
+    ensures { IfOk result (λ reason. IsStateReason domain word.now (string_bytes reason)) }
+{
     let (sid, _) = word.split_at(sid_length(word));
     sid_reason(alloc, domain, "no such state", sid)
 }

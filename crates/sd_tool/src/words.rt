@@ -2,11 +2,12 @@
 ghost use Rattle.std.specs.Prelude.{◌≡◌, ◌<◌, ◌≤◌, ℕ, Err, IfOk, drop, length, map, string_bytes};
 ghost use Rattle.std.specs.Str.{IsCharBoundary};
 ghost use Rattle.sd_answer.specs.Word.{texts};
+ghost use Rattle.sd_tool.specs.Analysis.{IsBaseIn, IsFirstNoGroupIn};
 ghost use Rattle.sd_tool.specs.Answer.{argument};
 ghost use Rattle.sd_tool.specs.Words.{AreSpelledOut, IsFirstNoWordIn, IsSpelledOut, IsTokenIn, sid_length as sid_length_of};
 
-use sd_answer::{TokenError, read_token};
-use sd_check::Token;
+use sd_answer::{TokenError, read_base, read_token};
+use sd_check::{GroupState, Token};
 use sd_sid::Sid;
 use sd_text::{Domain, print_sid, read_sid_text_in};
 use std::alloc::{AllocError, Global};
@@ -49,6 +50,24 @@ pub(crate) fn token_in(
     let fulls = spelled_out(alloc, domain, words)?;
     let lent = lent_texts(alloc, &fulls)?;
     read_token(alloc, user, &lent)
+}
+
+/// The base that these words are, in which the aliases of domains are those of the one that is given.
+pub(crate) fn base_in(
+    alloc: Global,
+    domain: Option<Domain>,
+    words: &[&str],
+) -> Result<Vec<(Sid, GroupState)>, TokenError>
+    ensures base { IfOk result (λ base. IsBaseIn domain (texts words.now) base.items) }
+    ensures no_group { (place : ℕ) → result ≡ Err (TokenError.NoWord place) → IsFirstNoGroupIn domain (texts words.now) place }
+    ensures within { (place : ℕ) → result ≡ Err (TokenError.NoWord place) → place < length words.now }
+{
+    let Some(domain) = domain else {
+        return read_base(alloc, words);
+    };
+    let fulls = spelled_out(alloc, domain, words)?;
+    let lent = lent_texts(alloc, &fulls)?;
+    read_base(alloc, &lent)
 }
 
 /// The words, each with its SID as it is printed.

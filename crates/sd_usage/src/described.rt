@@ -57,7 +57,7 @@ pub(crate) fn described<'a>(
     texts: &'a CommandTexts,
 ) -> Result<Command<'a>, AllocError> {
     // Help with a list in it begins on a line of its own.
-    let has_words = row.1.repeated == Some(Argument::Word);
+    let has_words = matches!(row.1.repeated, Some(Argument::Word | Argument::Group));
     let mut described = Command::new(alloc, row.0)
         .about(row.2)
         .override_usage(texts.usage.as_str())

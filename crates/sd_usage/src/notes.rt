@@ -7,6 +7,8 @@ pub(crate) fn notes_of(command: CommandName) -> &'static str {
     match command {
         CommandName::Ask(Question::Verdict) => VERDICT_NOTES,
         CommandName::Ask(Question::Why) => WHY_NOTES,
+        CommandName::Ask(Question::Who) => WHO_NOTES,
+        CommandName::Ask(Question::Compare) => COMPARE_NOTES,
         CommandName::Ask(Question::Lint) => LINT_NOTES,
         CommandName::Ask(Question::Print) => PRINT_NOTES,
         CommandName::Ask(Question::ToBinary) => TO_BINARY_NOTES,
@@ -67,6 +69,42 @@ rights below 0x200000, granted or denied.
 Statuses:
   0  granted
   1  another verdict, or an invalid argument
+  2  the arguments aren't a valid command line
+  3  out of memory, or an output error";
+
+const WHO_NOTES: &str = "\
+A first '--' after 'who' is dropped, and everything after it is an argument. Options go before
+'who': 'sdstore help' lists them.
+
+Prints a line for each part of the rights and each alternative:
+  0x89 to S-1-5-32-545
+  0x120000 to S-1-1-0 unless S-1-5-32-546
+  0x60000 to S-1-5-32-544 as the owner
+  0x1 to everyone
+  0xfe00 to nobody
+A user without privileges has the rights if an alternative holds: its SID is the user's or an
+enabled group's, and none of those after 'unless' is the user's, a group's or a deny-only group's.
+MAXIMUM_ALLOWED, 0x02000000, asks about all rights. Bits from 0x200000 on are left out.
+
+Statuses:
+  0  the lines were printed
+  1  an invalid argument
+  2  the arguments aren't a valid command line
+  3  out of memory, or an output error";
+
+const COMPARE_NOTES: &str = "\
+A first '--' after 'compare' is dropped, and everything after it is an argument. Options go before
+'compare': 'sdstore help' lists them. 'each compare NEW' takes OLD from each line.
+
+Prints 'same', or a line for each part of the rights that some user gains or loses, with such a
+user, as arguments of 'sdstore verdict' after the descriptor and the mask:
+  gained 0x1 by S-1-5-32-545 S-1-5-32-546=deny
+  lost 0x60000 by S-1-5-32-544
+'everyone' is any user that neither descriptor names.
+
+Statuses:
+  0  same
+  1  another answer, or an invalid argument
   2  the arguments aren't a valid command line
   3  out of memory, or an output error";
 
@@ -168,10 +206,10 @@ Statuses:
      answers from the workers";
 
 const EACH_NOTES: &str = "\
-Each line of standard input is the descriptor, the first argument of COMMAND, and has one answer,
-in order, a fault too. Every complete line is answered before more input is read: a program can
-write a line, wait for its answer, and write the next. Answers of 'why' and 'lint', which may have
-several lines, end with an empty line.
+Each line of standard input is the first argument of COMMAND, a descriptor, and has one answer, in
+order, a fault too. Every complete line is answered before more input is read: a program can
+write a line, wait for its answer, and write the next. Answers of 'why', 'who', 'compare' and
+'lint', which may have several lines, end with an empty line.
 
 A line ends with a line feed, and one carriage return before it is dropped; with '-0' it ends with a
 zero byte. The last line may lack its end. A byte order mark before the first line is dropped. A

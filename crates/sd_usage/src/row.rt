@@ -34,6 +34,10 @@ pub enum Question {
     Verdict,
     /// `why`.
     Why,
+    /// `who`.
+    Who,
+    /// `compare`.
+    Compare,
     /// `lint`.
     Lint,
     /// `print`.
@@ -102,6 +106,10 @@ pub enum Arguments {
 pub enum Argument {
     /// `SDDL`: a descriptor in SDDL ([MS-DTYP] 2.5.1.1).
     Descriptor,
+    /// `OLD`: the same, before a change.
+    Old,
+    /// `NEW`: the same, after it.
+    New,
     /// `BYTES`: a descriptor in self-relative form ([MS-DTYP] 2.4.6).
     Bytes,
     /// `USER`: a user's SID ([MS-DTYP] 2.4.2.1).
@@ -110,6 +118,8 @@ pub enum Argument {
     Mask,
     /// `WORD`: a group, a restricting SID or a privilege.
     Word,
+    /// `WORD`: a group that every token in question has.
+    Group,
     /// `N`: a number of workers.
     Workers,
     /// `COMMAND`: the command of `each`.

@@ -74,6 +74,36 @@ sdstore verdict 'D:(D;;0x2;;;S-1-5-21-1-2-3-1001)(A;;0x1f01ff;;;S-1-5-21-1-2-3-1
         "sdstore why 'D:(D;;0x2;;;BU)(A;;FR;;;BU)' S-1-5-21-1-2-3-1001 0x10003 BU",
     ),
     (
+        "who",
+        Command {
+            name: CommandName::Ask(Question::Who),
+            flag: None,
+            arguments: Arguments::Two(Argument::Descriptor, Argument::Mask),
+            repeated: Some(Argument::Group),
+            options: OptionSet {
+                names: true,
+                ..MAPPED_TEXT_OPTIONS
+            },
+        },
+        "Prints to whom a descriptor grants the rights of an access mask",
+        "sdstore who 'O:BAG:SYD:(D;;FW;;;BG)(A;;FA;;;BU)(A;;FR;;;WD)' FR",
+    ),
+    (
+        "compare",
+        Command {
+            name: CommandName::Ask(Question::Compare),
+            flag: None,
+            arguments: Arguments::Two(Argument::Old, Argument::New),
+            repeated: Some(Argument::Group),
+            options: OptionSet {
+                names: true,
+                ..MAPPED_TEXT_OPTIONS
+            },
+        },
+        "Prints which rights users gain and lose where one descriptor takes the place of another",
+        "sdstore compare 'O:BAG:SYD:(A;;FA;;;BU)' 'O:BAG:SYD:(D;;FW;;;BG)(A;;FA;;;BU)'",
+    ),
+    (
         "lint",
         Command {
             name: CommandName::Ask(Question::Lint),
@@ -168,7 +198,7 @@ printf 'open 1 O:BAG:SYD:\\naddo /a O:BAG:SYD:(A;;FR;;;WD)\\npublish\\ncheck 0 /
             repeated: Some(Argument::CommandArgument),
             options: NO_OPTIONS,
         },
-        "Runs a command for each line of standard input, with the line as the descriptor",
+        "Runs a command for each line of standard input, with the line as its first argument",
         "printf 'D:(A;;FR;;;WD)\\nD:(A;;FX;;;WD)\\n' | sdstore each verdict S-1-5-21-1-2-3-1001 0x1 WD",
     ),
 ];

@@ -20,6 +20,12 @@ SID=restrict  a restricting SID, not a group: access is checked a second time, f
 +security     SeSecurityPrivilege
 +take         SeTakeOwnershipPrivilege";
 
+const GROUP: &str = "\
+What every token in question has:
+SID           an enabled group
+SID=deny      a deny-only group, which counts for deny entries alone
+SID=off       a disabled group, which counts for nothing";
+
 /// The texts on a command that the table doesn't have word for word.
 #[derive(Drop)]
 pub(crate) struct CommandTexts {
@@ -45,13 +51,16 @@ impl CommandTexts {
     pub(crate) fn help(&self, argument: Argument) -> &str {
         match argument {
             Argument::Descriptor => "The descriptor in SDDL",
+            Argument::Old => "The descriptor before the change, in SDDL",
+            Argument::New => "The descriptor after the change, in SDDL",
             Argument::Bytes => "The bytes of the descriptor, in hexadecimal",
             Argument::User => USER,
             Argument::Mask => MASK,
             Argument::Word => WORD,
+            Argument::Group => GROUP,
             Argument::Workers => "The number of workers, 1 to 64, in one or two decimal digits",
             Argument::Command => self.line_commands.as_str(),
-            Argument::CommandArgument => "The command's arguments without the descriptor",
+            Argument::CommandArgument => "The command's arguments without the first",
         }
     }
 }
@@ -60,10 +69,12 @@ impl CommandTexts {
 pub(crate) fn argument_name(argument: Argument) -> &'static str {
     match argument {
         Argument::Descriptor => "SDDL",
+        Argument::Old => "OLD",
+        Argument::New => "NEW",
         Argument::Bytes => "BYTES",
         Argument::User => "USER",
         Argument::Mask => "MASK",
-        Argument::Word => "WORD",
+        Argument::Word | Argument::Group => "WORD",
         Argument::Workers => "N",
         Argument::Command => "COMMAND",
         Argument::CommandArgument => "ARG",
