@@ -141,7 +141,7 @@ part may begin with '0x', as in a .reg file or a dump.";
 
 const SCRIPT_NOTES: &str = "\
 Each line is a command, and has one line of output. An empty line and one that begins with '#' have
-none. 'why', 'list' and 'dump' have several lines of output, the last of which is empty:
+none. 'why', 'find', 'list', 'dump' and 'who' have several, the last of which is empty:
   open N SDDL                          opens the store with a root, and readers 0 to N - 1
   addc PATH SDDL, addo PATH SDDL       adds a container, an object
   owner PATH SID, group PATH SID       sets the node's owner, its group
@@ -157,7 +157,9 @@ none. 'why', 'list' and 'dump' have several lines of output, the last of which i
   check I PATH USER MASK [WORD]...     asks, as reader I, whether the user is granted the mask
   why I PATH USER MASK [WORD]...       asks, as reader I, for the reasons of such a check
   show I PATH                          asks, as reader I, for the node's descriptor
+  find I PATH USER MASK [WORD]...      asks, as reader I, which nodes at and below the path grant it
   list [PATH]                          lists the published nodes at and below the path, or all
+  who PATH MASK [WORD]...              prints whom the published node grants which rights
   dump                                 prints the published tree as a script that makes it
 
 Generic rights are mapped by '--mapping KIND' before 'script', and without it as those of a file:
@@ -193,7 +195,8 @@ const AUDIT_NOTES: &str = "\
 Has the output of 'sdstore script', except for these lines:
   open N SDDL                          opens the store with a reader for each worker
   check I PATH USER MASK [WORD]...     is answered at the end, for any number I
-  tell, learn, why, show, list, dump   are faults
+  tell, learn, why, find, show, list, dump, who
+                                       are faults
 At the end all accepted edits are published, and then the checks are answered, in order.
 '--mapping', '--percent' and '--strict' go before 'audit', as before 'script'.
 
