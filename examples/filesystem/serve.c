@@ -1,7 +1,7 @@
 /*
  * How MOUNT is mounted and served, and what its end says. libfuse's own loop (3.14) isn't used: where calls are pending
- * at an unmount Linux ends a read by ECONNABORTED too, which that loop takes for a failure; and a thread that it cancels
- * while it reports that keeps the lock of standard error, so that the next one waits for good.
+ * at an unmount Linux ends a read by ECONNABORTED too, which that loop takes for a failure; and a thread that it
+ * cancels while it reports that keeps the lock of standard error, so that the next one waits for good.
  */
 #include "hudarinfs.h"
 

@@ -1,4 +1,4 @@
-/* For tests alone: the process ends at a step, as by a crash, or waits between FOLDER and the view, or before a close. */
+/* For tests alone: the process ends at a step, as by a crash, or waits before the view changes or a file closes. */
 #include "hudarinfs.h"
 
 #ifdef STEPS
