@@ -22,7 +22,7 @@ from distributed import Client
 TOP = Path(__file__).resolve().parent.parent.parent
 HERE = TOP / "examples/fleet"
 #: The seconds that a cluster may take: far more than it does, as the machine may be busy.
-PATIENCE = 240
+PATIENCE = 1200
 os.environ.setdefault("HUDARIN_LIBRARY", str(TOP / "bindings/out/libhudarin.so.0"))
 
 passed = failed = 0
@@ -105,26 +105,50 @@ def some_done(client: Client) -> "tuple[int, int] | None":
     return (done, shares) if done >= 2 else None
 
 
+def copied(folder: str, module: str, more: str) -> Path:
+    """A copy of the audit, in which one of its modules has more text."""
+    there = Path(folder, "examples/fleet")
+    shutil.copytree(HERE, there, ignore=shutil.ignore_patterns("__pycache__"))
+    Path(folder, "bindings").symlink_to(TOP / "bindings")
+    with (there / f"{module}.py").open("a") as text:
+        text.write(more)
+    return there
+
+
 def with_losses(count: int) -> None:
-    """One of two workers is killed and another joins while shares are worked out: the audit's answers are the same."""
+    """One of two workers is killed and another joins while shares are worked out: the audit's answers are the same.
+    Shares behind the first wait until that has happened."""
     with ExitStack() as stack:
         folder = stack.enter_context(tempfile.TemporaryDirectory(prefix="fleet."))
+        lost = Path(folder, "lost")
+        there = copied(
+            folder,
+            "auditing",
+            "\nimport pathlib, time\n"
+            "_share = share\n"
+            "def share(first, end):\n"
+            f"    while first >= {count // 2} and not pathlib.Path({str(lost)!r}).exists():\n"
+            "        time.sleep(0.01)\n"
+            "    return _share(first, end)\n",
+        )
         cluster = stack.enter_context(Cluster(folder))
         cluster.start_worker()
         cluster.start_worker()
         client = stack.enter_context(Client(cluster.address))
         client.wait_for_workers(2)
         with Path(folder, "audit.out").open("w") as out:
-            command = [sys.executable, str(HERE / "audit.py"), str(count), "--scheduler", cluster.address]
+            command = [sys.executable, str(there / "audit.py"), str(count), "--scheduler", cluster.address]
             audit = subprocess.Popen(command, stdin=subprocess.DEVNULL, stdout=out, stderr=out)
 
         try:
             done, shares = eventually(lambda: some_done(client), lambda: audit.poll() is None) or (0, 0)
+            before = set(client.scheduler_info()["workers"])
             cluster.kill_worker()
             cluster.start_worker()
             holds("shares are left at the loss", 2 <= done < shares, (done, shares))
-            joined = eventually(lambda: len(client.scheduler_info()["workers"]) == 2)
+            joined = eventually(lambda: len(after := set(client.scheduler_info()["workers"])) == 2 and after != before)
             holds("another worker joins", joined, client.scheduler_info())
+            lost.touch()
             status = audit.wait(PATIENCE)
         finally:
             audit.kill()
@@ -142,19 +166,17 @@ def by_each_number() -> None:
 def invalid_texts() -> None:
     """An invalid user, group or descriptor is refused and named, and all other cases are answered."""
     with tempfile.TemporaryDirectory(prefix="fleet.") as folder:
-        there = Path(folder, "examples/fleet")
-        shutil.copytree(HERE, there, ignore=shutil.ignore_patterns("__pycache__"))
-        Path(folder, "bindings").symlink_to(TOP / "bindings")
-        with (there / "cases.py").open("a") as cases:
-            cases.write(
-                "\n_case, _groups_of = case, groups_of\n"
-                "BAD = {7: ('user', 'S-1-x'), 11: ('user', 'S-1-5-21-7'), 12345: ('descriptor', 'O:nobody')}\n"
-                "def case(number):\n"
-                "    found = _case(number)\n"
-                "    return Case(**{**found.__dict__, **dict([BAD[number]])}) if number in BAD else found\n"
-                "def groups_of(user):\n"
-                "    return (('S-1-y', 4),) if user == 'S-1-5-21-7' else _groups_of(user)\n"
-            )
+        there = copied(
+            folder,
+            "cases",
+            "\n_case, _groups_of = case, groups_of\n"
+            "BAD = {7: ('user', 'S-1-x'), 11: ('user', 'S-1-5-21-7'), 12345: ('descriptor', 'O:nobody')}\n"
+            "def case(number):\n"
+            "    found = _case(number)\n"
+            "    return Case(**{**found.__dict__, **dict([BAD[number]])}) if number in BAD else found\n"
+            "def groups_of(user):\n"
+            "    return (('S-1-y', 4),) if user == 'S-1-5-21-7' else _groups_of(user)\n",
+        )
         status, told = audited(there, "20000")
         holds("an audit with invalid texts", status == 0 and ", 3 refused;" in told, told)
         for line in ("case 7: refused .* user S-1-x", "case 11: refused .* S-1-5-21-7", "case 12345: refused .*nobody"):
@@ -170,4 +192,4 @@ def main(count: int) -> int:
 
 
 if __name__ == "__main__":
-    sys.exit(main(int(sys.argv[1]) if sys.argv[1:] else 200_000))
+    sys.exit(main(int(sys.argv[1]) if sys.argv[1:] else 100_000))
