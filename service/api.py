@@ -149,7 +149,9 @@ def _token(request: _Request) -> tuple[str, list[str]]:
 
 
 def _require_seen(request: _Request) -> None:
-    """A client that has seen a state gets no answer by an earlier one, or of another store."""
+    """A client that has seen a state gets no answer by an earlier one, or of another store; nobody does of a replica
+    that is behind."""
+    request.service.require_fresh()
     store, seen = request.given.get("store", request.service.store), request.given.get("seen", 0)
     if store != request.service.store:
         raise Fault("nonotice")

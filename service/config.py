@@ -64,7 +64,7 @@ class Listen:
 
 @dataclass(frozen=True)
 class Leader:
-    """Whom a replica follows: where its lines are, and for TCP this replica's certificate and the leader's authority."""
+    """Whom a replica follows: where its lines are; for TCP the replica's certificate and the leader's authority."""
 
     unix: str = ""
     tcp: tuple[str, int] = ("", 0)

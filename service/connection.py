@@ -11,6 +11,8 @@ from service import Caller, Service
 
 #: A client with many requests at once has the loop for so long, and then others have it.
 _TURN_SECONDS = 0.002
+#: The bytes of a long answer that a client has to take in the time of a request.
+_LEAST_TAKEN = 1 << 16
 
 
 class Connection(asyncio.Protocol):
@@ -30,7 +32,8 @@ class Connection(asyncio.Protocol):
         #: The requests in progress, edits or long answers.
         self.in_progress = 0
         self._is_ended = False
-        self._is_full = False
+        #: The bytes of answers that the client hasn't taken, once they are too many.
+        self._is_full, self._untaken = False, 0
         #: Since when the client owes the rest of a request, or takes no answer; since when it asks nothing.
         self._owes_since: float | None = None
         self._full_since: float | None = None
@@ -64,13 +67,14 @@ class Connection(asyncio.Protocol):
         self.proceed()
 
     def eof_received(self) -> bool:
-        """What was asked is answered yet; half a request isn't carried out."""
+        """What was asked is answered yet, but over TLS, which can't be half open; half a request isn't carried out."""
         self._is_ended = True
         self.proceed()
-        return True
+        return self.transport.get_extra_info("sslcontext") is None
 
     def pause_writing(self) -> None:
         self._is_full, self._full_since = True, time.monotonic()
+        self._untaken = self.transport.get_write_buffer_size()
 
     def resume_writing(self) -> None:
         self._is_full, self._full_since = False, None
@@ -131,6 +135,9 @@ class Connection(asyncio.Protocol):
         if self._owes_since is not None and now - self._owes_since > limits.request_seconds:
             self.reject("half a request")
         elif self._full_since is not None and now - self._full_since > limits.request_seconds:
-            self.reject("answers not taken")
+            taken = self._untaken - self.transport.get_write_buffer_size()
+            self._untaken, self._full_since = self._untaken - taken, now
+            if taken < _LEAST_TAKEN:
+                self.reject("answers not taken")
         elif not self.in_progress and now - self._idle_since > limits.idle_seconds:
             self.transport.close()

@@ -4,7 +4,7 @@ import ssl
 import threading
 import time
 
-from asking import Client, OtherStore, Rejected, Unavailable
+from asking import Client, OtherStore, Rejected
 from config import Leader
 from entry import Snapshot
 from errors import Failed, Mismatch
@@ -63,12 +63,12 @@ class Following:
                 has_all = True
                 try:
                     has_all = self._ask()
-                except Mismatch as mismatch:
-                    self._writer.failure = mismatch
                 except OtherStore as error:
                     self._writer.failure = Mismatch(f"leader: {error}")
-                except (Unavailable, OSError) as error:
+                except OSError as error:
                     self._writer.warn(f"the leader doesn't answer: {error}")
+                except Exception as error:
+                    self._writer.failure = error if isinstance(error, Mismatch) else Mismatch(f"leader: {error!r}")
                 if has_all:
                     self._stop.wait(_PAUSE)
 

@@ -22,6 +22,8 @@ class Loaded:
     last: Place
     #: The place of the published tree.
     published: Place
+    #: The number of the line at which the epoch's snapshot is.
+    since: int
     #: When the last line was accepted, in milliseconds since 1970; 0 if no line is kept.
     time: int = 0
 
@@ -85,7 +87,7 @@ def verify(journal: Journal) -> Loaded:
 
 def _at(snapshot: Snapshot, mapping: str) -> Loaded:
     tree = built(snapshot.lines, mapping, snapshot.length)
-    return Loaded(tree, snapshot.epoch, snapshot.place, snapshot.place)
+    return Loaded(tree, snapshot.epoch, snapshot.place, snapshot.place, snapshot.place.number)
 
 
 def _chained(journal: Journal, snapshots: Sequence[Snapshot]) -> Iterator[tuple[Line, bytes]]:

@@ -1,8 +1,10 @@
 """What all connections ask: questions are answered at once by what is published, edits by the writer."""
 
 import asyncio
+import contextlib
 import functools
 import math
+import sqlite3
 import time
 from collections.abc import Callable, Sequence
 from concurrent.futures import ThreadPoolExecutor
@@ -14,14 +16,14 @@ import leading
 import script
 from config import ROLES, Config
 from edits import PUBLISH, edit_of
-from errors import Fault, Mismatch
+from errors import Fault, Mismatch, ServiceError
 from following import Following
 from journal import Journal
 from loading import Loaded
 from logs import Log
 from metrics import Metrics, seconds_since
 from questions import Questions
-from writer import NO_MEMORY, Shown, Task, Writer
+from writer import NO_MEMORY, UNAVAILABLE, Shown, Task, Writer
 
 _VERDICTS = ("granted", "denied", "reserved", "empty", "nonode")
 
@@ -47,10 +49,9 @@ class Service:
         self._logs_denials = config.logs_denials
         self._loop = asyncio.get_running_loop()
         self._journal = journal
-        self._writer = Writer(journal, state, self._done, self._warn, config.limits.lines_in_epoch)
-        if config.leader is not None:
-            self._writer.fresh_until = -math.inf
-        self._questions = Questions(self._writer.shown(), journal.store, journal.mapping)
+        fresh_until = math.inf if config.leader is None else -math.inf
+        self._writer = Writer(journal, state, self._done, self._warn, config.limits.lines_in_epoch, fresh_until)
+        self._questions = Questions(self._writer.shown, journal.store, journal.mapping)
         self._pool = ThreadPoolExecutor(config.limits.long_answers)
         self._edits = self._long_answers = 0
         self.is_stopping = False
@@ -81,7 +82,7 @@ class Service:
         began = time.perf_counter()
         try:
             caller.require("check")
-            self._require_fresh()
+            self.require_fresh()
             said = script.answer(words, self._questions, reader)
         except Fault as fault:
             return fault.answer
@@ -114,6 +115,9 @@ class Service:
             return fault.answer
         except MemoryError:
             return NO_MEMORY
+        except (ServiceError, sqlite3.Error, OSError) as error:
+            self._warn(f"the journal isn't readable: {error}")
+            return UNAVAILABLE
         finally:
             self._long_answers -= 1
 
@@ -125,10 +129,10 @@ class Service:
             caller.require("follow")
             return functools.partial(leading.answer, self._journal.file, words)
         caller.require("check")
-        self._require_fresh()
+        self.require_fresh()
         return functools.partial(_long_answer, words, self.shown.view.share())
 
-    def _require_fresh(self) -> None:
+    def require_fresh(self) -> None:
         """Fault: a replica, which doesn't know enough of its leader."""
         if time.monotonic() > self.shown.fresh_until:
             raise Fault("unavailable behind")
@@ -175,7 +179,7 @@ class Service:
                 self.metrics.publishes += 1
             else:
                 self.metrics.edits[_label(task.answer)] += 1
-            task.reply(task)
+            self._loop.call_soon(task.reply, task)
 
     async def stop(self) -> None:
         """Takes no more edits, and returns once those in progress are answered and the journal is at rest."""
@@ -186,7 +190,8 @@ class Service:
         while self._edits:
             await asyncio.sleep(0.01)
         self._pool.shutdown()
-        self._journal.close_log()
+        with contextlib.suppress(sqlite3.Error):
+            self._journal.close_log()
 
     def metrics_text(self) -> str:
         shown = self.shown

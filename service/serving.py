@@ -8,6 +8,7 @@ import signal
 import socket
 import time
 from pathlib import Path
+from typing import Any
 
 from config import Config, read_config
 from errors import Invalid, Mismatch, ServiceError
@@ -46,6 +47,7 @@ def serve(file: Path) -> int:
 
 async def _serve(file: Path, config: Config, journal: Journal, state: Loaded, log: Log) -> Mismatch | None:
     """Serves until a signal, or until a replica has a failure, which is returned."""
+    asyncio.get_running_loop().set_exception_handler(lambda _, what: log.event("error", text=_text(what)))
     service = Service(config, journal, state, log)
     listeners: list[Listener] = []
     try:
@@ -67,6 +69,11 @@ async def _serve(file: Path, config: Config, journal: Journal, state: Loaded, lo
         await _drain(listeners)
         log.event("stopped")
     return service.failure
+
+
+def _text(what: dict[str, Any]) -> str:
+    """What asyncio says of an error that nobody expected; it ends the connection."""
+    return f"{what.get('message')}: {what.get('exception')!r}"
 
 
 def _on_signals(file: Path, listeners: list[Listener], log: Log) -> asyncio.Event:

@@ -4,13 +4,14 @@ Edits that arrive during a commit share the next one. A new epoch starts in the 
 tree is made and compared, and the store goes on in one built of it, whose journal is short again."""
 
 import math
+import os
 import queue
 import sqlite3
 import threading
 import time
 from collections import deque
 from collections.abc import Callable
-from dataclasses import dataclass, field
+from dataclasses import dataclass, field, replace
 
 from hudarin import View
 
@@ -97,23 +98,24 @@ class Writer:
     warn: Callable[[str], None]
     #: So many lines after its snapshot a new epoch starts.
     lines_in_epoch: int = 100_000
-    waiting: "queue.SimpleQueue[Task | NextEpoch | Received | None]" = field(default_factory=queue.SimpleQueue)
-    #: That of what is shown. A replica starts without.
+    #: That of what is shown.
     fresh_until: float = math.inf
+    waiting: "queue.SimpleQueue[Task | NextEpoch | Received | None]" = field(default_factory=queue.SimpleQueue)
     #: Why nothing more is served: the leader's lines aren't those of this store.
     failure: Mismatch | None = None
     #: Views that no reader uses any more: the thread closes them.
     retired: deque[View] = field(default_factory=deque)
     _thread: threading.Thread | None = None
+    #: Makes a new epoch; None once that has begun, or can't.
     _maker: threading.Thread | None = None
-    #: What `done` was called with last.
-    _shown: Shown | None = None
     #: The store isn't the journal's since a commit failed.
     _is_lost: bool = False
-    _snapshot_number: int = 0
+
+    def __post_init__(self) -> None:
+        #: What readers see: only what is on disk.
+        self.shown = self._show()
 
     def start(self) -> None:
-        self._snapshot_number = self.journal.snapshots()[-1].place.number
         self._thread = threading.Thread(target=self._run, name="writer")
         self._thread.start()
 
@@ -123,35 +125,48 @@ class Writer:
     def stop(self) -> None:
         """Returns once all that was put is answered."""
         self.waiting.put(None)
-        if self._thread is not None:
-            self._thread.join()
-        if self._maker is not None:
-            self._maker.join()
+        for thread in (self._thread, self._maker):
+            if thread is not None:
+                thread.join()
 
-    def shown(self) -> Shown:
+    def _show(self) -> Shown:
         state = self.state
-        view, length = state.tree.view, state.tree.length
-        takes_edits = not self._is_lost and self.fresh_until == math.inf
+        view, length, takes_edits = state.tree.view, state.tree.length, self.fresh_until == math.inf
         return Shown(view, length, state.published, state.epoch, state.time, takes_edits, self.fresh_until)
 
     # In the thread
 
     def _run(self) -> None:
-        is_last = False
-        while not is_last:
-            tasks, other, is_last = self._take()
-            while self.retired:
-                self.retired.popleft().close()
-            if tasks:
-                self._carry_out(tasks)
-            if isinstance(other, NextEpoch):
-                self._begin(other)
-            elif other is not None:
-                self._receive(other)
-            self._shown = self.shown()
-            self.done(tasks, self._shown)
-            if not is_last:
-                self._make_epoch_if_due()
+        try:
+            while self._turn():
+                pass
+        except BaseException as error:
+            # What is on disk is known, what is in memory isn't: as after a kill.
+            self.warn(f"the writer ends: {error!r}")
+            os._exit(3)
+
+    def _turn(self) -> bool:
+        """Takes what waits, and has it answered. False: it was the last."""
+        tasks, other, is_last = self._take()
+        while self.retired:
+            self.retired.popleft().close()
+        if tasks:
+            self._carry_out(tasks)
+            self._answer(tasks)
+        if other is not None:
+            self._begin(other) if isinstance(other, NextEpoch) else self._receive(other)
+            self._answer([])
+        if not is_last:
+            self._make_epoch_if_due()
+        return not is_last
+
+    def _answer(self, tasks: list[Task]) -> None:
+        """Has the tasks answered. Readers see what is on disk from here on; if that isn't known, what they saw."""
+        if self._is_lost:
+            self.shown = replace(self.shown, takes_edits=False, fresh_until=self.fresh_until)
+        else:
+            self.shown = self._show()
+        self.done(tasks, self.shown)
 
     def _take(self) -> tuple[list[Task], NextEpoch | Received | None, bool]:
         """Waits for a task, and takes those that wait with it, up to another item or the end."""
@@ -232,7 +247,7 @@ class Writer:
 
     def _drop(self, view: View) -> None:
         """Closes a view, unless readers may use it: then they retire it."""
-        if self._shown is None or view is not self._shown.view:
+        if view is not self.shown.view:
             view.close()
 
     def _reload(self) -> None:
@@ -265,7 +280,7 @@ class Writer:
             if self.state.last.number >= received.last:
                 self.fresh_until = received.fresh_until
         except Mismatch as mismatch:
-            self.failure, self.fresh_until = mismatch, -math.inf
+            self._is_lost, self.failure, self.fresh_until = True, mismatch, -math.inf
         except (sqlite3.Error, OSError, ServiceError, MemoryError) as error:
             self._is_lost = True
             self.warn(f"the journal takes no lines: {error}")
@@ -276,11 +291,10 @@ class Writer:
 
     def _make_epoch_if_due(self) -> None:
         """Starts to make one in the background, if there are enough lines and none is being made."""
-        state = self.state
-        lines = state.last.number - self._snapshot_number
-        is_due = lines >= self.lines_in_epoch or (state.tree.own_length >= MOST_EDITS and lines > 0)
-        if is_due and not self._is_lost and (self._maker is None or not self._maker.is_alive()):
-            shown = self.shown()
+        state, shown = self.state, self.shown
+        is_long = state.last.number - state.since >= self.lines_in_epoch or state.tree.own_length >= MOST_EDITS
+        is_due = is_long and shown.place.number > state.since and not self._is_lost
+        if is_due and self._maker is None:
             arguments = (shown, shown.view.share(), self.journal.mapping)
             self._maker = threading.Thread(target=self._make_epoch, args=arguments, name="epoch")
             self._maker.start()
@@ -292,18 +306,19 @@ class Writer:
                 lines = tuple(dumped(view))
                 tree = built(lines, mapping, shown.length)
                 difference = first_difference(lines, dumped(tree.view))
+            if difference is not None:
+                raise Mismatch(f"the snapshot isn't the tree: {difference}")
         except (Fault, ServiceError, MemoryError) as error:
             self.warn(f"no new epoch: {error}")
-            return
-        if difference is not None:
-            self.warn(f"no new epoch: the snapshot isn't the tree: {difference}")
+            self._maker = None
             return
         self.waiting.put(NextEpoch(Snapshot(shown.epoch + 1, shown.place, shown.length, lines), tree))
 
     def _begin(self, made: NextEpoch) -> None:
         """Commits the snapshot and goes on in its tree, after the lines that came meanwhile."""
+        self._maker = None
         state, place = self.state, made.snapshot.place
-        following = Loaded(made.tree, made.snapshot.epoch, place, place)
+        following = Loaded(made.tree, made.snapshot.epoch, place, place, place.number)
         try:
             for line, chain in self.journal.lines(place.number):
                 following.replay(line, chain)
@@ -317,5 +332,4 @@ class Writer:
             made.tree.close()
             return
         following.time = state.time
-        self._snapshot_number = place.number
         self._go_on_in(following)

@@ -29,10 +29,10 @@ def full_dump() -> str:
     return "\n".join([*lines, "publish", ""])
 
 
-def rate(ask: Callable[[], int]) -> tuple[float, int]:
+def rate(ask: Callable[[], int], seconds: float = SECONDS) -> tuple[float, int]:
     """How many a second it does, and how many it did."""
     count, began = 0, time.perf_counter()
-    while (took := time.perf_counter() - began) < SECONDS:
+    while (took := time.perf_counter() - began) < seconds:
         count += ask()
     return count / took, count
 
@@ -42,10 +42,11 @@ class Costs(rig.Case):
         self.room = Path(tempfile.mkdtemp(prefix="costs-", dir=folder))
         self.store, self.lines, self.http = self.room / "store", self.room / "lines", self.room / "http"
         self.log, self.config = self.room / "log", self.room / "config.toml"
+        self.make()
+        self.idle()
         self.edits()
         self.make(full_dump())
         self.full()
-        self.idle()
 
     def flushes(self) -> float:
         """A second: writes of a page, each with its flush, of which a commit needs one."""
@@ -63,14 +64,19 @@ class Costs(rig.Case):
         return (int(fields[11]) + int(fields[12])) / os.sysconf("SC_CLK_TCK")
 
     def say_rate(self, what: str, ask: Callable[[], int]) -> None:
-        before = self.processor()
-        found, count = rate(ask)
+        """The best and the median of many short runs: others may be at work on the machine."""
+        before, count = self.processor(), 0
+        found = []
+        for _ in range(int(4 * SECONDS)):
+            one, more = rate(ask, 0.25)
+            found.append(one)
+            count += more
         used = (self.processor() - before) / count
-        print(f"{what}: {found:,.0f}/s, {used * 1e6:.1f} us of a processor each: at most {1 / used:,.0f}/s")
+        print(f"{what}: best {max(found):,.0f}/s, median {statistics.median(found):,.0f}/s, "
+              f"{used * 1e6:.1f} us of a processor each")
 
     def edits(self) -> None:
         """Edits in a small tree, each acknowledged before the next of its client."""
-        self.make()
         self.start()
         for clients in (1, 64):
             total, flushes = [0], self.flushes()
@@ -94,7 +100,7 @@ class Costs(rig.Case):
                 each.join()
             found = total[0] / (time.perf_counter() - began)
             flushes = (flushes + self.flushes()) / 2
-            print(f"acknowledged edits, {clients} clients: {found:,.0f}/s, {found / flushes:.2f} of {flushes:,.0f} flushes")
+            print(f"acknowledged edits, {clients} clients: {found:,.0f}/s, {found / flushes:.2f} of the flushes")
         self.stop()
         os.rename(self.store, self.room / "small")
 
@@ -102,7 +108,8 @@ class Costs(rig.Case):
         """A start, checks, and checks beside edits of the root."""
         self.start()
         event = next(each for each in self.events() if each["event"] == "loaded")
-        print(f"start with a full tree from a snapshot: {event['seconds']} s, {self.processor():.2f} s of a processor")
+        print(f"start with a full tree from a snapshot: {event['seconds']} s, {self.processor():.2f} s of a processor, "
+              f"{self.memory() / 1024:.0f} MiB")
         paths = [f"/{folder}/{number}" for folder in range(250) for number in range(0, 256, 8)]
         singles = iter(paths * 1000)
         with self.connect() as asked:
@@ -153,8 +160,7 @@ class Costs(rig.Case):
         before = self.memory()
         many = [self.connect() for _ in range(1000)]
         assert all(each.ask("tell").startswith("told ") for each in many)
-        print(f"memory of 1,000 idle connections: {(self.memory() - before) / 1024:.1f} MiB; "
-              f"of the process with a full tree {before / 1024:.0f} MiB")
+        print(f"memory of 1,000 idle connections: {(self.memory() - before) / 1024:.1f} MiB")
         for each in many:
             each.close()
         self.stop()

@@ -265,7 +265,11 @@ class Journals(rig.Case):
                     asked.ask("publish")
             self.assertEqual(answer, "unavailable journal")
             self.assertGreater(accepted, 50)
-            self.assertEqual(asked.ask("tell"), "told 50")
+            for at in range(3):
+                # A publish that isn't on disk is shown to nobody.
+                asked.send(f"p addo /p O:BAG:SYD:{'(A;;FR;;;BU)' * 2000}\np publish\np tell\n".encode())
+                self.assertEqual([asked.read() for _ in range(3)], [b"p unavailable journal\n"] * 2 + [b"p told 50\n"])
+            self.assertEqual(asked.ask("show 0 /n50"), "seen 50 nonode")
             self.assertEqual(asked.ask(f"check 0 /n3 {rig.USER} FR"), "seen 50 granted 0x120089")
             subprocess.run(["mount", "-o", "remount,size=64m", str(small)], check=True)
             self.assertEqual(asked.ask("addo /after O:BAG:SYD:"), "ok")

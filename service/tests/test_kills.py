@@ -115,6 +115,7 @@ class Kills(rig.Case):
             if copy is not None:
                 self.kill_or_use(copy, turn, chance)
             self.assertEqual([fault for each in clients for fault in each.faults], [])
+            self.assertEqual([each for each in self.events() if each["event"] in ("warning", "error")], [])
         self.start(LIMITS)
         self.settle(clients)
         self.stop()

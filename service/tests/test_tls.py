@@ -146,8 +146,8 @@ class Clients(rig.Case):
 
         def edit() -> None:
             try:
-                with Client(str(self.lines), timeout=30) as client:
-                    while len(made) < 400:
+                with Client(str(self.lines), timeout=10 * rig.PATIENCE) as client:
+                    while len(made) < 150:
                         client.edit("addo", f"/n{len(made)}", "O:BAG:SYD:")
                         made.append(f"/n{len(made)}")
                         if len(made) % 5 == 0:
@@ -159,13 +159,15 @@ class Clients(rig.Case):
         thread = threading.Thread(target=edit)
         thread.start()
         while thread.is_alive():
-            time.sleep(0.2)
+            before = len(made)
+            while thread.is_alive() and len(made) < before + 10:
+                time.sleep(0.001)
             self.kill()
             self.launch()
             self.wait_until_ready()
         thread.join()
         self.assertEqual(faults, [])
-        self.assertEqual(self.said("publish"), ["published 400"])
+        self.assertEqual(self.said("publish"), ["published 150"])
 
     def test_another_store_and_one_behind(self) -> None:
         self.make()
