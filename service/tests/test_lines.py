@@ -105,6 +105,11 @@ class Lines(rig.Case):
             ["seen 1 denied 0x116, granted 0x120116, nonode", "seen 1 ", "fault words", "fault number", "noreader",
              "fault path", "fault mask", "fault words"],
         )
+        self.assertEqual(
+            self.said(f"checks 0 1001 {'/ ' * 1001}{rig.USER} FW", f"check 0 / {rig.USER} FR{' BU' * 2048}",
+                      f"check 0 / {rig.USER} FR{' BU' * 2049}"),
+            ["fault paths", "seen 1 granted 0x120089", "fault token"],
+        )
         self.assertRegex(self.said("status")[0], "status [0-9a-f]{32} 1 2 [0-9a-f]{64} 1")
         self.assertEqual(self.said("status x", "once", "once k", "once k tell", "once k once k publish",
                                    "import object /x O:BAG:SYD:"),
