@@ -1,6 +1,5 @@
 //! The command line over streams in memory: what it prints, where, and with which status.
 
-mod analysis;
 mod each_call;
 mod streams;
 mod usage;
