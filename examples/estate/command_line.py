@@ -62,6 +62,9 @@ def _parser() -> argparse.ArgumentParser:
     _add_journal(command("undo", commands.undo, "restore what a write replaced"))
     lint = command("lint", commands.lint, "print what is doubtful in the lists of a script's nodes")
     lint.add_argument("script", metavar="SCRIPT")
+    _add_who(command("who", commands.who, "print whom a node grants rights, of all possible users"))
+    _add_find(command("find", commands.find, "print the nodes at and below a path that grant a user rights"))
+    _add_review(command("review", commands.review, "print what a script's changes grant and take away, node by node"))
     report = command("report", commands.report, "write a page of a script's folders, as they are after its changes")
     report.add_argument("script", metavar="SCRIPT")
     report.add_argument("file", metavar="FILE", help="the HTML file to write")
@@ -123,6 +126,27 @@ def _add_icacls(write: argparse.ArgumentParser) -> None:
     write.add_argument(
         "--old", action="store_true", help="write the lists that were read: such a file undoes the other"
     )
+
+
+def _add_who(who: argparse.ArgumentParser) -> None:
+    who.add_argument("script", metavar="SCRIPT")
+    who.add_argument("path", metavar="PATH", help="a node, as SCRIPT spells it")
+    who.add_argument("mask", metavar="MASK", help="rights, as sdstore takes them: FR, 0x2")
+    who.add_argument("words", metavar="ARG", nargs="*", help="groups that all users have, as sdstore who takes them")
+
+
+def _add_find(find: argparse.ArgumentParser) -> None:
+    find.add_argument("script", metavar="SCRIPT")
+    find.add_argument("path", metavar="PATH", help="a node, as SCRIPT spells it: it and all below it are searched")
+    find.add_argument("user", metavar="USER", help="the user's SID")
+    find.add_argument("mask", metavar="MASK", help="rights, as sdstore takes them: FR, 0x2")
+    find.add_argument("words", metavar="ARG", nargs="*", help="groups and privileges, as sdstore verdict takes them")
+
+
+def _add_review(review: argparse.ArgumentParser) -> None:
+    review.add_argument("script", metavar="SCRIPT")
+    review.add_argument("path", metavar="PATH", nargs="?", default="/", help="a node, with all below it")
+    review.add_argument("words", metavar="ARG", nargs="*", help="groups that all users have, as sdstore who takes them")
 
 
 def _add_journal(parser: argparse.ArgumentParser) -> None:

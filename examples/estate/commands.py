@@ -163,6 +163,30 @@ def lint(arguments: argparse.Namespace, table: Table) -> int:
     return 1 if count else 0
 
 
+def who(arguments: argparse.Namespace, table: Table) -> int:
+    """Whom a node grants rights, of all possible users."""
+    with read_script(arguments.script) as script:
+        questions.who(script, arguments.path, [arguments.mask, *arguments.words], table)
+    return 0
+
+
+def find(arguments: argparse.Namespace, table: Table) -> int:
+    """The nodes that grant a user rights."""
+    with read_script(arguments.script) as script:
+        words = [arguments.user, arguments.mask, *arguments.words]
+        count = questions.find(script, arguments.path, words, table)
+    table.end("found", plural(count, "node"), {"nodes": count})
+    return 0
+
+
+def review(arguments: argparse.Namespace, table: Table) -> int:
+    """What a script's changes grant and take away, of all possible users."""
+    with read_script(arguments.script) as script:
+        count = questions.review(script, arguments.path, arguments.words, table)
+    table.end("reviewed", f"{plural(count, 'node')} where somebody gains or loses rights", {"nodes": count})
+    return 1 if count else 0
+
+
 def report(arguments: argparse.Namespace, table: Table) -> int:
     """The nodes of a script as a page."""
     with read_script(arguments.script) as script:

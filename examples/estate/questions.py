@@ -1,19 +1,26 @@
 """Questions about what was read, which the program sdstore answers."""
 
 import os
+import re
 import shutil
 import subprocess
-from collections.abc import Iterable
+from collections.abc import Iterable, Iterator
+from dataclasses import dataclass
 from pathlib import Path as File
 
-from errors import Failed
-from paths import Path, spelled
+from errors import Failed, Invalid
+from paths import Path, parsed, spelled
 from script import Script
 from table import Table
 
 #: Where the program is: of a checkout what ./sdstore builds, of an installation the one beside this.
 _HERE = File(__file__).resolve().parent
 _PROGRAMS = (_HERE.parents[1] / "crates/sdstore/out/sdstore", _HERE.parents[2] / "bin/sdstore")
+
+#: What is one word of a line of a script.
+_WORD = re.compile(r"[!-~]+")
+_GRANT = re.compile(r"(0x[0-9a-f]+) to (\S+)( as the owner)?(?: unless (.*))?")
+_DIFFERENCE = re.compile(r"(gained|lost) (0x[0-9a-f]+) by (.*)")
 
 
 def program() -> str:
@@ -30,32 +37,150 @@ def program() -> str:
     return found
 
 
+def _ran(words: list[str], lines: Iterable[str] = ()) -> str:
+    """What the program prints for its arguments and the lines of its input."""
+    text = "".join(f"{line}\n" for line in lines)
+    asked = subprocess.run([program(), *words], input=text, capture_output=True, encoding="utf-8")
+    if asked.returncode == 2:
+        raise Invalid(asked.stderr.strip())
+    if asked.returncode not in (0, 1):
+        raise Failed(f"sdstore: {asked.stderr.strip() or asked.returncode}")
+    return asked.stdout
+
+
+def _each(words: list[str], texts: Iterable[str]) -> dict[str, list[str]]:
+    """The lines that a command of `sdstore each` answers about each text, of which it is asked once. No text is an
+    option of the program: each is a line of its input."""
+    distinct = list(dict.fromkeys(texts))
+    answers = _ran(["each", *words], distinct).removesuffix("\n\n").split("\n\n") if distinct else []
+    return dict(zip(distinct, (answer.split("\n") for answer in answers), strict=True))
+
+
 def lint(script: Script, table: Table) -> int:
     """A row for each finding of `sdstore lint` about a node, as the tree is after the changes of the script, and how
     many there are."""
     texts = {path: script.descriptor(path) for path in sorted(script.nodes)}
     findings = findings_of(texts.values())
-    return sum(_report(path, findings[text], table) for path, text in texts.items())
+    count = 0
+    for path, text in texts.items():
+        for finding in findings[text]:
+            table.row("lint", {"path": spelled(path), "finding": finding})
+            count += 1
+    return count
 
 
 def findings_of(texts: Iterable[str]) -> dict[str, list[str]]:
-    """What `sdstore lint` finds about each text, of which it is asked once."""
-    distinct = list(dict.fromkeys(texts))
-    return dict(zip(distinct, _answers(distinct), strict=True))
+    """What `sdstore lint` finds about each text."""
+    return {text: [line for line in lines if line != "clean"] for text, lines in _each(["lint"], texts).items()}
 
 
-def _report(path: Path, findings: list[str], table: Table) -> int:
-    for finding in findings:
-        table.row("lint", {"path": spelled(path), "finding": finding})
-    return len(findings)
+# Who may do what
 
 
-def _answers(texts: list[str]) -> list[list[str]]:
-    """The findings about each text. No text is an option of the program: each is a line of its input."""
-    asked = subprocess.run(
-        [program(), "each", "lint"], input="".join(f"{text}\n" for text in texts), capture_output=True, text=True
-    )
-    if asked.returncode not in (0, 1):
-        raise Failed(f"sdstore: {asked.stderr.strip() or asked.returncode}")
-    answers = asked.stdout.removesuffix("\n\n").split("\n\n") if texts else []
-    return [[line for line in answer.split("\n") if line != "clean"] for answer in answers]
+@dataclass(frozen=True, slots=True)
+class Grant:
+    """Rights of every user who has a SID, or of "everyone" or "nobody", unless the user has a SID of `unless`."""
+
+    rights: int
+    to: str
+    is_owner: bool
+    unless: tuple[str, ...]
+
+
+def who(script: Script, path_text: str, words: list[str], table: Table) -> None:
+    """A row for each line of `sdstore who` about a node, as the tree is after the changes of the script."""
+    path = _node(script, path_text)
+    for grant in _grants(_ran(["who", "--", script.descriptor(path), *words]).splitlines()):
+        to = f"{grant.to} as the owner" if grant.is_owner else grant.to
+        cells = {"path": spelled(path), "rights": f"{grant.rights:#x}", "to": to}
+        table.row("who", cells | ({"unless": " ".join(grant.unless)} if grant.unless else {}))
+
+
+def grants_of(texts: Iterable[str], rights: int) -> dict[str, list[Grant]]:
+    """What `sdstore who` answers about each text, of all users."""
+    return {text: _grants(lines) for text, lines in _each(["who", f"{rights:#x}"], texts).items()}
+
+
+def _grants(lines: list[str]) -> list[Grant]:
+    grants = []
+    for line in lines:
+        found = _GRANT.fullmatch(line)
+        if found is None:
+            raise Invalid(f"sdstore who: {line}")
+        grants.append(Grant(int(found[1], 16), found[2], found[3] is not None, tuple((found[4] or "").split())))
+    return grants
+
+
+# What a change grants and takes away
+
+
+@dataclass(frozen=True, slots=True)
+class Difference:
+    """Rights that a user gains or loses: `by` is the user and what the user has, as arguments of `sdstore verdict`."""
+
+    is_gain: bool
+    rights: int
+    by: str
+
+
+def review(script: Script, path_text: str, words: list[str], table: Table) -> int:
+    """A row for each difference at and below a path, and how many nodes have one."""
+    top = _node(script, path_text)
+    count = 0
+    for path, differences in reviewed(script, words):
+        if path[: len(top)] == top:
+            count += 1
+            for each in differences:
+                cells = {"path": spelled(path), "rights": f"{each.rights:#x}", "by": each.by}
+                table.row("gained" if each.is_gain else "lost", cells)
+    return count
+
+
+def reviewed(script: Script, words: list[str]) -> Iterator[tuple[Path, list[Difference]]]:
+    """Each node on which a user gains or loses rights, by `sdstore compare`, in the order of the paths."""
+    changes = list(script.changes())
+    olds: dict[str, list[str]] = {}
+    for change in changes:
+        olds.setdefault(change.after, []).append(change.before)
+    answers = {new: _each(["compare", "--", new, *words], texts) for new, texts in olds.items()}
+    for change in changes:
+        lines = answers[change.after][change.before]
+        if lines != ["same"]:
+            yield change.path, list(map(_difference, lines))
+
+
+def _difference(line: str) -> Difference:
+    found = _DIFFERENCE.fullmatch(line)
+    if found is None:
+        raise Invalid(f"sdstore compare: {line}")
+    return Difference(found[1] == "gained", int(found[2], 16), found[3])
+
+
+# Where a user may do something
+
+
+def find(script: Script, path_text: str, words: list[str], table: Table) -> int:
+    """A row for each node at and below a path that grants a user the rights, as the tree is after the changes of the
+    script, and how many there are."""
+    for word in words:
+        if not _WORD.fullmatch(word):
+            raise Invalid(f"{word!a}: not an argument")
+    question = " ".join(["find", "0", spelled(_node(script, path_text)), *words])
+    lines = _ran(["--percent", "serve"], [*script.remade(), question]).split("\n")
+    # (each line of the tree has one line of output, and an empty line ends that of the question)
+    said, *paths = lines[len(script.nodes) + 1 : -2]
+    if not said.endswith(" found"):
+        raise Invalid(f"sdstore find: {said}")
+    for path in paths:
+        table.row("found", {"path": path})
+    return len(paths)
+
+
+def _node(script: Script, path_text: str) -> Path:
+    try:
+        path = parsed(path_text)
+    except ValueError as error:
+        raise Invalid(f"{path_text}: {error}") from error
+    if path not in script.nodes:
+        raise Invalid(f"{path_text}: the script has no such node")
+    return path

@@ -1,11 +1,14 @@
 "use strict";
 // All text is put in as text: no name from outside is ever markup.
 const data = JSON.parse(document.getElementById("data").textContent);
-const { sids, lists, nodes } = data;
-// A node is [depth, name, isContainer, owner, group, list, files]. A list is [kind, entries, findings], whose kind is 0
-// for one that inherits, 1 for a protected one, 2 for a null one. An entry is [isDeny, rights, applies, isInherited,
-// sid].
-const [DEPTH, NAME, CONTAINER, OWNER, GROUP, LIST, FILES] = [0, 1, 2, 3, 4, 5, 6];
+const { sids, lists, nodes, accesses, changes } = data;
+// A node is [depth, name, isContainer, owner, group, list, files, access]. A list is [kind, entries, findings], whose
+// kind is 0 for one that inherits, 1 for a protected one, 2 for a null one. An entry is [isDeny, rights, applies,
+// isInherited, sid]. An access has who can read, write and change permissions: each is a list of [subject, isOwner,
+// unless], and a subject is a SID's number or a word. A change is [node, differences], and a difference is [isGain,
+// rights, by], where `by` is a token: a list of [subject, state].
+const [DEPTH, NAME, CONTAINER, OWNER, GROUP, LIST, FILES, ACCESS] = [0, 1, 2, 3, 4, 5, 6, 7];
+const STATES = { deny: "for denies alone", restrict: "as a restricting SID" };
 const AT_ONCE = 200;
 const FOUND_AT_ONCE = 500;
 
@@ -188,6 +191,23 @@ const tableOf = (list) => {
   return table;
 };
 
+const subjectOf = (subject) => (typeof subject === "number" ? nameOf(subject) : subject);
+
+// Who can do something: a line for each group or user that suffices.
+const grantsOf = (grants) => make("ul", {}, ...grants.map(([subject, isOwner, unless]) => {
+  const line = make("li", {}, subjectOf(subject), isOwner ? " as the owner" : "");
+  if (unless.length) line.append(make("span", { class: "deny" }, ` unless in ${unless.map(subjectOf).join(" or ")}`));
+  return line;
+}));
+
+const accessOf = (access) => {
+  const table = make("table", {}, make("caption", {}, "Who can, by themselves or by a group"));
+  ["Read", "Write", "Change permissions"].forEach((text, at) => {
+    table.append(make("tr", {}, make("th", { scope: "row" }, text), make("td", {}, grantsOf(access[at]))));
+  });
+  return table;
+};
+
 const showNode = (index) => {
   const node = nodes[index];
   const list = lists[node[LIST]];
@@ -207,6 +227,7 @@ const showNode = (index) => {
     const findings = list[2].map((text) => make("li", {}, text));
     parts.push(make("h3", { class: "lint" }, "Findings"), make("ul", {}, ...findings));
   }
+  parts.push(accessOf(accesses[node[ACCESS]]));
   if (list[1].length) parts.push(tableOf(list));
   else if (list[0] !== 2) parts.push(make("p", {}, "The list is empty: nothing is granted, but to the owner."));
   document.getElementById("details").replaceChildren(...parts);
@@ -247,6 +268,58 @@ const soon = () => { clearTimeout(waiting); waiting = setTimeout(search, 150); }
 document.getElementById("words").addEventListener("input", soon);
 document.getElementById("marked").addEventListener("change", search);
 document.getElementById("search").addEventListener("submit", (event) => { event.preventDefault(); search(); });
+
+// The second page: what the changes of the script grant and take away.
+const tokenOf = (by) => by.map(([subject, state]) => (
+  subjectOf(subject) + (state ? ` (${STATES[state]})` : "")
+)).join(" and ");
+
+const changeOf = ([index, differences]) => {
+  const link = make("button", { type: "button" }, pathOf(index));
+  link.addEventListener("click", () => {
+    openPage(false);
+    const item = reveal(index);
+    choose(item);
+    focus(item);
+  });
+  const heads = ["Change", "Rights", "For example a user who is"];
+  const table = make("table", {}, make("tr", {}, ...heads.map((text) => make("th", { scope: "col" }, text))));
+  for (const [isGain, rights, by] of differences) {
+    const kind = make("td", { class: isGain ? "own" : "lost" }, isGain ? "Gained" : "Lost");
+    table.append(make("tr", {}, kind, make("td", {}, rights), make("td", {}, tokenOf(by))));
+  }
+  return make("section", {}, make("h3", {}, link), table);
+};
+
+const addChanges = (from) => {
+  const list = document.getElementById("changes");
+  const until = Math.min(from + AT_ONCE, changes.length);
+  list.append(...changes.slice(from, until).map(changeOf));
+  if (until < changes.length) {
+    const more = make("button", { type: "button" }, `show ${Math.min(AT_ONCE, changes.length - until)} more`);
+    more.addEventListener("click", () => { more.remove(); addChanges(until); });
+    list.append(more);
+  }
+};
+
+const openPage = (isOfChanges) => {
+  document.getElementById("changes-page").hidden = !isOfChanges;
+  document.getElementById("folders-page").hidden = isOfChanges;
+  document.getElementById("search").hidden = isOfChanges;
+  const [current, other] = isOfChanges ? ["to-changes", "to-folders"] : ["to-folders", "to-changes"];
+  document.getElementById(current).setAttribute("aria-current", "page");
+  document.getElementById(other).removeAttribute("aria-current");
+};
+
+if (data.changed) {
+  const [changed, count] = [data.changed, changes.length].map((number) => number.toLocaleString("en"));
+  document.getElementById("pages").hidden = false;
+  document.getElementById("changes-sum").textContent =
+    `${changed} nodes have another descriptor; on ${count} of them somebody gains or loses rights.`;
+  document.getElementById("to-folders").addEventListener("click", () => openPage(false));
+  document.getElementById("to-changes").addEventListener("click", () => openPage(true));
+  addChanges(0);
+}
 
 document.getElementById("sum").textContent = data.sum;
 tree.append(itemOf(0, 1, 1));

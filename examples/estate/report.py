@@ -1,4 +1,5 @@
-"""`estate report`: one HTML file with the folders of a script, that loads nothing and opens anywhere."""
+"""`estate report`: one HTML file with the folders of a script and what its changes grant and take away, that loads
+nothing and opens anywhere."""
 
 import base64
 import hashlib
@@ -10,7 +11,8 @@ from typing import Any
 
 from hudarin import Sid, mask
 
-from questions import findings_of
+from paths import Path
+from questions import Difference, Grant, findings_of, grants_of, reviewed
 from script import Script
 from sddl import Entry, Parts, parts_of
 from table import plural, safe
@@ -29,6 +31,25 @@ _RIGHTS = {
     0x40000000: "write (generic)",
     0x20000000: "execute (generic)",
 }
+#: The rights that a file or a folder has names for, a bit each.
+_BITS = {
+    0x1: "read or list",
+    0x2: "write or add files",
+    0x4: "append or add folders",
+    0x8: "read extended attributes",
+    0x10: "write extended attributes",
+    0x20: "execute or traverse",
+    0x40: "delete children",
+    0x80: "read attributes",
+    0x100: "write attributes",
+    0x10000: "delete",
+    0x20000: "read permissions",
+    0x40000: "change permissions",
+    0x80000: "take ownership",
+    0x100000: "synchronize",
+}
+#: What is asked about each node, in the order in which the page shows it: read, write, change permissions.
+_ASKED = (0x1, 0x2, 0x40000)
 
 
 @dataclass(slots=True)
@@ -50,25 +71,59 @@ class Report:
     _sids: _Numbers = field(default_factory=_Numbers)
     _lists: dict[str, int] = field(default_factory=dict)
     _made: list[list[Any]] = field(default_factory=list)
+    _accesses: _Numbers = field(default_factory=_Numbers)
 
     def write(self, name: str, title: str) -> int:
         """Writes the report, and returns how many nodes it has."""
         paths = sorted(self.script.nodes)
-        texts = {path: self.script.descriptor(path) for path in paths}
-        findings = findings_of(texts.values())
-        nodes = []
-        for path in paths:
-            node, parts = self.script.nodes[path], parts_of(texts[path])
-            label = safe(path[-1].decode()) if path else ""
-            owners = self._sid(parts.owner), self._sid(parts.group)
-            number = self._list(texts[path], parts, findings[texts[path]])
-            nodes.append([len(path), label, int(node.is_container), *owners, number, node.left_out])
+        nodes = self._nodes(paths)
         folders = sum(node.is_container for node in self.script.nodes.values())
         files = sum(node.left_out for node in self.script.nodes.values())
         counts = {"folder": folders, "file": len(nodes) - folders}
         said = [*(plural(count, what) for what, count in counts.items()), f"{plural(files, 'file')} without a line"]
-        self._put(name, title, {"sum": ", ".join(said), "sids": self._named(), "lists": self._made, "nodes": nodes})
+        changes = self._changes(paths)
+        data: dict[str, Any] = {
+            "sum": ", ".join(said),
+            "nodes": nodes,
+            "lists": self._made,
+            "accesses": list(self._accesses.numbers),
+            "changed": sum(1 for _ in self.script.changes()),
+            "changes": changes,
+            "sids": self._named(),
+        }
+        self._put(name, title, data)
         return len(nodes)
+
+    def _nodes(self, paths: list[Path]) -> list[list[Any]]:
+        texts = {path: self.script.descriptor(path) for path in paths}
+        findings = findings_of(texts.values())
+        grants = [grants_of(texts.values(), rights) for rights in _ASKED]
+        nodes = []
+        for path, text in texts.items():
+            node, parts = self.script.nodes[path], parts_of(text)
+            label = safe(path[-1].decode()) if path else ""
+            owners = self._sid(parts.owner), self._sid(parts.group)
+            access = self._accesses.of(tuple(tuple(map(self._grant, each[text])) for each in grants))
+            number = self._list(text, parts, findings[text])
+            nodes.append([len(path), label, int(node.is_container), *owners, number, node.left_out, access])
+        return nodes
+
+    def _grant(self, grant: Grant) -> tuple[Any, ...]:
+        return self._subject(grant.to), int(grant.is_owner), tuple(map(self._subject, grant.unless))
+
+    def _subject(self, text: str) -> int | str:
+        """The number of a SID, or a word such as "everyone"."""
+        return self._sid(text) if text.startswith("S-1-") else text
+
+    def _changes(self, paths: list[Path]) -> list[list[Any]]:
+        """For each node on which somebody gains or loses rights its number, and each difference."""
+        numbers = {path: number for number, path in enumerate(paths)}
+        return [[numbers[path], list(map(self._difference, found))] for path, found in reviewed(self.script, [])]
+
+    def _difference(self, difference: Difference) -> list[Any]:
+        words = [word.partition("=") for word in difference.by.split(" ")]
+        by = [[self._subject(who), state] for who, _, state in words]
+        return [int(difference.is_gain), in_words(difference.rights), by]
 
     def _sid(self, text: str) -> int:
         return self._sids.of(Sid.from_text(text).full)
@@ -101,6 +156,15 @@ class Report:
             before, after = before.replace(f"@{key}@", value), after.replace(f"@{key}@", value)
         with whole_file(name) as file:
             file.write((before + inside + after).encode())
+
+
+def in_words(rights: int) -> str:
+    """The rights by their names for files, and what no name has as a number."""
+    if rights in _RIGHTS:
+        return _RIGHTS[rights]
+    named = [name for bit, name in _BITS.items() if rights & bit]
+    rest = rights & ~sum(_BITS)
+    return ", ".join([*named, *([f"{rest:#x}"] if rest else [])])
 
 
 def _applies(entry: Entry) -> str:

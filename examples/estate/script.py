@@ -8,11 +8,11 @@ from hudarin import Descriptor, Refused, Sid, Store, View
 
 from errors import Failed, Invalid
 from inheritance import Chain
-from paths import Path, parsed
+from paths import Path, parsed, spelled
 from sddl import parts_of
 
 #: Commands that change no descriptor.
-_QUESTIONS = {"tell", "learn", "check", "why", "show", "list", "dump", "who", "find", "review"}
+_QUESTIONS = {"tell", "learn", "check", "why", "show", "list", "dump", "who", "find"}
 #: Commands that make, remove or move files.
 _OF_FILES = {"open", "import", "addc", "addo", "remove", "move"}
 _LEFT_OUT = re.compile(r"# left out: (\d+) files of (/\S*)")
@@ -91,6 +91,14 @@ class Script:
             if before != after:
                 node = self.nodes[path]
                 yield Change(path, node.is_container, node.text, str(before), str(after))
+
+    def remade(self) -> Iterator[str]:
+        """The lines of a script that makes the tree after the changes."""
+        for path in sorted(self.nodes):
+            made = self.after.own(plain(path))
+            command = f"{'addc' if made.is_container else 'addo'} {spelled(path)}" if path else "open 1"
+            yield f"{command} {made.own}"
+        yield "publish"
 
     # Lines
 

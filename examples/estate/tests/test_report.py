@@ -83,7 +83,15 @@ class Report(Case):
                 [],
             ],
         )
-        rows = page.value("[...document.querySelectorAll('#details tr')].map((row) => row.innerText)")
+        self.assertEqual(
+            self.rows(page, "#details table:first-of-type"),
+            [
+                "Read\tS-1-5-32-544\nCORP\\alice",
+                'Write\tS-1-5-32-544 unless in CORP\\</script><img src=x onerror="alert(1)">',
+                "Change permissions\tS-1-5-32-544 as the owner",
+            ],
+        )
+        rows = self.rows(page, "#details table:last-of-type")
         self.assertIn("Deny", rows[1])
         self.assertIn("write\tthis, folders and files\town", rows[1])
         self.assertEqual(
@@ -91,6 +99,36 @@ class Report(Case):
             ["Allow", f"CORP\\alice\n{USER}\n", "read and execute", "this, folders and files", "inherited"],
         )
         self.assertIn("repeats entry 1", page.value("document.querySelector('#details ul').innerText"))
+
+    def rows(self, page: chromium.Page, table: str) -> list[str]:
+        texts = page.value(f"[...document.querySelectorAll('{table} tr')].map((row) => row.innerText.trim())")
+        # (a cell that begins with a list begins with a line feed)
+        return [text.replace("\t\n", "\t") for text in texts]
+
+    def test_what_changes_grant_and_take_away(self) -> None:
+        """The second page has each node on which somebody gains or loses rights; without changes there is none."""
+        self.assertTrue(self.small().value("document.getElementById('pages').hidden"))
+        change = f"dacl /plain D:(D;OICI;0x2;;;{OTHER})(A;OICI;0x1200a9;;;BU)\nprotect /%3Cb%3E%0A\npublish\n"
+        page = self.page(SCRIPT + change, "--names", "names")
+        page.value("document.getElementById('to-changes').click()")
+        titles = page.value("[...document.querySelectorAll('#changes h3')].map((one) => one.innerText)")
+        self.assertEqual(titles, ["/plain", "/plain/file"])
+        self.assertEqual(
+            page.value("document.getElementById('changes-sum').innerText"),
+            "3 nodes have another descriptor; on 2 of them somebody gains or loses rights.",
+        )
+        other = 'CORP\\</script><img src=x onerror="alert(1)">'
+        self.assertEqual(
+            self.rows(page, "#changes section:first-child"),
+            [
+                "Change\tRights\tFor example a user who is",
+                "Gained\tread and execute\tS-1-5-32-545",
+                f"Lost\twrite or add files\tS-1-5-32-544 and {other} (for denies alone)",
+            ],
+        )
+        page.value("document.querySelectorAll('#changes h3 button')[1].click()")
+        self.assertEqual(self.focused(page), "file")
+        self.assertEqual(page.faults(), [])
 
     def test_the_search(self) -> None:
         """By name, SID and path; a SID is found where it has entries or owns, not where they are inherited."""

@@ -1,0 +1,82 @@
+"""What estate asks the program: whom a node grants rights, where a user has them, and what a change grants and takes
+away. The expected answers were worked out by hand, by docs/CHECK.md."""
+
+import json
+
+from rig import Case, needs_program
+
+ALICE = "S-1-5-21-1-2-3-1001"
+#: /a inherits, /a/b has a deny of its own before what it inherits, and /c is protected.
+SCRIPT = f"""\
+open 1 O:BAG:SYD:P(A;OICI;FA;;;BA)(A;OICI;FR;;;BU)
+import container /a%20b O:BAG:SYD:(A;OICIID;FA;;;BA)(A;OICIID;FR;;;BU)
+import object /a%20b/c O:{ALICE}G:SYD:(D;;0x1;;;BG)(A;ID;FA;;;BA)(A;ID;FR;;;BU)
+import object /d O:BAG:SYD:P(A;;FA;;;BA)
+# left out: 3 files of /a%20b
+publish
+"""
+CHANGE = "dacl / D:P(A;OICI;FA;;;BA)(A;OICI;0x120088;;;BU)\nlist\nowner /d BU\npublish\n"
+
+
+@needs_program
+class Questions(Case):
+    def setUp(self) -> None:
+        super().setUp()
+        self.write("before", SCRIPT)
+        self.write("changed", SCRIPT + CHANGE)
+
+    def test_who(self) -> None:
+        """Of the tree after the changes; SIDs have names where they are given."""
+        self.assertEqual(
+            self.runs(0, "who", "before", "/a%20b/c", "0x40001"),
+            [
+                "who\t/a%20b/c\t0x1\tS-1-5-32-544\tS-1-5-32-546",
+                "who\t/a%20b/c\t0x1\tS-1-5-32-545\tS-1-5-32-546",
+                f"who\t/a%20b/c\t0x40000\t{ALICE} as the owner",
+                "who\t/a%20b/c\t0x40000\tS-1-5-32-544",
+            ],
+        )
+        self.assertEqual(
+            self.runs(0, "who", "changed", "/a%20b/c", "0x1"), ["who\t/a%20b/c\t0x1\tS-1-5-32-544\tS-1-5-32-546"]
+        )
+        self.write("names", f"{ALICE} alice\nS-1-5-32-544 admins\n")
+        rows = self.runs(0, "who", "--json", "--names", "names", "before", "/", "0x2", "BU")
+        self.assertEqual(
+            list(map(json.loads, rows)), [{"what": "who", "path": "/", "rights": "0x2", "to": '"admins"'}]
+        )
+        self.runs(2, "who", "before", "/none", "0x1", says="/none: the script has no such node")
+        self.runs(2, "who", "before", "a", "0x1", says="a: a path begins with '/'")
+        self.runs(2, "who", "before", "/", "XX", says="sdstore who: fault mask")
+
+    def test_find(self) -> None:
+        rows = self.runs(0, "find", "before", "/", ALICE, "0x1", "BU", says="3 nodes")
+        self.assertEqual(rows, ["found\t/", "found\t/a%20b", "found\t/a%20b/c"])
+        self.assertEqual(self.runs(0, "find", "changed", "/", ALICE, "0x1", "BU", says="0 nodes"), [])
+        self.assertEqual(self.runs(0, "find", "before", "/a%20b", ALICE, "0x1", "BU", "BG"), ["found\t/a%20b"])
+        rows = self.runs(0, "find", "changed", "/", ALICE, "0x40000", "BU", says="2 nodes")
+        self.assertEqual(rows, ["found\t/a%20b/c", "found\t/d"])
+        self.runs(2, "find", "before", "/none", ALICE, "0x1", says="/none: the script has no such node")
+        self.runs(2, "find", "before", "/", "alice", "0x1", says="sdstore find: fault sid")
+        self.runs(2, "find", "before", "/", ALICE, "0x1", "BU\nlist", says="'BU\\nlist': not an argument")
+
+    def test_review(self) -> None:
+        """What somebody gains or loses; nothing of a change that nobody could notice."""
+        self.assertEqual(self.runs(0, "review", "before", says="0 nodes"), [])
+        rows = self.runs(1, "review", "changed", says="4 nodes")
+        self.assertEqual(
+            rows,
+            [
+                "lost\t/\t0x1\tS-1-5-32-545",
+                "lost\t/a%20b\t0x1\tS-1-5-32-545",
+                "lost\t/a%20b/c\t0x1\tS-1-5-32-545",
+                "gained\t/d\t0x60000\tS-1-5-32-545",
+            ],
+        )
+        self.assertEqual(self.runs(1, "review", "changed", "/a%20b", says="2 nodes"), rows[1:3])
+        rows = self.runs(1, "review", "changed", "/d", "BU", says="1 node ")
+        self.assertEqual(rows, ["gained\t/d\t0x60000\teveryone"])
+        same = "dacl /a%20b/c D:(D;;0x1;;;BG)(D;;0x1;;;BG)\nprotect /a%20b\npublish\n"
+        self.write("same", SCRIPT + same)
+        self.assertEqual(self.runs(0, "review", "same", says="0 nodes"), [])
+        self.runs(2, "review", "changed", "/none", says="/none: the script has no such node")
+        self.runs(2, "review", "changed", "/", "XX", says="sdstore compare: fault token")
