@@ -1,6 +1,7 @@
 //! The list.
 
-ghost use Rattle.std.specs.Prelude.{◌≡◌, ◌<◌, ◌≤◌, [], ◌∷◌, length, IfOk, IfSome, IsSome, OnOk, OnErr, ◌↔◌, slice_index_or, slice_set};
+ghost use Rattle.std.specs.Prelude.{◌≡◌, ◌<◌, ◌≤◌, [], ◌∷◌, length, IfOk, IfSome, IsSome, OnOk, OnErr, ◌↔◌};
+ghost use Rattle.std.specs.Prelude.{slice_index_or, slice_set};
 ghost use Rattle.std.specs.List.{insert, remove};
 ghost use Rattle.std.specs.List.Sorted.{IsSearchInRange, IsBinarySearchResult};
 ghost use Rattle.sd_blocks.specs.Runs.{AreParts, IsRunAt};

@@ -65,8 +65,8 @@ impl Snapshots {
         }
     }
 
-    /// The edit joins the journal, or the first refusal that fits is answered and the journal stays; want of memory only
-    /// where none is due that is found without it. No snapshot changes.
+    /// The edit joins the journal, or the first refusal that fits is answered and the journal stays; want of memory
+    /// only where none is due that is found without it. No snapshot changes.
     pub fn edit(&mut self, edit: &Edit) -> Result<(), TreeError>
         ensures opening { self.new.opening ≡ self.old.opening }
         ensures journal { MatchResult result (λ _. self.new.journal ≡ self.old.journal ++ edit.now ∷ [])

@@ -6,8 +6,8 @@ use Rattle.sd_tree.specs.Journal.{IsLawful}
 use Rattle.sd_tree.specs.declared.edit.Edit.{Edit}
 use Rattle.sd_tree.specs.declared.opening.Opening.{Opening}
 use Rattle.sd_tree.specs.declared.tree.CheckReply.{CheckReply}
-use Rattle.sd_share.specs.Machine.{longer}
-use Rattle.sd_share.specs.declared.request.Answer.{Answer}
+use Rattle.sd_desk.specs.Machine.{longer}
+use Rattle.sd_desk.specs.declared.request.Answer.{Answer}
 use Rattle.sd_store.specs.Marks.{last_of}
 use Rattle.sd_store.specs.Sights.{Sight}
 use Rattle.sd_store.specs.declared.query.Query.{Query}

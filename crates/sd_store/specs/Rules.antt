@@ -1,4 +1,5 @@
--- The rule of the store that threads share: what the published value is, and what each reader and the writer know of it.
+-- The rule of the store that threads share: what the published value is, and what each reader and the writer know of
+-- it.
 use Rattle.std.specs.Prelude.{◌≡◌, ℕ, List, [], ◌∷◌, length}
 use mathlib.Core.List.{IsPrefix}
 use mathlib.Core.Option.{some}
@@ -71,4 +72,5 @@ pub record IsReady (n : Named) (v : View) (x : Published) (operations : List Ope
 
 -- a store that was just opened
 abbrev pub IsOpened : Named → View → Published → List Operation → Type 0
-IsOpened n v x operations = IsReady n v x operations × (x.tree.journal ≡ []) × (x.marks.items ≡ 0 ∷ []) × (operations ≡ [])
+IsOpened n v x operations = IsReady n v x operations × (x.tree.journal ≡ []) × (x.marks.items ≡ 0 ∷ [])
+    × (operations ≡ [])

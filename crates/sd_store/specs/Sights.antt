@@ -1,12 +1,12 @@
 -- What contracts see of a writer and of a checker.
 use Rattle.std.specs.Prelude.{◌≡◌, ℕ, ◌<◌, ◌⊎◌, List, [], length, drop, Option}
 use Rattle.sd_tree.specs.declared.edit.Edit.{Edit}
-use Rattle.sd_share.specs.declared.request.Answer.{Answer}
+use Rattle.sd_desk.specs.declared.request.Answer.{Answer}
 use Rattle.sd_store.specs.declared.error.AuditError.{AuditError}
 use Rattle.sd_store.specs.declared.rule.View.{View}
 
--- a checker: its view in the shared store; its floor, the journal that it has seen or was told of; and its part of the last
--- audit, of which no public clause speaks
+-- a checker: its view in the shared store; its floor, the journal that it has seen or was told of; and its part of the
+-- last audit, of which no public clause speaks
 pub record Sight : Type 0 where
   pub view : View
   pub floor : List Edit

@@ -1,12 +1,13 @@
 -- How an audit is dealt: worker i answers the queries i, i + n, i + 2n and so on, and keeps its answers in its checker.
 -- No public contract says so.
-use Rattle.std.specs.Prelude.{◌≡◌, ℕ, ◌+◌, ◌*◌, ◌/◌, ◌%◌, ◌<◌, ◌≤◌, List, [], ◌∷◌, ◌++◌, length, slice_index_or, Option, Some, None}
+use Rattle.std.specs.Prelude.{◌≡◌, ℕ, ◌+◌, ◌*◌, ◌/◌, ◌%◌, ◌<◌, ◌≤◌, List, [], ◌∷◌, ◌++◌, length, slice_index_or, Option}
+use Rattle.std.specs.Prelude.{Some, None}
 use mathlib.Core.List.{IsPrefix}
 use Rattle.sd_tree.specs.Journal.{IsLawful}
 use Rattle.sd_tree.specs.declared.edit.Edit.{Edit}
 use Rattle.sd_tree.specs.declared.opening.Opening.{Opening}
-use Rattle.sd_share.specs.Machine.{longer}
-use Rattle.sd_share.specs.declared.request.Answer.{Answer}
+use Rattle.sd_desk.specs.Machine.{longer}
+use Rattle.sd_desk.specs.declared.request.Answer.{Answer}
 use Rattle.sd_store.specs.Audits.{IsAnswer, reply_by}
 use Rattle.sd_store.specs.Marks.{last_of}
 use Rattle.sd_store.specs.Sights.{Sight}
@@ -24,10 +25,12 @@ pub record IsFresh (opening : Opening) (checker : Sight) (query : Query) (given 
 
 -- one answer more
 abbrev pub IsAnswered : Opening → Sight → Query → List Answer → List Answer → Type 0
-IsAnswered opening checker query olds news = (given : Answer) × (news ≡ olds ++ given ∷ []) × IsFresh opening checker query given
+IsAnswered opening checker query olds news = (given : Answer) × (news ≡ olds ++ given ∷ [])
+    × IsFresh opening checker query given
 
 -- the k-th of a worker's answers, to this query: by no less than `least`, and no less than the answers before it
-pub record IsDrawnAt (opening : Opening) (checker : Sight) (least : ℕ) (query : Query) (answers : List Answer) (k : ℕ) (d : Answer) : Type 0 where
+pub record IsDrawnAt (opening : Opening) (checker : Sight) (least : ℕ) (query : Query) (answers : List Answer) (k : ℕ)
+    (d : Answer) : Type 0 where
   pub given : IsAnswer opening checker query (slice_index_or answers k d)
   pub low : least ≤ (slice_index_or answers k d).seen
   pub rising : (j : ℕ) → j < k → (slice_index_or answers j d).seen ≤ (slice_index_or answers k d).seen
@@ -52,7 +55,8 @@ IsWorked opening always queries step worker old new (Some Gate) = ¬ always
 IsWorked opening always queries step worker old new (Some Gone) = Unit {0}
 IsWorked opening always queries step worker old new (Some Memory) = Unit {0}
 
-pub record IsDone (opening : Opening) (always : Type 0) (queries : List Query) (step worker : ℕ) (old new : Sight) : Type 0 where
+pub record IsDone (opening : Opening) (always : Type 0) (queries : List Query) (step worker : ℕ)
+    (old new : Sight) : Type 0 where
   pub further : IsFurther opening (length queries) worker old new
   pub worked : IsWorked opening always queries step worker old new new.failed
 
@@ -78,10 +82,12 @@ abbrev pub IsDealt : List Sight → List Answer → Type 0
 IsDealt checkers answers =
     (j : ℕ) (d : Answer) (e : Sight) → j < length answers
     → (j / length checkers < length (slice_index_or checkers (j % length checkers) e).drawn)
-    × (slice_index_or answers j d ≡ slice_index_or (slice_index_or checkers (j % length checkers) e).drawn (j / length checkers) d)
+    × (slice_index_or answers j d ≡ slice_index_or (slice_index_or checkers (j % length checkers) e).drawn
+    (j / length checkers) d)
 
 -- a worker in the midst of its part, about to answer the query at this place
-pub record IsUnderWay (opening : Opening) (queries : List Query) (worker step at : ℕ) (old now : Sight) (answers : List Answer) : Type 0 where
+pub record IsUnderWay (opening : Opening) (queries : List Query) (worker step at : ℕ) (old now : Sight)
+    (answers : List Answer) : Type 0 where
   pub place : at ≡ worker + length answers * step
   pub drawn : IsDrawn opening now (length old.floor) worker step queries answers
   pub floor : IsPrefix old.floor now.floor

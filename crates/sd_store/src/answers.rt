@@ -8,7 +8,7 @@ ghost use Rattle.sd_store.specs.Together.{AreNone, answer_by};
 
 use crate::query::Query;
 use sd_acl::Descriptor;
-use sd_share::Answer;
+use sd_desk::Answer;
 use sd_tree::{Path, Tree};
 use std::alloc::{AllocError, Global};
 

@@ -13,7 +13,7 @@ use crate::gathering::{first_failure, gathered};
 use crate::naming::Naming;
 use crate::notice::Notice;
 use crate::query::Query;
-use sd_share::Answer;
+use sd_desk::Answer;
 use std::alloc::Global;
 use std::thread;
 use std::thread::Threads;

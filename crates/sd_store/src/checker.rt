@@ -1,12 +1,13 @@
 //! The readers of a store.
 
-ghost use Rattle.std.specs.Prelude.{◌≡◌, ◌<◌, ◌⊎◌, length, map, OnOk, OnErr, IfOk, IfErr, option_map, vec_capacity};
+ghost use Rattle.std.specs.Prelude.{◌≡◌, ◌<◌, ◌⊎◌, length, map, OnOk, OnErr, IfOk, IfErr, IsSome, option_map};
+ghost use Rattle.std.specs.Prelude.{vec_capacity};
 ghost use mathlib.Core.List.{IsPrefix};
 ghost use Rattle.sd_acl.specs.Descriptor.{descriptor_of};
 ghost use Rattle.sd_history.specs.Chains.{items_from};
 ghost use Rattle.sd_tree.specs.Answers.{answer, descriptor_at};
 ghost use Rattle.sd_tree.specs.Journal.{replay, IsLawful};
-ghost use Rattle.sd_share.specs.Machine.{longer};
+ghost use Rattle.sd_desk.specs.Machine.{longer};
 ghost use Rattle.sd_store.specs.Marks.{last_of};
 ghost use Rattle.sd_store.specs.Sights.{IsGone};
 ghost use Rattle.sd_store.specs.Together.{AreNone, answer_by};
@@ -20,8 +21,8 @@ use crate::query::Query;
 use crate::rule::{Seat, Sees};
 use sd_acl::Descriptor;
 use sd_check::Token;
+use sd_desk::Answer;
 use sd_history::Front;
-use sd_share::Answer;
 use sd_sid::Mask;
 use sd_tree::{Edit, Path};
 use std::fmt;
@@ -113,7 +114,8 @@ impl<J: Naming> Checker<J> {
     }
 
     /// The descriptor of the node of a path ([MS-DTYP] 2.4.6), if there is one, by the journal that is published at one
-    /// moment of this call, and its length. `Gone` and `Memory` leave what the reader has seen.
+    /// moment of this call, and its length. `Gone` and `Memory` leave what the reader has seen; `Memory` comes only
+    /// where there is one.
     pub fn descriptor(&mut self, path: &Path) -> Result<(u64, Option<Descriptor>), ShowError>
         ensures floor { OnOk result (self.new.floor ≡ self.new.view.journal) }
         ensures extends { OnOk result (IsPrefix self.old.floor self.new.floor) }
@@ -126,6 +128,8 @@ impl<J: Naming> Checker<J> {
             ≡ descriptor_at J.opening.mapping (replay J.opening self.new.floor) path.now) }
         ensures failed { OnErr result (self.new.floor ≡ self.old.floor) }
         ensures gone { IfErr result (λ e. e ≡ show.Gone → IsGone self.old self.new) }
+        ensures memory { IfErr result (λ e. e ≡ show.Memory
+            → IsSome (descriptor_at J.opening.mapping (replay J.opening self.new.view.journal) path.now)) }
     {
         let Some(seat) = self.seat.take() else {
             unreachable!()
@@ -155,8 +159,9 @@ impl<J: Naming> Checker<J> {
 
     /// Several questions at one moment: the verdict on each query ([MS-DTYP] 2.5.3.2) and the descriptor of each path
     /// ([MS-DTYP] 2.4.6), all by the one journal that is published at one moment of this call, whose length is told. It
-    /// enters the shared store once, as `check` does, and waits for nobody. Room for the answers to queries and then for
-    /// the descriptors is made before that; then each descriptor takes memory for its list, in the order of the paths.
+    /// enters the shared store once, as `check` does, and waits for nobody. Room for the answers to queries and then
+    /// for the descriptors is made before that; then each descriptor takes memory for its list, in the order of the
+    /// paths.
     /// `Gone` and `Memory` leave what the reader has seen, and no answers.
     pub fn check_all(
         &mut self,
@@ -233,8 +238,8 @@ impl<J: Naming> Checker<J> {
 }
 
 /// The floor becomes what was found, unless that is shorter. It never is: of two beginnings of one history the longer
-/// extends the other, and a notice tells only what was published before. But that a look comes behind a publish that was
-/// told of isn't proved, so the lengths are compared.
+/// extends the other, and a notice tells only what was published before. But that a look comes behind a publish that
+/// was told of isn't proved, so the lengths are compared.
 fn raise<J: Naming>(
     floor: &mut Front<Edit>,
     seen: &mut u64,

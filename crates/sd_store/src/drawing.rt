@@ -11,7 +11,7 @@ use crate::error::AuditError;
 use crate::gate::Gate;
 use crate::naming::Naming;
 use crate::query::Query;
-use sd_share::Answer;
+use sd_desk::Answer;
 use std::alloc::Global;
 
 /// Answers the worker's queries, and leaves the answers in its checker, or why there are none.

@@ -39,8 +39,8 @@ pub enum PublishError {
     Memory,
 }
 
-/// The shared store gave nothing to read in that call, or a journal shorter than the checker's floor: it may be so once its
-/// writer has ended. What the checker has seen stays.
+/// The shared store gave nothing to read in that call, or a journal shorter than the checker's floor: it may be so once
+/// its writer has ended. What the checker has seen stays.
 #[derive(Clone, Copy, Debug, PartialEq, Eq, Error)]
 #[error("the store is gone")]
 pub struct Gone;

@@ -3,9 +3,9 @@
 use sd_history::Chain;
 use std::marker::Brand;
 
-/// Which store it is: the opening that its tree begins with, and the history of its edits. A type, so no call can change
-/// it, and a checker of one store has another type than one of a second store. Each program picks it where it starts a
-/// store; it has no value and no method.
+/// Which store it is: the opening that its tree begins with, and the history of its edits. A type, so no call can
+/// change it, and a checker of one store has another type than one of a second store. Each program picks it where it
+/// starts a store; it has no value and no method.
 pub trait Naming: Chain {
     ghost use Rattle.sd_tree.specs.declared.opening.Opening.{Opening};
 

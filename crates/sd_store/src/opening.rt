@@ -4,8 +4,8 @@ ghost use Rattle.std.specs.Prelude.{◌≡◌, ◌⊎◌, ◌∷◌, ◌<◌, �
 ghost use Rattle.left_right.specs.Sides.{view};
 ghost use Rattle.sd_tree.specs.Journal.{opening_of, root_refusal};
 ghost use Rattle.sd_history.specs.Chains.{items_from};
-ghost use Rattle.sd_share.specs.Starts.{IsReaderCount};
-ghost use Rattle.sd_share.specs.declared.start.StartError.TheVariants.{Memory, Place};
+ghost use Rattle.sd_desk.specs.Starts.{IsReaderCount};
+ghost use Rattle.sd_desk.specs.declared.start.StartError.TheVariants.{Memory, Place};
 ghost use Rattle.sd_store.specs.Errors.{IsStoreError};
 ghost use Rattle.sd_store.specs.Rules.{naming, newcomer, IsFrontOf, IsOpened};
 
@@ -14,16 +14,17 @@ use crate::naming::Naming;
 use crate::published::Published;
 use crate::rule::Cell;
 use crate::writer::StoreWriter;
+use sd_desk::{MAX_READERS, StartError};
 use sd_history::{Front, Opened};
-use sd_share::{MAX_READERS, StartError};
 use sd_sid::GenericMapping;
 use sd_snapshot::Snapshots;
 use sd_tree::{Edit, RootSpec, Shared, Tree};
 use std::alloc::{AllocError, Global};
 use std::sync::Wait;
 
-/// A store with no edit yet: its writer, and 1 to 64 checkers, which have seen none. It is of the history that it takes,
-/// a new one. `Readers` for another number, and else the root's first refusal. It may wait where it answers `Place`.
+/// A store with no edit yet: its writer, and 1 to 64 checkers, which have seen none. It is of the history that it
+/// takes, a new one. `Readers` for another number, and else the root's first refusal. It may wait where it answers
+/// `Place`.
 pub fn start<J: Naming, R: Wait>(
     rt: &R,
     alloc: Global,

@@ -45,7 +45,8 @@ impl<J: Naming> Model for StoreWriter<J> {
         IsReady (naming J.opening J.book J.first)
         (client_of c.desk.place) c.desk.shown.value (drop c.behind c.log.items)
         × (w.snapshots.opening ≡ J.opening)
-        × (w.snapshots.journal ≡ c.desk.shown.value.tree.journal ++ beyond c.desk.shown.value.tree.journal w.snapshots.journal)
+        × (w.snapshots.journal ≡ c.desk.shown.value.tree.journal
+        ++ beyond c.desk.shown.value.tree.journal w.snapshots.journal)
         × (w.pencil ≡ w.snapshots.journal)
         × (w.published ≡ length c.desk.shown.value.tree.journal)) };
 }

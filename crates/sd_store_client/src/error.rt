@@ -1,6 +1,6 @@
 //! Why there is no answer.
 
-use sd_share::StartError;
+use sd_desk::StartError;
 use sd_store::{EditError, Gone, PublishError};
 use thiserror::Error;
 

@@ -2,15 +2,15 @@
 
 ghost use Rattle.std.specs.Prelude.{◌≡◌, ◌∷◌, [], None, length, IfOk, IfErr, OnOk, All, vec_len};
 ghost use Rattle.sd_tree.specs.Journal.{opening_of, replay, IsLawful};
-ghost use Rattle.sd_share.specs.Starts.{IsReaderCount};
+ghost use Rattle.sd_desk.specs.Starts.{IsReaderCount};
 ghost use Rattle.sd_store.specs.Errors.{IsStoreError};
 ghost use Rattle.sd_store.specs.Rules.{newcomer};
 ghost use Rattle.sd_tree_renewal.specs.Renewal.{Makes};
 ghost use Rattle.sd_store_renewal.specs.Successions.{GoesOnAlike};
 
 use crate::succession::Succession;
+use sd_desk::StartError;
 use sd_history::Opened;
-use sd_share::StartError;
 use sd_store::{Checker, EditError, Naming, StoreWriter, start};
 use sd_tree::Edit;
 use sd_tree_renewal::Beginning;

@@ -3,13 +3,13 @@
 ghost use Rattle.std.specs.Prelude.{◌≡◌, ◌<◌, length, OnOk, OnErr, IfOk};
 ghost use mathlib.Core.List.{IsPrefix};
 ghost use Rattle.sd_tree.specs.Journal.{IsLawful};
-ghost use Rattle.sd_share.specs.Machine.{longer};
+ghost use Rattle.sd_desk.specs.Machine.{longer};
 ghost use Rattle.sd_store.specs.Marks.{last_of};
 ghost use Rattle.sd_store.specs.Sights.{IsGone};
 ghost use Rattle.sd_store_renewal.specs.Successions.{IsOnwards};
 
 use crate::error::Ahead;
-use sd_share::Answer;
+use sd_desk::Answer;
 use sd_store::{Checker, Gone, Naming, Notice, Query};
 use std::marker::Model;
 

@@ -10,7 +10,7 @@ use Rattle.sd_path.specs.Names.{Names, names_cmp, is_within}
 use Rattle.sd_tree.specs.Plain.{PlainTree, row_at, dacl_at}
 use Rattle.sd_tree.specs.Closed.{IsClosed, IsAddable}
 use Rattle.sd_tree.specs.Refusals.{dacl_size, has_child}
-use Rattle.sd_tree.specs.Stored.{Boxed, path_of_node, tree_of, AreStanding}
+use Rattle.sd_tree.specs.Stored.{path_of_node, tree_of, AreStanding}
 use Rattle.sd_tree.specs.Plans.{IsInsertion, IsRemoval, IsPlan, IsLargeError}
 use Rattle.sd_tree.specs.Edits.{changed, changed_where, keeping}
 use Rattle.sd_tree.specs.declared.node.NodeDacl.{NodeDacl}
@@ -26,11 +26,12 @@ use Rattle.sd_tree.proofs.Kept.{row_here}
 use Rattle.sd_tree.proofs.CarriedOut.{key_at, keys_count}
 use Rattle.sd_tree.proofs.Below.{some_row, within_root, nothing_below}
 use Rattle.sd_tree.proofs.Rebuilding.{parent_there, place_same}
+use Rattle.sd_tree.specs.declared.node.Node.{Node}
 
-pub insertion : (g : MappingValue) (bs : List Boxed) (standing : AreStanding g bs) (q : Names) (row : Row) → IsAddable (tree_of bs) q
+pub insertion : (g : MappingValue) (bs : List Node) (standing : AreStanding g bs) (q : Names) (row : Row) → IsAddable (tree_of bs) q
     → (at : ℕ) → at ≤ length bs → AllWithin (λ b. names_cmp (path_of_node b) q ≡ Less) bs 0 at → AllWithin (λ b. names_cmp (path_of_node b) q ≡ Greater) bs at (length bs)
-    → (b : Boxed) → path_of_node b ≡ q → b.value.row ≡ row
-    → b.value.whole ≡ dacl_at g (finite.insert (tree_of bs) q row) q → dacl_size b.value.whole ≤ 65535
+    → (b : Node) → path_of_node b ≡ q → b.row ≡ row
+    → b.whole ≡ dacl_at g (finite.insert (tree_of bs) q row) q → dacl_size b.whole ≤ 65535
     → IsInsertion g (tree_of bs) (finite.insert (tree_of bs) q row) at b
 insertion g bs standing q row can at place low high b is-path is-row is-whole fits =
     let order = standing.kept.order in
@@ -53,7 +54,7 @@ insertion g bs standing q row can at place low high b is-path is-row is-whole fi
           let found = row_here bs order k b in' in
           ap (dacl_at g t') there
           ∙ dacl_at_outside g t' (tree_of bs) q (path_of_node (get_or bs k b)) (λ p other. row_at-insert_other (tree_of bs) q p row other)
-          (nothing_below (tree_of bs) standing.closed q (path_of_node (get_or bs k b)) (get_or bs k b).value.row can.free found)
+          (nothing_below (tree_of bs) standing.closed q (path_of_node (get_or bs k b)) (get_or bs k b).row can.free found)
           ∙ ap (dacl_at g (tree_of bs)) (sym there);
     }
 
@@ -79,8 +80,8 @@ nothing_below_childless t closed q path row none there other = elim (cases_Bool 
           ih found.0 found.1 (ap (is_within q) (sym (up-push p name)) ∙ up_within q (p ++ name ∷ []) inside other) apart
     ]
 
-pub removal : (g : MappingValue) (bs : List Boxed) (standing : AreStanding g bs) (q : Names) → has_child (tree_of bs) q ≡ false
-    → (at : ℕ) → at < length bs → HoldsAt (λ b. path_of_node b ≡ q) bs at → (b : Boxed) → IsRemoval g (tree_of bs) (finite.remove (tree_of bs) q) at
+pub removal : (g : MappingValue) (bs : List Node) (standing : AreStanding g bs) (q : Names) → has_child (tree_of bs) q ≡ false
+    → (at : ℕ) → at < length bs → HoldsAt (λ b. path_of_node b ≡ q) bs at → (b : Node) → IsRemoval g (tree_of bs) (finite.remove (tree_of bs) q) at
 removal g bs standing q none at place stands b =
     let order = standing.kept.order in
     let count = keys_count bs order in
@@ -95,7 +96,7 @@ removal g bs standing q none at place stands b =
           let apart : path_of_node (get_or bs k b) ≢ q = λ same. other (place_same bs order k at b in' place (same ∙ sym (stands b))) in
           ap (dacl_at g t') there
           ∙ dacl_at_outside g t' (tree_of bs) q (path_of_node (get_or bs k b)) (λ p ne. row_at-remove_other (tree_of bs) q p ne)
-          (nothing_below_childless (tree_of bs) standing.closed q (path_of_node (get_or bs k b)) (get_or bs k b).value.row none found apart)
+          (nothing_below_childless (tree_of bs) standing.closed q (path_of_node (get_or bs k b)) (get_or bs k b).row none found apart)
           ∙ ap (dacl_at g (tree_of bs)) (sym there);
     }
 

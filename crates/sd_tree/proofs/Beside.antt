@@ -11,7 +11,7 @@ use Rattle.sd_tree.specs.Plain.{dacl_here, dacl_at}
 use Rattle.sd_tree.specs.Plans.{IsRewriting, ChangesOneNode}
 use Rattle.sd_tree.specs.Refusals.{dacl_size, own_entries}
 use Rattle.sd_tree.specs.Sharing.{IsSibling, AreMadeFor, InheritOne}
-use Rattle.sd_tree.specs.Stored.{Boxed, path_of_node, IsInOrder, tree_of, AreStanding}
+use Rattle.sd_tree.specs.Stored.{path_of_node, IsInOrder, tree_of, AreStanding}
 use Rattle.sd_tree.specs.Whole.{behind_own, dacl_with, whole_with, inherits}
 use Rattle.sd_tree.specs.declared.node.NodeDacl.{NodeDacl}
 use Rattle.sd_tree.specs.declared.node.NodeDacl.TheVariants.{Null, List as Entries}
@@ -29,9 +29,9 @@ behind_sibling g beside row above h =
     inheriting_dacl g beside above h.one_inherits ∙ ap (λ xs. Some (behind_own beside xs)) (h.same g)
 
 -- of the nodes as they stand
-pub sibling_whole : (g : MappingValue) (bs : List Boxed) → AreStanding g bs → (path : Names) (row : Row) (above : Option (List Ace)) (k : ℕ)
+pub sibling_whole : (g : MappingValue) (bs : List Node) → AreStanding g bs → (path : Names) (row : Row) (above : Option (List Ace)) (k : ℕ)
     → above ≡ dacl_at g (tree_of bs) (up path) → IsSibling bs path row above k
-    → (b : Boxed) → (get_or bs k b).value.whole ≡ Some (behind_own (get_or bs k b).value.row (handed_on g row above))
+    → (b : Node) → (get_or bs k b).whole ≡ Some (behind_own (get_or bs k b).row (handed_on g row above))
 sibling_whole g bs standing path row above k is-above sibling b =
     let t = tree_of bs in
     let there = path_of_node (get_or bs k b) in
@@ -39,7 +39,7 @@ sibling_whole g bs standing path row above k is-above sibling b =
     let held : dacl_at g t (up there) ≡ above = ap (dacl_at g t) (sibling.parent b) ∙ sym is-above in
     kept.is ∙ dacl_at_up g t there (sibling.below_root b)
     ∙ ap (λ o. dacl_here g o (dacl_at g t (up there))) (row_here bs standing.kept.order k b sibling.place)
-    ∙ ap (dacl_of_row g (get_or bs k b).value.row) held ∙ behind_sibling g (get_or bs k b).value.row row above (sibling.alike b)
+    ∙ ap (dacl_of_row g (get_or bs k b).row) held ∙ behind_sibling g (get_or bs k b).row row above (sibling.alike b)
 
 -- a row that inherits has these behind its own entries
 with_own : (row : Row) (inherited : List Ace) → inherits row.dacl ≡ true → whole_with row inherited ≡ Some (behind_own row inherited)
@@ -56,8 +56,8 @@ row_beside g beside row above h inherited is =
     with_own row inherited h.other_inherits
     ∙ ap (λ xs. Some (behind_own row xs)) is ∙ sym (inheriting_dacl g row above h.other_inherits)
 
-pub dacl_beside : (g : MappingValue) (bs : List Boxed) → AreStanding g bs → (path : Names) (row : Row) (above : Option (List Ace)) (k : ℕ)
-    → above ≡ dacl_at g (tree_of bs) (up path) → IsSibling bs path row above k → (b : Boxed) (n : Node) → n ≡ (get_or bs k b).value
+pub dacl_beside : (g : MappingValue) (bs : List Node) → AreStanding g bs → (path : Names) (row : Row) (above : Option (List Ace)) (k : ℕ)
+    → above ≡ dacl_at g (tree_of bs) (up path) → IsSibling bs path row above k → (b : Node) (n : Node) → n ≡ (get_or bs k b)
     → (beside : Row) → beside ≡ n.row → (inherited : List Ace) → ((rest : List Ace) → n.whole ≡ Some (behind_own beside rest) → inherited ≡ rest)
     → whole_with row inherited ≡ dacl_of_row g row above
 dacl_beside g bs standing path row above k is-above sibling b n is beside of inherited told =
@@ -65,8 +65,18 @@ dacl_beside g bs standing path row above k is-above sibling b n is beside of inh
     let kept = ap (λ (m : Node). m.whole) is ∙ sibling_whole g bs standing path row above k is-above sibling b in
     row_beside g _ row above (sibling.alike b) inherited (told _ (kept ∙ ap (λ r. Some (behind_own r (handed_on g row above))) (sym own)))
 
+pub made_beside : (g : MappingValue) (bs : List Node) (path : Names) (row : Row) (above : Option (List Ace)) (at k : ℕ) (made : List (Option (List Ace)))
+    → AreMadeFor g bs path row above at made → IsSibling bs path row above k → at < k → k - at < length made
+    → (b : Node) → b ≡ get_or bs k b → (beside : Row) → beside ≡ b.row → (whole : Option (List Ace)) → whole ≡ get_or made (k - at) whole
+    → (inherited : List Ace) → ((rest : List Ace) → whole ≡ Some (behind_own beside rest) → inherited ≡ rest)
+    → whole_with row inherited ≡ dacl_of_row g row above
+made_beside g bs path row above at k made are sibling behind lt b is beside of whole is-whole inherited told =
+    let own = of ∙ ap (λ (m : Node). m.row) is in
+    let kept = is-whole ∙ are k b whole sibling behind lt in
+    row_beside g _ row above (sibling.alike b) inherited (told _ (kept ∙ ap (λ r. Some (behind_own r (handed_on g row above))) (sym own)))
+
 -- of the DACLs that are built already, from a node on down the run of those below it
-pub siblings_made : (g : MappingValue) (bs : List Boxed) (order : IsInOrder bs) (q : Names) (at end : ℕ) → HoldsAt (λ c. path_of_node c ≡ q) bs at
+pub siblings_made : (g : MappingValue) (bs : List Node) (order : IsInOrder bs) (q : Names) (at end : ℕ) → HoldsAt (λ c. path_of_node c ≡ q) bs at
     → AllWithin (λ c. is_within q (path_of_node c) ≡ true) bs at end → (q-row : Row) (k : ℕ) → k ≤ end → (wholes : List (Option (List Ace)))
     → IsRebuilt g (insert (tree_of bs) q q-row) bs at k wholes
     → (path : Names) (row : Row) (above : Option (List Ace)) → above ≡ dacl_at g (insert (tree_of bs) q q-row) (up path)
@@ -78,10 +88,10 @@ siblings_made g bs order q at end stands inside q-row k le wholes h path row abo
     let whole = run_whole bs order q at stands j b behind sibling.place (inside j b (omega arith) (omega (arith, h.count, here))) g q-row above
     (is-above ∙ ap (dacl_at g t) (sym (sibling.parent b))) in
     built.0 ∙ ap (λ i. dacl_at g t (path_of_node (get_or bs i b))) here ∙ sym whole
-    ∙ behind_sibling g (get_or bs j b).value.row row above (sibling.alike b)
+    ∙ behind_sibling g (get_or bs j b).row row above (sibling.alike b)
 
 -- a node whose row changes no other node's DACL
-pub one_rewriting : (g : MappingValue) (bs : List Boxed) (standing : AreStanding g bs) (q : Names) (at : ℕ) (in' : at < length bs) → HoldsAt (λ c. path_of_node c ≡ q) bs at
+pub one_rewriting : (g : MappingValue) (bs : List Node) (standing : AreStanding g bs) (q : Names) (at : ℕ) (in' : at < length bs) → HoldsAt (λ c. path_of_node c ≡ q) bs at
     → (row : Row) (whole : Option (List Ace)) → whole ≡ dacl_at g (insert (tree_of bs) q row) q → dacl_size whole ≤ 65535
     → ChangesOneNode g (tree_of bs) (insert (tree_of bs) q row) q → IsRewriting g (tree_of bs) (insert (tree_of bs) q row) at row (whole ∷ [])
 one_rewriting g bs standing q at in' stands row whole is fits alone =

@@ -16,7 +16,7 @@ use Rattle.sd_acl.specs.declared.ace.Ace.{Ace}
 use Rattle.sd_path.specs.Names.{Names, names_cmp}
 use Rattle.sd_tree.specs.Plain.{PlainTree, dacl_at}
 use Rattle.sd_tree.specs.Refusals.{dacl_size}
-use Rattle.sd_tree.specs.Stored.{Boxed, path_of_node, entry_of, IsInOrder, tree_of, IsWhole, AreNodes}
+use Rattle.sd_tree.specs.Stored.{path_of_node, entry_of, IsInOrder, tree_of, IsWhole, AreNodes}
 use Rattle.sd_tree.specs.Plans.{IsInsertion, IsRewriting, IsRemoval, IsRewritten}
 use Rattle.sd_tree.specs.declared.node.Row.{Row}
 use Rattle.std.proofs.Math.ListN.{get_or-map as get_or-mapped}
@@ -24,12 +24,13 @@ use Rattle.sd_tree.proofs.Kept.{entries_kept}
 use Rattle.sd_tree.proofs.Sorted.{put_insert, put_set, where_remove, greater_from_less, less_from_greater}
 use Rattle.sd_tree.proofs.Rewriting.{set_cases}
 use Rattle.sd_path.proofs.Paths.{names_cmp_total, names_cmp_antisymmetric}
+use Rattle.sd_tree.specs.declared.node.Node.{Node}
 
 -- nodes with a tree's entries are in order, and are that tree
-pub order_from_entries : (bs : List Boxed) (t : PlainTree) → map entry_of bs ≡ finite.entries t → IsInOrder bs
+pub order_from_entries : (bs : List Node) (t : PlainTree) → map entry_of bs ≡ finite.entries t → IsInOrder bs
 order_from_entries bs t e = let P : List (Names × Row) → Type 0 = λ es. T (is_sorted names_cmp es) in subst P (sym e) (entries_sorted t)
 
-pub tree_from_entries : (bs : List Boxed) (t : PlainTree) → map entry_of bs ≡ finite.entries t → tree_of bs ≡ t
+pub tree_from_entries : (bs : List Node) (t : PlainTree) → map entry_of bs ≡ finite.entries t → tree_of bs ≡ t
 tree_from_entries bs t e = same_entries_map (tree_of bs) t (entries_kept bs (order_from_entries bs t e) ∙ e)
 
 map-map : {A B C : Type 0} (f : B → C) (g : A → B) (xs : List A) → map f (map g xs) ≡ map (λ x. f (g x)) xs
@@ -37,21 +38,21 @@ map-map f g [] = refl
 map-map f g (x ∷ xs) = ap (λ ys. f (g x) ∷ ys) (map-map f g xs)
 
 -- the paths of a tree are those of its nodes
-pub keys_kept : (bs : List Boxed) → IsInOrder bs → finite.keys (tree_of bs) ≡ map path_of_node bs
+pub keys_kept : (bs : List Node) → IsInOrder bs → finite.keys (tree_of bs) ≡ map path_of_node bs
 keys_kept bs h = ap (λ es. map (λ e. e.0) es) (entries_kept bs h) ∙ map-map (λ e. e.0) entry_of bs
 
-pub key_at : (bs : List Boxed) → IsInOrder bs → (k : ℕ) (path : Names) (b : Boxed) → k < length bs
+pub key_at : (bs : List Node) → IsInOrder bs → (k : ℕ) (path : Names) (b : Node) → k < length bs
     → get_or (finite.keys (tree_of bs)) k path ≡ path_of_node (get_or bs k b)
 key_at bs h k path b lt = ap (λ ps. get_or ps k path) (keys_kept bs h) ∙ get_or-map path_of_node bs k b path lt
 
-pub keys_count : (bs : List Boxed) → IsInOrder bs → length (finite.keys (tree_of bs)) ≡ length bs
+pub keys_count : (bs : List Node) → IsInOrder bs → length (finite.keys (tree_of bs)) ≡ length bs
 keys_count bs h = ap length (keys_kept bs h) ∙ length-map bs path_of_node
 
 -- a node that is whole in one tree is so in another that has the same DACL there
-pub whole_still : (g : MappingValue) (before after : PlainTree) (b : Boxed) → dacl_at g after (path_of_node b) ≡ dacl_at g before (path_of_node b) → IsWhole g before b → IsWhole g after b
+pub whole_still : (g : MappingValue) (before after : PlainTree) (b : Node) → dacl_at g after (path_of_node b) ≡ dacl_at g before (path_of_node b) → IsWhole g before b → IsWhole g after b
 whole_still g before after b e w = record { is = w.is ∙ sym e; fits = w.fits }
 
-whole_alike : (g : MappingValue) (t : PlainTree) (b c : Boxed) → path_of_node b ≡ path_of_node c → b.value.whole ≡ c.value.whole → IsWhole g t c → IsWhole g t b
+whole_alike : (g : MappingValue) (t : PlainTree) (b c : Node) → path_of_node b ≡ path_of_node c → b.whole ≡ c.whole → IsWhole g t c → IsWhole g t b
 whole_alike g t b c path-is whole-is w = record { is = whole-is ∙ w.is ∙ ap (dacl_at g t) (sym path-is); fits = rw whole-is w.fits }
 
 map-remove : {A B : Type 0} (f : A → B) (xs : List A) (i : ℕ) → map f (remove xs i) ≡ remove (map f xs) i
@@ -83,15 +84,15 @@ map-insert f xs i x =
     map-append f (take i xs) (x ∷ drop i xs)
     ∙ sym (λ j. take-map f i xs j ++ f x ∷ drop-map f i xs j)
 
-module _ (g : MappingValue) (bs : List Boxed) (kept : AreNodes g bs) (after : PlainTree) where
+module _ (g : MappingValue) (bs : List Node) (kept : AreNodes g bs) (after : PlainTree) where
   -- ---- one more node
-  module _ (at : ℕ) (b : Boxed) (h : IsInsertion g (tree_of bs) after at b) where
+  module _ (at : ℕ) (b : Node) (h : IsInsertion g (tree_of bs) after at b) where
     pub inserted_entries : map entry_of (insert bs at b) ≡ finite.entries after
     inserted_entries =
         let es = finite.entries (tree_of bs) in
         let place : at ≤ length es = omega (arith, h.place, length-map es (λ (e : Names × Row). e.0)) in
         let q = path_of_node b in
-        let put_there = put_insert names_cmp_total q b.value.row es at place
+        let put_there = put_insert names_cmp_total q b.row es at place
         (λ k d lt.
         let low : names_cmp (get_or es k d).0 q ≡ Less = rw (get_or-mapped (λ (e : Names × Row). e.0) es k d) at (h.below k d.0 (omega arith) lt) in
         greater_from_less names_cmp_total (get_or es k d).0 q low)
@@ -101,10 +102,10 @@ module _ (g : MappingValue) (bs : List Boxed) (kept : AreNodes g bs) (after : Pl
         map-insert entry_of bs at b
         ∙ ap (λ xs. insert xs at (entry_of b)) (sym (entries_kept bs kept.order))
         ∙ sym put_there
-        ∙ sym (entries-insert names_cmp_total (tree_of bs) (path_of_node b) b.value.row)
+        ∙ sym (entries-insert names_cmp_total (tree_of bs) (path_of_node b) b.row)
         ∙ ap finite.entries (sym h.made)
 
-    moved : (k : ℕ) (d : Boxed) → k < length bs → IsWhole g after (get_or bs k d)
+    moved : (k : ℕ) (d : Node) → k < length bs → IsWhole g after (get_or bs k d)
     moved k d lt =
         let same : dacl_at g after (path_of_node (get_or bs k d)) ≡ dacl_at g (tree_of bs) (path_of_node (get_or bs k d)) =
         rw (key_at bs kept.order k (path_of_node d) d lt) at (h.others k (path_of_node d) (omega (arith, keys_count bs kept.order))) in
@@ -114,7 +115,7 @@ module _ (g : MappingValue) (bs : List Boxed) (kept : AreNodes g bs) (after : Pl
     inserted_whole k d lt =
         let place : at ≤ length bs = omega (arith, h.place, keys_count bs kept.order) in
         let count = length-insert bs at b place in
-        let P : Boxed → Type 0 = IsWhole g after in
+        let P : Node → Type 0 = IsWhole g after in
         elim (cases_lt k at) as (λ _. IsWhole g after (get_or (insert bs at b) k d)) [
           | inl low ↦ subst P (sym (get_or-insert_below bs at b d k low place)) (moved k d (omega arith))
           | inr ge ↦ elim (cases_lt at k) as (λ _. IsWhole g after (get_or (insert bs at b) k d)) [
@@ -139,9 +140,9 @@ module _ (g : MappingValue) (bs : List Boxed) (kept : AreNodes g bs) (after : Pl
         )
 
 -- ---- a node with another row, and whole DACLs anew from it on
-module _ (g : MappingValue) (bs : List Boxed) (kept : AreNodes g bs) (after : PlainTree) (at : ℕ) (row : Row) (wholes : List (Option (List Ace)))
-    (h : IsRewriting g (tree_of bs) after at row wholes) (new : List Boxed) (r : IsRewritten at row wholes bs new) where
-  rewritten_entries : (b : Boxed) → map entry_of new ≡ set (map entry_of bs) at (path_of_node (get_or bs at b), row)
+module _ (g : MappingValue) (bs : List Node) (kept : AreNodes g bs) (after : PlainTree) (at : ℕ) (row : Row) (wholes : List (Option (List Ace)))
+    (h : IsRewriting g (tree_of bs) after at row wholes) (new : List Node) (r : IsRewritten at row wholes bs new) where
+  rewritten_entries : (b : Node) → map entry_of new ≡ set (map entry_of bs) at (path_of_node (get_or bs at b), row)
   rewritten_entries b =
       same_lists (map entry_of new) (set (map entry_of bs) at (path_of_node (get_or bs at b), row))
       (length-map new entry_of ∙ r.length_is ∙ sym (length-map bs entry_of) ∙ sym (length-set (map entry_of bs) at (path_of_node (get_or bs at b), row)))
@@ -152,11 +153,11 @@ module _ (g : MappingValue) (bs : List Boxed) (kept : AreNodes g bs) (after : Pl
     where
       entry_still : (k : ℕ) (d : Names × Row) → k < length bs → entry_of (get_or new k b) ≡ get_or (set (map entry_of bs) at (path_of_node (get_or bs at b), row)) k d
       entry_still k d lt = elim (set_cases (map entry_of bs) at k (path_of_node (get_or bs at b), row) d (omega (arith, h.place, keys_count bs kept.order, length-map bs entry_of))) [
-        | inl here ↦ (λ i. (r.paths k b lt i, (ap (λ j. (get_or new j b).value.row) here.0 ∙ r.row_is b) i)) ∙ ap (λ j. (path_of_node (get_or bs j b), row)) here.0 ∙ sym here.1
+        | inl here ↦ (λ i. (r.paths k b lt i, (ap (λ j. (get_or new j b).row) here.0 ∙ r.row_is b) i)) ∙ ap (λ j. (path_of_node (get_or bs j b), row)) here.0 ∙ sym here.1
         | inr there ↦ (λ i. (r.paths k b lt i, r.rows k b lt there.0 i)) ∙ sym (get_or-map entry_of bs k b d lt) ∙ sym there.1
       ]
 
-  rewritten_tree : (b : Boxed) → map entry_of new ≡ finite.entries after
+  rewritten_tree : (b : Node) → map entry_of new ≡ finite.entries after
   rewritten_tree b =
       let place : at < length bs = omega (arith, h.place, keys_count bs kept.order) in
       let es = finite.entries (tree_of bs) in
@@ -171,19 +172,19 @@ module _ (g : MappingValue) (bs : List Boxed) (kept : AreNodes g bs) (after : Pl
       ∙ ap finite.entries (ap (λ p. finite.insert (tree_of bs) p row) (sym (key_at bs kept.order at q b place)) ∙ sym (h.made q))
 
   -- outside the run its whole DACL is the old one, within it the new one
-  whole_outside : (k : ℕ) (d : Boxed) → k < length bs → (k < at) ⊎ (at + length wholes ≤ k) → IsWhole g after (get_or new k d)
+  whole_outside : (k : ℕ) (d : Node) → k < length bs → (k < at) ⊎ (at + length wholes ≤ k) → IsWhole g after (get_or new k d)
   whole_outside k d lt outside =
       let same : dacl_at g after (path_of_node (get_or bs k d)) ≡ dacl_at g (tree_of bs) (path_of_node (get_or bs k d)) =
       rw (key_at bs kept.order k (path_of_node d) d lt) at (h.others k (path_of_node d) (omega (arith, keys_count bs kept.order)) outside) in
       whole_alike g after (get_or new k d) (get_or bs k d) (r.paths k d lt) (r.others k d lt outside)
       (whole_still g (tree_of bs) after (get_or bs k d) same (kept.whole k d lt))
 
-  whole_within : (j : ℕ) (d : Boxed) → j < length wholes → IsWhole g after (get_or new (at + j) d)
+  whole_within : (j : ℕ) (d : Node) → j < length wholes → IsWhole g after (get_or new (at + j) d)
   whole_within j d lt =
       let in' : at + j < length bs = omega (arith, h.fits, keys_count bs kept.order) in
       let fresh = h.below j (path_of_node d) None lt in
       let is-whole = r.wholes_are j d None lt in
-      let fits : dacl_size (get_or new (at + j) d).value.whole ≤ 65535 = rw is-whole fresh.1 in
+      let fits : dacl_size (get_or new (at + j) d).whole ≤ 65535 = rw is-whole fresh.1 in
       record {
         is = is-whole ∙ fresh.0 ∙ ap (dacl_at g after) (key_at bs kept.order (at + j) (path_of_node d) d in' ∙ sym (r.paths (at + j) d in'));
         fits = fits;
@@ -203,7 +204,7 @@ module _ (g : MappingValue) (bs : List Boxed) (kept : AreNodes g bs) (after : Pl
         ]
       ]
 
-  pub rewritten : (b : Boxed) → (tree_of new ≡ after) × AreNodes g new
+  pub rewritten : (b : Node) → (tree_of new ≡ after) × AreNodes g new
   rewritten b =
       let entries_are = rewritten_tree b in
       let same = tree_from_entries new after entries_are in (
@@ -215,8 +216,8 @@ module _ (g : MappingValue) (bs : List Boxed) (kept : AreNodes g bs) (after : Pl
       )
 
 -- ---- one node less
-module _ (g : MappingValue) (bs : List Boxed) (kept : AreNodes g bs) (after : PlainTree) (at : ℕ) (h : IsRemoval g (tree_of bs) after at) where
-  removed_entries : (b : Boxed) → map entry_of (remove bs at) ≡ finite.entries after
+module _ (g : MappingValue) (bs : List Node) (kept : AreNodes g bs) (after : PlainTree) (at : ℕ) (h : IsRemoval g (tree_of bs) after at) where
+  removed_entries : (b : Node) → map entry_of (remove bs at) ≡ finite.entries after
   removed_entries b =
       let place : at < length bs = omega (arith, h.place, keys_count bs kept.order) in
       let es = finite.entries (tree_of bs) in
@@ -234,7 +235,7 @@ module _ (g : MappingValue) (bs : List Boxed) (kept : AreNodes g bs) (after : Pl
   removed_whole k d lt =
       let place : at < length bs = omega (arith, h.place, keys_count bs kept.order) in
       let count = length-remove bs at place in
-      let P : Boxed → Type 0 = IsWhole g after in
+      let P : Node → Type 0 = IsWhole g after in
       elim (cases_lt k at) as (λ _. IsWhole g after (get_or (remove bs at) k d)) [
         | inl low ↦ subst P (sym (get_or-remove_below bs at d k low place)) (moved k (omega (arith, count)) (λ same. omega arith))
         | inr ge ↦ subst P (sym (get_or-remove_above bs at d k ge place)) (moved (k + 1) (omega (arith, count)) (λ same. omega arith))
@@ -246,7 +247,7 @@ module _ (g : MappingValue) (bs : List Boxed) (kept : AreNodes g bs) (after : Pl
           rw (key_at bs kept.order j (path_of_node d) d in') at (h.others j (path_of_node d) (omega (arith, keys_count bs kept.order)) other) in
           whole_still g (tree_of bs) after (get_or bs j d) same (kept.whole j d in')
 
-  pub removed : (b : Boxed) → (tree_of (remove bs at) ≡ after) × AreNodes g (remove bs at)
+  pub removed : (b : Node) → (tree_of (remove bs at) ≡ after) × AreNodes g (remove bs at)
   removed b =
       let entries_are = removed_entries b in
       let same = tree_from_entries (remove bs at) after entries_are in (

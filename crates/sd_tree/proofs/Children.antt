@@ -8,7 +8,7 @@ use Rattle.std.proofs.lemmas.Bool.{cases_Bool, cases_lt, false≢true}
 use Rattle.sd_sid.specs.Mapping.{MappingValue}
 use Rattle.sd_path.specs.Names.{Names, names_cmp, up, is_root, is_within}
 use Rattle.sd_tree.specs.Refusals.{has_child}
-use Rattle.sd_tree.specs.Stored.{Boxed, path_of_node, tree_of, AreStanding}
+use Rattle.sd_tree.specs.Stored.{path_of_node, tree_of, AreStanding}
 use Rattle.sd_path.proofs.Paths.{within_up, up_before, within_between}
 use Rattle.sd_tree.proofs.Rows.{one_path}
 use Rattle.sd_tree.proofs.Places.{paths_rise}
@@ -16,6 +16,7 @@ use Rattle.sd_tree.proofs.Kept.{row_here}
 use Rattle.sd_tree.proofs.CarriedOut.{key_at, keys_count}
 use Rattle.sd_tree.proofs.Rebuilding.{place_before, not_before_itself}
 use Rattle.sd_tree.proofs.Adding.{nothing_below_childless}
+use Rattle.sd_tree.specs.declared.node.Node.{Node}
 
 both_true : (a b : Bool) → (a && b) ≡ true → (a ≡ true) × (b ≡ true)
 both_true true b h = (refl, h)
@@ -35,9 +36,9 @@ place_found p (x ∷ xs) h = elim (cases_Bool (p x)) [
       (suc rest.0, omega (arith, rest.1), rest.2)
 ]
 
-module _ (g : MappingValue) (bs : List Boxed) (standing : AreStanding g bs) (q : Names) (at : ℕ) (in' : at < length bs) (stands : HoldsAt (λ c. path_of_node c ≡ q) bs at) where
+module _ (g : MappingValue) (bs : List Node) (standing : AreStanding g bs) (q : Names) (at : ℕ) (in' : at < length bs) (stands : HoldsAt (λ c. path_of_node c ≡ q) bs at) where
   -- a child stands behind its parent
-  pub child_behind : has_child (tree_of bs) q ≡ true → (b : Boxed) → (k : ℕ) × (at < k) × (k < length bs) × (is_within q (path_of_node (get_or bs k b)) ≡ true)
+  pub child_behind : has_child (tree_of bs) q ≡ true → (b : Node) → (k : ℕ) × (at < k) × (k < length bs) × (is_within q (path_of_node (get_or bs k b)) ≡ true)
   child_behind h b =
       let order = standing.kept.order in
       let test = λ (child : Names). not (is_root child) && is_eq (names_cmp (up child) q) in
@@ -51,13 +52,13 @@ module _ (g : MappingValue) (bs : List Boxed) (standing : AreStanding g bs) (q :
       let low : names_cmp (path_of_node (get_or bs at b)) path ≡ Less = ap (λ p. names_cmp p path) (stands b ∙ sym parent) ∙ up_before path (not_true (is_root path) parts.0) in
       (k, place_before bs order at k b in' in-k low, in-k, ap (λ p. is_within p path) (sym parent) ∙ within_up path)
 
-  pub childless_last : at + 1 ≡ length bs → (b : Boxed) → has_child (tree_of bs) q ≡ false
+  pub childless_last : at + 1 ≡ length bs → (b : Node) → has_child (tree_of bs) q ≡ false
   childless_last last b = elim (cases_Bool (has_child (tree_of bs) q)) [
     | inl some ↦ let child = child_behind some b in absurd (omega (arith, child.1, child.2))
     | inr none ↦ none
   ]
 
-  pub next_tells : (b : Boxed) → at + 1 < length bs → is_within q (path_of_node (get_or bs (at + 1) b)) ≡ has_child (tree_of bs) q
+  pub next_tells : (b : Node) → at + 1 < length bs → is_within q (path_of_node (get_or bs (at + 1) b)) ≡ has_child (tree_of bs) q
   next_tells b lt =
       let order = standing.kept.order in
       let next = path_of_node (get_or bs (at + 1) b) in
@@ -72,7 +73,7 @@ module _ (g : MappingValue) (bs : List Boxed) (standing : AreStanding g bs) (q :
                   ap (λ j. is_within q (path_of_node (get_or bs j b))) same ∙ child.3
             ]) ∙ sym some
         | inr none ↦
-            nothing_below_childless (tree_of bs) standing.closed q next (get_or bs (at + 1) b).value.row none (row_here bs order (at + 1) b lt)
+            nothing_below_childless (tree_of bs) standing.closed q next (get_or bs (at + 1) b).row none (row_here bs order (at + 1) b lt)
             (λ same. not_before_itself q next (sym same) first)
             ∙ sym none
       ]

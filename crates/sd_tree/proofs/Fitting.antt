@@ -15,7 +15,7 @@ use Rattle.sd_path.specs.Names.{Names}
 use Rattle.sd_tree.specs.Plain.{PlainTree, dacl_at}
 use Rattle.sd_tree.specs.Edits.{edited}
 use Rattle.sd_tree.specs.Refusals.{first_fit, early_refusal, refusal_in, room_tests, dacl_size, has_large_dacl}
-use Rattle.sd_tree.specs.Stored.{Boxed, entry_of, tree_of, AreNodes}
+use Rattle.sd_tree.specs.Stored.{entry_of, tree_of, AreNodes}
 use Rattle.sd_tree.specs.Plans.{IsPlan, IsRewriting, run_moved}
 use Rattle.sd_tree.specs.declared.node.Row.{Row}
 use Rattle.sd_tree.specs.declared.edit.Edit.{Edit}
@@ -28,6 +28,7 @@ use Rattle.sd_tree.proofs.Sorted.{put_set}
 use Rattle.sd_tree.proofs.Kept.{entries_kept, a_node}
 use Rattle.sd_tree.proofs.Went.{went}
 use Rattle.sd_tree.proofs.CarriedOut.{key_at, keys_count, inserted, removed}
+use Rattle.sd_tree.specs.declared.node.Node.{Node}
 
 pub none_found : {X : Type 0} (p : X → Bool) (xs : List X) → ((k : ℕ) (d : X) → k < length xs → p (get_or xs k d) ≡ false) → list_any p xs ≡ false
 none_found p [] h = refl
@@ -37,12 +38,12 @@ pub small_size : (n : ℕ) → n ≤ 65535 → nat_lt 65535 n ≡ false
 small_size n le = grind (arith, nat_tests)
 
 -- nodes that keep their whole DACLs have none that is too large
-pub no_large : (g : MappingValue) (bs : List Boxed) → AreNodes g bs → has_large_dacl g (tree_of bs) ≡ false
+pub no_large : (g : MappingValue) (bs : List Node) → AreNodes g bs → has_large_dacl g (tree_of bs) ≡ false
 no_large g bs kept = none_found (λ path. nat_lt 65535 (dacl_size (dacl_at g (tree_of bs) path))) (finite.keys (tree_of bs)) (λ k d lt.
     let in' : k < length bs = omega (arith, keys_count bs kept.order) in
     let b = a_node bs k in' in
     let w = kept.whole k b in' in
-    let same : dacl_at g (tree_of bs) (get_or (finite.keys (tree_of bs)) k d) ≡ (get_or bs k b).value.whole = ap (dacl_at g (tree_of bs)) (key_at bs kept.order k d b in') ∙ sym w.is in
+    let same : dacl_at g (tree_of bs) (get_or (finite.keys (tree_of bs)) k d) ≡ (get_or bs k b).whole = ap (dacl_at g (tree_of bs)) (key_at bs kept.order k d b in') ∙ sym w.is in
     small_size _ (rw same w.fits))
 
 -- a node with another row leaves the paths as they were
@@ -53,7 +54,7 @@ keys_stay t at e row lt =
     ap (map fst) (entries-insert names_cmp_total t (get_or es at e).0 row ∙ put_set names_cmp_total row es (entries_sorted t) at e lt)
     ∙ map-set_same fst es at ((get_or es at e).0, row) e refl
 
-no_large_rewritten : (g : MappingValue) (bs : List Boxed) → AreNodes g bs → (after : PlainTree) (at : ℕ) (row : Row) (wholes : List (Option (List Ace))) → IsRewriting g (tree_of bs) after at row wholes → has_large_dacl g after ≡ false
+no_large_rewritten : (g : MappingValue) (bs : List Node) → AreNodes g bs → (after : PlainTree) (at : ℕ) (row : Row) (wholes : List (Option (List Ace))) → IsRewriting g (tree_of bs) after at row wholes → has_large_dacl g after ≡ false
 no_large_rewritten g bs kept after at row wholes h =
     let t = tree_of bs in
     let es = finite.entries t in
@@ -88,7 +89,7 @@ no_large_rewritten g bs kept after at row wholes h =
       ]
     ]
 
-pub no_large_planned : (g : MappingValue) (bs : List Boxed) → AreNodes g bs → (after : PlainTree) (plan : Plan) → IsPlan g (tree_of bs) after plan → has_large_dacl g after ≡ false
+pub no_large_planned : (g : MappingValue) (bs : List Node) → AreNodes g bs → (after : PlainTree) (plan : Plan) → IsPlan g (tree_of bs) after plan → has_large_dacl g after ≡ false
 no_large_planned g bs kept after (Insert at b) h =
     let done = inserted g bs kept after at b h in
     ap (has_large_dacl g) (sym done.0) ∙ no_large g (insert bs at b) done.1
@@ -115,7 +116,7 @@ no_some None h = refl
 no_some (Some x) h = absurd (h x refl)
 
 -- how many nodes there are
-pub nodes_count : (bs : List Boxed) (g : MappingValue) → AreNodes g bs → finite.len (tree_of bs) ≡ length bs
+pub nodes_count : (bs : List Node) (g : MappingValue) → AreNodes g bs → finite.len (tree_of bs) ≡ length bs
 nodes_count bs g kept = len-entries (tree_of bs) ∙ ap length (entries_kept bs kept.order) ∙ length-map bs entry_of
 
 pub room_full : (a n : ℕ) (x y : Option EditRefusal) → a ≤ 64 → 65536 ≤ n → y ≡ cond (ltb 64 a) x (cond (leb 65536 n) y None)

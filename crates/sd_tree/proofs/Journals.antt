@@ -1,18 +1,22 @@
 -- Journals with one more edit, and what holds of the tree of each lawful one.
-use Rattle.std.proofs.Common.{◌≡◌, ℕ, ◌<◌, List, [], ◌∷◌, ◌++◌, length, take, Some, None, slice_get, refl, sym, ◌∙◌, ap, inl, inr, arith}
+use Rattle.std.proofs.Common.{◌≡◌, ℕ, ◌<◌, ◌≤◌, Bool, true, false, cond, nat_le, List, [], ◌∷◌, ◌++◌, length, take, Some, None, slice_get, refl, sym, ◌∙◌, ap, inl, inr, arith}
 use Rattle.std.proofs.lemmas.Option.{slice_get_within, slice_get-get_or}
 use Rattle.std.proofs.Math.ListN.{get_or-append}
 use Rattle.std.proofs.Math.Seq.{get_or-append_seam, take-append_seam}
 use Rattle.std.proofs.lemmas.List.{take-append-le, length-append}
 use Rattle.std.proofs.lemmas.Bool.{cases_order}
+use Rattle.std.proofs.lemmas.Bool.Decides.{nat_tests}
 use Rattle.sd_sid.specs.Mapping.{MappingValue}
 use Rattle.sd_tree.specs.Plain.{PlainTree}
 use Rattle.sd_tree.specs.Edits.{edited}
 use Rattle.sd_tree.specs.Journal.{opened, edited_by, replay, refusal, IsLawful}
-use Rattle.sd_tree.specs.Refusals.{refusal_in}
+use Rattle.sd_tree.specs.Refusals.{first_fit, refusal_in, has_large_dacl, room_tests}
 use Rattle.sd_tree.specs.declared.edit.Edit.{Edit}
 use Rattle.sd_tree.specs.declared.opening.Opening.{Opening}
+use Rattle.sd_tree.specs.declared.refusal.EditRefusal.{EditRefusal}
+use Rattle.sd_tree.specs.declared.refusal.EditRefusal.TheVariants.{AclTooLarge, JournalFull}
 use Rattle.sd_tree.proofs.Lists.{by_last}
+use Rattle.sd_tree.proofs.Refused.{not_refused}
 
 pub edited_by-push : (g : MappingValue) (t : PlainTree) (es : List Edit) (e : Edit) → edited_by g t (es ++ e ∷ []) ≡ edited g (edited_by g t es) e
 edited_by-push g t [] e = refl
@@ -82,3 +86,24 @@ pub holds_of_lawful : (o : Opening) (P : PlainTree → Type 0) → P (opened o)
 holds_of_lawful o P start step =
     by_last (λ journal. IsLawful o journal → P (replay o journal)) (λ _. rw (replay-none o) start)
     (λ journal e before lawful. rw (replay-push o journal e) (step (replay o journal) (length journal) e (before (lawful_before o journal e lawful)) (lawful_last o journal e lawful)))
+
+-- ---- how long a lawful journal is
+
+last_test : (tests : List (Bool × EditRefusal)) (b : Bool) (x : EditRefusal) → first_fit (tests ++ (b, x) ∷ []) ≡ None → b ≡ false
+last_test [] true x h = absurd cc
+last_test [] false x h = refl
+last_test (test ∷ tests) b x h = last_test tests b x (passed test.0 h)
+  where
+    passed : (first : Bool) → cond first (Some test.1) (first_fit (tests ++ (b, x) ∷ [])) ≡ None → first_fit (tests ++ (b, x) ∷ []) ≡ None
+    passed true h = absurd cc
+    passed false h = h
+
+below_limit : (n : ℕ) → nat_le 1048576 n ≡ false → n < 1048576
+below_limit n h = grind (arith, nat_tests)
+
+pub lawful_short : (o : Opening) (journal : List Edit) → IsLawful o journal → length journal ≤ 1048576
+lawful_short o = by_last (λ journal. IsLawful o journal → length journal ≤ 1048576) (λ _. omega arith) (λ journal e before lawful.
+    let t = replay o journal in
+    let late = (not_refused o.mapping t (length journal) e (lawful_last o journal e lawful)).1 in
+    let full = last_test ((has_large_dacl o.mapping (edited o.mapping t e), AclTooLarge) ∷ room_tests t e) (nat_le 1048576 (length journal)) JournalFull late in
+    omega (arith, below_limit (length journal) full, length-append journal (e ∷ [])))

@@ -9,29 +9,29 @@ use Rattle.std.specs.FinMap.{entries, find, get-entries, entries-from_sorted}
 use Rattle.std.specs.declared.cmp.Ordering.TheVariants.{Less, Greater}
 use Rattle.sd_path.specs.Names.{Names, names_cmp}
 use Rattle.sd_tree.specs.Plain.{row_at, dacl_at}
-use Rattle.sd_tree.specs.Stored.{Boxed, path_of_node, entry_of, IsInOrder, tree_of, IsWhole, IsNodeAt}
+use Rattle.sd_tree.specs.Stored.{path_of_node, entry_of, IsInOrder, tree_of, IsWhole, IsNodeAt}
 use Rattle.sd_tree.specs.declared.node.Row.{Row}
 use Rattle.sd_tree.specs.declared.node.Node.{Node}
 use Rattle.sd_path.proofs.Paths.{names_cmp_total as names_total}
 use Rattle.sd_tree.proofs.Sorted.{find_at, find_none, greater_from_less, less_from_greater}
 
 -- the tree has just the nodes' entries
-pub entries_kept : (bs : List Boxed) → IsInOrder bs → entries (tree_of bs) ≡ map entry_of bs
+pub entries_kept : (bs : List Node) → IsInOrder bs → entries (tree_of bs) ≡ map entry_of bs
 unfolding tree_of
 entries_kept bs h = entries-from_sorted names_cmp (map entry_of bs) h
 
-row_found : (bs : List Boxed) → IsInOrder bs → (q : Names) → row_at (tree_of bs) q ≡ find names_cmp q (map entry_of bs)
+row_found : (bs : List Node) → IsInOrder bs → (q : Names) → row_at (tree_of bs) q ≡ find names_cmp q (map entry_of bs)
 row_found bs h q = get-entries (tree_of bs) q ∙ ap (find names_cmp q) (entries_kept bs h)
 
 -- what stands at a place has its row in the tree
-pub row_here : (bs : List Boxed) → IsInOrder bs → (k : ℕ) (d : Boxed) → k < length bs → row_at (tree_of bs) (path_of_node (get_or bs k d)) ≡ Some (get_or bs k d).value.row
+pub row_here : (bs : List Node) → IsInOrder bs → (k : ℕ) (d : Node) → k < length bs → row_at (tree_of bs) (path_of_node (get_or bs k d)) ≡ Some (get_or bs k d).row
 row_here bs h k d in' =
     let found : find names_cmp (get_or (map entry_of bs) k (entry_of d)).0 (map entry_of bs) ≡ Some (get_or (map entry_of bs) k (entry_of d)).1 =
     find_at names_total (map entry_of bs) h k (entry_of d) (omega (arith, length-map bs entry_of)) in
     row_found bs h (path_of_node (get_or bs k d)) ∙ (rw (get_or-mapped entry_of bs k d) at found)
 
 -- where every path is below or above, none ties
-none_ties : (bs : List Boxed) (b : Boxed) (q : Names) (at : ℕ)
+none_ties : (bs : List Node) (b : Node) (q : Names) (at : ℕ)
     → AllWithin (λ b. names_cmp (path_of_node b) q ≡ Less) bs 0 at
     → AllWithin (λ b. names_cmp (path_of_node b) q ≡ Greater) bs at (length bs)
     → (k : ℕ) (d : Names × Row) → k < length (map entry_of bs) → is_eq (names_cmp q (get_or (map entry_of bs) k d).0) ≡ false
@@ -42,7 +42,7 @@ none_ties bs b q at before after k d lt =
       | inr above ↦ ap is_eq (less_from_greater names_total (path_of_node (get_or bs k b)) q (after k b above in'))
     ])
 
-find_absent : (bs : List Boxed) (q : Names) (at : ℕ)
+find_absent : (bs : List Node) (q : Names) (at : ℕ)
     → AllWithin (λ b. names_cmp (path_of_node b) q ≡ Less) bs 0 at
     → AllWithin (λ b. names_cmp (path_of_node b) q ≡ Greater) bs at (length bs)
     → find names_cmp q (map entry_of bs) ≡ None
@@ -50,15 +50,15 @@ find_absent [] q at before after = refl
 find_absent (b ∷ bs) q at before after = find_none names_total q (map entry_of (b ∷ bs)) (none_ties (b ∷ bs) b q at before after)
 
 -- so nothing stands there
-pub row_absent : (bs : List Boxed) → IsInOrder bs → (q : Names) (at : ℕ)
+pub row_absent : (bs : List Node) → IsInOrder bs → (q : Names) (at : ℕ)
     → AllWithin (λ b. names_cmp (path_of_node b) q ≡ Less) bs 0 at
     → AllWithin (λ b. names_cmp (path_of_node b) q ≡ Greater) bs at (length bs)
     → row_at (tree_of bs) q ≡ None
 row_absent bs h q at before after = row_found bs h q ∙ find_absent bs q at before after
 
 -- what stands at a place is the node of its path
-pub node_here : (bs : List Boxed) (q : Names) (k : ℕ) (b : Boxed) (n : Node) → IsInOrder bs
-    → (k < length bs) × HoldsAt (λ c. path_of_node c ≡ q) bs k → b ≡ get_or bs k b → n ≡ b.value → IsNodeAt bs q n
+pub node_here : (bs : List Node) (q : Names) (k : ℕ) (b : Node) (n : Node) → IsInOrder bs
+    → (k < length bs) × HoldsAt (λ c. path_of_node c ≡ q) bs k → b ≡ get_or bs k b → n ≡ b → IsNodeAt bs q n
 node_here bs q k b n h there is-b is-n =
     let path_b : path_of_node b ≡ q = ap path_of_node is-b ∙ there.1 b in
     record {
@@ -67,11 +67,11 @@ node_here bs q k b n h there is-b is-n =
           ap (row_at (tree_of bs)) (sym path_b)
           ∙ ap (λ c. row_at (tree_of bs) (path_of_node c)) is-b
           ∙ row_here bs h k b there.0
-          ∙ ap (λ (c : Boxed). Some c.value.row) (sym is-b)
+          ∙ ap (λ (c : Node). Some c.row) (sym is-b)
           ∙ ap (λ (m : Node). Some m.row) (sym is-n);
       whole = λ g kept.
           let w = kept.whole k b there.0 in
-          let P : Boxed → Type 0 = λ c. IsWhole g (tree_of bs) c in
+          let P : Node → Type 0 = λ c. IsWhole g (tree_of bs) c in
           let at_b : IsWhole g (tree_of bs) b = subst P (sym is-b) w in (
             ap (λ (m : Node). m.whole) is-n ∙ at_b.is ∙ ap (dacl_at g (tree_of bs)) path_b,
             rw is-n at_b.fits,
@@ -79,6 +79,6 @@ node_here bs q k b n h there is-b is-n =
     }
 
 -- some node, where there is a place
-pub a_node : (bs : List Boxed) (at : ℕ) → at < length bs → Boxed
+pub a_node : (bs : List Node) (at : ℕ) → at < length bs → Node
 a_node [] at lt = absurd (omega arith)
 a_node (b ∷ bs) at lt = b

@@ -2,7 +2,6 @@ pub mod Adding
 pub mod Below
 pub mod Beside
 pub mod CarriedOut
-pub mod Catching
 pub mod Children
 pub mod Closed
 pub mod Dacls
@@ -24,11 +23,9 @@ pub mod Refused
 pub mod Rewriting
 pub mod Rows
 pub mod Runs
-pub mod SameNodes
 pub mod Sorted
 pub mod Stands
 pub mod Trustees
-pub mod Turning
 pub mod TwoTests
 pub mod Went
 pub mod Wholes

@@ -4,21 +4,22 @@ use Rattle.std.specs.FinMap.{entries}
 use Rattle.std.proofs.lemmas.Option.{slice_get-map, slice_get-get_or, slice_get_past}
 use Rattle.sd_path.specs.Names.{Names}
 use Rattle.sd_tree.specs.Plain.{PlainTree}
-use Rattle.sd_tree.specs.Stored.{Boxed, entry_of, IsInOrder, tree_of}
+use Rattle.sd_tree.specs.Stored.{entry_of, IsInOrder, tree_of}
 use Rattle.sd_tree.specs.declared.node.Row.{Row}
 use Rattle.sd_tree.proofs.Kept.{entries_kept}
+use Rattle.sd_tree.specs.declared.node.Node.{Node}
 
 -- the entries are those of the nodes, place by place
-entry_at : (bs : List Boxed) → IsInOrder bs → (t : PlainTree) → tree_of bs ≡ t → (k : ℕ) → option_map entry_of (slice_get bs k) ≡ slice_get (entries t) k
+entry_at : (bs : List Node) → IsInOrder bs → (t : PlainTree) → tree_of bs ≡ t → (k : ℕ) → option_map entry_of (slice_get bs k) ≡ slice_get (entries t) k
 entry_at bs order t same k =
     sym (slice_get-map entry_of bs k)
     ∙ ap (λ es. slice_get es k) (sym (entries_kept bs order))
     ∙ ap (λ u. slice_get (entries u) k) same
 
-pub listed_here : (bs : List Boxed) → IsInOrder bs → (t : PlainTree) → tree_of bs ≡ t → (k : ℕ) → k < length bs
-    → (b : Boxed) → b ≡ get_or bs k b → (entry : Names × Row) → entry ≡ entry_of b → Some entry ≡ slice_get (entries t) k
+pub listed_here : (bs : List Node) → IsInOrder bs → (t : PlainTree) → tree_of bs ≡ t → (k : ℕ) → k < length bs
+    → (b : Node) → b ≡ get_or bs k b → (entry : Names × Row) → entry ≡ entry_of b → Some entry ≡ slice_get (entries t) k
 listed_here bs order t same k lt b is entry of =
     ap Some (of ∙ ap entry_of is) ∙ sym (ap (option_map entry_of) (slice_get-get_or bs k b lt)) ∙ entry_at bs order t same k
 
-pub listed_past : (bs : List Boxed) → IsInOrder bs → (t : PlainTree) → tree_of bs ≡ t → (k : ℕ) → length bs ≤ k → None ≡ slice_get (entries t) k
+pub listed_past : (bs : List Node) → IsInOrder bs → (t : PlainTree) → tree_of bs ≡ t → (k : ℕ) → length bs ≤ k → None ≡ slice_get (entries t) k
 listed_past bs order t same k ge = sym (ap (option_map entry_of) (slice_get_past bs k ge)) ∙ entry_at bs order t same k

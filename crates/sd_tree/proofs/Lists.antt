@@ -1,11 +1,16 @@
 -- Lists from their last element, and in two parts.
-use Rattle.std.proofs.Common.{◌≡◌, List, [], ◌∷◌, ◌++◌, length, drop, sym, ap, ◌∙◌}
+use Rattle.std.proofs.Common.{◌≡◌, ℕ, zero, suc, ◌≤◌, List, [], ◌∷◌, ◌++◌, length, take, drop, refl, sym, ap, ◌∙◌, arith}
 use Rattle.std.proofs.Math.Seq.{drop-append_seam}
 
 -- what holds of the empty list, and of each list with one more element behind, holds of all
 pub by_last : {X : Type 0} (P : List X → Type 0) → P [] → ((xs : List X) (x : X) → P xs → P (xs ++ x ∷ [])) → (xs : List X) → P xs
 by_last P none push [] = none
 by_last P none push (x ∷ xs) = by_last (λ ys. P (x ∷ ys)) (push [] x none) (λ ys y h. push (x ∷ ys) y h) xs
+
+pub taken : {X : Type 0} (n : ℕ) (xs : List X) → n ≤ length xs → length (take n xs) ≡ n
+taken zero xs le = refl
+taken (suc n) [] le = absurd (omega arith)
+taken (suc n) (x ∷ xs) le = ap suc (taken n xs (omega arith))
 
 -- behind first parts of one length stands the same
 pub same_behind : {X : Type 0} (xs ys a b : List X) → length xs ≡ length ys → xs ++ a ≡ ys ++ b → a ≡ b

@@ -20,7 +20,7 @@ use Rattle.sd_tree.specs.Plain.{PlainTree, row_at, dacl_here, dacl_at}
 use Rattle.sd_tree.specs.Plans.{IsRewriting, IsRunBelow, AreMovedWholes, HasWhole, IsLargeError, IsLateError, IsTooDeep, IsMovedRun, IsMovedNode, IsMoving, IsDepthError}
 use Rattle.sd_tree.specs.Refusals.{dacl_size, has_large_dacl, moves_too_deep, goes_too_deep}
 use Rattle.sd_tree.specs.Sizes.{IsSizeError}
-use Rattle.sd_tree.specs.Stored.{Boxed, path_of_node, tree_of, AreStanding}
+use Rattle.sd_tree.specs.Stored.{path_of_node, tree_of, AreStanding}
 use Rattle.sd_tree.specs.declared.node.Row.{Row}
 use Rattle.sd_tree.specs.declared.edit.Edit.{Edit}
 use Rattle.sd_tree.specs.declared.edit.Edit.TheVariants.{Move}
@@ -57,8 +57,8 @@ moved_length source target path h =
     )
 
 -- a node of a tree that nodes are stands at a place
-pub place_there : (g : MappingValue) (bs : List Boxed) → AreStanding g bs → (q : Names) (row : Row) → row_at (tree_of bs) q ≡ Some row
-    → (k : ℕ) × (k < length bs) × ((b : Boxed) → path_of_node (get_or bs k b) ≡ q)
+pub place_there : (g : MappingValue) (bs : List Node) → AreStanding g bs → (q : Names) (row : Row) → row_at (tree_of bs) q ≡ Some row
+    → (k : ℕ) × (k < length bs) × ((b : Node) → path_of_node (get_or bs k b) ≡ q)
 place_there g bs standing q row there =
     let order = standing.kept.order in
     let found = place_found (eq_by_cmp names_cmp q) (finite.keys (tree_of bs)) (sym (contains_key-keys (tree_of bs) q) ∙ ap is_some there) in
@@ -83,7 +83,7 @@ large_place g u x h =
       large_is _ (ap (λ p. nat_lt 65535 (dacl_size (dacl_at g u p))) (sym is) ∙ found.2 []),
     )
 
-module _ (g : MappingValue) (bs : List Boxed) (standing : AreStanding g bs) (source target : Names) (can : IsMovable (tree_of bs) source target)
+module _ (g : MappingValue) (bs : List Node) (standing : AreStanding g bs) (source target : Names) (can : IsMovable (tree_of bs) source target)
     (from : ℕ) (in' : from < length bs) (stands : HoldsAt (λ c. path_of_node c ≡ source) bs from) where
   -- ---- the first of the run
 
@@ -101,14 +101,14 @@ module _ (g : MappingValue) (bs : List Boxed) (standing : AreStanding g bs) (sou
 
     -- ---- those below it, where the first has what it had
 
-    module _ (d : Boxed) (same : (get_or bs from d).value.whole ≡ dacl_at g (finite.insert (tree_of bs) target row) target) where
+    module _ (d : Node) (same : (get_or bs from d).whole ≡ dacl_at g (finite.insert (tree_of bs) target row) target) where
       top_stays : dacl_at g (moved (tree_of bs) source target) target ≡ dacl_at g (tree_of bs) source
       top_stays =
           dacl_at-moved_top g (tree_of bs) standing.closed source target can row is-row ∙ sym same
           ∙ (standing.kept.whole from d in').is ∙ ap (dacl_at g (tree_of bs)) (stands d)
 
       pub wholes_stay : (wholes : List (Option (List Ace)))
-          → ((k : ℕ) (b : Boxed) (w : Option (List Ace)) → k < length wholes → get_or wholes k w ≡ (get_or bs (from + k) b).value.whole)
+          → ((k : ℕ) (b : Node) (w : Option (List Ace)) → k < length wholes → get_or wholes k w ≡ (get_or bs (from + k) b).whole)
           → IsRunBelow bs source from (length wholes) → AreMovedWholes g bs (moved (tree_of bs) source target) source target from wholes
       wholes_stay wholes h r = record {
         run = r;
@@ -236,7 +236,7 @@ module _ (g : MappingValue) (bs : List Boxed) (standing : AreStanding g bs) (sou
     no_large_moved = elim (cases_Bool (has_large_dacl g (moved (tree_of bs) source target))) [
       | inl h ↦
           let t' = moved (tree_of bs) source target in
-          let found = large_place g t' (get_or bs from (a_node bs from in')).value.row h in
+          let found = large_place g t' (get_or bs from (a_node bs from in')).row h in
           let q = found.0 in
           absurd (elim (cases_Bool (is_within target q)) [
             | inl inside ↦
@@ -267,21 +267,21 @@ module _ (g : MappingValue) (bs : List Boxed) (standing : AreStanding g bs) (sou
     deep_refused Memory h = tt
 
     -- a run none of whose paths is too long is all that goes
-    pub none_too_deep : (run : List Boxed) → IsMovedRun bs source target from wholes (length wholes) run → moves_too_deep (tree_of bs) (Move source target) ≡ false
+    pub none_too_deep : (run : List Node) → IsMovedRun bs source target from wholes (length wholes) run → moves_too_deep (tree_of bs) (Move source target) ≡ false
     none_too_deep run m = none_found (goes_too_deep source target) (finite.keys (tree_of bs)) (λ k d lt.
         let b = a_node bs from in' in
         let in-k : k < length bs = omega (arith, keys_count bs standing.kept.order) in
         let there = key_at bs standing.kept.order k d b in-k in
         ap (goes_too_deep source target) there ∙ shallow k b in-k)
       where
-        outside : (k : ℕ) (b : Boxed) → k < length bs → (k < from) ⊎ (from + length wholes ≤ k) → goes_too_deep source target (path_of_node (get_or bs k b)) ≡ false
+        outside : (k : ℕ) (b : Node) → k < length bs → (k < from) ⊎ (from + length wholes ≤ k) → goes_too_deep source target (path_of_node (get_or bs k b)) ≡ false
         outside k b lt where' = ap (λ i. i && nat_lt 64 (length (moved_path source target (path_of_node (get_or bs k b))))) (out_source g bs standing source target can from in' stands (length wholes) w.run k b lt where')
 
         short : (i : Bool) (n : ℕ) → n ≤ 64 → (i && nat_lt 64 n) ≡ false
         short true n le = grind (arith, nat_tests)
         short false n le = refl
 
-        shallow : (k : ℕ) (b : Boxed) → k < length bs → goes_too_deep source target (path_of_node (get_or bs k b)) ≡ false
+        shallow : (k : ℕ) (b : Node) → k < length bs → goes_too_deep source target (path_of_node (get_or bs k b)) ≡ false
         shallow k b lt = elim (cases_lt k from) [
           | inl low ↦ outside k b lt (inl low)
           | inr ge ↦ elim (cases_lt k (from + length wholes)) [
@@ -295,7 +295,7 @@ module _ (g : MappingValue) (bs : List Boxed) (standing : AreStanding g bs) (sou
         ]
 
     -- the plan, where the target's place is before the run, and where it is behind it
-    module _ (run : List Boxed) (m : IsMovedRun bs source target from wholes (length wholes) run) (at to : ℕ) (at-fits : at ≤ length bs)
+    module _ (run : List Node) (m : IsMovedRun bs source target from wholes (length wholes) run) (at to : ℕ) (at-fits : at ≤ length bs)
         (low : AllWithin (λ b. names_cmp (path_of_node b) target ≡ Less) bs 0 at) (high : AllWithin (λ b. names_cmp (path_of_node b) target ≡ Greater) bs at (length bs)) where
       pub plan_back : at ≤ from → to ≡ at → IsMoving g (tree_of bs) (moved (tree_of bs) source target) from to run
       plan_back le is =
@@ -318,30 +318,30 @@ module _ (g : MappingValue) (bs : List Boxed) (standing : AreStanding g bs) (sou
 
 -- ---- the run, node by node
 
-pub run_more : (bs : List Boxed) (source target : Names) (from i : ℕ) (wholes : List (Option (List Ace))) (run : List Boxed) (b c : Boxed) (whole : Option (List Ace))
+pub run_more : (bs : List Node) (source target : Names) (from i : ℕ) (wholes : List (Option (List Ace))) (run : List Node) (b c : Node) (whole : Option (List Ace))
     → IsMovedRun bs source target from wholes i run → from + i < length bs → i < length wholes
-    → IsMovedNode source target (get_or bs (from + i) b).value (get_or wholes i whole) c → IsMovedRun bs source target from wholes (i + 1) (run ++ c ∷ [])
+    → IsMovedNode source target (get_or bs (from + i) b) (get_or wholes i whole) c → IsMovedRun bs source target from wholes (i + 1) (run ++ c ∷ [])
 run_more bs source target from i wholes run b c whole m in-bs in-wholes h = record {
   counted = omega (arith, m.counted, length-append run (c ∷ []));
   each = λ k b' c' w lt. elim (cases_lt k (length run)) [
     | inl low ↦
-        let P : Boxed → Type 0 = IsMovedNode source target (get_or bs (from + k) b').value (get_or wholes k w) in
+        let P : Node → Type 0 = IsMovedNode source target (get_or bs (from + k) b') (get_or wholes k w) in
         subst P (sym (get_or_append_left run (c ∷ []) c' k low)) (m.each k b' c' w low)
     | inr high ↦
         let last : k ≡ length run = omega (arith, length-append run (c ∷ [])) in
         let here : k ≡ i = omega (arith, m.counted, last) in
-        let node-is : (get_or bs (from + k) b').value ≡ (get_or bs (from + i) b).value =
-        ap (λ j. (get_or bs (from + j) b').value) here ∙ ap (λ (x : Boxed). x.value) (get_or_default bs (from + i) b' b in-bs) in
+        let node-is : (get_or bs (from + k) b') ≡ (get_or bs (from + i) b) =
+        ap (λ j. (get_or bs (from + j) b')) here ∙ get_or_default bs (from + i) b' b in-bs in
         let whole-is : get_or wholes k w ≡ get_or wholes i whole = ap (λ j. get_or wholes j w) here ∙ get_or_default wholes i w whole in-wholes in
         let c-is : get_or (run ++ c ∷ []) k c' ≡ c = ap (λ j. get_or (run ++ c ∷ []) j c') last ∙ get_or-append_seam run c [] c' in
-        let P : Boxed → Type 0 = IsMovedNode source target (get_or bs (from + k) b').value (get_or wholes k w) in
-        let Q : Option (List Ace) → Type 0 = λ x. IsMovedNode source target (get_or bs (from + k) b').value x c in
+        let P : Node → Type 0 = IsMovedNode source target (get_or bs (from + k) b') (get_or wholes k w) in
+        let Q : Option (List Ace) → Type 0 = λ x. IsMovedNode source target (get_or bs (from + k) b') x c in
         let R : Node → Type 0 = λ n. IsMovedNode source target n (get_or wholes i whole) c in
         subst P (sym c-is) (subst Q (sym whole-is) (subst R (sym node-is) h))
   ];
 }
 
-pub too_deep_found : (bs : List Boxed) (g : MappingValue) → AreStanding g bs → (source target : Names) (k : ℕ) (b : Boxed) → k < length bs → is_within source (path_of_node (get_or bs k b)) ≡ true
+pub too_deep_found : (bs : List Node) (g : MappingValue) → AreStanding g bs → (source target : Names) (k : ℕ) (b : Node) → k < length bs → is_within source (path_of_node (get_or bs k b)) ≡ true
     → (e : TreeError) → IsDepthError source target (path_of_node (get_or bs k b)) e → IsTooDeep (tree_of bs) source target e
 too_deep_found bs g standing source target k b lt inside (Refused r) h =
     let q = path_of_node (get_or bs k b) in

@@ -16,7 +16,7 @@ use Rattle.sd_tree.specs.Closed.{IsMovable}
 use Rattle.sd_tree.specs.Edits.{moved_entry, moved}
 use Rattle.sd_tree.specs.Plain.{PlainTree, dacl_at}
 use Rattle.sd_tree.specs.Plans.{beside_run, run_moved, IsMoving, IsRunBelow, IsMovedRun, AreMovedWholes}
-use Rattle.sd_tree.specs.Stored.{Boxed, path_of_node, entry_of, tree_of, AreStanding}
+use Rattle.sd_tree.specs.Stored.{path_of_node, entry_of, tree_of, AreStanding}
 use Rattle.sd_path.proofs.Paths.{names_cmp_total, names_cmp_antisymmetric, names_cmp_prefix, within_rest, within-append, within_before, within_between, moved_path-append, moved_path-outside}
 use Rattle.sd_tree.proofs.Below.{nothing_below}
 use Rattle.sd_tree.proofs.CarriedOut.{key_at, keys_count}
@@ -27,7 +27,8 @@ use Rattle.sd_tree.proofs.Places.{paths_rise}
 use Rattle.sd_tree.proofs.Rebuilding.{not_before_itself, not_both}
 use Rattle.sd_tree.proofs.Rows.{same_or_other}
 use Rattle.sd_tree.proofs.Sorted.{less_from_greater}
-use Rattle.sd_tree.proofs.Turning.{taken}
+use Rattle.sd_tree.proofs.Lists.{taken}
+use Rattle.sd_tree.specs.declared.node.Node.{Node}
 
 map_still : {X : Type 0} (f : X → X) (xs : List X) → ((k : ℕ) (d : X) → k < length xs → f (get_or xs k d) ≡ get_or xs k d) → map f xs ≡ xs
 map_still f [] h = refl
@@ -39,17 +40,17 @@ split_again n m xs =
     ∙ ap (λ ys. take n xs ++ ys) (take-append-drop m (drop n xs))
     ∙ take-append-drop n xs
 
-module _ (g : MappingValue) (bs : List Boxed) (standing : AreStanding g bs) (source target : Names) (can : IsMovable (tree_of bs) source target)
+module _ (g : MappingValue) (bs : List Node) (standing : AreStanding g bs) (source target : Names) (can : IsMovable (tree_of bs) source target)
     (from : ℕ) (in' : from < length bs) (stands : HoldsAt (λ c. path_of_node c ≡ source) bs from) where
   abbrev pub tree : PlainTree
   tree = tree_of bs
 
   -- ---- where the source and the target aren't
 
-  pub out_target : (k : ℕ) (b : Boxed) → k < length bs → is_within target (path_of_node (get_or bs k b)) ≡ false
-  out_target k b lt = nothing_below (tree_of bs) standing.closed target (path_of_node (get_or bs k b)) (get_or bs k b).value.row can.place.free (row_here bs standing.kept.order k b lt)
+  pub out_target : (k : ℕ) (b : Node) → k < length bs → is_within target (path_of_node (get_or bs k b)) ≡ false
+  out_target k b lt = nothing_below (tree_of bs) standing.closed target (path_of_node (get_or bs k b)) (get_or bs k b).row can.place.free (row_here bs standing.kept.order k b lt)
 
-  pub out_before : (k : ℕ) (b : Boxed) → k < from → is_within source (path_of_node (get_or bs k b)) ≡ false
+  pub out_before : (k : ℕ) (b : Node) → k < from → is_within source (path_of_node (get_or bs k b)) ≡ false
   out_before k b low = elim (cases_Bool (is_within source (path_of_node (get_or bs k b)))) [
     | inl inside ↦
         let path = path_of_node (get_or bs k b) in
@@ -62,7 +63,7 @@ module _ (g : MappingValue) (bs : List Boxed) (standing : AreStanding g bs) (sou
   ]
 
   module _ (count : ℕ) (r : IsRunBelow bs source from count) where
-    pub out_source : (k : ℕ) (b : Boxed) → k < length bs → (k < from) ⊎ (from + count ≤ k) → is_within source (path_of_node (get_or bs k b)) ≡ false
+    pub out_source : (k : ℕ) (b : Node) → k < length bs → (k < from) ⊎ (from + count ≤ k) → is_within source (path_of_node (get_or bs k b)) ≡ false
     out_source k b lt (inl low) = out_before k b low
     out_source k b lt (inr high) = r.beyond k b high lt
 
@@ -85,19 +86,19 @@ module _ (g : MappingValue) (bs : List Boxed) (standing : AreStanding g bs) (sou
     rest_length = omega (arith, length-append (take from es) (drop (from + count) es), front_length, back_length)
 
     -- what stands at a place of the rest
-    pub rest_low : (k : ℕ) (d : Entry) (b : Boxed) → k < from → get_or rest k d ≡ entry_of (get_or bs k b)
+    pub rest_low : (k : ℕ) (d : Entry) (b : Node) → k < from → get_or rest k d ≡ entry_of (get_or bs k b)
     rest_low k d b lt =
         get_or_append_left (take from es) (drop (from + count) es) d k (omega (arith, front_length))
         ∙ get_or-take from es k d lt ∙ get_or-map entry_of bs k b d (omega arith)
 
-    pub rest_high : (k : ℕ) (d : Entry) (b : Boxed) → from ≤ k → k + count < length bs → get_or rest k d ≡ entry_of (get_or bs (k + count) b)
+    pub rest_high : (k : ℕ) (d : Entry) (b : Node) → from ≤ k → k + count < length bs → get_or rest k d ≡ entry_of (get_or bs (k + count) b)
     rest_high k d b ge lt =
         let place : from + count + (k - from) ≡ k + count = omega arith in
         get_or-append_right (take from es) (drop (from + count) es) from k d front_length ge
         ∙ get_or-drop (from + count) es (k - from) d ∙ ap (λ j. get_or es j d) place ∙ get_or-map entry_of bs (k + count) b d lt
 
     -- a property of all places beside the run
-    pub rest_all : (P : Entry → Type 0) → ((k : ℕ) (b : Boxed) → k < length bs → (k < from) ⊎ (from + count ≤ k) → P (entry_of (get_or bs k b))) → All P rest
+    pub rest_all : (P : Entry → Type 0) → ((k : ℕ) (b : Node) → k < length bs → (k < from) ⊎ (from + count ≤ k) → P (entry_of (get_or bs k b))) → All P rest
     rest_all P h k d lt =
         let b = a_node bs from in' in
         elim (cases_lt k from) as (λ _. P (get_or rest k d)) [
@@ -121,11 +122,11 @@ module _ (g : MappingValue) (bs : List Boxed) (standing : AreStanding g bs) (sou
 
     -- ---- the moved run
 
-    module _ (wholes : List (Option (List Ace))) (run : List Boxed) (m : IsMovedRun bs source target from wholes count run) where
+    module _ (wholes : List (Option (List Ace))) (run : List Node) (m : IsMovedRun bs source target from wholes count run) where
       abbrev pub moved_es : List Entry
       moved_es = map entry_of run
 
-      moved_at : (k : ℕ) (d : Entry) (b : Boxed) → k < count → get_or moved_es k d ≡ moved_entry source target (entry_of (get_or bs (from + k) b))
+      moved_at : (k : ℕ) (d : Entry) (b : Node) → k < count → get_or moved_es k d ≡ moved_entry source target (entry_of (get_or bs (from + k) b))
       moved_at k d b lt =
           let n = m.each k b b None (omega (arith, m.counted)) in
           get_or-map entry_of run k b d (omega (arith, m.counted)) ∙ (λ i. (n.path_is i, n.row_is i))
@@ -133,10 +134,10 @@ module _ (g : MappingValue) (bs : List Boxed) (standing : AreStanding g bs) (sou
       moved_count : length moved_es ≡ count
       moved_count = length-map run entry_of ∙ m.counted
 
-      run_rest : (k : ℕ) (b : Boxed) → k < count → (names : Names) × (path_of_node (get_or bs (from + k) b) ≡ source ++ names)
+      run_rest : (k : ℕ) (b : Node) → k < count → (names : Names) × (path_of_node (get_or bs (from + k) b) ≡ source ++ names)
       run_rest k b lt = within_rest source (path_of_node (get_or bs (from + k) b)) (r.below (from + k) b (omega arith) (omega arith))
 
-      moved_key : (k : ℕ) (d : Entry) (b : Boxed) (lt : k < count) → (get_or moved_es k d).0 ≡ target ++ (run_rest k b lt).0
+      moved_key : (k : ℕ) (d : Entry) (b : Node) (lt : k < count) → (get_or moved_es k d).0 ≡ target ++ (run_rest k b lt).0
       moved_key k d b lt =
           ap (λ (e : Entry). e.0) (moved_at k d b lt) ∙ ap (moved_path source target) (run_rest k b lt).1 ∙ moved_path-append source target (run_rest k b lt).0
 
@@ -166,7 +167,7 @@ module _ (g : MappingValue) (bs : List Boxed) (standing : AreStanding g bs) (sou
           let in-k : k < from = omega (arith, front_length) in
           let is : get_or (take from es) k d ≡ entry_of (get_or bs k b) = get_or-take from es k d in-k ∙ get_or-map entry_of bs k b d (omega arith) in
           ap (moved_entry source target) is
-          ∙ (λ i. (moved_path-outside source target (path_of_node (get_or bs k b)) (out_before k b in-k) i, (get_or bs k b).value.row))
+          ∙ (λ i. (moved_path-outside source target (path_of_node (get_or bs k b)) (out_before k b in-k) i, (get_or bs k b).row))
           ∙ sym is)
 
       still_high : map (moved_entry source target) (drop (from + count) es) ≡ drop (from + count) es
@@ -175,7 +176,7 @@ module _ (g : MappingValue) (bs : List Boxed) (standing : AreStanding g bs) (sou
           let in-k : from + count + k < length bs = omega (arith, back_length) in
           let is : get_or (drop (from + count) es) k d ≡ entry_of (get_or bs (from + count + k) b) = get_or-drop (from + count) es k d ∙ get_or-map entry_of bs (from + count + k) b d in-k in
           ap (moved_entry source target) is
-          ∙ (λ i. (moved_path-outside source target (path_of_node (get_or bs (from + count + k) b)) (r.beyond (from + count + k) b (omega arith) in-k) i, (get_or bs (from + count + k) b).value.row))
+          ∙ (λ i. (moved_path-outside source target (path_of_node (get_or bs (from + count + k) b)) (r.beyond (from + count + k) b (omega arith) in-k) i, (get_or bs (from + count + k) b).row))
           ∙ sym is)
 
       mid_length : length (take count (drop from es)) ≡ count

@@ -17,7 +17,7 @@ use Rattle.sd_tree.specs.Plain.{PlainTree, row_at, dacl_here, dacl_at}
 use Rattle.sd_tree.specs.Closed.{IsClosed}
 use Rattle.sd_tree.specs.Refusals.{dacl_size, has_large_dacl}
 use Rattle.sd_tree.specs.Sizes.{IsSizeError}
-use Rattle.sd_tree.specs.Stored.{Boxed, path_of_node, IsInOrder, tree_of, AreStanding}
+use Rattle.sd_tree.specs.Stored.{path_of_node, IsInOrder, tree_of, AreStanding}
 use Rattle.sd_tree.specs.Plans.{IsRewriting, IsLargeError}
 use Rattle.sd_tree.specs.declared.node.Row.{Row}
 use Rattle.sd_tree.specs.declared.node.NodeKind.{NodeKind}
@@ -30,6 +30,7 @@ use Rattle.sd_tree.proofs.Sorted.{greater_from_less}
 use Rattle.sd_tree.proofs.Places.{paths_rise}
 use Rattle.sd_tree.proofs.Kept.{row_here, a_node}
 use Rattle.sd_tree.proofs.CarriedOut.{key_at, keys_count}
+use Rattle.sd_tree.specs.declared.node.Node.{Node}
 
 -- ---- places and the order of paths
 
@@ -42,7 +43,7 @@ not_before_itself p q same low =
 pub not_both : (p q : Names) → names_cmp p q ≡ Less → names_cmp q p ≡ Less → ⊥
 not_both p q low high = let turned = greater_from_less names_cmp_total p q low in absurd cc
 
-pub place_before : (bs : List Boxed) → IsInOrder bs → (i j : ℕ) (b : Boxed) → i < length bs → j < length bs
+pub place_before : (bs : List Node) → IsInOrder bs → (i j : ℕ) (b : Node) → i < length bs → j < length bs
     → names_cmp (path_of_node (get_or bs i b)) (path_of_node (get_or bs j b)) ≡ Less → i < j
 place_before bs order i j b in-i in-j low = elim (cases_lt i j) [
   | inl lt ↦ lt
@@ -54,7 +55,7 @@ place_before bs order i j b in-i in-j low = elim (cases_lt i j) [
   ]
 ]
 
-pub place_same : (bs : List Boxed) → IsInOrder bs → (i j : ℕ) (b : Boxed) → i < length bs → j < length bs
+pub place_same : (bs : List Node) → IsInOrder bs → (i j : ℕ) (b : Node) → i < length bs → j < length bs
     → path_of_node (get_or bs i b) ≡ path_of_node (get_or bs j b) → i ≡ j
 place_same bs order i j b in-i in-j same = elim (cases_lt i j) [
   | inl lt ↦ absurd (not_before_itself _ _ same (paths_rise bs order i j b lt in-j))
@@ -65,8 +66,8 @@ place_same bs order i j b in-i in-j same = elim (cases_lt i j) [
 ]
 
 -- ---- a node of the run behind its first, and what holds it
-module _ (bs : List Boxed) (order : IsInOrder bs) (q : Names) (at : ℕ) (stands : HoldsAt (λ c. path_of_node c ≡ q) bs at)
-    (k : ℕ) (b : Boxed) (behind : at < k) (in' : k < length bs) (inside : is_within q (path_of_node (get_or bs k b)) ≡ true) where
+module _ (bs : List Node) (order : IsInOrder bs) (q : Names) (at : ℕ) (stands : HoldsAt (λ c. path_of_node c ≡ q) bs at)
+    (k : ℕ) (b : Node) (behind : at < k) (in' : k < length bs) (inside : is_within q (path_of_node (get_or bs k b)) ≡ true) where
   pub first_before : names_cmp q (path_of_node (get_or bs k b)) ≡ Less
   first_before = rw (stands b) at (paths_rise bs order at k b behind in')
 
@@ -101,22 +102,22 @@ module _ (bs : List Boxed) (order : IsInOrder bs) (q : Names) (at : ℕ) (stands
 
   -- its DACL, once the first of the run has another row
   pub run_whole : (g : MappingValue) (row : Row) (above : Option (List Ace)) → above ≡ dacl_at g (insert (tree_of bs) q row) (up (path_of_node (get_or bs k b)))
-      → dacl_of_row g (get_or bs k b).value.row above ≡ dacl_at g (insert (tree_of bs) q row) (path_of_node (get_or bs k b))
+      → dacl_of_row g (get_or bs k b).row above ≡ dacl_at g (insert (tree_of bs) q row) (path_of_node (get_or bs k b))
   run_whole g row above is-above =
       let path = path_of_node (get_or bs k b) in
       let t' = insert (tree_of bs) q row in
-      let found : row_at t' path ≡ Some (get_or bs k b).value.row = row_at-insert_other (tree_of bs) q path row run_other ∙ row_here bs order k b in' in
-      ap (dacl_of_row g (get_or bs k b).value.row) is-above
+      let found : row_at t' path ≡ Some (get_or bs k b).row = row_at-insert_other (tree_of bs) q path row run_other ∙ row_here bs order k b in' in
+      ap (dacl_of_row g (get_or bs k b).row) is-above
       ∙ ap (λ r. dacl_here g r (dacl_at g t' (up path))) (sym found)
       ∙ sym (dacl_at_up g t' path run_below_root)
 
 -- ---- what is built so far: the whole DACLs of the first nodes of the run
-pub record IsRebuilt (g : MappingValue) (after : PlainTree) (bs : List Boxed) (at k : ℕ) (wholes : List (Option (List Ace))) : Type 0 where
+pub record IsRebuilt (g : MappingValue) (after : PlainTree) (bs : List Node) (at k : ℕ) (wholes : List (Option (List Ace))) : Type 0 where
   pub count : at + length wholes ≡ k
-  pub each : (j : ℕ) (b : Boxed) (whole : Option (List Ace)) → j < length wholes
+  pub each : (j : ℕ) (b : Node) (whole : Option (List Ace)) → j < length wholes
       → (get_or wholes j whole ≡ dacl_at g after (path_of_node (get_or bs (at + j) b))) × (dacl_size (get_or wholes j whole) ≤ 65535)
 
-pub rebuilt_first : (g : MappingValue) (after : PlainTree) (bs : List Boxed) (at : ℕ) (q : Names) (whole : Option (List Ace))
+pub rebuilt_first : (g : MappingValue) (after : PlainTree) (bs : List Node) (at : ℕ) (q : Names) (whole : Option (List Ace))
     → HoldsAt (λ c. path_of_node c ≡ q) bs at → whole ≡ dacl_at g after q → dacl_size whole ≤ 65535 → IsRebuilt g after bs at (at + 1) (whole ∷ [])
 rebuilt_first g after bs at q whole stands is fits = record {
   count = omega arith;
@@ -126,7 +127,7 @@ rebuilt_first g after bs at q whole stands is fits = record {
       subst P (sym first) (is ∙ ap (dacl_at g after) (sym (ap (λ i. path_of_node (get_or bs i b)) (add-zero at) ∙ stands b)), fits);
 }
 
-pub rebuilt_more : (g : MappingValue) (after : PlainTree) (bs : List Boxed) (at k : ℕ) (wholes : List (Option (List Ace))) (c : Boxed) (whole : Option (List Ace))
+pub rebuilt_more : (g : MappingValue) (after : PlainTree) (bs : List Node) (at k : ℕ) (wholes : List (Option (List Ace))) (c : Node) (whole : Option (List Ace))
     → IsRebuilt g after bs at k wholes → k < length bs → whole ≡ dacl_at g after (path_of_node (get_or bs k c)) → dacl_size whole ≤ 65535
     → IsRebuilt g after bs at (k + 1) (wholes ++ whole ∷ [])
 rebuilt_more g after bs at k wholes c whole h in' is fits = record {
@@ -146,9 +147,9 @@ rebuilt_more g after bs at k wholes c whole h in' is fits = record {
 
 -- ---- the whole run
 
-module _ (g : MappingValue) (bs : List Boxed) (standing : AreStanding g bs) (q : Names) (at : ℕ) (in' : at < length bs) (stands : HoldsAt (λ c. path_of_node c ≡ q) bs at) (row : Row) where
+module _ (g : MappingValue) (bs : List Node) (standing : AreStanding g bs) (q : Names) (at : ℕ) (in' : at < length bs) (stands : HoldsAt (λ c. path_of_node c ≡ q) bs at) (row : Row) where
   -- outside of it a DACL stays
-  outside_stays : (end : ℕ) → AllWithin (λ c. is_within q (path_of_node c) ≡ false) bs end (length bs) → (k : ℕ) (b : Boxed) → k < length bs → (k < at) ⊎ (end ≤ k)
+  outside_stays : (end : ℕ) → AllWithin (λ c. is_within q (path_of_node c) ≡ false) bs end (length bs) → (k : ℕ) (b : Node) → k < length bs → (k < at) ⊎ (end ≤ k)
       → dacl_at g (insert (tree_of bs) q row) (path_of_node (get_or bs k b)) ≡ dacl_at g (tree_of bs) (path_of_node (get_or bs k b))
   outside_stays end beyond k b lt where' =
       let path = path_of_node (get_or bs k b) in
@@ -222,13 +223,13 @@ parent_there t closed q row there = some_of_kind (row_at t (up q)) _ (closed.par
     some_of_kind (Some row) k e = refl
 
 -- what stands at a place has a row
-pub row_there : (bs : List Boxed) → IsInOrder bs → (q : Names) (at : ℕ) → at < length bs → HoldsAt (λ c. path_of_node c ≡ q) bs at → (row : Row) × (row_at (tree_of bs) q ≡ Some row)
+pub row_there : (bs : List Node) → IsInOrder bs → (q : Names) (at : ℕ) → at < length bs → HoldsAt (λ c. path_of_node c ≡ q) bs at → (row : Row) × (row_at (tree_of bs) q ≡ Some row)
 row_there [] order q at in' stands = absurd (omega arith)
-row_there (b ∷ bs) order q at in' stands = ((get_or (b ∷ bs) at b).value.row, ap (row_at (tree_of (b ∷ bs))) (sym (stands b)) ∙ row_here (b ∷ bs) order at b in')
+row_there (b ∷ bs) order q at in' stands = ((get_or (b ∷ bs) at b).row, ap (row_at (tree_of (b ∷ bs))) (sym (stands b)) ∙ row_here (b ∷ bs) order at b in')
 
 -- the DACL that is built already for what holds the next node of the run
-pub above_rebuilt : (g : MappingValue) (bs : List Boxed) (order : IsInOrder bs) (q : Names) (at : ℕ) (stands : HoldsAt (λ c. path_of_node c ≡ q) bs at) (row : Row)
-    → (k : ℕ) (b : Boxed) → at < k → k < length bs → is_within q (path_of_node (get_or bs k b)) ≡ true
+pub above_rebuilt : (g : MappingValue) (bs : List Node) (order : IsInOrder bs) (q : Names) (at : ℕ) (stands : HoldsAt (λ c. path_of_node c ≡ q) bs at) (row : Row)
+    → (k : ℕ) (b : Node) → at < k → k < length bs → is_within q (path_of_node (get_or bs k b)) ≡ true
     → (wholes : List (Option (List Ace))) → IsRebuilt g (insert (tree_of bs) q row) bs at k wholes
     → (p : ℕ) → p < length bs → HoldsAt (λ c. path_of_node c ≡ up (path_of_node (get_or bs k b))) bs p
     → (above : Option (List Ace)) → above ≡ get_or wholes (p - at) above
@@ -241,11 +242,11 @@ above_rebuilt g bs order q at stands row k b behind in' inside wholes h p in-p t
     is-above ∙ built ∙ ap (dacl_at g t') (ap (λ j. path_of_node (get_or bs j b)) same ∙ there b)
 
 -- the DACL of the next node of the run below it
-pub next_rebuilt : (g : MappingValue) (bs : List Boxed) (order : IsInOrder bs) (q : Names) (at : ℕ) (stands : HoldsAt (λ c. path_of_node c ≡ q) bs at) (row : Row)
-    → (k : ℕ) (b : Boxed) → at < k → k < length bs → is_within q (path_of_node (get_or bs k b)) ≡ true
+pub next_rebuilt : (g : MappingValue) (bs : List Node) (order : IsInOrder bs) (q : Names) (at : ℕ) (stands : HoldsAt (λ c. path_of_node c ≡ q) bs at) (row : Row)
+    → (k : ℕ) (b : Node) → at < k → k < length bs → is_within q (path_of_node (get_or bs k b)) ≡ true
     → (wholes : List (Option (List Ace))) → IsRebuilt g (insert (tree_of bs) q row) bs at k wholes
     → (p : ℕ) → p < length bs → HoldsAt (λ c. path_of_node c ≡ up (path_of_node (get_or bs k b))) bs p
-    → (row-k : Row) → row-k ≡ (get_or bs k b).value.row
+    → (row-k : Row) → row-k ≡ (get_or bs k b).row
     → (above : Option (List Ace)) → above ≡ get_or wholes (p - at) above
     → dacl_of_row g row-k above ≡ dacl_at g (insert (tree_of bs) q row) (path_of_node (get_or bs k b))
 next_rebuilt g bs order q at stands row k b behind in' inside wholes h p in-p there row-k is-row above is-above =

@@ -6,18 +6,19 @@ use Rattle.std.specs.declared.cmp.Ordering.TheVariants.{Less}
 use Rattle.std.proofs.lemmas.Bool.{cases_Bool, cases_lt, false≢true}
 use Rattle.sd_acl.specs.declared.ace.Ace.{Ace}
 use Rattle.sd_path.specs.Names.{Names, names_cmp, is_within}
-use Rattle.sd_tree.specs.Stored.{Boxed, path_of_node, IsInOrder}
+use Rattle.sd_tree.specs.Stored.{path_of_node, IsInOrder}
 use Rattle.sd_path.proofs.Paths.{within_itself, within_between}
 use Rattle.sd_tree.proofs.Places.{paths_rise}
+use Rattle.sd_tree.specs.declared.node.Node.{Node}
 
 -- the path itself begins the run
-pub run_begins : (bs : List Boxed) (q : Names) (at : ℕ) → HoldsAt (λ c. path_of_node c ≡ q) bs at → AllWithin (λ b. is_within q (path_of_node b) ≡ true) bs at (at + 1)
+pub run_begins : (bs : List Node) (q : Names) (at : ℕ) → HoldsAt (λ c. path_of_node c ≡ q) bs at → AllWithin (λ b. is_within q (path_of_node b) ≡ true) bs at (at + 1)
 run_begins bs q at stands k d low high =
     let here : k ≡ at = omega arith in
     ap (is_within q) (ap (λ j. path_of_node (get_or bs j d)) here ∙ stands d) ∙ within_itself q
 
 -- behind a node that isn't in the run none is
-pub run_ends : (bs : List Boxed) → IsInOrder bs → (q : Names) (at end : ℕ) → HoldsAt (λ c. path_of_node c ≡ q) bs at → at < end → (b : Boxed)
+pub run_ends : (bs : List Node) → IsInOrder bs → (q : Names) (at end : ℕ) → HoldsAt (λ c. path_of_node c ≡ q) bs at → at < end → (b : Node)
     → is_within q (path_of_node (get_or bs end b)) ≡ false → AllWithin (λ c. is_within q (path_of_node c) ≡ false) bs end (length bs)
 run_ends bs order q at end stands lt b out k d low high = elim (cases_Bool (is_within q (path_of_node (get_or bs k d)))) [
   | inl inside ↦ elim (cases_lt end k) [
@@ -34,6 +35,6 @@ run_ends bs order q at end stands lt b out k d low high = elim (cases_Bool (is_w
 ]
 
 -- the whole DACLs of the first nodes of a run, as they stand
-pub record AreKept (bs : List Boxed) (at k : ℕ) (wholes : List (Option (List Ace))) : Type 0 where
+pub record AreKept (bs : List Node) (at k : ℕ) (wholes : List (Option (List Ace))) : Type 0 where
   pub count : at + length wholes ≡ k
-  pub each : (j : ℕ) (b : Boxed) (whole : Option (List Ace)) → j < length wholes → get_or wholes j whole ≡ (get_or bs (at + j) b).value.whole
+  pub each : (j : ℕ) (b : Node) (whole : Option (List Ace)) → j < length wholes → get_or wholes j whole ≡ (get_or bs (at + j) b).whole

@@ -2,7 +2,6 @@
 use Rattle.std.proofs.Common.{◌≡◌, ℕ, ◌<◌, ◌≤◌, Bool, true, false, cond, List, [], ◌∷◌, ◌++◌, length, map, get_or, Option, Some, None, Result, Ok, Err, IfOk, IfErr, refl, sym, ap, subst, ◌∙◌, arith}
 use Rattle.std.specs.FinMap as finite
 use Rattle.std.specs.FinMap.{entries-insert, len-entries, len-empty, put}
-use Rattle.std.proofs.lemmas.List.{length-map}
 use Rattle.sd_sid.specs.Mapping.{MappingValue}
 use Rattle.sd_path.specs.Names.{Names, names_cmp}
 use Rattle.sd_tree.specs.Inheritance.{dacl_of_row}
@@ -15,7 +14,7 @@ use Rattle.sd_tree.specs.Sizes.{IsSizeError}
 use Rattle.sd_tree.specs.Closed.{IsClosed}
 use Rattle.sd_tree.specs.Journal.{opened, root_row, replay, refusal, root_refusal}
 use Rattle.sd_tree.specs.Answers.{IsError}
-use Rattle.sd_tree.specs.Stored.{Boxed, entry_of, tree_of, IsWhole, AreNodes, AreStanding, IsStored}
+use Rattle.sd_tree.specs.Stored.{entry_of, tree_of, IsWhole, AreNodes, AreStanding, IsStored}
 use Rattle.sd_tree.specs.Plans.{IsPlan, IsPlanned, CanCarryOut, IsCarriedOut}
 use Rattle.sd_tree.specs.declared.node.Row.{Row}
 use Rattle.sd_tree.specs.declared.edit.Edit.{Edit}
@@ -36,9 +35,10 @@ use Rattle.sd_tree.proofs.CarriedOut.{tree_from_entries, order_from_entries, key
 use Rattle.sd_tree.proofs.Went.{went}
 use Rattle.sd_tree.proofs.Rebuilding.{large_found}
 use Rattle.sd_tree.proofs.Fitting.{no_large}
+use Rattle.sd_tree.specs.declared.node.Node.{Node}
 
 -- the nodes of a tree may be edited
-pub standing_from_stored : (o : Opening) (journal : List Edit) (bs : List Boxed) → IsStored o journal bs → AreStanding o.mapping bs
+pub standing_from_stored : (o : Opening) (journal : List Edit) (bs : List Node) → IsStored o journal bs → AreStanding o.mapping bs
 standing_from_stored o journal bs s = record {
   kept = s.nodes;
   closed = let P : PlainTree → Type 0 = IsClosed in subst P (sym s.tree) (closed_replay o journal s.lawful);
@@ -69,45 +69,35 @@ refused_of_tree o journal g t n e r same-g same-t same-n h =
 
 -- ---- a plan is carried out
 
-pub planned_alike : (o o' : Opening) (journal journal' : List Edit) (e : Edit) (plan : Plan) → o ≡ o' → journal ≡ journal' → IsPlanned o journal e plan → IsPlanned o' journal' e plan
-planned_alike o o' journal journal' e plan same-o same-journal h =
-    let P : Opening → Type 0 = λ p. IsPlanned p journal e plan in
-    let Q : List Edit → Type 0 = λ k. IsPlanned o' k e plan in
-    subst Q same-journal (subst P same-o h)
-
-plan_of_nodes : (o : Opening) (journal : List Edit) (e : Edit) (plan : Plan) (bs : List Boxed) → IsStored o journal bs → IsPlanned o journal e plan
+plan_of_nodes : (o : Opening) (journal : List Edit) (e : Edit) (plan : Plan) (bs : List Node) → IsStored o journal bs → IsPlanned o journal e plan
     → IsPlan o.mapping (tree_of bs) (edited o.mapping (replay o journal) e) plan
 plan_of_nodes o journal e plan bs s h = let P : PlainTree → Type 0 = λ t. IsPlan o.mapping t (edited o.mapping (replay o journal) e) plan in subst P (sym s.tree) h.planned
 
-can_carry : (g : MappingValue) (bs : List Boxed) → AreNodes g bs → (after : PlainTree) (plan : Plan) (room : ℕ) → IsPlan g (tree_of bs) after plan → length bs < room → CanCarryOut (length bs) room plan
-can_carry g bs kept after (Insert at b) room h lt = let count = keys_count bs kept.order in (omega (arith, h.place), lt)
-can_carry g bs kept after (Rewrite at row wholes) room h lt = let count = keys_count bs kept.order in (omega (arith, h.place), omega (arith, h.fits))
-can_carry g bs kept after (Remove at) room h lt = let count = keys_count bs kept.order in omega (arith, h.place)
-can_carry g bs kept after (Move from to run) room h lt = let count = keys_count bs kept.order in (omega (arith, h.fits), omega (arith, h.place))
+can_carry : (g : MappingValue) (bs : List Node) → AreNodes g bs → (after : PlainTree) (plan : Plan) → IsPlan g (tree_of bs) after plan → CanCarryOut (length bs) plan
+can_carry g bs kept after (Insert at b) h = let count = keys_count bs kept.order in omega (arith, h.place)
+can_carry g bs kept after (Rewrite at row wholes) h = let count = keys_count bs kept.order in (omega (arith, h.place), omega (arith, h.fits))
+can_carry g bs kept after (Remove at) h = let count = keys_count bs kept.order in omega (arith, h.place)
+can_carry g bs kept after (Move from to run) h = let count = keys_count bs kept.order in (omega (arith, h.fits), omega (arith, h.place))
 
-pub nodes_of_tree : (o : Opening) (journal : List Edit) (bs : List Boxed) → IsStored o journal bs → finite.len (replay o journal) ≡ length bs
-nodes_of_tree o journal bs s =
-    ap finite.len (sym s.tree) ∙ len-entries (tree_of bs) ∙ sym (length-map (finite.entries (tree_of bs)) (λ (e : Names × Row). e.0)) ∙ keys_count bs s.nodes.order
+pub can_carry_out : (o : Opening) (journal : List Edit) (e : Edit) (plan : Plan) (bs : List Node) → IsStored o journal bs → IsPlanned o journal e plan
+    → CanCarryOut (length bs) plan
+can_carry_out o journal e plan bs s h =
+    can_carry o.mapping bs s.nodes (edited o.mapping (replay o journal) e) plan (plan_of_nodes o journal e plan bs s h)
 
-pub can_carry_out : (o : Opening) (journal : List Edit) (e : Edit) (plan : Plan) (bs : List Boxed) (room : ℕ) → IsStored o journal bs → IsPlanned o journal e plan → finite.len (replay o journal) < room
-    → CanCarryOut (length bs) room plan
-can_carry_out o journal e plan bs room s h lt =
-    can_carry o.mapping bs s.nodes (edited o.mapping (replay o journal) e) plan room (plan_of_nodes o journal e plan bs s h) (omega (arith, nodes_of_tree o journal bs s))
-
-carried : (g : MappingValue) (bs bs' : List Boxed) → AreNodes g bs → (after : PlainTree) (plan : Plan) → IsPlan g (tree_of bs) after plan → IsCarriedOut plan bs bs' → (tree_of bs' ≡ after) × AreNodes g bs'
+carried : (g : MappingValue) (bs bs' : List Node) → AreNodes g bs → (after : PlainTree) (plan : Plan) → IsPlan g (tree_of bs) after plan → IsCarriedOut plan bs bs' → (tree_of bs' ≡ after) × AreNodes g bs'
 carried g bs bs' kept after (Insert at b) h is =
-    let P : List Boxed → Type 0 = λ cs. (tree_of cs ≡ after) × AreNodes g cs in subst P (sym is) (inserted g bs kept after at b h)
+    let P : List Node → Type 0 = λ cs. (tree_of cs ≡ after) × AreNodes g cs in subst P (sym is) (inserted g bs kept after at b h)
 carried g bs bs' kept after (Rewrite at row wholes) h r =
     let place : at < length bs = omega (arith, h.place, keys_count bs kept.order) in
     rewritten g bs kept after at row wholes.items h bs' r (a_node bs at place)
 carried g bs bs' kept after (Remove at) h is =
     let place : at < length bs = omega (arith, h.place, keys_count bs kept.order) in
-    let P : List Boxed → Type 0 = λ cs. (tree_of cs ≡ after) × AreNodes g cs in subst P (sym is) (removed g bs kept after at h (a_node bs at place))
+    let P : List Node → Type 0 = λ cs. (tree_of cs ≡ after) × AreNodes g cs in subst P (sym is) (removed g bs kept after at h (a_node bs at place))
 carried g bs bs' kept after (Move from to run) h is =
-    let P : List Boxed → Type 0 = λ cs. (tree_of cs ≡ after) × AreNodes g cs in subst P (sym is) (went g bs kept after from to run.items h)
+    let P : List Node → Type 0 = λ cs. (tree_of cs ≡ after) × AreNodes g cs in subst P (sym is) (went g bs kept after from to run.items h)
 
 -- a tree that an edit joined
-pub stored_more : (o : Opening) (journal : List Edit) (e : Edit) (plan : Plan) (bs bs' : List Boxed) → IsStored o journal bs → IsPlanned o journal e plan → IsCarriedOut plan bs bs' → IsStored o (journal ++ e ∷ []) bs'
+pub stored_more : (o : Opening) (journal : List Edit) (e : Edit) (plan : Plan) (bs bs' : List Node) → IsStored o journal bs → IsPlanned o journal e plan → IsCarriedOut plan bs bs' → IsStored o (journal ++ e ∷ []) bs'
 stored_more o journal e plan bs bs' s h is =
     let done = carried o.mapping bs bs' s.nodes (edited o.mapping (replay o journal) e) plan (plan_of_nodes o journal e plan bs s h) is in
     record {
@@ -143,12 +133,12 @@ root_by_parts o large list is = passed (list_any is_inherited (own_entries o.roo
     passed false true x y h = absurd cc
     passed false false x y h = refl
 
-pub stored_first : (o : Opening) (b : Boxed) → b.value.path ≡ [] → b.value.row ≡ root_row o.root → b.value.whole ≡ dacl_of_row o.mapping (root_row o.root) None → dacl_size b.value.whole ≤ 65535
+pub stored_first : (o : Opening) (b : Node) → b.path ≡ [] → b.row ≡ root_row o.root → b.whole ≡ dacl_of_row o.mapping (root_row o.root) None → dacl_size b.whole ≤ 65535
     → first_fit (list_tests o.root.dacl) ≡ None → IsStored o [] (b ∷ [])
 stored_first o b path-is row-is whole-is fits list =
     let e : map entry_of (b ∷ []) ≡ finite.entries (opened o) = (λ i. (path-is i, row-is i) ∷ []) ∙ sym (opened_entries o) in
     let same = tree_from_entries (b ∷ []) (opened o) e in
-    let whole : b.value.whole ≡ dacl_at o.mapping (tree_of (b ∷ [])) b.value.path =
+    let whole : b.whole ≡ dacl_at o.mapping (tree_of (b ∷ [])) b.path =
     whole-is ∙ sym (opened_dacl o) ∙ (λ i. dacl_at o.mapping (sym same i) (sym path-is i)) in
     let nodes : AreNodes o.mapping (b ∷ []) = record {
       order = order_from_entries (b ∷ []) (opened o) e;

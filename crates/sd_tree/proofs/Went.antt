@@ -7,10 +7,11 @@ use Rattle.std.specs.FinMap as finite
 use Rattle.sd_sid.specs.Mapping.{MappingValue}
 use Rattle.sd_tree.specs.Plain.{PlainTree, dacl_at}
 use Rattle.sd_tree.specs.Plans.{beside_run, run_moved, IsMoving}
-use Rattle.sd_tree.specs.Stored.{Boxed, path_of_node, entry_of, tree_of, IsWhole, AreNodes}
+use Rattle.sd_tree.specs.Stored.{path_of_node, entry_of, tree_of, IsWhole, AreNodes}
 use Rattle.sd_tree.proofs.CarriedOut.{tree_from_entries, order_from_entries, key_at, keys_count, whole_still}
 use Rattle.sd_tree.proofs.Kept.{entries_kept}
-use Rattle.sd_tree.proofs.Turning.{taken}
+use Rattle.sd_tree.proofs.Lists.{taken}
+use Rattle.sd_tree.specs.declared.node.Node.{Node}
 
 map-beside : {A B : Type 0} (f : A → B) (at count : ℕ) (xs : List A) → map f (beside_run at count xs) ≡ beside_run at count (map f xs)
 map-beside f at count xs = map-append f (take at xs) (drop (at + count) xs) ∙ sym (λ i. take-map f at xs i ++ drop-map f (at + count) xs i)
@@ -25,11 +26,11 @@ map-moved f from to run xs =
     ∙ sym (λ i. take-map f to rest i ++ (map f run ++ drop-map f to rest i))
     ∙ (λ i. take to (beside i) ++ (map f run ++ drop to (beside i)))
 
-module _ (g : MappingValue) (bs : List Boxed) (kept : AreNodes g bs) (after : PlainTree) (from to : ℕ) (run : List Boxed) (h : IsMoving g (tree_of bs) after from to run) where
+module _ (g : MappingValue) (bs : List Node) (kept : AreNodes g bs) (after : PlainTree) (from to : ℕ) (run : List Node) (h : IsMoving g (tree_of bs) after from to run) where
   fits : from + length run ≤ length bs
   fits = omega (arith, h.fits, keys_count bs kept.order)
 
-  stays : (k : ℕ) (d : Boxed) → k < length bs → (k < from) ⊎ (from + length run ≤ k) → IsWhole g after (get_or bs k d)
+  stays : (k : ℕ) (d : Node) → k < length bs → (k < from) ⊎ (from + length run ≤ k) → IsWhole g after (get_or bs k d)
   stays k d lt where' =
       let same : dacl_at g after (path_of_node (get_or bs k d)) ≡ dacl_at g (tree_of bs) (path_of_node (get_or bs k d)) =
       rw (key_at bs kept.order k (path_of_node d) d lt) at (h.others k (path_of_node d) (omega (arith, keys_count bs kept.order)) where') in
@@ -38,12 +39,12 @@ module _ (g : MappingValue) (bs : List Boxed) (kept : AreNodes g bs) (after : Pl
   low : All (IsWhole g after) (take from bs)
   low k d lt =
       let in' : k < from = omega (arith, taken from bs (omega (arith, fits))) in
-      let P : Boxed → Type 0 = IsWhole g after in
+      let P : Node → Type 0 = IsWhole g after in
       subst P (sym (get_or-take from bs k d in')) (stays k d (omega (arith, fits)) (inl in'))
 
   high : All (IsWhole g after) (drop (from + length run) bs)
   high k d lt =
-      let P : Boxed → Type 0 = IsWhole g after in
+      let P : Node → Type 0 = IsWhole g after in
       subst P (sym (get_or-drop (from + length run) bs k d)) (stays (from + length run + k) d (omega (arith, length-drop (from + length run) bs)) (inr (omega arith)))
 
   went_whole : All (IsWhole g after) (run_moved from to run bs)

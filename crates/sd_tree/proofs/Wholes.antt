@@ -11,13 +11,14 @@ use Rattle.sd_path.specs.Names.{Names, names_cmp, up, is_root, is_within}
 use Rattle.sd_tree.specs.Inheritance.{dacl_of_row}
 use Rattle.sd_tree.specs.Plain.{PlainTree, row_at, dacl_here, dacl_at}
 use Rattle.sd_tree.specs.Sizes.{IsSizeError}
-use Rattle.sd_tree.specs.Stored.{Boxed, path_of_node, tree_of, AreNodes}
+use Rattle.sd_tree.specs.Stored.{path_of_node, tree_of, AreNodes}
 use Rattle.sd_tree.specs.declared.node.Row.{Row}
 use Rattle.sd_tree.specs.declared.refusal.TreeError.{TreeError}
 use Rattle.sd_path.proofs.Paths.{names_cmp_total, root_is_empty, within_before, up_before}
 use Rattle.sd_tree.proofs.Dacls.{dacl_at_root, dacl_at_up, dacl_at_outside}
 use Rattle.sd_tree.proofs.Rows.{row_at-insert_same, row_at-insert_other}
 use Rattle.sd_tree.proofs.Sorted.{greater_from_less}
+use Rattle.sd_tree.specs.declared.node.Node.{Node}
 
 -- a path and what holds it are two
 pub up_other : (path : Names) → is_root path ≡ false → up path ≢ path
@@ -53,10 +54,10 @@ whole_below g t path row h =
     ∙ sym (dacl_at_up g t' path h)
 
 -- what is stored at the place of a path is its whole DACL
-pub stored_whole : (g : MappingValue) (bs : List Boxed) → AreNodes g bs → (q : Names) (k : ℕ) (b : Boxed) → k < length bs → HoldsAt (λ c. path_of_node c ≡ q) bs k
-    → b ≡ get_or bs k b → b.value.whole ≡ dacl_at g (tree_of bs) q
+pub stored_whole : (g : MappingValue) (bs : List Node) → AreNodes g bs → (q : Names) (k : ℕ) (b : Node) → k < length bs → HoldsAt (λ c. path_of_node c ≡ q) bs k
+    → b ≡ get_or bs k b → b.whole ≡ dacl_at g (tree_of bs) q
 stored_whole g bs kept q k b lt there is-b =
-    ap (λ (c : Boxed). c.value.whole) is-b ∙ (kept.whole k b lt).is ∙ ap (dacl_at g (tree_of bs)) (there b)
+    ap (λ (c : Node). c.whole) is-b ∙ (kept.whole k b lt).is ∙ ap (dacl_at g (tree_of bs)) (there b)
 
 pub size_error : (e : TreeError) (a b : Option (List Ace)) → a ≡ b → IsSizeError e a → IsSizeError e b
 size_error e a b same h = let P : Option (List Ace) → Type 0 = IsSizeError e in subst P same h

@@ -11,7 +11,8 @@ use Rattle.sd_tree.specs.declared.node.NodeKind.TheVariants.{Container, Object}
 use Rattle.sd_tree.specs.declared.node.NodeDacl.{NodeDacl}
 use Rattle.sd_tree.specs.declared.node.NodeDacl.TheVariants.{List as Entries}
 use Rattle.sd_tree.specs.declared.edit.Edit.{Edit}
-use Rattle.sd_tree.specs.declared.edit.Edit.TheVariants.{AddContainer, AddObject, SetOwner, SetGroup, SetDacl, Remove, ProtectKeeping, Move}
+use Rattle.sd_tree.specs.declared.edit.Edit.TheVariants.{AddContainer, AddObject, SetOwner, SetGroup, SetDacl, Remove}
+use Rattle.sd_tree.specs.declared.edit.Edit.TheVariants.{ProtectKeeping, Move}
 
 -- the DACL of a protected node with all of these entries as its own, in canonical order
 abbrev pub kept_dacl : List Ace → NodeDacl
@@ -38,8 +39,10 @@ unfoldable pub moved : PlainTree → Names → Names → PlainTree
 moved t source target = finite.from_entries (map (moved_entry source target) (finite.entries t))
 
 abbrev pub edited : MappingValue → PlainTree → Edit → PlainTree
-edited g t (AddContainer path owner group dacl) = finite.insert t path (record { kind = Container; owner = owner; group = group; dacl = dacl })
-edited g t (AddObject path owner group dacl) = finite.insert t path (record { kind = Object; owner = owner; group = group; dacl = dacl })
+edited g t (AddContainer path owner group dacl) = finite.insert t path
+    (record { kind = Container; owner = owner; group = group; dacl = dacl })
+edited g t (AddObject path owner group dacl) = finite.insert t path
+    (record { kind = Object; owner = owner; group = group; dacl = dacl })
 edited g t (SetOwner path owner) = changed t path (λ row. record row { owner = owner })
 edited g t (SetGroup path group) = changed t path (λ row. record row { group = group })
 edited g t (SetDacl path dacl) = changed t path (λ row. record row { dacl = dacl })
@@ -47,7 +50,8 @@ edited g t (Remove path) = finite.remove t path
 edited g t (ProtectKeeping path) = changed t path (keeping (dacl_at g t path))
 edited g t (Move source target) = moved t source target
 
--- whether a path is, or stands below, one at which an edit adds, changes or removes a node, or from or to which it moves one
+-- whether a path is, or stands below, one at which an edit adds, changes or removes a node, or from or to which it
+-- moves one
 abbrev pub touches : Edit → Names → Bool
 touches (AddContainer path owner group dacl) q = is_within path q
 touches (AddObject path owner group dacl) q = is_within path q

@@ -14,4 +14,5 @@ history_of t = record { opening = t.opening; journal = t.journal }
 -- the tree is what the other one was earlier
 abbrev pub IsBefore : TreeValue → TreeValue → Type 0
 IsBefore tree later =
-    (tree.opening ≡ later.opening) × (length tree.journal ≤ length later.journal) × (tree.journal ≡ take (length tree.journal) later.journal)
+    (tree.opening ≡ later.opening) × (length tree.journal ≤ length later.journal)
+    × (tree.journal ≡ take (length tree.journal) later.journal)

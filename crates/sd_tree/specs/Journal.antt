@@ -43,11 +43,10 @@ root_refusal opening =
 
 -- each edit was accepted at its place
 abbrev pub IsLawful : Opening → List Edit → Type 0
-IsLawful opening journal = (k : ℕ) (edit : Edit) → slice_get journal k ≡ Some edit → refusal opening (take k journal) edit ≡ None
+IsLawful opening journal = (k : ℕ) (edit : Edit) → slice_get journal k ≡ Some edit
+    → refusal opening (take k journal) edit ≡ None
 
--- what a tree is to its callers: its opening, its journal, and for how many edits and nodes it has room
+-- what a tree is to its callers: its opening and its journal
 pub record TreeValue : Type 0 where
   pub opening : Opening
   pub journal : List Edit
-  pub edit_room : ℕ
-  pub node_room : ℕ

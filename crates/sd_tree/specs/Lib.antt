@@ -1,5 +1,4 @@
 pub mod Answers
-pub mod Catching
 pub mod Closed
 pub mod Descriptors
 pub mod Edits
@@ -9,7 +8,6 @@ pub mod Journal
 pub mod Listing
 pub mod Plain
 pub mod Plans
-pub mod Prepared
 pub mod Refusals
 pub mod Sharing
 pub mod Sizes

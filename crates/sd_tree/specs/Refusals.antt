@@ -1,5 +1,6 @@
 -- Why an edit is refused: tests in order, of which the first that fits answers.
-use Rattle.std.specs.Prelude.{ℕ, Bool, true, false, not, ◌&&◌, nat_lt, nat_le, cond, List, [], ◌∷◌, ◌++◌, length, Option, Some, None, is_some, codes}
+use Rattle.std.specs.Prelude.{ℕ, Bool, true, false, not, ◌&&◌, nat_lt, nat_le, cond, List, [], ◌∷◌, ◌++◌, length}
+use Rattle.std.specs.Prelude.{Option, Some, None, is_some, codes}
 use Rattle.std.specs.List.{list_any}
 use Rattle.std.specs.Option.{option_or}
 use Rattle.std.specs.Ordering.{is_eq}
@@ -17,9 +18,12 @@ use Rattle.sd_tree.specs.declared.node.NodeKind.TheVariants.{Container, Object}
 use Rattle.sd_tree.specs.declared.node.NodeDacl.{NodeDacl}
 use Rattle.sd_tree.specs.declared.node.NodeDacl.TheVariants as own
 use Rattle.sd_tree.specs.declared.edit.Edit.{Edit}
-use Rattle.sd_tree.specs.declared.edit.Edit.TheVariants.{AddContainer, AddObject, SetOwner, SetGroup, SetDacl, Remove, ProtectKeeping, Move}
+use Rattle.sd_tree.specs.declared.edit.Edit.TheVariants.{AddContainer, AddObject, SetOwner, SetGroup, SetDacl, Remove}
+use Rattle.sd_tree.specs.declared.edit.Edit.TheVariants.{ProtectKeeping, Move}
 use Rattle.sd_tree.specs.declared.refusal.EditRefusal.{EditRefusal}
-use Rattle.sd_tree.specs.declared.refusal.EditRefusal.TheVariants.{NoParent, ParentIsObject, Exists, NoNode, NotEmpty, IsRoot, InheritedEntry, NotCanonical, AclTooLarge, TooDeep, NodesFull, JournalFull, IntoItself}
+use Rattle.sd_tree.specs.declared.refusal.EditRefusal.TheVariants.{NoParent, ParentIsObject, Exists, NoNode, NotEmpty}
+use Rattle.sd_tree.specs.declared.refusal.EditRefusal.TheVariants.{IsRoot, InheritedEntry, NotCanonical, AclTooLarge}
+use Rattle.sd_tree.specs.declared.refusal.EditRefusal.TheVariants.{TooDeep, NodesFull, JournalFull, IntoItself}
 
 -- the refusal of the first test that fits
 abbrev pub first_fit : List (Bool × EditRefusal) → Option EditRefusal
@@ -109,8 +113,10 @@ moves_too_deep t (Move source target) = list_any (goes_too_deep source target) (
 
 -- one more node: its path has at most 64 names, and there are at most 65,536 nodes
 abbrev pub room_tests : PlainTree → Edit → List (Bool × EditRefusal)
-room_tests t (AddContainer path owner group dacl) = (nat_lt 64 (length path), TooDeep) ∷ (nat_le 65536 (map.len t), NodesFull) ∷ []
-room_tests t (AddObject path owner group dacl) = (nat_lt 64 (length path), TooDeep) ∷ (nat_le 65536 (map.len t), NodesFull) ∷ []
+room_tests t (AddContainer path owner group dacl) = (nat_lt 64 (length path), TooDeep)
+    ∷ (nat_le 65536 (map.len t), NodesFull) ∷ []
+room_tests t (AddObject path owner group dacl) = (nat_lt 64 (length path), TooDeep)
+    ∷ (nat_le 65536 (map.len t), NodesFull) ∷ []
 room_tests t (SetOwner path owner) = []
 room_tests t (SetGroup path group) = []
 room_tests t (SetDacl path dacl) = []

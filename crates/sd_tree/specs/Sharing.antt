@@ -1,14 +1,16 @@
 -- Which nodes inherit the same. No public contract says so.
-use Rattle.std.specs.Prelude.{◌≡◌, ℕ, ◌-◌, ◌<◌, Bool, ◌||◌, true, false, List, length, slice_index_or, Option, Some, None}
+use Rattle.std.specs.Prelude.{◌≡◌, ℕ, ◌-◌, ◌<◌, Bool, ◌||◌, true, false, List, length, slice_index_or, Option, Some}
+use Rattle.std.specs.Prelude.{None}
 use Rattle.std.specs.List.{list_any}
 use Rattle.sd_sid.specs.Mapping.{MappingValue}
 use Rattle.sd_sid.specs.Sid.{same_sid}
 use Rattle.sd_acl.specs.declared.ace.Ace.{Ace}
 use Rattle.sd_path.specs.Names.{Names, up, is_root}
 use Rattle.sd_tree.specs.Inheritance.{creator_owner, creator_group, handed_on}
-use Rattle.sd_tree.specs.Stored.{Boxed, path_of_node}
+use Rattle.sd_tree.specs.Stored.{path_of_node}
 use Rattle.sd_tree.specs.Whole.{behind_own, inherits}
 use Rattle.sd_tree.specs.declared.node.Row.{Row}
+use Rattle.sd_tree.specs.declared.node.Node.{Node}
 
 -- the entry is for CREATOR OWNER or CREATOR GROUP
 abbrev pub names_creator : Ace → Bool
@@ -33,15 +35,16 @@ pub record InheritOne (one other : Row) (above : Option (List Ace)) : Type 0 whe
   pub same : (g : MappingValue) → handed_on g one above ≡ handed_on g other above
 
 -- the node at the place stands where the path does, below a parent with this DACL, and inherits what the row would
-pub record IsSibling (boxes : List Boxed) (path : Names) (row : Row) (above : Option (List Ace)) (k : ℕ) : Type 0 where
+pub record IsSibling (boxes : List Node) (path : Names) (row : Row) (above : Option (List Ace)) (k : ℕ) : Type 0 where
   pub place : k < length boxes
-  pub below_root : (b : Boxed) → is_root (path_of_node (slice_index_or boxes k b)) ≡ false
-  pub parent : (b : Boxed) → up (path_of_node (slice_index_or boxes k b)) ≡ up path
-  pub alike : (b : Boxed) → InheritOne (slice_index_or boxes k b).value.row row above
+  pub below_root : (b : Node) → is_root (path_of_node (slice_index_or boxes k b)) ≡ false
+  pub parent : (b : Node) → up (path_of_node (slice_index_or boxes k b)) ≡ up path
+  pub alike : (b : Node) → InheritOne (slice_index_or boxes k b).row row above
 
--- of the DACLs that are made already, for the nodes from a place on, each sibling's has behind its own entries what the row
--- inherits
-abbrev pub AreMadeFor : MappingValue → List Boxed → Names → Row → Option (List Ace) → ℕ → List (Option (List Ace)) → Type 0
+-- of the DACLs that are made already, for the nodes from a place on, each sibling's has behind its own entries what the
+-- row inherits
+abbrev pub AreMadeFor : MappingValue → List Node → Names → Row → Option (List Ace) → ℕ → List (Option (List Ace))
+    → Type 0
 AreMadeFor g boxes path row above at made =
-    (k : ℕ) (b : Boxed) (dacl : Option (List Ace)) → IsSibling boxes path row above k → at < k → k - at < length made
-    → slice_index_or made (k - at) dacl ≡ Some (behind_own (slice_index_or boxes k b).value.row (handed_on g row above))
+    (k : ℕ) (b : Node) (dacl : Option (List Ace)) → IsSibling boxes path row above k → at < k → k - at < length made
+    → slice_index_or made (k - at) dacl ≡ Some (behind_own (slice_index_or boxes k b).row (handed_on g row above))

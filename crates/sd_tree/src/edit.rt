@@ -47,8 +47,8 @@ pub enum Edit {
     ProtectKeeping {
         path: Path,
     },
-    /// The node and all below it go to a free path, which may be within the same parent; what they inherit is what the new
-    /// place gives.
+    /// The node and all below it go to a free path, which may be within the same parent; what they inherit is what the
+    /// new place gives.
     Move {
         source: Path,
         target: Path,

@@ -37,8 +37,8 @@ impl TreeView<'_> {
             Err(at) => {
                 let row = Shared::new(self.alloc, row)?;
                 let whole = self.whole_of(&path.as_path_ref(), at, &row)?;
-                let path = path.copy(self.alloc)?;
-                let node = Box::new(self.alloc, Node { path, row, whole })?;
+                let path = Shared::new(self.alloc, path.copy(self.alloc)?)?;
+                let node = Node { path, row, whole };
                 Ok(Plan::Insert { at, node })
             }
         }
@@ -83,8 +83,7 @@ impl TreeView<'_> {
         ensures node { IsNodeAt self.now.nodes.now path.now result.1.now }
     {
         let at = self.place_of(&path.as_path_ref());
-        let node: &Node = &self.nodes[at];
-        (at, node)
+        (at, self.node(at))
     }
 
     /// The plan for a node of a kind that is added.

@@ -4,7 +4,9 @@ ghost use Rattle.std.specs.Prelude.{◌≡◌, ◌++◌, ◌≤◌, None, OnOk, 
 ghost use Rattle.std.specs.List.{flat_map};
 ghost use Rattle.sd_sid.specs.Mapping.{MappingValue};
 ghost use Rattle.sd_sid.specs.Sid.{same_sid};
-ghost use Rattle.sd_tree.specs.Inheritance.{object_inherit, container_inherit, no_propagate, creator_owner, creator_group, created_by, effective_copy, waiting_copy, whole_copy, is_split, to_object, to_container, pass_on, handed_on, dacl_of_row};
+ghost use Rattle.sd_tree.specs.Inheritance.{object_inherit, container_inherit, no_propagate, creator_owner};
+ghost use Rattle.sd_tree.specs.Inheritance.{creator_group, created_by, effective_copy, waiting_copy, whole_copy};
+ghost use Rattle.sd_tree.specs.Inheritance.{is_split, to_object, to_container, pass_on, handed_on, dacl_of_row};
 ghost use Rattle.sd_tree.specs.Refusals.{dacl_size};
 ghost use Rattle.sd_tree.specs.Sizes.{IsSizeError};
 
@@ -224,7 +226,8 @@ fn handed_on(
     Inherited::new(alloc, handed)
 }
 
-/// The whole DACL of a node below a parent with that DACL: its own entries, and what it inherits unless it is protected;
+/// The whole DACL of a node below a parent with that DACL: its own entries, and what it inherits unless it is
+/// protected;
 /// `None` is a null one. `AclTooLarge` where it would take more than 65,535 bytes ([MS-DTYP] 2.4.5).
 pub(crate) fn dacl_of_row(
     alloc: Global,

@@ -7,14 +7,16 @@ ghost use Rattle.sd_tree.specs.Answers.{kind_at, IsError};
 ghost use Rattle.sd_tree.specs.Edits.{edited};
 ghost use Rattle.sd_path.specs.Names.{is_root};
 ghost use Rattle.sd_tree.specs.Plans.{IsPlan};
-ghost use Rattle.sd_tree.specs.Refusals.{early_refusal, first_fit, place_tests, addition_tests, move_tests, moves_too_deep, node_tests, room_tests, has_child, refusal_in};
+ghost use Rattle.sd_tree.specs.Refusals.{early_refusal, first_fit, place_tests, addition_tests, move_tests};
+ghost use Rattle.sd_tree.specs.Refusals.{moves_too_deep, node_tests, room_tests, has_child, refusal_in};
 ghost use Rattle.sd_tree.specs.Stored.{path_of_node};
 ghost use Rattle.sd_tree.specs.View.{IsView, tree_in};
-ghost use Rattle.sd_tree.specs.declared.refusal.EditRefusal.TheVariants.{NotEmpty, IsRoot, TooDeep, NodesFull, JournalFull};
+ghost use Rattle.sd_tree.specs.declared.refusal.EditRefusal.TheVariants.{NotEmpty, IsRoot, TooDeep, NodesFull};
+ghost use Rattle.sd_tree.specs.declared.refusal.EditRefusal.TheVariants.{JournalFull};
 
 use crate::edit::Edit;
 use crate::list_tests::list_refusal;
-use crate::node::{Node, NodeDacl, NodeKind};
+use crate::node::{NodeDacl, NodeKind};
 use crate::nodes::{locate, node_at};
 use crate::plan::Plan;
 use crate::refusal::{EditRefusal, TreeError};
@@ -90,11 +92,11 @@ impl TreeView<'_> {
         requires stands { HoldsAt (λ b. path_of_node b ≡ path.now) self.now.nodes.now at }
         ensures { result ≡ has_child (tree_in self.now) path.now }
     {
-        if at + 1 == self.nodes.len() {
+        let count = self.nodes.len();
+        if at + 1 == count {
             return false;
         }
-        let next: &Node = &self.nodes[at + 1];
-        next.path.as_path_ref().is_within(path)
+        self.node(at + 1).path().is_within(path)
     }
 
     /// Why the node of the path can't go.

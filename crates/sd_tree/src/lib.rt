@@ -14,13 +14,12 @@
 #![tactic(auto)]
 
 mod alike;
-mod catching_up;
-mod copying;
 mod describe;
 mod edit;
 mod edit_plan;
 mod entries;
 mod inherit;
+mod journal;
 mod judging;
 mod keep;
 mod list_tests;
@@ -39,10 +38,11 @@ mod whole;
 
 pub use edit::Edit;
 pub use entries::Entries;
+pub use journal::Journal;
 pub use listing::NodeRef;
 pub use node::{NodeDacl, NodeKind};
 pub use opening::{Opening, RootSpec};
 pub use refusal::{EditRefusal, TreeError};
 pub use sd_path::{Name, Path, PathError};
 pub use shared::Shared;
-pub use tree::{CheckReply, Prepared, Tree};
+pub use tree::{CheckReply, Tree};

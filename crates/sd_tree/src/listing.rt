@@ -8,8 +8,8 @@ ghost use Rattle.sd_tree.specs.Listing.{given_of, listed};
 ghost use Rattle.sd_tree.specs.Plain.{row_at};
 
 use crate::describe::own_descriptor_of_row;
-use crate::node::{Node, NodeDacl, NodeKind};
-use crate::nodes::node_at;
+use crate::node::{NodeDacl, NodeKind};
+use crate::nodes::{node_at, node_in};
 use crate::tree::Tree;
 use sd_acl::Descriptor;
 use sd_path::Path;
@@ -46,16 +46,21 @@ impl Tree {
     pub fn node(&self, index: usize) -> Option<NodeRef<'_>>
         ensures { option_map listed result ≡ slice_get (entries (replay self.now.opening self.now.journal)) index }
     {
-        let node: &Node = self.view().nodes.get(index)?;
+        let nodes = self.view().nodes;
+        if index >= nodes.len() {
+            return None;
+        }
+        let node = node_in(nodes, index);
         let row = node.row.get();
         Some(NodeRef {
-            path: &node.path,
+            path: node.path.get(),
             kind: row.kind,
             owner: row.owner,
             group: row.group,
             dacl: &row.dacl,
         })
     }
+
     /// What was given to the node of a path, if there is one: its kind, and its descriptor without what it inherits
     /// ([MS-DTYP] 2.4.6). `AllocError` only where there is one.
     pub fn given(&self, path: &Path) -> Result<Option<(NodeKind, Descriptor)>, AllocError>

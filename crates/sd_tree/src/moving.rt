@@ -1,16 +1,19 @@
 //! The plan of a move: a node goes elsewhere with all below it.
 
-ghost use Rattle.std.specs.Prelude.{◌≡◌, ◌<◌, ◌≤◌, ◌+◌, ℕ, List, Option, length, slice_index_or, true, false, OnOk, IfOk, IfErr};
+ghost use Rattle.std.specs.Prelude.{◌≡◌, ◌<◌, ◌≤◌, ◌+◌, ℕ, List, Option, length, slice_index_or, true, false, OnOk};
+ghost use Rattle.std.specs.Prelude.{IfOk, IfErr};
 ghost use Rattle.std.specs.List.{HoldsAt};
 ghost use Rattle.sd_acl.specs.declared.ace.Ace.{Ace};
 ghost use Rattle.sd_path.specs.Names.{is_within};
 ghost use Rattle.sd_tree.specs.Closed.{IsMovable};
 ghost use Rattle.sd_tree.specs.Edits.{moved};
-ghost use Rattle.sd_tree.specs.Plans.{IsPlan, IsLateError, IsLargeError, IsDepthError, IsMovedNode, IsMovedRun, IsRunBelow, IsTooDeep, HasWhole, AreMovedWholes};
+ghost use Rattle.sd_tree.specs.Plans.{IsPlan, IsLateError, IsLargeError, IsDepthError, IsMovedNode, IsMovedRun};
+ghost use Rattle.sd_tree.specs.Plans.{IsRunBelow, IsTooDeep, HasWhole, AreMovedWholes};
 ghost use Rattle.sd_tree.specs.Refusals.{moves_too_deep};
-ghost use Rattle.sd_tree.specs.Stored.{Boxed, path_of_node};
+ghost use Rattle.sd_tree.specs.Stored.{path_of_node};
 ghost use Rattle.sd_tree.specs.View.{IsView, tree_in};
 ghost use Rattle.sd_tree.specs.declared.edit.Edit.TheVariants.{Move};
+ghost use Rattle.sd_tree.specs.declared.node.Node.{Node};
 
 use crate::entries::Entries;
 use crate::judging::MAX_DEPTH;
@@ -33,7 +36,8 @@ impl TreeView<'_> {
         ensures plan { IfOk result (IsPlan self.now.mapping.now (tree_in self.now)
             (moved (tree_in self.now) source.now target.now)) }
         ensures shallow { OnOk result (moves_too_deep (tree_in self.now) (Move source.now target.now) ≡ false) }
-        ensures refused { IfErr result (IsLateError self.now.mapping.now (tree_in self.now) (Move source.now target.now)) }
+        ensures refused { IfErr result
+            (IsLateError self.now.mapping.now (tree_in self.now) (Move source.now target.now)) }
     {
         let from = self.place_of(&source.as_path_ref());
         match locate(self.nodes, &target.as_path_ref()) {
@@ -47,8 +51,8 @@ impl TreeView<'_> {
         }
     }
 
-    /// The whole DACLs of the node at a place and of those below it, in their order, once they stand at the target, which
-    /// would stand at the other place.
+    /// The whole DACLs of the node at a place and of those below it, in their order, once they stand at the target,
+    /// which would stand at the other place.
     fn moved_wholes(
         &self,
         source: &Path,
@@ -66,10 +70,10 @@ impl TreeView<'_> {
         ensures refused { IfErr result (IsLargeError self.now.mapping.now
             (moved (tree_in self.now) source.now target.now)) }
     {
-        let node: &Node = &self.nodes[from];
+        let node = self.node(from);
         let first = self.whole_of(&target.as_path_ref(), at, &node.row)?;
-        // What stands below sees of all above it the node's whole DACL alone: where that stays, as it mostly does when a
-        // node is renamed, theirs stay too.
+        // What stands below sees of all above it the node's whole DACL alone: where that stays, as it mostly does when
+        // a node is renamed, theirs stay too.
         if are_one_dacl(&first, &node.whole) {
             return Ok(self.kept_wholes(&source.as_path_ref(), from)?);
         }
@@ -83,15 +87,14 @@ impl TreeView<'_> {
         requires standing { IsView self.now }
         requires within { at < length self.now.nodes.now }
         requires stands { HoldsAt (λ b. path_of_node b ≡ path.now) self.now.nodes.now at }
-        ensures kept { IfOk result (λ wholes. (k : ℕ) (b : Boxed) (whole : Option (List Ace)) → k < length wholes.items
-            → slice_index_or wholes.items k whole ≡ (slice_index_or self.now.nodes.now (at + k) b).value.whole) }
+        ensures kept { IfOk result (λ wholes. (k : ℕ) (b : Node) (whole : Option (List Ace)) → k < length wholes.items
+            → slice_index_or wholes.items k whole ≡ (slice_index_or self.now.nodes.now (at + k) b).whole) }
         ensures run { IfOk result (λ wholes. IsRunBelow self.now.nodes.now path.now at (length wholes.items)) }
     {
         let end = self.end_below(path, at);
         let mut wholes = Vec::with_capacity(self.alloc, end - at)?;
         for k in at..end {
-            let node: &Node = &self.nodes[k];
-            wholes.push(node.whole.share()?)?;
+            wholes.push(self.node(k).whole.share()?)?;
         }
         Ok(wholes)
     }
@@ -103,17 +106,20 @@ impl TreeView<'_> {
         target: &Path,
         from: usize,
         wholes: &[WholeDacl],
-    ) -> Result<Vec<Box<Node>>, TreeError>
+    ) -> Result<Vec<Node>, TreeError>
         requires standing { IsView self.now }
         requires wholes { AreMovedWholes self.now.mapping.now self.now.nodes.now
             (moved (tree_in self.now) source.now target.now) source.now target.now from wholes.now }
-        ensures run { IfOk result (λ run. IsMovedRun self.now.nodes.now source.now target.now from wholes.now (length wholes.now) run.items) }
+        ensures run { IfOk result (λ run. IsMovedRun self.now.nodes.now source.now target.now from wholes.now
+            (length wholes.now) run.items) }
         ensures refused { IfErr result (λ e. IsTooDeep (tree_in self.now) source.now target.now e) }
     {
         let (source, target) = (source.as_path_ref(), target.as_path_ref());
         let mut run = Vec::with_capacity(self.alloc, wholes.len())?;
+        // That the places fit a usize.
+        let _count = self.nodes.len();
         for i in 0..wholes.len() {
-            let node: &Node = &self.nodes[from + i];
+            let node = self.node(from + i);
             run.push(moved_node(self.alloc, node, &source, &target, &wholes[i])?)?;
         }
         Ok(run)
@@ -127,19 +133,19 @@ fn moved_node(
     source: &PathRef<'_>,
     target: &PathRef<'_>,
     whole: &WholeDacl,
-) -> Result<Box<Node>, TreeError>
+) -> Result<Node, TreeError>
     requires { is_within source.now node.now.path ≡ true }
     ensures node { IfOk result (IsMovedNode source.now target.now node.now whole.now) }
     ensures refused { IfErr result (IsDepthError source.now target.now node.now.path) }
 {
-    let below = node.path.as_path_ref().depth() - source.depth();
+    let below = node.path().depth() - source.depth();
     if target.depth().saturating_add(below) > MAX_DEPTH {
         return Err(TreeError::Refused(EditRefusal::TooDeep));
     }
-    let path = node.path.moved(alloc, source, target)?;
+    let path = Shared::new(alloc, node.path.get().moved(alloc, source, target)?)?;
     let row = node.row.share()?;
     let whole = whole.share()?;
-    Ok(Box::new(alloc, Node { path, row, whole })?)
+    Ok(Node { path, row, whole })
 }
 
 /// The same whole DACLs, of which this is the first: its own entries stand in the node's row.

@@ -8,7 +8,8 @@ use crate::entries::Entries;
 use crate::shared::Shared;
 use crate::whole::WholeDacl;
 use sd_acl::Ace;
-use sd_path::Path;
+use sd_blocks::TryCopy;
+use sd_path::{Path, PathRef};
 use sd_sid::Sid;
 use std::alloc::{AllocError, Global};
 
@@ -119,10 +120,29 @@ impl Row {
     }
 }
 
-/// A node where it stands, with its whole DACL: its own entries and what it inherits, or None for a null one.
+/// A node where it stands, with its whole DACL: its own entries and what it inherits, or None for a null one. All
+/// parts are shared, so a copy costs little.
 #[derive(Debug, Drop)]
 pub(crate) struct Node {
-    pub path: Path,
+    pub path: Shared<Path>,
     pub row: Shared<Row>,
     pub whole: WholeDacl,
+}
+
+impl Node {
+    /// The node's path.
+    pub(crate) fn path(&self) -> PathRef<'_>
+        ensures { result ≡ self.now.path }
+    {
+        self.path.get().as_path_ref()
+    }
+}
+
+impl TryCopy for Node {
+    fn try_copy(&self) -> Result<Node, AllocError> {
+        let path = self.path.share()?;
+        let row = self.row.share()?;
+        let whole = self.whole.share()?;
+        Ok(Node { path, row, whole })
+    }
 }

@@ -1,13 +1,16 @@
-//! What an accepted edit does to the nodes of a tree: worked out first, then carried out without memory.
+//! What an accepted edit does to the nodes of a tree: worked out first, then carried out.
 
-ghost use Rattle.std.specs.Prelude.{◌≡◌, ◌≤◌, ◌<◌, ◌+◌, ◌++◌, List, length, take, drop, vec_len, vec_capacity};
+ghost use Rattle.std.specs.Prelude.{◌≡◌, ◌≤◌, ◌<◌, ◌+◌, length, slice_index_or, slice_set, vec_len, OnOk, OnErr};
+ghost use Rattle.std.specs.List.{remove};
 ghost use Rattle.sd_tree.specs.Plans.{CanCarryOut, IsCarriedOut, IsRewritten, run_moved};
-ghost use Rattle.sd_tree.specs.Stored.{Boxed};
+ghost use Rattle.sd_tree.specs.declared.node.Node.{Node};
 
 use crate::node::{Node, Row};
+use crate::nodes::node_in;
 use crate::shared::Shared;
 use crate::whole::WholeDacl;
-use std::mem::swap;
+use sd_blocks::Blocks;
+use std::alloc::{AllocError, Global};
 
 /// What an accepted edit does to the nodes.
 #[derive(Debug, Drop)]
@@ -15,7 +18,7 @@ pub(crate) enum Plan {
     /// The node goes to the place.
     Insert {
         at: usize,
-        node: Box<Node>,
+        node: Node,
     },
     /// The node at the place gets the row, and with those right behind it its whole DACL anew.
     Rewrite {
@@ -32,81 +35,155 @@ pub(crate) enum Plan {
     Move {
         from: usize,
         to: usize,
-        run: Vec<Box<Node>>,
+        run: Vec<Node>,
     },
 }
 
-/// The plan, carried out.
-pub(crate) fn carry_out(nodes: &mut Vec<Box<Node>>, plan: Plan)
-    requires { CanCarryOut (vec_len nodes.old) (vec_capacity nodes.old) plan }
-    ensures nodes { IsCarriedOut plan nodes.old.items nodes.new.items }
-    ensures room { vec_capacity nodes.new ≡ vec_capacity nodes.old }
+/// The plan, carried out. It fails only when memory is out, and then the nodes are as they were.
+pub(crate) fn carry_out(
+    alloc: Global,
+    nodes: &mut Blocks<Node>,
+    plan: Plan,
+) -> Result<(), AllocError>
+    requires { CanCarryOut (length nodes.old) plan }
+    ensures done { OnOk result (IsCarriedOut plan nodes.old nodes.new) }
+    ensures refused { OnErr result (nodes.new ≡ nodes.old) }
 {
     match plan {
-        Plan::Insert { at, node } => match nodes.insert(at, node) {
-            Ok(()) => {}
-            Err(_) => unreachable!(),
-        },
-        Plan::Rewrite { at, row, wholes } => rewrite(nodes, at, row, wholes),
-        Plan::Remove { at } => {
-            let _gone = nodes.remove(at);
-        }
-        Plan::Move { from, to, mut run } => move_run(nodes, from, to, &mut run),
+        Plan::Insert { at, node } => nodes.insert(alloc, at, node),
+        Plan::Rewrite { at, row, wholes } => rewrite(alloc, nodes, at, row, wholes),
+        Plan::Remove { at } => remove(alloc, nodes, at),
+        Plan::Move { from, to, run } => move_run(alloc, nodes, from, to, run),
     }
 }
 
 /// The node at the place gets the row, and with those right behind it its whole DACL anew.
-fn rewrite(nodes: &mut Vec<Box<Node>>, at: usize, row: Shared<Row>, mut wholes: Vec<WholeDacl>)
-    requires place { at < vec_len nodes.old }
-    requires fits { at + vec_len wholes ≤ vec_len nodes.old }
-    ensures nodes { IsRewritten at row wholes.items nodes.old.items nodes.new.items }
-    ensures room { vec_capacity nodes.new ≡ vec_capacity nodes.old }
+fn rewrite(
+    alloc: Global,
+    nodes: &mut Blocks<Node>,
+    at: usize,
+    row: Shared<Row>,
+    wholes: Vec<WholeDacl>,
+) -> Result<(), AllocError>
+    requires place { at < length nodes.old }
+    requires fits { at + vec_len wholes ≤ length nodes.old }
+    ensures done { OnOk result (IsRewritten at row wholes.items nodes.old nodes.new) }
+    ensures refused { OnErr result (nodes.new ≡ nodes.old) }
 {
-    let first = &mut nodes[at];
-    first.row = row;
-    // (the old ones are let go behind the loop: a count that goes down holds up what comes next)
-    let mut left = wholes.len();
-    while left > 0 {
-        left -= 1;
-        let node = &mut nodes[at + left];
-        swap(&mut node.whole, &mut wholes[left]);
+    if wholes.len() == 1 {
+        return rewrite_one(alloc, nodes, at, row, wholes);
+    }
+    let mut changed = nodes.copy(alloc)?;
+    rewrite_each(alloc, &mut changed, at, row, wholes)?;
+    *nodes = changed;
+    Ok(())
+}
+
+/// The same of one node alone, in place.
+fn rewrite_one(
+    alloc: Global,
+    nodes: &mut Blocks<Node>,
+    at: usize,
+    row: Shared<Row>,
+    mut wholes: Vec<WholeDacl>,
+) -> Result<(), AllocError>
+    requires place { at < length nodes.old }
+    requires one { vec_len wholes ≡ 1 }
+    ensures done { OnOk result (IsRewritten at row wholes.items nodes.old nodes.new) }
+    ensures refused { OnErr result (nodes.new ≡ nodes.old) }
+{
+    match wholes.pop() {
+        Some(whole) => {
+            let path = node_in(nodes, at).path.share()?;
+            nodes.set(alloc, at, Node { path, row, whole })
+        }
+        None => unreachable!(),
     }
 }
 
-/// The run takes the place of the nodes from the one place on, and goes to the other, which is counted among those beside.
-fn move_run(nodes: &mut [Box<Node>], from: usize, to: usize, run: &mut [Box<Node>])
-    requires fits { from + length run.old ≤ length nodes.old }
-    requires place { to + length run.old ≤ length nodes.old }
-    ensures { nodes.new ≡ run_moved from to run.old nodes.old }
+/// The same, one node after the other. After an error some are rewritten.
+fn rewrite_each(
+    alloc: Global,
+    nodes: &mut Blocks<Node>,
+    at: usize,
+    row: Shared<Row>,
+    mut wholes: Vec<WholeDacl>,
+) -> Result<(), AllocError>
+    requires place { at < length nodes.old }
+    requires fits { at + vec_len wholes ≤ length nodes.old }
+    ensures { OnOk result (IsRewritten at row wholes.items nodes.old nodes.new) }
 {
-    let count = run.len();
-    write_run(nodes, from, run);
-    if to <= from {
-        turn(nodes, to, from - to, count);
-    } else {
-        turn(nodes, from, count, to - from);
+    // That the places fit a usize.
+    let _count = nodes.len();
+    set_row(alloc, nodes, at, row)?;
+    while let Some(whole) = wholes.pop() {
+        let place = at + wholes.len();
+        set_whole(alloc, nodes, place, whole)?;
     }
+    Ok(())
 }
 
-/// The run takes the place of the nodes from a place on.
-fn write_run(nodes: &mut [Box<Node>], at: usize, run: &mut [Box<Node>])
-    requires { at + length run.old ≤ length nodes.old }
-    ensures { nodes.new ≡ take at nodes.old ++ (run.old ++ drop (at + length run.old) nodes.old) }
+/// The node at a place gets the row.
+fn set_row(
+    alloc: Global,
+    nodes: &mut Blocks<Node>,
+    at: usize,
+    row: Shared<Row>,
+) -> Result<(), AllocError>
+    requires { at < length nodes.old }
+    ensures { OnOk result
+        ((n : Node) → nodes.new ≡ slice_set nodes.old at (record (slice_index_or nodes.old at n) { row = row })) }
 {
-    let (_, behind) = nodes.split_at_mut(at);
-    let (place, _) = behind.split_at_mut(run.len());
-    place.swap_with_slice(run);
+    let node = node_in(nodes, at);
+    let path = node.path.share()?;
+    let whole = node.whole.share()?;
+    nodes.set(alloc, at, Node { path, row, whole })
 }
 
-/// The nodes from a place on, so many, go behind the next ones.
-fn turn(nodes: &mut [Box<Node>], at: usize, count: usize, next: usize)
-    requires { at + (count + next) ≤ length nodes.old }
-    ensures { (before first second behind : List Boxed)
-        → nodes.old ≡ before ++ (first ++ (second ++ behind))
-        → length before ≡ at → length first ≡ count → length second ≡ next
-        → nodes.new ≡ before ++ (second ++ (first ++ behind)) }
+/// The node at a place gets the whole DACL.
+fn set_whole(
+    alloc: Global,
+    nodes: &mut Blocks<Node>,
+    at: usize,
+    whole: WholeDacl,
+) -> Result<(), AllocError>
+    requires { at < length nodes.old }
+    ensures { OnOk result
+        ((n : Node) → nodes.new ≡ slice_set nodes.old at (record (slice_index_or nodes.old at n) { whole = whole })) }
 {
-    let (_, behind) = nodes.split_at_mut(at);
-    let (part, _) = behind.split_at_mut(count + next);
-    part.rotate_left(count);
+    let node = node_in(nodes, at);
+    let path = node.path.share()?;
+    let row = node.row.share()?;
+    nodes.set(alloc, at, Node { path, row, whole })
+}
+
+/// The node at the place goes.
+fn remove(alloc: Global, nodes: &mut Blocks<Node>, at: usize) -> Result<(), AllocError>
+    requires { at < length nodes.old }
+    ensures done { OnOk result (nodes.new ≡ remove nodes.old at) }
+    ensures refused { OnErr result (nodes.new ≡ nodes.old) }
+{
+    let _gone = nodes.remove(alloc, at)?;
+    Ok(())
+}
+
+/// The run takes the place of the nodes from the one place on, and goes to the other, which is counted among those
+/// beside.
+fn move_run(
+    alloc: Global,
+    nodes: &mut Blocks<Node>,
+    from: usize,
+    to: usize,
+    run: Vec<Node>,
+) -> Result<(), AllocError>
+    requires fits { from + vec_len run ≤ length nodes.old }
+    requires place { to + vec_len run ≤ length nodes.old }
+    ensures done { OnOk result (nodes.new ≡ run_moved from to run.items nodes.old) }
+    ensures refused { OnErr result (nodes.new ≡ nodes.old) }
+{
+    let mut changed = nodes.copy(alloc)?;
+    let _gone = changed.remove_run(alloc, from, run.len())?;
+    changed.insert_run(alloc, to, run)?;
+    *nodes = changed;
+    Ok(())
 }

@@ -6,8 +6,8 @@ ghost use Rattle.sd_tree.specs.Refusals.{number_of, name_of};
 use std::alloc::{AllocError, AllocFailed};
 use thiserror::Error;
 
-/// Why an edit is refused. The first that fits is answered: by their numbers, and of a move by the order that docs/TREE.md
-/// tells.
+/// Why an edit is refused. The first that fits is answered: by their numbers, and of a move by the order that
+/// docs/TREE.md tells.
 #[derive(Clone, Copy, Debug, PartialEq, Eq, Error)]
 pub enum EditRefusal {
     /// The path isn't the root, and nothing stands where its parent would.

@@ -2,6 +2,7 @@
 
 ghost use Rattle.std.specs.Prelude.{◌≡◌, IfOk, MatchResult};
 
+use sd_blocks::TryCopy;
 use std::alloc::{AllocError, Global};
 use std::marker::Model;
 use std::sync::Arc;
@@ -18,6 +19,12 @@ impl<T> Model for Shared<T> {
     ghost Value = { T };
 
     ghost view = { λ s. arc_value s.value };
+}
+
+impl<T: Drop> TryCopy for Shared<T> {
+    fn try_copy(&self) -> Result<Shared<T>, AllocError> {
+        self.share()
+    }
 }
 
 impl<T: Drop> Shared<T> {

@@ -6,7 +6,7 @@ ghost use Rattle.sd_tree.specs.Sharing.{trustees_matter, IsSibling};
 ghost use Rattle.sd_tree.specs.View.{IsView};
 
 use crate::alike::{are_alike, inherits, trustees_matter};
-use crate::node::{Node, Row};
+use crate::node::Row;
 use crate::nodes::locate;
 use crate::tree_view::TreeView;
 use crate::whole::WholeDacl;
@@ -31,8 +31,8 @@ impl TreeView<'_> {
         requires trustees { by_trustees ≡ false → trustees_matter above.now ≡ false }
         ensures { result ≡ true → IsSibling self.now.nodes.now path.now row.now above.now at }
     {
-        let node: &Node = &self.nodes[at];
-        let beside = node.path.as_path_ref();
+        let node = self.node(at);
+        let beside = node.path();
         if beside.is_root() || !are_alike(node.row.get(), row, by_trustees) {
             return false;
         }
@@ -46,8 +46,7 @@ impl TreeView<'_> {
         ensures { IfSome result (λ before. before < length self.now.nodes.now) }
     {
         let before = at.checked_sub(1)?;
-        let node: &Node = &self.nodes[before];
-        let mut beside = node.path.as_path_ref();
+        let mut beside = self.node(before).path();
         if beside.depth() < path.depth() {
             return None;
         }
@@ -109,7 +108,8 @@ impl TreeView<'_> {
         self.sibling_among(path, row, above, false, at)
     }
 
-    /// The same, where the node at the place may be the sibling: what stands at the path, or what comes right behind it.
+    /// The same, where the node at the place may be the sibling: what stands at the path, or what comes right behind
+    /// it.
     pub(crate) fn sibling_around(
         &self,
         path: &PathRef<'_>,

@@ -1,21 +1,22 @@
 //! A tree that is the replay of its journal.
 
-ghost use Rattle.std.specs.Prelude.{◌≡◌, ◌≤◌, [], ◌∷◌, ◌++◌, length, None, false, OnOk, IfOk, IfErr, IsSome, MatchResult, option_map};
+ghost use Rattle.std.specs.Prelude.{◌≡◌, ◌≤◌, [], ◌∷◌, ◌++◌, length, None, false, OnOk, OnErr, IfOk, IfErr, IsSome};
+ghost use Rattle.std.specs.Prelude.{MatchResult, option_map};
 ghost use Rattle.sd_acl.specs.Descriptor.{descriptor_of};
 ghost use Rattle.sd_tree.specs.Answers.{answer, kind_at, descriptor_at, IsError};
+ghost use Rattle.sd_tree.specs.History.{history_of, IsBefore};
 ghost use Rattle.sd_tree.specs.Journal.{opening_of, root_row, replay, refusal, root_refusal, IsLawful};
 ghost use Rattle.sd_tree.specs.Plain.{row_at};
 ghost use Rattle.sd_tree.specs.Plans.{IsPlanned};
-ghost use Rattle.sd_tree.specs.Prepared.{HasRoom, IsPrepared};
 ghost use Rattle.sd_tree.specs.Refusals.{is_early, dacl_size};
 ghost use Rattle.sd_tree.specs.Inheritance.{dacl_of_row};
 ghost use Rattle.sd_tree.specs.Sizes.{IsSizeError};
 ghost use Rattle.sd_tree.specs.View.{IsView, tree_in};
 
-use crate::copying::{copy_nodes, share_edits};
 use crate::describe::descriptor_of_node;
 use crate::edit::Edit;
 use crate::inherit::dacl_of_root;
+use crate::journal::{Edits, Journal};
 use crate::list_tests::list_refusal;
 use crate::node::{Node, NodeKind, Row};
 use crate::nodes::node_at;
@@ -25,12 +26,12 @@ use crate::refusal::{EditRefusal, TreeError};
 use crate::shared::Shared;
 use crate::tree_view::TreeView;
 use sd_acl::Descriptor;
+use sd_blocks::Blocks;
 use sd_check::{DaclRef, Token, Verdict, check_joined, check_parts};
 use sd_path::Path;
 use sd_sid::{GenericMapping, Mask};
 use std::alloc::{AllocError, Global};
 use std::marker::Model;
-use std::snapshot::Snapshot;
 
 /// What a check of a path answers.
 #[derive(Clone, Copy, Debug, PartialEq, Eq)]
@@ -42,54 +43,24 @@ pub enum CheckReply {
 }
 
 /// A tree of securable nodes: its opening, the journal of the edits that it accepted, and what they make of it.
-/// Contracts see the opening, the journal, and for how many edits and nodes there is room.
+/// Contracts see the opening and the journal.
 #[derive(Drop)]
 pub struct Tree {
     pub(crate) alloc: Global,
     pub(crate) opening: Opening,
-    pub(crate) journal: Vec<Shared<Edit>>,
-    pub(crate) nodes: Vec<Box<Node>>,
+    journal: Edits,
+    pub(crate) nodes: Blocks<Node>,
 }
 
 impl Model for Tree {
-    ghost use Rattle.std.specs.Prelude.{vec_capacity};
     ghost use Rattle.sd_tree.specs.Journal.{TreeValue};
-    ghost use Rattle.sd_tree.specs.Stored.{IsStored};
+    ghost use Rattle.sd_tree.specs.Stored.{IsStored, edits_in};
 
     ghost Value = { TreeValue };
 
-    ghost view = { λ t. record { opening = t.opening; journal = t.journal.items; edit_room = vec_capacity t.journal; node_room = vec_capacity t.nodes } };
+    ghost view = { λ t. record { opening = t.opening; journal = edits_in t.journal } };
 
-    ghost invariant = { λ t. IsStored t.opening t.journal.items t.nodes.items };
-}
-
-/// An edit that was prepared: all that is new is built, and `commit` takes no memory. Contracts see of which tree it
-/// was prepared, and which edit it is.
-#[derive(Drop)]
-pub struct Prepared {
-    edit: Shared<Edit>,
-    plan: Plan,
-    tree: Snapshot<Tree>,
-}
-
-impl Model for Prepared {
-    ghost use Rattle.sd_tree.specs.Plans.{IsPlanned};
-    ghost use Rattle.sd_tree.specs.Prepared.{Planned};
-
-    ghost Value = { Planned };
-
-    ghost view = { λ p. record { opening = p.tree.value.opening; journal = p.tree.value.journal; edit = p.edit } };
-
-    ghost invariant = { λ p. IsPlanned p.tree.value.opening p.tree.value.journal p.edit p.plan };
-}
-
-impl Prepared {
-    /// The edit, for what else keeps it.
-    pub fn edit(&self) -> &Shared<Edit>
-        ensures { result.now ≡ self.now.edit }
-    {
-        &self.edit
-    }
+    ghost invariant = { λ t. IsStored t.opening (edits_in t.journal) t.nodes };
 }
 
 impl Tree {
@@ -113,54 +84,18 @@ impl Tree {
             mapping: *mapping,
             root: root.copy(alloc)?,
         };
-        let mut nodes = Vec::new(alloc);
-        nodes.push(node)?;
+        let mut nodes = Blocks::new(alloc);
+        nodes.insert(alloc, 0, node)?;
         Ok(Tree {
             alloc,
             opening,
-            journal: Vec::new(alloc),
+            journal: Edits::new(alloc),
             nodes,
         })
     }
 
-    /// Works out an edit: all new DACLs are built and all room is made, and nothing that a caller sees changes. The
-    /// first refusal that fits is answered; want of memory only where none is due that is found without it.
-    pub fn prepare(&mut self, edit: &Edit) -> Result<Prepared, TreeError>
-        ensures same { (self.new.opening ≡ self.old.opening) × (self.new.journal ≡ self.old.journal) }
-        ensures room { (self.old.edit_room ≤ self.new.edit_room) × (self.old.node_room ≤ self.new.node_room) }
-        ensures prepared { IfOk result (λ p. IsPrepared self.new p × (p.edit ≡ edit.now)) }
-        ensures accepted { IfOk result (λ _. refusal self.old.opening self.old.journal edit.now ≡ None) }
-        ensures refused { IfErr result (λ e. IsError e (refusal self.old.opening self.old.journal edit.now)) }
-    {
-        let plan = self.plan_or_refusal(edit)?;
-        let edit = Shared::new(self.alloc, edit.copy(self.alloc)?)?;
-        self.make_room()?;
-        Ok(Prepared {
-            edit,
-            plan,
-            tree: Snapshot::of(self),
-        })
-    }
-
-    /// The prepared edit joins the journal, on the condition that the tree, whichever it is, has the opening and the journal
-    /// that it was prepared for, and room for one more edit and one more node. Takes no memory.
-    pub fn commit(&mut self, prepared: Prepared)
-        requires { IsPrepared self.old prepared }
-        ensures opening { self.new.opening ≡ self.old.opening }
-        ensures journal { self.new.journal ≡ self.old.journal ++ prepared.edit ∷ [] }
-        ensures room { (self.new.edit_room ≡ self.old.edit_room) × (self.new.node_room ≡ self.old.node_room) }
-    {
-        let Prepared {
-            edit,
-            plan,
-            tree: _,
-        } = prepared;
-        carry_out(&mut self.nodes, plan);
-        self.journal.push_reserved(edit);
-    }
-
-    /// Prepares and commits an edit: it joins the journal, or the first refusal that fits is answered and the tree
-    /// stays; want of memory only where none is due that is found without it.
+    /// An edit joins the journal, or the first refusal that fits is answered and the tree stays; want of memory only
+    /// where none is due that is found without it.
     pub fn apply(&mut self, edit: &Edit) -> Result<(), TreeError>
         ensures opening { self.new.opening ≡ self.old.opening }
         ensures journal { MatchResult result (λ _. self.new.journal ≡ self.old.journal ++ edit.now ∷ [])
@@ -168,8 +103,9 @@ impl Tree {
         ensures accepted { OnOk result (refusal self.old.opening self.old.journal edit.now ≡ None) }
         ensures refused { IfErr result (λ e. IsError e (refusal self.old.opening self.old.journal edit.now)) }
     {
-        let prepared = self.prepare(edit)?;
-        self.commit(prepared);
+        let plan = self.plan_or_refusal(edit)?;
+        let edit = Shared::new(self.alloc, edit.copy(self.alloc)?)?;
+        self.accept(edit, plan)?;
         Ok(())
     }
 
@@ -183,23 +119,17 @@ impl Tree {
     {
         let plan = self.plan_or_refusal(edit.get())?;
         let edit = edit.share()?;
-        self.make_room()?;
-        let again = Prepared {
-            edit,
-            plan,
-            tree: Snapshot::of(self),
-        };
-        self.commit(again);
+        self.accept(edit, plan)?;
         Ok(())
     }
 
     /// The edits that were accepted, in their order.
-    pub fn journal(&self) -> &[Shared<Edit>]
-        ensures journal { result.now ≡ self.now.journal }
+    pub fn journal(&self) -> Journal<'_>
+        ensures journal { result ≡ self.now.journal }
         ensures accepted { root_refusal self.now.opening ≡ None }
         ensures lawful { IsLawful self.now.opening self.now.journal }
     {
-        &self.journal
+        Journal::new(&self.journal)
     }
 
     /// How many edits were accepted.
@@ -268,8 +198,8 @@ impl Tree {
         ensures journal { IfOk result (λ t. t.journal ≡ self.now.journal) }
     {
         let opening = self.opening.copy(self.alloc)?;
-        let journal = share_edits(self.alloc, &self.journal)?;
-        let nodes = copy_nodes(self.alloc, &self.nodes)?;
+        let journal = self.journal.copy(self.alloc)?;
+        let nodes = self.nodes.copy(self.alloc)?;
         Ok(Tree {
             alloc: self.alloc,
             opening,
@@ -278,14 +208,29 @@ impl Tree {
         })
     }
 
-    /// Makes room for one more edit and one more node, as `commit` wants it.
-    fn make_room(&mut self) -> Result<(), AllocError>
-        ensures same { (self.new.opening ≡ self.old.opening) × (self.new.journal ≡ self.old.journal) }
-        ensures room { (self.old.edit_room ≤ self.new.edit_room) × (self.old.node_room ≤ self.new.node_room) }
-        ensures made { OnOk result (HasRoom self.new) }
+    /// This tree, which is what another one was earlier, gets the edits that it lacks: it becomes a copy of that one.
+    /// After an `AllocError` it is as it was.
+    pub fn catch_up(&mut self, ahead: &Tree) -> Result<(), AllocError>
+        requires before { IsBefore self.old ahead.now }
+        ensures before { IsBefore self.new ahead.now }
+        ensures caught_up { OnOk result (history_of self.new ≡ history_of ahead.now) }
+        ensures refused { OnErr result (history_of self.new ≡ history_of self.old) }
     {
-        self.journal.reserve(1)?;
-        self.nodes.reserve(1)?;
+        *self = ahead.copy()?;
+        Ok(())
+    }
+
+    /// The edit joins the journal, and its plan is carried out. Room in the journal is made first: after an error the
+    /// tree is as it was.
+    fn accept(&mut self, edit: Shared<Edit>, plan: Plan) -> Result<(), AllocError>
+        requires { IsPlanned self.old.opening self.old.journal edit plan }
+        ensures opening { self.new.opening ≡ self.old.opening }
+        ensures journal { MatchResult result (λ _. self.new.journal ≡ self.old.journal ++ edit ∷ [])
+            (λ _. self.new.journal ≡ self.old.journal) }
+    {
+        self.journal.make_room(self.alloc)?;
+        carry_out(self.alloc, &mut self.nodes, plan)?;
+        self.journal.last.push_reserved(edit);
         Ok(())
     }
 
@@ -312,13 +257,9 @@ impl Tree {
 }
 
 /// The node of the root.
-fn root_node(
-    alloc: Global,
-    mapping: &GenericMapping,
-    root: &RootSpec,
-) -> Result<Box<Node>, TreeError>
-    ensures node { IfOk result (λ b. (b.value.path ≡ []) × (b.value.row ≡ root_row root.now) ×
-        (b.value.whole ≡ dacl_of_row mapping.now (root_row root.now) None) × (dacl_size b.value.whole ≤ 65535)) }
+fn root_node(alloc: Global, mapping: &GenericMapping, root: &RootSpec) -> Result<Node, TreeError>
+    ensures node { IfOk result (λ n. (n.path ≡ []) × (n.row ≡ root_row root.now) ×
+        (n.whole ≡ dacl_of_row mapping.now (root_row root.now) None) × (dacl_size n.whole ≤ 65535)) }
     ensures refused { IfErr result (λ e. IsSizeError e (dacl_of_row mapping.now (root_row root.now) None)) }
 {
     let row = Row {
@@ -329,6 +270,6 @@ fn root_node(
     };
     let row = Shared::new(alloc, row)?;
     let whole = dacl_of_root(alloc, &row)?;
-    let path = Path::root(alloc);
-    Ok(Box::new(alloc, Node { path, row, whole })?)
+    let path = Shared::new(alloc, Path::root(alloc))?;
+    Ok(Node { path, row, whole })
 }

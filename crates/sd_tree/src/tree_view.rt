@@ -1,6 +1,7 @@
 //! The nodes of a tree as they stand, for working out an edit.
 
-ghost use Rattle.std.specs.Prelude.{◌≡◌, ◌≤◌, ◌<◌, length, true, false, None, IfOk, IfErr, OnOk, IsSome};
+ghost use Rattle.std.specs.Prelude.{◌≡◌, ◌≤◌, ◌<◌, length, slice_index_or, true, false, None, IfOk, IfErr, OnOk};
+ghost use Rattle.std.specs.Prelude.{IsSome};
 ghost use Rattle.std.specs.List.{HoldsAt, AllWithin};
 ghost use Rattle.std.specs.FinMap.{insert};
 ghost use Rattle.sd_path.specs.Names.{is_root, is_within, up};
@@ -11,16 +12,17 @@ ghost use Rattle.sd_tree.specs.Sharing.{AreMadeFor};
 ghost use Rattle.sd_tree.specs.Sizes.{IsSizeError};
 ghost use Rattle.sd_tree.specs.Stored.{path_of_node};
 ghost use Rattle.sd_tree.specs.View.{IsView, tree_in};
+ghost use Rattle.sd_tree.specs.declared.node.Node.{Node};
 ghost use Rattle.sd_tree.specs.Plans.{IsInsertion, IsRewriting, IsLargeError, IsRunBelow};
 
 use crate::inherit::{dacl_of_root, dacl_of_row};
 use crate::node::{Node, Row};
-use crate::nodes::locate;
-use crate::plan::Plan;
+use crate::nodes::{locate, node_in};
 use crate::refusal::TreeError;
 use crate::shared::Shared;
 use crate::whole::WholeDacl;
-use sd_path::{Path, PathRef};
+use sd_blocks::Blocks;
+use sd_path::PathRef;
 use sd_sid::GenericMapping;
 use std::alloc::Global;
 use std::cmp::Ordering;
@@ -30,10 +32,18 @@ use std::cmp::Ordering;
 pub(crate) struct TreeView<'a> {
     pub alloc: Global,
     pub mapping: &'a GenericMapping,
-    pub nodes: &'a [Box<Node>],
+    pub nodes: &'a Blocks<Node>,
 }
 
-impl TreeView<'_> {
+impl<'a> TreeView<'a> {
+    /// The node at a place.
+    pub(crate) fn node(&self, at: usize) -> &'a Node
+        requires { at < length self.now.nodes.now }
+        ensures { (n : Node) → result.now ≡ slice_index_or self.now.nodes.now at n }
+    {
+        node_in(self.nodes, at)
+    }
+
     /// The place of a node that is there.
     pub(crate) fn place_of(&self, path: &PathRef<'_>) -> usize
         requires standing { IsView self.now }
@@ -55,8 +65,7 @@ impl TreeView<'_> {
         if at >= self.nodes.len() {
             return false;
         }
-        let node: &Node = &self.nodes[at];
-        node.path.as_path_ref().compare(path) == Ordering::Equal
+        self.node(at).path().compare(path) == Ordering::Equal
     }
 
     /// The place of a node that is there, looked for at two places first.
@@ -94,12 +103,12 @@ impl TreeView<'_> {
         if path.is_root() {
             return dacl_of_root(self.alloc, row);
         }
-        let parent: &Node = &self.nodes[self.place_of(&path.parent())];
+        let parent = self.node(self.place_of(&path.parent()));
         self.whole_beside(path, at, row, &parent.whole)
     }
 
-    /// The whole DACL below a parent with that one. What is inherited is the node's at the place or a near sibling's, where
-    /// it is the same.
+    /// The whole DACL below a parent with that one. What is inherited is the node's at the place or a near sibling's,
+    /// where it is the same.
     fn whole_beside(
         &self,
         path: &PathRef<'_>,
@@ -115,7 +124,7 @@ impl TreeView<'_> {
         ensures refused { IfErr result (λ e. IsSizeError e (dacl_of_row self.now.mapping.now row.now above.now)) }
     {
         if let Some(k) = self.sibling_around(path, row.get(), above, at) {
-            let sibling: &Node = &self.nodes[k];
+            let sibling = self.node(k);
             if let Some(inherited) = sibling.whole.behind(sibling.row.get()) {
                 return WholeDacl::new(row, inherited.share()?);
             }
@@ -136,13 +145,13 @@ impl TreeView<'_> {
         if path.is_root() {
             return self.nodes.len();
         }
-        for k in at + 1..self.nodes.len() {
-            let node: &Node = &self.nodes[k];
-            if !node.path.as_path_ref().is_within(path) {
+        let end = self.nodes.len();
+        for k in at + 1..end {
+            if !self.node(k).path().is_within(path) {
                 return k;
             }
         }
-        self.nodes.len()
+        end
     }
 
     /// The whole DACLs of the node at a place and of those below it, in their order, once the node has this row.
@@ -167,8 +176,8 @@ impl TreeView<'_> {
         wholes.push(first)?;
         let mut last_parent = at;
         for k in at + 1..end {
-            let node: &Node = &self.nodes[k];
-            let below = node.path.as_path_ref();
+            let node = self.node(k);
+            let below = node.path();
             // Mostly the parent of the node before, or that node.
             let parent = self.place_near(&below.parent(), last_parent, k - 1);
             last_parent = parent;
@@ -184,8 +193,8 @@ impl TreeView<'_> {
         Ok(wholes)
     }
 
-    /// The whole DACL of a node at the second place, of a run that begins at the first, below a parent with that one. What
-    /// is inherited is that of a near sibling whose list is made already, where it is the same.
+    /// The whole DACL of a node at the second place, of a run that begins at the first, below a parent with that one.
+    /// What is inherited is that of a near sibling whose list is made already, where it is the same.
     fn whole_in_run(
         &self,
         path: &PathRef<'_>,
@@ -196,7 +205,8 @@ impl TreeView<'_> {
     ) -> Result<WholeDacl, TreeError>
         requires standing { IsView self.now }
         requires place { places.1 ≤ length self.now.nodes.now }
-        requires made { AreMadeFor self.now.mapping.now self.now.nodes.now path.now row.now above.now places.0 made.now }
+        requires made { AreMadeFor self.now.mapping.now self.now.nodes.now path.now row.now above.now places.0
+            made.now }
         ensures dacl { IfOk result (λ dacl. dacl ≡ dacl_of_row self.now.mapping.now row.now above.now) }
         ensures fits { OnOk result (dacl_size (dacl_of_row self.now.mapping.now row.now above.now) ≤ 65535) }
         ensures refused { IfErr result (λ e. IsSizeError e (dacl_of_row self.now.mapping.now row.now above.now)) }
@@ -204,7 +214,7 @@ impl TreeView<'_> {
         let (at, k) = places;
         if let Some(beside) = self.sibling_with(path, row.get(), above, k) {
             if at < beside && beside - at < made.len() {
-                let sibling: &Node = &self.nodes[beside];
+                let sibling = self.node(beside);
                 if let Some(inherited) = made[beside - at].behind(sibling.row.get()) {
                     return WholeDacl::new(row, inherited.share()?);
                 }

@@ -7,4 +7,4 @@ use Rattle.sd_tree.proofs.tree.Tree.node_count.Goals as goal
 pub returns : goal.returns
 returns c =
     let v = c.view.result in
-    sym (nodes_count v.nodes.now v.mapping.now c.view.ensures.standing.kept) ∙ ap len c.view.ensures.tree
+    c.len.ensures ∙ sym (nodes_count v.nodes.now v.mapping.now c.view.ensures.standing.kept) ∙ ap len c.view.ensures.tree

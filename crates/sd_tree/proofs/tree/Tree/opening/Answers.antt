@@ -1,4 +1,5 @@
-use Rattle.std.proofs.Common.{◌≡◌, [], ◌∷◌, ◌++◌, sym, ap, ◌∙◌}
+use Rattle.std.proofs.Common.{◌≡◌, [], ◌∷◌, sym, ap, ◌∙◌}
+use Rattle.std.specs.List.{insert}
 use Rattle.std.proofs.lemmas.Result.{err_from_is_err_and}
 use Rattle.sd_tree.specs.Journal.{opening_of}
 use Rattle.sd_tree.proofs.Stands.{stored_first, root_error}
@@ -13,8 +14,8 @@ pub invariant_of-result : goal.invariant_of-result
 invariant_of-result c =
     let n = c.in_ok-node.ensures.node in
     let first = stored_first (opening_of c.args.mapping.now c.args.root.now) c.in_ok-node.node n.0 n.1 n.2 n.3 (sym c.in_default.ensures) in
-    let items : c.push.new.self.items ≡ c.in_ok-node.node ∷ [] = c.in_ok-push.ensures.items ∙ ap (λ xs. xs ++ c.in_ok-node.node ∷ []) c.new-nodes.ensures.items in
-    rw (c.in_ok-copy.ensures, c.new.ensures.items, items) first
+    let nodes : c.insert.new.self ≡ c.in_ok-node.node ∷ [] = c.in_ok-insert.ensures.done ∙ ap (λ ns. insert ns 0 c.in_ok-node.node) c.new-nodes.ensures in
+    rw (c.in_ok-copy.ensures, c.new.ensures, nodes) first
 
 pub returns-clause-accepted : goal.returns-clause-accepted
 returns-clause-accepted c =

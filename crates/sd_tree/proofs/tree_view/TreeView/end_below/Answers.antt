@@ -10,8 +10,8 @@ loop-k-init c = run_begins _ _ _ c.requires.stands
 
 pub returns-then-not-is_within-clause-beyond : goal.returns-then-not-is_within-clause-beyond
 returns-then-not-is_within-clause-beyond c =
-    let path-is = c.as_path_ref.ensures ∙ ap (λ (n : Node). n.path) c.deref-node.ensures in
-    run_ends _ c.requires.standing.kept.order _ _ _ c.requires.stands (omega arith) c.index-self-k.result
+    let path-is = c.path.ensures ∙ ap (λ (n : Node). n.path) (c.node.ensures c.node.result.now) in
+    run_ends _ c.requires.standing.kept.order _ _ _ c.requires.stands (omega arith) c.node.result.now
     (sym (c.if-not-is_within.ensures ∙ ap (is_within c.args.path.now) path-is))
 
 -- all stands below the root

@@ -25,7 +25,5 @@ pub returns-clause-plan : goal.returns-clause-plan
 returns-clause-plan c =
     let a = rw c.as_path_ref.ensures at c.in-Err.ensures.absent in
     let w = rw (c.as_path_ref-in-Err.ensures, c.in_ok-row-in-Err.ensures) at c.in_ok-whole-in-Err.ensures.whole in
-    let n = c.in_ok-node-in-Err.ensures.ok in
-    insertion _ c.args.self.now.nodes.now c.requires.standing c.args.path.now c.args.row c.requires.addable c.in-Err.at a.0 a.1 a.2 c.in_ok-node-in-Err.node
-    (ap (λ (m : Node). m.path) n ∙ c.in_ok-path-in-Err.ensures) (ap (λ (m : Node). m.row) n ∙ c.in_ok-row-in-Err.ensures)
-    (ap (λ (m : Node). m.whole) n ∙ w) (rw n c.in_ok-whole-in-Err.ensures.fits)
+    insertion _ c.args.self.now.nodes.now c.requires.standing c.args.path.now c.args.row c.requires.addable c.in-Err.at a.0 a.1 a.2 _
+    (c.in_ok-path-in-Err.ensures ∙ c.in_ok-copy-in-Err.ensures) c.in_ok-row-in-Err.ensures w c.in_ok-whole-in-Err.ensures.fits

@@ -1,10 +1,9 @@
 use Rattle.std.proofs.Common.{◌≡◌, ◌+◌, ◌≤◌, [], ◌∷◌, ◌++◌, length, false, true, subst, sym, ap, ◌∙◌, get_or, length-append, arith, rules}
-use Rattle.std.proofs.lemmas.List.{get_or_default}
 use Rattle.sd_path.specs.Names.{Names, up, is_root, is_within}
 use Rattle.sd_path.proofs.Paths.{up-push, within_rest}
 use Rattle.sd_path.proofs.PathBytes.{length-up}
 use Rattle.sd_tree.specs.Sharing.{InheritOne}
-use Rattle.sd_tree.specs.Stored.{Boxed, path_of_node}
+use Rattle.sd_tree.specs.Stored.{path_of_node}
 use Rattle.sd_tree.specs.declared.node.Node.{Node}
 use Rattle.sd_tree.specs.declared.node.Row.{Row}
 use Rattle.sd_tree.proofs.OneDacl.{alike_inherit_one}
@@ -30,15 +29,14 @@ same_parent p q below long inside =
 pub returns-then-depth : goal.returns-then-depth
 returns-then-depth c held =
     let bs = c.args.self.now.nodes.now in
-    let node_is : (b : Boxed) → c.deref-node.result.now ≡ (get_or bs c.args.at b).value =
-    λ b. c.deref-node.ensures ∙ ap (λ (n : Boxed). n.value) (get_or_default bs c.args.at c.index-self-at.result b c.requires.place) in
-    let path_is : (b : Boxed) → c.as_path_ref-beside.result ≡ path_of_node (get_or bs c.args.at b) =
-    λ b. c.as_path_ref-beside.ensures ∙ ap (λ (n : Node). n.path) (node_is b) in
+    let node_is : (b : Node) → c.node-node.result.now ≡ get_or bs c.args.at b = c.node-node.ensures in
+    let path_is : (b : Node) → c.path-beside.result ≡ path_of_node (get_or bs c.args.at b) =
+    λ b. c.path-beside.ensures ∙ ap (λ (n : Node). n.path) (node_is b) in
     record {
       place = c.requires.place;
       below_root = λ b. ap is_root (sym (path_is b)) ∙ sym c.if-is_root.ensures;
       parent = λ b. ap up (sym (path_is b)) ∙ same_parent _ c.args.path.now (sym c.if-is_root.ensures) (sym c.depth.ensures ∙ c.if-depth.true ∙ c.depth-2.ensures)
-          (ap (λ t. is_within t c.as_path_ref-beside.result) (sym c.parent.ensures) ∙ sym c.is_within.ensures ∙ held);
+          (ap (λ t. is_within t c.path-beside.result) (sym c.parent.ensures) ∙ sym c.is_within.ensures ∙ held);
       alike = λ b.
           let P : Row → Type 0 = λ row. InheritOne row c.args.row.now c.args.above.now in
           subst P (c.get.ensures ∙ ap (λ (n : Node). n.row) (node_is b)) (alike_inherit_one _ _ c.args.above.now c.args.by_trustees (c.are_alike.ensures (search rules)) c.requires.trustees);

@@ -1,5 +1,4 @@
 use Rattle.std.proofs.Common.{ap, sym, ◌∙◌, arith}
-use Rattle.std.proofs.lemmas.List.{get_or_default}
 use Rattle.sd_tree.specs.Stored.{path_of_node}
 use Rattle.sd_tree.specs.declared.node.Node.{Node}
 use Rattle.sd_tree.proofs.Rows.{compared_same}
@@ -10,5 +9,5 @@ returns c held = (
   omega arith,
   λ d.
       let same = compared_same _ _ c.compare.result c.compare.ensures (sym c.eq.ensures ∙ held) in
-      sym (c.as_path_ref.ensures ∙ ap (λ (n : Node). n.path) c.deref-node.ensures ∙ ap path_of_node (get_or_default c.args.self.now.nodes.now c.args.at c.index-self-at.result d (omega arith))) ∙ same,
+      sym (c.path.ensures ∙ ap (λ (n : Node). n.path) (c.node.ensures d)) ∙ same,
 )

@@ -25,23 +25,23 @@ returns-in_err-first-clause-refused c =
 pub place_near-parent-requires-clause-there : goal.place_near-parent-requires-clause-there
 place_near-parent-requires-clause-there c =
     let bs = c.args.self.now.nodes.now in
-    let b = c.index-self-k.result in
-    let parent_is : c.parent.result ≡ up (path_of_node (get_or bs c.loop-k.k b)) = c.parent.ensures ∙ ap up (c.as_path_ref-below.ensures ∙ ap (λ (n : Node). n.path) c.deref-node.ensures) in
-    rw parent_is (parent_there (tree_of bs) c.requires.standing.closed (path_of_node (get_or bs c.loop-k.k b)) (get_or bs c.loop-k.k b).value.row (row_here bs c.requires.standing.kept.order c.loop-k.k b (omega (arith, c.end_below-end.ensures.place.1))))
+    let b = c.node-node.result.now in
+    let parent_is : c.parent.result ≡ up (path_of_node (get_or bs c.loop-k.k b)) = c.parent.ensures ∙ ap up (c.path-below.ensures ∙ ap (λ (n : Node). n.path) (c.node-node.ensures c.node-node.result.now)) in
+    rw parent_is (parent_there (tree_of bs) c.requires.standing.closed (path_of_node (get_or bs c.loop-k.k b)) (get_or bs c.loop-k.k b).row (row_here bs c.requires.standing.kept.order c.loop-k.k b (omega (arith, c.end_below-end.ensures.place.1))))
 
 pub overflow_sub-parent : goal.overflow_sub-parent
 overflow_sub-parent c =
     let bs = c.args.self.now.nodes.now in
-    let b = c.index-self-k.result in
-    let parent_is : c.parent.result ≡ up (path_of_node (get_or bs c.loop-k.k b)) = c.parent.ensures ∙ ap up (c.as_path_ref-below.ensures ∙ ap (λ (n : Node). n.path) c.deref-node.ensures) in
+    let b = c.node-node.result.now in
+    let parent_is : c.parent.result ≡ up (path_of_node (get_or bs c.loop-k.k b)) = c.parent.ensures ∙ ap up (c.path-below.ensures ∙ ap (λ (n : Node). n.path) (c.node-node.ensures c.node-node.result.now)) in
     (parent_place bs c.requires.standing.kept.order c.args.path.now c.args.at c.requires.stands c.loop-k.k b (omega arith) (omega (arith, c.end_below-end.ensures.place.1))
     (c.end_below-end.ensures.below c.loop-k.k b (omega arith) (omega arith)) c.place_near-parent.result c.place_near-parent.ensures.within (λ d. c.place_near-parent.ensures.stands d ∙ parent_is)).0
 
 pub index-requires : goal.index-requires
 index-requires c =
     let bs = c.args.self.now.nodes.now in
-    let b = c.index-self-k.result in
-    let parent_is : c.parent.result ≡ up (path_of_node (get_or bs c.loop-k.k b)) = c.parent.ensures ∙ ap up (c.as_path_ref-below.ensures ∙ ap (λ (n : Node). n.path) c.deref-node.ensures) in
+    let b = c.node-node.result.now in
+    let parent_is : c.parent.result ≡ up (path_of_node (get_or bs c.loop-k.k b)) = c.parent.ensures ∙ ap up (c.path-below.ensures ∙ ap (λ (n : Node). n.path) (c.node-node.ensures c.node-node.result.now)) in
     let place = parent_place bs c.requires.standing.kept.order c.args.path.now c.args.at c.requires.stands c.loop-k.k b (omega arith) (omega (arith, c.end_below-end.ensures.place.1))
     (c.end_below-end.ensures.below c.loop-k.k b (omega arith) (omega arith)) c.place_near-parent.result c.place_near-parent.ensures.within (λ d. c.place_near-parent.ensures.stands d ∙ parent_is) in
     omega (arith, place.0, place.1, c.loop-k.invariant.count, c.loop-k.wholes.ok.0)
@@ -50,35 +50,35 @@ pub returns-in_err-whole-clause-refused : goal.returns-in_err-whole-clause-refus
 returns-in_err-whole-clause-refused c =
     let g = c.args.self.now.mapping.now in
     let bs = c.args.self.now.nodes.now in
-    let b = c.index-self-k.result in
+    let b = c.node-node.result.now in
     let k = c.loop-k.k in
     let q = c.args.path.now in
     let order = c.requires.standing.kept.order in
     let in' : k < length bs = omega (arith, c.end_below-end.ensures.place.1) in
     let inside = c.end_below-end.ensures.below k b (omega arith) (omega arith) in
-    let parent_is : c.parent.result ≡ up (path_of_node (get_or bs k b)) = c.parent.ensures ∙ ap up (c.as_path_ref-below.ensures ∙ ap (λ (n : Node). n.path) c.deref-node.ensures) in
+    let parent_is : c.parent.result ≡ up (path_of_node (get_or bs k b)) = c.parent.ensures ∙ ap up (c.path-below.ensures ∙ ap (λ (n : Node). n.path) (c.node-node.ensures c.node-node.result.now)) in
     let next = next_rebuilt g bs order q c.args.at c.requires.stands c.args.row.now k b (omega arith) in' inside c.loop-k.wholes.items c.loop-k.invariant
     c.place_near-parent.result c.place_near-parent.ensures.within (λ d. c.place_near-parent.ensures.stands d ∙ parent_is)
-    c.deref-node.result.now.row (ap (λ (n : Node). n.row) c.deref-node.ensures) c.index.result.now c.index.ensures in
+    c.node-node.result.now.row (ap (λ (n : Node). n.row) (c.node-node.ensures c.node-node.result.now)) c.index.result.now c.index.ensures in
     let other = run_other bs order q c.args.at c.requires.stands k b (omega arith) in' inside in
     let found = row_at-insert_other (tree_of bs) q (path_of_node (get_or bs k b)) c.args.row.now other ∙ row_here bs order k b in' in
     let p = err_from_is_err_and c.from_residual-in_err-whole.result c.from_residual-in_err-whole.ensures.1 in
-    rw (p.1, p.2) (large_error _ _ (path_of_node (get_or bs k b)) (get_or bs k b).value.row c.in_err-whole.field-0.0 found (size_error c.in_err-whole.field-0.0 _ _ next c.in_err-whole.ensures.refused))
+    rw (p.1, p.2) (large_error _ _ (path_of_node (get_or bs k b)) (get_or bs k b).row c.in_err-whole.field-0.0 found (size_error c.in_err-whole.field-0.0 _ _ next c.in_err-whole.ensures.refused))
 
 pub loop-k-preserved : goal.loop-k-preserved
 loop-k-preserved c =
     let g = c.args.self.now.mapping.now in
     let bs = c.args.self.now.nodes.now in
-    let b = c.index-self-k.result in
+    let b = c.node-node.result.now in
     let k = c.loop-k.k in
     let q = c.args.path.now in
     let order = c.requires.standing.kept.order in
     let in' : k < length bs = omega (arith, c.end_below-end.ensures.place.1) in
     let inside = c.end_below-end.ensures.below k b (omega arith) (omega arith) in
-    let parent_is : c.parent.result ≡ up (path_of_node (get_or bs k b)) = c.parent.ensures ∙ ap up (c.as_path_ref-below.ensures ∙ ap (λ (n : Node). n.path) c.deref-node.ensures) in
+    let parent_is : c.parent.result ≡ up (path_of_node (get_or bs k b)) = c.parent.ensures ∙ ap up (c.path-below.ensures ∙ ap (λ (n : Node). n.path) (c.node-node.ensures c.node-node.result.now)) in
     let next = next_rebuilt g bs order q c.args.at c.requires.stands c.args.row.now k b (omega arith) in' inside c.loop-k.wholes.items c.loop-k.invariant
     c.place_near-parent.result c.place_near-parent.ensures.within (λ d. c.place_near-parent.ensures.stands d ∙ parent_is)
-    c.deref-node.result.now.row (ap (λ (n : Node). n.row) c.deref-node.ensures) c.index.result.now c.index.ensures in
+    c.node-node.result.now.row (ap (λ (n : Node). n.row) (c.node-node.ensures c.node-node.result.now)) c.index.result.now c.index.ensures in
     rw c.in_ok-push-2.ensures.items (rebuilt_more g _ bs c.args.at k c.loop-k.wholes.items b _ c.loop-k.invariant in' (c.in_ok-whole.ensures.dacl ∙ next) (rw c.in_ok-whole.ensures.dacl c.in_ok-whole.ensures.fits))
 
 pub returns-clause-rebuilt : goal.returns-clause-rebuilt
@@ -91,16 +91,16 @@ pub whole_in_run-requires-clause-made : goal.whole_in_run-requires-clause-made
 whole_in_run-requires-clause-made c =
     let g = c.args.self.now.mapping.now in
     let bs = c.args.self.now.nodes.now in
-    let b = c.index-self-k.result in
+    let b = c.node-node.result.now in
     let k = c.loop-k.k in
     let q = c.args.path.now in
     let order = c.requires.standing.kept.order in
     let in' : k < length bs = omega (arith, c.end_below-end.ensures.place.1) in
     let inside = c.end_below-end.ensures.below k b (omega arith) (omega arith) in
-    let path_is : c.as_path_ref-below.result ≡ path_of_node (get_or bs k b) = c.as_path_ref-below.ensures ∙ ap (λ (n : Node). n.path) c.deref-node.ensures in
+    let path_is : c.path-below.result ≡ path_of_node (get_or bs k b) = c.path-below.ensures ∙ ap (λ (n : Node). n.path) (c.node-node.ensures c.node-node.result.now) in
     let parent_is = c.parent.ensures ∙ ap up path_is in
     let above = above_rebuilt g bs order q c.args.at c.requires.stands c.args.row.now k b (omega arith) in' inside c.loop-k.wholes.items c.loop-k.invariant
     c.place_near-parent.result c.place_near-parent.ensures.within (λ d. c.place_near-parent.ensures.stands d ∙ parent_is) c.index.result.now c.index.ensures in
     rw c.deref.ensures.value (siblings_made g bs order q c.args.at c.end_below-end.result c.requires.stands c.end_below-end.ensures.below c.args.row.now k (omega arith)
-    c.loop-k.wholes.items c.loop-k.invariant c.as_path_ref-below.result c.deref-node.result.now.row c.index.result.now
+    c.loop-k.wholes.items c.loop-k.invariant c.path-below.result c.node-node.result.now.row c.index.result.now
     (above ∙ ap (dacl_at g (insert (tree_of bs) q c.args.row.now)) (ap up (sym path_is))))

@@ -1,0 +1,33 @@
+use Rattle.std.proofs.Common.{◌≡◌, ◌<◌, ◌≤◌, length, take, max, slice_index_or, slice_set, subst, sym, ap, ◌∙◌, arith}
+use Rattle.std.proofs.lemmas.List.{length-take-le, get_or_read}
+use Rattle.std.proofs.lemmas.List.Elements.{All-get_or}
+use Rattle.sd_desk.specs.Machine.{Machine, Steps, floor_of, longer, with_floor}
+use Rattle.sd_desk.specs.Kept.{machine_of}
+use Rattle.sd_desk.specs.declared.request.Request.TheVariants.{Learn}
+use Rattle.sd_desk.specs.declared.request.Reply.TheVariants.{Learned}
+use Rattle.sd_desk.proofs.Keeping.{is_reader, floor_is, longer_is, floor_set}
+use Rattle.sd_desk.proofs.desk.Desk.learn.Goals as goal
+
+pub returns : goal.returns
+returns c =
+    let p = c.self.inside.published in
+    let d = c.self.inside.draft in
+    let ns = c.self.inside.floors.items in
+    let floor = c.max-floor.result in
+    let m = machine_of p d ns in
+    let P : Machine → Type 0 = λ m. Steps m (Learn c.args.reader c.args.length) (Learned floor) (machine_of p d (slice_set ns c.args.reader floor)) in
+    let there : c.args.reader < length ns = omega (arith, c.self.inside.floors.ok.0) in
+    let told : c.args.length ≤ length p.journal = omega (arith, c.len-2.ensures.length) in
+    let known = slice_index_or ns c.args.reader 0 in
+    let seen : known ≤ length p.journal = All-get_or (λ n. n ≤ length p.journal) ns c.args.reader 0 there c.self.invariant.floors_within in
+    let read : c.index.result.now ≡ known = get_or_read ns _ _ there c.index.ensures 0 in
+    let is : floor ≡ max known c.args.length = c.max-floor.ensures ∙ ap (λ n. max n c.args.length) read in
+    let within : floor ≤ length p.journal = omega (arith, is) in
+    let long : longer (floor_of m c.args.reader) (take c.args.length p.journal) ≡ take floor p.journal =
+    ap (λ xs. longer xs (take c.args.length p.journal)) (floor_is p d ns c.args.reader there) ∙ longer_is p.journal known c.args.length floor seen told is in
+    subst P c.self.view_is (
+      is_reader p d ns c.args.reader there,
+      told,
+      sym (ap length long ∙ length-take-le floor p.journal within),
+      floor_set p d ns c.args.reader floor ∙ ap (with_floor m c.args.reader) (sym long),
+    )

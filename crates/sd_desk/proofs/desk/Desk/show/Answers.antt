@@ -1,0 +1,17 @@
+use Rattle.std.proofs.Common.{◌<◌, length, slice_set, subst, arith}
+use Rattle.sd_desk.specs.Machine.{Machine, Steps}
+use Rattle.sd_desk.specs.Kept.{machine_of}
+use Rattle.sd_desk.specs.declared.request.Request.TheVariants.{Show}
+use Rattle.sd_desk.specs.declared.request.Reply.TheVariants.{Shown}
+use Rattle.sd_desk.proofs.Keeping.{is_reader, look_set}
+use Rattle.sd_desk.proofs.desk.Desk.show.Goals as goal
+
+pub returns : goal.returns
+returns c =
+    let p = c.self.inside.published in
+    let d = c.self.inside.draft in
+    let ns = c.self.inside.floors.items in
+    let seen = c.len-seen.result in
+    let P : Machine → Type 0 = λ m. Steps m (Show c.args.reader c.args.path.now) (Shown seen c.in-Ok.descriptor) (machine_of p d (slice_set ns c.args.reader seen)) in
+    let there : c.args.reader < length ns = omega (arith, c.self.inside.floors.ok.0) in
+    subst P c.self.view_is (is_reader p d ns c.args.reader there, c.len-seen.ensures.length, c.in-Ok.ensures.descriptor, look_set p d ns c.args.reader seen c.len-seen.ensures.length)

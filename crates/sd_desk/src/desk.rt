@@ -1,0 +1,217 @@
+//! The machine of one thread.
+
+ghost use Rattle.std.specs.Prelude.{◌≡◌, ◌≢◌, None, IfOk, IfErr, length};
+ghost use Rattle.sd_tree.specs.Journal.{opening_of, root_refusal, IsLawful};
+ghost use Rattle.sd_desk.specs.Machine.{Steps, Runs, started, accepted};
+ghost use Rattle.sd_desk.specs.Starts.{IsReaderCount, IsStartError};
+
+use crate::draft::catch_up;
+use crate::request::{Answer, Reply, Request};
+use crate::start::{MAX_READERS, StartError};
+use sd_check::Token;
+use sd_sid::{GenericMapping, Mask};
+use sd_tree::{Edit, Journal, Path, RootSpec, Tree, TreeError};
+use std::alloc::{AllocError, Global};
+use std::marker::Model;
+use std::mem;
+
+/// A store of one thread. Contracts see the machine: the opening, the edits that are seen, those that wait, and for
+/// each reader the journal that it has seen.
+#[derive(Drop)]
+pub struct Desk {
+    alloc: Global,
+    /// What readers see.
+    published: Tree,
+    /// What takes the edits. After a publish it lags behind, until the next edit.
+    draft: Tree,
+    /// For each reader, the length of the journal that it has seen.
+    floors: Vec<u64>,
+}
+
+impl Model for Desk {
+    ghost use Rattle.sd_desk.specs.Machine.{Machine};
+
+    ghost Value = { Machine };
+
+    ghost use Rattle.sd_desk.specs.Kept.{machine_of, IsKept};
+
+    ghost view = { λ d. machine_of d.published d.draft d.floors.items };
+
+    ghost invariant = { λ d. IsKept d.published d.draft d.floors.items };
+}
+
+impl Desk {
+    /// A desk with no edit yet, and 1 to 64 readers that have seen none: `Readers` for another number, and else the
+    /// root's first refusal.
+    pub fn start(
+        alloc: Global,
+        mapping: &GenericMapping,
+        root: &RootSpec,
+        readers: u64,
+    ) -> Result<Desk, StartError>
+        ensures started { IfOk result (λ desk. desk ≡ started (opening_of mapping.now root.now) readers) }
+        ensures accepted { IfOk result (λ _. IsReaderCount readers ×
+            (root_refusal (opening_of mapping.now root.now) ≡ None)) }
+        ensures refused { IfErr result (λ e. IsStartError e readers (root_refusal (opening_of mapping.now root.now))) }
+    {
+        if readers < 1 || MAX_READERS < readers {
+            return Err(StartError::Readers);
+        }
+        Ok(Desk {
+            alloc,
+            published: Tree::opening(alloc, mapping, root)?,
+            draft: Tree::opening(alloc, mapping, root)?,
+            floors: vec![in alloc; 0; readers as usize]?,
+        })
+    }
+
+    /// One request. `Memory` is replied only to an edit that isn't due a refusal which is found without memory, and to
+    /// a show, for a reader that is there, of a node that is there; nothing changed then.
+    pub fn step(&mut self, request: &Request) -> Reply
+        ensures step { Steps self.old request.now result self.new }
+        ensures publish { request.now ≡ Request.Publish → result ≢ Reply.Memory }
+    {
+        match request {
+            Request::Edit(edit) => self.edit(edit),
+            Request::Publish => self.publish(),
+            Request::Tell => self.tell(),
+            Request::Learn { reader, length } => self.learn(*reader, *length),
+            Request::Check {
+                reader,
+                path,
+                token,
+                asked,
+            } => self.check(*reader, path, token, *asked),
+            Request::Show { reader, path } => self.show(*reader, path),
+        }
+    }
+
+    /// The requests, one after the other, each with its reply. The room for all replies is made first: after an
+    /// `AllocError` nothing was done.
+    pub fn run(&mut self, requests: &[Request]) -> Result<Vec<Reply>, AllocError>
+        ensures done { IfOk result (λ replies. Runs self.old requests.now replies.items self.new) }
+        ensures refused { IfErr result (λ _. self.new ≡ self.old) }
+    {
+        let mut replies = Vec::with_capacity(self.alloc, requests.len())?;
+        for request in requests {
+            replies.push_reserved(self.step(request));
+        }
+        Ok(replies)
+    }
+
+    /// The tree that readers see.
+    pub fn published(&self) -> &Tree
+        ensures opening { result.now.opening ≡ self.now.opening }
+        ensures journal { result.now.journal ≡ self.now.published }
+    {
+        &self.published
+    }
+
+    /// The tree with all edits that were accepted: those that are seen, and behind them those that wait.
+    pub fn draft(&self) -> &Tree
+        ensures opening { result.now.opening ≡ self.now.opening }
+        ensures journal { result.now.journal ≡ accepted self.now }
+    {
+        if self.draft.len() > self.published.len() {
+            &self.draft
+        } else {
+            &self.published
+        }
+    }
+
+    /// How many readers there are.
+    pub fn readers(&self) -> u64
+        ensures { result ≡ length self.now.floors }
+    {
+        self.floors.len() as u64
+    }
+
+    /// The edits that are seen, in their order.
+    pub fn journal(&self) -> Journal<'_>
+        ensures journal { result ≡ self.now.published }
+        ensures lawful { IsLawful self.now.opening (accepted self.now) }
+    {
+        // One of the two trees has all edits that were accepted, and both are lawful.
+        let _ = self.draft.len();
+        self.published.journal()
+    }
+
+    /// The edit joins those that wait, unless it is refused.
+    fn edit(&mut self, edit: &Edit) -> Reply
+        ensures { Steps self.old (Request.Edit edit.now) result self.new }
+    {
+        match catch_up(&self.published, &mut self.draft) {
+            Ok(()) => match self.draft.apply(edit) {
+                Ok(()) => Reply::Edited,
+                Err(TreeError::Refused(refusal)) => Reply::Refused(refusal),
+                Err(TreeError::Memory) => Reply::Memory,
+            },
+            // Nothing waits while the draft lags behind, so the published tree judges as the draft would.
+            Err(_) => match self.published.judge(edit) {
+                Ok(Some(refusal)) => Reply::Refused(refusal),
+                Ok(None) | Err(_) => Reply::Memory,
+            },
+        }
+    }
+
+    /// The trees change places, where edits wait. Takes no memory.
+    fn publish(&mut self) -> Reply
+        ensures step { Steps self.old Request.Publish result self.new }
+        ensures publish { result ≢ Reply.Memory }
+    {
+        if self.published.len() < self.draft.len() {
+            mem::swap(&mut self.published, &mut self.draft);
+        }
+        Reply::Published(self.published.len())
+    }
+
+    /// How long the published journal is.
+    fn tell(&self) -> Reply
+        ensures { Steps self.now Request.Tell result self.now }
+    {
+        Reply::Told(self.published.len())
+    }
+
+    /// The reader's floor becomes the longer of itself and the first edits that it was told of.
+    fn learn(&mut self, reader: u64, length: u64) -> Reply
+        ensures { Steps self.old (Request.Learn reader length) result self.new }
+    {
+        if reader >= self.floors.len() as u64 {
+            return Reply::NoReader;
+        }
+        if length > self.published.len() {
+            return Reply::NoNotice;
+        }
+        let floor = self.floors[reader as usize].max(length);
+        self.floors[reader as usize] = floor;
+        Reply::Learned(floor)
+    }
+
+    /// The reader's check, by the published tree. Takes no memory.
+    fn check(&mut self, reader: u64, path: &Path, token: &Token, asked: Mask) -> Reply
+        ensures { Steps self.old (Request.Check reader path.now token.now asked) result self.new }
+    {
+        if reader >= self.floors.len() as u64 {
+            return Reply::NoReader;
+        }
+        let seen = self.published.len();
+        let reply = self.published.check(path, token, asked);
+        self.floors[reader as usize] = seen;
+        Reply::Answered(Answer { seen, reply })
+    }
+
+    /// The descriptor that the reader asks for, by the published tree.
+    fn show(&mut self, reader: u64, path: &Path) -> Reply
+        ensures { Steps self.old (Request.Show reader path.now) result self.new }
+    {
+        if reader >= self.floors.len() as u64 {
+            return Reply::NoReader;
+        }
+        let Ok(descriptor) = self.published.descriptor(path) else {
+            return Reply::Memory;
+        };
+        let seen = self.published.len();
+        self.floors[reader as usize] = seen;
+        Reply::Shown { seen, descriptor }
+    }
+}

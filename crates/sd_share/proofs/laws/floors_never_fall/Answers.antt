@@ -1,5 +1,0 @@
-use Rattle.sd_share.proofs.Moves.{floors_never_fall}
-use Rattle.sd_share.proofs.laws.floors_never_fall.Goals as goal
-
-pub returns : goal.returns
-returns c = floors_never_fall

@@ -1,0 +1,223 @@
+//! As many checkers as a store may have, each in its own thread, beside a writer. Each publish changes both nodes that
+//! they ask for.
+
+use super::store::{Play, is_right};
+use super::*;
+use sd_acl::Descriptor;
+use sd_desk::Answer;
+use sd_store::{Answers, Checker, Naming, Notice, ShowError, StoreWriter};
+use std::sync::Wait;
+use std::thread;
+use std::thread::{JoinHandle, Threads, yield_now};
+
+const CHECKERS: u64 = 64;
+
+const PUBLISHES: u64 = 200;
+
+/// How often a thread asks at most: it ends once it has seen the last publish.
+const MOST: u64 = 100_000;
+
+/// How many queries are asked at once, in turn for the one node and the other.
+const QUERIES: usize = 4;
+
+const NODES: [&str; 2] = ["/a", "/b"];
+
+/// A checker, the notice that it learns in its thread, what it asks at once, and what was answered.
+#[derive(Drop)]
+struct Asker<J: Naming> {
+    checker: Checker<J>,
+    notice: Notice<J>,
+    queries: Vec<Query>,
+    paths: Vec<Path>,
+    answers: Answers,
+    /// Whether all that was asked at once was answered by one journal, each time by one no shorter than before.
+    right: bool,
+}
+
+impl<J: Naming> Asker<J> {
+    fn new(alloc: Global, checker: Checker<J>, notice: Notice<J>) -> Option<Asker<J>> {
+        let mut queries = Vec::with_capacity(alloc, QUERIES).ok()?;
+        for place in 0..QUERIES {
+            queries.push(query(alloc, NODES[place % 2])?).ok()?;
+        }
+        let mut paths = Vec::with_capacity(alloc, NODES.len()).ok()?;
+        for node in NODES {
+            paths.push(Path::read(alloc, node).ok()?).ok()?;
+        }
+        Some(Asker {
+            checker,
+            notice,
+            queries,
+            paths,
+            answers: Answers::new(alloc),
+            right: true,
+        })
+    }
+
+    /// Asks once, by a check and then by several questions at once.
+    fn ask(&mut self) {
+        let is_checked = self.is_checked();
+        let before = self.checker.seen();
+        let is_asked = match self.asked() {
+            Ok(seen) => before <= seen && seen % 2 == 0 && are_by(seen, &self.answers),
+            Err(ShowError::Memory) => self.answers.checks.is_empty(),
+            Err(ShowError::Gone) => false,
+        };
+        self.right = self.right && is_checked && is_asked;
+    }
+
+    /// Whether a check is answered by a published journal no shorter than what was seen before.
+    fn is_checked(&mut self) -> bool {
+        let before = self.checker.seen();
+        let Some(query) = self.queries.first() else {
+            return false;
+        };
+        match self.checker.check(&query.path, &query.token, query.asked) {
+            Ok(Answer { seen, reply }) => before <= seen && seen % 2 == 0 && reply == due(seen),
+            Err(_) => false,
+        }
+    }
+
+    fn asked(&mut self) -> Result<u64, ShowError> {
+        self.checker
+            .check_all(&self.queries, &self.paths, &mut self.answers)
+    }
+
+    fn done(self) -> Asker<J> {
+        let mut asker = self;
+        asker.checker.learn(&mut asker.notice);
+        for _ in 0..MOST {
+            asker.ask();
+            if !asker.right || asker.checker.seen() == 2 * PUBLISHES {
+                break;
+            }
+            yield_now();
+        }
+        asker
+    }
+}
+
+/// The reply by the journal of that length.
+fn due(seen: u64) -> CheckReply {
+    match (seen, mask(seen)) {
+        (0, _) => CheckReply::NoNode,
+        (_, Mask(0x1)) => GRANTED,
+        _ => DENIED,
+    }
+}
+
+/// Whether all answers are by the journal of that length.
+fn are_by(seen: u64, answers: &Answers) -> bool {
+    let answer = Answer {
+        seen,
+        reply: due(seen),
+    };
+    let mut right = answers.checks.len() == QUERIES && answers.descriptors.len() == NODES.len();
+    for found in &answers.checks {
+        right &= *found == answer;
+    }
+    for found in &answers.descriptors {
+        right &= is_of(seen, found);
+    }
+    right
+}
+
+/// What both nodes' one entry grants after so many edits.
+fn mask(seen: u64) -> Mask {
+    Mask(if seen % 4 == 2 { 0x1 } else { 0x2 })
+}
+
+/// Whether that is a node's descriptor after so many edits.
+fn is_of(seen: u64, found: &Option<Descriptor>) -> bool {
+    match found {
+        None => seen == 0,
+        Some(descriptor) => match &descriptor.dacl {
+            Dacl::List(list) => match list.entries() {
+                [entry] => entry.mask == mask(seen),
+                _ => false,
+            },
+            _ => false,
+        },
+    }
+}
+
+/// The checkers ask in threads while the writer publishes, and once more when it has.
+pub(super) fn are_right_beside<J: Naming + Send + Sync + 'static, R: Threads + Wait>(
+    rt: &R,
+    alloc: Global,
+    writer: &mut StoreWriter<J>,
+    checkers: &mut Vec<Checker<J>>,
+) -> Option<bool> {
+    let threads = all_away(rt, alloc, writer, checkers)?;
+    let mut right = true;
+    for publish in 1..=PUBLISHES {
+        right &= published(rt, alloc, writer, publish)? == 2 * publish;
+    }
+    for thread in threads {
+        right &= is_back(writer, thread.join(rt));
+    }
+    Some(right)
+}
+
+fn all_away<J: Naming + Send + Sync + 'static, R: Threads>(
+    rt: &R,
+    alloc: Global,
+    writer: &mut StoreWriter<J>,
+    checkers: &mut Vec<Checker<J>>,
+) -> Option<Vec<JoinHandle<Asker<J>>>> {
+    let mut threads = Vec::with_capacity(alloc, CHECKERS as usize).ok()?;
+    for _ in 0..CHECKERS {
+        let asker = Asker::new(alloc, checkers.pop()?, writer.tell())?;
+        threads.push(away(rt, asker)?).ok()?;
+    }
+    Some(threads)
+}
+
+fn away<J: Naming + Send + Sync + 'static, R: Threads>(
+    rt: &R,
+    asker: Asker<J>,
+) -> Option<JoinHandle<Asker<J>>> {
+    thread::spawn(rt, move || asker.done()).ok()
+}
+
+/// Both nodes are changed, and one publish shows it: how long the journal then is.
+fn published<J: Naming, R: Wait>(
+    rt: &R,
+    alloc: Global,
+    writer: &mut StoreWriter<J>,
+    publish: u64,
+) -> Option<u64> {
+    let change = match publish {
+        1 => Change::Object,
+        _ => Change::Dacl,
+    };
+    let sddl = match publish % 2 {
+        1 => "O:BAG:SYD:(A;;0x1;;;BU)",
+        _ => "O:BAG:SYD:(A;;0x2;;;BU)",
+    };
+    for node in NODES {
+        edited(writer, &edit(alloc, change, node, sddl)?)?;
+    }
+    writer.publish(rt).ok()
+}
+
+fn edited<J: Naming>(writer: &mut StoreWriter<J>, edit: &Edit) -> Option<()> {
+    writer.edit(edit).ok()
+}
+
+/// Whether the checker's answers in its thread were right, and those after it learned the last publish.
+fn is_back<J: Naming>(writer: &mut StoreWriter<J>, asker: Asker<J>) -> bool {
+    let mut asker = asker;
+    asker.checker.learn(&mut writer.tell());
+    let has_learned = asker.checker.seen() == 2 * PUBLISHES;
+    asker.ask();
+    asker.right && has_learned && asker.checker.seen() == 2 * PUBLISHES
+}
+
+#[test]
+fn sixty_four_checkers_beside_a_writer(rt: HostRuntime) {
+    assert_eq!(rt;
+        is_right(&rt, rt.alloc(), CHECKERS, &Play::Threads),
+        Some(true)
+    );
+}

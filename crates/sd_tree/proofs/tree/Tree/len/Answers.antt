@@ -1,0 +1,6 @@
+use Rattle.sd_tree.specs.Stored.{edits_in}
+use Rattle.sd_tree.proofs.Journals.{lawful_short}
+use Rattle.sd_tree.proofs.tree.Tree.len.Goals as goal
+
+pub len-requires : goal.len-requires
+len-requires c = lawful_short c.self.inside.opening (edits_in c.self.inside.journal) c.self.invariant.lawful
