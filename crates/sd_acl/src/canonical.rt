@@ -1,7 +1,8 @@
 //! The order of a list: explicit entries before inherited ones, and denies before allows among the explicit.
 
 ghost use Rattle.std.specs.Prelude.{◌≡◌, not, IfOk};
-ghost use Rattle.sd_acl.specs.Canonical.{is_inherited, is_canonical, deny_behind_allow, explicit_behind_inherited, canonical_order, explicit_entry, explicit_entries};
+ghost use Rattle.sd_acl.specs.Canonical.{is_inherited, is_canonical, deny_behind_allow, explicit_behind_inherited};
+ghost use Rattle.sd_acl.specs.Canonical.{canonical_order, explicit_entry, explicit_entries};
 
 use crate::ace::Ace;
 use crate::flags::AceFlags;

@@ -1,7 +1,8 @@
 -- What is granted without an entry, as masks.
-use Rattle.std.proofs.Common.{◌≡◌, ℕ, ◌<◌, Bool, true, false, ◌&&◌, ◌||◌, ◌==◌, nat_lt, cond, refl, sym, ◌∙◌, ap, arith, inl, inr}
-use Rattle.std.proofs.lemmas.Bool.{agree_below_at, cases_lt, lt-ltb, ne_eqb, eqb-true}
-use Rattle.std.proofs.Math.Bool.{and-false, or-false}
+use Rattle.std.proofs.Common.{◌≡◌, ℕ, ◌<◌, Bool, true, false, ◌&&◌, ◌||◌, ◌==◌, nat_lt, cond, refl, sym, ◌∙◌, arith}
+use Rattle.std.proofs.lemmas.Bool.{agree_below_at, eqb-true}
+use Rattle.std.proofs.lemmas.Bool.Decides.{nat_tests}
+use Rattle.std.proofs.Math.Bool.{and-false}
 use Rattle.sd_sid.specs.Mask.{holds, mask_of}
 use Rattle.sd_sid.proofs.Masks.{holds_when, mask_of-alike}
 use Rattle.sd_check.specs.Check.{is_implied}
@@ -16,21 +17,12 @@ holds_write_owner b h = agree_below_at (holds 0x00080000) (λ k. k == 19) 32 b r
 holds_security : (b : ℕ) → b < 32 → holds 0x01000000 b ≡ (b == 24)
 holds_security b h = agree_below_at (holds 0x01000000) (λ k. k == 24) 32 b refl h
 
--- a mask that is taken under a condition, at a place
-taken : (t : Bool) (m b : ℕ) (place : Bool) → holds m b ≡ place → holds (cond t m 0) b ≡ (t && place)
-taken t m b place is = holds_when t m b ∙ ap (λ p. t && p) is
-
 -- ---- the owner's
-
-alone : (x : Bool) → ((x || false) || false) ≡ x
-alone true = refl
-alone false = refl
 
 -- the owner's two bits of a mask, where the token stands for the owner
 pub owners_is : (o : Bool) (wanted owners : ℕ) → owners ≡ mask_of (λ b. holds wanted b && holds 0x00060000 b) 32
     → cond o owners 0 ≡ mask_of (λ b. holds wanted b && is_implied o false false b) 32
-owners_is true wanted owners is =
-    is ∙ mask_of-alike _ _ 32 (λ b h. ap (λ t. holds wanted b && t) (holds_owners b h ∙ sym (alone (b == 17 || b == 18))))
+owners_is true wanted owners is = is ∙ mask_of-alike _ _ 32 (λ b h. grind (arith, holds_owners b h))
 owners_is false wanted owners is = sym (mask_of-alike _ (λ b. false) 32 (λ b h. and-false (holds wanted b)) ∙ no_places)
 
 -- where there are none, whether it does isn't asked
@@ -41,13 +33,7 @@ no_owners false wanted owners is none = eqb-true owners 0 none ∙ owners_is fal
 
 -- the owner's two bits are places below 21
 pub implied_low : (o : Bool) (b : ℕ) → (nat_lt b 21 || is_implied o false false b) ≡ nat_lt b 21
-implied_low o b = elim (cases_lt b 21) [
-  | inl low ↦ rw (lt-ltb b 21 low) refl
-  | inr high ↦
-      let not_17 : (b == 17) ≡ false = ne_eqb b 17 (λ e. absurd (omega arith)) in
-      let not_18 : (b == 18) ≡ false = ne_eqb b 18 (λ e. absurd (omega arith)) in
-      rw (not_17, not_18, and-false o) (or-false (nat_lt b 21))
-]
+implied_low o b = grind (arith, nat_tests)
 
 -- ---- the privileges'
 
@@ -55,5 +41,4 @@ pub privileged_is : (t s : Bool) (takes secures all : ℕ) → takes ≡ cond t 
     → all ≡ mask_of (λ b. holds takes b || holds secures b) 32 → all ≡ mask_of (is_implied false t s) 32
 privileged_is t s takes secures all is_takes is_secures is_all =
     is_all ∙ mask_of-alike _ (is_implied false t s) 32 (λ b h.
-    ap (λ x. x || holds secures b) (ap (λ n. holds n b) is_takes ∙ taken t 0x00080000 b (b == 19) (holds_write_owner b h))
-    ∙ ap (λ x. (t && b == 19) || x) (ap (λ n. holds n b) is_secures ∙ taken s 0x01000000 b (b == 24) (holds_security b h)))
+    grind (arith, holds_write_owner b h, holds_security b h, is_takes, is_secures, holds_when t 0x00080000 b, holds_when s 0x01000000 b))

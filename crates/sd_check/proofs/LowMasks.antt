@@ -1,8 +1,9 @@
 -- Requests for some of the object's own rights and the standard ones alone, the places below 21.
 use Rattle.std.proofs.Common.{◌≡◌, ℕ, ◌^◌, ◌<◌, ◌≤◌, Bool, true, false, ◌&&◌, not, ◌==◌, inl, inr, refl, sym, ◌∙◌, ap, arith, cond}
 use Rattle.std.proofs.lemmas.Bool.{agree_below_at, cases_lt, lt-ltb}
+use Rattle.std.proofs.lemmas.Bool.Decides.{nat_tests}
 use Rattle.std.proofs.lemmas.Nat.Bits.{bit_at_above}
-use Rattle.std.proofs.Math.Bool.{and-false, and-true, or-false}
+use Rattle.std.proofs.Math.Bool.{and-true, or-false}
 use Rattle.sd_sid.specs.Mask.{holds, mask_of}
 use Rattle.sd_sid.specs.Mapping.{MappingValue, mapped, is_mapped}
 use Rattle.sd_sid.proofs.Masks.{is_mask_of, mask_of-alike}
@@ -19,17 +20,12 @@ unfolding mask_of
 no_places = refl
 
 nothing_reserved : (q : ℕ) → q < 2 ^ 21 → reserved_of q ≡ 0
-nothing_reserved q small = mask_of-alike _ (λ b. false) 32 (λ b h. elim (cases_lt b 21) [
-  | inl low ↦ ap (λ t. holds q b && t) (agree_below_at (holds 0x0CE00000) (λ k. false) 21 b refl low) ∙ and-false (holds q b)
-  | inr high ↦ ap (λ t. t && holds 0x0CE00000 b) (high_place q b small high)
-]) ∙ no_places
+nothing_reserved q small = mask_of-alike _ (λ b. false) 32 (λ b h.
+    grind (arith, nat_tests, cases_lt b 21, high_place q b small, agree_below_at (holds 0x0CE00000) (λ k. false) 21 b refl)) ∙ no_places
 
 -- what isn't MAXIMUM_ALLOWED is kept, and a mask without generic rights is mapped to itself
 kept : (q b : ℕ) → q < 2 ^ 21 → holds q b ≡ (holds q b && not (holds 0x02000000 b))
-kept q b small = elim (cases_lt b 21) [
-  | inl low ↦ sym (ap (λ t. holds q b && not t) (agree_below_at (holds 0x02000000) (λ k. false) 21 b refl low) ∙ and-true (holds q b))
-  | inr high ↦ rw (high_place q b small high) refl
-]
+kept q b small = grind (arith, nat_tests, cases_lt b 21, high_place q b small, agree_below_at (holds 0x02000000) (λ k. false) 21 b refl)
 
 itself : (g : MappingValue) (q b : ℕ) → q < 2 ^ 28 → holds q b ≡ is_mapped g q b
 itself g q b small =

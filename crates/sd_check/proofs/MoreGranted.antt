@@ -1,5 +1,5 @@
 -- Where more bits are granted, a request that was granted is granted still, with all that it had.
-use Rattle.std.proofs.Common.{◌≡◌, ℕ, ◌<◌, Bool, true, false, not, ◌&&◌, ◌||◌, ◌==◌, cond, refl, sym, ◌∙◌, ap, inl, inr, eqb-true, eq-eqb}
+use Rattle.std.proofs.Common.{◌≡◌, ℕ, ◌<◌, Bool, true, false, not, ◌&&◌, ◌||◌, ◌==◌, cond, refl, sym, ◌∙◌, ap, arith, inl, inr, eqb-true, eq-eqb}
 use Rattle.std.proofs.lemmas.Bool.{false≢true, cases_Bool}
 use Rattle.std.proofs.lemmas.Nat.Bits.{bit_at-zero}
 use Rattle.sd_sid.specs.Mask.{holds, mask_of}
@@ -12,19 +12,13 @@ use Rattle.sd_check.proofs.LowMasks.{no_places}
 
 -- ---- nothing is missing where more is granted
 
-still_none : (asked now before : Bool) → (now ≡ true → before ≡ true) → (asked && not now) ≡ false → (asked && not before) ≡ false
-still_none false now before more h = refl
-still_none true false before more h = absurd (false≢true (sym h))
-still_none true true before more h = ap not (more refl)
-
 pub nothing_missing : (now before : ℕ → Bool) (q : ℕ) → ((b : ℕ) → now b ≡ true → before b ≡ true)
     → (missing_of now q == 0) ≡ true → (missing_of before q == 0) ≡ true
 nothing_missing now before q more h =
     let none = eqb-true (missing_of now q) 0 h in
     eq-eqb (missing_of before q) 0
     (mask_of-alike (λ b. holds q b && not (before b)) (λ b. false) 32
-    (λ b low. still_none (holds q b) (now b) (before b) (more b)
-    (sym (holds_place (λ k. holds q k && not (now k)) b low) ∙ ap (λ n. holds n b) none ∙ ap (λ n. n == 1) (bit_at-zero b)))
+    (λ b low. grind (arith, more b, holds_place (λ k. holds q k && not (now k)) b low, ap (λ n. holds n b) none, ap (λ n. n == 1) (bit_at-zero b)))
     ∙ no_places)
 
 -- ---- nor is there nothing
@@ -32,25 +26,16 @@ nothing_missing now before q more h =
 pub still_something : (p : ℕ → Bool) (more : ℕ) → ((b : ℕ) → b < 32 → p b ≡ true → holds more b ≡ true)
     → (mask_of p 32 == 0) ≡ false → (more == 0) ≡ false
 still_something p more kept some = elim (cases_Bool (more == 0)) [
-  | inl none ↦
-      let empty : mask_of p 32 ≡ 0 = mask_of-alike p (λ b. false) 32 (λ b low. elim (cases_Bool (p b)) [
-        | inl here ↦ absurd (false≢true (sym (ap (λ n. holds n b) (eqb-true more 0 none) ∙ ap (λ n. n == 1) (bit_at-zero b)) ∙ kept b low here))
-        | inr not_here ↦ not_here
-      ]) ∙ no_places in
-      absurd (false≢true (sym some ∙ eq-eqb (mask_of p 32) 0 empty))
+  | inl none ↦ absurd (false≢true (sym some ∙ eq-eqb (mask_of p 32) 0 (mask_of-alike p (λ b. false) 32 (λ b low.
+      grind (arith, kept b low, ap (λ n. holds n b) (eqb-true more 0 none), ap (λ n. n == 1) (bit_at-zero b))) ∙ no_places)))
   | inr there ↦ there
 ]
-
-either_more : (q m n : Bool) → (m ≡ true → n ≡ true) → (q || m) ≡ true → (q || n) ≡ true
-either_more true m n more h = refl
-either_more false m n more h = more h
 
 -- with what was asked for, more of what MAXIMUM_ALLOWED takes in
 pub joined_more : (q most more : ℕ) → ((b : ℕ) → b < 32 → holds most b ≡ true → holds more b ≡ true)
     → (b : ℕ) → b < 32 → holds (joined_with q most) b ≡ true → holds (joined_with q more) b ≡ true
 joined_more q most more kept b low h =
-    holds_place (λ k. holds q k || holds more k) b low
-    ∙ either_more (holds q b) (holds most b) (holds more b) (kept b low) (sym (holds_place (λ k. holds q k || holds most k) b low) ∙ h)
+    grind (arith, h, kept b low, holds_place (λ k. holds q k || holds more k) b low, holds_place (λ k. holds q k || holds most k) b low)
 
 -- ---- the cases of a verdict
 

@@ -1,7 +1,7 @@
 -- What a pass comes to with one more entry, bit by bit.
-use Rattle.std.proofs.Common.{◌≡◌, ℕ, ◌<◌, ◌++◌, Bool, true, false, not, ◌&&◌, ◌||◌, ◌==◌, cond, List, [], ◌∷◌, Option, Some, None, refl, sym, ◌∙◌, ap, subst, append-nil, append_assoc, eqb-true}
+use Rattle.std.proofs.Common.{◌≡◌, ℕ, ◌<◌, ◌++◌, Bool, true, false, not, ◌&&◌, ◌||◌, ◌==◌, cond, List, [], ◌∷◌, Option, Some, None, refl, sym, ◌∙◌, ap, arith, subst, append-nil, append_assoc, eqb-true}
 use Rattle.std.specs.Option.{option_or, is_none}
-use Rattle.std.proofs.Math.Bool.{or-false, or-true}
+use Rattle.std.proofs.Math.Bool.{or-false}
 use Rattle.std.proofs.lemmas.List.Folds.{find-append, list_any-append}
 use Rattle.std.proofs.lemmas.Nat.Bits.{bit_at-zero}
 use Rattle.sd_sid.specs.Mask.{holds, mask_of}
@@ -20,40 +20,13 @@ use Rattle.sd_check.proofs.Answered.{stands}
 -- ---- a bit
 
 none_next : (bit here : Bool) (o : Option Ace) (e : Ace) → (bit && is_none (option_or o (cond here (Some e) None))) ≡ ((bit && is_none o) && not (here && (bit && is_none o)))
-none_next false here o e = refl
-none_next true true None e = refl
-none_next true false None e = refl
-none_next true here (Some x) e = refl
-
-spare : (a here : Bool) → false ≡ (a && (here && false))
-spare true true = refl
-spare true false = refl
-spare false here = refl
-
-both_true : (a : Bool) → a ≡ (a && true)
-both_true true = refl
-both_true false = refl
+none_next bit here None e = grind arith
+none_next bit here (Some x) e = grind arith
 
 allowed_next : (bit here : Bool) (o : Option Ace) (e : Ace)
     → (bit && is_allowed_by (option_or o (cond here (Some e) None))) ≡ ((bit && is_allowed_by o) || (is_allow e.kind && (here && (bit && is_none o))))
-allowed_next false here o e = spare (is_allow e.kind) here
-allowed_next true true None e = both_true (is_allow e.kind)
-allowed_next true false None e = spare (is_allow e.kind) true
-allowed_next true here (Some x) e = sym (ap (λ t. is_allow x.kind || t) (sym (spare (is_allow e.kind) here)) ∙ or-false (is_allow x.kind))
-
-kept_step : (owner lim limit : Bool) → (not limit && (owner && not lim)) ≡ (owner && not (lim || limit))
-kept_step true true true = refl
-kept_step true true false = refl
-kept_step true false true = refl
-kept_step true false false = refl
-kept_step false lim true = refl
-kept_step false lim false = refl
-
-kept_next : (allowed extra kept owner lim limit : Bool) → (allowed || kept) ≡ (allowed || (owner && not lim))
-    → ((allowed || extra) || (not limit && kept)) ≡ ((allowed || extra) || (owner && not (lim || limit)))
-kept_next true extra kept owner lim limit h = refl
-kept_next false true kept owner lim limit h = refl
-kept_next false false kept owner lim limit h = ap (λ t. not limit && t) h ∙ kept_step owner lim limit
+allowed_next bit here None e = grind arith
+allowed_next bit here (Some x) e = grind arith
 
 -- ---- a pass
 
@@ -70,16 +43,9 @@ module _ (g : MappingValue) (who : AceKind → SidValue → Bool) (bits owners :
       → ((b : ℕ) → b < 32 → (holds to.allowed b || holds keeps b) ≡ (holds to.allowed b || (not (is_limit e) && holds k b)))
       → IsPass g who bits owners seen s k → IsPass g who bits owners (seen ++ e ∷ []) to keeps
   pass_by s k to keeps left got keep pass = record {
-    undecided = λ b h. left b h ∙ ap (λ t. t && not (decides g who b e && t)) (pass.undecided b h) ∙ sym (none_next (holds bits b) (decides g who b e) (first g who seen b) e)
-        ∙ sym (ap (λ (o : Option Ace). holds bits b && is_none o) (at_end b));
-    allowed = λ b h. got b h ∙ ap (λ t. t || (is_allow e.kind && (decides g who b e && holds s.undecided b))) (pass.allowed b h)
-        ∙ ap (λ t. (holds bits b && is_allowed_by (first g who seen b)) || (is_allow e.kind && (decides g who b e && t))) (pass.undecided b h)
-        ∙ sym (allowed_next (holds bits b) (decides g who b e) (first g who seen b) e)
-        ∙ sym (ap (λ (o : Option Ace). holds bits b && is_allowed_by o) (at_end b));
-    kept = λ b h. keep b h ∙ ap (λ t. t || (not (is_limit e) && holds k b)) (got b h)
-        ∙ kept_next (holds s.allowed b) (is_allow e.kind && (decides g who b e && holds s.undecided b)) (holds k b) (holds owners b) (limits_owner (Some seen)) (is_limit e) (pass.kept b h)
-        ∙ sym (ap (λ t. t || (holds owners b && not (limits_owner (Some seen) || is_limit e))) (got b h))
-        ∙ sym (ap (λ t. holds to.allowed b || (holds owners b && not t)) limit_at_end);
+    undecided = λ b h. grind (arith, left b h, pass.undecided b h, at_end b, none_next (holds bits b) (decides g who b e) (first g who seen b) e);
+    allowed = λ b h. grind (arith, got b h, pass.allowed b h, pass.undecided b h, at_end b, allowed_next (holds bits b) (decides g who b e) (first g who seen b) e);
+    kept = λ b h. grind (arith, keep b h, got b h, pass.kept b h, limit_at_end);
   }
 
   pub pass_decides : (s : Settled) (k m : ℕ) (kind : AceKind) (to : Settled) (keeps : ℕ) → m ≡ part_of g who e → kind ≡ e.kind
@@ -98,57 +64,25 @@ module _ (g : MappingValue) (who : AceKind → SidValue → Bool) (bits owners :
       ∙ ap (λ t. holds s.allowed b || t) (holds_when (is_allow kind) d b ∙ ap (λ a. is_allow a && holds d b) is_kind ∙ ap (λ t. is_allow e.kind && t) (here b h)))
       (λ b h. ap (λ t. holds to.allowed b || t) (ap (λ n. holds n b) is_keeps ∙ holds_when (not (is_limit e)) k b))
 
-  same_left : (u here : Bool) → (here && u) ≡ false → u ≡ (u && not (here && u))
-  same_left true here h = sym (ap not h)
-  same_left false here h = refl
-
-  same_got : (allowed a d : Bool) → d ≡ false → allowed ≡ (allowed || (a && d))
-  same_got true a d h = refl
-  same_got false true d h = sym h
-  same_got false false d h = refl
-
   pub pass_silent : (s : Settled) (k : ℕ) → part_of g who e ≡ 0 → is_limit e ≡ false → IsPass g who bits owners seen s k → IsPass g who bits owners (seen ++ e ∷ []) s k
   pass_silent s k none free =
       let no : (b : ℕ) → (decides g who b e && holds s.undecided b) ≡ false = λ b.
       ap (λ t. t && holds s.undecided b) (sym (holds_when (not (is_inherit_only e) && who e.kind e.sid) (mapped g e.mask) b) ∙ ap (λ n. holds n b) none ∙ ap (λ n. n == 1) (bit_at-zero b)) in
-      pass_by s k s k (λ b h. same_left (holds s.undecided b) (decides g who b e) (no b)) (λ b h. same_got (holds s.allowed b) (is_allow e.kind) _ (no b))
-      (λ b h. sym (ap (λ t. holds s.allowed b || (not t && holds k b)) free))
-
-  over_left : (u x here : Bool) → (u || x) ≡ false → (here && u) ≡ false
-  over_left true x here h = absurd cc
-  over_left false x true h = refl
-  over_left false x false h = refl
-
-  over_kept : (u allowed kept limit : Bool) → (u || (kept && not allowed)) ≡ false → (allowed || kept) ≡ (allowed || (not limit && kept))
-  over_kept u true kept limit h = refl
-  over_kept u false false true h = refl
-  over_kept u false false false h = refl
-  over_kept true false true limit h = absurd cc
-  over_kept false false true limit h = absurd cc
+      pass_by s k s k (λ b h. grind (arith, no b)) (λ b h. grind (arith, no b)) (λ b h. grind (arith, free))
 
   pub pass_over : (s : Settled) (k : ℕ) → IsSettled s k → IsPass g who bits owners seen s k → IsPass g who bits owners (seen ++ e ∷ []) s k
   pass_over s k over =
-      pass_by s k s k (λ b h. same_left (holds s.undecided b) (decides g who b e) (over_left (holds s.undecided b) _ (decides g who b e) (over b h)))
-      (λ b h. same_got (holds s.allowed b) (is_allow e.kind) _ (over_left (holds s.undecided b) _ (decides g who b e) (over b h)))
-      (λ b h. over_kept (holds s.undecided b) (holds s.allowed b) (holds k b) (is_limit e) (over b h))
+      pass_by s k s k (λ b h. grind (arith, over b h)) (λ b h. grind (arith, over b h)) (λ b h. grind (arith, over b h))
 
 -- ---- an entry that has no part
-
-quiet : (waits : Bool) (m : ℕ) → cond (not waits && false) m 0 ≡ 0
-quiet true m = refl
-quiet false m = refl
-
-never : (waits : Bool) → (not waits && false) ≡ false
-never true = refl
-never false = refl
 
 -- an entry for a SID that isn't OWNER RIGHTS, and that nobody here stands for
 pub takes_no_part : (g : MappingValue) (who : Option SidValue → Bool) (owner : Option SidValue) (e : Ace) → same_sid e.sid owner_rights ≡ false → who (Some e.sid) ≡ false
     → cond (not (is_inherit_only e) && who (subject owner e.sid)) (mapped g e.mask) 0 ≡ 0
-takes_no_part g who owner e other none = rw (other, none) (quiet (is_inherit_only e) (mapped g e.mask))
+takes_no_part g who owner e other none = rw (other, none) (grind arith)
 
 pub limits_nobody : (e : Ace) → same_sid e.sid owner_rights ≡ false → is_limit e ≡ false
-limits_nobody e other = rw other (never (is_inherit_only e))
+limits_nobody e other = grind (arith, other)
 
 -- ---- the end of a walk, and its beginning
 
@@ -159,9 +93,13 @@ pub nothing_hangs : (u a k hanging left : ℕ)
     → (left == 0) ≡ true
     → (b : ℕ) → b < 32 → (holds u b || (holds k b && not (holds a b))) ≡ false
 nothing_hangs u a k hanging left is_hanging is_left none b h =
-    ap (λ t. holds u b || t) (sym (stands (λ i. holds k i && not (holds a i)) hanging b h is_hanging))
-    ∙ sym (stands (λ i. holds u i || holds hanging i) left b h is_left)
-    ∙ ap (λ n. holds n b) (eqb-true left 0 none) ∙ ap (λ n. n == 1) (bit_at-zero b)
+    grind (
+      arith,
+      stands (λ i. holds k i && not (holds a i)) hanging b h is_hanging,
+      stands (λ i. holds u i || holds hanging i) left b h is_left,
+      ap (λ n. holds n b) (eqb-true left 0 none),
+      ap (λ n. n == 1) (bit_at-zero b),
+    )
 
 -- then no further entry changes anything
 pass_over_each : (g : MappingValue) (who : AceKind → SidValue → Bool) (bits owners : ℕ) (seen es : List Ace) (s : Settled) (k : ℕ)
@@ -171,42 +109,21 @@ pass_over_each g who bits owners seen (e ∷ es) s k over pass =
     subst (λ es. IsPass g who bits owners es s k) (append_assoc seen (e ∷ []) es)
     (pass_over_each g who bits owners (seen ++ e ∷ []) es s k over (pass_over g who bits owners seen e s k over pass))
 
-all_of : (bit : Bool) → bit ≡ (bit && true)
-all_of true = refl
-all_of false = refl
-
-none_of : (bit : Bool) → false ≡ (bit && false)
-none_of true = refl
-none_of false = refl
-
 pub pass_begins : (g : MappingValue) (who : AceKind → SidValue → Bool) (bits owners : ℕ) (s : Settled) (k : ℕ)
     → s.undecided ≡ bits → s.allowed ≡ 0 → k ≡ owners → IsPass g who bits owners [] s k
 pass_begins g who bits owners s k all none keeps = record {
-  undecided = λ b h. ap (λ n. holds n b) all ∙ all_of (holds bits b);
-  allowed = λ b h. ap (λ n. holds n b) none ∙ ap (λ n. n == 1) (bit_at-zero b) ∙ none_of (holds bits b);
-  kept = λ b h. ap (λ n. holds s.allowed b || holds n b) keeps ∙ ap (λ t. holds s.allowed b || t) (all_of (holds owners b));
+  undecided = λ b h. grind (arith, all);
+  allowed = λ b h. grind (arith, none, ap (λ n. n == 1) (bit_at-zero b));
+  kept = λ b h. grind (arith, keeps);
 }
 
 pub pass_grants : (g : MappingValue) (who : AceKind → SidValue → Bool) (bits owners : ℕ) (es : List Ace) (s : Settled) (k r : ℕ)
     → IsPass g who bits owners es s k → r ≡ mask_of (λ b. holds s.allowed b || holds k b) 32
     → r ≡ mask_of (λ b. (holds bits b && is_allowed_by (first g who es b)) || (holds owners b && not (limits_owner (Some es)))) 32
 pass_grants g who bits owners es s k r pass is =
-    is ∙ mask_of-alike _ _ 32 (λ b h. pass.kept b h ∙ ap (λ t. t || (holds owners b && not (limits_owner (Some es)))) (pass.allowed b h))
+    is ∙ mask_of-alike _ _ 32 (λ b h. grind (arith, pass.kept b h, pass.allowed b h))
 
 -- what two passes over one list allow each, and the owner keeps, they allow together
-each_bit : (wanted first again owners free : Bool)
-    → (((wanted && first) || (owners && free)) && ((wanted && again) || (owners && free))) ≡ ((wanted && (first && again)) || (owners && free))
-each_bit true true true owners free = refl
-each_bit true true false true true = refl
-each_bit true true false true false = refl
-each_bit true true false false free = refl
-each_bit true false again true true = or-true _
-each_bit true false again true false = refl
-each_bit true false again false free = refl
-each_bit false first again true true = refl
-each_bit false first again true false = refl
-each_bit false first again false free = refl
-
 pub passes_grant : (first again : ℕ → Bool) (free : Bool) (bits owners one two r : ℕ)
     → one ≡ mask_of (λ b. (holds bits b && first b) || (holds owners b && free)) 32
     → two ≡ mask_of (λ b. (holds bits b && again b) || (holds owners b && free)) 32
@@ -214,9 +131,11 @@ pub passes_grant : (first again : ℕ → Bool) (free : Bool) (bits owners one t
     → r ≡ mask_of (λ b. (holds bits b && (first b && again b)) || (holds owners b && free)) 32
 passes_grant first again free bits owners one two r is_one is_two is =
     is ∙ mask_of-alike _ _ 32 (λ b h.
-    ap (λ t. t && holds two b) (stands (λ k. (holds bits k && first k) || (holds owners k && free)) one b h is_one)
-    ∙ ap (λ t. ((holds bits b && first b) || (holds owners b && free)) && t) (stands (λ k. (holds bits k && again k) || (holds owners k && free)) two b h is_two)
-    ∙ each_bit (holds bits b) (first b) (again b) (holds owners b) free)
+    grind (
+      arith,
+      stands (λ k. (holds bits k && first k) || (holds owners k && free)) one b h is_one,
+      stands (λ k. (holds bits k && again k) || (holds owners k && free)) two b h is_two,
+    ))
 
 -- ---- both passes
 

@@ -1,7 +1,7 @@
 -- That an index keeps the links of its places, and has one at the place of each SID that counts.
-use Rattle.std.proofs.Common.{◌≡◌, ℕ, ◌+◌, ◌<◌, Bool, true, false, not, ◌&&◌, ◌||◌, ◌==◌, List, [], length, get_or, set, take, inl, inr, ◌⊎◌, refl, sym, ◌∙◌, ap, arith, length-set}
+use Rattle.std.proofs.Common.{◌≡◌, ℕ, ◌+◌, ◌<◌, Bool, true, not, ◌&&◌, ◌||◌, ◌==◌, List, [], length, get_or, set, take, refl, sym, ◌∙◌, ap, arith, length-set}
 use Rattle.std.specs.List.{list_any}
-use Rattle.std.proofs.lemmas.Bool.{cases_eq, cases_Bool, and_parts, or_cases, ne_eqb, not_from_false}
+use Rattle.std.proofs.lemmas.Bool.{cases_eq, ne_eqb, not_from_false}
 use Rattle.std.proofs.lemmas.List.{get_or-set_same, get_or-set_other}
 use Rattle.std.proofs.lemmas.List.Folds.{list_any_more}
 use Rattle.sd_sid.specs.Sid.{SidValue, same_sid, owner_rights}
@@ -23,10 +23,8 @@ pub link_is_held : (heads : List ℕ) (at v : ℕ) → at < length heads → 0 <
 link_is_held heads at v low some = ap (λ n. not (n == 0)) (get_or-set_same heads at v 0 low) ∙ has_link v some
 
 pub link_is_kept : (heads : List ℕ) (at v q : ℕ) → at < length heads → 0 < v → not (get_or heads q 0 == 0) ≡ true → not (get_or (set heads at v) q 0 == 0) ≡ true
-link_is_kept heads at v q low some held = elim (cases_eq q at) as (λ _. not (get_or (set heads at v) q 0 == 0) ≡ true) [
-  | inl same ↦ ap (λ p. not (get_or (set heads at v) p 0 == 0)) same ∙ link_is_held heads at v low some
-  | inr other ↦ ap (λ n. not (n == 0)) (get_or-set_other heads at q v 0 other) ∙ held
-]
+link_is_kept heads at v q low some held =
+    grind (arith, held, has_link v some, cases_eq q at, get_or-set_same heads at v 0 low, get_or-set_other heads at q v 0)
 
 -- where the places of OWNER RIGHTS and of the user have one, the first keeps it
 pub links_of_user : (none : List ℕ) (user : SidValue) (at : ℕ) → length none ≡ 1024 → at < 1024 → at ≡ place_of user
@@ -45,21 +43,13 @@ same_link : (heads : List ℕ) (a b : SidValue) → same_sid a b ≡ true → ma
 same_link heads a b same held = ap (may_hold heads) (sym (same_sid-true a b same)) ∙ held
 
 pub each_of_user : (heads : List ℕ) (user : SidValue) → may_hold heads user ≡ true → IsIndexOfEach heads user []
-each_of_user heads user held kind s stands = elim (or_cases (same_sid user s) false stands) [
-  | inl same ↦ same_link heads user s same held
-  | inr none ↦ absurd cc
-]
+each_of_user heads user held kind s stands = grind (arith, stands, same_link heads user s, held)
 
 -- what counts for anything counts for a deny
 pub counts_for_deny : (kind : AceKind) (state : GroupState) → counts kind state ≡ true → counts Deny state ≡ true
 counts_for_deny kind Enabled h = refl
 counts_for_deny kind DenyOnly h = refl
 counts_for_deny kind Disabled h = absurd cc
-
-one_more : (user so_far here : Bool) → (user || (so_far || here)) ≡ true → (((user || so_far) ≡ true) ⊎ (here ≡ true))
-one_more true so_far here h = inl refl
-one_more false true here h = inl refl
-one_more false false here h = inr h
 
 -- the index, where it keeps the links of its places and has one at the place of one more group that counts
 pub each_of_more : (heads more : List ℕ) (user : SidValue) (groups : List (SidValue × GroupState)) (i : ℕ) (group : SidValue × GroupState)
@@ -72,32 +62,9 @@ each_of_more heads more user groups i group low is before kept here kind s stand
     let test : SidValue × GroupState → Bool = λ (g : SidValue × GroupState). same_sid g.0 s && counts kind g.1 in
     let split : a_group_stands_for (take (i + 1) groups) kind s ≡ (a_group_stands_for (take i groups) kind s || test group) =
     list_any_more test groups i group low ∙ ap (λ (g : SidValue × GroupState). a_group_stands_for (take i groups) kind s || test g) (sym is) in
-    elim (one_more (same_sid user s) (a_group_stands_for (take i groups) kind s) (test group) (sym (ap (λ t. same_sid user s || t) split) ∙ stands)) [
-      | inl old ↦ kept s (before kind s old)
-      | inr new ↦
-          let parts = and_parts (same_sid group.0 s) (counts kind group.1) new in
-          same_link more group.0 s parts.0 (here (counts_for_deny kind group.1 parts.1))
-    ]
-
--- a SID whose place has no link is nobody's
-pub not_held : (heads : List ℕ) (user : SidValue) (groups : List (SidValue × GroupState)) (kind : AceKind) (s : SidValue)
-    → IsIndexOfEach heads user groups → may_hold heads s ≡ false → false ≡ (same_sid user s || a_group_stands_for groups kind s)
-not_held heads user groups kind s index unset = elim (cases_Bool (same_sid user s || a_group_stands_for groups kind s)) [
-  | inl stands ↦ absurd (let clash : true ≡ false = sym (index kind s stands) ∙ unset in cc)
-  | inr nobody ↦ sym nobody
-]
-
--- nor is it OWNER RIGHTS
-pub not_owner_rights : (heads : List ℕ) (s : SidValue) → may_hold heads owner_rights ≡ true → may_hold heads s ≡ false → same_sid s owner_rights ≡ false
-not_owner_rights heads s held unset = elim (cases_Bool (same_sid s owner_rights)) [
-  | inl same ↦ absurd (let clash : true ≡ false = sym held ∙ ap (may_hold heads) (sym (same_sid-true s owner_rights same)) ∙ unset in cc)
-  | inr other ↦ other
-]
+    grind (arith, stands, split, kept s, before kind s, counts_for_deny kind group.1, same_link more group.0 s, here)
 
 -- ---- the restricting SIDs, one by one
-
-pub holds_each_of_none : (heads : List ℕ) → HoldsEach heads []
-holds_each_of_none heads s stands = absurd cc
 
 pub holds_each_of_more : (heads more : List ℕ) (sids : List SidValue) (i : ℕ) (sid : SidValue)
     → i < length sids → sid ≡ get_or sids i sid
@@ -107,14 +74,4 @@ pub holds_each_of_more : (heads more : List ℕ) (sids : List SidValue) (i : ℕ
     → HoldsEach more (take (i + 1) sids)
 holds_each_of_more heads more sids i sid low is before kept here s stands =
     let test : SidValue → Bool = λ one. same_sid one s in
-    elim (or_cases (list_any test (take i sids)) (test sid) (sym (list_any_more test sids i sid low ∙ ap (λ one. list_any test (take i sids) || test one) (sym is)) ∙ stands)) [
-      | inl old ↦ kept s (before s old)
-      | inr new ↦ same_link more sid s new here
-    ]
-
--- a SID whose place has no link is none of them
-pub not_among : (heads : List ℕ) (sids : List SidValue) (s : SidValue) → HoldsEach heads sids → may_hold heads s ≡ false → list_any (λ one. same_sid one s) sids ≡ false
-not_among heads sids s each unset = elim (cases_Bool (list_any (λ one. same_sid one s) sids)) [
-  | inl stands ↦ absurd (let clash : true ≡ false = sym (each s stands) ∙ unset in cc)
-  | inr nobody ↦ nobody
-]
+    grind (arith, stands, list_any_more test sids i sid low, ap (λ one. list_any test (take i sids) || test one) is, kept s, before s, same_link more sid s, here)

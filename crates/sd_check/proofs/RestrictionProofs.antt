@@ -1,7 +1,7 @@
 -- The proofs of the laws on restricting SIDs.
-use Rattle.std.proofs.Common.{◌≡◌, ℕ, ◌<◌, Bool, true, false, not, ◌&&◌, ◌||◌, ◌==◌, nat_lt, List, [], ◌∷◌, length, Option, Some, None, inl, inr, refl, sym, ◌∙◌, ap}
+use Rattle.std.proofs.Common.{◌≡◌, ℕ, ◌<◌, true, not, ◌&&◌, ◌||◌, ◌==◌, nat_lt, List, [], ◌∷◌, length, Option, Some, None, refl, sym, ◌∙◌, ap, arith}
 use Rattle.std.specs.List.{list_any}
-use Rattle.std.proofs.lemmas.Bool.{and_parts, and_from, or_cases, or_left, or_right, false≢true}
+use Rattle.std.proofs.lemmas.Bool.{or_left, false≢true}
 use Rattle.std.proofs.Math.Bool.{and-true}
 use Rattle.std.proofs.Math.Dec.{eqb-suc-zero}
 use Rattle.sd_sid.specs.Mask.{holds}
@@ -14,7 +14,7 @@ use Rattle.sd_acl.specs.declared.ace.Ace.{Ace}
 use Rattle.sd_acl.specs.declared.ace.AceKind.TheVariants.{Allow}
 use Rattle.sd_check.specs.Token.{TokenValue, is_restricted, is_restricting}
 use Rattle.sd_check.specs.Laws.{restricted_to, NobodyRestrictsNothing, RestrictionGrantsNoBit, RestrictionGrantsNoRequest, OrderOfRestrictingSidsIsFree}
-use Rattle.sd_check.proofs.LawProofs.{one_test, still_given}
+use Rattle.sd_check.proofs.LawProofs.{one_test}
 use Rattle.sd_check.proofs.MoreGranted.{judged_with_more}
 
 -- ---- without them
@@ -27,38 +27,31 @@ nobody_restricts_nothing owner dacl g t b =
 
 -- ---- they only take away
 
--- what holds in each pass holds in the first alone
-first_alone : (first again : Bool) → (first && again) ≡ true → (first && true) ≡ true
-first_alone true again h = refl
-first_alone false again h = h
-
 given_more : (owner : Option SidValue) (dacl : Option (List Ace)) (t : TokenValue) (b : ℕ)
     → is_given owner dacl t b ≡ true → is_given owner dacl (restricted_to t []) b ≡ true
-given_more owner dacl t b h = still_given _ _ _ _ _ _ (first_alone (stands_for_subject t Allow owner) _) h
+given_more owner dacl t b h = grind (arith, h)
 
 pub restriction_grants_no_bit : RestrictionGrantsNoBit
-restriction_grants_no_bit owner dacl g t b granted = elim (or_cases (is_listed owner dacl g t b) (is_given owner dacl t b) granted) [
-  | inl listed ↦ or_left _ _ (first_alone (acl_grants g (applies t owner) dacl b) _ listed)
-  | inr given ↦ or_right _ _ (given_more owner dacl t b given)
-]
-
-low_more : (low now more : Bool) → (now ≡ true → more ≡ true) → (low && now) ≡ true → (low && more) ≡ true
-low_more low now more kept h = let parts = and_parts low now h in and_from low more parts.0 (kept parts.1)
-
-either_more : (all given more : Bool) → (given ≡ true → more ≡ true) → (all || given) ≡ true → (all || more) ≡ true
-either_more true given more kept h = refl
-either_more false given more kept h = kept h
+restriction_grants_no_bit owner dacl g t b granted = grind (arith, granted)
 
 most_more : (owner : Option SidValue) (dacl : Option (List Ace)) (g : MappingValue) (t : TokenValue) (b : ℕ) → b < 32
     → holds (most owner dacl g t) b ≡ true → holds (most owner dacl g (restricted_to t [])) b ≡ true
 most_more owner None g t b low h =
-    holds_place (λ k. nat_lt k 21 && (holds g.all k || is_given owner None (restricted_to t []) k)) b low
-    ∙ low_more (nat_lt b 21) _ _ (either_more (holds g.all b) _ _ (given_more owner None t b))
-    (sym (holds_place (λ k. nat_lt k 21 && (holds g.all k || is_given owner None t k)) b low) ∙ h)
+    grind (
+      arith,
+      h,
+      given_more owner None t b,
+      holds_place (λ k. nat_lt k 21 && (holds g.all k || is_given owner None (restricted_to t []) k)) b low,
+      holds_place (λ k. nat_lt k 21 && (holds g.all k || is_given owner None t k)) b low,
+    )
 most_more owner (Some es) g t b low h =
-    holds_place (λ k. nat_lt k 21 && is_granted owner (Some es) g (restricted_to t []) k) b low
-    ∙ low_more (nat_lt b 21) _ _ (restriction_grants_no_bit owner (Some es) g t b)
-    (sym (holds_place (λ k. nat_lt k 21 && is_granted owner (Some es) g t k) b low) ∙ h)
+    grind (
+      arith,
+      h,
+      restriction_grants_no_bit owner (Some es) g t b,
+      holds_place (λ k. nat_lt k 21 && is_granted owner (Some es) g t k) b low,
+      holds_place (λ k. nat_lt k 21 && is_granted owner (Some es) g (restricted_to t []) k) b low,
+    )
 
 pub restriction_grants_no_request : RestrictionGrantsNoRequest
 restriction_grants_no_request owner dacl g t r m granted =
@@ -88,11 +81,7 @@ module _ (owner : Option SidValue) (dacl : Option (List Ace)) (g : MappingValue)
   same_count = ap not (some_and_others some others same)
 
   pub same_given : (b : ℕ) → is_given owner dacl (restricted_to t some) b ≡ is_given owner dacl (restricted_to t others) b
-  same_given b =
-      ap (λ x. is_implied ((stands_for_subject t Allow owner && (not x || is_restricting_subject (restricted_to t some) owner)) && not (limits_owner dacl))
-      t.privileges.take_ownership t.privileges.security b) same_count
-      ∙ ap (λ x. is_implied ((stands_for_subject t Allow owner && (not (is_restricted (restricted_to t others)) || x)) && not (limits_owner dacl))
-      t.privileges.take_ownership t.privileges.security b) (same_subject owner)
+  same_given b = grind (arith, same_count, same_subject owner)
 
   pub same_granted : (b : ℕ) → is_granted owner dacl g (restricted_to t some) b ≡ is_granted owner dacl g (restricted_to t others) b
   same_granted b =

@@ -1,6 +1,7 @@
--- The rules of the access check ([MS-DTYP] 2.5.3.2): which entries apply, what they decide, what is granted without an entry,
--- and what the verdict is. A DACL is the list of its entries, or None where it is absent or null.
-use Rattle.std.specs.Prelude.{ℕ, Bool, false, not, ◌&&◌, ◌||◌, ◌==◌, nat_lt, if◌then◌else◌, List, Option, Some, None, find}
+-- The rules of the access check ([MS-DTYP] 2.5.3.2): which entries apply, what they decide, what is granted without an
+-- entry, and what the verdict is. A DACL is the list of its entries, or None where it is absent or null.
+use Rattle.std.specs.Prelude.{ℕ, Bool, false, not, ◌&&◌, ◌||◌, ◌==◌, nat_lt, if◌then◌else◌, List, Option, Some, None}
+use Rattle.std.specs.Prelude.{find}
 use Rattle.std.specs.Borrow.{Bor}
 use Rattle.std.specs.List.{list_any}
 use Rattle.sd_sid.specs.Mask.{holds, mask_of}
@@ -48,7 +49,8 @@ stands_for_subject t kind (Some s) = stands_for t kind s
 abbrev pub applies : TokenValue → Option SidValue → AceKind → SidValue → Bool
 applies t owner kind s = stands_for_subject t kind (subject owner s)
 
--- in the second pass, of a restricted token, an entry that speaks of somebody applies where that SID is a restricting one
+-- in the second pass, of a restricted token, an entry that speaks of somebody applies where that SID is a restricting
+-- one
 abbrev pub is_restricting_subject : TokenValue → Option SidValue → Bool
 is_restricting_subject t None = false
 is_restricting_subject t (Some s) = is_restricting t s
@@ -89,7 +91,8 @@ acl_grants g applies (Some es) b = nat_lt b 21 && is_allowed_by (first g applies
 
 -- granted by the DACL in each pass
 abbrev pub is_listed : Option SidValue → Option (List Ace) → MappingValue → TokenValue → ℕ → Bool
-is_listed owner dacl g t b = in_each_pass t (acl_grants g (applies t owner) dacl b) (acl_grants g (applies_again t owner) dacl b)
+is_listed owner dacl g t b = in_each_pass t (acl_grants g (applies t owner) dacl b)
+    (acl_grants g (applies_again t owner) dacl b)
 
 -- ---- what is granted without an entry
 

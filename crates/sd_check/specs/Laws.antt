@@ -1,11 +1,13 @@
 -- What follows from the rules of the check, as laws over all lists, tokens and requests.
-use Rattle.std.specs.Prelude.{◌≡◌, ◌↔◌, ℕ, ◌<◌, ◌≤◌, ◌^◌, Bool, true, false, not, ◌&&◌, ◌||◌, nat_lt, List, [], ◌∷◌, ◌++◌, Option, Some}
+use Rattle.std.specs.Prelude.{◌≡◌, ◌↔◌, ℕ, ◌<◌, ◌≤◌, ◌^◌, Bool, true, false, not, ◌&&◌, ◌||◌, nat_lt, List, [], ◌∷◌}
+use Rattle.std.specs.Prelude.{◌++◌, Option, Some}
 use Rattle.std.specs.List.{AllByRecursion}
 use Rattle.sd_sid.specs.Mask.{holds}
 use Rattle.sd_sid.specs.Mapping.{MappingValue, mapped}
 use Rattle.sd_sid.specs.Sid.{SidValue, same_sid, owner_rights}
 use Rattle.sd_acl.specs.Ace.{is_allow, is_inherit_only}
-use Rattle.sd_check.specs.Check.{decides, acl_grants, subject, limits_owner, is_implied, without_maximum, applies, applies_again, stands_for_subject, is_granted, verdict}
+use Rattle.sd_check.specs.Check.{decides, acl_grants, subject, limits_owner, is_implied, without_maximum, applies}
+use Rattle.sd_check.specs.Check.{applies_again, stands_for_subject, is_granted, verdict}
 use Rattle.sd_acl.specs.declared.ace.Ace.{Ace}
 use Rattle.sd_acl.specs.declared.ace.AceKind.{AceKind}
 use Rattle.sd_acl.specs.declared.ace.AceKind.TheVariants.{Allow, Deny}
@@ -59,11 +61,17 @@ NothingBeyondMaximum =
 
 -- the token with one more group, which is enabled
 abbrev pub with_group : TokenValue → SidValue → TokenValue
-with_group t s = record { user = t.user; groups = (s, Enabled) ∷ t.groups; restricting = t.restricting; privileges = t.privileges }
+with_group t s = record {
+  user = t.user;
+  groups = (s, Enabled) ∷ t.groups;
+  restricting = t.restricting;
+  privileges = t.privileges;
+}
 
 -- no effective deny entry that speaks of the SID names the bit
 abbrev pub NamesNot : MappingValue → Option SidValue → SidValue → ℕ → Ace → Type 0
-NamesNot g owner s b e = not (is_inherit_only e) ≡ true → e.kind ≡ Deny → holds (mapped g e.mask) b ≡ true → subject owner e.sid ≡ Some s → ⊥
+NamesNot g owner s b e = not (is_inherit_only e) ≡ true → e.kind ≡ Deny → holds (mapped g e.mask) b ≡ true
+    → subject owner e.sid ≡ Some s → ⊥
 
 abbrev pub EnabledGroupTakesNothing : Type 0
 EnabledGroupTakesNothing =
@@ -89,7 +97,8 @@ NobodyRestrictsNothing =
     (owner : Option SidValue) (dacl : Option (List Ace)) (g : MappingValue) (t : TokenValue) (b : ℕ)
     → is_granted owner dacl g (restricted_to t []) b
     ≡ (acl_grants g (applies t owner) dacl b
-    || is_implied (stands_for_subject t Allow owner && not (limits_owner dacl)) t.privileges.take_ownership t.privileges.security b)
+    || is_implied (stands_for_subject t Allow owner
+    && not (limits_owner dacl)) t.privileges.take_ownership t.privileges.security b)
 
 -- a bit that a restricted token is granted, it is granted without the restriction too
 abbrev pub RestrictionGrantsNoBit : Type 0
@@ -103,11 +112,13 @@ abbrev pub RestrictionGrantsNoRequest : Type 0
 RestrictionGrantsNoRequest =
     (owner : Option SidValue) (dacl : Option (List Ace)) (g : MappingValue) (t : TokenValue) (r m : ℕ)
     → verdict owner dacl g t r ≡ Granted m
-    → (more : ℕ) × ((verdict owner dacl g (restricted_to t []) r ≡ Granted more) × ((b : ℕ) → b < 32 → holds m b ≡ true → holds more b ≡ true))
+    → (more : ℕ) × ((verdict owner dacl g (restricted_to t []) r ≡ Granted more)
+    × ((b : ℕ) → b < 32 → holds m b ≡ true → holds more b ≡ true))
 
 -- the same restricting SIDs, in whatever order and however often each, give the same verdicts
 abbrev pub OrderOfRestrictingSidsIsFree : Type 0
 OrderOfRestrictingSidsIsFree =
-    (owner : Option SidValue) (dacl : Option (List Ace)) (g : MappingValue) (t : TokenValue) (some others : List SidValue) (r : ℕ)
+    (owner : Option SidValue) (dacl : Option (List Ace)) (g : MappingValue) (t : TokenValue)
+    (some others : List SidValue) (r : ℕ)
     → ((s : SidValue) → is_restricting (restricted_to t some) s ≡ is_restricting (restricted_to t others) s)
     → verdict owner dacl g (restricted_to t some) r ≡ verdict owner dacl g (restricted_to t others) r

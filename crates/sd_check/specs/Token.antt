@@ -28,7 +28,8 @@ counts kind Disabled = false
 
 -- some place of the groups has the SID, and counts
 abbrev pub a_group_stands_for : List (SidValue × GroupState) → AceKind → SidValue → Bool
-a_group_stands_for groups kind s = list_any (λ (group : SidValue × GroupState). same_sid group.0 s && counts kind group.1) groups
+a_group_stands_for groups kind s = list_any (λ (group : SidValue × GroupState). same_sid group.0 s
+    && counts kind group.1) groups
 
 -- the user has the SID, or a group that counts
 abbrev pub stands_for : TokenValue → AceKind → SidValue → Bool

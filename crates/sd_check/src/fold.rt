@@ -1,9 +1,11 @@
 //! The check: a fold over the entries of a list, wherever they are stored.
 
-ghost use Rattle.std.specs.Prelude.{◌≡◌, ◌==◌, ◌<◌, ◌^◌, ◌==◌, ◌<◌, ◌^◌, ◌∷◌, [], ◌++◌, ◌&&◌, ◌||◌, not, false, true, map, Bool, List, Option, Some, None};
+ghost use Rattle.std.specs.Prelude.{◌≡◌, ◌==◌, ◌<◌, ◌^◌, ◌==◌, ◌<◌, ◌^◌, ◌∷◌, [], ◌++◌, ◌&&◌, ◌||◌, not, false, true};
+ghost use Rattle.std.specs.Prelude.{map, Bool, List, Option, Some, None};
 ghost use Rattle.sd_sid.specs.Mask.{holds, mask_of};
 ghost use Rattle.sd_acl.specs.declared.ace.Ace.{Ace};
-ghost use Rattle.sd_check.specs.Check.{is_given, is_granted, is_implied, is_listed, is_owner, limits_owner, most_of, verdict};
+ghost use Rattle.sd_check.specs.Check.{is_given, is_granted, is_implied, is_listed, is_owner, limits_owner, most_of};
+ghost use Rattle.sd_check.specs.Check.{verdict};
 ghost use Rattle.sd_check.specs.Check as rules;
 ghost use Rattle.sd_check.specs.Fold.{asking, IsTally, wanted_bits};
 ghost use Rattle.sd_check.specs.Token.{is_restricted};
@@ -40,8 +42,9 @@ impl<O: Trustee> Question<'_, O> {
         }
     }
 
-    /// What the entries so far come to with one more ([MS-DTYP] 2.5.3.2), where BOTH says whether the token is restricted.
-    /// One look passes over most: the token doesn't stand for their SID, or all is settled. Takes no memory.
+    /// What the entries so far come to with one more ([MS-DTYP] 2.5.3.2), where BOTH says whether the token is
+    /// restricted. One look passes over most: the token doesn't stand for their SID, or all is settled. Takes no
+    /// memory.
     #[inline(always)]
     pub fn after<const BOTH: bool, E: Entry>(&self, tally: Tally, entry: &E) -> Tally
         ensures { (seen : List Ace) → IsTally BOTH (asking O.sid self.now) seen tally
@@ -56,7 +59,8 @@ impl<O: Trustee> Question<'_, O> {
     /// Whether one look shows that the entry changes nothing, as most entries of a long list do.
     #[inline(always)]
     fn is_silent<E: Entry>(&self, entry: &E) -> bool
-        ensures { result ≡ true → (both : Bool) (seen : List Ace) (tally : Tally) → IsTally both (asking O.sid self.now) seen tally
+        ensures { result ≡ true → (both : Bool) (seen : List Ace) (tally : Tally)
+            → IsTally both (asking O.sid self.now) seen tally
             → IsTally both (asking O.sid self.now) (seen ++ E.ace entry.now ∷ []) tally }
     {
         !self.token.may_matter(entry.trustee())
@@ -110,7 +114,8 @@ impl<O: Trustee> Question<'_, O> {
     pub fn verdict<const BOTH: bool>(&self, tally: Tally) -> Verdict
         requires { BOTH ≡ is_restricted self.now.token.now }
         ensures { let q = asking O.sid self.now in
-            (seen : List Ace) → IsTally BOTH q seen tally → result ≡ verdict q.owner (Some seen) q.mapping q.token q.asked }
+            (seen : List Ace) → IsTally BOTH q seen tally
+            → result ≡ verdict q.owner (Some seen) q.mapping q.token q.asked }
     {
         let granted = self.granted::<BOTH>(tally);
         if self.is_plain() {
@@ -135,7 +140,8 @@ impl<O: Trustee> Question<'_, O> {
         requires { BOTH ≡ is_restricted self.now.token.now }
         ensures { let q = asking O.sid self.now in
             (seen : List Ace) → IsTally BOTH q seen tally → result
-            ≡ mask_of (λ b. holds (wanted_bits q.mapping q.asked) b && is_granted q.owner (Some seen) q.mapping q.token b) 32 }
+            ≡ mask_of (λ b. holds (wanted_bits q.mapping q.asked) b
+            && is_granted q.owner (Some seen) q.mapping q.token b) 32 }
     {
         let privileged = self
             .wanted_bits()
@@ -226,7 +232,8 @@ impl<O: Trustee> Question<'_, O> {
     fn answer(&self, granted: Mask, most: Mask) -> Verdict
         ensures { let q = asking O.sid self.now in
             (dacl : Option (List Ace))
-            → granted ≡ mask_of (λ b. holds (wanted_bits q.mapping q.asked) b && is_granted q.owner dacl q.mapping q.token b) 32
+            → granted ≡ mask_of (λ b. holds (wanted_bits q.mapping q.asked) b
+            && is_granted q.owner dacl q.mapping q.token b) 32
             → most ≡ most_of q.mapping (holds granted) (is_given q.owner dacl q.token) dacl
             → result ≡ verdict q.owner dacl q.mapping q.token q.asked }
     {

@@ -1,7 +1,8 @@
-//! Finds an entry's SID among those of a token. Each SID has one of 1,024 places. Most entries' SIDs have a place that no
-//! SID of the token has; any other is compared with those of its place alone.
+//! Finds an entry's SID among those of a token. Each SID has one of 1,024 places. Most entries' SIDs have a place that
+//! no SID of the token has; any other is compared with those of its place alone.
 
-ghost use Rattle.std.specs.Prelude.{◌≡◌, ◌<◌, ◌+◌, ◌-◌, ◌||◌, ◌&&◌, true, List, ℕ, length, drop, slice_index, slice_index_or};
+ghost use Rattle.std.specs.Prelude.{◌≡◌, ◌<◌, ◌+◌, ◌-◌, ◌||◌, ◌&&◌, true, List, ℕ, length, drop, slice_index};
+ghost use Rattle.std.specs.Prelude.{slice_index_or};
 ghost use Rattle.sd_sid.specs.Sid.{SidValue, same_sid, owner_rights};
 ghost use Rattle.sd_check.specs.declared.token.GroupState.{GroupState};
 ghost use Rattle.sd_check.specs.Index.{HoldsEach, IsIndex, IsIndexOfEach, may_hold, place_of};
@@ -21,9 +22,9 @@ const MAX_CHAINED: usize = 254;
 /// The place of OWNER RIGHTS, S-1-3-4 ([MS-DTYP] 2.4.2.4).
 const OWNER_RIGHTS_PLACE: usize = 4;
 
-/// For each place a chain of the groups whose SIDs have it, the last first, and then the user. A link is 0 at the end of a
-/// chain, 1 for the user, and a group's number and 2 for a group. The place of OWNER RIGHTS, of a restricting SID or of a
-/// group beyond the first 254 has the link 1, unless it has another.
+/// For each place a chain of the groups whose SIDs have it, the last first, and then the user. A link is 0 at the end
+/// of a chain, 1 for the user, and a group's number and 2 for a group. The place of OWNER RIGHTS, of a restricting SID
+/// or of a group beyond the first 254 has the link 1, unless it has another.
 #[derive(Clone, Copy, Debug)]
 pub(crate) struct Index {
     /// For each place the first link of its chain.
@@ -171,8 +172,8 @@ fn beyond_chains(groups: &[(Sid, GroupState)]) -> &[(Sid, GroupState)]
     }
 }
 
-/// Whether one of the groups has the SID, and counts for an entry of the kind. Four groups at a turn halve what the turns
-/// cost.
+/// Whether one of the groups has the SID, and counts for an entry of the kind. Four groups at a turn halve what the
+/// turns cost.
 fn a_group_stands_for(groups: &[(Sid, GroupState)], kind: AceKind, sid: &Sid) -> bool
     ensures { result ≡ a_group_stands_for groups.now kind sid.now }
 {

@@ -1,6 +1,9 @@
 //! What follows from the rules of the check. Each law is the contract of a function that does nothing.
 
-ghost use Rattle.sd_check.specs.Laws.{FirstEntryDecides, SilentEntryChangesNothing, GrantsWhatWasAsked, MaximumIsEachByItself, DeniedMaximumIsNone, NothingBeyondMaximum, EnabledGroupTakesNothing, EntriesGrantRightsAlone, NobodyRestrictsNothing, RestrictionGrantsNoBit, RestrictionGrantsNoRequest, OrderOfRestrictingSidsIsFree};
+ghost use Rattle.sd_check.specs.Laws.{FirstEntryDecides, SilentEntryChangesNothing, GrantsWhatWasAsked};
+ghost use Rattle.sd_check.specs.Laws.{MaximumIsEachByItself, DeniedMaximumIsNone, NothingBeyondMaximum};
+ghost use Rattle.sd_check.specs.Laws.{EnabledGroupTakesNothing, EntriesGrantRightsAlone, NobodyRestrictsNothing};
+ghost use Rattle.sd_check.specs.Laws.{RestrictionGrantsNoBit, RestrictionGrantsNoRequest, OrderOfRestrictingSidsIsFree};
 
 /// A deny before an allow of the same bit wins, and after it loses: the first entry that decides a bit counts,
 /// whatever comes after ([MS-DTYP] 2.5.3.2).

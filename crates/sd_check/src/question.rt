@@ -3,7 +3,8 @@
 ghost use Rattle.std.specs.Prelude.{◌≡◌, ◌&&◌};
 ghost use Rattle.sd_acl.specs.declared.ace.AceKind.{AceKind};
 ghost use Rattle.sd_sid.specs.Mapping.{mapped};
-ghost use Rattle.sd_check.specs.Check.{applies, applies_again, applies_in, in_each_pass, is_owner, is_restricting_subject, stands_for_subject, without_maximum};
+ghost use Rattle.sd_check.specs.Check.{applies, applies_again, applies_in, in_each_pass, is_owner};
+ghost use Rattle.sd_check.specs.Check.{is_restricting_subject, stands_for_subject, without_maximum};
 ghost use Rattle.sd_check.specs.Fold.{asking, owners_in, part_of, wanted_bits};
 ghost use Rattle.sd_check.specs.Token.{is_restricting, stands_for};
 
@@ -142,7 +143,8 @@ impl<O: Trustee> Question<'_, O> {
     // (after the look that answers for most)
     #[inline(never)]
     fn has_owner(&self, owner: &O) -> bool
-        ensures { result ≡ in_each_pass self.now.token.now (stands_for self.now.token.now AceKind.Allow (O.sid owner.now))
+        ensures { result ≡ in_each_pass self.now.token.now
+            (stands_for self.now.token.now AceKind.Allow (O.sid owner.now))
             (is_restricting self.now.token.now (O.sid owner.now)) }
     {
         owner.is_of(AceKind::Allow, self.token)

@@ -57,8 +57,8 @@ pub fn check_parts(
     }
 }
 
-/// The same for a list in two parts, as a node's own entries and those that it inherits: the first before the second, and
-/// neither copied.
+/// The same for a list in two parts, as a node's own entries and those that it inherits: the first before the second,
+/// and neither copied.
 pub fn check_joined(
     owner: Option<Sid>,
     front: &[Ace],

@@ -36,7 +36,8 @@ impl Settled {
         }
     }
 
-    /// Whether an entry further on can change nothing: no bit is undecided, nor any that the owner keeps and isn't allowed.
+    /// Whether an entry further on can change nothing: no bit is undecided, nor any that the owner keeps and isn't
+    /// allowed.
     #[inline]
     fn is_over(&self, kept: Mask) -> bool
         ensures { result ≡ true → IsSettled self.now kept }

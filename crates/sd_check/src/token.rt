@@ -45,8 +45,8 @@ impl Default for Privileges {
     }
 }
 
-/// Who asks ([MS-DTYP] 2.5.2): a user, its groups as they were given, its privileges and, where it is restricted, the SIDs
-/// for which access is asked a second time.
+/// Who asks ([MS-DTYP] 2.5.2): a user, its groups as they were given, its privileges and, where it is restricted, the
+/// SIDs for which access is asked a second time.
 #[derive(Debug, Drop)]
 pub struct Token {
     user: Sid,
@@ -66,7 +66,12 @@ impl Model for Token {
     ghost use Rattle.sd_sid.specs.Sid.{owner_rights};
     ghost use Rattle.sd_check.specs.Index.{HoldsEach, IsIndex, IsIndexOfEach, may_hold};
 
-    ghost view = { λ t. record { user = t.user; groups = t.groups.items; restricting = t.restricting.items; privileges = t.privileges } };
+    ghost view = { λ t. record {
+      user = t.user;
+      groups = t.groups.items;
+      restricting = t.restricting.items;
+      privileges = t.privileges;
+    } };
 
     ghost invariant = { λ t. IsIndexOfEach t.index.heads t.user t.groups.items
         × HoldsEach t.index.heads t.restricting.items × (may_hold t.index.heads owner_rights ≡ true)
@@ -105,7 +110,12 @@ impl Token {
         restricting: Vec<Sid>,
         privileges: Privileges,
     ) -> Token
-        ensures { result ≡ record { user = user; groups = groups.items; restricting = restricting.items; privileges = privileges } }
+        ensures { result ≡ record {
+          user = user;
+          groups = groups.items;
+          restricting = restricting.items;
+          privileges = privileges;
+        } }
     {
         let mut index = Index::new(&user, &groups);
         index.mark_each(&restricting);
@@ -124,8 +134,8 @@ impl Token {
         self.privileges
     }
 
-    /// Whether the token may stand for the SID at all, in either pass, or the SID is OWNER RIGHTS. Where not, no entry of
-    /// either kind applies, nor does one limit the owner.
+    /// Whether the token may stand for the SID at all, in either pass, or the SID is OWNER RIGHTS. Where not, no entry
+    /// of either kind applies, nor does one limit the owner.
     #[inline(always)]
     pub(crate) fn may_matter<S: Trustee>(&self, sid: &S) -> bool
         ensures first { result ≡ false → (kind : AceKind) → stands_for self.now kind (S.sid sid.now) ≡ false }

@@ -1,5 +1,5 @@
 -- One walk that finds for each bit the entry that settles it.
-use Rattle.std.proofs.Common.{◌≡◌, ℕ, ◌+◌, ◌<◌, ◌≤◌, ◌==◌, ◌&&◌, Bool, true, false, not, cond, List, length, get_or, drop, refl, sym, ◌∙◌, ap}
+use Rattle.std.proofs.Common.{◌≡◌, ℕ, ◌+◌, ◌<◌, ◌≤◌, ◌==◌, ◌&&◌, Bool, true, false, not, cond, List, length, get_or, drop, ◌∙◌, ap, arith}
 use Rattle.std.proofs.lemmas.Bool.{eqb-true}
 use Rattle.std.proofs.lemmas.Nat.Bits.{bit_at-zero}
 use Rattle.std.proofs.lemmas.List.{drop_all}
@@ -25,19 +25,6 @@ pub record IsFound (g : MappingValue) (who : AceKind → SidValue → Bool) (es 
   pub none : (b : ℕ) → b < 32 → holds bits b ≡ true → holds u b ≡ true → get_or fs b NoEntry ≡ NoEntry
   pub done : (b : ℕ) → b < 32 → holds bits b ≡ true → holds u b ≡ false → get_or fs b NoEntry ≡ finding_of g who es b
 
-both : (x y : Bool) → (x && y) ≡ true → x ≡ true
-both true y h = refl
-both false y h = absurd cc
-
-not_both : (x y : Bool) → (x && y) ≡ false → y ≡ true → x ≡ false
-not_both true y h is = absurd cc
-not_both false y h is = refl
-
-passed : (m u : Bool) → (u && not (m && u)) ≡ true → m ≡ false
-passed true true h = absurd cc
-passed true false h = absurd cc
-passed false u h = refl
-
 module _ (g : MappingValue) (who : AceKind → SidValue → Bool) (es : List Ace) (bits : ℕ) where
   pub found_none : (fs : List Finding) → length fs ≡ 32 → ((b : ℕ) → b < 32 → get_or fs b NoEntry ≡ NoEntry) → IsFound g who es fs bits bits 0
   found_none fs size empty = record {
@@ -57,9 +44,9 @@ module _ (g : MappingValue) (who : AceKind → SidValue → Bool) (es : List Ace
   found_passed fs u i m d e low is is_m is_d empty found = record {
     size = found.size;
     left = λ b h want un.
-        let decided : (holds m b && holds u b) ≡ false = sym (stands (λ k. holds m k && holds u k) d b h is_d) ∙ ap (λ n. holds n b) (eqb-true d 0 empty) ∙ ap (λ n. n == 1) (bit_at-zero b) in
         found.left b h want un
-        ∙ passes (decides g who b) es i e low is (sym (at_mask e m b is_m) ∙ not_both (holds m b) (holds u b) decided un);
+        ∙ passes (decides g who b) es i e low is
+        (grind (arith, un, at_mask e m b is_m, stands (λ k. holds m k && holds u k) d b h is_d, ap (λ n. holds n b) (eqb-true d 0 empty), ap (λ n. n == 1) (bit_at-zero b)));
     none = found.none;
     done = found.done;
   }
@@ -67,16 +54,6 @@ module _ (g : MappingValue) (who : AceKind → SidValue → Bool) (es : List Ace
   -- a bit that is undecided after an entry too
   still : (u d v m b : ℕ) → b < 32 → d ≡ mask_of (λ b. holds m b && holds u b) 32 → v ≡ mask_of (λ b. holds u b && not (holds d b)) 32 → holds v b ≡ (holds u b && not (holds m b && holds u b))
   still u d v m b h is_d is_v = stands (λ k. holds u k && not (holds d k)) v b h is_v ∙ ap (λ t. holds u b && not t) (stands (λ k. holds m k && holds u k) d b h is_d)
-
-  now : (fs : List Finding) (u i m b : ℕ) (e : Ace) (f : Finding) → i < length es → e ≡ get_or es i e → m ≡ part_of g who e
-      → f ≡ cond (is_allow e.kind) (Allowed i) (Denied i) → b < 32 → holds bits b ≡ true → IsFound g who es fs u bits i
-      → (mm uu : Bool) → holds m b ≡ mm → holds u b ≡ uu → (uu && not (mm && uu)) ≡ false
-      → cond (mm && uu) f (get_or fs b NoEntry) ≡ finding_of g who es b
-  now fs u i m b e f low is is_m is_f h want found true true mm uu gone =
-      is_f ∙ sym (found.left b h want uu ∙ settled (decides g who b) es i e low is (sym (at_mask e m b is_m) ∙ mm))
-  now fs u i m b e f low is is_m is_f h want found true false mm uu gone = found.done b h want uu
-  now fs u i m b e f low is is_m is_f h want found false true mm uu gone = absurd cc
-  now fs u i m b e f low is is_m is_f h want found false false mm uu gone = found.done b h want uu
 
   pub found_more : (fs gs : List Finding) (u v i m d : ℕ) (e : Ace) (f : Finding) → i < length es → e ≡ get_or es i e
       → m ≡ part_of g who e → d ≡ mask_of (λ b. holds m b && holds u b) 32 → v ≡ mask_of (λ b. holds u b && not (holds d b)) 32
@@ -87,29 +64,29 @@ module _ (g : MappingValue) (who : AceKind → SidValue → Bool) (es : List Ace
   found_more fs gs u v i m d e f low is is_m is_d is_v is_f size noted found = record {
     size = size;
     left = λ b h want un.
-        let at = sym (still u d v m b h is_d is_v) ∙ un in
-        let before : holds u b ≡ true = both (holds u b) (not (holds m b && holds u b)) at in
-        found.left b h want before
-        ∙ passes (decides g who b) es i e low is (sym (at_mask e m b is_m) ∙ passed (holds m b) (holds u b) at);
+        let at = still u d v m b h is_d is_v in
+        found.left b h want (grind (arith, at, un)) ∙ passes (decides g who b) es i e low is (grind (arith, at, un, at_mask e m b is_m));
     none = λ b h want un.
-        let at = sym (still u d v m b h is_d is_v) ∙ un in
-        let before : holds u b ≡ true = both (holds u b) (not (holds m b && holds u b)) at in
-        let no : holds d b ≡ false = stands (λ k. holds m k && holds u k) d b h is_d ∙ ap (λ t. t && holds u b) (passed (holds m b) (holds u b) at) in
-        noted b h ∙ ap (λ t. cond t f (get_or fs b NoEntry)) no ∙ found.none b h want before;
+        grind (arith, un, still u d v m b h is_d is_v, stands (λ k. holds m k && holds u k) d b h is_d, noted b h, found.none b h want);
     done = λ b h want gone.
-        let at = sym (still u d v m b h is_d is_v) ∙ gone in
-        noted b h ∙ ap (λ t. cond t f (get_or fs b NoEntry)) (stands (λ k. holds m k && holds u k) d b h is_d)
-        ∙ now fs u i m b e f low is is_m is_f h want found (holds m b) (holds u b) refl refl at;
+        grind (
+          arith,
+          gone,
+          still u d v m b h is_d is_v,
+          stands (λ k. holds m k && holds u k) d b h is_d,
+          noted b h,
+          at_mask e m b is_m,
+          is_f,
+          found.done b h want,
+          found.left b h want,
+          settled (decides g who b) es i e low is,
+        );
   }
-
-  last : (fs : List Finding) (u i b : ℕ) → length es ≤ i → b < 32 → holds bits b ≡ true → IsFound g who es fs u bits i → (un : Bool) → holds u b ≡ un → get_or fs b NoEntry ≡ finding_of g who es b
-  last fs u i b end h want found true is =
-      found.none b h want is ∙ sym (found.left b h want is ∙ ap (λ rest. finding_from (decides g who b) rest i) (drop_all i es end))
-  last fs u i b end h want found false is = found.done b h want is
 
   -- where the walk ends: at the end of the list, or where no bit is undecided
   pub found_all : (fs : List Finding) (u i b : ℕ) → length es ≤ i → b < 32 → holds bits b ≡ true → IsFound g who es fs u bits i → get_or fs b NoEntry ≡ finding_of g who es b
-  found_all fs u i b end h want found = last fs u i b end h want found (holds u b) refl
+  found_all fs u i b end h want found =
+      grind (arith, found.none b h want, found.left b h want, found.done b h want, ap (λ rest. finding_from (decides g who b) rest i) (drop_all i es end))
 
   pub found_settled : (fs : List Finding) (u i b : ℕ) → (u == 0) ≡ true → b < 32 → holds bits b ≡ true → IsFound g who es fs u bits i → get_or fs b NoEntry ≡ finding_of g who es b
   found_settled fs u i b none h want found = found.done b h want (ap (λ n. holds n b) (eqb-true u 0 none) ∙ ap (λ n. n == 1) (bit_at-zero b))

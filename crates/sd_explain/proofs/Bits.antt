@@ -1,9 +1,9 @@
 -- Masks that are gathered place by place.
-use Rattle.std.proofs.Common.{◌≡◌, ℕ, ◌+◌, ◌*◌, ◌%◌, ◌^◌, ◌<◌, ◌≤◌, Bool, false, ◌&&◌, ◌||◌, ◌==◌, nat_lt, cond, inl, inr, refl, sym, ◌∙◌, ap, arith}
-use Rattle.std.proofs.lemmas.Bool.{cases_order, lt-ltb, le-ltb}
+use Rattle.std.proofs.Common.{◌≡◌, ℕ, ◌+◌, ◌*◌, ◌%◌, ◌^◌, ◌<◌, ◌≤◌, Bool, ◌&&◌, ◌||◌, nat_lt, cond, refl, sym, ◌∙◌, arith}
+use Rattle.std.proofs.lemmas.Bool.{cases_eq}
+use Rattle.std.proofs.lemmas.Bool.Decides.{nat_tests}
 use Rattle.std.proofs.lemmas.Nat.{pow_below}
 use Rattle.std.proofs.lemmas.Nat.Bits.{bit_at-pow_same, bit_at-pow_other}
-use Rattle.std.proofs.Math.Bool.{and-false, and-true, or-false}
 use Rattle.std.proofs.Math.Nat.{one-mul}
 use Rattle.std.proofs.Math.Pow.{pow_mono}
 use Rattle.sd_sid.specs.Mask.{holds, mask_of}
@@ -20,20 +20,7 @@ one_place k low = let small : 2 ^ k < 2 ^ 32 = pow_below k 32 low in rw one-mul 
 
 -- the places below k with a test, and the place k with its own, are those below k + 1
 place_more : (p : ℕ → Bool) (k b : ℕ) → ((nat_lt b k && p b) || (p k && holds (2 ^ k) b)) ≡ (nat_lt b (k + 1) && p b)
-place_more p k b = elim (cases_order b k) [
-  | inl same ↦
-      ap (λ i. (nat_lt i k && p i) || (p k && holds (2 ^ k) i)) same
-      ∙ ap (λ t. (t && p k) || (p k && holds (2 ^ k) k)) (le-ltb k k (omega arith))
-      ∙ ap (λ n. p k && n == 1) (bit_at-pow_same k) ∙ and-true (p k)
-      ∙ sym (ap (λ i. nat_lt i (k + 1) && p i) same ∙ ap (λ t. t && p k) (lt-ltb k (k + 1) (omega arith)))
-  | inr other ↦
-      ap (λ n. (nat_lt b k && p b) || (p k && n == 1)) (bit_at-pow_other k b (λ e. elim other [ inl low ↦ absurd (omega arith) | inr high ↦ absurd (omega arith) ]))
-      ∙ ap (λ t. (nat_lt b k && p b) || t) (and-false (p k)) ∙ or-false (nat_lt b k && p b)
-      ∙ ap (λ t. t && p b) (elim other [
-        | inl low ↦ lt-ltb b k low ∙ sym (lt-ltb b (k + 1) (omega arith))
-        | inr high ↦ le-ltb b k (omega arith) ∙ sym (le-ltb b (k + 1) (omega arith))
-      ])
-]
+place_more p k b = grind (arith, nat_tests, cases_eq b k, bit_at-pow_same k, bit_at-pow_other k b)
 
 -- one more place of a mask
 pub one_more : (p : ℕ → Bool) (k bits one more : ℕ) (test : Bool) → k < 32
@@ -42,17 +29,9 @@ pub one_more : (p : ℕ → Bool) (k bits one more : ℕ) (test : Bool) → k < 
 one_more p k bits one more test low is_bits is_test is_one is_more =
     is_more
     ∙ mask_of-alike _ (λ b. nat_lt b (k + 1) && p b) 32 (λ b h.
-    ap (λ n. holds n b || holds one b) is_bits
-    ∙ ap (λ t. t || holds one b) (holds-mask_of p k b)
-    ∙ ap (λ n. (nat_lt b k && p b) || holds n b) (is_one ∙ ap (λ t. cond t (1 * 2 ^ k % 4294967296) 0) is_test ∙ ap (λ n. cond (p k) n 0) (one_place k low))
-    ∙ ap (λ t. (nat_lt b k && p b) || t) (holds_when (p k) (2 ^ k) b)
-    ∙ place_more p k b)
+    grind (arith, is_bits, is_test, is_one, one_place k low, holds-mask_of p k b, holds_when (p k) (2 ^ k) b, place_more p k b))
     ∙ sym (narrow p (k + 1) (omega arith))
 
 -- a mask is that of its own places
 pub own_places : (q : ℕ) → q < 2 ^ 32 → q ≡ mask_of (holds q) 32
 own_places q small = is_mask_of (holds q) q small (λ b h. refl)
-
-pub no_places : mask_of (λ b. false) 32 ≡ 0
-unfolding mask_of
-no_places = refl

@@ -7,4 +7,3 @@ pub mod Causes
 pub mod Told
 pub mod PartLaws
 pub mod ReasonLaws
-pub mod DeadEntries

@@ -1,13 +1,11 @@
 -- The finding that is written at the places that an entry decides, one place after the other.
-use Rattle.std.proofs.Common.{◌≡◌, ◌==◌, ◌/◌, ◌*◌, ◌^◌, subst, eqb-true, pow_pos, ℕ, ◌+◌, ◌<◌, ◌≤◌, Bool, true, false, cond, List, length, get_or, set, sym, ◌∙◌, ap, arith, inl, inr, length-set}
+use Rattle.std.proofs.Common.{◌≡◌, ◌==◌, ◌/◌, ◌*◌, ◌^◌, subst, eqb-true, pow_pos, ℕ, ◌+◌, ◌<◌, ◌≤◌, Bool, true, false, cond, List, length, get_or, sym, ◌∙◌, ap, arith, inl, inr}
 use Rattle.std.proofs.Math.Nat.{lt-div-mul-add}
 use Rattle.std.proofs.lemmas.Bool.{cases_eq, cases_lt}
 use Rattle.std.proofs.lemmas.Nat.Bits.{bit_at-trailing_zeros, bit_at-zero, bit_at_above}
 use Rattle.std.specs.Int.{trailing_zeros}
 use Rattle.std.specs.Int.Width.{w32}
 use Rattle.sd_sid.specs.Mask.{holds}
-use Rattle.std.proofs.lemmas.List.{get_or-set_other}
-use Rattle.std.proofs.lemmas.Grind.{get_or-set_at}
 use Rattle.sd_explain.specs.declared.reason.Finding.{Finding}
 use Rattle.sd_explain.specs.declared.reason.Finding.TheVariants.{NoEntry}
 
@@ -28,10 +26,7 @@ noted_from fs decided finding i size none = record {
 -- where the others aren't decided, all is written
 pub noted_all : (fs : List Finding) (old : ℕ → Finding) (decided : ℕ → Bool) (finding : Finding) (i b : ℕ) → ((k : ℕ) → i ≤ k → decided k ≡ false)
     → IsNoted fs old decided finding i → get_or fs b NoEntry ≡ cond (decided b) finding (old b)
-noted_all fs old decided finding i b none noted = elim (cases_lt b i) [
-  | inl low ↦ noted.done b low
-  | inr high ↦ noted.rest b high ∙ sym (ap (λ t. cond t finding (old b)) (none b high))
-]
+noted_all fs old decided finding i b none noted = grind (arith, cases_lt b i, noted.done b, noted.rest b, none b)
 
 -- a mask holds no place below its lowest
 pub none_below_lowest : (n b : ℕ) → n < 2 ^ 32 → b < trailing_zeros w32 n → holds n b ≡ false
@@ -46,27 +41,3 @@ below n i none = let less : n < 0 * 2 ^ i + 2 ^ i = subst (λ q. n < q * 2 ^ i +
 -- nor any from a place on where nothing is left of it
 pub none_from : (n i k : ℕ) → (n / 2 ^ i == 0) ≡ true → i ≤ k → holds n k ≡ false
 none_from n i k nothing high = ap (λ d. d == 1) (bit_at_above n i k (below n i (eqb-true (n / 2 ^ i) 0 nothing)) high)
-
-pub noted_here : (fs : List Finding) (old : ℕ → Finding) (decided : ℕ → Bool) (finding : Finding) (i : ℕ) → i < 32 → decided i ≡ true
-    → IsNoted fs old decided finding i → IsNoted (set fs i finding) old decided finding (i + 1)
-noted_here fs old decided finding i low is noted =
-    let inside : i < length fs = omega (arith, low, noted.size) in
-    record {
-      size = length-set fs i finding ∙ noted.size;
-      done = λ b h. elim (cases_eq b i) as (λ _. get_or (set fs i finding) b NoEntry ≡ cond (decided b) finding (old b)) [
-        | inl e ↦ get_or-set_at fs i b finding NoEntry e inside ∙ sym (ap (λ t. cond t finding (old b)) (ap decided e ∙ is))
-        | inr ne ↦ get_or-set_other fs i b finding NoEntry ne ∙ noted.done b (omega (arith, h, ne))
-      ];
-      rest = λ b h. get_or-set_other fs i b finding NoEntry (λ (e : b ≡ i). omega (arith, h, e)) ∙ noted.rest b (omega (arith, h));
-    }
-
-pub noted_not : (fs : List Finding) (old : ℕ → Finding) (decided : ℕ → Bool) (finding : Finding) (i : ℕ) → decided i ≡ false
-    → IsNoted fs old decided finding i → IsNoted fs old decided finding (i + 1)
-noted_not fs old decided finding i is noted = record {
-  size = noted.size;
-  done = λ b h. elim (cases_eq b i) as (λ _. get_or fs b NoEntry ≡ cond (decided b) finding (old b)) [
-    | inl e ↦ noted.rest b (omega (arith, e)) ∙ sym (ap (λ t. cond t finding (old b)) (ap decided e ∙ is))
-    | inr ne ↦ noted.done b (omega (arith, h, ne))
-  ];
-  rest = λ b h. noted.rest b (omega (arith, h));
-}

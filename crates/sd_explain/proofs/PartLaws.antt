@@ -6,7 +6,7 @@ use Rattle.sd_sid.specs.Mask.{holds, mask_of}
 use Rattle.sd_sid.proofs.Masks.{holds_place, holds-mask_of}
 use Rattle.sd_explain.specs.Reasons.{same_finding, same_cause}
 use Rattle.sd_explain.specs.Parts.{is_of_share, bits_of, part_of, part_at}
-use Rattle.sd_explain.specs.Laws.{PartsAreApart, EachBitHasItsPart, IsPartOf, PartsHoldTheirCause}
+use Rattle.sd_explain.specs.Laws.{IsPartOf}
 use Rattle.sd_explain.specs.declared.explanation.Part.{Part}
 use Rattle.sd_explain.specs.declared.reason.Finding.{Finding}
 use Rattle.sd_explain.specs.declared.reason.Finding.TheVariants.{Allowed, Denied, NoEntry}
@@ -19,14 +19,9 @@ use Rattle.sd_explain.specs.declared.reason.Share.TheVariants as shares
 
 same_finding-true : (j k : Finding) → same_finding j k ≡ true → j ≡ k
 same_finding-true (Allowed j) (Allowed k) h = ap Allowed (eqb-true j k h)
-same_finding-true (Allowed j) (Denied k) h = absurd cc
-same_finding-true (Allowed j) NoEntry h = absurd cc
-same_finding-true (Denied j) (Allowed k) h = absurd cc
 same_finding-true (Denied j) (Denied k) h = ap Denied (eqb-true j k h)
-same_finding-true (Denied j) NoEntry h = absurd cc
-same_finding-true NoEntry (Allowed k) h = absurd cc
-same_finding-true NoEntry (Denied k) h = absurd cc
 same_finding-true NoEntry NoEntry h = refl
+same_finding-true j k h = absurd cc
 
 same_finding-itself : (k : Finding) → same_finding k k ≡ true
 same_finding-itself (Allowed k) = eq-eqb k k refl
@@ -48,15 +43,9 @@ same_cause-true Reserved Reserved h = refl
 same_cause-true a b h = absurd cc
 
 same_cause-itself : (a : Cause) → same_cause a a ≡ true
-same_cause-itself NoList = refl
 same_cause-itself (Listed k) = same_finding-itself k
 same_cause-itself (Restricted j k) = and_from (same_finding j j) (same_finding k k) (same_finding-itself j) (same_finding-itself k)
-same_cause-itself Owner = refl
-same_cause-itself TakeOwnership = refl
-same_cause-itself Security = refl
-same_cause-itself NoSecurity = refl
-same_cause-itself BeyondAll = refl
-same_cause-itself Reserved = refl
+same_cause-itself a = refl
 
 -- ---- the least place of a mask
 
@@ -125,7 +114,7 @@ module _ (reasons : ℕ → Option Reason) where
       let parts = part_parts place (reasons place) part is in
       ap (is_of_share (shares.Because part.cause)) parts.1.0 ∙ ap (λ x. same_cause x part.cause) parts.1.1.0 ∙ same_cause-itself part.cause
 
-  hold_their_cause : (place b : ℕ) (part : Part) → part_at reasons place ≡ Some part → b < 32 → holds part.mask b ≡ true
+  pub hold_their_cause : (place b : ℕ) (part : Part) → part_at reasons place ≡ Some part → b < 32 → holds part.mask b ≡ true
       → (reason : Reason) × ((reasons b ≡ Some reason) × (reason.cause ≡ part.cause))
   hold_their_cause place b part is low held = has_reason (reasons b) part.cause (bit_of_part place b part is low held)
 
@@ -137,7 +126,7 @@ module _ (reasons : ℕ → Option Reason) where
       λ (x : Cause). cond (bits_of (shares.Because x) reasons place == 0) (Some (record { mask = bits_of (shares.Because x) reasons 32; cause = x })) None in
       ap (part_of reasons place) is ∙ ap made tells ∙ cond-true (bits_of (shares.Because cause) reasons place == 0) _ _ none
 
-  has_its_part : (b : ℕ) (reason : Reason) → b < 32 → reasons b ≡ Some reason → IsPartOf reasons b reason
+  pub has_its_part : (b : ℕ) (reason : Reason) → b < 32 → reasons b ≡ Some reason → IsPartOf reasons b reason
   has_its_part b reason low is =
       let here : because reason.cause b ≡ true = ap (is_of_share (shares.Because reason.cause)) is ∙ same_cause-itself reason.cause in
       let held = holds_place (because reason.cause) b low ∙ here in
@@ -156,15 +145,12 @@ module _ (reasons : ℕ → Option Reason) where
             }
       ]
 
-  one_cause : (o : Option Reason) (a b : Reason) → o ≡ Some a → o ≡ Some b → a ≡ b
-  one_cause o a b first second = cc
-
-  are_apart : (j k b : ℕ) (one other : Part) → part_at reasons j ≡ Some one → part_at reasons k ≡ Some other → j ≢ k
+  pub are_apart : (j k b : ℕ) (one other : Part) → part_at reasons j ≡ Some one → part_at reasons k ≡ Some other → j ≢ k
       → b < 32 → holds one.mask b ≡ true → holds other.mask b ≡ true → ⊥
   are_apart j k b one other is_one is_other apart low in_one in_other =
       let mine = hold_their_cause j b one is_one low in_one in
       let theirs = hold_their_cause k b other is_other low in_other in
-      let same : one.cause ≡ other.cause = sym mine.1.1 ∙ ap (λ (x : Reason). x.cause) (one_cause (reasons b) mine.0 theirs.0 mine.1.0 theirs.1.0) ∙ theirs.1.1 in
+      let same : one.cause ≡ other.cause = sym mine.1.1 ∙ (let one : mine.0.cause ≡ theirs.0.cause = cc (mine.1.0, theirs.1.0) in one) ∙ theirs.1.1 in
       elim (cases_order j k) [
         | inl equal ↦ apart equal
         | inr other_way ↦ elim other_way [
@@ -172,12 +158,3 @@ module _ (reasons : ℕ → Option Reason) where
           | inr behind ↦ not_below (because one.cause) j k (part_parts j (reasons j) one is_one).1.1.1 (ap (λ x. because x k) same ∙ place_of_part k other is_other) behind
         ]
       ]
-
-pub parts_are_apart : PartsAreApart
-parts_are_apart = are_apart
-
-pub each_bit_has_its_part : EachBitHasItsPart
-each_bit_has_its_part = has_its_part
-
-pub parts_hold_their_cause : PartsHoldTheirCause
-parts_hold_their_cause = hold_their_cause

@@ -15,7 +15,8 @@ use Rattle.sd_explain.specs.declared.reason.Cause.TheVariants.{Restricted, Liste
 -- what a pass finds for each of the bits in the list, where there is one
 abbrev pub IsFoundIn : MappingValue → (AceKind → SidValue → Bool) → Option (List Ace) → ℕ → List Finding → Type 0
 IsFoundIn g applies dacl bits findings =
-    (es : List Ace) → dacl ≡ Some es → (b : ℕ) → b < 32 → holds bits b ≡ true → slice_index_or findings b NoEntry ≡ finding_of g applies es b
+    (es : List Ace) → dacl ≡ Some es → (b : ℕ) → b < 32 → holds bits b ≡ true
+    → slice_index_or findings b NoEntry ≡ finding_of g applies es b
 
 -- the cause is what the list says of the bit, where there is a list
 abbrev pub IsListed : Option SidValue → Option (List Ace) → MappingValue → TokenValue → ℕ → Cause → Type 0

@@ -1,17 +1,18 @@
 -- What follows from the definitions of reasons and parts, as laws over all lists, tokens and requests.
-use Rattle.std.specs.Prelude.{◌≡◌, ◌≢◌, ◌↔◌, ℕ, ◌<◌, ◌≤◌, Bool, true, false, List, Option, Some, None, slice_get, is_some}
+use Rattle.std.specs.Prelude.{◌≡◌, ◌≢◌, ◌↔◌, ℕ, ◌<◌, ◌≤◌, Bool, true, false, List, Option, Some, None, slice_get}
+use Rattle.std.specs.Prelude.{is_some}
 use Rattle.sd_sid.specs.Mask.{holds}
 use Rattle.sd_sid.specs.Mapping.{MappingValue, mapped}
 use Rattle.sd_sid.specs.Sid.{SidValue}
 use Rattle.sd_acl.specs.Ace.{is_allow}
-use Rattle.sd_check.specs.Check.{decides, first, subject, without_maximum, reserved_of, applies, applies_again, is_granted, most, verdict}
+use Rattle.sd_check.specs.Check.{decides, first, subject, without_maximum, reserved_of, applies, applies_again}
+use Rattle.sd_check.specs.Check.{is_granted, most, verdict}
 use Rattle.sd_acl.specs.declared.ace.Ace.{Ace}
 use Rattle.sd_acl.specs.declared.ace.AceKind.{AceKind}
 use Rattle.sd_check.specs.declared.verdict.Verdict.TheVariants.{Granted}
 use Rattle.sd_check.specs.Token.{TokenValue, stands_for, is_restricting}
 use Rattle.sd_explain.specs.Reasons.{finding_of, grants, named_cause, maximum_cause, reason_at}
 use Rattle.sd_explain.specs.Parts.{bits_of, part_at}
-use Rattle.sd_explain.specs.Dead.{is_dead, CanBeTakenOut}
 use Rattle.sd_explain.specs.declared.explanation.Part.{Part}
 use Rattle.sd_explain.specs.declared.reason.Finding.TheVariants.{Allowed, Denied, NoEntry}
 use Rattle.sd_explain.specs.declared.reason.Reason.{Reason}
@@ -113,11 +114,3 @@ abbrev pub GrantedAreTheParts : Type 0
 GrantedAreTheParts =
     (owner : Option SidValue) (dacl : Option (List Ace)) (g : MappingValue) (t : TokenValue) (r m : ℕ)
     → verdict owner dacl g t r ≡ Granted m → m ≡ bits_of shares.Granted (reason_at owner dacl g t r) 32
-
--- ---- dead entries
-
--- any of the dead entries, each found in the whole list, can be removed together: every verdict is the same
-abbrev pub DeadEntriesCanGo : Type 0
-DeadEntriesCanGo =
-    (g : MappingValue) (es : List Ace) (gone : ℕ → Bool)
-    → ((i : ℕ) → gone i ≡ true → is_dead g es i ≡ true) → CanBeTakenOut g es gone

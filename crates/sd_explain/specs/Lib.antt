@@ -2,4 +2,3 @@ pub mod Reasons
 pub mod Findings
 pub mod Parts
 pub mod Laws
-pub mod Dead

@@ -1,5 +1,6 @@
 -- Why each bit of a request is granted or denied: the cases of the check's rules ([MS-DTYP] 2.5.3.2).
-use Rattle.std.specs.Prelude.{ℕ, Bool, true, false, not, ◌&&◌, ◌||◌, ◌==◌, nat_lt, if◌then◌else◌, List, Option, Some, None, map}
+use Rattle.std.specs.Prelude.{ℕ, Bool, true, false, not, ◌&&◌, ◌||◌, ◌==◌, nat_lt, if◌then◌else◌, List, Option, Some}
+use Rattle.std.specs.Prelude.{None, map}
 use Rattle.std.specs.List.{position_or_len, range_with_len}
 use Rattle.sd_sid.specs.Mask.{holds}
 use Rattle.sd_sid.specs.Mapping.{MappingValue, mapped}
@@ -13,7 +14,8 @@ use Rattle.sd_check.specs.declared.grounds.Implied.{Implied}
 use Rattle.sd_explain.specs.declared.reason.Finding.{Finding}
 use Rattle.sd_explain.specs.declared.reason.Finding.TheVariants.{Allowed, Denied, NoEntry}
 use Rattle.sd_explain.specs.declared.reason.Cause.{Cause}
-use Rattle.sd_explain.specs.declared.reason.Cause.TheVariants.{NoList, Listed, Restricted, Owner, TakeOwnership, Security, NoSecurity, BeyondAll, Reserved}
+use Rattle.sd_explain.specs.declared.reason.Cause.TheVariants.{NoList, Listed, Restricted, Owner, TakeOwnership}
+use Rattle.sd_explain.specs.declared.reason.Cause.TheVariants.{Security, NoSecurity, BeyondAll, Reserved}
 use Rattle.sd_explain.specs.declared.reason.Reason.{Reason}
 use Rattle.sd_explain.specs.declared.reason.Share.{Share}
 use Rattle.sd_explain.specs.declared.reason.Share.TheVariants as shares

@@ -7,7 +7,9 @@ ghost use Rattle.sd_sid.specs.Mapping.{mapped};
 ghost use Rattle.sd_sid.specs.Mask.{holds};
 ghost use Rattle.sd_check.specs.Fold.{rights_in, wanted_bits, part_of};
 ghost use Rattle.sd_check.specs.Token.{is_restricted};
-ghost use Rattle.sd_explain.specs.Reasons.{finding_of, given_or as given_or_of, granting_or as granting_or_of, high_cause as high_cause_of, named_cause as named_cause_of, maximum_cause as maximum_cause_of, reason_at};
+ghost use Rattle.sd_explain.specs.Reasons.{finding_of, given_or as given_or_of, granting_or as granting_or_of};
+ghost use Rattle.sd_explain.specs.Reasons.{high_cause as high_cause_of, named_cause as named_cause_of};
+ghost use Rattle.sd_explain.specs.Reasons.{maximum_cause as maximum_cause_of, reason_at};
 ghost use Rattle.sd_explain.specs.Findings.{IsFoundIn, IsListed, listed_by};
 
 use crate::explanation::PLACES;
@@ -105,7 +107,8 @@ impl Case<'_> {
         ensures size { length result ≡ 32 }
         ensures found { (b : ℕ) → b < 32 → holds bits b ≡ true
             → slice_index_or result b Finding.NoEntry
-            ≡ finding_of self.now.question.mapping.now (applies_in pass self.now.question.token.now self.now.question.owner.now) entries.now b }
+            ≡ finding_of self.now.question.mapping.now
+            (applies_in pass self.now.question.token.now self.now.question.owner.now) entries.now b }
     {
         let mut findings = [Finding::NoEntry; 32];
         let mut undecided = bits;
@@ -165,7 +168,8 @@ impl Case<'_> {
 
     /// What is granted without an entry.
     pub(crate) fn given(&self) -> Implied
-        ensures { result ≡ implied_of self.now.question.owner.now (entries_of self.now.dacl) self.now.question.token.now }
+        ensures { result ≡ implied_of self.now.question.owner.now
+            (entries_of self.now.dacl) self.now.question.token.now }
     {
         self.question.implied(self.dacl)
     }
@@ -180,7 +184,9 @@ impl Case<'_> {
     /// The bits that have a part in the answer.
     pub(crate) fn answered(&self) -> Mask
         ensures { (b : ℕ) → b < 32 → holds result b ≡ false
-            → reason_at self.now.question.owner.now (entries_of self.now.dacl) self.now.question.mapping.now self.now.question.token.now self.now.question.asked b ≡ None }
+            → reason_at self.now.question.owner.now
+            (entries_of self.now.dacl) self.now.question.mapping.now self.now.question.token.now
+            self.now.question.asked b ≡ None }
     {
         let reserved = self.question.asked.common(RESERVED);
         if reserved.is_empty() {
@@ -199,11 +205,14 @@ impl Case<'_> {
         second: &[Finding; 32],
     ) -> Cause
         requires place { place < 32 }
-        requires given { given ≡ implied_of self.now.question.owner.now (entries_of self.now.dacl) self.now.question.token.now }
+        requires given { given ≡ implied_of self.now.question.owner.now
+            (entries_of self.now.dacl) self.now.question.token.now }
         requires listed { place < 21
-            → IsListed self.now.question.owner.now (entries_of self.now.dacl) self.now.question.mapping.now self.now.question.token.now place
+            → IsListed self.now.question.owner.now
+            (entries_of self.now.dacl) self.now.question.mapping.now self.now.question.token.now place
             (listed_by (is_restricted self.now.question.token.now) first.now second.now place) }
-        ensures { result ≡ named_cause_of self.now.question.owner.now (entries_of self.now.dacl) self.now.question.mapping.now self.now.question.token.now place }
+        ensures { result ≡ named_cause_of self.now.question.owner.now
+            (entries_of self.now.dacl) self.now.question.mapping.now self.now.question.token.now place }
     {
         if place >= RIGHTS_END {
             return high_cause(given, place);
@@ -226,11 +235,14 @@ impl Case<'_> {
         second: &[Finding; 32],
     ) -> Cause
         requires place { place < 32 }
-        requires given { given ≡ implied_of self.now.question.owner.now (entries_of self.now.dacl) self.now.question.token.now }
+        requires given { given ≡ implied_of self.now.question.owner.now
+            (entries_of self.now.dacl) self.now.question.token.now }
         requires listed { place < 21
-            → IsListed self.now.question.owner.now (entries_of self.now.dacl) self.now.question.mapping.now self.now.question.token.now place
+            → IsListed self.now.question.owner.now
+            (entries_of self.now.dacl) self.now.question.mapping.now self.now.question.token.now place
             (listed_by (is_restricted self.now.question.token.now) first.now second.now place) }
-        ensures { result ≡ maximum_cause_of self.now.question.owner.now (entries_of self.now.dacl) self.now.question.mapping.now self.now.question.token.now place }
+        ensures { result ≡ maximum_cause_of self.now.question.owner.now
+            (entries_of self.now.dacl) self.now.question.mapping.now self.now.question.token.now place }
     {
         match self.dacl {
             DaclRef::Absent => self.maximum_cause_without_a_list(place, given),
@@ -243,7 +255,8 @@ impl Case<'_> {
     fn maximum_cause_without_a_list(&self, place: u32, given: Implied) -> Cause
         requires place { place < 32 }
         requires given { given ≡ implied_of self.now.question.owner.now None self.now.question.token.now }
-        ensures { result ≡ maximum_cause_of self.now.question.owner.now None self.now.question.mapping.now self.now.question.token.now place }
+        ensures { result ≡ maximum_cause_of self.now.question.owner.now None self.now.question.mapping.now
+            self.now.question.token.now place }
     {
         if self.question.mapping.all().holds(place) {
             return Cause::NoList;
@@ -251,8 +264,8 @@ impl Case<'_> {
         given_or(given, place, Cause::BeyondAll)
     }
 
-    /// The reason of the bit in the answer to the request, where it has a part in it. `first` and `second` are what the passes
-    /// find for the bits that the list is asked for.
+    /// The reason of the bit in the answer to the request, where it has a part in it. `first` and `second` are what the
+    /// passes find for the bits that the list is asked for.
     pub(crate) fn reason(
         &self,
         wanted: Mask,
@@ -263,11 +276,16 @@ impl Case<'_> {
     ) -> Option<Reason>
         requires wanted { wanted ≡ mapped self.now.question.mapping.now (without_maximum self.now.question.asked) }
         requires place { place < 32 }
-        requires given { given ≡ implied_of self.now.question.owner.now (entries_of self.now.dacl) self.now.question.token.now }
-        requires listed { holds (rights_in (wanted_bits self.now.question.mapping.now self.now.question.asked)) place ≡ true
-            → IsListed self.now.question.owner.now (entries_of self.now.dacl) self.now.question.mapping.now self.now.question.token.now place
+        requires given { given ≡ implied_of self.now.question.owner.now
+            (entries_of self.now.dacl) self.now.question.token.now }
+        requires listed { holds (rights_in (wanted_bits self.now.question.mapping.now self.now.question.asked)) place
+            ≡ true
+            → IsListed self.now.question.owner.now
+            (entries_of self.now.dacl) self.now.question.mapping.now self.now.question.token.now place
             (listed_by (is_restricted self.now.question.token.now) first.now second.now place) }
-        ensures { result ≡ reason_at self.now.question.owner.now (entries_of self.now.dacl) self.now.question.mapping.now self.now.question.token.now self.now.question.asked place }
+        ensures { result ≡ reason_at self.now.question.owner.now
+            (entries_of self.now.dacl) self.now.question.mapping.now self.now.question.token.now
+            self.now.question.asked place }
     {
         let reserved = self.question.asked.common(RESERVED);
         if !reserved.is_empty() {

@@ -38,7 +38,8 @@ pub fn explain(
     asked: Mask,
 ) -> Explanation
     ensures reasons { result.reasons ≡ reasons_of owner (entries_of dacl.entry) mapping.now token.now asked }
-    ensures verdict { told_verdict (reason_in result.reasons) ≡ verdict owner (entries_of dacl.entry) mapping.now token.now asked }
+    ensures verdict { told_verdict (reason_in result.reasons)
+        ≡ verdict owner (entries_of dacl.entry) mapping.now token.now asked }
 {
     let case = Case {
         question: Question {
@@ -72,8 +73,10 @@ pub fn explain_descriptor(
     token: &Token,
     asked: Mask,
 ) -> Explanation
-    ensures reasons { result.reasons ≡ reasons_of descriptor.now.owner (dacl_entries descriptor.now.dacl) mapping.now token.now asked }
-    ensures verdict { told_verdict (reason_in result.reasons) ≡ verdict descriptor.now.owner (dacl_entries descriptor.now.dacl) mapping.now token.now asked }
+    ensures reasons { result.reasons ≡ reasons_of descriptor.now.owner
+        (dacl_entries descriptor.now.dacl) mapping.now token.now asked }
+    ensures verdict { told_verdict (reason_in result.reasons) ≡ verdict descriptor.now.owner
+        (dacl_entries descriptor.now.dacl) mapping.now token.now asked }
 {
     explain(
         descriptor.owner,

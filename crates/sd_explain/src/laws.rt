@@ -1,6 +1,9 @@
 //! What follows from the definitions of reasons and parts. Each law is the contract of a function that does nothing.
 
-ghost use Rattle.sd_explain.specs.Laws.{AllowedNamesFirst, DeniedNamesFirst, NoEntryWhereNone, FirstPassHasSubject, SecondPassHasSubject, NamedCauseIsDue, MaximumCauseIsDue, PartsAreApart, EachBitHasItsPart, PartsHoldTheirCause, ReasonsJoinToRequest, GrantedAreTheParts, DeadEntriesCanGo};
+ghost use Rattle.sd_explain.specs.Laws.{AllowedNamesFirst, DeniedNamesFirst, NoEntryWhereNone, FirstPassHasSubject};
+ghost use Rattle.sd_explain.specs.Laws.{SecondPassHasSubject, NamedCauseIsDue, MaximumCauseIsDue, PartsAreApart};
+ghost use Rattle.sd_explain.specs.Laws.{EachBitHasItsPart, PartsHoldTheirCause, ReasonsJoinToRequest};
+ghost use Rattle.sd_explain.specs.Laws.{GrantedAreTheParts};
 
 /// The entry that a finding names is the first that decides the bit, at that place of the list; none is named if and
 /// only if none decides it ([MS-DTYP] 2.5.3.2).
@@ -34,10 +37,4 @@ pub fn parts_are_apart_and_whole()
 pub fn parts_join()
     ensures request { ReasonsJoinToRequest }
     ensures granted { GrantedAreTheParts }
-{}
-
-/// Any of a list's dead entries, each found by `is_dead` in the whole list, can be removed together, even all: the
-/// verdict is the same, for any token, owner and request ([MS-DTYP] 2.5.3.2).
-pub fn dead_entries_can_go()
-    ensures { DeadEntriesCanGo }
 {}

@@ -11,15 +11,13 @@
 #![tactic(auto)]
 
 mod case;
-mod dead;
 mod explanation;
 mod laws;
 mod reason;
 
-pub use dead::{decides_before, is_dead};
 pub use explanation::{Explanation, PLACES, Part, explain, explain_descriptor};
 pub use laws::{
-    causes_are_due, dead_entries_can_go, findings_have_a_subject, findings_name_first_entries,
+    causes_are_due, findings_have_a_subject, findings_name_first_entries,
     parts_are_apart_and_whole, parts_join,
 };
 pub use reason::{Cause, Finding, Reason, Share};

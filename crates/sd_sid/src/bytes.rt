@@ -1,9 +1,11 @@
 //! SIDs as bytes.
 
-ghost use Rattle.std.specs.Prelude.{All, ◌≡◌, ◌+◌, ◌-◌, ◌*◌, ◌<◌, ◌≤◌, ◌^◌, ◌++◌, length, take, drop, replicate, vec_len, vec_capacity, IsOk, IfOk, OnOk, OnErr};
+ghost use Rattle.std.specs.Prelude.{All, ◌≡◌, ◌+◌, ◌-◌, ◌*◌, ◌<◌, ◌≤◌, ◌^◌, ◌++◌, length, take, drop, replicate};
+ghost use Rattle.std.specs.Prelude.{vec_len, vec_capacity, IsOk, IfOk, OnOk, OnErr};
 ghost use Rattle.std.specs.Int.{w32, to_le_bytes};
 ghost use Rattle.std.specs.List.{flat_map};
-ghost use Rattle.sd_sid.specs.SidBytes.{u32_at, u32s_at, authority_of, sid_reading, bytes_of_sid, SidsComeBack, SidsStand};
+ghost use Rattle.sd_sid.specs.SidBytes.{u32_at, u32s_at, authority_of, sid_reading, bytes_of_sid, SidsComeBack};
+ghost use Rattle.sd_sid.specs.SidBytes.{SidsStand};
 
 use crate::lent::{REVISION, SidRef};
 use crate::sid::{MAX_SUBS, Sid, SidError};

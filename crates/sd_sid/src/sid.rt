@@ -2,7 +2,8 @@
 
 ghost use Rattle.std.specs.Prelude.{◌≡◌, ◌==◌, ◌<◌, ◌≤◌, ◌-◌, ◌^◌, true, IsTrue, ◌↔◌, take, drop, replicate, length};
 ghost use Rattle.std.specs.List.{All};
-ghost use Rattle.sd_sid.specs.Sid.{SidValue, sid_of, sid_error_number, sid_error_name, same_sid, owner_rights, sid_cmp, IsSid};
+ghost use Rattle.sd_sid.specs.Sid.{SidValue, sid_of, sid_error_number, sid_error_name, same_sid, owner_rights, sid_cmp};
+ghost use Rattle.sd_sid.specs.Sid.{IsSid};
 
 use std::error::Error;
 use std::fmt;
@@ -34,7 +35,11 @@ impl Model for Sid {
 
     ghost invariant = { λ s. IsPadded s.authority s.subs s.count };
 
-    ghost inverse = { λ v. record { authority = v.authority; subs = v.subs ++ replicate (15 - length v.subs) 0; count = length v.subs } };
+    ghost inverse = { λ v. record {
+      authority = v.authority;
+      subs = v.subs ++ replicate (15 - length v.subs) 0;
+      count = length v.subs;
+    } };
 
     ghost use Rattle.sd_sid.specs.SidParts.{parts_come_back};
 

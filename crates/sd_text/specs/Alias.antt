@@ -14,10 +14,14 @@ builtin letters number = alias letters 5 (32 ∷ number ∷ [])
 -- the aliases that need no domain
 unfoldable pub aliases : List (Name SidValue)
 aliases =
-    alias (codes "WD") 1 (0 ∷ []) ∷ alias (codes "CO") 3 (0 ∷ []) ∷ alias (codes "CG") 3 (1 ∷ []) ∷ alias (codes "OW") 3 (4 ∷ [])
-    ∷ alias (codes "NU") 5 (2 ∷ []) ∷ alias (codes "IU") 5 (4 ∷ []) ∷ alias (codes "SU") 5 (6 ∷ []) ∷ alias (codes "AN") 5 (7 ∷ [])
-    ∷ alias (codes "ED") 5 (9 ∷ []) ∷ alias (codes "PS") 5 (10 ∷ []) ∷ alias (codes "AU") 5 (11 ∷ []) ∷ alias (codes "RC") 5 (12 ∷ [])
-    ∷ alias (codes "SY") 5 (18 ∷ []) ∷ alias (codes "LS") 5 (19 ∷ []) ∷ alias (codes "NS") 5 (20 ∷ []) ∷ alias (codes "AC") 15 (2 ∷ 1 ∷ [])
+    alias (codes "WD") 1 (0 ∷ []) ∷ alias (codes "CO") 3 (0 ∷ []) ∷ alias (codes "CG") 3 (1 ∷ [])
+    ∷ alias (codes "OW") 3 (4 ∷ [])
+    ∷ alias (codes "NU") 5 (2 ∷ []) ∷ alias (codes "IU") 5 (4 ∷ []) ∷ alias (codes "SU") 5 (6 ∷ [])
+    ∷ alias (codes "AN") 5 (7 ∷ [])
+    ∷ alias (codes "ED") 5 (9 ∷ []) ∷ alias (codes "PS") 5 (10 ∷ []) ∷ alias (codes "AU") 5 (11 ∷ [])
+    ∷ alias (codes "RC") 5 (12 ∷ [])
+    ∷ alias (codes "SY") 5 (18 ∷ []) ∷ alias (codes "LS") 5 (19 ∷ []) ∷ alias (codes "NS") 5 (20 ∷ [])
+    ∷ alias (codes "AC") 15 (2 ∷ 1 ∷ [])
     ∷ builtin (codes "BA") 544 ∷ builtin (codes "BU") 545 ∷ builtin (codes "BG") 546 ∷ builtin (codes "PU") 547
     ∷ builtin (codes "AO") 548 ∷ builtin (codes "SO") 549 ∷ builtin (codes "PO") 550 ∷ builtin (codes "BO") 551
     ∷ builtin (codes "RE") 552 ∷ builtin (codes "RU") 554 ∷ builtin (codes "RD") 555 ∷ builtin (codes "NO") 556
@@ -31,9 +35,12 @@ of_a_domain letters relative = record { letters = letters; stands_for = relative
 -- the aliases that need a domain
 abbrev pub domain_aliases : List (Name ℕ)
 domain_aliases =
-    of_a_domain (codes "DA") 512 ∷ of_a_domain (codes "DU") 513 ∷ of_a_domain (codes "DG") 514 ∷ of_a_domain (codes "DC") 515
-    ∷ of_a_domain (codes "DD") 516 ∷ of_a_domain (codes "CA") 517 ∷ of_a_domain (codes "RS") 553 ∷ of_a_domain (codes "EA") 519
-    ∷ of_a_domain (codes "SA") 518 ∷ of_a_domain (codes "PA") 520 ∷ of_a_domain (codes "LA") 500 ∷ of_a_domain (codes "LG") 501 ∷ []
+    of_a_domain (codes "DA") 512 ∷ of_a_domain (codes "DU") 513 ∷ of_a_domain (codes "DG") 514
+    ∷ of_a_domain (codes "DC") 515
+    ∷ of_a_domain (codes "DD") 516 ∷ of_a_domain (codes "CA") 517 ∷ of_a_domain (codes "RS") 553
+    ∷ of_a_domain (codes "EA") 519
+    ∷ of_a_domain (codes "SA") 518 ∷ of_a_domain (codes "PA") 520 ∷ of_a_domain (codes "LA") 500
+    ∷ of_a_domain (codes "LG") 501 ∷ []
 
 -- the letters of the table's name for the SID
 unfoldable pub alias_in : List (Name SidValue) → SidValue → Option (List ℕ)

@@ -1,5 +1,6 @@
 -- The one printed text of each value ([MS-DTYP] 2.5.1).
-use Rattle.std.specs.Prelude.{ℕ, ◌-◌, ◌^◌, Bool, false, ◌==◌, nat_lt, List, [], ◌∷◌, ◌++◌, length, replicate, bit_and, Option, Some, None, unwrap_or, codes, if◌then◌else◌}
+use Rattle.std.specs.Prelude.{ℕ, ◌-◌, ◌^◌, Bool, false, ◌==◌, nat_lt, List, [], ◌∷◌, ◌++◌, length, replicate, bit_and}
+use Rattle.std.specs.Prelude.{Option, Some, None, unwrap_or, codes, if◌then◌else◌}
 use Rattle.std.specs.List.{flat_map}
 use Rattle.std.specs.Fmt.{decimal, digits}
 use Rattle.sd_sid.specs.Sid.{SidValue}
@@ -39,7 +40,8 @@ unfoldable pub printed_rights : List (Name ℕ)
 printed_rights =
     bits (codes "FA") 0x1F01FF ∷ bits (codes "FR") 0x120089 ∷ bits (codes "FW") 0x120116 ∷ bits (codes "FX") 0x1200A0
     ∷ bits (codes "KA") 0xF003F ∷ bits (codes "KR") 0x20019 ∷ bits (codes "KW") 0x20006
-    ∷ bits (codes "GA") 0x10000000 ∷ bits (codes "GR") 0x80000000 ∷ bits (codes "GW") 0x40000000 ∷ bits (codes "GX") 0x20000000
+    ∷ bits (codes "GA") 0x10000000 ∷ bits (codes "GR") 0x80000000 ∷ bits (codes "GW") 0x40000000
+    ∷ bits (codes "GX") 0x20000000
     ∷ bits (codes "SD") 0x10000 ∷ bits (codes "RC") 0x20000 ∷ bits (codes "WD") 0x40000 ∷ bits (codes "WO") 0x80000 ∷ []
 
 -- the table's name for exactly these bits
@@ -66,7 +68,8 @@ kind_canon Deny = codes "D"
 
 -- an entry
 unfoldable pub entry_canon : Ace → List ℕ
-entry_canon e = codes "(" ++ kind_canon e.kind ++ codes ";" ++ flags_canon e.flags.0 ++ codes ";" ++ rights_canon e.mask ++ codes ";;;" ++ sid_canon e.sid ++ codes ")"
+entry_canon e = codes "(" ++ kind_canon e.kind ++ codes ";" ++ flags_canon e.flags.0 ++ codes ";" ++ rights_canon e.mask
+    ++ codes ";;;" ++ sid_canon e.sid ++ codes ")"
 
 -- letters if the test holds
 abbrev pub where_set : Bool → List ℕ → List ℕ
@@ -74,7 +77,8 @@ where_set test letters = if test then letters else []
 
 -- the keywords of the DACL's section
 unfoldable pub words_canon : DescriptorValue → List ℕ
-words_canon d = where_set d.protected (codes "P") ++ where_set d.auto_req (codes "AR") ++ where_set d.auto_inherited (codes "AI")
+words_canon d = where_set d.protected (codes "P") ++ where_set d.auto_req (codes "AR") ++ where_set d.auto_inherited
+    (codes "AI")
 
 -- the DACL's section, if there is a DACL
 abbrev pub dacl_canon : List ℕ → Dacl → List ℕ

@@ -9,4 +9,8 @@ domain_sid domain = record { authority = 5; subs = 21 ∷ domain.first ∷ domai
 
 -- the SID of an account or a group of the domain, by its relative identifier
 abbrev pub account_sid : Domain → ℕ → SidValue
-account_sid domain relative = record { authority = 5; subs = 21 ∷ domain.first ∷ domain.second ∷ domain.third ∷ relative ∷ [] }
+account_sid domain relative = record {
+  authority = 5;
+  subs = 21 ∷ domain.first ∷ domain.second ∷ domain.third ∷ relative
+      ∷ [];
+}

@@ -1,5 +1,6 @@
 -- Entries ([MS-DTYP] 2.5.1.1, ace).
-use Rattle.std.specs.Prelude.{ℕ, ◌+◌, Bool, true, false, nat_lt, ◌==◌, ◌&&◌, not, List, [], ◌∷◌, length, drop, map, Option, codes}
+use Rattle.std.specs.Prelude.{ℕ, ◌+◌, Bool, true, false, nat_lt, ◌==◌, ◌&&◌, not, List, [], ◌∷◌, length, drop, map}
+use Rattle.std.specs.Prelude.{Option, codes}
 use Rattle.sd_acl.specs.Ace.{ace_size, acl_size_of, named_flags}
 use Rattle.sd_acl.specs.declared.ace.Ace.{Ace}
 use Rattle.sd_acl.specs.declared.ace.AceKind.{AceKind}
@@ -30,11 +31,13 @@ flag_names = map (λ (flag : List ℕ × ℕ). bits flag.0 flag.1) named_flags
 
 -- an empty field of a GUID, with its `;`
 unfoldable pub guid : Grammar (Unit {0})
-guid = choose (λ text. begins text (codes ";")) (word (codes ";")) (choose (λ text. length text == 0) (refused Syntax) (refused ObjectGuid))
+guid = choose (λ text. begins text (codes ";")) (word (codes ";"))
+    (choose (λ text. length text == 0) (refused Syntax) (refused ObjectGuid))
 
 -- the entry's end, when the list before it has a size of so many bytes
 unfoldable pub entry_end : ℕ → Ace → Grammar Ace
-entry_end size entry = choose (λ text. begins text (codes ")") && nat_lt 65535 (size + ace_size entry)) (refused AclTooLarge)
+entry_end size entry = choose (λ text. begins text (codes ")") && nat_lt 65535 (size + ace_size entry))
+    (refused AclTooLarge)
     (word (codes ")") >>= λ u. value entry)
 
 -- an entry after its `(`, when the list before it has a size of so many bytes

@@ -4,7 +4,8 @@ use Rattle.sd_text.specs.declared.fault.TextFault.{TextFault}
 use Rattle.sd_text.specs.declared.fault.TextError.{TextError}
 use Rattle.sd_text.specs.declared.fault.TextError.TheVariants.{Fault, Memory}
 use Rattle.sd_text.specs.Grammar.{Grammar, HasFault}
-use Rattle.sd_text.specs.declared.fault.TextFault.TheVariants.{Syntax, HasSacl, EntryKind, ObjectGuid, UnknownAlias, DomainAlias, Range, AclTooLarge}
+use Rattle.sd_text.specs.declared.fault.TextFault.TheVariants.{Syntax, HasSacl, EntryKind, ObjectGuid, UnknownAlias}
+use Rattle.sd_text.specs.declared.fault.TextFault.TheVariants.{DomainAlias, Range, AclTooLarge}
 
 -- the number by which programs name a fault
 abbrev pub number_of : TextFault → ℕ

@@ -1,10 +1,12 @@
 -- What a grammar finds in a text: the results of private parsers. Public calls speak of Spells and HasFault alone.
-use Rattle.std.specs.Prelude.{◌<◌, ◌≤◌, ◌≡◌, ℕ, zero, suc, nat_lt, Bool, true, not, List, [], ◌∷◌, ◌++◌, length, drop, take, Option, Some, None, Result, Ok, Err, IsOkAnd, if◌then◌else◌}
+use Rattle.std.specs.Prelude.{◌<◌, ◌≤◌, ◌≡◌, ℕ, zero, suc, nat_lt, Bool, true, not, List, [], ◌∷◌, ◌++◌, length, drop}
+use Rattle.std.specs.Prelude.{take, Option, Some, None, Result, Ok, Err, IsOkAnd, if◌then◌else◌}
 use Rattle.std.specs.Char.{digit_value}
 use Rattle.std.specs.Str.Parse.{digits_value}
 use Rattle.sd_text.specs.declared.fault.TextFault.{TextFault}
 use Rattle.sd_text.specs.declared.fault.TextFault.TheVariants.{Syntax, Range}
-use Rattle.sd_text.specs.Grammar.{Grammar, Name, value, refused, choose, and_then, word, number, one_of, many, begins, begins_digit, named}
+use Rattle.sd_text.specs.Grammar.{Grammar, Name, value, refused, choose, and_then, word, number, one_of, many, begins}
+use Rattle.sd_text.specs.Grammar.{begins_digit, named}
 
 -- a value and the text after it, or a fault and the text from there on
 abbrev pub Found : Type 0 → Type 0
@@ -33,10 +35,13 @@ name_or None next other = other
 name_or (Some x) next other = next x.0 x.1
 
 -- the items from here on, at most n of them, after those that were parsed before
-abbrev pub find_items : {A B : Type 0} → List (Name B) → (List A → B → List ℕ → Found A) → ℕ → List A → List ℕ → Found (List A)
+abbrev pub find_items : {A B : Type 0} → List (Name B) → (List A → B → List ℕ → Found A) → ℕ → List A → List ℕ
+    → Found (List A)
 find_items names item zero before text = Ok (before, text)
 find_items names item (suc n) before text =
-    name_or (named names text) (λ b mid. behind_part (item before b mid) (λ x after. find_items names item n (before ++ x ∷ []) after)) (Ok (before, text))
+    name_or (named names text)
+    (λ b mid. behind_part (item before b mid) (λ x after. find_items names item n (before ++ x ∷ []) after))
+    (Ok (before, text))
 
 -- the value at the front of the text, or its fault
 abbrev pub find : {A : Type 0} → Grammar A → List ℕ → Found A

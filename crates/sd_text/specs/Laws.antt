@@ -17,19 +17,23 @@ HasOneValue {A = A} grammar = (text : List ℕ) (a b : A) → Spells grammar tex
 
 -- each text has a value or a fault
 abbrev pub HasValueOrFault : {A : Type 0} → Grammar A → Type 0
-HasValueOrFault {A = A} grammar = (text : List ℕ) → ((a : A) × Spells grammar text a) ⊎ ((fault : TextFault) × (place : ℕ) × HasFault grammar text fault place)
+HasValueOrFault {A = A} grammar = (text : List ℕ) → ((a : A) × Spells grammar text a)
+    ⊎ ((fault : TextFault) × (place : ℕ) × HasFault grammar text fault place)
 
 -- no text has both
 abbrev pub NeverHasBoth : {A : Type 0} → Grammar A → Type 0
-NeverHasBoth {A = A} grammar = (text : List ℕ) (a : A) (fault : TextFault) (place : ℕ) → Spells grammar text a → HasFault grammar text fault place → ⊥
+NeverHasBoth {A = A} grammar = (text : List ℕ) (a : A) (fault : TextFault) (place : ℕ) → Spells grammar text a
+    → HasFault grammar text fault place → ⊥
 
 -- no text has two faults, nor one at two offsets
 abbrev pub HasOneFault : {A : Type 0} → Grammar A → Type 0
-HasOneFault grammar = (text : List ℕ) (f g : TextFault) (p q : ℕ) → HasFault grammar text f p → HasFault grammar text g q → (f ≡ g) × (p ≡ q)
+HasOneFault grammar = (text : List ℕ) (f g : TextFault) (p q : ℕ) → HasFault grammar text f p
+    → HasFault grammar text g q → (f ≡ g) × (p ≡ q)
 
 -- the printed text of a descriptor spells it, with any domain or none
 abbrev pub DescriptorsComeBack : Type 0
-DescriptorsComeBack = (domain : Option Domain) (d : DescriptorValue) → IsDescriptor d → HaveNamedFlags d.dacl → Spells (sddl_in domain) (canon d) d
+DescriptorsComeBack = (domain : Option Domain) (d : DescriptorValue) → IsDescriptor d → HaveNamedFlags d.dacl
+    → Spells (sddl_in domain) (canon d) d
 
 -- the printed text of a SID spells it
 abbrev pub SidsComeBack : Type 0
@@ -41,7 +45,8 @@ MasksComeBack = (mask : ℕ) → mask < 2 ^ 32 → Spells mask_text (rights_cano
 
 -- a text without a SACL's section spells the same descriptor where one may be left out
 abbrev pub AreReadAlike : Type 0
-AreReadAlike = (domain : Option Domain) (text : List ℕ) (d : DescriptorValue) → Spells (sddl_in domain) text d → Spells (sddl_without_sacl domain) text (d, false)
+AreReadAlike = (domain : Option Domain) (text : List ℕ) (d : DescriptorValue) → Spells (sddl_in domain) text d
+    → Spells (sddl_without_sacl domain) text (d, false)
 
 -- a text whose SACL is left out is the text of the same descriptor, and then the section of that SACL
 abbrev pub EndsWithItsSacl : Type 0

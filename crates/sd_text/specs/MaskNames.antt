@@ -1,5 +1,6 @@
 -- A mask by the names of rights ([MS-DTYP] 2.5.1.1, ace-rights).
-use Rattle.std.specs.Prelude.{ℕ, Bool, not, ◌&&◌, ◌==◌, if◌then◌else◌, List, [], ◌∷◌, ◌++◌, length, bit_and, bit_or, codes}
+use Rattle.std.specs.Prelude.{ℕ, Bool, not, ◌&&◌, ◌==◌, if◌then◌else◌, List, [], ◌∷◌, ◌++◌, length, bit_and, bit_or}
+use Rattle.std.specs.Prelude.{codes}
 use Rattle.sd_sid.specs.Mask.{holds, mask_of}
 use Rattle.sd_text.specs.Canon.{hex}
 use Rattle.sd_text.specs.Grammar.{Name}
@@ -8,7 +9,8 @@ use Rattle.sd_text.specs.Rights.{bits}
 -- the names of rights, the greatest mask first; KX has the mask of KR
 unfoldable pub names_from_greatest : List (Name ℕ)
 names_from_greatest =
-    bits (codes "GR") 0x80000000 ∷ bits (codes "GW") 0x40000000 ∷ bits (codes "GX") 0x20000000 ∷ bits (codes "GA") 0x10000000
+    bits (codes "GR") 0x80000000 ∷ bits (codes "GW") 0x40000000 ∷ bits (codes "GX") 0x20000000
+    ∷ bits (codes "GA") 0x10000000
     ∷ bits (codes "FA") 0x1F01FF ∷ bits (codes "FW") 0x120116 ∷ bits (codes "FX") 0x1200A0 ∷ bits (codes "FR") 0x120089
     ∷ bits (codes "KA") 0xF003F ∷ bits (codes "WO") 0x80000 ∷ bits (codes "WD") 0x40000 ∷ bits (codes "KR") 0x20019
     ∷ bits (codes "KW") 0x20006 ∷ bits (codes "RC") 0x20000 ∷ bits (codes "SD") 0x10000 ∷ bits (codes "CR") 0x100
@@ -34,7 +36,8 @@ with_rest text rest = if rest == 0 && not (length text == 0) then text else with
 unfoldable pub named_from : List (Name ℕ) → ℕ → ℕ → List ℕ → List ℕ
 named_from [] mask named text = with_rest text (mask_of (λ b. holds mask b && not (holds named b)) 32)
 named_from (name ∷ names) mask named text =
-    if is_due mask named name.stands_for then named_from names mask (bit_or named name.stands_for) (with_word text name.letters)
+    if is_due mask named name.stands_for then named_from names mask (bit_or named name.stands_for)
+    (with_word text name.letters)
     else named_from names mask named text
 
 -- a mask by names, as FR+WD

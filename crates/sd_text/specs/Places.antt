@@ -1,5 +1,6 @@
 -- The row that a name of two letters can have in its table. Only for speed: the tables themselves have the names.
-use Rattle.std.specs.Prelude.{ℕ, suc, ◌+◌, ◌-◌, ◌*◌, ◌%◌, ◌==◌, Bool, true, false, ◌&&◌, List, [], ◌∷◌, length, slice_index}
+use Rattle.std.specs.Prelude.{ℕ, suc, ◌+◌, ◌-◌, ◌*◌, ◌%◌, ◌==◌, Bool, true, false, ◌&&◌, List, [], ◌∷◌, length}
+use Rattle.std.specs.Prelude.{slice_index}
 use Rattle.std.specs.Char.{to_ascii_lowercase}
 use Rattle.sd_sid.specs.Sid.{SidValue}
 use Rattle.sd_text.specs.Grammar.{Name}
@@ -27,4 +28,5 @@ sid_slot s = (2 * s.authority + slice_index s.subs (length s.subs - 1)) % 58
 -- each row is that of the number of its SID; the first is row k
 abbrev pub sids_are_placed : List ℕ → ℕ → List (Name SidValue) → Bool
 sids_are_placed places k [] = true
-sids_are_placed places k (name ∷ names) = slice_index places (sid_slot name.stands_for) == k && sids_are_placed places (suc k) names
+sids_are_placed places k (name ∷ names) = slice_index places (sid_slot name.stands_for) == k && sids_are_placed places
+    (suc k) names

@@ -9,10 +9,12 @@ bits letters mask = record { letters = letters; stands_for = mask }
 -- the names of rights
 abbrev pub right_names : List (Name ℕ)
 right_names =
-    bits (codes "GA") 0x10000000 ∷ bits (codes "GR") 0x80000000 ∷ bits (codes "GW") 0x40000000 ∷ bits (codes "GX") 0x20000000
+    bits (codes "GA") 0x10000000 ∷ bits (codes "GR") 0x80000000 ∷ bits (codes "GW") 0x40000000
+    ∷ bits (codes "GX") 0x20000000
     ∷ bits (codes "SD") 0x10000 ∷ bits (codes "RC") 0x20000 ∷ bits (codes "WD") 0x40000 ∷ bits (codes "WO") 0x80000
     ∷ bits (codes "CC") 0x1 ∷ bits (codes "DC") 0x2 ∷ bits (codes "LC") 0x4 ∷ bits (codes "SW") 0x8
-    ∷ bits (codes "RP") 0x10 ∷ bits (codes "WP") 0x20 ∷ bits (codes "DT") 0x40 ∷ bits (codes "LO") 0x80 ∷ bits (codes "CR") 0x100
+    ∷ bits (codes "RP") 0x10 ∷ bits (codes "WP") 0x20 ∷ bits (codes "DT") 0x40 ∷ bits (codes "LO") 0x80
+    ∷ bits (codes "CR") 0x100
     ∷ bits (codes "FA") 0x1F01FF ∷ bits (codes "FR") 0x120089 ∷ bits (codes "FW") 0x120116 ∷ bits (codes "FX") 0x1200A0
     ∷ bits (codes "KA") 0xF003F ∷ bits (codes "KR") 0x20019 ∷ bits (codes "KW") 0x20006 ∷ bits (codes "KX") 0x20019 ∷ []
 
@@ -22,7 +24,8 @@ bits_of names = run names bit_or 0
 
 -- hexadecimal after `0x`, octal after `0`, else decimal
 unfoldable pub mask_number : Grammar ℕ
-mask_number = choose (λ text. begins text (codes "0X")) (number 2 16 (2 ^ 32)) (choose (λ text. begins text (codes "0")) (number 0 8 (2 ^ 32)) (number 0 10 (2 ^ 32)))
+mask_number = choose (λ text. begins text (codes "0X")) (number 2 16 (2 ^ 32))
+    (choose (λ text. begins text (codes "0")) (number 0 8 (2 ^ 32)) (number 0 10 (2 ^ 32)))
 
 -- a number if a digit is there, else names
 unfoldable pub rights : Grammar ℕ

@@ -1,5 +1,6 @@
 -- Printing into capacity that was allocated for the whole text.
-use Rattle.std.specs.Prelude.{◌≡◌, ℕ, ◌+◌, ◌/◌, ◌%◌, ◌≤◌, List, [], ◌∷◌, ◌++◌, length, String, string_bytes, string_len, string_capacity}
+use Rattle.std.specs.Prelude.{◌≡◌, ℕ, ◌+◌, ◌/◌, ◌%◌, ◌≤◌, List, [], ◌∷◌, ◌++◌, length, String, string_bytes, string_len}
+use Rattle.std.specs.Prelude.{string_capacity}
 
 module _ {Z : Type 0} where
   -- the capacity suffices for the letters

@@ -6,7 +6,8 @@ use Rattle.sd_text.specs.declared.descriptor.DaclWords.{DaclWords}
 use Rattle.sd_text.specs.declared.sacl.SaclKind.{SaclKind}
 use Rattle.sd_text.specs.declared.sacl.SaclKind.TheVariants.{Audit, Label}
 use Rattle.sd_text.specs.declared.fault.TextFault.TheVariants.{Syntax, EntryKind}
-use Rattle.sd_text.specs.Grammar.{Grammar, Name, value, refused, choose, word, one_of, many, begins, begins_digit, whole, ◌>>=◌}
+use Rattle.sd_text.specs.Grammar.{Grammar, Name, value, refused, choose, word, one_of, many, begins, begins_digit}
+use Rattle.sd_text.specs.Grammar.{whole, ◌>>=◌}
 use Rattle.sd_text.specs.Sid.{begins_letter, sid}
 use Rattle.sd_text.specs.Rights.{bits, bits_of, mask_number, rights}
 use Rattle.sd_text.specs.Entry.{opening, flag_names, guid}
@@ -72,7 +73,8 @@ sacl_behind domain found = choose (λ text. found.no_access_control) (value tt) 
 
 -- whether the section is there
 unfoldable pub sacl_section : Option Domain → Grammar Bool
-sacl_section domain = choose (λ text. begins text (codes "S:")) (word (codes "S:") >>= λ u. words >>= λ found. sacl_behind domain found >>= λ v. value true) (value false)
+sacl_section domain = choose (λ text. begins text (codes "S:"))
+    (word (codes "S:") >>= λ u. words >>= λ found. sacl_behind domain found >>= λ v. value true) (value false)
 
 -- the sections of a descriptor, and whether a SACL's was left out
 unfoldable pub all_sections : Option Domain → Grammar (DescriptorValue × Bool)

@@ -16,7 +16,8 @@ use Rattle.sd_text.specs.Entry.{has_one, entries}
 
 -- a section of one SID, if its head is there
 unfoldable pub sid_section : Option Domain → List ℕ → Grammar (Option SidValue)
-sid_section domain head = choose (λ text. begins text head) (word head >>= λ u. sid domain >>= λ trustee. value (Some trustee)) (value None)
+sid_section domain head = choose (λ text. begins text head)
+    (word head >>= λ u. sid domain >>= λ trustee. value (Some trustee)) (value None)
 
 -- a keyword for this
 abbrev pub dacl_word : List ℕ → DaclWord → Name DaclWord
@@ -24,7 +25,8 @@ dacl_word letters meaning = record { letters = letters; stands_for = meaning }
 
 -- the keywords of a DACL's section
 abbrev pub dacl_words : List (Name DaclWord)
-dacl_words = dacl_word (codes "P") Protected ∷ dacl_word (codes "AR") AutoReq ∷ dacl_word (codes "AI") AutoInherited ∷ dacl_word (codes "NO_ACCESS_CONTROL") NoAccessControl ∷ []
+dacl_words = dacl_word (codes "P") Protected ∷ dacl_word (codes "AR") AutoReq ∷ dacl_word (codes "AI") AutoInherited
+    ∷ dacl_word (codes "NO_ACCESS_CONTROL") NoAccessControl ∷ []
 
 -- no keyword
 abbrev pub no_words : DaclWords
@@ -48,7 +50,9 @@ dacl_behind domain found = choose (λ text. found.no_access_control) (value (rec
 
 -- the section of the DACL, if its head is there
 unfoldable pub dacl_section : Option Domain → Grammar DaclPart
-dacl_section domain = choose (λ text. begins text (codes "D:")) (word (codes "D:") >>= λ u. words >>= λ found. dacl_behind domain found) (value (record { dacl = Absent; words = no_words }))
+dacl_section domain = choose (λ text. begins text (codes "D:"))
+    (word (codes "D:") >>= λ u. words >>= λ found. dacl_behind domain found)
+    (value (record { dacl = Absent; words = no_words }))
 
 -- no section of a SACL is there
 unfoldable pub no_sacl : Grammar (Unit {0})
@@ -66,7 +70,14 @@ parts domain = do
   owner ← sid_section domain (codes "O:")
   group ← sid_section domain (codes "G:")
   part ← dacl_section domain
-  value (record { owner = owner; group = group; dacl = part.dacl; protected = part.words.protected; auto_req = part.words.auto_req; auto_inherited = part.words.auto_inherited })
+  value (record {
+    owner = owner;
+    group = group;
+    dacl = part.dacl;
+    protected = part.words.protected;
+    auto_req = part.words.auto_req;
+    auto_inherited = part.words.auto_inherited;
+  })
 
 -- the sections of a descriptor
 unfoldable pub sections : Option Domain → Grammar DescriptorValue

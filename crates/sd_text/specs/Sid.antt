@@ -1,9 +1,11 @@
 -- SIDs as text ([MS-DTYP] 2.4.2.1).
-use Rattle.std.specs.Prelude.{ℕ, ◌^◌, Bool, false, ◌&&◌, is_some, nat_lt, List, [], ◌∷◌, length, drop, Option, Some, None, codes}
+use Rattle.std.specs.Prelude.{ℕ, ◌^◌, Bool, false, ◌&&◌, is_some, nat_lt, List, [], ◌∷◌, length, drop, Option, Some}
+use Rattle.std.specs.Prelude.{None, codes}
 use Rattle.std.specs.Char.{is_ascii_alphabetic}
 use Rattle.sd_sid.specs.Sid.{SidValue}
 use Rattle.sd_text.specs.declared.fault.TextFault.TheVariants.{Syntax, Range, UnknownAlias, DomainAlias}
-use Rattle.sd_text.specs.Grammar.{Grammar, Name, value, refused, choose, word, number, one_of, many, begins, begins_digit, named, whole, ◌>>=◌}
+use Rattle.sd_text.specs.Grammar.{Grammar, Name, value, refused, choose, word, number, one_of, many, begins}
+use Rattle.sd_text.specs.Grammar.{begins_digit, named, whole, ◌>>=◌}
 use Rattle.sd_text.specs.declared.domain.Domain.{Domain}
 use Rattle.sd_text.specs.Alias.{aliases, domain_aliases}
 use Rattle.sd_text.specs.Domain.{account_sid}
@@ -15,7 +17,8 @@ dash = record { letters = codes "-"; stands_for = tt } ∷ []
 
 -- a sub-authority; after fifteen no digit may follow
 unfoldable pub sub : ℕ → Grammar ℕ
-sub before = choose (λ text. nat_lt before 15) (number 0 10 (2 ^ 32)) (choose (begins_digit 10) (refused Range) (refused Syntax))
+sub before = choose (λ text. nat_lt before 15) (number 0 10 (2 ^ 32))
+    (choose (begins_digit 10) (refused Range) (refused Syntax))
 
 -- the sub-authorities of a SID, at least one, and the SID
 unfoldable pub subs_of : ℕ → Grammar SidValue
@@ -43,7 +46,8 @@ domain_alias (Some domain) = one_of (renamed (account_sid domain) domain_aliases
 
 -- a SID, in full or by its alias
 unfoldable pub sid : Option Domain → Grammar SidValue
-sid domain = choose (λ text. begins text (codes "S-1-")) (word (codes "S-1-") >>= λ u. authority >>= λ number. subs_of number) (one_of aliases (domain_alias domain))
+sid domain = choose (λ text. begins text (codes "S-1-"))
+    (word (codes "S-1-") >>= λ u. authority >>= λ number. subs_of number) (one_of aliases (domain_alias domain))
 
 -- the text of a SID, with the domain that aliases refer to
 abbrev pub sid_text_in : Option Domain → Grammar SidValue

@@ -5,7 +5,8 @@ ghost use Rattle.sd_acl.specs.Dacl.{IsAbsent};
 ghost use Rattle.sd_acl.specs.Descriptor.{DescriptorValue, descriptor_of};
 ghost use Rattle.sd_text.specs.Grammar.{Spells, SpellsOne};
 ghost use Rattle.sd_text.specs.Fault.{StandsIn};
-ghost use Rattle.sd_text.specs.Sddl.{sid_section, words, no_words, with_word, dacl_section, has_entry, no_sacl, parts, sections, sddl, sddl_in};
+ghost use Rattle.sd_text.specs.Sddl.{sid_section, words, no_words, with_word, dacl_section, has_entry, no_sacl, parts};
+ghost use Rattle.sd_text.specs.Sddl.{sections, sddl, sddl_in};
 ghost use Rattle.sd_text.specs.Finding.{Gives, GivesUnlessMemory, find};
 
 use crate::cursor::Cursor;

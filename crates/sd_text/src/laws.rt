@@ -1,7 +1,8 @@
 //! Laws of all texts, with any domain or none. Each law is the contract of a function with an empty body.
 
 ghost use Rattle.std.specs.Prelude.{Option};
-ghost use Rattle.sd_text.specs.Laws.{HasOneValue, HasValueOrFault, NeverHasBoth, HasOneFault, DescriptorsComeBack, SidsComeBack, MasksComeBack, AreReadAlike, EndsWithItsSacl};
+ghost use Rattle.sd_text.specs.Laws.{HasOneValue, HasValueOrFault, NeverHasBoth, HasOneFault, DescriptorsComeBack};
+ghost use Rattle.sd_text.specs.Laws.{SidsComeBack, MasksComeBack, AreReadAlike, EndsWithItsSacl};
 ghost use Rattle.sd_text.specs.Rights.{mask_text};
 ghost use Rattle.sd_text.specs.Sacl.{sddl_without_sacl};
 ghost use Rattle.sd_text.specs.Sddl.{sddl_in};

@@ -36,9 +36,9 @@ static FROM_GREATEST: [(&str, u32); 24] = [
     ("CC", 0x1),
 ];
 
-/// A mask by names, as `FR+WD` ([MS-DTYP] 2.5.1.1, ace-rights): those whose bits are all the mask's, the greatest first,
-/// except one whose bits earlier names have. The bits that no name has follow as a number, as `FR+0x200`. The only error
-/// is out of memory.
+/// A mask by names, as `FR+WD` ([MS-DTYP] 2.5.1.1, ace-rights): those whose bits are all the mask's, the greatest
+/// first, except one whose bits earlier names have. The bits that no name has follow as a number, as `FR+0x200`. The
+/// only error is out of memory.
 #[tactic(auto, using(crate::proofs::MaskNames::named_at), unfolding(crate::specs::MaskNames::named_from))]
 pub fn print_mask_names(alloc: Global, mask: Mask) -> Result<String, AllocError>
     ensures { IfOk result (λ text. string_bytes text ≡ mask_names mask) }

@@ -6,7 +6,9 @@ ghost use Rattle.sd_acl.specs.Ace.{ace_size, acl_size_of};
 ghost use Rattle.sd_acl.specs.Descriptor.{descriptor_of};
 ghost use Rattle.sd_text.specs.Names.{rows};
 ghost use Rattle.sd_text.specs.Room.{HasRoom, IsPrinted};
-ghost use Rattle.sd_text.specs.Canon.{authority_canon, sub_canon, full_canon, sid_canon, printed_rights, name_in, rights_canon, flags_canon, entry_canon, where_set, words_canon, section_canon, dacl_canon, canon};
+ghost use Rattle.sd_text.specs.Canon.{authority_canon, sub_canon, full_canon, sid_canon, printed_rights, name_in};
+ghost use Rattle.sd_text.specs.Canon.{rights_canon, flags_canon, entry_canon, where_set, words_canon, section_canon};
+ghost use Rattle.sd_text.specs.Canon.{dacl_canon, canon};
 
 use crate::alias::alias_text;
 use crate::entry::flag_names;

@@ -5,7 +5,8 @@ ghost use Rattle.sd_acl.specs.Descriptor.{DescriptorValue, descriptor_of};
 ghost use Rattle.sd_text.specs.Grammar.{Spells, SpellsOne};
 ghost use Rattle.sd_text.specs.Fault.{StandsIn};
 ghost use Rattle.sd_text.specs.Sddl.{has_entry};
-ghost use Rattle.sd_text.specs.Sacl.{sacl_section, sacl_entries, sacl_entry, sacl_kind, sacl_rights, sacl_trustee, passed_sid, is_sacl_type, all_sections, sddl_without_sacl};
+ghost use Rattle.sd_text.specs.Sacl.{sacl_section, sacl_entries, sacl_entry, sacl_kind, sacl_rights, sacl_trustee};
+ghost use Rattle.sd_text.specs.Sacl.{passed_sid, is_sacl_type, all_sections, sddl_without_sacl};
 ghost use Rattle.sd_text.specs.Finding.{Gives, GivesUnlessMemory, find};
 
 use crate::cursor::Cursor;

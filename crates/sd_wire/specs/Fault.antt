@@ -1,7 +1,8 @@
 -- The faults of bytes that hold no descriptor: their numbers and their names.
 use Rattle.std.specs.Prelude.{ℕ, List, codes}
 use Rattle.sd_wire.specs.declared.fault.WireFault.{WireFault}
-use Rattle.sd_wire.specs.declared.fault.WireFault.TheVariants.{Short, Revision, NotSelfRelative, HasSacl, BadOffset, BadSid, AclRevision, AclSize, EntrySize, EntryKind}
+use Rattle.sd_wire.specs.declared.fault.WireFault.TheVariants.{Short, Revision, NotSelfRelative, HasSacl, BadOffset}
+use Rattle.sd_wire.specs.declared.fault.WireFault.TheVariants.{BadSid, AclRevision, AclSize, EntrySize, EntryKind}
 
 abbrev pub wire_fault_number : WireFault → ℕ
 wire_fault_number Short = 1

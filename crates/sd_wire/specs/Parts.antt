@@ -36,7 +36,14 @@ AreWithin bytes (dacls.List p) = (p.place ≤ p.end) × (p.end ≤ length bytes)
 
 -- the descriptor with another DACL
 abbrev pub with_dacl : DescriptorValue → Dacl → DescriptorValue
-with_dacl d dacl = record { owner = d.owner; group = d.group; dacl = dacl; protected = d.protected; auto_req = d.auto_req; auto_inherited = d.auto_inherited }
+with_dacl d dacl = record {
+  owner = d.owner;
+  group = d.group;
+  dacl = dacl;
+  protected = d.protected;
+  auto_req = d.auto_req;
+  auto_inherited = d.auto_inherited;
+}
 
 -- the bytes parse as the descriptor with this owner and the DACL at its position; the first fault, if there is one, is
 -- an entry's

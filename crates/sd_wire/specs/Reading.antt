@@ -1,6 +1,8 @@
 -- How a self-relative descriptor is parsed: each part at its offset in the bytes, and the tests in their order
 -- ([MS-DTYP] 2.4.6, with 2.4.5 for the list, 2.4.4 for its entries, 2.4.2.2 for the SIDs).
-use Rattle.std.specs.Prelude.{◌≡◌, ℕ, zero, suc, ◌+◌, ◌%◌, Bool, false, not, ◌&&◌, ◌||◌, ◌==◌, nat_lt, List, [], ◌∷◌, length, slice_index, slice_range, bit_and, Option, Some, None, Result, Ok, Err, if◌then◌else◌}
+use Rattle.std.specs.Prelude.{◌≡◌, ℕ, zero, suc, ◌+◌, ◌%◌, Bool, false, not, ◌&&◌, ◌||◌, ◌==◌, nat_lt, List, [], ◌∷◌}
+use Rattle.std.specs.Prelude.{length, slice_index, slice_range, bit_and, Option, Some, None, Result, Ok, Err}
+use Rattle.std.specs.Prelude.{if◌then◌else◌}
 use Rattle.std.specs.Int.{w16, from_le_bytes}
 use Rattle.sd_sid.specs.Sid.{SidValue}
 use Rattle.sd_sid.specs.SidBytes.{u32_at, sid_reading}
@@ -13,7 +15,8 @@ use Rattle.sd_acl.specs.declared.ace.AceKind.TheVariants.{Allow, Deny}
 use Rattle.sd_acl.specs.Dacl.{Dacl}
 use Rattle.sd_acl.specs.declared.descriptor.DaclOf.TheVariants.{Absent, Null, List as Entries}
 use Rattle.sd_wire.specs.declared.fault.WireFault.{WireFault}
-use Rattle.sd_wire.specs.declared.fault.WireFault.TheVariants.{Short, Revision, NotSelfRelative, HasSacl, BadOffset, BadSid, AclRevision, AclSize, EntrySize, EntryKind}
+use Rattle.sd_wire.specs.declared.fault.WireFault.TheVariants.{Short, Revision, NotSelfRelative, HasSacl, BadOffset}
+use Rattle.sd_wire.specs.declared.fault.WireFault.TheVariants.{BadSid, AclRevision, AclSize, EntrySize, EntryKind}
 use Rattle.sd_wire.specs.declared.fault.WireError.{WireError}
 use Rattle.sd_wire.specs.declared.fault.WireError.TheVariants as errors
 
@@ -139,4 +142,11 @@ descriptor_read bytes =
       auto_req = is_set 0x0100 control;
       auto_inherited = is_set 0x0400 control;
     }))
-    else Ok (record { owner = owner; group = group; dacl = Absent; protected = false; auto_req = false; auto_inherited = false }))))
+    else Ok (record {
+      owner = owner;
+      group = group;
+      dacl = Absent;
+      protected = false;
+      auto_req = false;
+      auto_inherited = false;
+    }))))

@@ -1,7 +1,8 @@
 -- What it means that bytes hold a descriptor: at each offset that the header, a list or an entry gives is the part
 -- itself, as it would be written ([MS-DTYP] 2.4.6, with 2.4.5 for the list, 2.4.4 for its entries, 2.4.2.2 for the
 -- SIDs).
-use Rattle.std.specs.Prelude.{◌≡◌, ℕ, ◌+◌, ◌%◌, ◌^◌, ◌<◌, ◌≤◌, ◌⊎◌, true, false, MatchBool, List, [], ◌∷◌, length, take, drop, slice_index, bit_and, Option, Some, None}
+use Rattle.std.specs.Prelude.{◌≡◌, ℕ, ◌+◌, ◌%◌, ◌^◌, ◌<◌, ◌≤◌, ◌⊎◌, true, false, MatchBool, List, [], ◌∷◌, length, take}
+use Rattle.std.specs.Prelude.{drop, slice_index, bit_and, Option, Some, None}
 use Rattle.sd_sid.specs.Sid.{SidValue}
 use Rattle.sd_sid.specs.SidBytes.{u32_at, bytes_of_sid}
 use Rattle.sd_acl.specs.Ace.{all_named, ace_size}

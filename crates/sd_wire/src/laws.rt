@@ -1,6 +1,7 @@
 //! Laws of the self-relative form: each function has an empty body, and its contract is the law.
 
-ghost use Rattle.sd_wire.specs.Laws.{DescriptorsComeBack, ReadingsAreHeld, WhatIsHeldIsRead, OneIsHeld, NoneIsHeldBesideAFault};
+ghost use Rattle.sd_wire.specs.Laws.{DescriptorsComeBack, ReadingsAreHeld, WhatIsHeldIsRead, OneIsHeld};
+ghost use Rattle.sd_wire.specs.Laws.{NoneIsHeldBesideAFault};
 
 /// A law, the round trip: `read_descriptor` parses what `write_descriptor` writes, if no entry has the flag bit 0x20.
 #[tactic(auto, using(crate::proofs::WireIsHeld::descriptors_come_back))]

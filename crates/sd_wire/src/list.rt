@@ -1,6 +1,7 @@
 //! Lists of entries.
 
-ghost use Rattle.std.specs.Prelude.{◌≡◌, ◌+◌, ◌-◌, ◌/◌, ◌<◌, ◌≤◌, ◌++◌, min, length, sum_by, vec_len, vec_capacity, Err, IfErr, IfOk, IsErrOf};
+ghost use Rattle.std.specs.Prelude.{◌≡◌, ◌+◌, ◌-◌, ◌/◌, ◌<◌, ◌≤◌, ◌++◌, min, length, sum_by, vec_len, vec_capacity};
+ghost use Rattle.std.specs.Prelude.{Err, IfErr, IfOk, IsErrOf};
 ghost use Rattle.std.specs.List.{flat_map};
 ghost use Rattle.sd_acl.specs.Ace.{ace_size, acl_size_of};
 ghost use Rattle.sd_wire.specs.Reading.{Gives, entries_read, list_read};

@@ -58,7 +58,8 @@ pub fn read_parts(bytes: &[u8]) -> Result<Parts<'_>, WireFault>
 #[tactic(auto, unfolding(crate::specs::Reading::dacl_read))]
 fn find_dacl(bytes: &[u8], offset: usize) -> Result<DaclPlace, WireFault>
     requires { offset < 2 ^ 32 }
-    ensures ok { IfOk result (λ dacl. (dacl_read bytes.now offset ≡ dacl_at bytes.now dacl) × AreWithin bytes.now dacl) }
+    ensures ok { IfOk result (λ dacl. (dacl_read bytes.now offset ≡ dacl_at bytes.now dacl)
+        × AreWithin bytes.now dacl) }
     ensures err { IfErr result (λ fault. dacl_read bytes.now offset ≡ Err fault) }
 {
     if offset == 0 {

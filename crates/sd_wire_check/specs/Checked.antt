@@ -1,4 +1,5 @@
--- The access check over the bytes of a self-relative descriptor ([MS-DTYP] 2.4.6): they are read, then the descriptor is checked.
+-- The access check over the bytes of a self-relative descriptor ([MS-DTYP] 2.4.6): they are read, then the descriptor
+-- is checked.
 use Rattle.std.specs.Prelude.{ℕ, List, Option, Some, Result, Ok}
 use Rattle.sd_sid.specs.Mapping.{MappingValue}
 use Rattle.sd_sid.specs.Sid.{SidValue}
@@ -14,5 +15,6 @@ abbrev pub checked : List ℕ → MappingValue → TokenValue → ℕ → Result
 checked bytes g t r = descriptor_read bytes >>= λ d. Ok (verdict d.owner (dacl_entries d.dacl) g t r)
 
 -- the same of a list, from what reading its entries gives
-abbrev pub entries_checked : Result (List Ace) WireFault → Option SidValue → MappingValue → TokenValue → ℕ → Result Verdict WireFault
+abbrev pub entries_checked : Result (List Ace) WireFault → Option SidValue → MappingValue → TokenValue → ℕ
+    → Result Verdict WireFault
 entries_checked read owner g t r = read >>= λ es. Ok (verdict owner (Some es) g t r)

@@ -45,7 +45,8 @@ pub fn check_bytes(
 
 #[inline(never)]
 fn check_no_list(question: &Question<'_, SidRef<'_>>) -> Verdict
-    ensures { result ≡ verdict question.now.owner.now None question.now.mapping.now question.now.token.now question.now.asked }
+    ensures { result ≡ verdict question.now.owner.now None question.now.mapping.now question.now.token.now
+        question.now.asked }
 {
     question.verdict_without_a_list()
 }

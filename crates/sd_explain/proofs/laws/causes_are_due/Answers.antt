@@ -1,8 +1,8 @@
-use Rattle.sd_explain.proofs.ReasonLaws as laws
+use Rattle.sd_explain.proofs.Causes.{named_grants, maximum_grants}
 use Rattle.sd_explain.proofs.laws.causes_are_due.Goals as goal
 
 pub returns-clause-named : goal.returns-clause-named
-returns-clause-named c = laws.named_cause_is_due
+returns-clause-named c = λ owner dacl g t b. named_grants owner g t b dacl
 
 pub returns-clause-maximum : goal.returns-clause-maximum
-returns-clause-maximum c = laws.maximum_cause_is_due
+returns-clause-maximum c = λ owner dacl g t b low. maximum_grants owner g t b dacl low
