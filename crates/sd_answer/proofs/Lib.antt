@@ -1,3 +1,5 @@
 pub mod Words
 pub mod OneToken
 pub mod Joins
+pub mod NoLines
+mod LintLines

@@ -39,4 +39,5 @@ fault_line what = line (codes "fault " ++ what)
 -- the line of a descriptor's text with a fault
 abbrev pub sddl_fault_line : TextFault → ℕ → List ℕ
 sddl_fault_line fault place =
-    line (codes "fault sddl " ++ decimal (text.number_of fault) ++ codes " " ++ text.name_of fault ++ codes " at " ++ decimal place)
+    line (codes "fault sddl " ++ decimal (text.number_of fault) ++ codes " " ++ text.name_of fault ++ codes " at "
+    ++ decimal place)

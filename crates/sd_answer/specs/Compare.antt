@@ -1,5 +1,5 @@
 -- What `compare` prints: `same`, or the rights that tokens gain and those that they lose, with a token that shows it.
-use Rattle.std.specs.Prelude.{ℕ, ◌==◌, ◌&&◌, ◌||◌, if◌then◌else◌, List, ◌++◌, length, map, codes}
+use Rattle.std.specs.Prelude.{ℕ, ◌==◌, ◌&&◌, ◌||◌, if◌then◌else◌, List, [], ◌++◌, length, map, codes}
 use Rattle.std.specs.List.{flat_map}
 use Rattle.std.specs.Option.{option_to_list}
 use Rattle.sd_sid.specs.Sid.{SidValue}
@@ -32,7 +32,13 @@ change_line old new change = (change.mask, witness_text old new change.witness)
 abbrev pub changes_text : Spelling → List ℕ → Parts → Parts → List Change → List ℕ
 changes_text spelling head old new changes = lines_text spelling head (map (change_line old new) changes)
 
+-- the lines of gains and of losses, each after a head
+abbrev pub gains_and_losses : Spelling → List ℕ → Parts → Parts → List Change → List Change → List ℕ
+gains_and_losses spelling head old new gained lost =
+    changes_text spelling (head ++ codes "gained ") old new gained
+    ++ changes_text spelling (head ++ codes "lost ") old new lost
+
 abbrev pub compare_text : Spelling → Parts → Parts → List Change → List Change → List ℕ
 compare_text spelling old new gained lost =
     if length gained == 0 && length lost == 0 then line (codes "same")
-    else changes_text spelling (codes "gained ") old new gained ++ changes_text spelling (codes "lost ") old new lost
+    else gains_and_losses spelling [] old new gained lost

@@ -4,3 +4,4 @@ pub mod Why
 pub mod Lines
 pub mod Who
 pub mod Compare
+pub mod Lint

@@ -1,6 +1,6 @@
--- What `who` prints: rights, whom an alternative grants them to, and unless which SIDs are in the token. Rights with the
--- same alternative are in one line, the lines are in the order of their lowest rights, and for the same one in the order
--- of the alternatives.
+-- What `who` prints: rights, whom an alternative grants them to, and unless which SIDs are in the token. Rights with
+-- the same alternative are in one line, the lines are in the order of their lowest rights, and for the same one in the
+-- order of the alternatives.
 use Rattle.std.specs.Prelude.{ℕ, ◌==◌, if◌then◌else◌, List, [], ◌++◌, fold, length, take, codes}
 use Rattle.std.specs.List.{flat_map}
 use Rattle.sd_sid.specs.Sid.{SidValue}
@@ -32,7 +32,8 @@ alternative_text denied a = codes " to " ++ holder_text a.holder ++ unless_text 
 abbrev pub with_access : List LineValue → Access → List LineValue
 with_access lines access =
     if length access.alternatives.items == 0 then joined lines access.mask (codes " to nobody")
-    else fold (λ (so_far : List LineValue) (a : Alternative). joined so_far access.mask (alternative_text access.denied.items a))
+    else fold (λ (so_far : List LineValue) (a : Alternative). joined so_far access.mask
+    (alternative_text access.denied.items a))
     lines access.alternatives.items
 
 abbrev pub who_lines : List Access → List LineValue

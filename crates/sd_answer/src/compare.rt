@@ -2,7 +2,8 @@
 ghost use Rattle.std.specs.Prelude.{◌≡◌, ◌++◌, IfOk, OnOk, codes, map, string_bytes};
 ghost use Rattle.std.specs.Option.{option_to_list};
 ghost use Rattle.sd_analysis.specs.Sufficient.{parts_of, restricting_of};
-ghost use Rattle.sd_answer.specs.Compare.{arguments_text, change_line, changes_text, compare_text, user_text, witness_text};
+ghost use Rattle.sd_answer.specs.Compare.{arguments_text, change_line, changes_text, compare_text, gains_and_losses};
+ghost use Rattle.sd_answer.specs.Compare.{user_text, witness_text};
 ghost use Rattle.sd_answer.specs.Lines.{values};
 ghost use Rattle.sd_text.specs.Canon.{full_canon};
 
@@ -28,25 +29,28 @@ pub fn compare_text(
     if comparison.gained.is_empty() && comparison.lost.is_empty() {
         return String::from_str(alloc, "same\n");
     }
+    gains_and_losses(alloc, spelling, "", old, new, comparison)
+}
+
+/// The lines of a comparison of these descriptors, each after a head: none where nothing changes. The only error is out
+/// of memory.
+pub fn gains_and_losses(
+    alloc: Global,
+    spelling: Spelling,
+    head: &str,
+    old: &DescriptorRef<'_>,
+    new: &DescriptorRef<'_>,
+    comparison: &Comparison,
+) -> Result<String, AllocError>
+    ensures { IfOk result (λ text. string_bytes text ≡ gains_and_losses spelling head.now (parts_of old.now)
+        (parts_of new.now) comparison.now.gained.items comparison.now.lost.items) }
+{
+    let gained = format!(in alloc; "{head}gained ")?;
+    let lost = format!(in alloc; "{head}lost ")?;
     let mut text = String::new(alloc);
-    push_changes(
-        alloc,
-        &mut text,
-        spelling,
-        "gained ",
-        old,
-        new,
-        &comparison.gained,
-    )?;
-    push_changes(
-        alloc,
-        &mut text,
-        spelling,
-        "lost ",
-        old,
-        new,
-        &comparison.lost,
-    )?;
+    let (gains, losses) = (&comparison.gained, &comparison.lost);
+    push_changes(alloc, &mut text, spelling, gained.as_str(), old, new, gains)?;
+    push_changes(alloc, &mut text, spelling, lost.as_str(), old, new, losses)?;
     Ok(text)
 }
 

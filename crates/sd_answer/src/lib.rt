@@ -13,12 +13,14 @@
 mod answer;
 mod compare;
 mod lines;
+mod lint;
 mod who;
 mod why;
 mod word;
 
 pub use answer::{Spelling, fault_line, sddl_fault_line, spell, verdict_line};
-pub use compare::compare_text;
+pub use compare::{compare_text, gains_and_losses};
+pub use lint::lint_text;
 pub use who::who_text;
 pub use why::why_text;
 pub use word::{TokenError, read_base, read_token};

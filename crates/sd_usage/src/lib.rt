@@ -1,7 +1,8 @@
 //! The command line of the program `sdstore`: the one table of its commands and options, and what follows from it: help
 //! and the errors for arguments that aren't a valid command line, by `clap`.
 //!
-//! `sd_tool` parses arguments by the table. The contracts of `clap` say nothing about a text: the texts are tested.
+//! `sd_command_line` parses arguments by the table. The contracts of `clap` say nothing about a text: the texts are
+//! tested.
 //!
 //! ```text
 //! let command = command_named("verdict");

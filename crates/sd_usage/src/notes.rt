@@ -13,6 +13,7 @@ pub(crate) fn notes_of(command: CommandName) -> &'static str {
         CommandName::Ask(Question::Print) => PRINT_NOTES,
         CommandName::Ask(Question::ToBinary) => TO_BINARY_NOTES,
         CommandName::Ask(Question::FromBinary) => FROM_BINARY_NOTES,
+        CommandName::Ask(Question::Rights) => RIGHTS_NOTES,
         CommandName::Script => SCRIPT_NOTES,
         CommandName::Serve => SERVE_NOTES,
         CommandName::Audit => AUDIT_NOTES,
@@ -109,7 +110,8 @@ Statuses:
   3  out of memory, or an output error";
 
 const LINT_NOTES: &str = "\
-A first '--' after 'lint' is dropped. Options go before 'lint': 'sdstore help' lists them.
+A first '--' after 'lint' is dropped, and everything after it is an argument. Options go before
+'lint': 'sdstore help' lists them.
 
 Prints a line for each finding, or 'clean':
   no DACL grants everything
@@ -118,8 +120,9 @@ Prints a line for each finding, or 'clean':
   entry N (..) names no right
   entry N (..) is inherited by nothing
   entry N (..) repeats entry M
-  entry N (..) decides nothing behind M ..
+  entry N (..) has no effect
   entry N (..) limits the owner
+Without all entries that have no effect, each check has the same verdict.
 
 Statuses:
   0  clean
@@ -139,9 +142,25 @@ A first '--' after 'frombin' is dropped. Options go before 'frombin': 'sdstore h
 With '--loose' bytes may be separated by tabs, spaces, commas, backslashes and line ends, and each
 part may begin with '0x', as in a .reg file or a dump.";
 
+const RIGHTS_NOTES: &str = "\
+A first '--' after 'rights' is dropped. Options go before 'rights': 'sdstore help' lists them.
+
+Prints the mask, the name of the permission that it is, if any, and its rights, by the names of
+winnt.h and winsvc.h. Bits without a name are a number:
+  0x100116 Write: FILE_WRITE_DATA+FILE_APPEND_DATA+FILE_WRITE_EA+FILE_WRITE_ATTRIBUTES+SYNCHRONIZE
+  0x10201: FILE_READ_DATA+DELETE+0x200
+The rights are those of a file, or with '--mapping' before 'rights' those of a 'key', 'service' or
+'process'; with R,W,X,A only rights of all objects have names.
+
+Statuses:
+  0  the line was printed
+  1  an invalid argument
+  2  the arguments aren't a valid command line
+  3  out of memory, or an output error";
+
 const SCRIPT_NOTES: &str = "\
 Each line is a command, and has one line of output. An empty line and one that begins with '#' have
-none. 'why', 'find', 'list', 'dump' and 'who' have several, the last of which is empty:
+none. 'why', 'find', 'list', 'dump', 'who' and 'review' have several, the last of which is empty:
   open N SDDL                          opens the store with a root, and readers 0 to N - 1
   addc PATH SDDL, addo PATH SDDL       adds a container, an object
   owner PATH SID, group PATH SID       sets the node's owner, its group
@@ -160,6 +179,7 @@ none. 'why', 'find', 'list', 'dump' and 'who' have several, the last of which is
   find I PATH USER MASK [WORD]...      asks, as reader I, which nodes at and below the path grant it
   list [PATH]                          lists the published nodes at and below the path, or all
   who PATH MASK [WORD]...              prints whom the published node grants which rights
+  review [PATH]                        prints which users gain or lose rights by the pending edits
   dump                                 prints the published tree as a script that makes it
 
 Generic rights are mapped by '--mapping KIND' before 'script', and without it as those of a file:
@@ -195,7 +215,7 @@ const AUDIT_NOTES: &str = "\
 Has the output of 'sdstore script', except for these lines:
   open N SDDL                          opens the store with a reader for each worker
   check I PATH USER MASK [WORD]...     is answered at the end, for any number I
-  tell, learn, why, find, show, list, dump, who
+  tell, learn, why, find, show, list, dump, who, review
                                        are faults
 At the end all accepted edits are published, and then the checks are answered, in order.
 '--mapping', '--percent' and '--strict' go before 'audit', as before 'script'.
@@ -209,8 +229,8 @@ Statuses:
      answers from the workers";
 
 const EACH_NOTES: &str = "\
-Each line of standard input is the first argument of COMMAND, a descriptor, and has one answer, in
-order, a fault too. Every complete line is answered before more input is read: a program can
+Each line of standard input is the first argument of COMMAND, as a descriptor, and has one answer,
+in order, a fault too. Every complete line is answered before more input is read: a program can
 write a line, wait for its answer, and write the next. Answers of 'why', 'who', 'compare' and
 'lint', which may have several lines, end with an empty line.
 

@@ -46,6 +46,8 @@ pub enum Question {
     ToBinary,
     /// `frombin`.
     FromBinary,
+    /// `rights`.
+    Rights,
 }
 
 /// An option before a command.

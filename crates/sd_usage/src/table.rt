@@ -109,7 +109,7 @@ sdstore verdict 'D:(D;;0x2;;;S-1-5-21-1-2-3-1001)(A;;0x1f01ff;;;S-1-5-21-1-2-3-1
             name: CommandName::Ask(Question::Lint),
             flag: None,
             arguments: Arguments::One(Argument::Descriptor),
-            repeated: None,
+            repeated: Some(Argument::Group),
             options: MAPPED_TEXT_OPTIONS,
         },
         "Prints what is doubtful in a descriptor's DACL",
@@ -150,6 +150,21 @@ sdstore verdict 'D:(D;;0x2;;;S-1-5-21-1-2-3-1001)(A;;0x1f01ff;;;S-1-5-21-1-2-3-1
         },
         "Prints a descriptor in self-relative form as canonical SDDL",
         "sdstore frombin 010000801400000000000000000000000000000001020000000000052000000020020000",
+    ),
+    (
+        "rights",
+        Command {
+            name: CommandName::Ask(Question::Rights),
+            flag: None,
+            arguments: Arguments::One(Argument::Mask),
+            repeated: None,
+            options: OptionSet {
+                mapping: true,
+                ..NO_OPTIONS
+            },
+        },
+        "Prints the names of the rights of an access mask",
+        "sdstore rights 0x1301bf",
     ),
     (
         "script",

@@ -8,7 +8,7 @@ use std::alloc::{AllocError, Global};
 const USER: &str = "The user's SID: in full, as S-1-5-21-1-2-3-1001, or an alias, as SY";
 
 const MASK: &str = "\
-The requested access mask, written as the rights of an entry: names without a space, as FR or
+The access mask, written as the rights of an entry: names without a space, as FR or
 RCWD, or a number below 2^32, hexadecimal (0x1f01ff), octal (01777) or decimal (2032127)";
 
 const WORD: &str = "\

@@ -1,5 +1,5 @@
 //! The help texts, and the errors for arguments that aren't a valid command line, by `clap`. It doesn't decide which
-//! arguments are valid: `command_line` of `sd_tool` does.
+//! arguments are valid: `command_line` of `sd_command_line` does.
 
 use crate::described::{Texts, described};
 use crate::row::{CommandName, CommandRow, OptionName, OptionRow};

@@ -1,9 +1,9 @@
-//! The program `sdstore`: the command line of `sd_tool` over the words and the streams of the process.
+//! The program `sdstore`: the command line of `sd_command_line` over the words and the streams of the process.
 #![tactic(auto)]
 
 mod terminal;
 
-use sd_tool::{Watched, drive};
+use sd_command_line::{Watched, drive};
 use std::env::Env;
 use std::io::{ErrorKind, IsTerminal, Read, Write};
 use std::process::ExitCode;

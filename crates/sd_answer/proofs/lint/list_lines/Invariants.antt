@@ -1,0 +1,7 @@
+-- The lines so far are those of the entries so far.
+use Rattle.std.proofs.Common.{◌≡◌, string_bytes}
+use Rattle.sd_answer.specs.Lint.{list_lines}
+use Rattle.sd_answer.proofs.lint.list_lines.Given as goal
+
+abbrev pub invariant-loop-place : goal.invariant-loop-place
+invariant-loop-place l = string_bytes l.text ≡ list_lines l.entries l.marks l.place

@@ -1,0 +1,93 @@
+-- What `lint` prints: what is doubtful in a descriptor's DACL, a line for each finding, entry by entry.
+use Rattle.std.specs.Prelude.{◌≡◌, ℕ, zero, suc, ◌+◌, Bool, not, ◌&&◌, ◌||◌, ◌==◌, if◌then◌else◌, Option, Some, None}
+use Rattle.std.specs.Prelude.{List, [], ◌++◌, length, take, slice_get, position, codes}
+use Rattle.std.specs.Fmt.{decimal}
+use Rattle.sd_sid.specs.Mask.{holds}
+use Rattle.sd_sid.specs.Mapping.{MappingValue}
+use Rattle.sd_sid.specs.Sid.{SidValue, same_sid}
+use Rattle.sd_acl.specs.Ace.{is_allow, is_inherit_only}
+use Rattle.sd_acl.specs.Canonical.{is_inherited, is_explicit, allows, denies}
+use Rattle.sd_acl.specs.Dacl.{Dacl}
+use Rattle.sd_acl.specs.Descriptor.{DescriptorValue}
+use Rattle.sd_acl.specs.declared.ace.Ace.{Ace}
+use Rattle.sd_acl.specs.declared.ace.AceKind.{AceKind}
+use Rattle.sd_acl.specs.declared.descriptor.DaclOf.TheVariants.{Absent, Null, List as Entries}
+use Rattle.sd_text.specs.Canon.{entry_canon}
+use Rattle.sd_check.specs.Check.{is_limit}
+use Rattle.sd_check.specs.declared.token.GroupState.{GroupState}
+use Rattle.sd_analysis.specs.Redundant.{AreRedundant, is_marked}
+use Rattle.sd_answer.specs.Answer.{line}
+
+-- ---- what two entries are to each other
+
+-- the later one stands out of canonical order: an explicit entry behind an inherited one, or an explicit deny behind an
+-- explicit allow
+abbrev pub is_misplaced : Ace → Ace → Bool
+is_misplaced later earlier = is_explicit later && (is_inherited earlier || (allows earlier && denies later))
+
+abbrev pub same_kind : AceKind → AceKind → Bool
+same_kind later earlier = if is_allow later then is_allow earlier else not (is_allow earlier)
+
+-- both say the same
+abbrev pub is_repeated : Ace → Ace → Bool
+is_repeated later earlier =
+    ((same_kind later.kind earlier.kind && later.flags.0 == earlier.flags.0) && later.mask == earlier.mask)
+    && same_sid earlier.sid later.sid
+
+-- ---- what is wrong with one
+
+-- it waits to be inherited, and nothing inherits it: IO without OI or CI
+abbrev pub is_stranded : Ace → Bool
+is_stranded e = (is_inherit_only e && not (holds e.flags.0 0)) && not (holds e.flags.0 1)
+
+-- it is effective and redundant, as its mark says
+abbrev pub is_useless : Ace → Bool → Bool
+is_useless e mark = mark && not (is_inherit_only e)
+
+-- ---- lines
+
+abbrev pub entry_head : ℕ → Ace → List ℕ
+entry_head place e = codes "entry " ++ decimal (place + 1) ++ codes " " ++ entry_canon e ++ codes " "
+
+-- what is so of an entry, where it is
+abbrev pub where_so : Bool → List ℕ → List ℕ → List ℕ
+where_so test head what = if test then line (head ++ what) else []
+
+-- what an entry is to the first earlier one of which it is so
+abbrev pub where_behind : Option ℕ → List ℕ → List ℕ → List ℕ
+where_behind None head what = []
+where_behind (Some earlier) head what = line (head ++ what ++ decimal (earlier + 1))
+
+-- the findings of an entry, by a mark whether it is redundant
+unfoldable pub entry_lines : List Ace → ℕ → Ace → Bool → List ℕ
+entry_lines es place e mark =
+    where_behind (position (is_misplaced e) (take place es)) (entry_head place e)
+    (codes "is out of order behind entry ")
+    ++ where_so (e.mask == 0) (entry_head place e) (codes "names no right")
+    ++ where_so (is_stranded e) (entry_head place e) (codes "is inherited by nothing")
+    ++ where_behind (position (is_repeated e) (take place es)) (entry_head place e) (codes "repeats entry ")
+    ++ where_so (is_useless e mark) (entry_head place e) (codes "has no effect")
+    ++ where_so (is_limit e) (entry_head place e) (codes "limits the owner")
+
+abbrev pub lines_at : List Ace → ℕ → Option Ace → Bool → List ℕ
+lines_at es place None mark = []
+lines_at es place (Some e) mark = entry_lines es place e mark
+
+-- those of the entries below a place
+unfoldable pub list_lines : List Ace → List Bool → ℕ → List ℕ
+list_lines es marks zero = []
+list_lines es marks (suc k) = list_lines es marks k ++ lines_at es k (slice_get es k) (is_marked marks k)
+
+-- those of a list of this owner's, of whose entries the redundant ones are marked
+abbrev pub AreListLines : MappingValue → List (SidValue × GroupState) → Option SidValue → List Ace → List ℕ → Type 0
+AreListLines g base owner es text =
+    (marks : List Bool) × AreRedundant owner es g base marks × (text ≡ list_lines es marks (length es))
+
+-- those of a DACL
+abbrev pub AreDaclLines : MappingValue → List (SidValue × GroupState) → Option SidValue → Dacl → List ℕ → Type 0
+AreDaclLines g base owner Absent text = text ≡ line (codes "no DACL grants everything")
+AreDaclLines g base owner Null text = text ≡ line (codes "a null DACL grants everything")
+AreDaclLines g base owner (Entries es) text = AreListLines g base owner es text
+
+abbrev pub IsLintText : MappingValue → List (SidValue × GroupState) → DescriptorValue → List ℕ → Type 0
+IsLintText g base d text = AreDaclLines g base d.owner d.dacl text

@@ -1,0 +1,238 @@
+//! The lines of `lint`: what stands in a descriptor that its author may not have meant.
+ghost use Rattle.std.specs.Prelude.{◌≡◌, ◌<◌, ◌^◌, ◌++◌, IfOk, IfSome, OnOk, length, position, string_bytes};
+ghost use Rattle.sd_acl.specs.Descriptor.{descriptor_of};
+ghost use Rattle.sd_sid.specs.Mask.{holds};
+ghost use Rattle.sd_check.specs.Check.{is_limit};
+ghost use Rattle.sd_answer.specs.Lint.{AreListLines, IsLintText, entry_head, entry_lines, is_misplaced, is_repeated};
+ghost use Rattle.sd_answer.specs.Lint.{is_stranded, is_useless, list_lines, same_kind, where_behind, where_so};
+
+use bitflags::Flags;
+use sd_acl::{Ace, AceFlags, AceKind, Dacl, Descriptor};
+use sd_analysis::{Base, redundant};
+use sd_sid::{GenericMapping, Sid};
+use sd_text::print_entry;
+use std::alloc::{AllocError, Global};
+
+/// What is doubtful in a descriptor's DACL, entry by entry, a line for each finding, as `entry 2 (A;;FR;;;BU) has no
+/// effect`: no check of a token with the base changes without these, even without all of them, if the entries so
+/// reported go together ([MS-DTYP] 2.5.3.2). No line where nothing is found. The only error is out of memory.
+pub fn lint_text(
+    alloc: Global,
+    mapping: &GenericMapping,
+    base: &Base<'_>,
+    descriptor: &Descriptor,
+) -> Result<String, AllocError>
+    ensures { IfOk result (λ text. IsLintText mapping.now base.now (descriptor_of descriptor.now) (string_bytes text)) }
+{
+    match &descriptor.dacl {
+        Dacl::Absent => String::from_str(alloc, "no DACL grants everything\n"),
+        Dacl::Null => String::from_str(alloc, "a null DACL grants everything\n"),
+        Dacl::List(list) => lines_of(alloc, &descriptor.owner, list.entries(), mapping, base),
+    }
+}
+
+/// The lines of a list of this owner's.
+fn lines_of(
+    alloc: Global,
+    owner: &Option<Sid>,
+    entries: &[Ace],
+    mapping: &GenericMapping,
+    base: &Base<'_>,
+) -> Result<String, AllocError>
+    ensures { IfOk result (λ text. AreListLines mapping.now base.now owner.now entries.now (string_bytes text)) }
+{
+    let marks = redundant(alloc, *owner, entries, mapping, base)?;
+    list_lines(alloc, entries, &marks)
+}
+
+/// The lines of these entries, of which the marks say which are redundant.
+fn list_lines(alloc: Global, entries: &[Ace], marks: &[bool]) -> Result<String, AllocError>
+    requires { length marks.now ≡ length entries.now }
+    ensures { IfOk result (λ text. string_bytes text ≡ list_lines entries.now marks.now (length entries.now)) }
+{
+    let mut text = String::new(alloc);
+    for place in 0..entries.len() {
+        let lines = entry_lines(alloc, entries, place, &entries[place], marks[place])?;
+        text.push_str(lines.as_str())?;
+    }
+    Ok(text)
+}
+
+/// The findings of the entry at the place.
+#[tactic(auto, unfolding(crate::specs::Lint::entry_lines))]
+fn entry_lines(
+    alloc: Global,
+    entries: &[Ace],
+    place: usize,
+    entry: &Ace,
+    mark: bool,
+) -> Result<String, AllocError>
+    requires { place < length entries.now }
+    ensures { IfOk result (λ text. string_bytes text ≡ entry_lines entries.now place entry.now mark) }
+{
+    let mut text = String::new(alloc);
+    let head = entry_head(alloc, place, entry)?;
+    let head = head.as_str();
+    let misplaced = first_misplaced(&entries[..place], entry);
+    push_behind(
+        alloc,
+        &mut text,
+        misplaced,
+        head,
+        "is out of order behind entry ",
+    )?;
+    push_where(&mut text, entry.mask.is_empty(), head, "names no right")?;
+    push_where(
+        &mut text,
+        is_stranded(entry),
+        head,
+        "is inherited by nothing",
+    )?;
+    let repeated = first_repeated(&entries[..place], entry);
+    push_behind(alloc, &mut text, repeated, head, "repeats entry ")?;
+    let useless = is_useless(entry, mark);
+    push_where(&mut text, useless, head, "has no effect")?;
+    push_where(&mut text, is_limit(entry), head, "limits the owner")?;
+    Ok(text)
+}
+
+/// Which entry it is, counted from 1 and as the canonical text has it.
+fn entry_head(alloc: Global, place: usize, entry: &Ace) -> Result<String, AllocError>
+    requires { place < 2 ^ 63 }
+    ensures { IfOk result (λ text. string_bytes text ≡ entry_head place entry.now) }
+{
+    let number = place + 1;
+    let entry = print_entry(alloc, entry)?;
+    let entry = entry.as_str();
+    let text = format!(in alloc; "entry {number} {entry} ")?;
+    Ok(text)
+}
+
+/// Adds the line of what is so of an entry, where it is.
+fn push_where(text: &mut String, test: bool, head: &str, what: &str) -> Result<(), AllocError>
+    ensures { OnOk result (string_bytes text.new ≡ string_bytes text.old ++ where_so test head.now what.now) }
+{
+    if test {
+        text.push_str(head)?;
+        text.push_str(what)?;
+        text.push_str("\n")?;
+    }
+    Ok(())
+}
+
+/// Adds the line of what an entry is to an earlier one, where there is one.
+fn push_behind(
+    alloc: Global,
+    text: &mut String,
+    earlier: Option<usize>,
+    head: &str,
+    what: &str,
+) -> Result<(), AllocError>
+    requires { IfSome earlier (λ place. place < 2 ^ 63) }
+    ensures { OnOk result (string_bytes text.new ≡ string_bytes text.old ++ where_behind earlier head.now what.now) }
+{
+    let line = behind_line(alloc, earlier, head, what)?;
+    text.push_str(line.as_str())
+}
+
+fn behind_line(
+    alloc: Global,
+    earlier: Option<usize>,
+    head: &str,
+    what: &str,
+) -> Result<String, AllocError>
+    requires { IfSome earlier (λ place. place < 2 ^ 63) }
+    ensures { IfOk result (λ text. string_bytes text ≡ where_behind earlier head.now what.now) }
+{
+    match earlier {
+        None => Ok(String::new(alloc)),
+        Some(earlier) => {
+            let number = earlier + 1;
+            let line = format!(in alloc; "{head}{what}{number}\n")?;
+            Ok(line)
+        }
+    }
+}
+
+/// The first entry behind which this one is out of order.
+fn first_misplaced(before: &[Ace], entry: &Ace) -> Option<usize>
+    ensures first { result ≡ position (is_misplaced entry.now) before.now }
+    ensures low { IfSome result (λ place. place < 2 ^ 63) }
+{
+    before
+        .iter()
+        .position(|earlier| is_misplaced(entry, earlier))
+}
+
+/// The first entry that this one repeats.
+fn first_repeated(before: &[Ace], entry: &Ace) -> Option<usize>
+    ensures first { result ≡ position (is_repeated entry.now) before.now }
+    ensures low { IfSome result (λ place. place < 2 ^ 63) }
+{
+    before
+        .iter()
+        .position(|earlier| is_repeated(entry, earlier))
+}
+
+/// Whether canonical order wants the later one before the earlier one ([MS-DTYP] 2.4.5).
+fn is_misplaced(later: &Ace, earlier: &Ace) -> bool
+    ensures { result ≡ is_misplaced later.now earlier.now }
+{
+    !later.is_inherited()
+        && (earlier.is_inherited() || (earlier.kind.is_allow() && !later.kind.is_allow()))
+}
+
+/// Whether both entries say the same.
+fn is_repeated(later: &Ace, earlier: &Ace) -> bool
+    ensures { result ≡ is_repeated later.now earlier.now }
+{
+    same_kind(later.kind, earlier.kind)
+        && later.flags.bits() == earlier.flags.bits()
+        && later.mask.bits() == earlier.mask.bits()
+        && earlier.sid.is(&later.sid)
+}
+
+fn same_kind(later: AceKind, earlier: AceKind) -> bool
+    ensures { result ≡ same_kind later earlier }
+{
+    if later.is_allow() {
+        earlier.is_allow()
+    } else {
+        !earlier.is_allow()
+    }
+}
+
+/// Whether the entry waits to be inherited, and nothing inherits it ([MS-DTYP] 2.4.4.1).
+fn is_stranded(entry: &Ace) -> bool
+    ensures { result ≡ is_stranded entry.now }
+{
+    entry.is_inherit_only() && !goes_to_objects(entry) && !goes_to_containers(entry)
+}
+
+/// OBJECT_INHERIT_ACE.
+fn goes_to_objects(entry: &Ace) -> bool
+    ensures { result ≡ holds entry.now.flags.0 0 }
+{
+    entry.flags.contains(AceFlags::OI)
+}
+
+/// CONTAINER_INHERIT_ACE.
+fn goes_to_containers(entry: &Ace) -> bool
+    ensures { result ≡ holds entry.now.flags.0 1 }
+{
+    entry.flags.contains(AceFlags::CI)
+}
+
+/// Whether the entry is effective and for OWNER RIGHTS, so that it limits the owner ([MS-DTYP] 2.5.3.2).
+fn is_limit(entry: &Ace) -> bool
+    ensures { result ≡ is_limit entry.now }
+{
+    !entry.is_inherit_only() && entry.sid.is_owner_rights()
+}
+
+/// Whether the entry is effective, and redundant as the mark says.
+fn is_useless(entry: &Ace, mark: bool) -> bool
+    ensures { result ≡ is_useless entry.now mark }
+{
+    mark && !entry.is_inherit_only()
+}

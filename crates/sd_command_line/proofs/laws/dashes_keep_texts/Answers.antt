@@ -1,0 +1,9 @@
+use Rattle.sd_command_line.proofs.LawProofs as laws
+use Rattle.sd_command_line.proofs.laws.dashes_keep_texts.Goals as goal
+
+pub returns : goal.returns
+returns c = record {
+  verdict = laws.dashes_keep_texts;
+  why = laws.dashes_keep_texts_of_why;
+  with_options = laws.options_keep_texts;
+}

@@ -1,0 +1,137 @@
+-- What the program prints for a command line, and whether it did what was asked for.
+use Rattle.std.specs.Prelude.{◌≡◌, ◌⊎◌, ℕ, Bool, ◌||◌, true, false, List, [], ◌++◌, Option, Some, None, IfSome, codes}
+use Rattle.std.specs.Io.KnownBytes.{Appends}
+use Rattle.std.specs.Str.{IsUtf8}
+use Rattle.sd_answer.specs.Answer.{line, fault_line}
+use Rattle.sd_script.specs.Output.{PrintsAndCounts}
+use Rattle.sd_lines.specs.Output.{IsOutput}
+use Rattle.sd_script.specs.declared.manner.Manner.{Manner}
+use Rattle.sd_script.specs.declared.tally.Tally.{Tally}
+use Rattle.sd_script_audit.specs.Audit.{PrintsAuditAndCounts}
+use Rattle.sd_script.specs.Ids.{PrintsAndCountsIn}
+use Rattle.sd_lines.specs.Answers.{PrintsAndLeaves}
+use Rattle.sd_lines.specs.declared.ending.Ending.{Ending}
+use Rattle.sd_lines.specs.declared.form.Form.{Form as LineForm}
+use Rattle.sd_command_line.specs.Scripts.{IsToldOfScript, manner_of, script_outcome}
+use Rattle.sd_usage.specs.declared.row.Question.{Question}
+use Rattle.sd_usage.specs.declared.row.Question.TheVariants as questions
+use Rattle.sd_command_line.specs.CommandLine.{CommandLineValue, InvocationValue, Ask, Script as AsksScript}
+use Rattle.sd_command_line.specs.CommandLine.{Serve as AsksServe, Audit as AsksAudit, Each as AsksEach, Help, Version}
+use Rattle.sd_command_line.specs.CommandLine.{RequestValue}
+use Rattle.sd_command_line.specs.Options.{OptionsValue, AreSettings, HasBadValue, is_strict}
+use Rattle.sd_commands.specs.Answer.{AnswerValue, AnswersQuestion, IsDone, IsFault, is_refusal}
+use Rattle.sd_commands.specs.Told.{told_line, IsSidReason}
+use Rattle.sd_commands.specs.declared.answer.Outcome.{Outcome}
+use Rattle.sd_commands.specs.declared.answer.Outcome.TheVariants.{Done, Refused}
+use Rattle.sd_command_line.specs.declared.options.BadValue.{BadValue}
+use Rattle.sd_command_line.specs.declared.options.BadValue.TheVariants.{NoDomain, NoMapping}
+use Rattle.sd_commands.specs.declared.settings.Settings.{Settings}
+use Rattle.sd_command_line.specs.declared.version.TheConstants.{VERSION, KIT}
+
+-- the name and the version, and the line of the toolchain that proved the program
+abbrev pub version_lines : List ℕ
+version_lines = line (codes "sdstore " ++ VERSION.now) ++ line KIT.now
+
+-- ---- command lines
+
+-- what is printed for an invocation that needs no input, under these settings; the help's text is `clap`'s
+abbrev pub AnswersUnder : Settings → InvocationValue → AnswerValue → Type 0
+AnswersUnder settings
+    (Ask text request) answer = AnswersQuestion settings request.question text request.arguments answer
+AnswersUnder settings (Help command) answer = (answer.told ≡ []) × (answer.outcome ≡ Done)
+AnswersUnder settings Version answer = IsDone version_lines answer
+AnswersUnder settings AsksScript answer = ⊥
+AnswersUnder settings (AsksServe has_ids) answer = ⊥
+AnswersUnder settings (AsksAudit workers) answer = ⊥
+AnswersUnder settings (AsksEach ending request) answer = ⊥
+
+-- the value of an option isn't read
+abbrev pub IsBadValue : BadValue → AnswerValue → Type 0
+IsBadValue (NoDomain text) answer =
+    (reason : List ℕ) × IsSidReason None (codes "no domain") text.now reason
+    × IsFault (fault_line (codes "domain")) (told_line (codes "--domain") reason) answer
+IsBadValue NoMapping answer = IsFault (fault_line (codes "mapping"))
+    (told_line (codes "--mapping") (codes "no such mapping")) answer
+
+-- an answer under the settings that the options say; or one of their values isn't read
+abbrev pub AnswersWith : OptionsValue → (Settings → AnswerValue → Type 0) → AnswerValue → Type 0
+AnswersWith options Answers answer =
+    ((settings : Settings) × AreSettings options settings × Answers settings answer)
+    ⊎ ((bad : BadValue) × HasBadValue options bad × IsBadValue bad answer)
+
+abbrev pub AnswersArguments : OptionsValue → InvocationValue → AnswerValue → Type 0
+AnswersArguments options invocation answer = AnswersWith options (λ settings. AnswersUnder settings invocation) answer
+
+-- ---- scripts
+
+-- the output of the script on the input, as this is printed and counted
+abbrev pub AnswersScript : (Manner → List ℕ → List ℕ → Tally → Type 0) → Option (List ℕ) → OptionsValue → Settings
+    → AnswerValue → Type 0
+AnswersScript Prints input options settings answer =
+    (tally : Tally) × IsOutput
+    (λ text printed. Prints (manner_of options settings) text printed tally) input answer.printed
+    × IsToldOfScript (is_strict options) tally answer.told × (answer.outcome ≡ script_outcome (is_strict options) tally)
+
+-- ---- of each line
+
+-- the answer to a line's text is the one command's; no text is told of a line that is too long
+abbrev pub AnswersTold : OptionsValue → RequestValue → Option (List ℕ) → AnswerValue → Type 0
+AnswersTold options request None answer = IsFault (fault_line (codes "long")) [] answer
+AnswersTold options request (Some text) answer =
+    (IsUtf8 text × AnswersArguments options (Ask text request) answer)
+    ⊎ ((IsUtf8 text → ⊥) × IsFault (fault_line (codes "utf8")) [] answer)
+
+-- what follows each answer: an empty line, where an answer may have several lines
+abbrev pub after_answer : Question → List ℕ
+after_answer questions.Why = codes "\n"
+after_answer questions.Who = codes "\n"
+after_answer questions.Compare = codes "\n"
+after_answer questions.Lint = codes "\n"
+after_answer question = []
+
+abbrev pub outcome_of_lines : Bool → Outcome
+outcome_of_lines true = Refused
+outcome_of_lines false = Done
+
+-- a line's answer, and whether it is a refusal
+abbrev pub AnswersLine : OptionsValue → RequestValue → Option (List ℕ) → List ℕ → Bool → Type 0
+AnswersLine options request told printed is_refused =
+    (answer : AnswerValue) × AnswersTold options request told answer
+    × (printed ≡ answer.printed ++ after_answer request.question) × (is_refused ≡ is_refusal answer.outcome)
+
+-- the same, and whether this line or one before it was refused
+abbrev pub AnswersNext : OptionsValue → RequestValue → Bool → Option (List ℕ) → List ℕ → Bool → Type 0
+AnswersNext options request was_refused told printed refused =
+    (is_refused : Bool) × AnswersLine options request told printed is_refused × (refused ≡ (was_refused || is_refused))
+
+-- the lines of an input, of which one that is too long is answered too
+abbrev pub form_of : Ending → LineForm
+form_of ending = record { ending = ending; skips_mark = true; stops_at_long = false; line_by_line = false }
+
+-- the lines' answers, one after the other; refused where one is, and nothing is told beside them
+abbrev pub AnswersEach : OptionsValue → Ending → RequestValue → Option (List ℕ) → AnswerValue → Type 0
+AnswersEach options ending request input answer =
+    (text : List ℕ) × (refused : Bool) × IfSome input (λ bytes. text ≡ bytes)
+    × PrintsAndLeaves (form_of ending) (AnswersNext options request) false text answer.printed refused
+    × (answer.told ≡ []) × (answer.outcome ≡ outcome_of_lines refused)
+
+-- known bytes grow by them
+pub record AppendsEach (options : OptionsValue) (ending : Ending) (request : RequestValue)
+    (input old new : Option (List ℕ)) (outcome : Outcome) : Type 0 where
+  pub printed : List ℕ
+  pub answers : AnswersEach options ending request input (record { printed = printed; told = []; outcome = outcome })
+  pub appended : Appends old new printed
+
+-- what is printed for a command line, with this input where it is known, and what came of it
+abbrev pub AnswersInvocation : Option (List ℕ) → OptionsValue → InvocationValue → AnswerValue → Type 0
+AnswersInvocation input options AsksScript answer = AnswersWith options
+    (AnswersScript PrintsAndCounts input options) answer
+AnswersInvocation input options (AsksServe has_ids) answer =
+    AnswersWith options (AnswersScript (PrintsAndCountsIn has_ids) input options) answer
+AnswersInvocation input options (AsksAudit workers) answer =
+    AnswersWith options (AnswersScript (λ manner. PrintsAuditAndCounts manner workers) input options) answer
+AnswersInvocation input options (AsksEach ending request) answer = AnswersEach options ending request input answer
+AnswersInvocation input options invocation answer = AnswersArguments options invocation answer
+
+abbrev pub Answers : Option (List ℕ) → CommandLineValue → AnswerValue → Type 0
+Answers input line answer = AnswersInvocation input line.options line.invocation answer

@@ -1,0 +1,234 @@
+-- The one parser of a command line, by the table of commands and options: which arguments run a command, with which
+-- options, and which ask for help or for the version. Any other arguments are rejected.
+use Rattle.std.specs.Prelude.{◌≡◌, ℕ, List, [], ◌∷◌, ◌+◌, ◌-◌, ◌*◌, length, nat_le, Bool, true, false, ◌||◌, ◌&&◌}
+use Rattle.std.specs.Prelude.{if◌then◌else◌, Option, Some, None, option_map, option_and_then, codes, bytes_eq}
+use Rattle.std.specs.Option.{option_map_or}
+use Rattle.std.specs.Borrow.{Bor}
+use Rattle.std.specs.Char.{is_ascii_digit}
+use Rattle.sd_lines.specs.declared.ending.Ending.{Ending}
+use Rattle.sd_lines.specs.declared.ending.Ending.TheVariants.{Feed, Zero}
+use Rattle.sd_usage.specs.Table.{command_named, is_flag, takes_count}
+use Rattle.sd_usage.specs.declared.row.Command.{Command}
+use Rattle.sd_usage.specs.declared.row.CommandName.{CommandName}
+use Rattle.sd_usage.specs.declared.row.CommandName.TheVariants as names
+use Rattle.sd_usage.specs.declared.row.Question.{Question}
+use Rattle.sd_command_line.specs.declared.command_line.Asked.{Asked}
+use Rattle.sd_command_line.specs.declared.command_line.CommandLine.{CommandLine}
+use Rattle.sd_command_line.specs.declared.command_line.Request.{Request}
+use Rattle.sd_command_line.specs.declared.command_line.Invocation.{Invocation}
+use Rattle.sd_command_line.specs.declared.command_line.Invocation.TheVariants as invocations
+use Rattle.sd_command_line.specs.Options.{OptionsValue, no_options, options_in, options_of, suits}
+
+-- a command that answers a text, with its arguments after that
+pub record RequestValue : Type 0 where
+  pub question : Question
+  pub arguments : List (Bor (List ℕ))
+
+abbrev pub request_of : Request → RequestValue
+request_of request = record { question = request.question; arguments = request.arguments.now }
+
+-- what is asked for: the answer to a text, or to an input; help on a command or on the program; or the version
+pub data InvocationValue : Type 0 where
+  Ask : List ℕ → RequestValue → InvocationValue
+  Script : InvocationValue
+  Serve : Bool → InvocationValue
+  Audit : ℕ → InvocationValue
+  Each : Ending → RequestValue → InvocationValue
+  Help : Option CommandName → InvocationValue
+  Version : InvocationValue
+
+abbrev pub invocation_of : Invocation → InvocationValue
+invocation_of (invocations.Ask text request) = Ask text.now (request_of request)
+invocation_of invocations.Script = Script
+invocation_of (invocations.Serve has_ids) = Serve has_ids
+invocation_of (invocations.Audit workers) = Audit workers
+invocation_of (invocations.Each ending request) = Each ending (request_of request)
+invocation_of (invocations.Help command) = Help command
+invocation_of invocations.Version = Version
+
+-- a command line: what it asks for, with which options
+pub record CommandLineValue : Type 0 where
+  pub options : OptionsValue
+  pub invocation : InvocationValue
+
+abbrev pub command_line_of : CommandLine → CommandLineValue
+command_line_of line = record { options = options_of line.options; invocation = invocation_of line.invocation }
+
+-- what is asked for, and the command: of `each` the one for its lines
+pub record AskedValue : Type 0 where
+  pub command : Command
+  pub invocation : InvocationValue
+
+abbrev pub asked_of : Asked → AskedValue
+asked_of asked = record { command = asked.command; invocation = invocation_of asked.invocation }
+
+abbrev pub is_help_flag : List ℕ → Bool
+is_help_flag word = bytes_eq word (codes "-h") || bytes_eq word (codes "--help")
+
+abbrev is_help : List ℕ → Bool
+is_help word = bytes_eq word (codes "help")
+
+abbrev is_version_flag : List ℕ → Bool
+is_version_flag word = bytes_eq word (codes "-V") || bytes_eq word (codes "--version")
+
+-- ---- what follows a command
+
+abbrev pub has_flag : Command → List (Bor (List ℕ)) → Bool
+has_flag command [] = false
+has_flag command (word ∷ words) = is_flag command word.now
+
+abbrev pub after_flag : Command → List (Bor (List ℕ)) → List (Bor (List ℕ))
+after_flag command [] = []
+after_flag command (word ∷ words) = if is_flag command word.now then words else word ∷ words
+
+-- the arguments after a command and its own option: each as it stands, but for a first `--`
+abbrev pub arguments_in : List (Bor (List ℕ)) → List (Bor (List ℕ))
+arguments_in [] = []
+arguments_in (word ∷ words) = if bytes_eq word.now (codes "--") then words else word ∷ words
+
+-- the number that two decimal digits write, where it is one of 1 to 64
+abbrev pub count_of : ℕ → ℕ → Option ℕ
+count_of tens ones =
+    if is_ascii_digit tens && is_ascii_digit ones && nat_le 1 ((tens - 48) * 10 + (ones - 48))
+    && nat_le ((tens - 48) * 10 + (ones - 48)) 64
+    then Some ((tens - 48) * 10 + (ones - 48))
+    else None
+
+-- a number of workers: 1 to 64, in one or two decimal digits
+abbrev pub workers_of : List ℕ → Option ℕ
+workers_of [] = None
+workers_of (ones ∷ []) = count_of 48 ones
+workers_of (tens ∷ ones ∷ []) = count_of tens ones
+workers_of (a ∷ b ∷ c ∷ rest) = None
+
+-- how lines end
+abbrev pub ending_of : Bool → Ending
+ending_of is_zero = if is_zero then Zero else Feed
+
+-- ---- the command
+
+-- what is asked of each line: a command that answers a text, with as many arguments as it takes after that
+abbrev pub line_request_by : CommandName → Command → Ending → List (Bor (List ℕ)) → Option AskedValue
+line_request_by (names.Ask question) command ending arguments =
+    if takes_count command (length arguments + 1)
+    then Some (record {
+      command = command;
+      invocation = Each ending (record { question = question; arguments = arguments });
+    })
+    else None
+line_request_by name command ending arguments = None
+
+abbrev pub line_request : Command → Ending → List (Bor (List ℕ)) → Option AskedValue
+line_request command ending arguments = line_request_by command.name command ending arguments
+
+abbrev pub each_in : Ending → List (Bor (List ℕ)) → Option AskedValue
+each_in ending [] = None
+each_in ending (word ∷ words) = option_and_then (λ command. line_request command ending (arguments_in words))
+    (command_named word.now)
+
+-- what a command asks for, with its own option or without, and with these arguments, as many as it takes
+abbrev pub request_by : CommandName → Command → Bool → List (Bor (List ℕ)) → Option AskedValue
+request_by (names.Ask question) command flagged (text ∷ arguments) =
+    Some (record {
+      command = command;
+      invocation = Ask text.now (record { question = question; arguments = arguments });
+    })
+request_by names.Script command flagged arguments = Some (record { command = command; invocation = Script })
+request_by names.Serve command flagged arguments = Some (record { command = command; invocation = Serve flagged })
+request_by names.Audit command flagged (workers ∷ arguments) =
+    option_map (λ n. record { command = command; invocation = Audit n }) (workers_of workers.now)
+request_by names.Each command flagged arguments = each_in (ending_of flagged) arguments
+request_by name command flagged arguments = None
+
+abbrev pub request_on : Command → Bool → List (Bor (List ℕ)) → Option AskedValue
+request_on command flagged arguments =
+    if takes_count command (length arguments) then request_by command.name command flagged arguments else None
+
+-- what a command asks for with what follows it
+abbrev pub asked_by : Command → List (Bor (List ℕ)) → Option AskedValue
+asked_by command words = request_on command (has_flag command words) (arguments_in (after_flag command words))
+
+-- the command that the arguments begin with, and what it asks for
+abbrev pub command_in : List (Bor (List ℕ)) → Option AskedValue
+command_in [] = None
+command_in (word ∷ words) = option_and_then (λ command. asked_by command words) (command_named word.now)
+
+-- the same, where the options may go before it
+abbrev pub with_options : OptionsValue → AskedValue → Option CommandLineValue
+with_options options asked =
+    if suits asked.command options then Some (record { options = options; invocation = asked.invocation }) else None
+
+abbrev pub after_options : OptionsValue × List (Bor (List ℕ)) → Option CommandLineValue
+after_options (options, words) = option_and_then (with_options options) (command_in words)
+
+abbrev pub run_by : List (Bor (List ℕ)) → Option CommandLineValue
+run_by words = option_and_then after_options (options_in no_options words)
+
+-- ---- help and the version
+
+-- the help on the command that the text names
+abbrev pub command_help : List ℕ → Option InvocationValue
+command_help word = option_map (λ command. Help (Some command.name)) (command_named word)
+
+-- the help that a text after `help` asks for: on the command that it names, or, as `help` itself, on the program
+abbrev pub help_on : List ℕ → Option InvocationValue
+help_on word = if is_help word then Some (Help None) else command_help word
+
+-- the help that a flag after a command asks for
+abbrev pub flagged_help : List ℕ → List ℕ → Option InvocationValue
+flagged_help word flag = if is_help_flag flag then command_help word else None
+
+-- the help or the version that the arguments ask for, one or two
+abbrev pub shown_by : List (Bor (List ℕ)) → Option InvocationValue
+shown_by [] = None
+shown_by (word ∷ []) =
+    if is_help_flag word.now || is_help word.now then Some (Help None)
+    else (if is_version_flag word.now then Some Version
+    else None)
+shown_by (word ∷ next ∷ []) = if is_help word.now then help_on next.now else flagged_help word.now next.now
+shown_by (word ∷ next ∷ other ∷ words) = None
+
+-- ---- the command line
+
+-- what the arguments after the program's name ask for
+abbrev after_name : List (Bor (List ℕ)) → Option CommandLineValue
+after_name words =
+    elim (shown_by words) [
+      | Some shown ↦ Some
+          (record { options = no_options; invocation = shown })
+      | None ↦ run_by words
+    ]
+
+-- what the arguments ask for, of which the first is the program's name
+abbrev pub reading : List (Bor (List ℕ)) → Option CommandLineValue
+reading [] = None
+reading (name ∷ words) = after_name words
+
+-- the arguments aren't a command line
+abbrev pub IsUnread : List (Bor (List ℕ)) → Type 0
+IsUnread words = reading words ≡ None
+
+-- whether what is asked for is a script, at once, line by line or as an audit
+abbrev pub runs_script : InvocationValue → Bool
+runs_script Script = true
+runs_script (Serve has_ids) = true
+runs_script (Audit workers) = true
+runs_script invocation = false
+
+-- whether what is asked for is answered from the input: a script, or a question of each line
+abbrev pub is_script : InvocationValue → Bool
+is_script Script = true
+is_script (Serve has_ids) = true
+is_script (Audit workers) = true
+is_script (Each ending request) = true
+is_script (Ask text request) = false
+is_script (Help command) = false
+is_script Version = false
+
+-- the arguments ask for what is answered from the input
+abbrev pub asks_input : List (Bor (List ℕ)) → Bool
+asks_input words = option_map_or (λ line. is_script line.invocation) (reading words) false
+
+-- the arguments ask for an audit
+abbrev pub IsAudit : List (Bor (List ℕ)) → Type 0
+IsAudit words = (workers : ℕ) × (option_map (λ line. line.invocation) (reading words) ≡ Some (Audit workers))

@@ -1,0 +1,76 @@
+-- What follows from the table of commands and from the parser of a command line.
+use Rattle.std.specs.Prelude.{◌≡◌, ℕ, ◌≤◌, List, [], ◌∷◌, length, map, Bool, true, false, not, ◌&&◌, Option, Some}
+use Rattle.std.specs.Prelude.{codes, bytes_eq}
+use Rattle.std.specs.List.{list_any}
+use Rattle.std.specs.Option.{option_map_or}
+use Rattle.std.specs.Borrow.{Bor}
+use Rattle.sd_lines.specs.declared.ending.Ending.{Ending}
+use Rattle.sd_usage.specs.declared.row.Command.{Command}
+use Rattle.sd_usage.specs.declared.row.Question.TheVariants as questions
+use Rattle.sd_usage.specs.declared.table.TheConstants.{COMMANDS, OPTIONS}
+use Rattle.sd_command_line.specs.CommandLine.{InvocationValue, Ask, Script, Serve, Audit, Each, Help, Version}
+use Rattle.sd_command_line.specs.CommandLine.{CommandLineValue, RequestValue, line_request, reading, request_on}
+use Rattle.sd_command_line.specs.Options.{no_options}
+
+-- no text is there twice
+abbrev pub are_distinct : List (List ℕ) → Bool
+are_distinct [] = true
+are_distinct (text ∷ texts) = not (list_any (bytes_eq text) texts) && are_distinct texts
+
+-- no two commands have one name, and no two options
+abbrev pub CommandsAreDistinct : Type 0
+CommandsAreDistinct = are_distinct (map (λ row. row.0.now) COMMANDS.now) ≡ true
+
+abbrev pub OptionsAreDistinct : Type 0
+OptionsAreDistinct = are_distinct (map (λ row. row.0.now) OPTIONS.now) ≡ true
+
+-- whether what was read is help or the version
+abbrev pub is_shown : InvocationValue → Bool
+is_shown (Help command) = true
+is_shown Version = true
+is_shown (Ask text request) = false
+is_shown Script = false
+is_shown (Serve has_ids) = false
+is_shown (Audit workers) = false
+is_shown (Each ending request) = false
+
+abbrev pub shows : Option CommandLineValue → Bool
+shows read = option_map_or (λ line. is_shown line.invocation) read false
+
+-- help and the version answer two arguments after the program's name at most
+abbrev pub HelpStandsAlone : Type 0
+HelpStandsAlone = (words : List (Bor (List ℕ))) → shows (reading words) ≡ true → length words ≤ 3
+
+-- after `verdict --` and `why --` each argument is that of its place, whatever its text
+abbrev pub DashesKeepTexts : Type 0
+DashesKeepTexts = (name word dashes sddl user mask : Bor (List ℕ)) (words : List (Bor (List ℕ)))
+    → word.now ≡ codes "verdict" → dashes.now ≡ codes "--"
+    → reading (name ∷ word ∷ dashes ∷ sddl ∷ user ∷ mask ∷ words) ≡ Some (record {
+      options = no_options;
+      invocation = Ask sddl.now (record { question = questions.Verdict; arguments = user ∷ mask ∷ words });
+    })
+
+abbrev pub DashesKeepTextsOfWhy : Type 0
+DashesKeepTextsOfWhy = (name word dashes sddl user mask : Bor (List ℕ)) (words : List (Bor (List ℕ)))
+    → word.now ≡ codes "why" → dashes.now ≡ codes "--"
+    → reading (name ∷ word ∷ dashes ∷ sddl ∷ user ∷ mask ∷ words) ≡ Some (record {
+      options = no_options;
+      invocation = Ask sddl.now (record { question = questions.Why; arguments = user ∷ mask ∷ words });
+    })
+
+-- the same with options before the command
+abbrev pub OptionsKeepTexts : Type 0
+OptionsKeepTexts = (name option domain sid word dashes sddl user mask : Bor (List ℕ)) (words : List (Bor (List ℕ)))
+    → option.now ≡ codes "--names" → domain.now ≡ codes "--domain" → word.now ≡ codes "why" → dashes.now ≡ codes "--"
+    → reading (name ∷ option ∷ domain ∷ sid ∷ word ∷ dashes ∷ sddl ∷ user ∷ mask ∷ words) ≡ Some (record {
+      options = record no_options { names = Some []; domain = Some sid.now };
+      invocation = Ask sddl.now (record { question = questions.Why; arguments = user ∷ mask ∷ words });
+    })
+
+-- what is asked of each line is what the command asks with the line as its first argument
+abbrev pub EachAsksTheCommand : Type 0
+EachAsksTheCommand = (command : Command) (ending : Ending) (is_flagged : Bool) (line : Bor (List ℕ))
+    (arguments : List (Bor (List ℕ))) (request : RequestValue)
+    → line_request command ending arguments ≡ Some (record { command = command; invocation = Each ending request })
+    → request_on command is_flagged (line ∷ arguments)
+    ≡ Some (record { command = command; invocation = Ask line.now request })

@@ -1,0 +1,7 @@
+pub mod Answer
+pub mod CommandLine
+pub mod Laws
+pub mod Options
+pub mod Output
+pub mod Status
+pub mod Scripts

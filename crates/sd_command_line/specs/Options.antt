@@ -1,0 +1,170 @@
+-- The options of a command line: what may stand between the program's name and the command, and what they say.
+use Rattle.std.specs.Prelude.{◌≡◌, ℕ, List, [], ◌∷◌, Bool, false, not, ◌&&◌, ◌||◌, ⊤, is_some, if◌then◌else◌, Option}
+use Rattle.std.specs.Prelude.{Some, None, option_map, option_and_then}
+use Rattle.std.specs.List.{list_any}
+use Rattle.std.specs.Option.{option_map_or}
+use Rattle.std.specs.Borrow.{Bor}
+use Rattle.sd_text.specs.Domain.{domain_sid}
+use Rattle.sd_text.specs.Grammar.{Spells}
+use Rattle.sd_text.specs.Sid.{sid_text}
+use Rattle.sd_text.specs.declared.domain.Domain.{Domain as DomainValue}
+use Rattle.sd_script.specs.declared.paths.PathSpelling.{PathSpelling}
+use Rattle.sd_script.specs.declared.paths.PathSpelling.TheVariants as paths
+use Rattle.sd_answer.specs.declared.answer.Spelling.{Spelling}
+use Rattle.sd_answer.specs.declared.answer.Spelling.TheVariants.{Number, Names as ByNames}
+use Rattle.sd_usage.specs.Table.{option_named, takes_option}
+use Rattle.sd_usage.specs.declared.row.Command.{Command}
+use Rattle.sd_usage.specs.declared.row.OptionName.{OptionName}
+use Rattle.sd_usage.specs.declared.row.OptionName.TheVariants.{Names, WithoutSacl, Base64, Loose, Percent, Strict}
+use Rattle.sd_usage.specs.declared.row.OptionName.TheVariants.{Domain, Mapping}
+use Rattle.sd_usage.specs.declared.row.ProgramOption.{ProgramOption}
+use Rattle.sd_usage.specs.declared.table.TheConstants.{OPTIONS}
+use Rattle.sd_commands.specs.Mapping.{GivesMapping, GivesNoMapping, kind_given}
+use Rattle.sd_commands.specs.declared.settings.ByteForm.{ByteForm}
+use Rattle.sd_commands.specs.declared.settings.ByteForm.TheVariants as forms
+use Rattle.sd_command_line.specs.declared.options.BadValue.{BadValue}
+use Rattle.sd_command_line.specs.declared.options.BadValue.TheVariants.{NoDomain, NoMapping}
+use Rattle.sd_command_line.specs.declared.options.Options.{Options}
+use Rattle.sd_commands.specs.declared.settings.Settings.{Settings}
+
+-- the options of a command line: the values of those that are given, empty for one without a value
+pub record OptionsValue : Type 0 where
+  pub names : Option (List ℕ)
+  pub without_sacl : Option (List ℕ)
+  pub base64 : Option (List ℕ)
+  pub loose : Option (List ℕ)
+  pub percent : Option (List ℕ)
+  pub strict : Option (List ℕ)
+  pub domain : Option (List ℕ)
+  pub mapping : Option (List ℕ)
+
+abbrev pub options_of : Options → OptionsValue
+options_of options = record {
+  names = option_map (λ text. text.now) options.names;
+  without_sacl = option_map (λ text. text.now) options.without_sacl;
+  base64 = option_map (λ text. text.now) options.base64;
+  loose = option_map (λ text. text.now) options.loose;
+  percent = option_map (λ text. text.now) options.percent;
+  strict = option_map (λ text. text.now) options.strict;
+  domain = option_map (λ text. text.now) options.domain;
+  mapping = option_map (λ text. text.now) options.mapping;
+}
+
+abbrev pub no_options : OptionsValue
+no_options = record {
+  names = None;
+  without_sacl = None;
+  base64 = None;
+  loose = None;
+  percent = None;
+  strict = None;
+  domain = None;
+  mapping = None;
+}
+
+-- the value of an option, where it is given
+abbrev pub given : OptionsValue → OptionName → Option (List ℕ)
+given options Names = options.names
+given options WithoutSacl = options.without_sacl
+given options Base64 = options.base64
+given options Loose = options.loose
+given options Percent = options.percent
+given options Strict = options.strict
+given options Domain = options.domain
+given options Mapping = options.mapping
+
+abbrev pub has : OptionsValue → OptionName → Bool
+has options option = is_some (given options option)
+
+abbrev pub with_value : OptionsValue → OptionName → List ℕ → OptionsValue
+with_value options Names value = record options { names = Some value }
+with_value options WithoutSacl value = record options { without_sacl = Some value }
+with_value options Base64 value = record options { base64 = Some value }
+with_value options Loose value = record options { loose = Some value }
+with_value options Percent value = record options { percent = Some value }
+with_value options Strict value = record options { strict = Some value }
+with_value options Domain value = record options { domain = Some value }
+with_value options Mapping value = record options { mapping = Some value }
+
+-- one more option, where it isn't one of these already
+abbrev pub with_option : OptionsValue → OptionName → List ℕ → Option OptionsValue
+with_option options option value = if has options option then None else Some (with_value options option value)
+
+-- the options that the arguments begin with, each at most once, and the arguments after them; of an option that waits
+-- for its value the first argument is that
+abbrev pub options_from : Option ProgramOption → OptionsValue → List (Bor (List ℕ))
+    → Option (OptionsValue × List (Bor (List ℕ)))
+options_from None options [] = Some (options, [])
+options_from (Some option) options [] = None
+options_from None options (word ∷ words) =
+    elim (option_named word.now) [
+      | Some option ↦ if is_some option.value then options_from (Some option) options words
+          else option_and_then (λ more. options_from None more words) (with_option options option.name [])
+      | None ↦ Some (options, word ∷ words)
+    ]
+options_from (Some option) options (value ∷ words) =
+    option_and_then (λ more. options_from None more words) (with_option options option.name value.now)
+
+abbrev pub options_in : OptionsValue → List (Bor (List ℕ)) → Option (OptionsValue × List (Bor (List ℕ)))
+options_in options words = options_from None options words
+
+-- ---- before which commands they go
+
+-- the option is given, and the command doesn't take it, or one that it excludes is given too
+abbrev pub is_misplaced : Command → OptionsValue → ProgramOption → Bool
+is_misplaced command options option =
+    has options option.name
+    && (not (takes_option command option.name) || option_map_or (has options) option.excludes false)
+
+-- each of the options may go before the command, and beside the others
+unfoldable pub suits : Command → OptionsValue → Bool
+suits command options = not (list_any (λ row. is_misplaced command options row.1) OPTIONS.now)
+
+-- options beside words that are lent
+abbrev pub parted : Options × Bor (List (Bor (List ℕ))) → OptionsValue × List (Bor (List ℕ))
+parted (options, words) = (options_of options, words.now)
+
+-- ---- what they say
+
+-- how masks are told
+abbrev pub spelling_of : OptionsValue → Spelling
+spelling_of options = if is_some options.names then ByNames else Number
+
+-- how bytes are spelled
+abbrev pub byte_form_of : OptionsValue → ByteForm
+byte_form_of options = if is_some options.base64 then forms.Base64 else if is_some options.loose then forms.Loose
+    else forms.Hex
+
+-- how the paths of a script are spelled
+abbrev pub paths_of : OptionsValue → PathSpelling
+paths_of options = if is_some options.percent then paths.Percent else paths.Plain
+
+-- whether a script's fault or refusal is told by the status
+abbrev pub is_strict : OptionsValue → Bool
+is_strict options = is_some options.strict
+
+-- the text is the SID of this domain, or neither is there
+abbrev pub GivesDomain : Option (List ℕ) → Option DomainValue → Type 0
+GivesDomain None None = ⊤
+GivesDomain None (Some domain) = ⊥
+GivesDomain (Some text) None = ⊥
+GivesDomain (Some text) (Some domain) = Spells sid_text text (domain_sid domain)
+
+-- the text is no domain's SID
+abbrev pub IsNoDomain : List ℕ → Type 0
+IsNoDomain text = (domain : DomainValue) → Spells sid_text text (domain_sid domain) → ⊥
+
+-- what the options say of a descriptor
+pub record AreSettings (options : OptionsValue) (settings : Settings) : Type 0 where
+  pub spelling : settings.spelling ≡ spelling_of options
+  pub domain : GivesDomain options.domain settings.domain
+  pub mapping : GivesMapping options.mapping settings.mapping
+  pub kind : settings.kind ≡ kind_given options.mapping
+  pub without_sacl : settings.without_sacl ≡ is_some options.without_sacl
+  pub bytes : settings.bytes ≡ byte_form_of options
+
+-- the value of an option isn't read: the domain's, or else the mapping's
+abbrev pub HasBadValue : OptionsValue → BadValue → Type 0
+HasBadValue options (NoDomain text) = (options.domain ≡ Some text.now) × IsNoDomain text.now
+HasBadValue options NoMapping = ((domain : Option DomainValue) × GivesDomain options.domain domain)
+    × GivesNoMapping options.mapping

@@ -1,0 +1,137 @@
+-- What the program leaves in a writer whose bytes are known.
+use Rattle.std.specs.Prelude.{◌≡◌, ◌⊎◌, ℕ, Bool, false, ◌||◌, List, Option, Some, Result, Ok, Err, codes, string_bytes}
+use Rattle.std.specs.Io.KnownBytes.{Appends, Keeps}
+use Rattle.std.specs.Borrow.{Bor}
+use Rattle.sd_stream.specs.Whole.{AppendsBeginning, ReadsPart, is_read_error, is_write_error}
+use Rattle.sd_stream.specs.declared.error.RunError.{RunError}
+use Rattle.sd_stream.specs.declared.error.RunError.TheVariants.{Read, TooLong, Write, Memory, Thread}
+use Rattle.sd_answer.specs.Answer.{line}
+use Rattle.sd_script.specs.Ids.{PrintsIn}
+use Rattle.sd_script.specs.declared.ids.TheConstants.{LINES}
+use Rattle.sd_lines.specs.Answers.{Prints}
+use Rattle.sd_lines.specs.Output.{LeavesAnswers}
+use Rattle.sd_lines.specs.declared.ending.Ending.{Ending}
+use Rattle.sd_command_line.specs.Answer.{Answers, AnswersNext, form_of}
+use Rattle.sd_commands.specs.Answer.{AnswerValue, outcome_status}
+use Rattle.sd_command_line.specs.CommandLine.{CommandLineValue, RequestValue, Each, Serve, reading, IsAudit, IsUnread}
+use Rattle.sd_command_line.specs.Options.{AreSettings}
+use Rattle.sd_command_line.specs.Scripts.{manner_of}
+use Rattle.sd_commands.specs.declared.answer.Outcome.{Outcome}
+use Rattle.sd_commands.specs.declared.settings.Settings.{Settings}
+use Rattle.sd_command_line.specs.declared.failure.Failure.{Failure}
+use Rattle.sd_command_line.specs.declared.failure.Failure.TheVariants.{Unread, Run}
+
+-- ---- of a command line
+
+-- known bytes grow by the whole answer, with this input; this is told beside it, and it ends with this status
+pub record AppendsAnswerTo (line : CommandLineValue) (input old new : Option (List ℕ)) (told : List ℕ)
+    (status : ℕ) : Type 0 where
+  pub text : List ℕ
+  pub outcome : Outcome
+  pub answers : Answers input line (record { printed = text; told = told; outcome = outcome })
+  pub ended : status ≡ outcome_status outcome
+  pub appended : Appends old new text
+
+-- known bytes grow by a beginning of the answer
+pub record AppendsPartOfAnswerTo (line : CommandLineValue) (input old new : Option (List ℕ)) : Type 0 where
+  pub answer : AnswerValue
+  pub answers : Answers input line answer
+  pub beginning : AppendsBeginning old new answer.printed
+
+-- nothing was written before an error, but for a write's own
+abbrev pub LeavesAnswerTo : CommandLineValue → Option (List ℕ) → Option (List ℕ) → Option (List ℕ) → RunError → Type 0
+LeavesAnswerTo line input old new Read = Keeps old new
+LeavesAnswerTo line input old new TooLong = Keeps old new
+LeavesAnswerTo line input old new Write = AppendsPartOfAnswerTo line input old new
+LeavesAnswerTo line input old new Memory = Keeps old new
+LeavesAnswerTo line input old new Thread = Keeps old new
+
+-- line by line, what was answered until then
+pub record LeavesServed (line : CommandLineValue) (input left old new : Option (List ℕ))
+    (error : RunError) : Type 0 where
+  pub settings : Settings
+  pub has_ids : Bool
+  pub asked : line.invocation ≡ Serve has_ids
+  pub said : AreSettings line.options settings
+  pub answers : LeavesAnswers LINES (PrintsIn has_ids (manner_of line.options settings)) input left old new error
+
+-- the answers to the lines of an input, as far as it came
+pub record LeavesEach (line : CommandLineValue) (input left old new : Option (List ℕ)) (error : RunError) : Type 0 where
+  pub ending : Ending
+  pub request : RequestValue
+  pub asked : line.invocation ≡ Each ending request
+  pub answers : LeavesAnswers (form_of ending) (Prints (form_of ending) (AnswersNext line.options request) false)
+      input left old new error
+
+-- what was answered line by line until then
+abbrev pub LeavesLinesOf : CommandLineValue → Option (List ℕ) → Option (List ℕ) → Option (List ℕ) → Option (List ℕ)
+    → RunError → Type 0
+LeavesLinesOf line input left old new error = LeavesServed line input left old new error
+    ⊎ LeavesEach line input left old new error
+
+-- what stands where the answer isn't there, or not the whole of it
+abbrev pub LeavesAfter : CommandLineValue → Option (List ℕ) → Option (List ℕ) → Option (List ℕ) → Option (List ℕ)
+    → RunError → Type 0
+LeavesAfter line input left old new error = LeavesAnswerTo line input old new error
+    ⊎ LeavesLinesOf line input left old new error
+
+abbrev pub LeavesAfterFailure : CommandLineValue → Option (List ℕ) → Option (List ℕ) → Option (List ℕ) → Option (List ℕ)
+    → Failure → Type 0
+LeavesAfterFailure line input left old new (Unread reason) = ⊥
+LeavesAfterFailure line input left old new (Run error) = LeavesAfter line input left old new error
+
+-- ---- of words
+
+-- the same where this holds of the command line that the words are
+abbrev pub OfReading : List (Bor (List ℕ)) → (CommandLineValue → Type 0) → Type 0
+OfReading words Holds = (line : CommandLineValue) × (reading words ≡ Some line) × Holds line
+
+abbrev pub AppendsAnswer : List (Bor (List ℕ)) → Option (List ℕ) → Option (List ℕ) → Option (List ℕ) → List ℕ → ℕ
+    → Type 0
+AppendsAnswer words input old new told status = OfReading words (λ line. AppendsAnswerTo line input old new told status)
+
+abbrev pub AppendsPartOfAnswer : List (Bor (List ℕ)) → Option (List ℕ) → Option (List ℕ) → Option (List ℕ) → Type 0
+AppendsPartOfAnswer words input old new = OfReading words (λ line. AppendsPartOfAnswerTo line input old new)
+
+abbrev pub LeavesByLine : List (Bor (List ℕ)) → Option (List ℕ) → Option (List ℕ) → Option (List ℕ) → Option (List ℕ)
+    → RunError → Type 0
+LeavesByLine words input left old new error = OfReading words (λ line. LeavesLinesOf line input left old new error)
+
+-- what stands where there is no answer, or not the whole of it
+abbrev pub LeavesAtFailure : List (Bor (List ℕ)) → Option (List ℕ) → Option (List ℕ) → Option (List ℕ) → Option (List ℕ)
+    → Failure → Type 0
+LeavesAtFailure words input left old new (Unread reason) = IsUnread words × Keeps old new
+LeavesAtFailure words input left old new (Run error) = Keeps old new
+    ⊎ OfReading words (λ line. LeavesAfter line input left old new error)
+
+-- what standard error gets of an error
+abbrev pub error_line : RunError → List ℕ
+error_line Read = line (codes "sdstore: read")
+error_line TooLong = line (codes "sdstore: too long")
+error_line Write = line (codes "sdstore: write")
+error_line Memory = line (codes "sdstore: memory")
+error_line Thread = line (codes "sdstore: thread")
+
+abbrev pub failure_text : Failure → List ℕ
+failure_text (Unread reason) = string_bytes reason
+failure_text (Run error) = error_line error
+
+-- whether the answer is that the reader failed, or that the writer did
+abbrev pub blames_reader : {T : Type 0} → Result T Failure → Bool
+blames_reader (Ok x) = false
+blames_reader (Err (Unread reason)) = false
+blames_reader (Err (Run error)) = is_read_error {T = Unit {0}} (Err error)
+
+abbrev pub blames_writer : {T : Type 0} → Result T Failure → Bool
+blames_writer (Ok x) = false
+blames_writer (Err (Unread reason)) = false
+blames_writer (Err (Run error)) = is_write_error {T = Unit {0}} (Err error)
+
+-- an error blames a stream just where that stream failed, TooLong comes only where too much was read, and Thread of an
+-- audit alone; of want of memory no stream tells
+pub record IsDue (words : List (Bor (List ℕ))) (read_before read_after write_before write_after : Bool)
+    (old new : Option (List ℕ)) (error : RunError) : Type 0 where
+  pub read : read_after ≡ (read_before || is_read_error {T = Unit {0}} (Err error))
+  pub write : write_after ≡ (write_before || is_write_error {T = Unit {0}} (Err error))
+  pub too_long : error ≡ TooLong → ReadsPart old new TooLong
+  pub thread : error ≡ Thread → IsAudit words

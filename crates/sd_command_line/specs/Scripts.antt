@@ -1,0 +1,39 @@
+-- What comes of a script beside its output: what standard error is told, and whether it did what was asked for.
+use Rattle.std.specs.Prelude.{◌≡◌, ◌⊎◌, ℕ, Bool, is_some, List, [], ◌++◌, Option, Some, None, if◌then◌else◌, codes}
+use Rattle.std.specs.Fmt.{decimal}
+use Rattle.sd_script.specs.declared.manner.Manner.{Manner}
+use Rattle.sd_script.specs.declared.tally.Tally.{Tally}
+use Rattle.sd_commands.specs.Told.{told_line}
+use Rattle.sd_commands.specs.declared.answer.Outcome.{Outcome}
+use Rattle.sd_commands.specs.declared.answer.Outcome.TheVariants.{Done, Refused}
+use Rattle.sd_command_line.specs.Options.{OptionsValue, paths_of}
+use Rattle.sd_commands.specs.declared.settings.Settings.{Settings}
+
+-- the manner in which it is carried out
+abbrev pub manner_of : OptionsValue → Settings → Manner
+manner_of options settings = record { mapping = settings.mapping; paths = paths_of options }
+
+-- what is told of a line, where there is one
+abbrev pub line_note : List ℕ → Option ℕ → List ℕ
+line_note what None = []
+line_note what (Some number) = told_line (codes "line " ++ decimal number) what
+
+abbrev pub mark_note : Bool → List ℕ
+mark_note begins = if begins then told_line (codes "line 1") (codes "it begins with a byte order mark") else []
+
+-- its first fault or refusal, where that is asked for
+abbrev pub first_fault_under : Bool → Tally → Option ℕ
+first_fault_under strict tally = if strict then tally.first_fault else None
+
+abbrev pub script_notes : Bool → Tally → List ℕ
+script_notes strict tally =
+    mark_note tally.begins_with_mark
+    ++ line_note (codes "the node inherits otherwise than its descriptor says") tally.first_difference
+    ++ line_note (codes "a fault or a refusal") (first_fault_under strict tally)
+
+-- nothing is told where memory for it was refused
+abbrev pub IsToldOfScript : Bool → Tally → List ℕ → Type 0
+IsToldOfScript strict tally told = (told ≡ script_notes strict tally) ⊎ (told ≡ [])
+
+abbrev pub script_outcome : Bool → Tally → Outcome
+script_outcome strict tally = if is_some (first_fault_under strict tally) then Refused else Done

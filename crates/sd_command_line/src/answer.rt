@@ -1,0 +1,67 @@
+//! The answer to a command line that needs no input.
+ghost use Rattle.std.specs.Prelude.{◌≡◌, ℕ, List, Option, false, IfOk};
+ghost use Rattle.sd_commands.specs.Answer.{answer_of};
+ghost use Rattle.sd_command_line.specs.Answer.{Answers, AnswersUnder, IsBadValue};
+ghost use Rattle.sd_command_line.specs.CommandLine.{command_line_of, invocation_of, is_script};
+
+use crate::command_line::{CommandLine, Invocation};
+use crate::options::BadValue;
+use crate::version::version_text;
+use sd_commands::{Answer, Settings, answer_question, fault, sid_reason, told_line};
+use sd_usage::help;
+use std::alloc::{AllocError, Global};
+
+/// The answer to a command line that needs no input.
+pub(crate) fn answer_to(alloc: Global, line: CommandLine<'_>) -> Result<Answer, AllocError>
+    requires { is_script (invocation_of line.invocation) ≡ false }
+    ensures { (input : Option (List ℕ))
+        → IfOk result (λ answer. Answers input (command_line_of line.entry) (answer_of answer)) }
+{
+    match line.options.settings() {
+        Ok(settings) => answer_under(alloc, settings, line.invocation),
+        Err(bad) => bad_value(alloc, bad),
+    }
+}
+
+/// The answer to an invocation that needs no input, where the options say this.
+fn answer_under(
+    alloc: Global,
+    settings: Settings,
+    invocation: Invocation<'_>,
+) -> Result<Answer, AllocError>
+    requires { is_script (invocation_of invocation) ≡ false }
+    ensures { IfOk result (λ answer. AnswersUnder settings (invocation_of invocation.entry) (answer_of answer)) }
+{
+    match invocation {
+        Invocation::Ask { text, request } => {
+            answer_question(alloc, settings, request.question, text, request.arguments)
+        }
+        Invocation::Script
+        | Invocation::Serve { .. }
+        | Invocation::Audit { .. }
+        | Invocation::Each { .. } => unreachable!(),
+        Invocation::Help { command } => Ok(Answer::done(alloc, help(alloc, command)?)),
+        Invocation::Version => Ok(Answer::done(alloc, version_text(alloc)?)),
+    }
+}
+
+/// The answer to an option whose value isn't read.
+pub(crate) fn bad_value(alloc: Global, bad: BadValue<'_>) -> Result<Answer, AllocError>
+    ensures { IfOk result (λ answer. IsBadValue bad.entry (answer_of answer)) }
+{
+    match bad {
+        BadValue::NoDomain(text) => {
+            let reason = sid_reason(alloc, None, "no domain", text)?;
+            fault(
+                alloc,
+                "domain",
+                told_line(alloc, "--domain", reason.as_str())?,
+            )
+        }
+        BadValue::NoMapping => fault(
+            alloc,
+            "mapping",
+            told_line(alloc, "--mapping", "no such mapping")?,
+        ),
+    }
+}

@@ -1,0 +1,301 @@
+//! The parser of a command line: what its arguments ask for, by the table of commands and options.
+ghost use Rattle.std.specs.Prelude.{◌≡◌, option_map};
+ghost use Rattle.sd_command_line.specs.CommandLine.{after_flag, arguments_in, asked_by, asked_of, command_help};
+ghost use Rattle.sd_command_line.specs.CommandLine.{command_in, command_line_of, count_of, each_in, ending_of};
+ghost use Rattle.sd_command_line.specs.CommandLine.{has_flag, help_on, invocation_of, is_help_flag, line_request};
+ghost use Rattle.sd_command_line.specs.CommandLine.{reading, request_by, request_on, run_by, shown_by, workers_of};
+
+use crate::options::{Options, options_in};
+use sd_lines::Ending;
+use sd_usage::{Command, CommandName, Question, command_named};
+
+/// What a command line asks for, and with which options.
+#[derive(Clone, Copy, Debug)]
+pub(crate) struct CommandLine<'a> {
+    pub(crate) options: Options<'a>,
+    pub(crate) invocation: Invocation<'a>,
+}
+
+/// What is asked for.
+#[derive(Clone, Copy, Debug)]
+pub(crate) enum Invocation<'a> {
+    /// The answer to a text.
+    Ask {
+        text: &'a str,
+        request: Request<'a>,
+    },
+    /// The output of the script on standard input.
+    Script,
+    /// The same, line by line, where lines may have ids.
+    Serve {
+        has_ids: bool,
+    },
+    /// The output of its audit by so many workers.
+    Audit {
+        workers: u64,
+    },
+    /// The answer to each line of standard input.
+    Each {
+        ending: Ending,
+        request: Request<'a>,
+    },
+    /// The help on a command, or on the program.
+    Help {
+        command: Option<CommandName>,
+    },
+    /// The version of the program.
+    Version,
+}
+
+/// A command that answers a text, with its arguments after that.
+#[derive(Clone, Copy, Debug)]
+pub(crate) struct Request<'a> {
+    pub(crate) question: Question,
+    pub(crate) arguments: &'a [&'a str],
+}
+
+/// What is asked for, and the command: of `each` the one for its lines.
+#[derive(Clone, Copy)]
+struct Asked<'a> {
+    command: Command,
+    invocation: Invocation<'a>,
+}
+
+/// What the arguments ask for, of which the first is the program's name. `None`: they aren't a command line.
+pub(crate) fn read_command_line<'a>(words: &'a [&'a str]) -> Option<CommandLine<'a>>
+    ensures { option_map command_line_of result ≡ reading words.entry.now }
+{
+    match words {
+        [] => None,
+        [_, words @ ..] => match shown_by(words) {
+            Some(invocation) => Some(CommandLine {
+                options: Options::none(),
+                invocation,
+            }),
+            None => run_by(words),
+        },
+    }
+}
+
+/// The help or the version that the arguments after the program's name ask for.
+fn shown_by<'a>(words: &[&str]) -> Option<Invocation<'a>>
+    ensures { option_map invocation_of result ≡ shown_by words.now }
+{
+    match words {
+        [word] if is_help_flag(word) || *word == "help" => Some(Invocation::Help { command: None }),
+        [word] if *word == "-V" || *word == "--version" => Some(Invocation::Version),
+        [word, next] if *word == "help" => help_on(next),
+        [word, flag] if is_help_flag(flag) => help_on_command(word),
+        _ => None,
+    }
+}
+
+/// A command after options that it takes.
+fn run_by<'a>(words: &'a [&'a str]) -> Option<CommandLine<'a>>
+    ensures { option_map command_line_of result ≡ run_by words.entry.now }
+{
+    let (options, words) = options_in(words)?;
+    let Asked {
+        command,
+        invocation,
+    } = command_in(words)?;
+    if !options.suit(command) {
+        return None;
+    }
+    Some(CommandLine {
+        options,
+        invocation,
+    })
+}
+
+/// The command that the arguments begin with, and what it asks for.
+fn command_in<'a>(words: &'a [&'a str]) -> Option<Asked<'a>>
+    ensures { option_map asked_of result ≡ command_in words.entry.now }
+{
+    match words {
+        [] => None,
+        [word, words @ ..] => match command_named(word) {
+            Some(command) => asked_by(command, words),
+            None => None,
+        },
+    }
+}
+
+/// What a command asks for with what follows it: its own option first, then a first `--`, then its arguments.
+fn asked_by<'a>(command: Command, words: &'a [&'a str]) -> Option<Asked<'a>>
+    ensures { option_map asked_of result ≡ asked_by command words.entry.now }
+{
+    let is_flagged = has_flag(command, words);
+    request_on(
+        command,
+        is_flagged,
+        arguments_in(after_flag(command, words)),
+    )
+}
+
+/// What a command asks for with these arguments.
+fn request_on<'a>(command: Command, is_flagged: bool, arguments: &'a [&'a str]) -> Option<Asked<'a>>
+    ensures { option_map asked_of result ≡ request_on command is_flagged arguments.entry.now }
+{
+    if !command.takes_count(arguments.len()) {
+        return None;
+    }
+    request_by(command, is_flagged, arguments)
+}
+
+/// The same of as many arguments as it takes.
+fn request_by<'a>(command: Command, is_flagged: bool, arguments: &'a [&'a str]) -> Option<Asked<'a>>
+    ensures { option_map asked_of result ≡ request_by command.name command is_flagged arguments.entry.now }
+{
+    match (command.name, arguments) {
+        (CommandName::Ask(question), [text, arguments @ ..]) => Some(Asked {
+            command,
+            invocation: Invocation::Ask {
+                text,
+                request: Request {
+                    question,
+                    arguments,
+                },
+            },
+        }),
+        (CommandName::Script, _) => Some(Asked {
+            command,
+            invocation: Invocation::Script,
+        }),
+        (CommandName::Serve, _) => Some(Asked {
+            command,
+            invocation: Invocation::Serve {
+                has_ids: is_flagged,
+            },
+        }),
+        (CommandName::Audit, [workers, ..]) => match workers_in(workers) {
+            Some(workers) => Some(Asked {
+                command,
+                invocation: Invocation::Audit { workers },
+            }),
+            None => None,
+        },
+        (CommandName::Each, words) => each_in(ending_of(is_flagged), words),
+        _ => None,
+    }
+}
+
+/// The command for each line, and its arguments without the line.
+fn each_in<'a>(ending: Ending, words: &'a [&'a str]) -> Option<Asked<'a>>
+    ensures { option_map asked_of result ≡ each_in ending words.entry.now }
+{
+    match words {
+        [] => None,
+        [word, words @ ..] => match command_named(word) {
+            Some(command) => line_request(command, ending, arguments_in(words)),
+            None => None,
+        },
+    }
+}
+
+/// What a command asks of each line, with these arguments beside it.
+fn line_request<'a>(command: Command, ending: Ending, arguments: &'a [&'a str]) -> Option<Asked<'a>>
+    ensures { option_map asked_of result ≡ line_request command ending arguments.entry.now }
+{
+    let CommandName::Ask(question) = command.name else {
+        return None;
+    };
+    if !command.takes_count(arguments.len() + 1) {
+        return None;
+    }
+    let request = Request {
+        question,
+        arguments,
+    };
+    Some(Asked {
+        command,
+        invocation: Invocation::Each { ending, request },
+    })
+}
+
+fn ending_of(is_zero: bool) -> Ending
+    ensures { result ≡ ending_of is_zero }
+{
+    if is_zero { Ending::Zero } else { Ending::Feed }
+}
+
+/// The help that a text after `help` asks for: on the command that it names, or, as `help` itself, on the program.
+fn help_on<'a>(word: &str) -> Option<Invocation<'a>>
+    ensures { option_map invocation_of result ≡ help_on word.now }
+{
+    if word == "help" {
+        return Some(Invocation::Help { command: None });
+    }
+    help_on_command(word)
+}
+
+/// The help on the command that the text names.
+fn help_on_command<'a>(word: &str) -> Option<Invocation<'a>>
+    ensures { option_map invocation_of result ≡ command_help word.now }
+{
+    match command_named(word) {
+        Some(command) => Some(Invocation::Help {
+            command: Some(command.name),
+        }),
+        None => None,
+    }
+}
+
+fn is_help_flag(word: &str) -> bool
+    ensures { result ≡ is_help_flag word.now }
+{
+    word == "-h" || word == "--help"
+}
+
+fn has_flag(command: Command, words: &[&str]) -> bool
+    ensures { result ≡ has_flag command words.now }
+{
+    match words {
+        [] => false,
+        [word, ..] => command.is_flag(word),
+    }
+}
+
+fn after_flag<'a>(command: Command, words: &'a [&'a str]) -> &'a [&'a str]
+    ensures { result.now ≡ after_flag command words.entry.now }
+{
+    match words {
+        [word, rest @ ..] if command.is_flag(word) => rest,
+        _ => words,
+    }
+}
+
+/// The arguments after a command, without a first `--`: a way to say that what follows is no flag.
+fn arguments_in<'a>(words: &'a [&'a str]) -> &'a [&'a str]
+    ensures { result.now ≡ arguments_in words.entry.now }
+{
+    match words {
+        [word, rest @ ..] if *word == "--" => rest,
+        _ => words,
+    }
+}
+
+/// A number of workers: 1 to 64, in one or two decimal digits.
+fn workers_in(word: &str) -> Option<u64>
+    ensures { result ≡ workers_of word.now }
+{
+    match word.as_bytes() {
+        [ones] => count_in(b'0', *ones),
+        [tens, ones] => count_in(*tens, *ones),
+        _ => None,
+    }
+}
+
+/// The number that two decimal digits write, where it is one of 1 to 64.
+fn count_in(tens: u8, ones: u8) -> Option<u64>
+    ensures { result ≡ count_of tens ones }
+{
+    if !tens.is_ascii_digit() || !ones.is_ascii_digit() {
+        return None;
+    }
+    let count = u64::from(tens - b'0') * 10 + u64::from(ones - b'0');
+    if count < 1 || 64 < count {
+        return None;
+    }
+    Some(count)
+}

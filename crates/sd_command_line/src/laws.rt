@@ -1,0 +1,27 @@
+//! What follows from the table of commands and from the parser of a command line. Each law is the contract of a
+//! function that does nothing.
+ghost use Rattle.sd_command_line.specs.Laws.{CommandsAreDistinct, DashesKeepTexts, DashesKeepTextsOfWhy};
+ghost use Rattle.sd_command_line.specs.Laws.{EachAsksTheCommand, HelpStandsAlone, OptionsAreDistinct, OptionsKeepTexts};
+
+/// No two commands have one name, and no two options: a text names at most one row of the table.
+pub fn names_are_distinct()
+    ensures commands { CommandsAreDistinct }
+    ensures options { OptionsAreDistinct }
+{}
+
+/// Help and the version answer two arguments after the program's name at most, so no verdict's arguments ask for them.
+pub fn help_stands_alone()
+    ensures { HelpStandsAlone }
+{}
+
+/// After `verdict --` and `why --` each argument is that of its place, whatever its text: an option too.
+pub fn dashes_keep_texts()
+    ensures verdict { DashesKeepTexts }
+    ensures why { DashesKeepTextsOfWhy }
+    ensures with_options { OptionsKeepTexts }
+{}
+
+/// What `each` asks of a line is what the command asks with the line as its first argument.
+pub fn each_asks_the_command()
+    ensures { EachAsksTheCommand }
+{}

@@ -1,0 +1,31 @@
+//! The command line of `sdstore`, as a library.
+//!
+//! `drive` does what the program does with a list of words and three streams, and answers the
+//! status with which the program ends. The program hands it the real streams; a test, or a program
+//! that wants the answers of the command line without a process, hands it streams in memory.
+//!
+//! ```text
+//! let words = ["sdstore", "verdict", "D:(A;;0x1;;;S-1-1-0)", "S-1-1-0", "0x1"];
+//! let status = drive(&rt, alloc, &words, &mut input, &mut output, &mut errors);
+//! // status is 0, and output holds "granted 0x1\n"
+//! ```
+#![tactic(auto)]
+
+mod answer;
+mod command_line;
+mod each;
+mod failure;
+mod laws;
+mod options;
+mod perform;
+mod program;
+mod scripts;
+mod version;
+
+pub use laws::{dashes_keep_texts, each_asks_the_command, help_stands_alone, names_are_distinct};
+pub use program::drive;
+pub use sd_script::{Manner, PathSpelling, Tally, run};
+pub use sd_script_audit::run_audit;
+pub use sd_sid::GenericMapping;
+pub use sd_store::{Gate, OpenGate};
+pub use sd_stream::{RunError, Watched};

@@ -1,0 +1,293 @@
+//! What may stand between the program's name and the command, and what it says.
+ghost use Rattle.std.specs.Prelude.{◌≡◌, IfErr, IfNone, IfOk, IfSome, false, option_map};
+ghost use Rattle.std.specs.List.{list_any};
+ghost use Rattle.std.specs.Option.{option_map_or};
+ghost use Rattle.sd_text.specs.Domain.{domain_sid};
+ghost use Rattle.sd_text.specs.Grammar.{Spells};
+ghost use Rattle.sd_text.specs.Sid.{sid_text};
+ghost use Rattle.sd_command_line.specs.Scripts.{manner_of};
+ghost use Rattle.sd_command_line.specs.Options.{AreSettings, GivesDomain, HasBadValue, IsNoDomain, byte_form_of, given};
+ghost use Rattle.sd_command_line.specs.Options.{has, is_strict, is_misplaced, no_options, options_in, options_of};
+ghost use Rattle.sd_command_line.specs.Options.{parted, paths_of, spelling_of, suits, with_option, with_value};
+
+use sd_answer::Spelling;
+use sd_commands::{ByteForm, Settings, kind_given, mapping_given};
+use sd_script::{Manner, PathSpelling};
+use sd_text::{Domain, read_sid_text};
+use sd_usage::{Command, OPTIONS, OptionName, OptionRow, ProgramOption, option_named};
+
+/// The value of an option that isn't read.
+#[derive(Clone, Copy, Debug)]
+pub(crate) enum BadValue<'a> {
+    /// The value of `--domain` is no domain's SID.
+    NoDomain(&'a str),
+    /// The value of `--mapping` is no mapping.
+    NoMapping,
+}
+
+/// The options of a command line, which go before the command, each at most once: the values of those that are given,
+/// empty for one without a value.
+#[derive(Clone, Copy, Debug)]
+pub(crate) struct Options<'a> {
+    names: Option<&'a str>,
+    without_sacl: Option<&'a str>,
+    base64: Option<&'a str>,
+    loose: Option<&'a str>,
+    percent: Option<&'a str>,
+    strict: Option<&'a str>,
+    domain: Option<&'a str>,
+    mapping: Option<&'a str>,
+}
+
+impl<'a> Options<'a> {
+    /// None of them.
+    pub(crate) fn none() -> Options<'a>
+        ensures { options_of result ≡ no_options }
+    {
+        Options {
+            names: None,
+            without_sacl: None,
+            base64: None,
+            loose: None,
+            percent: None,
+            strict: None,
+            domain: None,
+            mapping: None,
+        }
+    }
+
+    /// The value of an option, if it is given.
+    fn given(self, option: OptionName) -> Option<&'a str>
+        ensures { option_map (λ text. text.now) result ≡ given (options_of self.entry) option }
+    {
+        match option {
+            OptionName::Names => self.names,
+            OptionName::WithoutSacl => self.without_sacl,
+            OptionName::Base64 => self.base64,
+            OptionName::Loose => self.loose,
+            OptionName::Percent => self.percent,
+            OptionName::Strict => self.strict,
+            OptionName::Domain => self.domain,
+            OptionName::Mapping => self.mapping,
+        }
+    }
+
+    fn has(self, option: OptionName) -> bool
+        ensures { result ≡ has (options_of self.entry) option }
+    {
+        match self.given(option) {
+            Some(_) => true,
+            None => false,
+        }
+    }
+
+    /// These, and this one.
+    fn with_value(self, option: OptionName, value: &'a str) -> Options<'a>
+        ensures { options_of result ≡ with_value (options_of self.entry) option value.now }
+    {
+        let value = Some(value);
+        match option {
+            OptionName::Names => Options {
+                names: value,
+                ..self
+            },
+            OptionName::WithoutSacl => Options {
+                without_sacl: value,
+                ..self
+            },
+            OptionName::Base64 => Options {
+                base64: value,
+                ..self
+            },
+            OptionName::Loose => Options {
+                loose: value,
+                ..self
+            },
+            OptionName::Percent => Options {
+                percent: value,
+                ..self
+            },
+            OptionName::Strict => Options {
+                strict: value,
+                ..self
+            },
+            OptionName::Domain => Options {
+                domain: value,
+                ..self
+            },
+            OptionName::Mapping => Options {
+                mapping: value,
+                ..self
+            },
+        }
+    }
+
+    /// These and one more. `None`: it is one of these already.
+    fn with_option(self, option: OptionName, value: &'a str) -> Option<Options<'a>>
+        ensures { option_map options_of result ≡ with_option (options_of self.entry) option value.now }
+    {
+        if self.has(option) {
+            return None;
+        }
+        Some(self.with_value(option, value))
+    }
+
+    /// Whether each of them may go before the command, and beside the others.
+    #[tactic(auto, unfolding(crate::specs::Options::suits))]
+    pub(crate) fn suit(self, command: Command) -> bool
+        ensures { result ≡ suits command (options_of self.entry) }
+    {
+        !has_misplaced(OPTIONS, command, self)
+    }
+
+    /// What they say of a descriptor, or whose value isn't read: first `--domain`'s, which is a domain's SID ([MS-DTYP]
+    /// 2.4.2.4).
+    pub(crate) fn settings(self) -> Result<Settings, BadValue<'a>>
+        ensures settings { IfOk result (AreSettings (options_of self.entry)) }
+        ensures bad { IfErr result (HasBadValue (options_of self.entry)) }
+    {
+        let domain = self.domain_given()?;
+        let Some(mapping) = mapping_given(self.mapping) else {
+            return Err(BadValue::NoMapping);
+        };
+        Ok(Settings {
+            spelling: self.spelling(),
+            domain,
+            mapping,
+            kind: kind_given(self.mapping),
+            without_sacl: self.has(OptionName::WithoutSacl),
+            bytes: self.byte_form(),
+        })
+    }
+
+    /// How a script is carried out, under these settings.
+    pub(crate) fn manner(self, settings: &Settings) -> Manner
+        ensures { result ≡ manner_of (options_of self.entry) settings.now }
+    {
+        Manner {
+            mapping: settings.mapping,
+            paths: self.paths(),
+        }
+    }
+
+    /// Whether a script's fault or refusal is told by the status.
+    pub(crate) fn is_strict(self) -> bool
+        ensures { result ≡ is_strict (options_of self.entry) }
+    {
+        self.has(OptionName::Strict)
+    }
+
+    /// The domain whose SID is given, if one is.
+    fn domain_given(self) -> Result<Option<Domain>, BadValue<'a>>
+        ensures given { IfOk result (GivesDomain (options_of self.entry).domain) }
+        ensures bad { IfErr result (HasBadValue (options_of self.entry)) }
+    {
+        match self.domain {
+            None => Ok(None),
+            Some(text) => match domain_in(text) {
+                Some(domain) => Ok(Some(domain)),
+                None => Err(BadValue::NoDomain(text)),
+            },
+        }
+    }
+
+    fn byte_form(self) -> ByteForm
+        ensures { result ≡ byte_form_of (options_of self.entry) }
+    {
+        if self.has(OptionName::Base64) {
+            ByteForm::Base64
+        } else if self.has(OptionName::Loose) {
+            ByteForm::Loose
+        } else {
+            ByteForm::Hex
+        }
+    }
+
+    fn paths(self) -> PathSpelling
+        ensures { result ≡ paths_of (options_of self.entry) }
+    {
+        if self.has(OptionName::Percent) {
+            PathSpelling::Percent
+        } else {
+            PathSpelling::Plain
+        }
+    }
+
+    fn spelling(self) -> Spelling
+        ensures { result ≡ spelling_of (options_of self.entry) }
+    {
+        if self.has(OptionName::Names) {
+            Spelling::Names
+        } else {
+            Spelling::Number
+        }
+    }
+}
+
+/// Whether one of these options is given and may not be.
+fn has_misplaced(rows: &[OptionRow], command: Command, options: Options<'_>) -> bool
+    ensures { result ≡ list_any (λ row. is_misplaced command (options_of options.entry) row.1) rows.now }
+{
+    rows.iter().any(|row| is_misplaced(command, options, row.1))
+}
+
+/// Whether the option is given and may not be: the command doesn't take it, or one that it excludes is given too.
+fn is_misplaced(command: Command, options: Options<'_>, option: ProgramOption) -> bool
+    ensures { result ≡ is_misplaced command (options_of options.entry) option }
+{
+    options.has(option.name)
+        && (!command.takes_option(option.name) || has_excluded(options, option))
+}
+
+/// Whether an option is given that this one excludes.
+fn has_excluded(options: Options<'_>, option: ProgramOption) -> bool
+    ensures { result ≡ option_map_or (has (options_of options.entry)) option.excludes false }
+{
+    match option.excludes {
+        Some(other) => options.has(other),
+        None => false,
+    }
+}
+
+/// The domain whose SID the text spells.
+fn domain_in(text: &str) -> Option<Domain>
+    ensures domain { IfSome result (λ domain. Spells sid_text text.now (domain_sid domain)) }
+    ensures none { IfNone result (IsNoDomain text.now) }
+{
+    match read_sid_text(text) {
+        Ok(sid) => Domain::new(&sid),
+        Err(_) => None,
+    }
+}
+
+/// The options that the arguments begin with, and the arguments after them. `None`: one of them is there twice, or
+/// lacks its value.
+pub(crate) fn options_in<'a>(words: &'a [&'a str]) -> Option<(Options<'a>, &'a [&'a str])>
+    ensures { option_map parted result ≡ options_in no_options words.entry.now }
+{
+    options_after(Options::none(), words)
+}
+
+/// The same with those before.
+fn options_after<'a>(
+    options: Options<'a>,
+    words: &'a [&'a str],
+) -> Option<(Options<'a>, &'a [&'a str])>
+    ensures { option_map parted result ≡ options_in (options_of options.entry) words.entry.now }
+{
+    let [word, after @ ..] = words else {
+        return Some((options, words));
+    };
+    let Some(option) = option_named(word) else {
+        return Some((options, words));
+    };
+    let Some(_) = option.value else {
+        let options = options.with_option(option.name, "")?;
+        return options_after(options, after);
+    };
+    let [value, after @ ..] = after else {
+        return None;
+    };
+    let options = options.with_option(option.name, value)?;
+    options_after(options, after)
+}

@@ -1,0 +1,205 @@
+//! A command line, carried out over streams.
+ghost use Rattle.std.specs.Prelude.{◌≡◌, ◌≢◌, ◌||◌, ℕ, List, [], true, false, Err, IfErr, IfOk, string_bytes};
+ghost use Rattle.std.specs.Io.KnownBytes.{Appends};
+ghost use Rattle.sd_stream.specs.Watched.{has_failed, inner_of};
+ghost use Rattle.sd_stream.specs.Whole.{AppendsBeginning, ReadsPart, is_read_error, is_write_error};
+ghost use Rattle.sd_commands.specs.Answer.{answer_of, outcome_status};
+ghost use Rattle.sd_command_line.specs.CommandLine.{Audit, Each, command_line_of, invocation_of, is_script, request_of};
+ghost use Rattle.sd_command_line.specs.CommandLine.{runs_script};
+ghost use Rattle.sd_command_line.specs.Options.{AreSettings, is_strict, options_of};
+ghost use Rattle.sd_command_line.specs.Output.{AppendsAnswerTo, LeavesAfter, LeavesAfterFailure, blames_reader};
+ghost use Rattle.sd_command_line.specs.Output.{blames_writer};
+ghost use Rattle.sd_command_line.specs.Scripts.{IsToldOfScript, script_outcome};
+
+use crate::answer::{answer_to, bad_value};
+use crate::command_line::{CommandLine, Invocation, Request};
+use crate::each::{LineQuestion, answer_each};
+use crate::failure::Failure;
+use crate::options::Options;
+use crate::scripts::{script_outcome, told_of_script};
+use sd_commands::{Answer, Outcome, Settings};
+use sd_lines::Ending;
+use sd_script::{Tally, run, serve};
+use sd_script_audit::run_audit;
+use sd_store::OpenGate;
+use sd_stream::{RunError, Watched, write_whole};
+use std::alloc::Global;
+use std::io::{Read, Write};
+use std::sync::Wait;
+use std::thread::Threads;
+
+/// What came of a run, and what standard error is told beside its output.
+#[derive(Debug, Drop)]
+pub(crate) struct Ended {
+    pub(crate) told: String,
+    pub(crate) outcome: Outcome,
+}
+
+impl Ended {
+    /// Nothing is told beside the output.
+    fn quiet(alloc: Global, outcome: Outcome) -> Ended
+        ensures told { string_bytes result.told ≡ [] }
+        ensures outcome { result.outcome ≡ outcome }
+    {
+        Ended {
+            told: String::new(alloc),
+            outcome,
+        }
+    }
+}
+
+/// Carries out a command line. Only what is answered from the input uses `reader`.
+pub(crate) fn perform<T: Threads + Wait + Sync, R: Read, W: Write>(
+    rt: &T,
+    alloc: Global,
+    line: CommandLine<'_>,
+    reader: &mut Watched<R>,
+    writer: &mut Watched<W>,
+) -> Result<Ended, Failure>
+    ensures ok { IfOk result (λ ended. AppendsAnswerTo (command_line_of line.entry) (R.remaining (inner_of reader.old))
+        (W.contents (inner_of writer.old)) (W.contents (inner_of writer.new)) (string_bytes ended.told)
+        (outcome_status ended.outcome)) }
+    ensures err { IfErr result (LeavesAfterFailure (command_line_of line.entry) (R.remaining (inner_of reader.old))
+        (R.remaining (inner_of reader.new))
+        (W.contents (inner_of writer.old)) (W.contents (inner_of writer.new))) }
+    ensures read { has_failed reader.new ≡ (has_failed reader.old || blames_reader result) }
+    ensures write { has_failed writer.new ≡ (has_failed writer.old || blames_writer result) }
+    ensures too_long { result ≡ Err (Failure.Run RunError.TooLong)
+        → ReadsPart (R.remaining (inner_of reader.old)) (R.remaining (inner_of reader.new)) RunError.TooLong }
+    ensures thread { result ≡ Err (Failure.Run RunError.Thread)
+        → (workers : ℕ) × (invocation_of line.entry.invocation ≡ Audit workers) }
+    ensures unused { is_script (invocation_of line.entry.invocation) ≡ false → reader.new ≡ reader.old }
+{
+    match line.invocation {
+        Invocation::Script | Invocation::Serve { .. } | Invocation::Audit { .. } => {
+            perform_script(rt, alloc, line, reader, writer)
+        }
+        Invocation::Each { ending, request } => {
+            perform_each(alloc, line.options, ending, request, reader, writer)
+        }
+        _ => print(answer_to(alloc, line)?, writer),
+    }
+}
+
+/// Carries out a script, at once, line by line or as an audit.
+fn perform_script<T: Threads + Wait + Sync, R: Read, W: Write>(
+    rt: &T,
+    alloc: Global,
+    line: CommandLine<'_>,
+    reader: &mut Watched<R>,
+    writer: &mut Watched<W>,
+) -> Result<Ended, Failure>
+    requires { runs_script (invocation_of line.invocation) ≡ true }
+    ensures ok { IfOk result (λ ended. AppendsAnswerTo (command_line_of line.entry) (R.remaining (inner_of reader.old))
+        (W.contents (inner_of writer.old)) (W.contents (inner_of writer.new)) (string_bytes ended.told)
+        (outcome_status ended.outcome)) }
+    ensures err { IfErr result (LeavesAfterFailure (command_line_of line.entry) (R.remaining (inner_of reader.old))
+        (R.remaining (inner_of reader.new))
+        (W.contents (inner_of writer.old)) (W.contents (inner_of writer.new))) }
+    ensures read { has_failed reader.new ≡ (has_failed reader.old || blames_reader result) }
+    ensures write { has_failed writer.new ≡ (has_failed writer.old || blames_writer result) }
+    ensures too_long { result ≡ Err (Failure.Run RunError.TooLong)
+        → ReadsPart (R.remaining (inner_of reader.old)) (R.remaining (inner_of reader.new)) RunError.TooLong }
+    ensures thread { result ≡ Err (Failure.Run RunError.Thread)
+        → (workers : ℕ) × (invocation_of line.entry.invocation ≡ Audit workers) }
+{
+    match line.options.settings() {
+        Ok(settings) => {
+            let tally = run_under(rt, alloc, &settings, line, reader, writer)?;
+            let is_strict = line.options.is_strict();
+            Ok(Ended {
+                told: told_of_script(alloc, is_strict, &tally),
+                outcome: script_outcome(is_strict, &tally),
+            })
+        }
+        Err(bad) => print(bad_value(alloc, bad)?, writer),
+    }
+}
+
+/// Runs a script under these settings, which are those of the line.
+fn run_under<T: Threads + Wait + Sync, R: Read, W: Write>(
+    rt: &T,
+    alloc: Global,
+    settings: &Settings,
+    line: CommandLine<'_>,
+    reader: &mut Watched<R>,
+    writer: &mut Watched<W>,
+) -> Result<Tally, RunError>
+    requires said { AreSettings (options_of line.options) settings.now }
+    requires script { runs_script (invocation_of line.invocation) ≡ true }
+    ensures ok { IfOk result (λ tally. (told : List ℕ)
+        → IsToldOfScript (is_strict (options_of line.entry.options)) tally told
+        → AppendsAnswerTo (command_line_of line.entry) (R.remaining (inner_of reader.old))
+        (W.contents (inner_of writer.old)) (W.contents (inner_of writer.new)) told
+        (outcome_status (script_outcome (is_strict (options_of line.entry.options)) tally))) }
+    ensures err { IfErr result (LeavesAfter (command_line_of line.entry) (R.remaining (inner_of reader.old))
+        (R.remaining (inner_of reader.new))
+        (W.contents (inner_of writer.old)) (W.contents (inner_of writer.new))) }
+    ensures read { has_failed reader.new ≡ (has_failed reader.old || is_read_error result) }
+    ensures write { has_failed writer.new ≡ (has_failed writer.old || is_write_error result) }
+    ensures too_long { result ≡ Err RunError.TooLong
+        → ReadsPart (R.remaining (inner_of reader.old)) (R.remaining (inner_of reader.new)) RunError.TooLong }
+    ensures thread { result ≡ Err RunError.Thread → (workers : ℕ)
+        × (invocation_of line.entry.invocation ≡ Audit workers) }
+{
+    let manner = line.options.manner(settings);
+    match line.invocation {
+        Invocation::Script => run(alloc, &manner, reader, writer),
+        Invocation::Serve { has_ids } => serve(alloc, &manner, has_ids, reader, writer),
+        Invocation::Audit { workers } => {
+            run_audit(rt, alloc, workers, &manner, reader, writer, &OpenGate)
+        }
+        _ => unreachable!(),
+    }
+}
+
+/// Answers each line of the input.
+fn perform_each<R: Read, W: Write>(
+    alloc: Global,
+    options: Options<'_>,
+    ending: Ending,
+    request: Request<'_>,
+    reader: &mut Watched<R>,
+    writer: &mut Watched<W>,
+) -> Result<Ended, Failure>
+    ensures ok { IfOk result
+        (λ ended. AppendsAnswerTo
+        (record { options = options_of options.entry; invocation = Each ending (request_of request.entry) })
+        (R.remaining (inner_of reader.old))
+        (W.contents (inner_of writer.old)) (W.contents (inner_of writer.new)) (string_bytes ended.told)
+        (outcome_status ended.outcome)) }
+    ensures err { IfErr result
+        (LeavesAfterFailure (record {
+          options = options_of options.entry;
+          invocation = Each ending (request_of request.entry);
+        })
+        (R.remaining (inner_of reader.old)) (R.remaining (inner_of reader.new))
+        (W.contents (inner_of writer.old)) (W.contents (inner_of writer.new))) }
+    ensures read { has_failed reader.new ≡ (has_failed reader.old || blames_reader result) }
+    ensures write { has_failed writer.new ≡ (has_failed writer.old || blames_writer result) }
+    ensures too_long { result ≢ Err (Failure.Run RunError.TooLong) }
+    ensures thread { result ≢ Err (Failure.Run RunError.Thread) }
+{
+    let question = LineQuestion { options, request };
+    let outcome = answer_each(alloc, question, ending, reader, writer)?;
+    Ok(Ended::quiet(alloc, outcome))
+}
+
+/// Prints an answer.
+fn print<W: Write>(answer: Answer, writer: &mut Watched<W>) -> Result<Ended, Failure>
+    ensures ok { IfOk result (λ ended. Appends (W.contents (inner_of writer.old)) (W.contents (inner_of writer.new))
+        (answer_of answer).printed
+        × (string_bytes ended.told ≡ (answer_of answer).told) × (ended.outcome ≡ answer.outcome)) }
+    ensures err { IfErr result (λ failure. (failure ≡ Failure.Run RunError.Write)
+        × AppendsBeginning (W.contents (inner_of writer.old)) (W.contents (inner_of writer.new))
+        (answer_of answer).printed) }
+    ensures write { has_failed writer.new ≡ (has_failed writer.old || blames_writer result) }
+{
+    let Answer {
+        text,
+        told,
+        outcome,
+    } = answer;
+    write_whole(writer, text.as_bytes())?;
+    Ok(Ended { told, outcome })
+}

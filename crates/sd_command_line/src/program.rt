@@ -1,0 +1,121 @@
+//! The program over any words and streams: words in, an answer and a status out.
+ghost use Rattle.std.specs.Prelude.{◌≡◌, ◌≤◌, ◌⊎◌, ◌||◌, ℕ, List, false, Err, IfErr, IfOk, string_bytes};
+ghost use Rattle.std.specs.Io.KnownBytes.{Keeps};
+ghost use Rattle.sd_stream.specs.Watched.{has_failed, inner_of};
+ghost use Rattle.sd_stream.specs.Whole.{AppendsBeginning, ReadsPart};
+ghost use Rattle.sd_stream.specs.declared.error.RunError.{RunError as Error};
+ghost use Rattle.sd_command_line.specs.CommandLine.{IsAudit, IsUnread, asks_input};
+ghost use Rattle.sd_command_line.specs.Output.{AppendsAnswer, AppendsPartOfAnswer, IsDue, LeavesAtFailure};
+ghost use Rattle.sd_command_line.specs.Output.{LeavesByLine, blames_reader, blames_writer, error_line};
+ghost use Rattle.sd_commands.specs.Answer.{outcome_status};
+
+use crate::command_line::read_command_line;
+use crate::failure::Failure;
+use crate::perform::{Ended, perform};
+use sd_commands::shown_word;
+use sd_stream::{RunError, Watched, write_whole};
+use sd_usage::refusal;
+use std::alloc::{AllocError, Global};
+use std::io::{Read, Write};
+use std::sync::Wait;
+use std::thread::Threads;
+
+/// Does what the program does with these words, of which the first is its name, and with these
+/// streams, and answers the status with which it ends. Only `script`, `serve`, `audit` and `each` use
+/// `reader`, and only `audit` starts threads and waits for them.
+///
+/// - 0: the text was printed, or the right granted, or the script carried out to its end. Help and
+///   the version are such texts.
+/// - 1: an argument's fault was printed, or a verdict other than granted.
+/// - 2: the words aren't a command line, and `errors` has the reason.
+/// - 3: memory was wanting, a stream failed, the script was too long, or an audit's workers got no
+///   answers: `errors` has `sdstore: memory`, `sdstore: read`, `sdstore: write`,
+///   `sdstore: too long` or `sdstore: thread`.
+pub fn drive<T: Threads + Wait + Sync, R: Read, W: Write, E: Write>(
+    rt: &T,
+    alloc: Global,
+    words: &[&str],
+    reader: &mut Watched<R>,
+    writer: &mut Watched<W>,
+    errors: &mut Watched<E>,
+) -> u8
+    ensures statuses { result ≤ 3 }
+    ensures answered { result ≤ 1 → (told : List ℕ)
+        × AppendsAnswer words.now (R.remaining (inner_of reader.old))
+        (W.contents (inner_of writer.old)) (W.contents (inner_of writer.new)) told result
+        × AppendsBeginning (E.contents (inner_of errors.old)) (E.contents (inner_of errors.new)) told }
+    ensures unread { result ≡ 2 → IsUnread words.now
+        × Keeps (W.contents (inner_of writer.old)) (W.contents (inner_of writer.new)) }
+    ensures refused { IsUnread words.now → (2 ≤ result)
+        × Keeps (W.contents (inner_of writer.old)) (W.contents (inner_of writer.new)) }
+    ensures failed { result ≡ 3
+        → Keeps (W.contents (inner_of writer.old)) (W.contents (inner_of writer.new))
+        ⊎ (AppendsPartOfAnswer words.now (R.remaining (inner_of reader.old))
+        (W.contents (inner_of writer.old)) (W.contents (inner_of writer.new))
+        ⊎ ((error : Error) × LeavesByLine words.now (R.remaining (inner_of reader.old))
+        (R.remaining (inner_of reader.new))
+        (W.contents (inner_of writer.old)) (W.contents (inner_of writer.new)) error)) }
+    ensures told { result ≡ 3 → (error : Error)
+        × IsDue words.now (has_failed reader.old) (has_failed reader.new)
+        (has_failed writer.old) (has_failed writer.new)
+        (R.remaining (inner_of reader.old)) (R.remaining (inner_of reader.new)) error
+        × AppendsBeginning (E.contents (inner_of errors.old)) (E.contents (inner_of errors.new))
+        (error_line error) }
+    ensures sound { result ≤ 2 → (has_failed reader.new ≡ has_failed reader.old)
+        × (has_failed writer.new ≡ has_failed writer.old) }
+    ensures unused { asks_input words.now ≡ false → reader.new ≡ reader.old }
+{
+    match carry_out(rt, alloc, words, reader, writer) {
+        Ok(Ended { told, outcome }) => {
+            tell(errors, told.as_str());
+            outcome.status()
+        }
+        Err(failure) => {
+            tell(errors, failure.text());
+            failure.status()
+        }
+    }
+}
+
+/// Tells standard error. What stands, stands also where the errors can't be written.
+fn tell<E: Write>(errors: &mut Watched<E>, text: &str)
+    ensures { AppendsBeginning (E.contents (inner_of errors.old)) (E.contents (inner_of errors.new)) text.now }
+{
+    let _ = write_whole(errors, text.as_bytes());
+}
+
+/// Why the words aren't a command line. No control character of theirs stands in it.
+fn reason(alloc: Global, words: &[&str]) -> Result<String, AllocError> {
+    let mut shown = Vec::new(alloc);
+    for word in words {
+        shown.push(shown_word(alloc, word)?)?;
+    }
+    let words: Vec<&str> = shown.iter().map(|word| word.as_str()).collect(alloc)?;
+    refusal(alloc, words.as_slice())
+}
+
+fn carry_out<T: Threads + Wait + Sync, R: Read, W: Write>(
+    rt: &T,
+    alloc: Global,
+    words: &[&str],
+    reader: &mut Watched<R>,
+    writer: &mut Watched<W>,
+) -> Result<Ended, Failure>
+    ensures ok { IfOk result (λ ended. AppendsAnswer words.now (R.remaining (inner_of reader.old))
+        (W.contents (inner_of writer.old)) (W.contents (inner_of writer.new)) (string_bytes ended.told)
+        (outcome_status ended.outcome)) }
+    ensures err { IfErr result
+        (LeavesAtFailure words.now (R.remaining (inner_of reader.old)) (R.remaining (inner_of reader.new))
+        (W.contents (inner_of writer.old)) (W.contents (inner_of writer.new))) }
+    ensures read { has_failed reader.new ≡ (has_failed reader.old || blames_reader result) }
+    ensures write { has_failed writer.new ≡ (has_failed writer.old || blames_writer result) }
+    ensures too_long { result ≡ Err (Failure.Run RunError.TooLong)
+        → ReadsPart (R.remaining (inner_of reader.old)) (R.remaining (inner_of reader.new)) RunError.TooLong }
+    ensures thread { result ≡ Err (Failure.Run RunError.Thread) → IsAudit words.now }
+    ensures unused { asks_input words.now ≡ false → reader.new ≡ reader.old }
+{
+    let Some(line) = read_command_line(words) else {
+        return Err(Failure::Unread(reason(alloc, words)?));
+    };
+    perform(rt, alloc, line, reader, writer)
+}

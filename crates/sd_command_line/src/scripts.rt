@@ -1,0 +1,72 @@
+//! What comes of a script beside its output.
+ghost use Rattle.std.specs.Prelude.{◌≡◌, IfOk, string_bytes};
+ghost use Rattle.sd_command_line.specs.Scripts.{IsToldOfScript, first_fault_under, line_note, mark_note, script_notes};
+ghost use Rattle.sd_command_line.specs.Scripts.{script_outcome};
+
+use sd_commands::{Outcome, told_line};
+use sd_script::Tally;
+use std::alloc::{AllocError, Global};
+
+/// What standard error is told of a script: the byte order mark that it begins with; the first line whose node inherits
+/// otherwise than it did; and where that is asked for, the first fault or refusal. Nothing, where memory for that is
+/// refused: the output stands by then.
+pub(crate) fn told_of_script(alloc: Global, strict: bool, tally: &Tally) -> String
+    ensures { IsToldOfScript strict tally.now (string_bytes result) }
+{
+    match script_notes(alloc, strict, tally) {
+        Ok(notes) => notes,
+        Err(_) => String::new(alloc),
+    }
+}
+
+/// Whether the script did what was asked for.
+pub(crate) fn script_outcome(strict: bool, tally: &Tally) -> Outcome
+    ensures { result ≡ script_outcome strict tally.now }
+{
+    match first_fault_under(strict, tally) {
+        Some(_) => Outcome::Refused,
+        None => Outcome::Done,
+    }
+}
+
+fn script_notes(alloc: Global, strict: bool, tally: &Tally) -> Result<String, AllocError>
+    ensures { IfOk result (λ text. string_bytes text ≡ script_notes strict tally.now) }
+{
+    let mark = mark_note(alloc, tally.begins_with_mark)?;
+    let what = "the node inherits otherwise than its descriptor says";
+    let difference = line_note(alloc, what, tally.first_difference)?;
+    let fault = first_fault_under(strict, tally);
+    let fault = line_note(alloc, "a fault or a refusal", fault)?;
+    let text = format!(in alloc; "{mark}{difference}{fault}")?;
+    Ok(text)
+}
+
+/// The first line with a fault or a refusal, where that is asked for.
+fn first_fault_under(strict: bool, tally: &Tally) -> Option<u64>
+    ensures { result ≡ first_fault_under strict tally.now }
+{
+    if strict { tally.first_fault } else { None }
+}
+
+/// What is told of a line, where there is one.
+fn line_note(alloc: Global, what: &str, line: Option<u64>) -> Result<String, AllocError>
+    ensures { IfOk result (λ text. string_bytes text ≡ line_note what.now line) }
+{
+    match line {
+        None => Ok(String::new(alloc)),
+        Some(number) => {
+            let argument = format!(in alloc; "line {number}")?;
+            told_line(alloc, argument.as_str(), what)
+        }
+    }
+}
+
+fn mark_note(alloc: Global, begins: bool) -> Result<String, AllocError>
+    ensures { IfOk result (λ text. string_bytes text ≡ mark_note begins) }
+{
+    if begins {
+        told_line(alloc, "line 1", "it begins with a byte order mark")
+    } else {
+        Ok(String::new(alloc))
+    }
+}

@@ -1,0 +1,88 @@
+-- Hexadecimal with signs between bytes, part by part.
+use Rattle.std.proofs.Common.{◌≡◌, ℕ, ◌+◌, ◌-◌, ◌<◌, ◌≤◌, Bool, false, All, List, [], ◌∷◌, ◌++◌, length, take, drop, Result, Ok, Err, refl, sym, ◌∙◌, ap, append_assoc, append-nil, arith, Some, None, cond, ltb, true}
+use Rattle.std.specs.List.{slice_split, position_or_len, before_first, after_first}
+use Rattle.std.proofs.lemmas.Bool.Decides.{nat_tests}
+use Rattle.std.proofs.lemmas.List.{take_rest, drop_all, length-take-le, length-drop}
+use Rattle.hex.specs.Hex.{decode_pairs}
+use Rattle.std.proofs.lemmas.List.Splits.{slice_split_first, slice_split_none}
+use Rattle.std.proofs.lemmas.List.Sums.{fails_before_first}
+use Rattle.sd_commands.specs.Bytes.{is_between, joined, part_read, parts_read}
+
+-- no element passes where the first that does is behind the last
+none_pass : (p : ℕ → Bool) (xs : List ℕ) → length xs ≤ position_or_len p xs → All (λ x. p x ≡ false) xs
+none_pass p xs far = λ k d low. fails_before_first p xs k d (omega (arith, low, far))
+
+-- the place that a search tells
+pub place_some : (b : Bool) (n i : ℕ) → Some i ≡ cond b (Some n) None → i ≡ n
+place_some true n i is = cc
+place_some false n i is = cc
+
+pub place_none : (n m : ℕ) → None ≡ cond (ltb n m) (Some n) None → m ≤ n
+place_none n m is = grind (arith, nat_tests)
+
+-- ---- results that are joined
+
+pub joined_none : (r : Result (List ℕ) (List ℕ)) → joined (Ok []) r ≡ r
+joined_none (Ok bytes) = refl
+joined_none (Err reason) = refl
+
+pub joined_both : (one two : List ℕ) (r : Result (List ℕ) (List ℕ)) → joined (Ok one) (joined (Ok two) r) ≡ joined (Ok (one ++ two)) r
+joined_both one two (Ok bytes) = ap Ok (sym (append_assoc one two bytes))
+joined_both one two (Err reason) = refl
+
+-- ---- the first part
+
+pub parts_before : (xs : List ℕ) (end place : ℕ) → end ≡ position_or_len is_between xs → end < length xs
+    → parts_read place (slice_split is_between xs) ≡ joined (part_read place (take end xs))
+    (parts_read ((place + length xs) - length (take (length xs - (end + 1)) (drop (end + 1) xs)))
+    (slice_split is_between (take (length xs - (end + 1)) (drop (end + 1) xs))))
+unfolding parts_read
+parts_before xs end place at low =
+    let front = before_first is_between xs in
+    let behind = after_first is_between xs in
+    let number : place + length front + 1 ≡ (place + length xs) - length behind =
+    omega (arith, at, low, length-take-le (position_or_len is_between xs) xs (omega (arith, at, low)), length-drop (position_or_len is_between xs + 1) xs) in
+    rw (take_rest xs (end + 1), at)
+    (ap (parts_read place) (slice_split_first is_between xs 0 (omega (arith, at, low)))
+    ∙ ap (λ n. joined (part_read place front) (parts_read n (slice_split is_between behind))) number)
+
+pub parts_last : (xs : List ℕ) (end place : ℕ) → end ≡ position_or_len is_between xs → length xs ≤ end
+    → parts_read place (slice_split is_between xs) ≡ joined (part_read place xs)
+    (parts_read ((place + length xs) - length (take (length xs - end) (drop end xs))) (slice_split is_between (take (length xs - end) (drop end xs))))
+unfolding parts_read decode_pairs
+parts_last xs end place at high =
+    rw (take_rest xs end, drop_all end xs high)
+    (ap (parts_read place) (slice_split_none is_between xs (none_pass is_between xs (omega (arith, at, high)))))
+
+-- ---- part by part
+
+-- one more part is read
+pub part_joins : (text rest behind part bytes more grown : List ℕ)
+    → parts_read 0 (slice_split is_between text) ≡ joined (Ok bytes) (parts_read (length text - length rest) (slice_split is_between rest))
+    → length rest ≤ length text → length behind < length rest
+    → parts_read (length text - length rest) (slice_split is_between rest) ≡ joined (part_read (length text - length rest) part)
+    (parts_read (((length text - length rest) + length rest) - length behind) (slice_split is_between behind))
+    → part_read (length text - length rest) part ≡ Ok more → grown ≡ bytes ++ more
+    → parts_read 0 (slice_split is_between text) ≡ joined (Ok grown) (parts_read (length text - length behind) (slice_split is_between behind))
+part_joins text rest behind part bytes more grown so_far within less cut read longer =
+    let number : ((length text - length rest) + length rest) - length behind ≡ length text - length behind = omega (arith, within, less) in
+    so_far ∙ ap (joined (Ok bytes)) (cut ∙ ap (λ r. joined r (parts_read (((length text - length rest) + length rest) - length behind) (slice_split is_between behind))) read
+    ∙ ap (λ n. joined (Ok more) (parts_read n (slice_split is_between behind))) number)
+    ∙ joined_both bytes more _ ∙ ap (λ xs. joined (Ok xs) (parts_read (length text - length behind) (slice_split is_between behind))) (sym longer)
+
+-- a part isn't read
+pub part_fails : (text rest behind part bytes reason : List ℕ)
+    → parts_read 0 (slice_split is_between text) ≡ joined (Ok bytes) (parts_read (length text - length rest) (slice_split is_between rest))
+    → parts_read (length text - length rest) (slice_split is_between rest) ≡ joined (part_read (length text - length rest) part)
+    (parts_read (((length text - length rest) + length rest) - length behind) (slice_split is_between behind))
+    → part_read (length text - length rest) part ≡ Err reason → parts_read 0 (slice_split is_between text) ≡ Err reason
+part_fails text rest behind part bytes reason so_far cut fails =
+    so_far ∙ ap (joined (Ok bytes)) (cut ∙ ap (λ r. joined r (parts_read (((length text - length rest) + length rest) - length behind) (slice_split is_between behind))) fails)
+
+-- nothing is left
+pub all_joined : (text rest bytes : List ℕ)
+    → parts_read 0 (slice_split is_between text) ≡ joined (Ok bytes) (parts_read (length text - length rest) (slice_split is_between rest))
+    → length rest ≡ 0 → parts_read 0 (slice_split is_between text) ≡ Ok bytes
+unfolding parts_read decode_pairs
+all_joined text [] bytes so_far none = so_far ∙ ap Ok (append-nil bytes)
+all_joined text (x ∷ rest) bytes so_far none = absurd (omega (arith, none))

@@ -1,0 +1,5 @@
+pub mod Commas
+pub mod RightNames
+pub mod Texts
+pub mod BytesByPart
+pub mod SpelledOut

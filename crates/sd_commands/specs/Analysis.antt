@@ -1,0 +1,45 @@
+-- What `who` and `compare` are asked and find: the base that every token in question has, the rights, whom they are
+-- granted to, and what a change of a descriptor grants and takes.
+use Rattle.std.specs.Prelude.{◌==◌, ◌&&◌, ℕ, if◌then◌else◌, List, length, Option}
+use Rattle.sd_sid.specs.Mask.{holds}
+use Rattle.sd_sid.specs.Mapping.{MappingValue, mapped}
+use Rattle.sd_sid.specs.Sid.{SidValue}
+use Rattle.sd_acl.specs.Descriptor.{DescriptorValue}
+use Rattle.sd_check.specs.Check.{dacl_entries}
+use Rattle.sd_check.specs.declared.token.GroupState.{GroupState}
+use Rattle.sd_text.specs.declared.domain.Domain.{Domain}
+use Rattle.sd_analysis.specs.Sufficient.{Parts}
+use Rattle.sd_analysis.specs.Who.{AllBeyond, HasEachOnce, IsMost, IsWho}
+use Rattle.sd_analysis.specs.declared.compare_report.Change.{Change}
+use Rattle.sd_analysis.specs.declared.who_has.Access.{Access}
+use Rattle.sd_answer.specs.Word.{AreGroups, IsFirstNoGroup}
+use Rattle.sd_commands.specs.Words.{AreReadAs}
+use Rattle.sd_commands.specs.declared.answer.Outcome.{Outcome}
+use Rattle.sd_commands.specs.declared.answer.Outcome.TheVariants.{Done, Refused}
+
+-- the words are these groups
+abbrev pub IsBaseIn : Option Domain → List (List ℕ) → List (SidValue × GroupState) → Type 0
+IsBaseIn domain words base = (fulls : List (List ℕ)) × AreReadAs domain words fulls × AreGroups fulls base
+
+-- the word at the place is the first that is no group
+abbrev pub IsFirstNoGroupIn : Option Domain → List (List ℕ) → ℕ → Type 0
+IsFirstNoGroupIn domain words place = (fulls : List (List ℕ)) × AreReadAs domain words fulls
+    × IsFirstNoGroup fulls place
+
+-- the rights that are asked about: all, for MAXIMUM_ALLOWED, or those of the mapped mask
+abbrev pub rights_asked : MappingValue → ℕ → ℕ
+rights_asked g asked = if holds asked 25 then 0x1FFFFF else mapped g asked
+
+-- these are whom the rights are granted to
+pub record AreAccesses (g : MappingValue) (d : DescriptorValue) (base : List (SidValue × GroupState)) (rights : ℕ)
+    (accesses : List Access) : Type 0 where
+  pub exact : IsWho d.owner (dacl_entries d.dacl) g base rights accesses
+  pub most : IsMost d.owner (dacl_entries d.dacl) g base rights accesses
+  pub each : HasEachOnce rights accesses
+  pub beyond : AllBeyond base accesses
+
+abbrev pub parts_in : DescriptorValue → Parts
+parts_in d = record { owner = d.owner; dacl = dacl_entries d.dacl }
+
+abbrev pub compare_outcome : List Change → List Change → Outcome
+compare_outcome gained lost = if length gained == 0 && length lost == 0 then Done else Refused

@@ -1,0 +1,334 @@
+-- What a command about a descriptor prints as an answer, and whether it did what was asked for. The arguments are read
+-- from left to right, and the first that isn't read is told as a fault.
+use Rattle.std.specs.Prelude.{◌≡◌, ◌⊎◌, ℕ, Bool, true, false, MatchBool, List, [], ◌∷◌, ◌++◌, Result, Ok, Err, codes}
+use Rattle.std.specs.Prelude.{string_bytes, drop, slice_get}
+use Rattle.std.specs.Option.{option_map_or}
+use Rattle.std.specs.Borrow.{Bor}
+use Rattle.hex.specs.Hex.{encode_lower}
+use Rattle.sd_sid.specs.Sid.{SidValue}
+use Rattle.sd_acl.specs.Descriptor.{DescriptorValue}
+use Rattle.sd_check.specs.declared.verdict.Verdict.{Verdict}
+use Rattle.sd_check.specs.declared.verdict.Verdict.TheVariants.{Granted, Denied, Reserved, EmptyRequest}
+use Rattle.sd_text.specs.Grammar.{Grammar, Spells, HasFault}
+use Rattle.sd_text.specs.Sacl.{sddl_without_sacl}
+use Rattle.sd_text.specs.Sddl.{sddl_in}
+use Rattle.sd_text.specs.Sid.{sid_text_in}
+use Rattle.sd_text.specs.Rights.{mask_text}
+use Rattle.sd_text.specs.Canon.{canon}
+use Rattle.sd_text.specs.declared.fault.TextError.{TextError}
+use Rattle.sd_text.specs.declared.fault.TextError.TheVariants.{Fault, Memory}
+use Rattle.sd_text.specs.declared.fault.TextFault.{TextFault}
+use Rattle.sd_wire.specs.Reading.{descriptor_read}
+use Rattle.sd_wire.specs.Writing.{wire_of}
+use Rattle.sd_wire.specs.declared.fault.WireFault.{WireFault}
+use Rattle.sd_check.specs.Check.{verdict, dacl_entries}
+use Rattle.sd_check.specs.Token.{TokenValue}
+use Rattle.sd_answer.specs.Answer.{line, verdict_line, fault_line, sddl_fault_line}
+use Rattle.sd_analysis.specs.Compare.{AreGains}
+use Rattle.sd_analysis.specs.declared.compare_report.Change.{Change}
+use Rattle.sd_analysis.specs.declared.who_has.Access.{Access}
+use Rattle.sd_check.specs.declared.token.GroupState.{GroupState}
+use Rattle.sd_answer.specs.Compare.{compare_text}
+use Rattle.sd_answer.specs.Lint.{IsLintText}
+use Rattle.sd_answer.specs.Who.{who_text}
+use Rattle.sd_answer.specs.Why.{why_text}
+use Rattle.sd_answer.specs.Word.{texts}
+use Rattle.sd_commands.specs.Analysis.{AreAccesses, IsBaseIn, IsFirstNoGroupIn, compare_outcome, parts_in, rights_asked}
+use Rattle.sd_commands.specs.Bytes.{bytes_read, form_name, has_sacl, without_sacl}
+use Rattle.sd_usage.specs.declared.row.Question.{Question}
+use Rattle.sd_usage.specs.declared.row.Question.TheVariants as questions
+use Rattle.sd_commands.specs.Rights.{rights_line}
+use Rattle.sd_commands.specs.Told.{fault_text, sacl_note, told_line, wire_fault_text, word_argument, word_at}
+use Rattle.sd_commands.specs.Told.{IsStateReason, IsWordReason}
+use Rattle.sd_commands.specs.Words.{IsTokenIn, IsFirstNoWordIn}
+use Rattle.sd_commands.specs.declared.answer.Answer.{Answer}
+use Rattle.sd_commands.specs.declared.answer.Outcome.{Outcome}
+use Rattle.sd_commands.specs.declared.answer.Outcome.TheVariants.{Done, Refused}
+use Rattle.sd_commands.specs.declared.settings.Settings.{Settings}
+use Rattle.sd_commands.specs.declared.verdict.Form.{Form}
+use Rattle.sd_commands.specs.declared.verdict.Form.TheVariants.{Short, Explained}
+
+-- ---- lines
+
+abbrev pub verdict_outcome : Verdict → Outcome
+verdict_outcome (Granted mask) = Done
+verdict_outcome (Denied missing) = Refused
+verdict_outcome (Reserved mask) = Refused
+verdict_outcome EmptyRequest = Refused
+
+-- the line for bytes that hold no descriptor
+abbrev pub wire_fault_line : WireFault → List ℕ
+wire_fault_line fault = line (codes "fault wire " ++ wire_fault_text fault)
+
+-- the status behind an answer
+abbrev pub outcome_status : Outcome → ℕ
+outcome_status Done = 0
+outcome_status Refused = 1
+
+abbrev pub is_refusal : Outcome → Bool
+is_refusal Done = false
+is_refusal Refused = true
+
+-- ---- answers
+
+-- what is printed, what standard error is told beside it, and what came of it
+pub record AnswerValue : Type 0 where
+  pub printed : List ℕ
+  pub told : List ℕ
+  pub outcome : Outcome
+
+abbrev pub answer_of : Answer → AnswerValue
+answer_of answer = record {
+  printed = string_bytes answer.text;
+  told = string_bytes answer.told;
+  outcome = answer.outcome;
+}
+
+-- this text is printed, and what was asked for was done
+abbrev pub IsDone : List ℕ → AnswerValue → Type 0
+IsDone expected answer = (answer.printed ≡ expected) × (answer.told ≡ []) × (answer.outcome ≡ Done)
+
+-- this line of a fault is printed, and this is told of it
+abbrev pub IsFault : List ℕ → List ℕ → AnswerValue → Type 0
+IsFault expected told answer = (answer.printed ≡ expected) × (answer.told ≡ told) × (answer.outcome ≡ Refused)
+
+-- an argument's text has this first fault
+abbrev pub IsTextFault : {A : Type 0} → Grammar A → List ℕ → List ℕ → List ℕ → AnswerValue → Type 0
+IsTextFault grammar text expected argument answer =
+    (fault : TextFault) × (place : ℕ) × HasFault grammar text fault place
+    × IsFault expected (told_line argument (fault_text fault place)) answer
+
+-- ---- arguments
+
+-- the argument at the place, empty where there is none
+abbrev pub argument : List (Bor (List ℕ)) → ℕ → List ℕ
+argument arguments place = option_map_or (λ text. text.now) (slice_get arguments place) []
+
+-- ---- a descriptor's text
+
+-- the text is this descriptor's; whether the section of a SACL was left out
+abbrev pub IsRead : Settings → List ℕ → DescriptorValue → Bool → Type 0
+IsRead settings written d left_out = MatchBool settings.without_sacl
+    (Spells (sddl_without_sacl settings.domain) written (d, left_out))
+    (Spells (sddl_in settings.domain) written d × (left_out ≡ false))
+
+-- the first fault of the text
+abbrev pub IsUnreadAt : Settings → List ℕ → TextFault → ℕ → Type 0
+IsUnreadAt settings written fault place = MatchBool settings.without_sacl
+    (HasFault (sddl_without_sacl settings.domain) written fault place)
+    (HasFault (sddl_in settings.domain) written fault place)
+
+abbrev pub IsUnread : Settings → List ℕ → TextError → Type 0
+IsUnread settings written (Fault fault place) = IsUnreadAt settings written fault place
+IsUnread settings written Memory = Unit {0}
+
+-- the fault of the argument of this name is printed
+abbrev pub AnswersSddlFault : List ℕ → Settings → List ℕ → AnswerValue → Type 0
+AnswersSddlFault argument settings written answer =
+    (fault : TextFault) × (place : ℕ) × IsUnreadAt settings written fault place
+    × IsFault (sddl_fault_line fault place) (told_line argument (fault_text fault place)) answer
+
+-- what is answered otherwise, and where a SACL was left out, that is told first
+abbrev pub Noting : List ℕ → Bool → (AnswerValue → Type 0) → AnswerValue → Type 0
+Noting argument left_out Answers answer =
+    (inner : AnswerValue) × Answers inner × (answer ≡ record inner { told = sacl_note argument left_out ++ inner.told })
+
+-- what is answered of the descriptor that the argument of this name is, or the fault of its text
+abbrev pub AnswersOfArgument : List ℕ → Settings → List ℕ → (DescriptorValue → AnswerValue → Type 0) → AnswerValue
+    → Type 0
+AnswersOfArgument argument settings written Answers answer =
+    ((d : DescriptorValue) × (left_out : Bool) × IsRead settings written d left_out
+    × Noting argument left_out (Answers d) answer)
+    ⊎ AnswersSddlFault argument settings written answer
+
+abbrev pub AnswersOfText : Settings → List ℕ → (DescriptorValue → AnswerValue → Type 0) → AnswerValue → Type 0
+AnswersOfText settings written Answers answer = AnswersOfArgument (codes "SDDL") settings written Answers answer
+
+-- ---- verdicts
+
+-- the verdict's line, or with it the reasons
+abbrev pub form_text : Settings → Form → DescriptorValue → TokenValue → ℕ → List ℕ
+form_text settings Short d token asked = verdict_line
+    (verdict d.owner (dacl_entries d.dacl) settings.mapping token asked)
+form_text settings Explained d token asked = why_text settings.mapping settings.spelling d token asked
+
+-- the verdict is printed, in this form
+abbrev pub IsVerdict : Settings → Form → DescriptorValue → TokenValue → ℕ → AnswerValue → Type 0
+IsVerdict settings form d token asked answer =
+    (answer.printed ≡ form_text settings form d token asked)
+    × (answer.told ≡ [])
+    × (answer.outcome ≡ verdict_outcome (verdict d.owner (dacl_entries d.dacl) settings.mapping token asked))
+
+-- the first of the words that is none, and why
+abbrev pub IsWordFault : Settings → List (List ℕ) → AnswerValue → Type 0
+IsWordFault settings words answer =
+    (place : ℕ) × IsFirstNoWordIn settings.domain words place
+    × (reason : List ℕ) × IsWordReason settings.domain (word_at words place) reason
+    × IsFault (fault_line (codes "token")) (told_line (word_argument place (word_at words place)) reason) answer
+
+-- the words make a token, for which this is the verdict; or one of them is no word
+abbrev pub AnswersWords : Settings → Form → DescriptorValue → SidValue → ℕ → List (Bor (List ℕ)) → AnswerValue → Type 0
+AnswersWords settings form d user asked words answer =
+    ((token : TokenValue) × IsTokenIn settings.domain user (texts words) token
+    × IsVerdict settings form d token asked answer)
+    ⊎ IsWordFault settings (texts words) answer
+
+abbrev pub AnswersMask : Settings → Form → DescriptorValue → SidValue → List ℕ → List (Bor (List ℕ)) → AnswerValue
+    → Type 0
+AnswersMask settings form d user mask words answer =
+    ((asked : ℕ) × Spells mask_text mask asked × AnswersWords settings form d user asked words answer)
+    ⊎ IsTextFault mask_text mask (fault_line (codes "mask")) (codes "MASK") answer
+
+abbrev pub AnswersUser : Settings → Form → List ℕ → List ℕ → List (Bor (List ℕ)) → DescriptorValue → AnswerValue
+    → Type 0
+AnswersUser settings form user mask words d answer =
+    ((sid : SidValue) × Spells (sid_text_in settings.domain) user sid
+    × AnswersMask settings form d sid mask words answer)
+    ⊎ IsTextFault (sid_text_in settings.domain) user (fault_line (codes "sid")) (codes "USER") answer
+
+abbrev pub AnswersVerdictOf : Settings → Form → List ℕ → List ℕ → List ℕ → List (Bor (List ℕ)) → AnswerValue → Type 0
+AnswersVerdictOf settings form written user mask words answer = AnswersOfText settings written
+    (AnswersUser settings form user mask words) answer
+
+-- the arguments after the descriptor are the user, the mask and words
+abbrev pub AnswersVerdict : Settings → Form → List ℕ → List (Bor (List ℕ)) → AnswerValue → Type 0
+AnswersVerdict settings form written arguments answer =
+    AnswersVerdictOf settings form written (argument arguments 0) (argument arguments 1) (drop 2 arguments) answer
+
+-- ---- other forms
+
+-- the canonical text
+abbrev pub AnswersPrint : Settings → List ℕ → AnswerValue → Type 0
+AnswersPrint settings written answer = AnswersOfText settings written (λ d. IsDone (line (canon d))) answer
+
+-- the self-relative form in hexadecimal
+abbrev pub AnswersToBinary : Settings → List ℕ → AnswerValue → Type 0
+AnswersToBinary settings written answer = AnswersOfText settings written
+    (λ d. IsDone (line (encode_lower (wire_of d)))) answer
+
+-- the canonical text of what bytes hold, or their fault
+abbrev pub AnswersRead : Result DescriptorValue WireFault → AnswerValue → Type 0
+AnswersRead (Ok d) answer = IsDone (line (canon d)) answer
+AnswersRead (Err fault) answer = IsFault (wire_fault_line fault)
+    (told_line (codes "BYTES") (wire_fault_text fault)) answer
+
+-- the same of bytes in which a SACL is passed over, where that is asked for
+abbrev pub AnswersBytes : Settings → List ℕ → AnswerValue → Type 0
+AnswersBytes settings bytes answer = MatchBool settings.without_sacl
+    (Noting (codes "BYTES") (has_sacl bytes) (AnswersRead (descriptor_read (without_sacl bytes))) answer)
+    (AnswersRead (descriptor_read bytes) answer)
+
+-- the same of the bytes that a text spells, or that it spells none
+abbrev pub AnswersDecoded : Settings → Result (List ℕ) (List ℕ) → AnswerValue → Type 0
+AnswersDecoded settings (Ok bytes) answer = AnswersBytes settings bytes answer
+AnswersDecoded settings (Err reason) answer = IsFault (fault_line (form_name settings.bytes))
+    (told_line (codes "BYTES") reason) answer
+
+abbrev pub AnswersFromBinary : Settings → List ℕ → AnswerValue → Type 0
+AnswersFromBinary settings written answer = AnswersDecoded settings (bytes_read settings.bytes written) answer
+
+-- ---- whom rights are granted to, and changes
+
+-- the first of the words that is no group, and why
+abbrev pub IsGroupFault : Settings → List (Bor (List ℕ)) → AnswerValue → Type 0
+IsGroupFault settings words answer =
+    (place : ℕ) × IsFirstNoGroupIn settings.domain (texts words) place
+    × (reason : List ℕ) × IsStateReason settings.domain (argument words place) reason
+    × IsFault (fault_line (codes "token")) (told_line (word_argument place (argument words place)) reason) answer
+
+-- the words are a base, of which this is answered; or one of them is no group
+abbrev pub AnswersOfBase : Settings → List (Bor (List ℕ)) → (List (SidValue × GroupState) → AnswerValue → Type 0)
+    → AnswerValue → Type 0
+AnswersOfBase settings words Answers answer =
+    ((base : List (SidValue × GroupState)) × IsBaseIn settings.domain (texts words) base × Answers base answer)
+    ⊎ IsGroupFault settings words answer
+
+-- whom the rights are granted to is printed
+abbrev pub PrintsWho : Settings → ℕ → DescriptorValue → List (SidValue × GroupState) → AnswerValue → Type 0
+PrintsWho settings asked d base answer =
+    (accesses : List Access) × AreAccesses settings.mapping d base (rights_asked settings.mapping asked) accesses
+    × IsDone (who_text settings.spelling accesses) answer
+
+abbrev pub AnswersWhoMask : Settings → List ℕ → List (Bor (List ℕ)) → DescriptorValue → AnswerValue → Type 0
+AnswersWhoMask settings mask words d answer =
+    ((asked : ℕ) × Spells mask_text mask asked × AnswersOfBase settings words (PrintsWho settings asked d) answer)
+    ⊎ IsTextFault mask_text mask (fault_line (codes "mask")) (codes "MASK") answer
+
+abbrev pub AnswersWhoOf : Settings → List ℕ → List ℕ → List (Bor (List ℕ)) → AnswerValue → Type 0
+AnswersWhoOf settings written mask words answer = AnswersOfText settings written
+    (AnswersWhoMask settings mask words) answer
+
+-- the arguments after the descriptor are the mask and a base
+abbrev pub AnswersWho : Settings → List ℕ → List (Bor (List ℕ)) → AnswerValue → Type 0
+AnswersWho settings written arguments answer = AnswersWhoOf settings written (argument arguments 0)
+    (drop 1 arguments) answer
+
+-- what tokens gain and lose is printed, or that they are the same
+abbrev pub PrintsComparison : Settings → DescriptorValue → DescriptorValue → List (SidValue × GroupState) → AnswerValue
+    → Type 0
+PrintsComparison settings old new base answer =
+    (gained : List Change) × (lost : List Change)
+    × AreGains settings.mapping base (parts_in old) (parts_in new) gained
+    × AreGains settings.mapping base (parts_in new) (parts_in old) lost
+    × (answer.printed ≡ compare_text settings.spelling (parts_in old) (parts_in new) gained lost)
+    × (answer.told ≡ []) × (answer.outcome ≡ compare_outcome gained lost)
+
+abbrev pub AnswersNew : Settings → List ℕ → List (Bor (List ℕ)) → DescriptorValue → AnswerValue → Type 0
+AnswersNew settings new words old answer =
+    AnswersOfArgument (codes "NEW") settings new
+    (λ d. AnswersOfBase settings words (PrintsComparison settings old d)) answer
+
+abbrev pub AnswersCompareOf : Settings → List ℕ → List ℕ → List (Bor (List ℕ)) → AnswerValue → Type 0
+AnswersCompareOf settings old new words answer = AnswersOfArgument (codes "OLD") settings old
+    (AnswersNew settings new words) answer
+
+-- the arguments after the old descriptor are the new one and a base
+abbrev pub AnswersCompare : Settings → List ℕ → List (Bor (List ℕ)) → AnswerValue → Type 0
+AnswersCompare settings old arguments answer = AnswersCompareOf settings old (argument arguments 0)
+    (drop 1 arguments) answer
+
+-- ---- findings
+
+-- or that there is none, and whether there is
+abbrev pub or_clean : List ℕ → List ℕ
+or_clean [] = line (codes "clean")
+or_clean (b ∷ bs) = b ∷ bs
+
+abbrev pub lint_outcome : List ℕ → Outcome
+lint_outcome [] = Done
+lint_outcome (b ∷ bs) = Refused
+
+-- the findings are printed, or that there are none
+abbrev pub IsLinted : List ℕ → AnswerValue → Type 0
+IsLinted lines answer = (answer.printed ≡ or_clean lines) × (answer.told ≡ []) × (answer.outcome ≡ lint_outcome lines)
+
+abbrev pub PrintsFindings : Settings → DescriptorValue → List (SidValue × GroupState) → AnswerValue → Type 0
+PrintsFindings settings d base answer = (lines : List ℕ) × IsLintText settings.mapping base d lines
+    × IsLinted lines answer
+
+-- the arguments after the descriptor are a base
+abbrev pub AnswersLint : Settings → List ℕ → List (Bor (List ℕ)) → AnswerValue → Type 0
+AnswersLint settings written words answer = AnswersOfText settings written
+    (λ d. AnswersOfBase settings words (PrintsFindings settings d)) answer
+
+-- ---- rights
+
+-- the mask's rights by name
+abbrev pub AnswersRights : Settings → List ℕ → AnswerValue → Type 0
+AnswersRights settings mask answer =
+    ((asked : ℕ) × Spells mask_text mask asked × IsDone (rights_line settings.kind asked) answer)
+    ⊎ IsTextFault mask_text mask (fault_line (codes "mask")) (codes "MASK") answer
+
+-- ---- commands
+
+-- what a command answers to a text and the arguments after it
+abbrev pub AnswersQuestion : Settings → Question → List ℕ → List (Bor (List ℕ)) → AnswerValue → Type 0
+AnswersQuestion settings questions.Verdict text arguments answer = AnswersVerdict settings Short text arguments answer
+AnswersQuestion settings questions.Why text arguments answer = AnswersVerdict settings Explained text arguments answer
+AnswersQuestion settings questions.Who text arguments answer = AnswersWho settings text arguments answer
+AnswersQuestion settings questions.Compare text arguments answer = AnswersCompare settings text arguments answer
+AnswersQuestion settings questions.Lint text arguments answer = AnswersLint settings text arguments answer
+AnswersQuestion settings questions.Print text arguments answer = AnswersPrint settings text answer
+AnswersQuestion settings questions.ToBinary text arguments answer = AnswersToBinary settings text answer
+AnswersQuestion settings questions.FromBinary text arguments answer = AnswersFromBinary settings text answer
+AnswersQuestion settings questions.Rights text arguments answer = AnswersRights settings text answer

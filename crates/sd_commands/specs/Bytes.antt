@@ -1,0 +1,98 @@
+-- Bytes as a text spells them, and a SACL in them that is passed over.
+use Rattle.std.specs.Prelude.{◌≡◌, ℕ, ◌+◌, ◌==◌, ◌&&◌, ◌||◌, nat_le, not, Bool, List, [], ◌∷◌, ◌++◌, length}
+use Rattle.std.specs.Prelude.{string_bytes, slice_index, slice_set, bit_and, Result, Ok, Err, if◌then◌else◌, codes}
+use Rattle.std.specs.Fmt.{decimal}
+use Rattle.std.specs.List.{slice_split}
+use Rattle.base64.specs.Engines.{standard}
+use Rattle.base64.specs.GeneralPurpose as base64
+use Rattle.base64.specs.declared.decode.DecodeError.{DecodeError}
+use Rattle.base64.specs.declared.decode.DecodeError.TheVariants.{InvalidByte, InvalidLength, InvalidLastSymbol}
+use Rattle.base64.specs.declared.decode.DecodeError.TheVariants.{InvalidPadding}
+use Rattle.hex.specs.Hex as hex
+use Rattle.hex.specs.declared.FromHexError.{FromHexError}
+use Rattle.hex.specs.declared.FromHexError.TheVariants.{InvalidHexCharacter, OddLength, InvalidStringLength}
+use Rattle.hex.specs.declared.FromHexError.TheVariants.{OutOfMemory}
+use Rattle.sd_commands.specs.declared.bytes.BytesError.{BytesError}
+use Rattle.sd_commands.specs.declared.bytes.BytesError.TheVariants.{NoBytes, Memory}
+use Rattle.sd_commands.specs.declared.settings.ByteForm.{ByteForm}
+use Rattle.sd_commands.specs.declared.settings.ByteForm.TheVariants.{Hex, Loose, Base64}
+
+-- why a text isn't bytes in its form: what is wrong with it, and where; what is missing is missing at its end
+abbrev pub hex_reason : List ℕ → FromHexError → List ℕ
+hex_reason text (InvalidHexCharacter c place) = codes "no digit at " ++ decimal place
+hex_reason text OddLength = codes "no second digit at " ++ decimal (length text)
+hex_reason text InvalidStringLength = codes "no bytes"
+hex_reason text OutOfMemory = codes "no bytes"
+
+abbrev pub base64_reason : List ℕ → DecodeError → List ℕ
+base64_reason text (InvalidByte place byte) = codes "no digit at " ++ decimal place
+base64_reason text (InvalidLength place) = codes "no end at " ++ decimal place
+base64_reason text (InvalidLastSymbol place symbol value) = codes "no last digit at " ++ decimal place
+base64_reason text InvalidPadding = codes "no padding at " ++ decimal (length text)
+
+abbrev pub reasoned : {E : Type 0} → (E → List ℕ) → Result (List ℕ) E → Result (List ℕ) (List ℕ)
+reasoned reason (Ok bytes) = Ok bytes
+reasoned reason (Err e) = Err (reason e)
+
+-- ---- hexadecimal with signs between bytes
+
+-- what may stand between two bytes: a tab, the end of a line, a space, a comma or a backslash
+abbrev pub is_between : ℕ → Bool
+is_between b = b == 9 || b == 10 || b == 13 || b == 32 || b == 44 || b == 92
+
+-- a part without one `0x` at its front
+abbrev pub digits_of : List ℕ → List ℕ
+digits_of [] = []
+digits_of (b ∷ []) = b ∷ []
+digits_of (a ∷ b ∷ digits) = if a == 48 && (b == 120 || b == 88) then digits else a ∷ b ∷ digits
+
+-- the bytes of the part that begins at this byte of the text, or that it spells none
+abbrev pub part_read : ℕ → List ℕ → Result (List ℕ) (List ℕ)
+part_read place part = reasoned (λ error. codes "no bytes at " ++ decimal place) (hex.decode_of (digits_of part))
+
+abbrev pub joined : Result (List ℕ) (List ℕ) → Result (List ℕ) (List ℕ) → Result (List ℕ) (List ℕ)
+joined (Ok bytes) (Ok more) = Ok (bytes ++ more)
+joined (Ok bytes) (Err reason) = Err reason
+joined (Err reason) more = Err reason
+
+-- the bytes of the parts, one behind the other, of which the first begins at this byte of the text; or why there are
+-- none
+unfoldable pub parts_read : ℕ → List (List ℕ) → Result (List ℕ) (List ℕ)
+parts_read place [] = Ok []
+parts_read place (part ∷ parts) = joined (part_read place part) (parts_read (place + length part + 1) parts)
+
+-- ---- by form
+
+-- the bytes that the text spells, or why it spells none
+abbrev pub bytes_read : ByteForm → List ℕ → Result (List ℕ) (List ℕ)
+bytes_read Hex text = reasoned (hex_reason text) (hex.decode_of text)
+bytes_read Loose text = parts_read 0 (slice_split is_between text)
+bytes_read Base64 text = reasoned (base64_reason text) (base64.decode_of standard text)
+
+abbrev pub IsBytesError : ByteForm → List ℕ → BytesError → Type 0
+IsBytesError form text (NoBytes reason) = bytes_read form text ≡ Err (string_bytes reason)
+IsBytesError form text Memory = Unit {0}
+
+abbrev pub IsPartError : ℕ → List ℕ → BytesError → Type 0
+IsPartError place part (NoBytes reason) = part_read place part ≡ Err (string_bytes reason)
+IsPartError place part Memory = Unit {0}
+
+-- what the text should have been
+abbrev pub form_name : ByteForm → List ℕ
+form_name Hex = codes "hex"
+form_name Loose = codes "hex"
+form_name Base64 = codes "base64"
+
+-- ---- a SACL
+
+-- the header of a descriptor tells of a SACL: SP is set, and OffsetSacl isn't 0 ([MS-DTYP] 2.4.6)
+abbrev pub has_sacl : List ℕ → Bool
+has_sacl bytes =
+    nat_le 20 (length bytes)
+    && not (bit_and (slice_index bytes 2) 0x10 == 0)
+    && not (slice_index bytes 12 == 0 && slice_index bytes 13 == 0 && slice_index bytes 14 == 0
+    && slice_index bytes 15 == 0)
+
+-- the same bytes, but that SP isn't set
+abbrev pub without_sacl : List ℕ → List ℕ
+without_sacl bytes = if has_sacl bytes then slice_set bytes 2 (bit_and (slice_index bytes 2) 0xEF) else bytes

@@ -1,0 +1,108 @@
+-- The names of a mask's rights, by kind of object ([MS-DTYP] 2.4.3), as winnt.h and winsvc.h have them.
+use Rattle.std.specs.Prelude.{ℕ, Bool, true, false, ◌&&◌, ◌==◌, if◌then◌else◌, List, [], ◌∷◌, ◌++◌, Option, Some, None}
+use Rattle.std.specs.Prelude.{codes}
+use Rattle.std.specs.Borrow.{Bor}
+use Rattle.sd_answer.specs.Answer.{line, mask_digits}
+use Rattle.sd_commands.specs.declared.mapping.ObjectKind.{ObjectKind}
+use Rattle.sd_commands.specs.declared.mapping.ObjectKind.TheVariants.{File, Key, Service, Process}
+use Rattle.sd_text.specs.Grammar.{Name}
+use Rattle.sd_text.specs.MaskNames.{named_from}
+use Rattle.sd_text.specs.Rights.{bits}
+use Rattle.sd_usage.specs.Table.{first_of}
+
+-- a name for bits, and the kind of object that has it, or none where every object does
+abbrev pub NamedBits : Type 0
+NamedBits = Name ℕ × Option ObjectKind
+
+-- of a file, a registry key, a service, a process, and of every object
+abbrev pub file : List ℕ → ℕ → NamedBits
+file letters mask = (bits letters mask, Some File)
+
+abbrev pub key : List ℕ → ℕ → NamedBits
+key letters mask = (bits letters mask, Some Key)
+
+abbrev pub service : List ℕ → ℕ → NamedBits
+service letters mask = (bits letters mask, Some Service)
+
+abbrev pub process : List ℕ → ℕ → NamedBits
+process letters mask = (bits letters mask, Some Process)
+
+abbrev pub any : List ℕ → ℕ → NamedBits
+any letters mask = (bits letters mask, None)
+
+-- the rights, one bit each
+unfoldable pub rights : List NamedBits
+rights =
+    file (codes "FILE_READ_DATA") 0x1 ∷ file (codes "FILE_WRITE_DATA") 0x2 ∷ file (codes "FILE_APPEND_DATA") 0x4
+    ∷ file (codes "FILE_READ_EA") 0x8 ∷ file (codes "FILE_WRITE_EA") 0x10 ∷ file (codes "FILE_EXECUTE") 0x20
+    ∷ file (codes "FILE_DELETE_CHILD") 0x40 ∷ file (codes "FILE_READ_ATTRIBUTES") 0x80
+    ∷ file (codes "FILE_WRITE_ATTRIBUTES") 0x100
+    ∷ key (codes "KEY_QUERY_VALUE") 0x1 ∷ key (codes "KEY_SET_VALUE") 0x2 ∷ key (codes "KEY_CREATE_SUB_KEY") 0x4
+    ∷ key (codes "KEY_ENUMERATE_SUB_KEYS") 0x8 ∷ key (codes "KEY_NOTIFY") 0x10 ∷ key (codes "KEY_CREATE_LINK") 0x20
+    ∷ key (codes "KEY_WOW64_64KEY") 0x100 ∷ key (codes "KEY_WOW64_32KEY") 0x200
+    ∷ service (codes "SERVICE_QUERY_CONFIG") 0x1 ∷ service (codes "SERVICE_CHANGE_CONFIG") 0x2
+    ∷ service (codes "SERVICE_QUERY_STATUS") 0x4 ∷ service (codes "SERVICE_ENUMERATE_DEPENDENTS") 0x8
+    ∷ service (codes "SERVICE_START") 0x10 ∷ service (codes "SERVICE_STOP") 0x20
+    ∷ service (codes "SERVICE_PAUSE_CONTINUE") 0x40 ∷ service (codes "SERVICE_INTERROGATE") 0x80
+    ∷ service (codes "SERVICE_USER_DEFINED_CONTROL") 0x100
+    ∷ process (codes "PROCESS_TERMINATE") 0x1 ∷ process (codes "PROCESS_CREATE_THREAD") 0x2
+    ∷ process (codes "PROCESS_SET_SESSIONID") 0x4 ∷ process (codes "PROCESS_VM_OPERATION") 0x8
+    ∷ process (codes "PROCESS_VM_READ") 0x10 ∷ process (codes "PROCESS_VM_WRITE") 0x20
+    ∷ process (codes "PROCESS_DUP_HANDLE") 0x40 ∷ process (codes "PROCESS_CREATE_PROCESS") 0x80
+    ∷ process (codes "PROCESS_SET_QUOTA") 0x100 ∷ process (codes "PROCESS_SET_INFORMATION") 0x200
+    ∷ process (codes "PROCESS_QUERY_INFORMATION") 0x400 ∷ process (codes "PROCESS_SUSPEND_RESUME") 0x800
+    ∷ process (codes "PROCESS_QUERY_LIMITED_INFORMATION") 0x1000
+    ∷ process (codes "PROCESS_SET_LIMITED_INFORMATION") 0x2000
+    ∷ any (codes "DELETE") 0x10000 ∷ any (codes "READ_CONTROL") 0x20000 ∷ any (codes "WRITE_DAC") 0x40000
+    ∷ any (codes "WRITE_OWNER") 0x80000 ∷ any (codes "SYNCHRONIZE") 0x100000
+    ∷ any (codes "ACCESS_SYSTEM_SECURITY") 0x1000000 ∷ any (codes "MAXIMUM_ALLOWED") 0x2000000
+    ∷ any (codes "GENERIC_ALL") 0x10000000 ∷ any (codes "GENERIC_EXECUTE") 0x20000000
+    ∷ any (codes "GENERIC_WRITE") 0x40000000 ∷ any (codes "GENERIC_READ") 0x80000000 ∷ []
+
+-- what Windows lists as the permissions of a file, and the other masks that winnt.h and winsvc.h name
+unfoldable pub permissions : List NamedBits
+permissions =
+    file (codes "Full control") 0x1F01FF ∷ file (codes "Modify") 0x1301BF ∷ file (codes "Read & execute") 0x1200A9
+    ∷ file (codes "Read") 0x120089 ∷ file (codes "Write") 0x100116 ∷ file (codes "FILE_GENERIC_WRITE") 0x120116
+    ∷ file (codes "FILE_GENERIC_EXECUTE") 0x1200A0 ∷ key (codes "KEY_ALL_ACCESS") 0xF003F
+    ∷ key (codes "KEY_READ") 0x20019 ∷ key (codes "KEY_WRITE") 0x20006 ∷ service (codes "SERVICE_ALL_ACCESS") 0xF01FF
+    ∷ process (codes "PROCESS_ALL_ACCESS") 0x1FFFFF ∷ []
+
+abbrev pub is_same_kind : ObjectKind → ObjectKind → Bool
+is_same_kind File File = true
+is_same_kind Key Key = true
+is_same_kind Service Service = true
+is_same_kind Process Process = true
+is_same_kind kind other = false
+
+-- whether a name is one for objects of this kind; of no kind only that of every object is
+abbrev pub is_of : Option ObjectKind → Option ObjectKind → Bool
+is_of kind None = true
+is_of None (Some other) = false
+is_of (Some kind) (Some other) = is_same_kind kind other
+
+abbrev pub names_of : Option ObjectKind → List NamedBits → List (Name ℕ)
+names_of kind [] = []
+names_of kind (named ∷ rest) = if is_of kind named.1 then named.0 ∷ names_of kind rest else names_of kind rest
+
+-- the rights, as FILE_READ_DATA+DELETE, and bits without a name as a number after them
+abbrev pub right_names : Option ObjectKind → ℕ → List ℕ
+right_names kind mask = named_from (names_of kind rights) mask 0 []
+
+-- the permission that is just this mask
+abbrev pub permission_among : List NamedBits → Option ObjectKind → ℕ → Option (List ℕ)
+permission_among rows kind mask =
+    first_of (λ named. is_of kind named.1 && named.0.stands_for == mask) (λ named. named.0.letters) rows
+
+abbrev pub permission_text : Option (List ℕ) → List ℕ
+permission_text None = []
+permission_text (Some name) = codes " " ++ name
+
+abbrev pub rights_line : Option ObjectKind → ℕ → List ℕ
+rights_line kind mask =
+    line (mask_digits mask ++ permission_text (permission_among permissions kind mask) ++ codes ": "
+    ++ right_names kind mask)
+
+-- a row of a table of the code
+abbrev pub named_bits : Bor (List ℕ) × ℕ × Option ObjectKind → NamedBits
+named_bits row = (bits row.0.now row.1, row.2)

@@ -1,0 +1,74 @@
+-- What standard error is told beside an answer: which argument isn't read, and why; or that a SACL is left out.
+use Rattle.std.specs.Prelude.{◌≡◌, ◌⊎◌, ℕ, ◌+◌, ◌==◌, ◌||◌, ◌&&◌, nat_le, nat_lt, Bool, false, MatchBool, List, [], ◌∷◌}
+use Rattle.std.specs.Prelude.{◌++◌, get_or, take, Option, if◌then◌else◌, codes}
+use Rattle.std.specs.Fmt.{decimal, digits}
+use Rattle.std.specs.List.{flat_map}
+use Rattle.std.specs.Char.{encode_utf8}
+use Rattle.std.specs.Str.{chars}
+use Rattle.sd_sid.specs.Sid.{SidValue}
+use Rattle.sd_text.specs.Fault.{number_of, name_of}
+use Rattle.sd_text.specs.Grammar.{Spells, HasFault}
+use Rattle.sd_text.specs.Sid.{sid_text_in}
+use Rattle.sd_text.specs.declared.domain.Domain.{Domain}
+use Rattle.sd_text.specs.declared.fault.TextFault.{TextFault}
+use Rattle.sd_wire.specs.Fault.{wire_fault_number, wire_fault_name}
+use Rattle.sd_wire.specs.declared.fault.WireFault.{WireFault}
+use Rattle.sd_answer.specs.Answer.{line}
+use Rattle.sd_commands.specs.Words.{sid_length}
+
+-- what is wrong with an argument
+abbrev pub told_line : List ℕ → List ℕ → List ℕ
+told_line argument what = line (codes "sdstore: " ++ argument ++ codes ": " ++ what)
+
+-- the first fault of a text, by number and name, and its byte
+abbrev pub fault_text : TextFault → ℕ → List ℕ
+fault_text fault place = decimal (number_of fault) ++ codes " " ++ name_of fault ++ codes " at " ++ decimal place
+
+-- the first test that bytes don't pass
+abbrev pub wire_fault_text : WireFault → List ℕ
+wire_fault_text fault = decimal (wire_fault_number fault) ++ codes " " ++ wire_fault_name fault
+
+-- a SACL was in the argument, and was left out
+abbrev pub sacl_note : List ℕ → Bool → List ℕ
+sacl_note argument left_out = if left_out then told_line argument (codes "the SACL is left out") else []
+
+-- ---- words
+
+-- a control character (C0, DEL or C1), or one that separates lines or paragraphs
+abbrev pub is_hidden : ℕ → Bool
+is_hidden c = nat_lt c 32 || (nat_le 127 c && nat_le c 159) || c == 8232 || c == 8233
+
+-- a character as a message shows it: a hidden one by its number
+abbrev pub shown_char : ℕ → List ℕ
+shown_char c = if is_hidden c then codes "\\u{" ++ digits 16 false c ++ codes "}" else encode_utf8 c
+
+abbrev pub shown : List ℕ → List ℕ
+shown word = flat_map shown_char (chars word)
+
+-- which WORD it is, counted from 1
+abbrev pub word_argument : ℕ → List ℕ → List ℕ
+word_argument place word = codes "WORD " ++ decimal (place + 1) ++ codes ", \"" ++ shown word ++ codes "\""
+
+abbrev pub begins_by_plus : List ℕ → Bool
+begins_by_plus [] = false
+begins_by_plus (b ∷ bs) = b == 43
+
+-- why a text isn't what it should be: the first fault of its SID, or where it is one, that it isn't a fit one
+abbrev pub IsSidReason : Option Domain → List ℕ → List ℕ → List ℕ → Type 0
+IsSidReason domain unfit text reason =
+    ((sid : SidValue) × Spells (sid_text_in domain) text sid × (reason ≡ unfit))
+    ⊎ ((fault : TextFault) × (place : ℕ) × HasFault (sid_text_in domain) text fault place
+    × (reason ≡ fault_text fault place))
+
+-- why a text is no SID with a state
+abbrev pub IsStateReason : Option Domain → List ℕ → List ℕ → Type 0
+IsStateReason domain word reason = IsSidReason domain (codes "no such state") (take (sid_length word) word) reason
+
+-- why a text is no word
+abbrev pub IsWordReason : Option Domain → List ℕ → List ℕ → Type 0
+IsWordReason domain word reason = MatchBool (begins_by_plus word) (reason ≡ codes "no such privilege")
+    (IsStateReason domain word reason)
+
+-- the word at a place
+abbrev pub word_at : List (List ℕ) → ℕ → List ℕ
+word_at words place = get_or words place []

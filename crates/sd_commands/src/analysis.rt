@@ -1,0 +1,264 @@
+//! The answers to `who` and `compare`: whom rights are granted to, and what a change of a descriptor grants and takes.
+ghost use Rattle.std.specs.Prelude.{◌≡◌, ◌<◌, IfOk, length};
+ghost use Rattle.sd_acl.specs.Descriptor.{descriptor_of};
+ghost use Rattle.sd_analysis.specs.Sufficient.{parts_of};
+ghost use Rattle.sd_answer.specs.Word.{texts};
+ghost use Rattle.sd_check.specs.Check.{dacl_entries, entries_of};
+ghost use Rattle.sd_commands.specs.Analysis.{IsFirstNoGroupIn, compare_outcome, parts_in, rights_asked};
+ghost use Rattle.sd_commands.specs.Answer.{AnswersCompare, AnswersCompareOf, AnswersNew, AnswersOfBase};
+ghost use Rattle.sd_commands.specs.Answer.{AnswersWho, AnswersWhoMask, AnswersWhoOf, IsGroupFault, PrintsComparison};
+ghost use Rattle.sd_commands.specs.Answer.{PrintsWho, answer_of};
+
+use crate::answer::{Answer, Outcome, fault, sddl_fault, text_fault};
+use crate::descriptor::{noting, read_text};
+use crate::settings::Settings;
+use crate::told::{state_reason, told_line, word_argument};
+use crate::words::{argument, arguments_from, base_in};
+use sd_acl::{Dacl, Descriptor};
+use sd_analysis::{Base, Comparison, DescriptorRef, compare, who};
+use sd_answer::{TokenError, compare_text, who_text};
+use sd_check::{DaclRef, GroupState};
+use sd_sid::{GenericMapping, Mask, Sid};
+use sd_text::{TextError, read_mask};
+use std::alloc::{AllocError, Global};
+
+/// MAXIMUM_ALLOWED's place in a mask, and all rights of an object ([MS-DTYP] 2.4.3).
+const MAXIMUM_ALLOWED: u32 = 25;
+
+const OBJECT_RIGHTS: Mask = Mask(0x001F_FFFF);
+
+/// Whom rights are granted to by a descriptor's text, where the mask and the base are the arguments after it; or the
+/// fault of the first from the left that is invalid.
+pub(crate) fn answer_who(
+    alloc: Global,
+    settings: Settings,
+    sddl: &str,
+    arguments: &[&str],
+) -> Result<Answer, AllocError>
+    ensures { IfOk result (λ answer. AnswersWho settings sddl.now arguments.now (answer_of answer)) }
+{
+    let mask = argument(arguments, 0);
+    let words = arguments_from(arguments, 1);
+    who_on_text(alloc, settings, sddl, mask, words)
+}
+
+fn who_on_text(
+    alloc: Global,
+    settings: Settings,
+    sddl: &str,
+    mask: &str,
+    words: &[&str],
+) -> Result<Answer, AllocError>
+    ensures { IfOk result (λ answer. AnswersWhoOf settings sddl.now mask.now words.now (answer_of answer)) }
+{
+    let read = match read_text(alloc, settings, sddl) {
+        Ok(read) => read,
+        Err(TextError::Fault { fault, place }) => {
+            return sddl_fault(alloc, "SDDL", fault, place);
+        }
+        Err(TextError::Memory) => return Err(AllocError),
+    };
+    let answer = who_on_mask(alloc, settings, &read.descriptor, mask, words)?;
+    Ok(noting(alloc, "SDDL", read.left_out, answer)?)
+}
+
+fn who_on_mask(
+    alloc: Global,
+    settings: Settings,
+    descriptor: &Descriptor,
+    mask: &str,
+    words: &[&str],
+) -> Result<Answer, AllocError>
+    ensures { IfOk result (λ answer. AnswersWhoMask settings mask.now words.now (descriptor_of descriptor.now)
+        (answer_of answer)) }
+{
+    match read_mask(mask) {
+        Ok(asked) => who_with_base(alloc, settings, descriptor, asked, words),
+        Err(TextError::Fault { fault, place }) => text_fault(alloc, "mask", "MASK", fault, place),
+        Err(TextError::Memory) => Err(AllocError),
+    }
+}
+
+fn who_with_base(
+    alloc: Global,
+    settings: Settings,
+    descriptor: &Descriptor,
+    asked: Mask,
+    words: &[&str],
+) -> Result<Answer, AllocError>
+    ensures { IfOk result
+        (λ answer. AnswersOfBase settings words.now (PrintsWho settings asked (descriptor_of descriptor.now))
+        (answer_of answer)) }
+{
+    match base_in(alloc, settings.domain, words) {
+        Ok(groups) => who_lines(alloc, settings, descriptor, asked, &groups),
+        Err(TokenError::NoWord { place }) => group_fault(alloc, settings, words, place),
+        Err(TokenError::Memory) => Err(AllocError),
+    }
+}
+
+fn who_lines(
+    alloc: Global,
+    settings: Settings,
+    descriptor: &Descriptor,
+    asked: Mask,
+    groups: &[(Sid, GroupState)],
+) -> Result<Answer, AllocError>
+    ensures { IfOk result (λ answer. PrintsWho settings asked (descriptor_of descriptor.now) groups.now
+        (answer_of answer)) }
+{
+    let (owner, dacl) = (descriptor.owner, dacl_ref(&descriptor.dacl));
+    let base = Base { groups };
+    let rights = rights_asked(&settings.mapping, asked);
+    let accesses = who(alloc, owner, dacl, &settings.mapping, &base, rights)?;
+    Ok(Answer::done(alloc, who_text(alloc, settings.spelling, &accesses)?))
+}
+
+/// The rights that are asked about: all, for MAXIMUM_ALLOWED.
+fn rights_asked(mapping: &GenericMapping, asked: Mask) -> Mask
+    ensures { result ≡ rights_asked mapping.now asked }
+{
+    if asked.holds(MAXIMUM_ALLOWED) {
+        OBJECT_RIGHTS
+    } else {
+        mapping.map(asked)
+    }
+}
+
+/// The answer to words of which the one at the place is the first that is no group.
+pub(crate) fn group_fault(
+    alloc: Global,
+    settings: Settings,
+    words: &[&str],
+    place: usize,
+) -> Result<Answer, AllocError>
+    requires first { IsFirstNoGroupIn settings.domain (texts words.now) place }
+    requires within { place < length words.now }
+    ensures { IfOk result (λ answer. IsGroupFault settings words.now (answer_of answer)) }
+{
+    let word = argument(words, place);
+    let argument = word_argument(alloc, place, word)?;
+    let reason = state_reason(alloc, settings.domain, word)?;
+    fault(
+        alloc,
+        "token",
+        told_line(alloc, argument.as_str(), reason.as_str())?,
+    )
+}
+
+/// What tokens gain and lose where the new descriptor takes the place of the old one, where the new one and the base
+/// are the arguments after the old one; or the fault of the first from the left that is invalid.
+pub(crate) fn answer_compare(
+    alloc: Global,
+    settings: Settings,
+    old: &str,
+    arguments: &[&str],
+) -> Result<Answer, AllocError>
+    ensures { IfOk result (λ answer. AnswersCompare settings old.now arguments.now (answer_of answer)) }
+{
+    let new = argument(arguments, 0);
+    let words = arguments_from(arguments, 1);
+    compare_on_texts(alloc, settings, old, new, words)
+}
+
+fn compare_on_texts(
+    alloc: Global,
+    settings: Settings,
+    old: &str,
+    new: &str,
+    words: &[&str],
+) -> Result<Answer, AllocError>
+    ensures { IfOk result (λ answer. AnswersCompareOf settings old.now new.now words.now (answer_of answer)) }
+{
+    let read = match read_text(alloc, settings, old) {
+        Ok(read) => read,
+        Err(TextError::Fault { fault, place }) => return sddl_fault(alloc, "OLD", fault, place),
+        Err(TextError::Memory) => return Err(AllocError),
+    };
+    let answer = compare_with(alloc, settings, &read.descriptor, new, words)?;
+    Ok(noting(alloc, "OLD", read.left_out, answer)?)
+}
+
+fn compare_with(
+    alloc: Global,
+    settings: Settings,
+    old: &Descriptor,
+    new: &str,
+    words: &[&str],
+) -> Result<Answer, AllocError>
+    ensures { IfOk result (λ answer. AnswersNew settings new.now words.now (descriptor_of old.now) (answer_of answer)) }
+{
+    let read = match read_text(alloc, settings, new) {
+        Ok(read) => read,
+        Err(TextError::Fault { fault, place }) => return sddl_fault(alloc, "NEW", fault, place),
+        Err(TextError::Memory) => return Err(AllocError),
+    };
+    let answer = compare_with_base(alloc, settings, old, &read.descriptor, words)?;
+    Ok(noting(alloc, "NEW", read.left_out, answer)?)
+}
+
+fn compare_with_base(
+    alloc: Global,
+    settings: Settings,
+    old: &Descriptor,
+    new: &Descriptor,
+    words: &[&str],
+) -> Result<Answer, AllocError>
+    ensures { IfOk result (λ answer. AnswersOfBase settings words.now
+        (PrintsComparison settings (descriptor_of old.now) (descriptor_of new.now)) (answer_of answer)) }
+{
+    match base_in(alloc, settings.domain, words) {
+        Ok(groups) => compare_lines(alloc, settings, old, new, &groups),
+        Err(TokenError::NoWord { place }) => group_fault(alloc, settings, words, place),
+        Err(TokenError::Memory) => Err(AllocError),
+    }
+}
+
+fn compare_lines(
+    alloc: Global,
+    settings: Settings,
+    old: &Descriptor,
+    new: &Descriptor,
+    groups: &[(Sid, GroupState)],
+) -> Result<Answer, AllocError>
+    ensures { IfOk result
+        (λ answer. PrintsComparison settings (descriptor_of old.now) (descriptor_of new.now) groups.now
+        (answer_of answer)) }
+{
+    let (old, new, base) = (descriptor_ref(old), descriptor_ref(new), Base { groups });
+    let comparison = compare(alloc, &old, &new, &settings.mapping, &base)?;
+    Ok(Answer {
+        text: compare_text(alloc, settings.spelling, &old, &new, &comparison)?,
+        told: String::new(alloc),
+        outcome: compare_outcome(&comparison),
+    })
+}
+
+fn compare_outcome(comparison: &Comparison) -> Outcome
+    ensures { result ≡ compare_outcome comparison.now.gained.items comparison.now.lost.items }
+{
+    if comparison.gained.is_empty() && comparison.lost.is_empty() {
+        Outcome::Done
+    } else {
+        Outcome::Refused
+    }
+}
+
+fn descriptor_ref(descriptor: &Descriptor) -> DescriptorRef<'_>
+    ensures { parts_of result ≡ parts_in (descriptor_of descriptor.now) }
+{
+    DescriptorRef {
+        owner: descriptor.owner,
+        dacl: dacl_ref(&descriptor.dacl),
+    }
+}
+
+fn dacl_ref(dacl: &Dacl) -> DaclRef<'_>
+    ensures { entries_of result ≡ dacl_entries dacl.now }
+{
+    match dacl {
+        Dacl::Absent => DaclRef::Absent,
+        Dacl::Null => DaclRef::Null,
+        Dacl::List(list) => DaclRef::List(list.entries()),
+    }
+}

@@ -1,0 +1,136 @@
+//! The answer to a command about a descriptor: what is printed, and whether that is what was asked for.
+ghost use Rattle.std.specs.Prelude.{◌≡◌, IfOk, string_bytes};
+ghost use Rattle.sd_answer.specs.Answer.{fault_line, sddl_fault_line};
+ghost use Rattle.sd_commands.specs.Answer.{AnswersQuestion, IsDone, IsFault, answer_of, is_refusal, outcome_status};
+ghost use Rattle.sd_commands.specs.Told.{fault_text, told_line};
+
+use crate::analysis::{answer_compare, answer_who};
+use crate::convert::{answer_from_binary, answer_print, answer_to_binary};
+use crate::lint::answer_lint;
+use crate::rights::answer_rights;
+use crate::settings::Settings;
+use crate::told::told_fault;
+use crate::verdict::{Form, answer_verdict};
+use sd_answer::{fault_line, sddl_fault_line};
+use sd_text::TextFault;
+use sd_usage::Question;
+use std::alloc::{AllocError, Global};
+
+/// What came of a command.
+#[derive(Clone, Copy, Debug, PartialEq, Eq)]
+pub enum Outcome {
+    /// The text was printed, or the right granted.
+    Done,
+    /// What was printed is an argument's fault, or a verdict other than granted.
+    Refused,
+}
+
+impl Outcome {
+    /// The status with which the program ends.
+    pub fn status(self) -> u8
+        ensures { result ≡ outcome_status self }
+    {
+        match self {
+            Outcome::Done => 0,
+            Outcome::Refused => 1,
+        }
+    }
+
+    /// Whether what was asked for wasn't done.
+    pub fn is_refusal(self) -> bool
+        ensures { result ≡ is_refusal self }
+    {
+        matches!(self, Outcome::Refused)
+    }
+}
+
+/// What is printed, what standard error is told beside it, and what came of it.
+#[derive(Debug, Drop)]
+pub struct Answer {
+    /// Whole lines.
+    pub text: String,
+    /// Whole lines, or nothing.
+    pub told: String,
+    pub outcome: Outcome,
+}
+
+impl Answer {
+    /// What was asked for was done, and nothing is told beside it.
+    pub fn done(alloc: Global, text: String) -> Answer
+        ensures { IsDone (string_bytes text) (answer_of result) }
+    {
+        Answer {
+            text,
+            told: String::new(alloc),
+            outcome: Outcome::Done,
+        }
+    }
+}
+
+/// The answer of a command to a text and the arguments after it. The only error is out of memory.
+pub fn answer_question(
+    alloc: Global,
+    settings: Settings,
+    question: Question,
+    text: &str,
+    arguments: &[&str],
+) -> Result<Answer, AllocError>
+    ensures { IfOk result (λ answer. AnswersQuestion settings question text.now arguments.now (answer_of answer)) }
+{
+    match question {
+        Question::Verdict => answer_verdict(alloc, settings, Form::Short, text, arguments),
+        Question::Why => answer_verdict(alloc, settings, Form::Explained, text, arguments),
+        Question::Who => answer_who(alloc, settings, text, arguments),
+        Question::Compare => answer_compare(alloc, settings, text, arguments),
+        Question::Lint => answer_lint(alloc, settings, text, arguments),
+        Question::Print => answer_print(alloc, settings, text),
+        Question::ToBinary => answer_to_binary(alloc, settings, text),
+        Question::FromBinary => answer_from_binary(alloc, settings, text),
+        Question::Rights => answer_rights(alloc, settings, text),
+    }
+}
+
+/// The answer to an argument that isn't read: what it should have been, and what is told of it. The only error is out
+/// of memory.
+pub fn fault(alloc: Global, what: &str, told: String) -> Result<Answer, AllocError>
+    ensures { IfOk result (λ answer. IsFault (fault_line what.now) (string_bytes told) (answer_of answer)) }
+{
+    Ok(Answer {
+        text: fault_line(alloc, what)?,
+        told,
+        outcome: Outcome::Refused,
+    })
+}
+
+/// The answer to an argument whose text has this first fault.
+pub(crate) fn text_fault(
+    alloc: Global,
+    what: &str,
+    argument: &str,
+    text_fault: TextFault,
+    place: u64,
+) -> Result<Answer, AllocError>
+    ensures { IfOk result
+        (λ answer. IsFault (fault_line what.now) (told_line argument.now (fault_text text_fault place))
+        (answer_of answer)) }
+{
+    fault(alloc, what, told_fault(alloc, argument, text_fault, place)?)
+}
+
+/// The answer to a descriptor's text with a fault, which is the argument of this name.
+pub(crate) fn sddl_fault(
+    alloc: Global,
+    argument: &str,
+    fault: TextFault,
+    place: u64,
+) -> Result<Answer, AllocError>
+    ensures { IfOk result
+        (λ answer. IsFault (sddl_fault_line fault place) (told_line argument.now (fault_text fault place))
+        (answer_of answer)) }
+{
+    Ok(Answer {
+        text: sddl_fault_line(alloc, fault, place)?,
+        told: told_fault(alloc, argument, fault, place)?,
+        outcome: Outcome::Refused,
+    })
+}

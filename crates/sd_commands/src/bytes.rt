@@ -1,0 +1,150 @@
+//! Bytes as a text spells them, and a SACL in them that is passed over.
+ghost use Rattle.std.specs.Prelude.{◌≡◌, Err, IfErr, IfOk, Ok, string_bytes};
+ghost use Rattle.sd_commands.specs.declared.bytes.BytesError.TheVariants.{Memory};
+ghost use Rattle.sd_commands.specs.declared.settings.ByteForm.TheVariants.{Hex, Base64};
+ghost use Rattle.sd_commands.specs.Bytes.{IsBytesError, base64_reason, bytes_read, form_name, has_sacl, hex_reason};
+ghost use Rattle.sd_commands.specs.Bytes.{without_sacl};
+
+use crate::loose::loose_bytes;
+use crate::settings::ByteForm;
+use base64::engine::general_purpose::STANDARD;
+use base64::{DecodeAllocError, DecodeError};
+use hex::FromHexError;
+use std::alloc::{AllocError, AllocFailed, Global};
+
+/// Why a text is no bytes.
+#[derive(Debug, Drop)]
+pub(crate) enum BytesError {
+    /// It spells none, and the text says why.
+    NoBytes(String),
+    /// Memory was refused.
+    Memory,
+}
+
+impl From<AllocError> for BytesError {
+    ghost from_gives = { λ _ e. e ≡ Memory };
+
+    fn from(_error: AllocError) -> BytesError {
+        BytesError::Memory
+    }
+}
+
+impl<T: Drop> From<AllocFailed<T>> for BytesError {
+    ghost from_gives = { λ _ e. e ≡ Memory };
+
+    fn from(_error: AllocFailed<T>) -> BytesError {
+        BytesError::Memory
+    }
+}
+
+impl ByteForm {
+    /// What a text in this form should have been.
+    pub(crate) fn name(self) -> &'static str
+        ensures { result.now ≡ form_name self }
+    {
+        match self {
+            ByteForm::Hex | ByteForm::Loose => "hex",
+            ByteForm::Base64 => "base64",
+        }
+    }
+}
+
+/// The bytes that the text spells in this form.
+pub(crate) fn read_bytes(alloc: Global, form: ByteForm, text: &str) -> Result<Vec<u8>, BytesError>
+    ensures ok { IfOk result (λ bytes. bytes_read form text.now ≡ Ok bytes.items) }
+    ensures err { IfErr result (IsBytesError form text.now) }
+{
+    match form {
+        ByteForm::Hex => hex_bytes(alloc, text),
+        ByteForm::Loose => loose_bytes(alloc, text.as_bytes()),
+        ByteForm::Base64 => base64_bytes(alloc, text),
+    }
+}
+
+fn hex_bytes(alloc: Global, text: &str) -> Result<Vec<u8>, BytesError>
+    ensures ok { IfOk result (λ bytes. bytes_read Hex text.now ≡ Ok bytes.items) }
+    ensures err { IfErr result (IsBytesError Hex text.now) }
+{
+    match hex::decode(alloc, text) {
+        Ok(bytes) => Ok(bytes),
+        Err(FromHexError::OutOfMemory) => Err(BytesError::Memory),
+        Err(error) => Err(BytesError::NoBytes(hex_reason(alloc, text, error)?)),
+    }
+}
+
+fn hex_reason(alloc: Global, text: &str, error: FromHexError) -> Result<String, AllocError>
+    ensures { IfOk result (λ reason. string_bytes reason ≡ hex_reason text.now error) }
+{
+    match error {
+        FromHexError::InvalidHexCharacter { c: _, index } => {
+            let reason = format!(in alloc; "no digit at {index}")?;
+            Ok(reason)
+        }
+        FromHexError::OddLength => {
+            let end = text.len();
+            let reason = format!(in alloc; "no second digit at {end}")?;
+            Ok(reason)
+        }
+        FromHexError::InvalidStringLength | FromHexError::OutOfMemory => {
+            String::from_str(alloc, "no bytes")
+        }
+    }
+}
+
+fn base64_bytes(alloc: Global, text: &str) -> Result<Vec<u8>, BytesError>
+    ensures ok { IfOk result (λ bytes. bytes_read Base64 text.now ≡ Ok bytes.items) }
+    ensures err { IfErr result (IsBytesError Base64 text.now) }
+{
+    match STANDARD.decode(alloc, text.as_bytes()) {
+        Ok(bytes) => Ok(bytes),
+        Err(DecodeAllocError::OutOfMemory) => Err(BytesError::Memory),
+        Err(DecodeAllocError::DecodeError(error)) => {
+            Err(BytesError::NoBytes(base64_reason(alloc, text, error)?))
+        }
+    }
+}
+
+fn base64_reason(alloc: Global, text: &str, error: DecodeError) -> Result<String, AllocError>
+    ensures { IfOk result (λ reason. string_bytes reason ≡ base64_reason text.now error) }
+{
+    match error {
+        DecodeError::InvalidByte(place, _) => {
+            let reason = format!(in alloc; "no digit at {place}")?;
+            Ok(reason)
+        }
+        DecodeError::InvalidLength(place) => {
+            let reason = format!(in alloc; "no end at {place}")?;
+            Ok(reason)
+        }
+        DecodeError::InvalidLastSymbol { offset, .. } => {
+            let reason = format!(in alloc; "no last digit at {offset}")?;
+            Ok(reason)
+        }
+        DecodeError::InvalidPadding => {
+            let end = text.len();
+            let reason = format!(in alloc; "no padding at {end}")?;
+            Ok(reason)
+        }
+    }
+}
+
+/// Has the header say that there is no SACL, where it says that there is one, and tells whether it did: SP, bit 4 of
+/// the control bits, and OffsetSacl at byte 12 ([MS-DTYP] 2.4.6).
+pub(crate) fn leave_out_sacl(bytes: &mut Vec<u8>) -> bool
+    ensures told { result ≡ has_sacl bytes.old.items }
+    ensures bytes { bytes.new.items ≡ without_sacl bytes.old.items }
+{
+    if !has_sacl(bytes) {
+        return false;
+    }
+    bytes[2] &= 0xEF;
+    true
+}
+
+fn has_sacl(bytes: &[u8]) -> bool
+    ensures { result ≡ has_sacl bytes.now }
+{
+    20 <= bytes.len()
+        && bytes[2] & 0x10 != 0
+        && !(bytes[12] == 0 && bytes[13] == 0 && bytes[14] == 0 && bytes[15] == 0)
+}

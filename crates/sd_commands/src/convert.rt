@@ -1,0 +1,136 @@
+//! The answers to `print`, `tobin` and `frombin`: a descriptor in another form.
+ghost use Rattle.std.specs.Prelude.{◌≡◌, ◌++◌, IfOk, codes, string_bytes};
+ghost use Rattle.sd_wire.specs.Reading.{descriptor_read};
+ghost use Rattle.sd_answer.specs.Answer.{line};
+ghost use Rattle.sd_commands.specs.Told.{told_line, wire_fault_text};
+ghost use Rattle.sd_commands.specs.Answer.{AnswersPrint, AnswersToBinary, AnswersFromBinary, AnswersBytes, AnswersRead};
+ghost use Rattle.sd_commands.specs.Answer.{IsDone, IsFault, answer_of, wire_fault_line};
+
+use crate::answer::{Answer, Outcome, fault, sddl_fault};
+use crate::bytes::{BytesError, leave_out_sacl, read_bytes};
+use crate::descriptor::{noting, read_text};
+use crate::settings::Settings;
+use crate::told::told_line;
+use sd_text::{TextError, print_sddl};
+use sd_wire::{WireError, WireFault, read_descriptor, write_descriptor};
+use std::alloc::{AllocError, Global};
+
+/// The canonical text of a descriptor's text.
+pub(crate) fn answer_print(
+    alloc: Global,
+    settings: Settings,
+    sddl: &str,
+) -> Result<Answer, AllocError>
+    ensures { IfOk result (λ answer. AnswersPrint settings sddl.now (answer_of answer)) }
+{
+    let read = match read_text(alloc, settings, sddl) {
+        Ok(read) => read,
+        Err(TextError::Fault { fault, place }) => {
+            return sddl_fault(alloc, "SDDL", fault, place);
+        }
+        Err(TextError::Memory) => return Err(AllocError),
+    };
+    let answer = printed(alloc, print_sddl(alloc, &read.descriptor)?)?;
+    Ok(noting(alloc, "SDDL", read.left_out, answer)?)
+}
+
+/// The self-relative form of a descriptor's text, in hexadecimal.
+pub(crate) fn answer_to_binary(
+    alloc: Global,
+    settings: Settings,
+    sddl: &str,
+) -> Result<Answer, AllocError>
+    ensures { IfOk result (λ answer. AnswersToBinary settings sddl.now (answer_of answer)) }
+{
+    let read = match read_text(alloc, settings, sddl) {
+        Ok(read) => read,
+        Err(TextError::Fault { fault, place }) => {
+            return sddl_fault(alloc, "SDDL", fault, place);
+        }
+        Err(TextError::Memory) => return Err(AllocError),
+    };
+    let bytes = write_descriptor(alloc, &read.descriptor)?;
+    let answer = printed(alloc, hex::encode(alloc, bytes.as_slice())?)?;
+    Ok(noting(alloc, "SDDL", read.left_out, answer)?)
+}
+
+/// The canonical text of the self-relative form, whose bytes the text spells.
+pub(crate) fn answer_from_binary(
+    alloc: Global,
+    settings: Settings,
+    text: &str,
+) -> Result<Answer, AllocError>
+    ensures { IfOk result (λ answer. AnswersFromBinary settings text.now (answer_of answer)) }
+{
+    match read_bytes(alloc, settings.bytes, text) {
+        Ok(bytes) => answer_bytes(alloc, settings, bytes),
+        Err(BytesError::NoBytes(reason)) => fault(
+            alloc,
+            settings.bytes.name(),
+            told_line(alloc, "BYTES", reason.as_str())?,
+        ),
+        Err(BytesError::Memory) => Err(AllocError),
+    }
+}
+
+/// The same of bytes, in which a SACL is passed over where that is asked for.
+fn answer_bytes(alloc: Global, settings: Settings, mut bytes: Vec<u8>) -> Result<Answer, AllocError>
+    ensures { IfOk result (λ answer. AnswersBytes settings bytes.items (answer_of answer)) }
+{
+    if !settings.without_sacl {
+        return answer_held(alloc, &bytes);
+    }
+    let left_out = leave_out_sacl(&mut bytes);
+    let answer = answer_held(alloc, &bytes)?;
+    Ok(noting(alloc, "BYTES", left_out, answer)?)
+}
+
+/// The canonical text of what the bytes hold.
+fn answer_held(alloc: Global, bytes: &[u8]) -> Result<Answer, AllocError>
+    ensures { IfOk result (λ answer. AnswersRead (descriptor_read bytes.now) (answer_of answer)) }
+{
+    match read_descriptor(alloc, bytes) {
+        Ok(descriptor) => printed(alloc, print_sddl(alloc, &descriptor)?),
+        Err(WireError::Fault(fault)) => wire_fault(alloc, fault),
+        Err(WireError::Memory) => Err(AllocError),
+    }
+}
+
+/// The answer that is a line of this text.
+fn printed(alloc: Global, mut text: String) -> Result<Answer, AllocError>
+    ensures { IfOk result (λ answer. IsDone (line (string_bytes text)) (answer_of answer)) }
+{
+    text.push_str("\n")?;
+    Ok(Answer::done(alloc, text))
+}
+
+/// The answer to bytes that hold no descriptor.
+fn wire_fault(alloc: Global, fault: WireFault) -> Result<Answer, AllocError>
+    ensures { IfOk result (λ answer. IsFault (wire_fault_line fault) (told_line (codes "BYTES") (wire_fault_text fault))
+        (answer_of answer)) }
+{
+    let what = wire_fault_text(alloc, fault)?;
+    let what = what.as_str();
+    Ok(Answer {
+        text: wire_fault_line(alloc, what)?,
+        told: told_line(alloc, "BYTES", what)?,
+        outcome: Outcome::Refused,
+    })
+}
+
+fn wire_fault_line(alloc: Global, what: &str) -> Result<String, AllocError>
+    ensures { IfOk result (λ text. string_bytes text ≡ line (codes "fault wire " ++ what.now)) }
+{
+    let text = format!(in alloc; "fault wire {what}\n")?;
+    Ok(text)
+}
+
+/// The fault by number and name.
+fn wire_fault_text(alloc: Global, fault: WireFault) -> Result<String, AllocError>
+    ensures { IfOk result (λ text. string_bytes text ≡ wire_fault_text fault) }
+{
+    let number = fault.number();
+    let name = fault.name();
+    let text = format!(in alloc; "{number} {name}")?;
+    Ok(text)
+}

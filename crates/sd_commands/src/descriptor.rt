@@ -1,0 +1,55 @@
+//! The reading of a descriptor's text, with a SACL that is left out where that is asked for.
+ghost use Rattle.std.specs.Prelude.{◌≡◌, IfErr, IfOk};
+ghost use Rattle.sd_acl.specs.Descriptor.{descriptor_of};
+ghost use Rattle.sd_commands.specs.Answer.{IsRead, IsUnread, Noting, answer_of};
+
+use crate::answer::Answer;
+use crate::settings::Settings;
+use crate::told::sacl_note;
+use sd_text::{TextError, WithoutSacl, read_sddl_in, read_sddl_without_sacl};
+use std::alloc::{AllocError, Global};
+
+/// The descriptor that the text spells, or its first fault ([MS-DTYP] 2.5.1.1).
+pub(crate) fn read_text(
+    alloc: Global,
+    settings: Settings,
+    sddl: &str,
+) -> Result<WithoutSacl, TextError>
+    ensures read { IfOk result (λ read. IsRead settings sddl.now (descriptor_of read.descriptor) read.left_out) }
+    ensures unread { IfErr result (IsUnread settings sddl.now) }
+{
+    if settings.without_sacl {
+        return read_sddl_without_sacl(alloc, settings.domain, sddl);
+    }
+    match read_sddl_in(alloc, settings.domain, sddl) {
+        Ok(descriptor) => Ok(WithoutSacl {
+            descriptor,
+            left_out: false,
+        }),
+        Err(error) => Err(error),
+    }
+}
+
+/// The answer, and before what is told beside it, that a SACL was left out of the argument, where one was.
+pub(crate) fn noting(
+    alloc: Global,
+    argument: &str,
+    left_out: bool,
+    answer: Answer,
+) -> Result<Answer, AllocError>
+    ensures { IfOk result
+        (λ noted. Noting argument.now left_out (λ inner. inner ≡ answer_of answer) (answer_of noted)) }
+{
+    let Answer {
+        text,
+        told,
+        outcome,
+    } = answer;
+    let mut noted = sacl_note(alloc, argument, left_out)?;
+    noted.push_str(told.as_str())?;
+    Ok(Answer {
+        text,
+        told: noted,
+        outcome,
+    })
+}

@@ -1,0 +1,33 @@
+//! The commands about one descriptor: text in, answer out.
+//!
+//! `answer_question` answers `verdict`, `why`, `who`, `compare`, `lint`, `print`, `tobin`, `frombin` and `rights`, as
+//! `Settings` says.
+//! It needs no stream and no thread. `sd_command_line` parses a command line to its arguments.
+//!
+//! ```text
+//! let arguments = ["S-1-1-0", "0x1"];
+//! let answer = answer_question(alloc, settings, Question::Verdict, "D:(A;;0x1;;;S-1-1-0)", &arguments)?;
+//! // answer.text is "granted 0x1\n", and answer.outcome.status() is 0
+//! ```
+#![tactic(auto)]
+
+mod analysis;
+mod answer;
+mod bytes;
+mod convert;
+mod descriptor;
+mod lint;
+mod loose;
+mod mapping;
+mod rights;
+mod settings;
+mod shown;
+mod told;
+mod verdict;
+mod words;
+
+pub use answer::{Answer, Outcome, answer_question, fault};
+pub use mapping::{ObjectKind, kind_given, mapping_given};
+pub use settings::{ByteForm, Settings};
+pub use shown::shown_word;
+pub use told::{sid_reason, told_line};

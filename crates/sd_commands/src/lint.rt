@@ -1,0 +1,83 @@
+//! The answer to `lint`: what stands in a descriptor that its author may not have meant.
+ghost use Rattle.std.specs.Prelude.{IfOk, string_bytes};
+ghost use Rattle.sd_acl.specs.Descriptor.{descriptor_of};
+ghost use Rattle.sd_commands.specs.Answer.{AnswersLint, AnswersOfBase, IsLinted, PrintsFindings, answer_of};
+
+use crate::analysis::group_fault;
+use crate::answer::{Answer, Outcome, sddl_fault};
+use crate::descriptor::{noting, read_text};
+use crate::settings::Settings;
+use crate::words::base_in;
+use sd_acl::Descriptor;
+use sd_analysis::Base;
+use sd_answer::{TokenError, lint_text};
+use sd_check::GroupState;
+use sd_sid::Sid;
+use sd_text::TextError;
+use std::alloc::{AllocError, Global};
+
+/// The findings in a descriptor's text, or `clean`, where each token has the base that the words are; or the fault of
+/// the first argument from the left that is invalid.
+pub(crate) fn answer_lint(
+    alloc: Global,
+    settings: Settings,
+    sddl: &str,
+    words: &[&str],
+) -> Result<Answer, AllocError>
+    ensures { IfOk result (λ answer. AnswersLint settings sddl.now words.now (answer_of answer)) }
+{
+    let read = match read_text(alloc, settings, sddl) {
+        Ok(read) => read,
+        Err(TextError::Fault { fault, place }) => {
+            return sddl_fault(alloc, "SDDL", fault, place);
+        }
+        Err(TextError::Memory) => return Err(AllocError),
+    };
+    let answer = lint_with_base(alloc, settings, &read.descriptor, words)?;
+    Ok(noting(alloc, "SDDL", read.left_out, answer)?)
+}
+
+fn lint_with_base(
+    alloc: Global,
+    settings: Settings,
+    descriptor: &Descriptor,
+    words: &[&str],
+) -> Result<Answer, AllocError>
+    ensures { IfOk result (λ answer. AnswersOfBase settings words.now
+        (PrintsFindings settings (descriptor_of descriptor.now)) (answer_of answer)) }
+{
+    match base_in(alloc, settings.domain, words) {
+        Ok(groups) => lint_lines(alloc, settings, descriptor, &groups),
+        Err(TokenError::NoWord { place }) => group_fault(alloc, settings, words, place),
+        Err(TokenError::Memory) => Err(AllocError),
+    }
+}
+
+fn lint_lines(
+    alloc: Global,
+    settings: Settings,
+    descriptor: &Descriptor,
+    groups: &[(Sid, GroupState)],
+) -> Result<Answer, AllocError>
+    ensures { IfOk result (λ answer. PrintsFindings settings (descriptor_of descriptor.now) groups.now
+        (answer_of answer)) }
+{
+    let base = Base { groups };
+    let lines = lint_text(alloc, &settings.mapping, &base, descriptor)?;
+    found(alloc, lines)
+}
+
+/// The findings, or that there are none.
+fn found(alloc: Global, lines: String) -> Result<Answer, AllocError>
+    ensures { IfOk result (λ answer. IsLinted (string_bytes lines) (answer_of answer)) }
+{
+    if lines.is_empty() {
+        Ok(Answer::done(alloc, String::from_str(alloc, "clean\n")?))
+    } else {
+        Ok(Answer {
+            text: lines,
+            told: String::new(alloc),
+            outcome: Outcome::Refused,
+        })
+    }
+}

@@ -1,0 +1,34 @@
+//! What the options before a command about a descriptor say.
+
+use crate::mapping::ObjectKind;
+use sd_answer::Spelling;
+use sd_sid::GenericMapping;
+use sd_text::Domain;
+
+/// How the bytes of a descriptor are spelled.
+#[derive(Clone, Copy, Debug, PartialEq, Eq)]
+pub enum ByteForm {
+    /// In hexadecimal, two digits a byte.
+    Hex,
+    /// In hexadecimal, with signs between bytes.
+    Loose,
+    /// In base64 (RFC 4648, section 4).
+    Base64,
+}
+
+/// What the options say.
+#[derive(Clone, Copy, Debug)]
+pub struct Settings {
+    /// How masks are told.
+    pub spelling: Spelling,
+    /// Whose the aliases of domains are.
+    pub domain: Option<Domain>,
+    /// What the generic rights stand for ([MS-DTYP] 2.4.3).
+    pub mapping: GenericMapping,
+    /// The kind of object whose rights are named, if any.
+    pub kind: Option<ObjectKind>,
+    /// Whether a SACL is left out.
+    pub without_sacl: bool,
+    /// How bytes are spelled.
+    pub bytes: ByteForm,
+}

@@ -1,0 +1,116 @@
+//! What standard error is told beside an answer: which argument isn't read, and why; or that a SACL is left out.
+ghost use Rattle.std.specs.Prelude.{◌≡◌, ◌<◌, ◌^◌, IfOk, string_bytes};
+ghost use Rattle.sd_commands.specs.Told.{IsSidReason, IsStateReason, IsWordReason, begins_by_plus, fault_text};
+ghost use Rattle.sd_commands.specs.Told.{sacl_note, told_line, word_argument};
+
+use crate::shown::shown_word;
+use crate::words::sid_length;
+use sd_text::{Domain, TextError, TextFault, read_sid_text_in};
+use std::alloc::{AllocError, Global};
+
+/// The line that tells what is wrong with an argument, as `sdstore: MASK: 1 Syntax at 2`. The only error is out of
+/// memory.
+pub fn told_line(alloc: Global, argument: &str, what: &str) -> Result<String, AllocError>
+    ensures { IfOk result (λ text. string_bytes text ≡ told_line argument.now what.now) }
+{
+    let text = format!(in alloc; "sdstore: {argument}: {what}\n")?;
+    Ok(text)
+}
+
+/// The line for an argument whose text has this first fault.
+pub(crate) fn told_fault(
+    alloc: Global,
+    argument: &str,
+    fault: TextFault,
+    place: u64,
+) -> Result<String, AllocError>
+    ensures { IfOk result (λ text. string_bytes text ≡ told_line argument.now (fault_text fault place)) }
+{
+    let what = fault_text(alloc, fault, place)?;
+    told_line(alloc, argument, what.as_str())
+}
+
+/// A fault by number and name, and its byte.
+fn fault_text(alloc: Global, fault: TextFault, place: u64) -> Result<String, AllocError>
+    ensures { IfOk result (λ text. string_bytes text ≡ fault_text fault place) }
+{
+    let number = fault.number();
+    let name = fault.name();
+    let text = format!(in alloc; "{number} {name} at {place}")?;
+    Ok(text)
+}
+
+/// That a SACL was left out, where one was.
+pub(crate) fn sacl_note(alloc: Global, argument: &str, left_out: bool) -> Result<String, AllocError>
+    ensures { IfOk result (λ text. string_bytes text ≡ sacl_note argument.now left_out) }
+{
+    if left_out {
+        told_line(alloc, argument, "the SACL is left out")
+    } else {
+        Ok(String::new(alloc))
+    }
+}
+
+/// Why a text isn't what it should be: the first fault of its SID ([MS-DTYP] 2.4.2.1), or where it is one, that it
+/// isn't a fit one. The only error is out of memory.
+pub fn sid_reason(
+    alloc: Global,
+    domain: Option<Domain>,
+    unfit: &str,
+    text: &str,
+) -> Result<String, AllocError>
+    ensures { IfOk result (λ reason. IsSidReason domain unfit.now text.now (string_bytes reason)) }
+{
+    match read_sid_text_in(domain, text) {
+        Ok(_) => String::from_str(alloc, unfit),
+        Err(TextError::Fault { fault, place }) => fault_text(alloc, fault, place),
+        Err(TextError::Memory) => Err(AllocError),
+    }
+}
+
+/// Why a text is no word.
+pub(crate) fn word_reason(
+    alloc: Global,
+    domain: Option<Domain>,
+    word: &str,
+) -> Result<String, AllocError>
+    ensures { IfOk result (λ reason. IsWordReason domain word.now (string_bytes reason)) }
+{
+    if begins_by_plus(word) {
+        return String::from_str(alloc, "no such privilege");
+    }
+    state_reason(alloc, domain, word)
+}
+
+/// Why a text is no SID with a state.
+pub(crate) fn state_reason(
+    alloc: Global,
+    domain: Option<Domain>,
+    word: &str,
+) -> Result<String, AllocError>
+    ensures { IfOk result (λ reason. IsStateReason domain word.now (string_bytes reason)) }
+{
+    let (sid, _) = word.split_at(sid_length(word));
+    sid_reason(alloc, domain, "no such state", sid)
+}
+
+fn begins_by_plus(word: &str) -> bool
+    ensures { result ≡ begins_by_plus word.now }
+{
+    match word.as_bytes() {
+        [] => false,
+        [first, ..] => *first == b'+',
+    }
+}
+
+/// Which WORD it is, at this place counted from 0, and what it says.
+pub(crate) fn word_argument(alloc: Global, place: usize, word: &str) -> Result<String, AllocError>
+    requires { place < 2 ^ 63 }
+    ensures { IfOk result (λ text. string_bytes text ≡ word_argument place word.now) }
+{
+    let number = place + 1;
+    let shown = shown_word(alloc, word)?;
+    let shown = shown.as_str();
+    let text = format!(in alloc; "WORD {number}, \"{shown}\"")?;
+    Ok(text)
+}

@@ -1,0 +1,190 @@
+//! The answers to `verdict` and to `why`: whether a descriptor grants a mask to a user, and why.
+ghost use Rattle.std.specs.Prelude.{◌≡◌, ◌<◌, IfOk, length, string_bytes};
+ghost use Rattle.sd_acl.specs.Descriptor.{descriptor_of};
+ghost use Rattle.sd_check.specs.Check.{verdict};
+ghost use Rattle.sd_answer.specs.Word.{texts};
+ghost use Rattle.sd_commands.specs.Answer.{AnswersVerdict, AnswersVerdictOf, AnswersUser, AnswersMask, AnswersWords};
+ghost use Rattle.sd_commands.specs.Answer.{IsWordFault, answer_of, form_text, verdict_outcome};
+ghost use Rattle.sd_commands.specs.Words.{IsFirstNoWordIn};
+
+use crate::answer::{Answer, Outcome, fault, sddl_fault, text_fault};
+use crate::descriptor::{noting, read_text};
+use crate::settings::Settings;
+use crate::told::{told_line, word_argument, word_reason};
+use crate::words::{argument, arguments_from, token_in};
+use sd_acl::Descriptor;
+use sd_answer::{TokenError, verdict_line, why_text};
+use sd_check::{Token, Verdict, check};
+use sd_sid::{Mask, Sid};
+use sd_text::{TextError, read_mask, read_sid_text_in};
+use std::alloc::{AllocError, Global};
+
+/// What is told of a verdict.
+#[derive(Clone, Copy, Debug, PartialEq, Eq)]
+pub(crate) enum Form {
+    /// The verdict alone.
+    Short,
+    /// With it the reason of each bit.
+    Explained,
+}
+
+/// The verdict on a descriptor's text, where the user, the mask and words are the arguments after it; or the fault of
+/// the first from the left that is invalid.
+pub(crate) fn answer_verdict(
+    alloc: Global,
+    settings: Settings,
+    form: Form,
+    sddl: &str,
+    arguments: &[&str],
+) -> Result<Answer, AllocError>
+    ensures { IfOk result (λ answer. AnswersVerdict settings form sddl.now arguments.now (answer_of answer)) }
+{
+    let user = argument(arguments, 0);
+    let mask = argument(arguments, 1);
+    let words = arguments_from(arguments, 2);
+    verdict_on_text(alloc, settings, form, sddl, user, mask, words)
+}
+
+fn verdict_on_text(
+    alloc: Global,
+    settings: Settings,
+    form: Form,
+    sddl: &str,
+    user: &str,
+    mask: &str,
+    words: &[&str],
+) -> Result<Answer, AllocError>
+    ensures { IfOk result (λ answer. AnswersVerdictOf settings form sddl.now user.now mask.now words.now
+        (answer_of answer)) }
+{
+    let read = match read_text(alloc, settings, sddl) {
+        Ok(read) => read,
+        Err(TextError::Fault { fault, place }) => {
+            return sddl_fault(alloc, "SDDL", fault, place);
+        }
+        Err(TextError::Memory) => return Err(AllocError),
+    };
+    let answer = verdict_for_user(alloc, settings, form, &read.descriptor, user, mask, words)?;
+    Ok(noting(alloc, "SDDL", read.left_out, answer)?)
+}
+
+fn verdict_for_user(
+    alloc: Global,
+    settings: Settings,
+    form: Form,
+    descriptor: &Descriptor,
+    user: &str,
+    mask: &str,
+    words: &[&str],
+) -> Result<Answer, AllocError>
+    ensures { IfOk result
+        (λ answer. AnswersUser settings form user.now mask.now words.now (descriptor_of descriptor.now)
+        (answer_of answer)) }
+{
+    match read_sid_text_in(settings.domain, user) {
+        Ok(user) => verdict_on_mask(alloc, settings, form, descriptor, user, mask, words),
+        Err(TextError::Fault { fault, place }) => text_fault(alloc, "sid", "USER", fault, place),
+        Err(TextError::Memory) => Err(AllocError),
+    }
+}
+
+fn verdict_on_mask(
+    alloc: Global,
+    settings: Settings,
+    form: Form,
+    descriptor: &Descriptor,
+    user: Sid,
+    mask: &str,
+    words: &[&str],
+) -> Result<Answer, AllocError>
+    ensures { IfOk result (λ answer. AnswersMask settings form (descriptor_of descriptor.now) user mask.now words.now
+        (answer_of answer)) }
+{
+    match read_mask(mask) {
+        Ok(asked) => verdict_with_words(alloc, settings, form, descriptor, user, asked, words),
+        Err(TextError::Fault { fault, place }) => text_fault(alloc, "mask", "MASK", fault, place),
+        Err(TextError::Memory) => Err(AllocError),
+    }
+}
+
+fn verdict_with_words(
+    alloc: Global,
+    settings: Settings,
+    form: Form,
+    descriptor: &Descriptor,
+    user: Sid,
+    asked: Mask,
+    words: &[&str],
+) -> Result<Answer, AllocError>
+    ensures { IfOk result (λ answer. AnswersWords settings form (descriptor_of descriptor.now) user asked words.now
+        (answer_of answer)) }
+{
+    match token_in(alloc, settings.domain, user, words) {
+        Ok(token) => {
+            let verdict = check(descriptor, &settings.mapping, &token, asked);
+            Ok(Answer {
+                text: text_of(alloc, settings, form, descriptor, &token, asked)?,
+                told: String::new(alloc),
+                outcome: outcome_of(verdict),
+            })
+        }
+        Err(TokenError::NoWord { place }) => word_fault(alloc, settings, words, place),
+        Err(TokenError::Memory) => Err(AllocError),
+    }
+}
+
+/// The answer to words of which the one at the place is the first that is none.
+fn word_fault(
+    alloc: Global,
+    settings: Settings,
+    words: &[&str],
+    place: usize,
+) -> Result<Answer, AllocError>
+    requires first { IsFirstNoWordIn settings.domain (texts words.now) place }
+    requires within { place < length words.now }
+    ensures { IfOk result (λ answer. IsWordFault settings (texts words.now) (answer_of answer)) }
+{
+    let word = words[place];
+    let argument = word_argument(alloc, place, word)?;
+    let reason = word_reason(alloc, settings.domain, word)?;
+    fault(
+        alloc,
+        "token",
+        told_line(alloc, argument.as_str(), reason.as_str())?,
+    )
+}
+
+/// The verdict's line, or with it the reasons.
+fn text_of(
+    alloc: Global,
+    settings: Settings,
+    form: Form,
+    descriptor: &Descriptor,
+    token: &Token,
+    asked: Mask,
+) -> Result<String, AllocError>
+    ensures { IfOk result
+        (λ text. string_bytes text ≡ form_text settings form (descriptor_of descriptor.now) token.now asked) }
+{
+    match form {
+        Form::Short => {
+            let verdict = check(descriptor, &settings.mapping, token, asked);
+            verdict_line(alloc, verdict)
+        }
+        Form::Explained => {
+            let mapping = &settings.mapping;
+            why_text(alloc, mapping, settings.spelling, descriptor, token, asked)
+        }
+    }
+}
+
+fn outcome_of(verdict: Verdict) -> Outcome
+    ensures { result ≡ verdict_outcome verdict }
+{
+    match verdict {
+        Verdict::Granted(_) => Outcome::Done,
+        Verdict::Denied { .. } => Outcome::Refused,
+        Verdict::Reserved(_) => Outcome::Refused,
+        Verdict::EmptyRequest => Outcome::Refused,
+    }
+}

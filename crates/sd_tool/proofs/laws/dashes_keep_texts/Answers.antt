@@ -1,9 +1,0 @@
-use Rattle.sd_tool.proofs.LawProofs as laws
-use Rattle.sd_tool.proofs.laws.dashes_keep_texts.Goals as goal
-
-pub returns : goal.returns
-returns c = record {
-  verdict = laws.dashes_keep_texts;
-  why = laws.dashes_keep_texts_of_why;
-  with_options = laws.options_keep_texts;
-}

@@ -1,5 +1,0 @@
-use Rattle.sd_tool.proofs.LawProofs as laws
-use Rattle.sd_tool.proofs.laws.each_asks_the_command.Goals as goal
-
-pub returns : goal.returns
-returns c = laws.each_asks_the_command

@@ -1,7 +1,0 @@
--- The findings so far are those of the entries so far.
-use Rattle.std.proofs.Common.{◌≡◌, string_bytes}
-use Rattle.sd_tool.specs.Lint.{list_lines}
-use Rattle.sd_tool.proofs.lint.list_lines.Given as goal
-
-abbrev pub invariant-loop-place : goal.invariant-loop-place
-invariant-loop-place l = string_bytes l.text ≡ list_lines l.mapping l.entries l.place

@@ -1,6 +1,0 @@
-use Rattle.std.proofs.Common.{ap, ◌∙◌}
-use Rattle.std.specs.Result.{result_ok}
-use Rattle.sd_tool.proofs.mapping.mask_in.Goals as goal
-
-pub returns-clause-spelled : goal.returns-clause-spelled
-returns-clause-spelled c = λ mask is. c.ok.ensures.value ∙ ap (λ r. result_ok r) (c.read_mask.ensures.spelled mask is)

@@ -1,8 +1,0 @@
--- The words so far are spelled out.
-use Rattle.std.proofs.Common.{take, map, string_bytes}
-use Rattle.sd_answer.specs.Word.{texts}
-use Rattle.sd_tool.specs.Words.{AreSpelledOut}
-use Rattle.sd_tool.proofs.words.spelled_out.Given as goal
-
-abbrev pub invariant-loop-word : goal.invariant-loop-word
-invariant-loop-word l = AreSpelledOut l.domain (texts (take l.word-index l.words)) (map string_bytes l.fulls.items)
