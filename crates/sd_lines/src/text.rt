@@ -19,7 +19,8 @@ pub fn answer_text<A: Answers>(
     printed: &mut Vec<u8>,
 ) -> Result<(), AllocError>
     ensures { OnOk result ((added : List ℕ) × (printed.new.items ≡ printed.old.items ++ added)
-        × AreAnswered (of_form form (A.answers answers.now)) state.old (lines_in form.ending text.now) added state.new) }
+        × AreAnswered (of_form form (A.answers answers.now)) state.old
+        (lines_in form.ending text.now) added state.new) }
 {
     let last = answer_ended(alloc, answers, state, form, text, printed)?;
     if last.is_empty() {

@@ -62,6 +62,9 @@ none_past (x ∷ xs) (suc k) low none = none_past xs k (omega (arith, low)) none
 pub below_count : (t : PlainTree) (k n : ℕ) → n ≡ len t → k < n → k < length (entries t)
 below_count t k n count low = let size = len-entries t in omega (arith, size, count, low)
 
+pub past_count : (t : PlainTree) (k n : ℕ) → n ≡ len t → n ≤ k → length (entries t) ≤ k
+past_count t k n count past = let size = len-entries t in omega (arith, size, count, past)
+
 -- what was given to the node of an entry
 pub given_there : (t : PlainTree) (k : ℕ) (path : Names) (row : Row) → Some (path, row) ≡ slice_get (entries t) k
     → given_at t path ≡ Some (row.kind, own_descriptor_of_row row)
@@ -169,7 +172,7 @@ some_there [] k low = absurd (omega (arith, low))
 some_there (x ∷ xs) zero low = (x, refl)
 some_there (x ∷ xs) (suc k) low = some_there xs k (omega (arith, low))
 
-next_left : {A : Type 0} (xs : List A) (k : ℕ) (x : A) → Some x ≡ slice_get xs k → drop k xs ≡ x ∷ drop (suc k) xs
+pub next_left : {A : Type 0} (xs : List A) (k : ℕ) (x : A) → Some x ≡ slice_get xs k → drop k xs ≡ x ∷ drop (suc k) xs
 next_left [] k x is = absurd (cc (is))
 next_left (y ∷ xs) zero x is = let same : x ≡ y = cc (is) in ap (λ z. z ∷ xs) (sym same)
 next_left (y ∷ xs) (suc k) x is = next_left xs k x is

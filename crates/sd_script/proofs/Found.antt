@@ -2,9 +2,9 @@
 use Rattle.std.proofs.Common.{◌≡◌, ℕ, List, Some, Result, Ok, Err, IfOk, refl, subst}
 use Rattle.sd_check.specs.Token.{TokenValue}
 use Rattle.sd_tree.specs.Names.{Names}
-use Rattle.sd_share.specs.Machine.{Machine, Steps}
-use Rattle.sd_share.specs.declared.request.Reply.{Reply}
-use Rattle.sd_share.specs.declared.request.Request.TheVariants.{Show}
+use Rattle.sd_desk.specs.Machine.{Machine, Steps}
+use Rattle.sd_desk.specs.declared.request.Reply.{Reply}
+use Rattle.sd_desk.specs.declared.request.Request.TheVariants.{Show}
 use Rattle.sd_script.specs.Find.{found_reply}
 use Rattle.sd_script.specs.Output.{IsDone}
 use Rattle.sd_script.specs.declared.asked.Asked.TheVariants.{Finding}

@@ -4,10 +4,14 @@ pub mod Cutting
 pub mod Dumping
 pub mod Found
 pub mod Granted
+mod JournalEdits
 pub mod NoId
 pub mod OneOutput
 pub mod OneReading
 pub mod PathWords
 pub mod Readings
+pub mod Reviewed
+pub mod Silence
 pub mod Splitting
 pub mod Timely
+mod Untold

@@ -46,8 +46,9 @@ name_is_id word =
     (one_of word (codes "list") _ _ refl
     (one_of word (codes "dump") _ _ refl
     (one_of word (codes "who") _ _ refl
+    (one_of word (codes "review") _ _ refl
     (one_of word (codes "import") _ _ refl
-    (λ none. cc))))))))))))))))))))
+    (λ none. cc)))))))))))))))))))))
 
 -- the first of a line's words
 first_word : (line : List ℕ) → (words : List (List ℕ)) × (words_of line ≡ take (word_len line) line ∷ words)

@@ -16,14 +16,14 @@ use Rattle.sd_tree.specs.Names.{Names}
 use Rattle.sd_tree.specs.declared.edit.Edit.{Edit}
 use Rattle.sd_tree.specs.declared.opening.RootSpec.{RootSpec}
 use Rattle.sd_tree.specs.declared.refusal.EditRefusal.{EditRefusal}
-use Rattle.sd_share.specs.Machine.{Machine, Steps, accepted, due, floor_of, longer, with_edit, with_publish, with_floor, with_look}
-use Rattle.sd_share.specs.Starts.{IsReaderCount, IsStartError}
-use Rattle.sd_share.specs.declared.request.Reply.{Reply}
-use Rattle.sd_share.specs.declared.request.Reply.TheVariants as replies
-use Rattle.sd_share.specs.declared.request.Request.{Request}
-use Rattle.sd_share.specs.declared.request.Request.TheVariants as requests
-use Rattle.sd_share.specs.declared.start.StartError.{StartError}
-use Rattle.sd_share.specs.declared.start.StartError.TheVariants as starts
+use Rattle.sd_desk.specs.Machine.{Machine, Steps, accepted, due, floor_of, longer, with_edit, with_publish, with_floor, with_look}
+use Rattle.sd_desk.specs.Starts.{IsReaderCount, IsStartError}
+use Rattle.sd_desk.specs.declared.request.Reply.{Reply}
+use Rattle.sd_desk.specs.declared.request.Reply.TheVariants as replies
+use Rattle.sd_desk.specs.declared.request.Request.{Request}
+use Rattle.sd_desk.specs.declared.request.Request.TheVariants as requests
+use Rattle.sd_desk.specs.declared.start.StartError.{StartError}
+use Rattle.sd_desk.specs.declared.start.StartError.TheVariants as starts
 use Rattle.sd_answer.specs.Answer.{line}
 use Rattle.sd_script.specs.Dump.{IsDump}
 use Rattle.sd_script.specs.Fault.{line_of_fault}
@@ -45,7 +45,7 @@ use Rattle.sd_script.specs.Tally.{tallied}
 use Rattle.sd_script.specs.View.{IsViewed}
 use Rattle.sd_script.specs.declared.listing.Which.TheVariants.{Granting}
 use Rattle.sd_script.specs.declared.view.View.{View}
-use Rattle.sd_script.specs.declared.view.View.TheVariants.{List as Lists, Dump, Who}
+use Rattle.sd_script.specs.declared.view.View.TheVariants.{List as Lists, Dump, Who, Review}
 use Rattle.sd_script.specs.Reply.{explained_reply, node_why_text}
 use Rattle.sd_answer.specs.Why.{why_text}
 use Rattle.sd_answer.specs.declared.answer.Spelling.TheVariants.{Number}
@@ -241,6 +241,7 @@ viewed-one : (paths : PathSpelling) (m : Machine) (view : View) (p q : List ℕ)
 viewed-one paths m (Lists path) p q plain one other = one ∙ sym other
 viewed-one paths m Dump p q plain one other = dump-one paths m p q one other
 viewed-one paths m (Who path groups asked) p q plain one other = absurd (cc (plain))
+viewed-one paths m (Review path) p q plain one other = absurd (cc (plain))
 
 -- ---- the whole output
 

@@ -11,10 +11,10 @@ use Rattle.sd_answer.proofs.OneToken.{groups_one, token_one, token_or_none}
 use Rattle.sd_answer.specs.Word.{AreGroups}
 use Rattle.sd_tree.specs.Names.{Names}
 use Rattle.sd_tree.specs.declared.edit.Edit.TheVariants as edits
-use Rattle.sd_share.specs.declared.request.Request.TheVariants as requests
+use Rattle.sd_desk.specs.declared.request.Request.TheVariants as requests
 use Rattle.sd_script.specs.Addition.{addition, row_of}
 use Rattle.sd_script.specs.Argument.{IsNumber, number, path, sid, mask, token, base, descriptor, node, node_of, dacl, dacl_of, imported, import_of}
-use Rattle.sd_script.specs.Command.{CommandValue, Open, AddContainer, AddObject, SetOwner, SetGroup, SetDacl, Remove, Protect, Move, Publish, Tell, Learn, Check, Why, Find, Show, ListNodes, Dump, Who, ImportNode, asks, asks_where, command_of, edit, is_untimely, line_asks, posed, question, question_by, question_with, request, view}
+use Rattle.sd_script.specs.Command.{CommandValue, Open, AddContainer, AddObject, SetOwner, SetGroup, SetDacl, Remove, Protect, Move, Publish, Tell, Learn, Check, Why, Find, Show, ListNodes, Dump, Who, Review, ImportNode, asks, asks_where, command_of, edit, is_untimely, line_asks, posed, question, question_by, question_with, request, view}
 use Rattle.sd_script.specs.Fault.{Reading, SomeOr, Just, Then}
 use Rattle.sd_script.specs.Lines.{words_of}
 use Rattle.sd_script.specs.Paths.{IsPath}
@@ -135,6 +135,7 @@ asks-one paths (Find reader at user asked words) = posed-one (λ i p q. Finding 
 asks-one paths (Show reader at) = Then-one (number reader) (λ i. Then (path paths at) (λ p. request (requests.Show i p))) (number-one reader) (λ i. Then-one (path paths at) (λ p. request (requests.Show i p)) (path-one paths at) (λ p. Just-one _))
 asks-one paths (ListNodes at) = Then-one (path paths at) (λ p. view (views.List p)) (path-one paths at) (λ p. Just-one _)
 asks-one paths Dump = Just-one _
+asks-one paths (Review at) = Then-one (path paths at) (λ p. view (views.Review p)) (path-one paths at) (λ p. Just-one _)
 asks-one paths (Who at asked words) =
     Then-one (path paths at) (λ p. Then (mask asked) (λ m. Then (base words) (λ groups. view (views.Who p groups m)))) (path-one paths at) (λ p.
     Then-one (mask asked) (λ m. Then (base words) (λ groups. view (views.Who p groups m))) (mask-one asked) (λ m.

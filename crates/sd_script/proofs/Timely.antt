@@ -1,7 +1,7 @@
 -- What a line can ask for: an opening where no store is open, and something of a store where one is.
 use Rattle.std.proofs.Common.{◌≡◌, ⊎_elim, ℕ, List, Bool, true, false, not, Option, Some, None, Ok, Err, refl, sym, ap, subst, ◌∙◌}
 use Rattle.std.specs.Prelude.{MatchBool, if◌then◌else◌}
-use Rattle.sd_script.specs.Command.{CommandValue, Open, AddContainer, AddObject, SetOwner, SetGroup, SetDacl, Remove, Protect, Move, Publish, Tell, Learn, Check, Why, Find, Show, ListNodes, Dump, Who, ImportNode, asks, asks_where, is_untimely, line_asks, command_of}
+use Rattle.sd_script.specs.Command.{CommandValue, Open, AddContainer, AddObject, SetOwner, SetGroup, SetDacl, Remove, Protect, Move, Publish, Tell, Learn, Check, Why, Find, Show, ListNodes, Dump, Who, Review, ImportNode, asks, asks_where, is_untimely, line_asks, command_of}
 use Rattle.sd_script.specs.Fault.{Just, Reading}
 use Rattle.sd_script.specs.Lines.{words_of}
 use Rattle.sd_script.specs.Output.{is_open, line_asks_in}
@@ -47,6 +47,7 @@ is_opening (Show reader path) = false
 is_opening (ListNodes path) = false
 is_opening Dump = false
 is_opening (Who path mask words) = false
+is_opening (Review path) = false
 is_opening (ImportNode kind path sddl) = false
 
 abbrev Opens : Bool → Asked → Type 0
@@ -74,6 +75,7 @@ words_open paths (Find reader at user asked words) a is = ⊎_elim (λ w. ⊎_el
 words_open paths (Show reader at) a is = ⊎_elim (λ w. ⊎_elim (λ x. same_opens a _ x.2) (λ x. absurd (cc (x.2))) w.2) (λ w. absurd (cc (w.2))) is
 words_open paths (ListNodes at) a is = ⊎_elim (λ w. same_opens a _ w.2) (λ w. absurd (cc (w.2))) is
 words_open paths Dump a is = same_opens a _ is
+words_open paths (Review at) a is = ⊎_elim (λ w. same_opens a _ w.2) (λ w. absurd (cc (w.2))) is
 words_open paths (Who at asked words) a is = ⊎_elim (λ w. ⊎_elim (λ x. ⊎_elim (λ y. same_opens a _ y.2) (λ y. absurd (cc (y.2))) x.2) (λ x. absurd (cc (x.2))) w.2) (λ w. absurd (cc (w.2))) is
 words_open paths (ImportNode kind at sddl) a is = ⊎_elim (λ w. ⊎_elim (λ x. same_opens a _ x.2) (λ x. absurd (cc (x.2))) w.2) (λ w. absurd (cc (w.2))) is
 
@@ -97,6 +99,7 @@ untimely_is is_open (Show reader path) = refl
 untimely_is is_open (ListNodes path) = refl
 untimely_is is_open Dump = refl
 untimely_is is_open (Who path mask words) = refl
+untimely_is is_open (Review path) = refl
 untimely_is is_open (ImportNode kind path sddl) = refl
 
 by_test : (paths : PathSpelling) (is_open is : Bool) (command : CommandValue) (b : Asked) → is_opening command ≡ is

@@ -54,7 +54,8 @@ base words = SomeOr (AreGroups words) Token
 -- a descriptor, or the first fault of its text, at its place
 abbrev pub descriptor : List ℕ → Reading DescriptorValue
 descriptor word (Ok d) = Spells sddl word d
-descriptor word (Err told) = (fault : TextFault) × (place : ℕ) × HasFault sddl word fault place × (told ≡ Sddl fault place)
+descriptor word (Err told) = (fault : TextFault) × (place : ℕ) × HasFault sddl word fault place
+    × (told ≡ Sddl fault place)
 
 -- the DACL that a descriptor gives a node: an absent one is an empty list that isn't protected, and of the words of a
 -- list the one for its protection is kept

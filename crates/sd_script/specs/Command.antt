@@ -1,5 +1,6 @@
 -- What a line asks for.
-use Rattle.std.specs.Prelude.{◌≡◌, ℕ, Bool, not, ◌==◌, MatchBool, if◌then◌else◌, ◌⊎◌, List, [], ◌∷◌, length, Option, Some, None, Err, option_and_then, option_map, codes, bytes_eq}
+use Rattle.std.specs.Prelude.{◌≡◌, ℕ, Bool, not, ◌==◌, MatchBool, if◌then◌else◌, ◌⊎◌, List, [], ◌∷◌, length, Option}
+use Rattle.std.specs.Prelude.{Some, None, Err, option_and_then, option_map, codes, bytes_eq}
 use Rattle.std.specs.List.{list_any}
 use Rattle.std.specs.Str.{IsUtf8}
 use Rattle.sd_sid.specs.Sid.{SidValue}
@@ -8,8 +9,8 @@ use Rattle.sd_tree.specs.declared.edit.Edit.{Edit}
 use Rattle.sd_tree.specs.declared.edit.Edit.TheVariants as edits
 use Rattle.sd_tree.specs.declared.node.NodeKind.{NodeKind}
 use Rattle.sd_tree.specs.declared.node.NodeKind.TheVariants.{Container, Object}
-use Rattle.sd_share.specs.declared.request.Request.{Request}
-use Rattle.sd_share.specs.declared.request.Request.TheVariants as requests
+use Rattle.sd_desk.specs.declared.request.Request.{Request}
+use Rattle.sd_desk.specs.declared.request.Request.TheVariants as requests
 use Rattle.sd_script.specs.Addition.{addition, row_of}
 use Rattle.sd_script.specs.Argument.{number, path, sid, mask, token, base, node, dacl, imported}
 use Rattle.sd_script.specs.Fault.{Reading, Just, Then}
@@ -50,6 +51,7 @@ pub data CommandValue : Type 0 where
   ImportNode : NodeKind → List ℕ → List ℕ → CommandValue
   Dump : CommandValue
   Who : List ℕ → List ℕ → List (List ℕ) → CommandValue
+  Review : List ℕ → CommandValue
 
 abbrev pub command_value : Command → CommandValue
 command_value (lent.Open readers sddl) = Open readers.now sddl.now
@@ -72,6 +74,7 @@ command_value (lent.ListNodes path) = ListNodes path.now
 command_value (lent.ImportNode kind path sddl) = ImportNode kind path.now sddl.now
 command_value lent.Dump = Dump
 command_value (lent.Who path mask words) = Who path.now mask.now (texts words.now)
+command_value (lent.Review path) = Review path.now
 
 -- the command that the word names
 abbrev pub command_named : List ℕ → Option CommandName
@@ -95,6 +98,7 @@ command_named word =
     else if bytes_eq word (codes "list") then Some names.ListNodes
     else if bytes_eq word (codes "dump") then Some names.Dump
     else if bytes_eq word (codes "who") then Some names.Who
+    else if bytes_eq word (codes "review") then Some names.Review
     else if bytes_eq word (codes "import") then Some names.ImportNode
     else None
 
@@ -126,6 +130,8 @@ command_taking names.Show (reader ∷ path ∷ []) = Some (Show reader path)
 command_taking names.ListNodes [] = Some (ListNodes (codes "/"))
 command_taking names.ListNodes (path ∷ []) = Some (ListNodes path)
 command_taking names.Dump [] = Some Dump
+command_taking names.Review [] = Some (Review (codes "/"))
+command_taking names.Review (path ∷ []) = Some (Review path)
 command_taking names.ImportNode (kind ∷ path ∷ sddl ∷ []) = option_map (λ is. ImportNode is path sddl) (kind_named kind)
 command_taking name arguments = None
 
@@ -176,19 +182,23 @@ question user asked words = Then (sid user) (question_by asked words)
 
 -- such a question to a reader, of a path
 abbrev pub posed : (ℕ → Names → Question → Asked) → PathSpelling → List ℕ → List ℕ → Reading Question → Reading Asked
-posed make paths reader at asking = Then (number reader) (λ i. Then (path paths at) (λ p. Then asking (λ q. Just (make i p q))))
+posed make paths reader at asking = Then (number reader)
+    (λ i. Then (path paths at) (λ p. Then asking (λ q. Just (make i p q))))
 
 -- what each command asks for
 abbrev pub asks : PathSpelling → CommandValue → Reading Asked
 asks paths (Open readers sddl) = Then (number readers) (λ n. Then (node sddl) (λ root. Just (Opening n root)))
-asks paths (AddContainer at sddl) = Then (path paths at) (λ p. Then (node sddl) (λ n. edit (edits.AddContainer p n.owner n.group n.dacl)))
-asks paths (AddObject at sddl) = Then (path paths at) (λ p. Then (node sddl) (λ n. edit (edits.AddObject p n.owner n.group n.dacl)))
+asks paths (AddContainer at sddl) = Then (path paths at)
+    (λ p. Then (node sddl) (λ n. edit (edits.AddContainer p n.owner n.group n.dacl)))
+asks paths (AddObject at sddl) = Then (path paths at)
+    (λ p. Then (node sddl) (λ n. edit (edits.AddObject p n.owner n.group n.dacl)))
 asks paths (SetOwner at owner) = Then (path paths at) (λ p. Then (sid owner) (λ s. edit (edits.SetOwner p s)))
 asks paths (SetGroup at group) = Then (path paths at) (λ p. Then (sid group) (λ s. edit (edits.SetGroup p s)))
 asks paths (SetDacl at sddl) = Then (path paths at) (λ p. Then (dacl sddl) (λ d. edit (edits.SetDacl p d)))
 asks paths (Remove at) = Then (path paths at) (λ p. edit (edits.Remove p))
 asks paths (Protect at) = Then (path paths at) (λ p. edit (edits.ProtectKeeping p))
-asks paths (Move source target) = Then (path paths source) (λ from. Then (path paths target) (λ to. edit (edits.Move from to)))
+asks paths (Move source target) = Then (path paths source)
+    (λ from. Then (path paths target) (λ to. edit (edits.Move from to)))
 asks paths Publish = request requests.Publish
 asks paths Tell = request requests.Tell
 asks paths (Learn reader length) = Then (number reader) (λ i. Then (number length) (λ n. request (requests.Learn i n)))
@@ -203,14 +213,17 @@ asks paths (ListNodes at) = Then (path paths at) (λ p. view (views.List p))
 asks paths Dump = view views.Dump
 asks paths (Who at asked words) =
     Then (path paths at) (λ p. Then (mask asked) (λ m. Then (base words) (λ groups. view (views.Who p groups m))))
+asks paths (Review at) = Then (path paths at) (λ p. view (views.Review p))
 asks paths (ImportNode kind at sddl) =
-    Then (path paths at) (λ p. Then (imported sddl) (λ m. Just (Importing (addition kind p (row_of kind m.node)) p m.inherited)))
+    Then (path paths at) (λ p. Then (imported sddl)
+    (λ m. Just (Importing (addition kind p (row_of kind m.node)) p m.inherited)))
 
 -- ---- what a line asks for
 
 abbrev pub asks_where : PathSpelling → Bool → Option CommandValue → Reading Asked
 asks_where paths is_open None read = read ≡ Err faults.Words
-asks_where paths is_open (Some command) read = MatchBool (is_untimely is_open command) (read ≡ Err faults.Open) (asks paths command read)
+asks_where paths is_open (Some command) read = MatchBool (is_untimely is_open command) (read ≡ Err faults.Open)
+    (asks paths command read)
 
 abbrev pub line_asks : PathSpelling → Bool → List ℕ → Reading Asked
 line_asks paths is_open line read =

@@ -1,5 +1,5 @@
--- What `dump` tells: the published tree as lines of a script, that of its root first and a parent before what it holds. They are
--- told only where each is read as what makes its node.
+-- What `dump` tells: the published tree as lines of a script, that of its root first and a parent before what it holds.
+-- They are told only where each is read as what makes its node.
 use Rattle.std.specs.Prelude.{◌≡◌, ◌⊎◌, ⊤, ℕ, Bool, true, false, List, [], ◌∷◌, ◌++◌, length, map, Ok, codes}
 use Rattle.std.specs.List.{flat_map}
 use Rattle.std.specs.Fmt.{decimal}
@@ -14,8 +14,8 @@ use Rattle.sd_tree.specs.declared.node.NodeKind.{NodeKind}
 use Rattle.sd_tree.specs.declared.node.NodeKind.TheVariants.{Container, Object}
 use Rattle.sd_tree.specs.declared.node.Row.{Row}
 use Rattle.sd_tree.specs.declared.opening.RootSpec.{RootSpec}
-use Rattle.sd_share.specs.Machine.{Machine}
-use Rattle.sd_share.specs.declared.request.Request.TheVariants as requests
+use Rattle.sd_desk.specs.Machine.{Machine}
+use Rattle.sd_desk.specs.declared.request.Request.TheVariants as requests
 use Rattle.sd_script.specs.Addition.{addition}
 use Rattle.sd_answer.specs.Answer.{line, fault_line}
 use Rattle.sd_script.specs.Command.{line_asks}
@@ -40,9 +40,11 @@ adding_word Container = codes "addc"
 adding_word Object = codes "addo"
 
 abbrev pub making_line : PathSpelling → ℕ → Names → Row → List ℕ
-making_line paths readers [] row = line (codes "open " ++ decimal readers ++ codes " " ++ canon (own_descriptor_of_row row))
+making_line paths readers [] row = line
+    (codes "open " ++ decimal readers ++ codes " " ++ canon (own_descriptor_of_row row))
 making_line paths readers (name ∷ names) row =
-    line (adding_word row.kind ++ codes " " ++ path_word paths (name ∷ names) ++ codes " " ++ canon (own_descriptor_of_row row))
+    line (adding_word row.kind ++ codes " " ++ path_word paths (name ∷ names) ++ codes " "
+    ++ canon (own_descriptor_of_row row))
 
 -- ---- the whole tree
 
@@ -61,14 +63,16 @@ abbrev pub AreAskedBy : PathSpelling → Bool → List (List ℕ) → List Asked
 AreAskedBy paths is_open [] [] = ⊤
 AreAskedBy paths is_open [] (asked ∷ more) = ⊥
 AreAskedBy paths is_open (text ∷ texts) [] = ⊥
-AreAskedBy paths is_open (text ∷ texts) (asked ∷ more) = IsAskedBy paths is_open text asked × AreAskedBy paths true texts more
+AreAskedBy paths is_open (text ∷ texts) (asked ∷ more) = IsAskedBy paths is_open text asked
+    × AreAskedBy paths true texts more
 
 -- the nodes' lines, and the publish behind them
 abbrev pub dump_text : PathSpelling → ℕ → PlainTree → List ℕ
 dump_text paths readers t = making_lines paths readers (entries t) ++ line (codes "publish")
 
 abbrev pub IsReadBack : PathSpelling → ℕ → PlainTree → List ℕ → Type 0
-IsReadBack paths readers t text = AreAskedBy paths false (lines text) (makings readers (entries t) ++ Asking requests.Publish ∷ [])
+IsReadBack paths readers t text = AreAskedBy paths false (lines text)
+    (makings readers (entries t) ++ Asking requests.Publish ∷ [])
 
 -- a name that can't stand in a script is a fault, and so is an entry's flag without a name
 abbrev pub IsDumpOf : PathSpelling → ℕ → PlainTree → List ℕ → Type 0

@@ -2,7 +2,8 @@
 use Rattle.std.specs.Prelude.{◌≡◌, ⊤, ◌⊎◌, ℕ, List, Result, Ok, Err, codes}
 use Rattle.sd_answer.specs.Answer.{fault_line, sddl_fault_line}
 use Rattle.sd_script.specs.declared.fault.LineFault.{LineFault}
-use Rattle.sd_script.specs.declared.fault.LineFault.TheVariants.{Utf8, Words, Open, Number, Path, Sid, Sddl, Parts, Mask, Token}
+use Rattle.sd_script.specs.declared.fault.LineFault.TheVariants.{Utf8, Words, Open, Number, Path, Sid, Sddl, Parts}
+use Rattle.sd_script.specs.declared.fault.LineFault.TheVariants.{Mask, Token}
 use Rattle.sd_script.specs.declared.fault.Stop.{Stop}
 use Rattle.sd_script.specs.declared.fault.Stop.TheVariants.{Fault, Memory}
 

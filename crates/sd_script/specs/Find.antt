@@ -8,9 +8,9 @@ use Rattle.sd_tree.specs.Names.{Names}
 use Rattle.sd_tree.specs.Plain.{PlainTree}
 use Rattle.sd_tree.specs.Journal.{replay}
 use Rattle.sd_tree.specs.declared.node.NodeKind.{NodeKind}
-use Rattle.sd_share.specs.Machine.{Machine}
-use Rattle.sd_share.specs.declared.request.Reply.{Reply}
-use Rattle.sd_share.specs.declared.request.Reply.TheVariants.{Shown}
+use Rattle.sd_desk.specs.Machine.{Machine}
+use Rattle.sd_desk.specs.declared.request.Reply.{Reply}
+use Rattle.sd_desk.specs.declared.request.Reply.TheVariants.{Shown}
 use Rattle.sd_answer.specs.Answer.{line, fault_line}
 use Rattle.sd_script.specs.Listing.{lacks_words, line_below}
 use Rattle.sd_script.specs.Reply.{reply_line, seen_line}

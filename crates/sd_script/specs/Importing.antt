@@ -6,9 +6,9 @@ use Rattle.sd_acl.specs.declared.ace.Ace.{Ace}
 use Rattle.sd_tree.specs.Answers.{descriptor_at}
 use Rattle.sd_tree.specs.Names.{Names}
 use Rattle.sd_tree.specs.Journal.{replay}
-use Rattle.sd_share.specs.Machine.{Machine, accepted}
-use Rattle.sd_share.specs.declared.request.Reply.{Reply}
-use Rattle.sd_share.specs.declared.request.Reply.TheVariants.{Edited}
+use Rattle.sd_desk.specs.Machine.{Machine, accepted}
+use Rattle.sd_desk.specs.declared.request.Reply.{Reply}
+use Rattle.sd_desk.specs.declared.request.Reply.TheVariants.{Edited}
 use Rattle.sd_answer.specs.Answer.{line}
 use Rattle.sd_script.specs.Argument.{inherited_in}
 use Rattle.sd_script.specs.Reply.{reply_line}

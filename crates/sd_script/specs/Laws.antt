@@ -1,22 +1,28 @@
 -- What follows from the output of a script.
-use Rattle.std.specs.Prelude.{◌≡◌, ℕ, Bool, true, false, List, ◌++◌, Ok}
+use Rattle.std.specs.Prelude.{◌≡◌, ℕ, Bool, true, false, List, [], ◌++◌, length, Some, Ok}
 use Rattle.std.specs.List.{All}
 use Rattle.std.specs.Str.Lines.{lines}
+use Rattle.sd_sid.specs.Mask.{holds}
 use Rattle.sd_check.specs.Token.{TokenValue}
-use Rattle.sd_tree.specs.Names.{Names}
-use Rattle.sd_share.specs.Machine.{Machine}
-use Rattle.sd_share.specs.declared.request.Request.TheVariants.{Check}
+use Rattle.sd_tree.specs.Answers.{answer, reply_in}
+use Rattle.sd_tree.specs.Names.{Names, is_within}
+use Rattle.sd_tree.specs.Plain.{row_at}
+use Rattle.sd_tree.specs.declared.node.Row.{Row}
+use Rattle.sd_desk.specs.Machine.{Machine, accepted}
+use Rattle.sd_desk.specs.declared.request.Request.TheVariants.{Check}
 use Rattle.sd_script.specs.Command.{line_asks}
 use Rattle.sd_script.specs.Output.{IsAnswered, IsDone, Prints}
+use Rattle.sd_script.specs.Review.{IsNodeReview, IsReview, Trees, reviewed_line}
 use Rattle.sd_script.specs.declared.asked.Asked.{Asked}
 use Rattle.sd_script.specs.declared.asked.Asked.TheVariants.{Opening, Asking, Explaining, Finding, Viewing, Importing}
 use Rattle.sd_script.specs.declared.manner.Manner.{Manner}
 use Rattle.sd_script.specs.declared.paths.PathSpelling.{PathSpelling}
 use Rattle.sd_script.specs.declared.session.Session.{Session}
 use Rattle.sd_script.specs.declared.session.Session.TheVariants.{Opened}
-use Rattle.sd_script.specs.declared.view.View.TheVariants.{List as Lists, Dump, Who}
+use Rattle.sd_script.specs.declared.view.View.TheVariants.{List as Lists, Dump, Who, Review}
 
--- what is asked is who is granted a right: its lines are exact in what they say of tokens, not in their letters
+-- what is asked is who is granted a right, or who is by the pending edits: the lines are exact in what they say of
+-- tokens, not in their letters
 abbrev pub is_analysis : Asked → Bool
 is_analysis (Opening readers root) = false
 is_analysis (Asking request) = false
@@ -25,17 +31,20 @@ is_analysis (Finding reader path token asked) = false
 is_analysis (Viewing (Lists path)) = false
 is_analysis (Viewing Dump) = false
 is_analysis (Viewing (Who path groups asked)) = true
+is_analysis (Viewing (Review path)) = true
 is_analysis (Importing edit path inherited) = false
 
 -- the line asks for no analysis, whatever stands before it
 abbrev pub AsksNoAnalysis : List ℕ → Type 0
 AsksNoAnalysis line =
-    (paths : PathSpelling) (is_open : Bool) (asked : Asked) → line_asks paths is_open line (Ok asked) → is_analysis asked ≡ false
+    (paths : PathSpelling) (is_open : Bool) (asked : Asked) → line_asks paths is_open line (Ok asked)
+    → is_analysis asked ≡ false
 
 -- a line leaves one store, and unless it asks for an analysis it has one answer
 abbrev pub HasOneAnswer : Type 0
 HasOneAnswer =
-    (old : Session) (line one other : List ℕ) (new next : Session) → IsAnswered old line one new → IsAnswered old line other next
+    (old : Session) (line one other : List ℕ) (new next : Session) → IsAnswered old line one new
+    → IsAnswered old line other next
     → (AsksNoAnalysis line → one ≡ other) × (new ≡ next)
 
 -- a text whose lines ask for no analysis has one output in a manner
@@ -47,7 +56,25 @@ HasOneOutput =
 -- what `why` tells begins with what `check` tells, and behind both the store is the same
 abbrev pub BeginsAsCheck : Type 0
 BeginsAsCheck =
-    (paths : PathSpelling) (old : Machine) (reader : ℕ) (path : Names) (token : TokenValue) (asked : ℕ) (checked explained : List ℕ) (one other : Session)
+    (paths : PathSpelling) (old : Machine) (reader : ℕ) (path : Names) (token : TokenValue) (asked : ℕ)
+    (checked explained : List ℕ) (one other : Session)
     → IsDone (Opened paths old) (Asking (Check reader path token asked)) checked one
     → IsDone (Opened paths old) (Explaining reader path token asked) explained other
     → ((reasons : List ℕ) × (explained ≡ checked ++ reasons)) × (other ≡ one)
+
+-- a node of the new tree for which a review prints no line: no check of it is answered otherwise, whatever the token
+-- is. Each bit of a request counts; MAXIMUM_ALLOWED, place 25, is none that is granted
+abbrev pub SilentNodeIsUnchanged : Type 0
+SilentNodeIsUnchanged =
+    (paths : PathSpelling) (ts : Trees) (top path : Names) (row : Row) (token : TokenValue) (asked : ℕ)
+    → IsNodeReview paths ts top (path, row) [] → is_within top path ≡ true → row_at ts.new path ≡ Some row
+    → holds asked 25 ≡ false
+    → reply_in ts.mapping ts.old path token asked ≡ reply_in ts.mapping ts.new path token asked
+
+-- a review that prints its last line alone: no check at or below its path is
+abbrev pub SilentReviewChangesNothing : Type 0
+SilentReviewChangesNothing =
+    (paths : PathSpelling) (m : Machine) (top path : Names) (token : TokenValue) (asked : ℕ)
+    → IsReview paths m top (reviewed_line (length m.published) (length (accepted m)))
+    → is_within top path ≡ true → holds asked 25 ≡ false
+    → answer m.opening m.published path token asked ≡ answer m.opening (accepted m) path token asked

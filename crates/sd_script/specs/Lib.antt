@@ -15,3 +15,4 @@ pub mod Importing
 pub mod Tally
 pub mod View
 pub mod Who
+pub mod Review

@@ -1,5 +1,5 @@
--- The words of a line, and lines that ask for nothing. The lines of a text are those of std's `lines`: each but the last
--- is ended by a line feed, of which a carriage return right before it is a part.
+-- The words of a line, and lines that ask for nothing. The lines of a text are those of std's `lines`: each but the
+-- last is ended by a line feed, of which a carriage return right before it is a part.
 use Rattle.std.specs.Prelude.{ℕ, Bool, true, ◌==◌, ◌||◌, List, [], ◌∷◌, codes, bytes_eq, take}
 use Rattle.std.specs.List.{position_or_len, slice_split}
 
@@ -21,4 +21,4 @@ abbrev pub wants_lines : List ℕ → Bool
 wants_lines line =
     let word = take (word_len line) line in
     bytes_eq word (codes "why") || bytes_eq word (codes "find") || bytes_eq word (codes "list")
-    || bytes_eq word (codes "dump") || bytes_eq word (codes "who")
+    || bytes_eq word (codes "dump") || bytes_eq word (codes "who") || bytes_eq word (codes "review")

@@ -1,4 +1,5 @@
--- Lines of the nodes at and below a path, in the order of their paths: what `list` and `find` tell of the published tree.
+-- Lines of the nodes at and below a path, in the order of their paths: what `list` and `find` tell of the published
+-- tree.
 use Rattle.std.specs.Prelude.{ℕ, Bool, true, false, ◌&&◌, List, [], ◌++◌, Option, Some, None, if◌then◌else◌, codes}
 use Rattle.std.specs.List.{flat_map, list_any}
 use Rattle.std.specs.FinMap.{entries}
@@ -15,7 +16,7 @@ use Rattle.sd_tree.specs.declared.node.NodeKind.TheVariants.{Container, Object}
 use Rattle.sd_tree.specs.declared.node.Row.{Row}
 use Rattle.sd_tree.specs.declared.tree.CheckReply.{CheckReply}
 use Rattle.sd_tree.specs.declared.tree.CheckReply.TheVariants.{Verdict, NoNode}
-use Rattle.sd_share.specs.Machine.{Machine}
+use Rattle.sd_desk.specs.Machine.{Machine}
 use Rattle.sd_answer.specs.Answer.{line, fault_line}
 use Rattle.sd_script.specs.Paths.{is_split, path_word}
 use Rattle.sd_script.specs.declared.listing.Which.{Which}

@@ -1,13 +1,14 @@
 -- The output of a script.
-use Rattle.std.specs.Prelude.{◌≡◌, ◌⊎◌, ℕ, Bool, true, false, List, [], ◌∷◌, ◌++◌, Some, None, Ok, Err, MatchBool, if◌then◌else◌, codes}
+use Rattle.std.specs.Prelude.{◌≡◌, ◌⊎◌, ℕ, Bool, true, false, List, [], ◌∷◌, ◌++◌, Some, None, Ok, Err, MatchBool}
+use Rattle.std.specs.Prelude.{if◌then◌else◌, codes}
 use Rattle.std.specs.Str.Lines.{lines}
 use Rattle.sd_tree.specs.Journal.{opening_of, root_refusal}
 use Rattle.sd_tree.specs.declared.opening.RootSpec.{RootSpec}
-use Rattle.sd_share.specs.Machine.{Machine, Steps, started}
-use Rattle.sd_share.specs.Starts.{IsReaderCount, IsStartError}
-use Rattle.sd_share.specs.declared.request.Reply.{Reply}
-use Rattle.sd_share.specs.declared.request.Request.TheVariants.{Edit as Edits, Show}
-use Rattle.sd_share.specs.declared.start.StartError.{StartError}
+use Rattle.sd_desk.specs.Machine.{Machine, Steps, started}
+use Rattle.sd_desk.specs.Starts.{IsReaderCount, IsStartError}
+use Rattle.sd_desk.specs.declared.request.Reply.{Reply}
+use Rattle.sd_desk.specs.declared.request.Request.TheVariants.{Edit as Edits, Show}
+use Rattle.sd_desk.specs.declared.start.StartError.{StartError}
 use Rattle.sd_lines.specs.Answers.{AreAnswered}
 use Rattle.sd_script.specs.Command.{line_asks}
 use Rattle.sd_script.specs.Fault.{Reading, line_of_fault}
@@ -19,7 +20,8 @@ use Rattle.sd_script.specs.Tally.{no_lines, tallied}
 use Rattle.sd_script.specs.Reply.{explained_reply}
 use Rattle.sd_script.specs.View.{IsViewed}
 use Rattle.sd_script.specs.declared.asked.Asked.{Asked}
-use Rattle.sd_script.specs.declared.asked.Asked.TheVariants.{Opening as Opens, Asking, Explaining, Finding, Viewing, Importing}
+use Rattle.sd_script.specs.declared.asked.Asked.TheVariants.{Opening as Opens, Asking, Explaining, Finding, Viewing}
+use Rattle.sd_script.specs.declared.asked.Asked.TheVariants.{Importing}
 use Rattle.sd_script.specs.declared.carried.Carried.{Carried}
 use Rattle.sd_script.specs.declared.fault.LineFault.{LineFault}
 use Rattle.sd_script.specs.declared.listing.Which.TheVariants.{Granting}
@@ -46,7 +48,8 @@ line_asks_in s line = line_asks (manner_of s).paths (is_open s) line
 abbrev pub IsOpened : Manner → ℕ → RootSpec → List ℕ → Session → Type 0
 IsOpened manner readers root printed new =
     (IsReaderCount readers × (root_refusal (opening_of manner.mapping root) ≡ None)
-    × (printed ≡ counted_line (codes "opened") readers) × (new ≡ Opened manner.paths (started (opening_of manner.mapping root) readers)))
+    × (printed ≡ counted_line (codes "opened") readers)
+    × (new ≡ Opened manner.paths (started (opening_of manner.mapping root) readers)))
     ⊎ ((error : StartError) × IsStartError error readers (root_refusal (opening_of manner.mapping root))
     × (start_error_line error ≡ Some printed) × (new ≡ Closed manner))
 
@@ -54,7 +57,8 @@ IsOpened manner readers root printed new =
 abbrev pub IsDone : Session → Asked → List ℕ → Session → Type 0
 IsDone old (Opens readers root) printed new = IsOpened (manner_of old) readers root printed new
 IsDone (Opened paths old) (Asking request) printed new =
-    (reply : Reply) × (machine : Machine) × Steps old request reply machine × (reply_line reply ≡ Some printed) × (new ≡ Opened paths machine)
+    (reply : Reply) × (machine : Machine) × Steps old request reply machine × (reply_line reply ≡ Some printed)
+    × (new ≡ Opened paths machine)
 IsDone (Closed manner) (Asking request) printed new = ⊥
 IsDone (Opened paths old) (Explaining reader path token asked) printed new =
     (reply : Reply) × (machine : Machine) × Steps old (Show reader path) reply machine
@@ -97,6 +101,30 @@ begun manner = record { session = Closed manner; tally = no_lines }
 pub record IsNext (old : Carried) (line printed : List ℕ) (new : Carried) : Type 0 where
   pub answered : IsAnswered old.session line printed new.session
   pub counted : new.tally ≡ tallied line printed old.tally
+
+-- what is asked is done, whatever is told of it. No line asks to open a store where one is open
+abbrev pub IsMade : Session → Asked → Session → Type 0
+IsMade old (Opens readers root) new =
+    (IsReaderCount readers × (root_refusal (opening_of (manner_of old).mapping root) ≡ None)
+    × (new ≡ Opened (manner_of old).paths (started (opening_of (manner_of old).mapping root) readers)))
+    ⊎ (new ≡ Closed (manner_of old))
+IsMade (Opened paths old) (Asking request) new =
+    (reply : Reply) × (machine : Machine) × Steps old request reply machine × (new ≡ Opened paths machine)
+IsMade (Opened paths old) (Explaining reader path token asked) new =
+    (reply : Reply) × (machine : Machine) × Steps old (Show reader path) reply machine × (new ≡ Opened paths machine)
+IsMade (Opened paths old) (Finding reader path token asked) new =
+    (reply : Reply) × (machine : Machine) × Steps old (Show reader path) reply machine × (new ≡ Opened paths machine)
+IsMade (Opened paths old) (Importing edit path inherited) new =
+    (reply : Reply) × (machine : Machine) × Steps old (Edits edit) reply machine × (new ≡ Opened paths machine)
+IsMade old asked new = ⊥
+
+-- a line isn't answered, out of memory: nothing has changed, or what it asks for is done, and can't be told
+abbrev pub IsUntold : Session → List ℕ → Session → Type 0
+IsUntold old line new = (new ≡ old) ⊎ ((asked : Asked) × line_asks_in old line (Ok asked) × IsMade old asked new)
+
+-- and it isn't counted
+abbrev pub IsUnanswered : Carried → List ℕ → Carried → Type 0
+IsUnanswered old line new = (new.tally ≡ old.tally) × IsUntold old.session line new.session
 
 -- the whole output of a script that is carried out in this manner, and what is counted of it
 abbrev pub PrintsAndCounts : Manner → List ℕ → List ℕ → Tally → Type 0

@@ -10,10 +10,11 @@ use Rattle.sd_tree.specs.Refusals.{number_of, name_of}
 use Rattle.sd_tree.specs.declared.refusal.EditRefusal.{EditRefusal}
 use Rattle.sd_tree.specs.declared.tree.CheckReply.{CheckReply}
 use Rattle.sd_tree.specs.declared.tree.CheckReply.TheVariants as checks
-use Rattle.sd_share.specs.declared.request.Reply.{Reply}
-use Rattle.sd_share.specs.declared.request.Reply.TheVariants.{Edited, Refused, Published, Told, Learned, Answered, Shown, NoReader, NoNotice, Memory}
-use Rattle.sd_share.specs.declared.start.StartError.{StartError}
-use Rattle.sd_share.specs.declared.start.StartError.TheVariants as starts
+use Rattle.sd_desk.specs.declared.request.Reply.{Reply}
+use Rattle.sd_desk.specs.declared.request.Reply.TheVariants.{Edited, Refused, Published, Told, Learned, Answered, Shown}
+use Rattle.sd_desk.specs.declared.request.Reply.TheVariants.{NoReader, NoNotice, Memory}
+use Rattle.sd_desk.specs.declared.start.StartError.{StartError}
+use Rattle.sd_desk.specs.declared.start.StartError.TheVariants as starts
 use Rattle.sd_answer.specs.Answer.{line, verdict_line}
 use Rattle.sd_answer.specs.Why.{why_text}
 use Rattle.sd_answer.specs.declared.answer.Spelling.TheVariants.{Number}

@@ -1,6 +1,8 @@
 //! What a line asks for, and how its words are read.
 ghost use Rattle.std.specs.Prelude.{◌≡◌};
-ghost use Rattle.sd_script.specs.Command.{CommandValue, Open, AddContainer, AddObject, SetOwner, SetGroup, SetDacl, Remove, Protect, Move, Learn, Check, Why, Find, Show, ListNodes, Who, ImportNode, asks, question, command_value};
+ghost use Rattle.sd_script.specs.Command.{CommandValue, Open, AddContainer, AddObject, SetOwner, SetGroup, SetDacl};
+ghost use Rattle.sd_script.specs.Command.{Remove, Protect, Move, Learn, Check, Why, Find, Show, ListNodes, Who, Review};
+ghost use Rattle.sd_script.specs.Command.{ImportNode, asks, question, command_value};
 ghost use Rattle.sd_script.specs.Fault.{UnlessMemory};
 ghost use Rattle.sd_answer.specs.Word.{texts};
 ghost use Rattle.sd_script.specs.declared.paths.PathSpelling.{PathSpelling as Spelling};
@@ -12,7 +14,7 @@ use crate::importing::{Import, addition, import_in};
 use crate::paths::{PathSpelling, path_in};
 use crate::view::View;
 use sd_check::Token;
-use sd_share::Request;
+use sd_desk::Request;
 use sd_sid::Mask;
 use sd_tree::{Edit, Entries, NodeKind, Path, RootSpec};
 use std::alloc::Global;
@@ -104,6 +106,7 @@ pub(crate) fn asked_by(
         Command::ListNodes { path } => listed(alloc, paths, path),
         Command::Dump => Ok(Asked::Viewing(View::Dump)),
         Command::Who { path, mask, words } => granted(alloc, paths, path, mask, words),
+        Command::Review { path } => reviewed(alloc, paths, path),
         Command::ImportNode { kind, path, sddl } => importing(alloc, paths, kind, path, sddl),
     }
 }
@@ -312,6 +315,13 @@ fn granted(
         groups,
         asked,
     }))
+}
+
+fn reviewed(alloc: Global, paths: PathSpelling, path: &str) -> Result<Asked, Stop>
+    ensures { UnlessMemory (asks paths (Review path.now)) result }
+{
+    let path = path_in(alloc, paths, path)?;
+    Ok(Asked::Viewing(View::Review { path }))
 }
 
 fn importing(

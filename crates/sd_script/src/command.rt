@@ -1,7 +1,8 @@
 //! The commands of a script, with their words as they stand.
 ghost use Rattle.std.specs.Prelude.{◌≡◌, ◌∷◌, [], option_map};
 ghost use Rattle.std.specs.List.{list_any};
-ghost use Rattle.sd_script.specs.Command.{command_named, command_of, command_on, command_taking, command_value, command_with_base, is_empty, is_untimely, kind_named};
+ghost use Rattle.sd_script.specs.Command.{command_named, command_of, command_on, command_taking, command_value};
+ghost use Rattle.sd_script.specs.Command.{command_with_base, is_empty, is_untimely, kind_named};
 ghost use Rattle.sd_answer.specs.Word.{texts};
 
 use sd_tree::NodeKind;
@@ -28,6 +29,7 @@ pub(crate) enum CommandName {
     ListNodes,
     Dump,
     Who,
+    Review,
     ImportNode,
 }
 
@@ -127,6 +129,10 @@ pub(crate) enum Command<'a> {
         mask: &'a str,
         words: &'a [&'a str],
     },
+    /// What the pending edits change of the nodes at and below a path.
+    Review {
+        path: &'a str,
+    },
     /// A node is added with the descriptor that it had elsewhere.
     ImportNode {
         kind: NodeKind,
@@ -159,6 +165,7 @@ impl CommandName {
             "list" => Some(CommandName::ListNodes),
             "dump" => Some(CommandName::Dump),
             "who" => Some(CommandName::Who),
+            "review" => Some(CommandName::Review),
             "import" => Some(CommandName::ImportNode),
             _ => None,
         }
@@ -243,6 +250,7 @@ fn command_alone<'a>(name: CommandName) -> Option<Command<'a>>
         CommandName::Tell => Some(Command::Tell),
         CommandName::ListNodes => Some(Command::ListNodes { path: "/" }),
         CommandName::Dump => Some(Command::Dump),
+        CommandName::Review => Some(Command::Review { path: "/" }),
         _ => None,
     }
 }
@@ -255,6 +263,7 @@ fn command_on_one<'a>(name: CommandName, path: &'a str) -> Option<Command<'a>>
         CommandName::Remove => Some(Command::Remove { path }),
         CommandName::Protect => Some(Command::Protect { path }),
         CommandName::ListNodes => Some(Command::ListNodes { path }),
+        CommandName::Review => Some(Command::Review { path }),
         _ => None,
     }
 }

@@ -9,9 +9,10 @@ ghost use Rattle.sd_acl.specs.Descriptor.{descriptor_of};
 ghost use Rattle.sd_tree.specs.Descriptors.{own_descriptor_of_row};
 ghost use Rattle.sd_tree.specs.Names.{Names};
 ghost use Rattle.sd_tree.specs.declared.node.Row.{Row};
-ghost use Rattle.sd_script.specs.Dump.{AreAskedBy, IsAskedBy, IsDumpOf, IsReadBack, adding_word as adding_word_of, making, making_line as making_line_of, making_lines as making_lines_of};
+ghost use Rattle.sd_script.specs.Dump.{AreAskedBy, IsAskedBy, IsDumpOf, IsReadBack, adding_word as adding_word_of};
+ghost use Rattle.sd_script.specs.Dump.{making, making_line as making_line_of, making_lines as making_lines_of};
 ghost use Rattle.sd_script.specs.declared.asked.Asked.TheVariants.{Asking};
-ghost use Rattle.sd_share.specs.declared.request.Request.TheVariants.{Publish};
+ghost use Rattle.sd_desk.specs.declared.request.Request.TheVariants.{Publish};
 
 use crate::asked::Asked;
 use crate::fault::Stop;
@@ -26,15 +27,16 @@ use sd_text::print_sddl;
 use sd_tree::{NodeKind, NodeRef, Tree};
 use std::alloc::{AllocError, Global};
 
-/// The lines that make the tree: an opening for so many readers, an addition for each other node, a parent before what it
-/// holds, and `publish`. `fault name` where one of them isn't read as what makes its node.
+/// The lines that make the tree: an opening for so many readers, an addition for each other node, a parent before what
+/// it holds, and `publish`. `fault name` where one of them isn't read as what makes its node.
 pub(crate) fn dump_text(
     alloc: Global,
     paths: PathSpelling,
     tree: &Tree,
     readers: u64,
 ) -> Result<String, AllocError>
-    ensures { IfOk result (λ text. IsDumpOf paths readers (replay tree.now.opening tree.now.journal) (string_bytes text)) }
+    ensures { IfOk result
+        (λ text. IsDumpOf paths readers (replay tree.now.opening tree.now.journal) (string_bytes text)) }
 {
     let mut text = making_lines(alloc, paths, tree, readers)?;
     text.push_str("publish\n")?;

@@ -1,7 +1,7 @@
 //! Which nodes grant what a reader asks for.
 ghost use Rattle.std.specs.Prelude.{◌≡◌, IfOk, Some, string_bytes};
 ghost use Rattle.sd_script.specs.Find.{found_in, found_reply};
-ghost use Rattle.sd_share.specs.Machine.{Machine};
+ghost use Rattle.sd_desk.specs.Machine.{Machine};
 ghost use Rattle.sd_tree.specs.Answers.{kind_at};
 ghost use Rattle.sd_tree.specs.Journal.{replay};
 
@@ -9,7 +9,7 @@ use crate::listing::{Which, lacks_words, lines_below};
 use crate::paths::PathSpelling;
 use crate::reply::{reply_line, seen_line};
 use sd_answer::fault_line;
-use sd_share::Reply;
+use sd_desk::Reply;
 use sd_tree::{Path, Tree};
 use std::alloc::{AllocError, Global};
 

@@ -26,7 +26,8 @@ pub(crate) struct Script {
 impl Answers for Script {
     type State = Carried;
 
-    ghost answers = { λ script old line printed new. IfSome line (λ text. IsNextIn script.has_ids old text printed new) };
+    ghost answers = { λ script old line printed new. IfSome line
+        (λ text. IsNextIn script.has_ids old text printed new) };
 
     fn answer(
         &self,

@@ -3,10 +3,11 @@ ghost use Rattle.std.specs.Prelude.{◌≡◌, IfOk, string_bytes};
 ghost use Rattle.std.specs.Bool.{Decides};
 ghost use Rattle.sd_acl.specs.Descriptor.{descriptor_of};
 ghost use Rattle.sd_script.specs.Addition.{addition as addition_of, row_of};
-ghost use Rattle.sd_script.specs.Argument.{import_of as import_from, imported, imported_dacl as imported_dacl_of, inherited_in as inherited_in_of};
+ghost use Rattle.sd_script.specs.Argument.{import_of as import_from, imported, imported_dacl as imported_dacl_of};
+ghost use Rattle.sd_script.specs.Argument.{inherited_in as inherited_in_of};
 ghost use Rattle.sd_script.specs.Fault.{UnlessMemory};
 ghost use Rattle.sd_script.specs.Importing.{IsImported, inherited_by};
-ghost use Rattle.sd_share.specs.Machine.{Machine, accepted};
+ghost use Rattle.sd_desk.specs.Machine.{Machine, accepted};
 ghost use Rattle.sd_tree.specs.Answers.{descriptor_at};
 ghost use Rattle.sd_tree.specs.Journal.{replay};
 
@@ -15,7 +16,7 @@ use crate::fault::{LineFault, Stop};
 use crate::reply::reply_line;
 use crate::same::same_entries;
 use sd_acl::{Ace, Dacl, Descriptor, canonicalize};
-use sd_share::Reply;
+use sd_desk::Reply;
 use sd_text::{TextError, read_sddl};
 use sd_tree::{Edit, Entries, NodeDacl, NodeKind, Path, RootSpec, Tree};
 use std::alloc::{AllocError, Global};
@@ -105,8 +106,8 @@ pub(crate) fn addition(kind: NodeKind, path: Path, node: RootSpec) -> Edit
     }
 }
 
-/// The line of the reply to an edit that imports the node of a path: an edit that was accepted is told by whether the node
-/// inherits what it had inherited elsewhere, in the tree of all edits that were accepted. Want of memory has none.
+/// The line of the reply to an edit that imports the node of a path: an edit that was accepted is told by whether the
+/// node inherits what it had inherited elsewhere, in the tree of all edits that were accepted. Want of memory has none.
 pub fn import_line(
     alloc: Global,
     tree: &Tree,

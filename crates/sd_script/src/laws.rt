@@ -1,8 +1,10 @@
 //! What follows from the output of a script. A law is the contract of a function that does nothing.
 ghost use Rattle.sd_script.specs.Ids.{NoCommandWithoutAnId};
-ghost use Rattle.sd_script.specs.Laws.{BeginsAsCheck, HasOneAnswer, HasOneOutput};
+ghost use Rattle.sd_script.specs.Laws.{BeginsAsCheck, HasOneAnswer, HasOneOutput, SilentNodeIsUnchanged};
+ghost use Rattle.sd_script.specs.Laws.{SilentReviewChangesNothing};
 
-/// A line leaves one store and has one answer, unless it asks who is granted a right, whose lines are exact in what they say.
+/// A line leaves one store and has one answer, unless it asks who is granted a right, or who is by the pending edits:
+/// those lines are exact in what they say.
 pub fn lines_have_one_answer()
     ensures { HasOneAnswer }
 {}
@@ -20,4 +22,11 @@ pub fn why_begins_as_check()
 /// With ids a line whose first word is no id changes nothing: it opens no store, edits none, and raises no floor.
 pub fn no_command_without_an_id()
     ensures { NoCommandWithoutAnId }
+{}
+
+/// Where a review prints no line for a node, no check of it changes by the pending edits: of no token, for no request
+/// without MAXIMUM_ALLOWED ([MS-DTYP] 2.5.3.2). Where it prints its last line alone, none at or below its path does.
+pub fn silent_review_changes_nothing()
+    ensures node { SilentNodeIsUnchanged }
+    ensures review { SilentReviewChangesNothing }
 {}

@@ -1,7 +1,8 @@
 //! Scripts: lines of text that build a tree of securable nodes, edit it, publish and ask.
 //!
-//! Each line is a command with its words, and is answered by one line, and `why`, `find`, `list`, `dump` and `who` by several: by
-//! what a store replies, or by the first thing that is wrong with it. `script_output` takes a whole text and gives the whole output, which is what
+//! Each line is a command with its words, and is answered by one line, and `why`, `find`, `list`, `dump`, `who` and
+//! `review` by several: by what a store replies, or by the first thing that is wrong with it. `script_output` takes a
+//! whole text and gives the whole output, which is what
 //! `Prints` in specs/Output.antt says. The commands are told in docs/SCRIPT.md.
 //!
 //! ```text
@@ -18,6 +19,7 @@ mod argument;
 mod asked;
 mod carried;
 mod command;
+mod compared;
 mod dump;
 mod fault;
 mod find;
@@ -28,8 +30,11 @@ mod line;
 mod lines;
 mod listing;
 mod manner;
+mod origin;
 mod paths;
+mod pending;
 mod reply;
+mod review;
 mod same;
 mod script;
 mod session;
@@ -44,7 +49,8 @@ pub use fault::{LineFault, Stop, line_of_fault};
 pub use ids::LINES;
 pub use importing::import_line;
 pub use laws::{
-    lines_have_one_answer, no_command_without_an_id, texts_have_one_output, why_begins_as_check,
+    lines_have_one_answer, no_command_without_an_id, silent_review_changes_nothing,
+    texts_have_one_output, why_begins_as_check,
 };
 pub use line::read_line;
 pub use lines::is_silent;

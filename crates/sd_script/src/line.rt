@@ -10,7 +10,8 @@ use crate::paths::PathSpelling;
 use std::alloc::Global;
 use std::str::from_utf8;
 
-/// What a line that isn't silent asks for, by this spelling of paths, where a store is open or none is; or its first fault.
+/// What a line that isn't silent asks for, by this spelling of paths, where a store is open or none is; or its first
+/// fault.
 pub fn read_line(
     alloc: Global,
     paths: PathSpelling,

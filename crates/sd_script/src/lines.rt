@@ -25,6 +25,7 @@ pub(crate) fn wants_lines(line: &[u8]) -> bool
         || word == b"list".as_slice()
         || word == b"dump".as_slice()
         || word == b"who".as_slice()
+        || word == b"review".as_slice()
 }
 
 /// The bytes before the first space.

@@ -1,5 +1,6 @@
 //! The nodes of a published tree, a line for each.
-ghost use Rattle.std.specs.Prelude.{◌≡◌, ◌++◌, ◌<◌, IfOk, OnOk, Some, [], length, if◌then◌else◌, option_map, slice_get, string_bytes};
+ghost use Rattle.std.specs.Prelude.{◌≡◌, ◌++◌, ◌<◌, IfOk, OnOk, Some, [], length, if◌then◌else◌, option_map, slice_get};
+ghost use Rattle.std.specs.Prelude.{string_bytes};
 ghost use Rattle.std.specs.FinMap.{entries};
 ghost use Rattle.std.specs.List.{flat_map, list_any};
 ghost use Rattle.sd_acl.specs.Descriptor.{descriptor_of};
@@ -7,7 +8,9 @@ ghost use Rattle.sd_tree.specs.Answers.{descriptor_at};
 ghost use Rattle.sd_tree.specs.Journal.{replay};
 ghost use Rattle.sd_tree.specs.Listing.{listed};
 ghost use Rattle.sd_tree.specs.Names.{is_within};
-ghost use Rattle.sd_script.specs.Listing.{is_split_below as is_split_below_of, kind_word as kind_word_of, grants, lacks_words as lacks_words_of, line_below as line_below_of, line_of as line_of_of, listed_in, node_line as node_line_of};
+ghost use Rattle.sd_script.specs.Listing.{is_split_below as is_split_below_of, kind_word as kind_word_of, grants};
+ghost use Rattle.sd_script.specs.Listing.{lacks_words as lacks_words_of, line_below as line_below_of};
+ghost use Rattle.sd_script.specs.Listing.{line_of as line_of_of, listed_in, node_line as node_line_of};
 
 use crate::paths::{PathSpelling, is_split, path_word};
 use sd_acl::Descriptor;
@@ -27,8 +30,8 @@ pub(crate) enum Which {
     Granting { token: Token, asked: Mask },
 }
 
-/// The lines of the nodes at and below a path, in the order of their paths; `nonode` where none stands there, and `fault name`
-/// where the path of one would be more than one word.
+/// The lines of the nodes at and below a path, in the order of their paths; `nonode` where none stands there, and
+/// `fault name` where the path of one would be more than one word.
 pub(crate) fn list_text(
     alloc: Global,
     paths: PathSpelling,

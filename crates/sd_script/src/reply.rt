@@ -6,7 +6,7 @@ ghost use Rattle.sd_script.specs.Reply.{reply_line, seen_line, shown_line, start
 use sd_acl::Descriptor;
 use sd_answer::{Spelling, verdict_line, why_text};
 use sd_check::Token;
-use sd_share::{Reply, StartError};
+use sd_desk::{Reply, StartError};
 use sd_sid::{GenericMapping, Mask};
 use sd_text::print_sddl;
 use sd_tree::{CheckReply, EditRefusal};

@@ -5,11 +5,11 @@ ghost use Rattle.sd_tree.specs.Listing.{listed};
 ghost use Rattle.sd_script.specs.Addition.{addition};
 ghost use Rattle.sd_script.specs.Dump.{making, root_of};
 ghost use Rattle.sd_script.specs.declared.asked.Asked.TheVariants.{Asking};
-ghost use Rattle.sd_share.specs.declared.request.Request.TheVariants.{Publish};
+ghost use Rattle.sd_desk.specs.declared.request.Request.TheVariants.{Publish};
 
 use crate::asked::Asked;
 use sd_acl::Ace;
-use sd_share::Request;
+use sd_desk::Request;
 use sd_sid::Sid;
 use sd_tree::{Edit, NodeDacl, NodeKind, NodeRef, Path, RootSpec};
 

@@ -1,7 +1,9 @@
 //! The whole output of a script.
-ghost use Rattle.std.specs.Prelude.{◌≡◌, true, IfOk, string_bytes};
-ghost use Rattle.sd_script.specs.Output.{IsAnswered, IsDone, IsNext, IsTold, PrintsAndCounts, is_open};
-ghost use Rattle.sd_script.specs.declared.asked.Asked.TheVariants.{Asking, Explaining, Finding, Importing, Opening, Viewing};
+ghost use Rattle.std.specs.Prelude.{◌≡◌, ◌⊎◌, true, IfOk, OnErr, string_bytes};
+ghost use Rattle.sd_script.specs.Output.{IsAnswered, IsDone, IsMade, IsNext, IsTold, IsUnanswered, IsUntold};
+ghost use Rattle.sd_script.specs.Output.{PrintsAndCounts, is_open};
+ghost use Rattle.sd_script.specs.declared.asked.Asked.TheVariants.{Asking, Explaining, Finding, Importing, Opening};
+ghost use Rattle.sd_script.specs.declared.asked.Asked.TheVariants.{Viewing};
 
 use crate::asked::Asked;
 use crate::carried::Carried;
@@ -18,15 +20,16 @@ use crate::session::Session;
 use crate::tally::Tally;
 use crate::view::{View, view_text};
 use sd_check::Token;
+use sd_desk::{Desk, Request};
 use sd_lines::answer_text;
-use sd_share::{Desk, Request};
 use sd_sid::Mask;
 use sd_tree::{Edit, Entries, Path, RootSpec};
 use std::alloc::{AllocError, Global};
 
-/// The whole output of a script that is carried out in this manner, and what is counted of its lines. Each line is answered by one
-/// line, and a question that has several by them, an empty one the last; an empty line, and one that begins with `#`, by none. A line
-/// that can't be carried out is answered by its first fault, and the script goes on. Fails only where memory is refused.
+/// The whole output of a script that is carried out in this manner, and what is counted of its lines. Each line is
+/// answered by one line, and a question that has several by them, an empty one the last; an empty line, and one that
+/// begins with `#`, by none. A line that can't be carried out is answered by its first fault, and the script goes on.
+/// Fails only where memory is refused.
 pub fn script_output(
     alloc: Global,
     manner: &Manner,
@@ -41,10 +44,12 @@ pub fn script_output(
     Ok((printed, carried.tally))
 }
 
-/// What a line, without its end, is answered by: a line, or several, an empty one the last, or nothing where it is empty or
-/// begins with `#`. The line is counted. Fails only where memory is refused.
+/// What a line, without its end, is answered by: a line, or several, an empty one the last, or nothing where it is
+/// empty or begins with `#`. The line is counted. The only error is out of memory: then nothing has changed, or what
+/// the line asks for is done, without an answer.
 pub fn answer_line(alloc: Global, carried: &mut Carried, line: &[u8]) -> Result<String, AllocError>
-    ensures { IfOk result (λ text. IsNext carried.old line.now (string_bytes text) carried.new) }
+    ensures answered { IfOk result (λ text. IsNext carried.old line.now (string_bytes text) carried.new) }
+    ensures failed { OnErr result (IsUnanswered carried.old line.now carried.new) }
 {
     let answer = answer_in(alloc, &mut carried.session, line)?;
     carried.tally = carried.tally.with(line, answer.as_bytes());
@@ -53,7 +58,8 @@ pub fn answer_line(alloc: Global, carried: &mut Carried, line: &[u8]) -> Result<
 
 /// What a line is answered by where this stands.
 fn answer_in(alloc: Global, session: &mut Session, line: &[u8]) -> Result<String, AllocError>
-    ensures { IfOk result (λ text. IsAnswered session.old line.now (string_bytes text) session.new) }
+    ensures answered { IfOk result (λ text. IsAnswered session.old line.now (string_bytes text) session.new) }
+    ensures failed { OnErr result (IsUntold session.old line.now session.new) }
 {
     if is_silent(line) {
         return Ok(String::new(alloc));
@@ -67,7 +73,8 @@ fn answer_in(alloc: Global, session: &mut Session, line: &[u8]) -> Result<String
 
 /// What a line that isn't silent is told: what it asks for, or its fault.
 fn told(alloc: Global, session: &mut Session, line: &[u8]) -> Result<String, AllocError>
-    ensures { IfOk result (λ text. IsTold session.old line.now (string_bytes text) session.new) }
+    ensures told { IfOk result (λ text. IsTold session.old line.now (string_bytes text) session.new) }
+    ensures failed { OnErr result (IsUntold session.old line.now session.new) }
 {
     match read_line(alloc, session.manner().paths, session.is_open(), line) {
         Ok(Asked::Opening { readers, root }) => open_store(alloc, session, readers, &root),
@@ -108,7 +115,8 @@ fn open_store(
     readers: u64,
     root: &RootSpec,
 ) -> Result<String, AllocError>
-    ensures { IfOk result (λ text. IsDone session.old (Opening readers root.now) (string_bytes text) session.new) }
+    ensures done { IfOk result (λ text. IsDone session.old (Opening readers root.now) (string_bytes text) session.new) }
+    ensures failed { OnErr result (IsMade session.old (Opening readers root.now) session.new) }
 {
     let manner = session.manner();
     match Desk::start(alloc, &manner.mapping, root, readers) {
@@ -126,7 +134,8 @@ fn open_store(
 /// Asks the store that is open.
 fn ask(alloc: Global, session: &mut Session, request: &Request) -> Result<String, AllocError>
     requires { is_open session.old ≡ true }
-    ensures { IfOk result (λ text. IsDone session.old (Asking request.now) (string_bytes text) session.new) }
+    ensures done { IfOk result (λ text. IsDone session.old (Asking request.now) (string_bytes text) session.new) }
+    ensures failed { OnErr result (IsMade session.old (Asking request.now) session.new) }
 {
     match session {
         Session::Opened(_, desk) => {
@@ -137,8 +146,8 @@ fn ask(alloc: Global, session: &mut Session, request: &Request) -> Result<String
     }
 }
 
-/// Explains, of the store that is open, what a reader is answered. The reader asks for the node's descriptor, and the reasons
-/// are that descriptor's.
+/// Explains, of the store that is open, what a reader is answered. The reader asks for the node's descriptor, and the
+/// reasons are that descriptor's.
 fn explain(
     alloc: Global,
     session: &mut Session,
@@ -148,7 +157,9 @@ fn explain(
     asked: Mask,
 ) -> Result<String, AllocError>
     requires { is_open session.old ≡ true }
-    ensures { IfOk result (λ text. IsDone session.old (Explaining reader path token.now asked) (string_bytes text) session.new) }
+    ensures done { IfOk result
+        (λ text. IsDone session.old (Explaining reader path token.now asked) (string_bytes text) session.new) }
+    ensures failed { OnErr result (IsMade session.old (Explaining reader path token.now asked) session.new) }
 {
     let mapping = session.manner().mapping;
     match session {
@@ -160,8 +171,8 @@ fn explain(
     }
 }
 
-/// Finds, in the store that is open, the nodes at and below a path that grant what a reader asks for. The reader asks for the
-/// descriptor of the path's node, and all are checked in the tree that it sees.
+/// Finds, in the store that is open, the nodes at and below a path that grant what a reader asks for. The reader asks
+/// for the descriptor of the path's node, and all are checked in the tree that it sees.
 fn find(
     alloc: Global,
     session: &mut Session,
@@ -171,7 +182,10 @@ fn find(
     asked: Mask,
 ) -> Result<String, AllocError>
     requires { is_open session.old ≡ true }
-    ensures { IfOk result (λ text. IsDone session.old (Finding reader path token asked) (string_bytes text) session.new) }
+    ensures done { IfOk result
+        (λ text. IsDone session.old (Finding reader path token asked) (string_bytes text) session.new) }
+    ensures failed { OnErr result ((session.new ≡ session.old)
+        ⊎ IsMade session.old (Finding reader path token asked) session.new) }
 {
     match session {
         Session::Opened(paths, desk) => {
@@ -204,7 +218,9 @@ fn import(
     inherited: &Entries,
 ) -> Result<String, AllocError>
     requires { is_open session.old ≡ true }
-    ensures { IfOk result (λ text. IsDone session.old (Importing edit path.now inherited.now) (string_bytes text) session.new) }
+    ensures done { IfOk result
+        (λ text. IsDone session.old (Importing edit path.now inherited.now) (string_bytes text) session.new) }
+    ensures failed { OnErr result (IsMade session.old (Importing edit path.now inherited.now) session.new) }
 {
     match session {
         Session::Opened(_, desk) => {

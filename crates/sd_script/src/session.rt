@@ -4,7 +4,7 @@ ghost use Rattle.sd_script.specs.Output.{is_open, manner_of};
 
 use crate::manner::Manner;
 use crate::paths::PathSpelling;
-use sd_share::Desk;
+use sd_desk::Desk;
 
 /// What stands between two lines of a script.
 #[derive(Drop)]

@@ -1,13 +1,14 @@
-//! What a script is told of the published tree at once, and no reader asks for.
+//! What a script is told of the store at once, and no reader asks for.
 ghost use Rattle.std.specs.Prelude.{◌≡◌, IfOk, string_bytes};
 ghost use Rattle.sd_script.specs.View.{IsViewed};
 
 use crate::dump::dump_text;
 use crate::listing::list_text;
 use crate::paths::PathSpelling;
+use crate::review::review_text;
 use crate::who::node_who_text;
 use sd_check::GroupState;
-use sd_share::Desk;
+use sd_desk::Desk;
 use sd_sid::{Mask, Sid};
 use sd_tree::Path;
 use std::alloc::{AllocError, Global};
@@ -43,7 +44,7 @@ impl Groups {
     }
 }
 
-/// A view of the published tree. It changes nothing, and raises no floor.
+/// A view of the published tree, or of what the pending edits change of it. It changes nothing, and raises no floor.
 #[derive(Debug, Drop)]
 pub enum View {
     /// The nodes at and below a path.
@@ -57,6 +58,10 @@ pub enum View {
         path: Path,
         groups: Groups,
         asked: Mask,
+    },
+    /// What the pending edits change of the nodes at and below a path, for all tokens.
+    Review {
+        path: Path,
     },
 }
 
@@ -78,5 +83,6 @@ pub(crate) fn view_text(
             groups,
             asked,
         } => node_who_text(alloc, tree, path, groups, *asked),
+        View::Review { path } => review_text(alloc, paths, desk, path),
     }
 }

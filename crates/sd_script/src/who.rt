@@ -15,8 +15,8 @@ use sd_sid::{GenericMapping, Mask, OBJECT_RIGHTS};
 use sd_tree::{Path, Tree};
 use std::alloc::{AllocError, Global};
 
-/// The lines of the node of a path: whom its descriptor grants which of the rights, of the tokens that have these groups
-/// ([MS-DTYP] 2.5.3.2). `nonode` where none stands there, and `empty` where no right is asked about.
+/// The lines of the node of a path: whom its descriptor grants which of the rights, of the tokens that have these
+/// groups ([MS-DTYP] 2.5.3.2). `nonode` where none stands there, and `empty` where no right is asked about.
 pub(crate) fn node_who_text(
     alloc: Global,
     tree: &Tree,
@@ -81,7 +81,7 @@ fn rights_asked(mapping: &GenericMapping, asked: Mask) -> Mask
 }
 
 /// The DACL, borrowed for an analysis.
-fn lent(dacl: &Dacl) -> DaclRef<'_>
+pub(crate) fn lent(dacl: &Dacl) -> DaclRef<'_>
     ensures { entries_of result ≡ dacl_entries dacl.now }
 {
     match dacl {

@@ -5,8 +5,8 @@ use Rattle.std.specs.List.{flat_map}
 use Rattle.std.specs.Str.Lines.{lines}
 use Rattle.sd_tree.specs.declared.edit.Edit.{Edit}
 use Rattle.sd_tree.specs.declared.opening.Opening.{Opening}
-use Rattle.sd_share.specs.Machine.{accepted}
-use Rattle.sd_share.specs.declared.request.Request.TheVariants.{Check, Tell, Learn, Show}
+use Rattle.sd_desk.specs.Machine.{accepted}
+use Rattle.sd_desk.specs.declared.request.Request.TheVariants.{Check, Tell, Learn, Show}
 use Rattle.sd_store.specs.Audits.{reply_by}
 use Rattle.sd_store.specs.declared.query.Query.{Query}
 use Rattle.sd_answer.specs.Answer.{fault_line}
@@ -39,9 +39,15 @@ IsForScripts old printed new = (printed ≡ fault_line (codes "audit")) × (new 
 -- what is asked is done as in a script, but that a store is opened for the workers, that a check is kept, and that an
 -- audit tells, teaches, shows, explains, finds and views nothing
 abbrev pub IsDoneInAudit : ℕ → Progress → Asked → List ℕ → Progress → Type 0
-IsDoneInAudit workers old (Opens readers root) printed new = IsOpened (manner_of old.store) workers root printed new.store × (new.queries ≡ old.queries)
+IsDoneInAudit workers old (Opens readers root) printed new = IsOpened
+    (manner_of old.store) workers root printed new.store × (new.queries ≡ old.queries)
 IsDoneInAudit workers old (Asking (Check reader path token asked)) printed new =
-    (printed ≡ []) × (new ≡ record { store = old.store; queries = old.queries ++ record { path = path; token = token; asked = asked } ∷ [] })
+    (printed ≡ []) × (new
+    ≡ record {
+      store = old.store;
+      queries = old.queries ++ record { path = path; token = token; asked = asked }
+          ∷ [];
+    })
 IsDoneInAudit workers old (Asking Tell) printed new = IsForScripts old printed new
 IsDoneInAudit workers old (Asking (Learn reader len)) printed new = IsForScripts old printed new
 IsDoneInAudit workers old (Asking (Show reader path)) printed new = IsForScripts old printed new
@@ -90,14 +96,17 @@ pub record IsNextInAudit (workers : ℕ) (old : Audited) (line printed : List �
 
 -- one line after the other, and then the end, which is no line's answer and isn't counted
 abbrev pub AreAnsweredInAudit : ℕ → Audited → List (List ℕ) → List ℕ → Tally → Type 0
-AreAnsweredInAudit workers old [] printed tally = IsEnd old.progress.store old.progress.queries printed × (tally ≡ old.tally)
+AreAnsweredInAudit workers old [] printed tally = IsEnd old.progress.store old.progress.queries printed
+    × (tally ≡ old.tally)
 AreAnsweredInAudit workers old (line ∷ lines) printed tally =
     (first : List ℕ) × (between : Audited) × (rest : List ℕ)
-    × IsNextInAudit workers old line first between × AreAnsweredInAudit workers between lines rest tally × (printed ≡ first ++ rest)
+    × IsNextInAudit workers old line first between × AreAnsweredInAudit workers between lines rest tally
+    × (printed ≡ first ++ rest)
 
 -- the whole output of an audit by so many workers that is carried out in this manner, and what is counted of it
 abbrev pub PrintsAuditAndCounts : Manner → ℕ → List ℕ → List ℕ → Tally → Type 0
-PrintsAuditAndCounts manner workers text printed tally = AreAnsweredInAudit workers (begun manner) (lines text) printed tally
+PrintsAuditAndCounts manner workers text printed tally = AreAnsweredInAudit workers (begun manner)
+    (lines text) printed tally
 
 abbrev pub PrintsAudit : Manner → ℕ → List ℕ → List ℕ → Type 0
 PrintsAudit manner workers text printed = (tally : Tally) × PrintsAuditAndCounts manner workers text printed tally

@@ -4,8 +4,8 @@ use Rattle.std.specs.List.{flat_map}
 use Rattle.std.specs.Str.Lines.{lines}
 use Rattle.sd_tree.specs.declared.opening.Opening.{Opening}
 use Rattle.sd_tree.specs.declared.opening.RootSpec.{RootSpec}
-use Rattle.sd_share.specs.Machine.{Machine}
-use Rattle.sd_share.specs.declared.request.Answer.{Answer}
+use Rattle.sd_desk.specs.Machine.{Machine}
+use Rattle.sd_desk.specs.declared.request.Answer.{Answer}
 use Rattle.sd_store.specs.Sights.{StoreState}
 use Rattle.sd_store.specs.declared.query.Query.{Query}
 use Rattle.sd_script.specs.Command.{line_asks}
@@ -23,19 +23,31 @@ use Rattle.sd_script_audit.specs.declared.counted.Counted.{Counted}
 
 -- the machine of a writer, whose readers have seen nothing
 abbrev pub machine_of : Opening → ℕ → StoreState → Machine
-machine_of opening readers writer = record { opening = opening; published = writer.journal; pending = writer.pending; floors = replicate readers [] }
+machine_of opening readers writer = record {
+  opening = opening;
+  published = writer.journal;
+  pending = writer.pending;
+  floors = replicate readers [];
+}
 
 -- a store that is open, and the queries so far
 abbrev pub progress : PathSpelling → Opening → ℕ → StoreState → List Query → Progress
-progress paths opening readers writer queries = record { store = Opened paths (machine_of opening readers writer); queries = queries }
+progress paths opening readers writer queries = record {
+  store = Opened paths (machine_of opening readers writer);
+  queries = queries;
+}
 
 -- and what is counted so far
 abbrev pub audited : PathSpelling → Opening → ℕ → StoreState → List Query → Tally → Audited
-audited paths opening readers writer queries tally = record { progress = progress paths opening readers writer queries; tally = tally }
+audited paths opening readers writer queries tally = record {
+  progress = progress paths opening readers writer queries;
+  tally = tally;
+}
 
 -- the line opens a store with this root, where none is open
 abbrev pub OpensStore : PathSpelling → List ℕ → RootSpec → Type 0
-OpensStore paths line root = (is_silent line ≡ false) × ((readers : ℕ) × line_asks paths false line (Ok (Opens readers root)))
+OpensStore paths line root = (is_silent line ≡ false)
+    × ((readers : ℕ) × line_asks paths false line (Ok (Opens readers root)))
 
 -- an opening line was answered, and where a store was then open, so were the lines after it and the end
 abbrev pub IsOpenedAndAudited : Manner → ℕ → RootSpec → List ℕ → List ℕ → Bool → Counted → Counted → Type 0
@@ -43,7 +55,10 @@ IsOpenedAndAudited manner workers root line after true old new =
     (first : List ℕ) × (machine : Machine) × (rest : List ℕ)
     × IsOpened manner workers root first (Opened manner.paths machine)
     × AreAnsweredInAudit workers
-    (record { progress = record { store = Opened manner.paths machine; queries = [] }; tally = tallied line first old.tally })
+    (record {
+      progress = record { store = Opened manner.paths machine; queries = [] };
+      tally = tallied line first old.tally;
+    })
     (lines after) rest new.tally
     × (new.printed.items ≡ old.printed.items ++ first ++ rest)
 IsOpenedAndAudited manner workers root line after false old new =
@@ -53,7 +68,8 @@ IsOpenedAndAudited manner workers root line after false old new =
 -- what the last publish and the notice print
 abbrev pub last_lines : StoreState → List ℕ
 last_lines writer =
-    last_publish writer.pending (length (writer.journal ++ writer.pending)) ++ counted_line (codes "told") (length (writer.journal ++ writer.pending))
+    last_publish writer.pending (length (writer.journal ++ writer.pending)) ++ counted_line (codes "told")
+    (length (writer.journal ++ writer.pending))
 
 -- the lines of answers by journals of this length
 abbrev pub given_line : ℕ → Answer → List ℕ

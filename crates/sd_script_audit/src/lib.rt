@@ -1,9 +1,9 @@
 //! Audits: a script whose checks are answered at the end, by all that was published, dealt among workers.
 //!
 //! Lines are read and answered as those of a script are. A check is kept; after the last line the edits that wait are
-//! published, and each check is answered by them. `run_audit` takes a whole script from a reader, writes the whole output and
-//! tells what is counted of its lines, which is what `PrintsAuditAndCounts` in specs/Audit.antt says. docs/SCRIPT.md tells the
-//! same in prose.
+//! published, and each check is answered by them. `run_audit` takes a whole script from a reader, writes the whole
+//! output and tells what is counted of its lines, which is what `PrintsAuditAndCounts` in specs/Audit.antt says.
+//! docs/SCRIPT.md tells the same in prose.
 //!
 //! ```text
 //! let mut reader = Watched::new(b"open 1 O:BAG:SYD:\ncheck 0 / S-1-5-18 0x1\n".as_slice());

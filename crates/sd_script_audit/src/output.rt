@@ -10,13 +10,13 @@ ghost use Rattle.std.specs.Str.Lines.{lines};
 use crate::answers::publish_and_answer;
 use crate::counted::Counted;
 use crate::queries::collect_queries;
+use sd_desk::StartError;
 use sd_history::Opened;
 use sd_lines::{Ending, first_line};
 use sd_script::{
     Asked, Manner, PathSpelling, Stop, Tally, counted_line, is_silent, line_of_fault, read_line,
     start_error_line,
 };
-use sd_share::StartError;
 use sd_store::{Checker, Gate, Naming, StoreWriter, start};
 use sd_stream::RunError;
 use sd_tree::{Edit, RootSpec};
@@ -25,8 +25,8 @@ use std::marker::Brand;
 use std::sync::Wait;
 use std::thread::Threads;
 
-/// The whole output of an audit by so many workers that is carried out in this manner, and what is counted of its lines. Fails
-/// where memory is refused, and by `Thread`.
+/// The whole output of an audit by so many workers that is carried out in this manner, and what is counted of its
+/// lines. Fails where memory is refused, and by `Thread`.
 pub(crate) fn audit_output<T: Threads + Wait + Sync, G: Gate + Sync>(
     rt: &T,
     alloc: Global,
@@ -98,8 +98,8 @@ fn opened_root(
     }
 }
 
-/// Opens a store of this history by a line, and answers the lines after, to the end of the audit. Whether the store was opened:
-/// where it was refused, just that is printed.
+/// Opens a store of this history by a line, and answers the lines after, to the end of the audit. Whether the store was
+/// opened: where it was refused, just that is printed.
 fn open_and_audit<J: Naming + Send + Sync, T: Threads + Wait + Sync, G: Gate + Sync>(
     rt: &T,
     alloc: Global,

@@ -2,8 +2,8 @@
 
 ghost use Rattle.std.specs.Prelude.{◌≡◌, ◌++◌, ℕ, List, [], IfOk, OnOk, codes, string_bytes};
 ghost use Rattle.std.specs.Str.Lines.{lines};
-ghost use Rattle.sd_share.specs.Machine.{Steps};
-ghost use Rattle.sd_share.specs.declared.request.Request.TheVariants as asked;
+ghost use Rattle.sd_desk.specs.Machine.{Steps};
+ghost use Rattle.sd_desk.specs.declared.request.Request.TheVariants as asked;
 ghost use Rattle.sd_script_audit.specs.Audit.{AreAnsweredInAudit, IsAnsweredInAudit, IsDoneInAudit};
 ghost use Rattle.sd_script_audit.specs.Parts.{audited, machine_of, progress};
 ghost use Rattle.sd_script.specs.declared.paths.PathSpelling.{PathSpelling as Spelling};
@@ -14,11 +14,11 @@ ghost use Rattle.sd_script.specs.declared.asked.Asked.TheVariants.{Asking, Impor
 
 use crate::counted::Counted;
 use sd_answer::fault_line;
+use sd_desk::{Reply, Request};
 use sd_lines::{Ending, first_line};
 use sd_script::{
     Asked, PathSpelling, Stop, import_line, is_silent, line_of_fault, read_line, reply_line,
 };
-use sd_share::{Reply, Request};
 use sd_store::{EditError, Naming, PublishError, Query, StoreWriter};
 use sd_tree::{Edit, Entries, Path};
 use std::alloc::{AllocError, Global};
@@ -37,7 +37,8 @@ pub(crate) fn collect_queries<J: Naming, T: Wait>(
     requires queries { queries.old.items ≡ [] }
     requires printed { counted.old.printed.items ≡ [] }
     ensures { (workers : ℕ) → OnOk result ((back : List ℕ) (tally : Tally)
-        → AreAnsweredInAudit workers (audited paths J.opening workers writer.new queries.new.items counted.new.tally) [] back tally
+        → AreAnsweredInAudit workers
+        (audited paths J.opening workers writer.new queries.new.items counted.new.tally) [] back tally
         → AreAnsweredInAudit workers (audited paths J.opening workers writer.old [] counted.old.tally) (lines text.now)
         (counted.new.printed.items ++ back) tally) }
 {
@@ -122,7 +123,8 @@ fn import<J: Naming>(
     inherited: &Entries,
 ) -> Result<String, AllocError>
     ensures { (paths : Spelling) (workers : ℕ) (queries : List Kept) → IfOk result (λ text. IsDoneInAudit workers
-        (progress paths J.opening workers writer.old queries) (Importing edit.now path.now inherited.now) (string_bytes text)
+        (progress paths J.opening workers writer.old queries) (Importing edit.now path.now inherited.now)
+        (string_bytes text)
         (progress paths J.opening workers writer.new queries)) }
 {
     let reply = edit_reply(writer, edit);

@@ -16,7 +16,8 @@ use std::sync::Wait;
 use std::thread::Threads;
 
 /// Reads a whole script, and writes its whole output as an audit's: its checks are answered at the end, by all that was
-/// published, dealt among so many workers, 1 to 64. It is carried out in this manner, and what is counted of its lines is told.
+/// published, dealt among so many workers, 1 to 64. It is carried out in this manner, and what is counted of its lines
+/// is told.
 /// `OpenGate` lets each check through.
 ///
 /// - `Read`: the reader failed; nothing was written.
@@ -34,7 +35,8 @@ pub fn run_audit<T: Threads + Wait + Sync, R: Read, W: Write, G: Gate + Sync>(
     writer: &mut Watched<W>,
     gate: &G,
 ) -> Result<Tally, RunError>
-    ensures ok { IfOk result (λ tally. AppendsOutput (λ text printed. PrintsAuditAndCounts manner.now workers text printed tally)
+    ensures ok { IfOk result
+        (λ tally. AppendsOutput (λ text printed. PrintsAuditAndCounts manner.now workers text printed tally)
         (R.remaining (inner_of reader.old))
         (W.contents (inner_of writer.old)) (W.contents (inner_of writer.new))) }
     ensures err { IfErr result (LeavesOutput (PrintsAudit manner.now workers) (R.remaining (inner_of reader.old))

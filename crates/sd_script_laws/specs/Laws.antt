@@ -2,8 +2,8 @@
 use Rattle.std.specs.Prelude.{◌≡◌, ◌≢◌, ℕ, List, [], ◌∷◌, length, None, codes}
 use Rattle.std.specs.Str.Lines.{lines}
 use Rattle.sd_tree.specs.Journal.{replay, root_refusal, IsLawful}
-use Rattle.sd_share.specs.Machine.{Machine}
-use Rattle.sd_share.specs.Starts.{IsReaderCount}
+use Rattle.sd_desk.specs.Machine.{Machine}
+use Rattle.sd_desk.specs.Starts.{IsReaderCount}
 use Rattle.sd_answer.specs.Answer.{fault_line}
 use Rattle.sd_script.specs.Output.{IsAnswered, IsDone}
 use Rattle.sd_script.specs.declared.asked.Asked.TheVariants.{Viewing}
@@ -19,7 +19,8 @@ Reaches old [] new = new ≡ old
 Reaches old (line ∷ lines) new =
     (printed : List ℕ) × (between : Session) × IsAnswered old line printed between × Reaches between lines new
 
--- a machine as each run of a store has one: readers enough and not too many, an opening that isn't refused, and accepted edits
+-- a machine as each run of a store has one: readers enough and not too many, an opening that isn't refused, and
+-- accepted edits
 pub record IsSound (m : Machine) : Type 0 where
   pub readers : IsReaderCount (length m.floors)
   pub accepted : root_refusal m.opening ≡ None
@@ -39,6 +40,8 @@ same_manner paths m = record { mapping = m.opening.mapping; paths = paths }
 -- where what is told isn't the fault
 abbrev pub DumpMakesTheTreeAgain : Type 0
 DumpMakesTheTreeAgain =
-    (paths : PathSpelling) (m : Machine) (printed : List ℕ) (new : Session) → IsSound m → IsDone (Opened paths m) (Viewing Dump) printed new → printed ≢ fault_line (codes "name")
-    → (again : Machine) × IsSameAgain m again × Reaches (Closed (same_manner paths m)) (lines printed) (Opened paths again)
+    (paths : PathSpelling) (m : Machine) (printed : List ℕ) (new : Session) → IsSound m
+    → IsDone (Opened paths m) (Viewing Dump) printed new → printed ≢ fault_line (codes "name")
+    → (again : Machine) × IsSameAgain m again
+    × Reaches (Closed (same_manner paths m)) (lines printed) (Opened paths again)
     × ((other : Session) → Reaches (Closed (same_manner paths m)) (lines printed) other → other ≡ Opened paths again)

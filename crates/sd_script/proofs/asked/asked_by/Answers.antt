@@ -33,6 +33,9 @@ returns-in-Who c = rw (c.in-Who.is) c.granted.ensures
 pub returns-in-ListNodes : goal.returns-in-ListNodes
 returns-in-ListNodes c = rw (c.in-ListNodes.is) c.listed.ensures
 
+pub returns-in-Review : goal.returns-in-Review
+returns-in-Review c = rw (c.in-Review.is) c.reviewed.ensures
+
 pub returns-in-Learn : goal.returns-in-Learn
 returns-in-Learn c = rw (c.in-Learn.is) (c.learned.ensures c.args.paths)
 

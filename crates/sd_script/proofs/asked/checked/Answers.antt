@@ -1,6 +1,6 @@
 -- The words are read one behind the other.
 use Rattle.std.proofs.lemmas.Result.{err_from_is_err_and}
-use Rattle.sd_share.specs.declared.request.Request.TheVariants as requests
+use Rattle.sd_desk.specs.declared.request.Request.TheVariants as requests
 use Rattle.sd_script.specs.declared.asked.Asked.TheVariants.{Asking}
 use Rattle.sd_script.specs.Command.{question}
 use Rattle.sd_answer.specs.Word.{texts}

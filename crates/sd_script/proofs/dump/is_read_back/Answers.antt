@@ -2,7 +2,7 @@ use Rattle.std.proofs.Common.{◌≡◌, false, true, ◌∷◌, [], sym, ◌∙
 use Rattle.std.proofs.lemmas.Bool.{false≢true}
 use Rattle.std.specs.FinMap.{entries}
 use Rattle.sd_tree.specs.Journal.{replay}
-use Rattle.sd_share.specs.declared.request.Request.TheVariants.{Publish}
+use Rattle.sd_desk.specs.declared.request.Request.TheVariants.{Publish}
 use Rattle.sd_script.specs.Dump.{IsReadBack}
 use Rattle.sd_script.specs.declared.asked.Asked.TheVariants.{Asking}
 use Rattle.sd_script.proofs.Dumping.{below_count, some_there, next_same, not_next, last_same, tells_of_all}

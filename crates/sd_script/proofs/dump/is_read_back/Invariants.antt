@@ -4,7 +4,7 @@ use Rattle.std.specs.Prelude.{nat_lt}
 use Rattle.std.specs.FinMap.{entries}
 use Rattle.std.specs.Str.Lines.{lines}
 use Rattle.sd_tree.specs.Journal.{replay}
-use Rattle.sd_share.specs.declared.request.Request.TheVariants.{Publish}
+use Rattle.sd_desk.specs.declared.request.Request.TheVariants.{Publish}
 use Rattle.sd_script.specs.Dump.{AreAskedBy, IsReadBack, makings}
 use Rattle.sd_script.specs.declared.asked.Asked.TheVariants.{Asking}
 use Rattle.sd_script.proofs.Dumping.{Same}

@@ -16,5 +16,5 @@ with_tag false old new line tag asked answer bytes printed is first rest next sa
 pub returns : goal.returns
 returns c = IfOk-weaker c.tagged.result _ _
     (λ printed is. with_tag _ _ _ _ _ _ _ _ _ c.if-not-has_ids.false c.parted.ensures.tag c.parted.ensures.asked
-    c.in_ok-answer-2.ensures c.as_bytes.ensures.value is)
+    c.in_ok-answer-2.ensures.answered c.as_bytes.ensures.value is)
     c.tagged.ensures

@@ -1,8 +1,8 @@
 //! What is printed of nodes whose names no line of a script can give.
 
 use super::plain;
+use sd_desk::{Desk, Request};
 use sd_script::{Carried, PathSpelling, Session, answer_line};
-use sd_share::{Desk, Request};
 use sd_sid::{GenericMapping, Sid};
 use sd_tree::{Edit, Entries, NodeDacl, Path, RootSpec};
 use std::process::Abort;

@@ -7,8 +7,8 @@ use std::io;
 use std::io::{ErrorKind, Read, Write};
 use std::process::Abort;
 
-/// The lines of a script, and what each is answered by. One has a carriage return, one isn't answered, two are answered by
-/// several lines, the last isn't ended.
+/// The lines of a script, and what each is answered by. One has a carriage return, one isn't answered, two are answered
+/// by several lines, the last isn't ended.
 const LINES: [(&[u8], &[u8]); 10] = [
     (b"open 2 O:BAG:SYD:(A;OICI;FA;;;BA)\n", b"opened 2\n"),
     (b"# an object\n", b""),

@@ -6,8 +6,8 @@ use std::io;
 use std::io::{ErrorKind, Read, Write};
 use std::process::Abort;
 
-/// Answers a line by its text between brackets, and one that is too long by `..`. One that begins with `!` is refused, and
-/// so is one that is too long.
+/// Answers a line by its text between brackets, and one that is too long by `..`. One that begins with `!` is refused,
+/// and so is one that is too long.
 #[derive(Debug)]
 struct Brackets;
 
@@ -37,7 +37,8 @@ impl Answers for Brackets {
     }
 }
 
-/// Inputs, their answers, and whether one is a refusal. Of a mark alone there is no line, and of two bytes of one there is.
+/// Inputs, their answers, and whether one is a refusal. Of a mark alone there is no line, and of two bytes of one there
+/// is.
 const INPUTS: [(Ending, &[u8], &[u8], bool); 12] = [
     (Ending::Feed, b"", b"", false),
     (Ending::Feed, b"a\nbc\n", b"[a]\n[bc]\n", false),

@@ -12,8 +12,12 @@ use std::test::Fail;
 use std::thread::Threads;
 
 /// An audit of two checks.
-const AUDIT: &str =
-    "open 1 O:BAG:SYD:\naddo /a O:BAG:SYD:(A;;FR;;;BU)\ncheck 0 /a S-1-5-21-1-2-3-1001 FR BU\ncheck 0 /b S-1-5-21-1-2-3-1001 0x1\n";
+const AUDIT: &str = "\
+open 1 O:BAG:SYD:
+addo /a O:BAG:SYD:(A;;FR;;;BU)
+check 0 /a S-1-5-21-1-2-3-1001 FR BU
+check 0 /b S-1-5-21-1-2-3-1001 0x1
+";
 
 /// What an audit answers, and what it writes.
 fn audited<T: Threads + Wait + Sync + AllocGlobal, G: Gate + Sync>(

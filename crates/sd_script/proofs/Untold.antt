@@ -1,0 +1,33 @@
+-- What is done is made, also where its answer can't be told.
+use Rattle.std.proofs.Common.{◌≡◌, ◌⊎◌, ℕ, List, Result, Ok, Err, OnErr, inl, inr}
+use Rattle.sd_script.specs.Output.{IsDone, IsMade, IsTold, IsUntold}
+use Rattle.sd_script.specs.declared.asked.Asked.{Asked}
+use Rattle.sd_script.specs.declared.asked.Asked.TheVariants.{Opening, Asking, Explaining, Finding, Viewing, Importing}
+use Rattle.sd_script.specs.declared.session.Session.{Session}
+use Rattle.sd_script.specs.declared.session.Session.TheVariants.{Closed, Opened}
+
+pub made : (old new : Session) (asked : Asked) (printed : List ℕ) → IsDone old asked printed new → (new ≡ old) ⊎ IsMade old asked new
+made old new (Opening readers root) printed (inl (few, none, said, is)) = inr (inl (few, none, is))
+made old new (Opening readers root) printed (inr (error, why, said, is)) = inr (inr is)
+made (Opened paths m) new (Asking request) printed (reply, machine, steps, said, is) = inr (reply, machine, steps, is)
+made (Closed manner) new (Asking request) printed done = absurd done
+made (Opened paths m) new (Explaining reader path token asked) printed (reply, machine, steps, said, is) = inr (reply, machine, steps, is)
+made (Closed manner) new (Explaining reader path token asked) printed done = absurd done
+made (Opened paths m) new (Finding reader path token asked) printed (reply, machine, steps, said, is) = inr (reply, machine, steps, is)
+made (Closed manner) new (Finding reader path token asked) printed done = absurd done
+made (Opened paths m) new (Viewing view) printed (viewed, is) = inl is
+made (Closed manner) new (Viewing view) printed done = absurd done
+made (Opened paths m) new (Importing edit path inherited) printed (reply, machine, steps, said, is) = inr (reply, machine, steps, is)
+made (Closed manner) new (Importing edit path inherited) printed done = absurd done
+
+-- a line that was told, whose answer doesn't grow to its end
+pub told_untold : (old new : Session) (line told : List ℕ) → IsTold old line told new → IsUntold old line new
+told_untold old new line told (inl (asked, asks, done)) = elim (made old new asked told done) [
+  | inl same ↦ inl same
+  | inr is ↦ inr (asked, asks, is)
+]
+told_untold old new line told (inr (fault, asks, said, same)) = inl same
+
+pub on_err : {T E P : Type 0} (r : Result T E) → P → OnErr r P
+on_err (Ok x) p = tt
+on_err (Err e) p = p
