@@ -172,7 +172,9 @@ typedef enum hudarin_argument {
     HUDARIN_ARGUMENT_VIEW = 10,
     HUDARIN_ARGUMENT_EDIT = 11,
     HUDARIN_ARGUMENT_PATH = 12,
-    HUDARIN_ARGUMENT_VALUE = 13
+    HUDARIN_ARGUMENT_VALUE = 13,
+    /* The handle of hudarin_compare's new descriptor. */
+    HUDARIN_ARGUMENT_NEW_DESCRIPTOR = 14
 } hudarin_argument;
 
 /* ---- Verdicts */
@@ -428,6 +430,22 @@ typedef struct hudarin_entry {
     uint32_t mask;
 } hudarin_entry;
 
+/* The answer of hudarin_who. `written.place` is, of HUDARIN_SID and HUDARIN_STATE, the index of the group, from 0; of
+ * HUDARIN_BEHIND_GROUPS the number of states. */
+typedef struct hudarin_accesses {
+    hudarin_written written;
+    uint32_t argument; /* the invalid argument: HUDARIN_ARGUMENT_.., else 0 */
+} hudarin_accesses;
+
+/* The answer of hudarin_compare: `written` and `argument` as in hudarin_accesses. `gained` and `lost` are 0 unless the
+ * status is HUDARIN_OK or HUDARIN_ROOM. */
+typedef struct hudarin_comparison {
+    hudarin_written written;
+    uint32_t argument;
+    uint32_t gained; /* the bits that some token gains */
+    uint32_t lost;   /* the bits that some token loses */
+} hudarin_comparison;
+
 /* The answer of hudarin_mask_from_text. */
 typedef struct hudarin_mask {
     uint32_t status; /* HUDARIN_OK, HUDARIN_UTF8 or HUDARIN_TEXT */
@@ -654,6 +672,29 @@ HUDARIN_ANSWERS hudarin_verdict hudarin_check_bytes(const void *descriptor, size
  * HUDARIN_OK. Takes no memory. */
 HUDARIN_ANSWERS hudarin_explanation hudarin_explain(hudarin_descriptor *descriptor, hudarin_token *token,
                                                     hudarin_mapping mapping, uint32_t asked)
+    HUDARIN_NONNULL(1, 2);
+
+/*
+ * Who is granted which rights of `asked` by a kept descriptor, of all tokens that have the groups, which are passed as
+ * to hudarin_check; all rights, if `asked` has MAXIMUM_ALLOWED. The lines of `sdstore who`, each with a newline at its
+ * end, as "0x1 to S-1-5-32-545 unless S-1-5-32-546". The handle is tested first, then the groups are parsed, then the
+ * mapping.
+ */
+HUDARIN_ANSWERS hudarin_accesses hudarin_who(hudarin_descriptor *descriptor, const void *groups, size_t groups_length,
+                                             const uint32_t *states, size_t state_count, hudarin_mapping mapping,
+                                             uint32_t asked, char *room, size_t room_length)
+    HUDARIN_NONNULL(1);
+
+/*
+ * What tokens that have the groups gain and lose if the new descriptor takes the old one's place. The lines of
+ * `sdstore compare`: "same", or each token that shows it, as "gained 0x2 by S-1-5-32-545". Of all tokens, restricted
+ * ones and those with privileges too, none gains a bit outside `gained`, nor loses one outside `lost`. Both handles are
+ * tested first, then the groups are parsed, then the mapping.
+ */
+HUDARIN_ANSWERS hudarin_comparison hudarin_compare(hudarin_descriptor *descriptor, hudarin_descriptor *new_descriptor,
+                                                   const void *groups, size_t groups_length, const uint32_t *states,
+                                                   size_t state_count, hudarin_mapping mapping, char *room,
+                                                   size_t room_length)
     HUDARIN_NONNULL(1, 2);
 
 /* Makes `other` another handle of what `handle` keeps, as for another thread: nothing is copied, and the object is

@@ -108,6 +108,10 @@ int main(void)
         show("a token", made);
     }
     show("read, as kept", hudarin_check_kept(&kept, &token, files, 0x1));
+
+    /* Of all users, not of one. */
+    hudarin_accesses who = hudarin_who(&kept, NULL, 0, NULL, 0, files, 0x2, text, sizeof text);
+    printf("write: %.*s", who.written.status == HUDARIN_OK ? (int)who.written.length : 0, text);
     hudarin_free(&kept.kept);
     show("a handle that was freed", hudarin_check_kept(&kept, &token, files, 0x1));
     hudarin_free(&token.kept);

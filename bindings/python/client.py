@@ -10,7 +10,8 @@
 
 A client connects when it is first asked, and again if a connection fails. A question is then asked again; an edit is
 sent again with the key that it was sent with before, so it is made once. An answer is taken only for the request whose
-id it has. No answer is by an earlier state than the one before, nor of another store."""
+id it has. No answer is by an earlier state than the one before, nor of another store. Of several services, given as a
+list, it asks the next one where one has no answer, as a replica has none to an edit."""
 
 from __future__ import annotations
 
@@ -27,7 +28,9 @@ from urllib.parse import quote_from_bytes
 __all__ = ["AsyncClient", "Behind", "Client", "OtherStore", "Rejected", "Unavailable", "Verdict"]
 
 #: A path of a Unix socket, or a host and a port.
-Where = Union[str, Tuple[str, int]]
+_Place = Union[str, Tuple[str, int]]
+#: One service, or several of one store.
+Where = Union[_Place, List[str], List[Tuple[str, int]]]
 
 _SAFE = "".join(map(chr, range(0x21, 0x7F))).replace("%", "")
 _PATHS = {"move": 2, "list": 1, "addc": 1, "addo": 1, "owner": 1, "group": 1, "dacl": 1, "remove": 1, "protect": 1}
@@ -91,9 +94,13 @@ class _Words:
     """The conversation of both clients, without any input or output."""
 
     def __init__(self, where: Where, tls: Optional[ssl.SSLContext], timeout: float) -> None:
-        if not isinstance(where, str) and tls is None:
+        places: Sequence[_Place] = where if isinstance(where, list) else [where]
+        if tls is None and not all(isinstance(place, str) for place in places):
             raise ValueError("over TCP the service is asked with certificates: tls is required")
-        self._where, self._tls, self._timeout = where, tls, timeout
+        self._places = itertools.cycle(places)
+        self._where, self._tls, self._timeout = next(self._places), tls, timeout
+        #: How long one service may be silent.
+        self._share = timeout / len(places)
         self._name, self._ids = secrets.token_hex(8), itertools.count(1)
         #: The id of the store, and the published length that was seen last.
         self.store, self.seen = "", 0
@@ -115,17 +122,21 @@ class _Words:
                 yield _Close()
                 raise
             except (OSError, EOFError) as error:
-                yield _Close()
                 failure = error
+            yield _Close()
             if time.monotonic() > end:
                 raise failure if isinstance(failure, Unavailable) else Unavailable(str(failure)) from failure
+            self._where = next(self._places)
             yield _Pause()
 
     def _greeted(self) -> _Talk[None]:
         """What a new connection is asked first: whether it leads to the store that was seen, and as far."""
-        words = (yield from self._once("status", False))[0].split(" ")
+        said = (yield from self._once("status", False))[0]
+        words = said.split(" ")
+        if words[0] == "unavailable":
+            raise Unavailable(said)
         if words[0] != "status":
-            raise Rejected(" ".join(words))
+            raise Rejected(said)
         if self.store not in ("", words[1]):
             raise OtherStore(f"the store is {words[1]}, and was {self.store}")
         if int(words[5]) < self.seen:
@@ -286,11 +297,15 @@ class Client(_Words):
             return False
         if isinstance(self._where, str):
             made = socket.socket(socket.AF_UNIX, socket.SOCK_STREAM)
-            made.settimeout(self._timeout)
-            made.connect(self._where)
+            try:
+                made.settimeout(self._share)
+                made.connect(self._where)
+            except OSError:
+                made.close()
+                raise
         else:
             assert self._tls is not None
-            plain = socket.create_connection(self._where, self._timeout)
+            plain = socket.create_connection(self._where, self._share)
             made = self._tls.wrap_socket(plain, server_hostname=self._where[0])
         self._socket = made
         return True
@@ -360,7 +375,7 @@ class AsyncClient(_Words):
                     return value
                 answer, error = None, None
                 try:
-                    answer = await asyncio.wait_for(self._carry_out(step), self._timeout)
+                    answer = await asyncio.wait_for(self._carry_out(step), self._share)
                 except asyncio.TimeoutError:
                     error = EOFError("the service is silent")
                 except (OSError, EOFError) as failure:

@@ -19,6 +19,11 @@ print("write:", descriptor.check(user, groups, asked=0x2))
 print("all that is granted:", descriptor.check(user, groups, asked=0x02000000))
 print("GR, without groups:", descriptor.check(user, asked=mask("GR")))
 
+# Of all users, not of one; and what a change grants them, with a token that shows it.
+print("write:", *descriptor.who(0x2))
+for change in descriptor.compare(Descriptor.from_sddl("O:BAG:SYD:(A;;FA;;;BU)")).gained:
+    print(change)
+
 # Bytes after a descriptor or a SID are ignored.
 print(bytes(Descriptor(bytes(descriptor) + b"more")) == bytes(descriptor))
 print(repr(Sid(bytes(user) + b"more")), Sid(bytes(user) + b"more") == user)

@@ -30,7 +30,10 @@ __version__ = "0.1.0"
 
 __all__ = [
     "ARGUMENTS",
+    "Access",
     "CAUSES",
+    "Change",
+    "Comparison",
     "DENY_ONLY",
     "DISABLED",
     "Data",
@@ -105,6 +108,7 @@ ARGUMENTS = {
     11: "edit",
     12: "path",
     13: "value",
+    14: "new descriptor",
 }
 
 CAUSES = {
@@ -130,6 +134,7 @@ KEYS = (0x20019, 0x20006, 0x20019, 0xF003F)
 SERVICES = (0x2008D, 0x20002, 0x20170, 0xF01FF)
 PROCESSES = (0x20410, 0x20BEA, 0x121001, 0x1FFFFF)
 
+_MAXIMUM_ALLOWED = 0x02000000
 _MEMORY, _ROOM, _TEXT, _HANDLE, _NO_NODE, _NO_PART = 1, 2, 4, 11, 16, 18
 _WITH_FAULTS = (_TEXT, 5, 6, 13, 15)
 _CONTAINER = 1
@@ -195,6 +200,14 @@ class _EntryAnswer(ctypes.Structure):
     _fields_ = [("written", _Written), ("kind", _U32), ("flags", _U32), ("mask", _U32)]
 
 
+class _Accesses(ctypes.Structure):
+    _fields_ = [("written", _Written), ("argument", _U32)]
+
+
+class _Comparison(ctypes.Structure):
+    _fields_ = [("written", _Written), ("argument", _U32), ("gained", _U32), ("lost", _U32)]
+
+
 class _Mask(ctypes.Structure):
     _fields_ = [("status", _U32), ("fault", _U32), ("place", _U64), ("mask", _U32)]
 
@@ -241,7 +254,8 @@ def _load() -> ctypes.CDLL:
     given: Any = [ctypes.c_char_p, _SIZE]
     buffer: Any = [ctypes.c_void_p, _SIZE]
     kept = ctypes.POINTER(_Kept)
-    token: Any = given * 2 + [ctypes.POINTER(_U32), _SIZE] + given + [_U32]
+    groups: Any = given + [ctypes.POINTER(_U32), _SIZE]
+    token: Any = given + groups + given + [_U32]
     request: Any = [_Mapping, _U32]
     calls = {
         "sddl_to_bytes": (given + buffer, _Written),
@@ -267,6 +281,8 @@ def _load() -> ctypes.CDLL:
         "check_kept": ([kept, kept] + request, _Verdict),
         "check_bytes": (given + [kept] + request, _Verdict),
         "explain": ([kept, kept] + request, _Explanation),
+        "who": ([kept] + groups + request + buffer, _Accesses),
+        "compare": ([kept, kept] + groups + [_Mapping] + buffer, _Comparison),
         "share": ([kept, kept], _Written),
         "store_open": (given + [_Mapping, kept], _Verdict),
         "store_edit": ([kept, _U32] + given * 2, _Verdict),
@@ -430,7 +446,8 @@ def _filled(
         if written.status == 0:
             return buffer.raw[: written.length], answer
         if written.status != _ROOM:
-            _refuse(written, kind, argument(written) if argument else None)
+            named = ARGUMENTS.get(getattr(answer, "argument", 0))
+            _refuse(written, kind, argument(written) if argument else named)
         length = written.length
 
 
@@ -606,14 +623,19 @@ def _pair(group: object) -> Tuple[bytes, int]:
     return bytes(_of_type(group[0], Sid, "groups")), _number(group[1], "states")
 
 
-def _token(user: Sid, groups: Iterable[Group], privileges: int, restricting: Iterable[Sid]) -> Tuple[Any, ...]:
-    """A token as arguments of the library."""
+def _groups(groups: Iterable[Group]) -> Tuple[Any, ...]:
+    """Groups as arguments of the library."""
     pairs = [_pair(group) for group in groups]
     sids = b"".join(sid for sid, _ in pairs)
-    states = (_U32 * len(pairs))(*(state for _, state in pairs))
+    return sids, len(sids), (_U32 * len(pairs))(*(state for _, state in pairs)), len(pairs)
+
+
+def _token(user: Sid, groups: Iterable[Group], privileges: int, restricting: Iterable[Sid]) -> Tuple[Any, ...]:
+    """A token as arguments of the library."""
+    given = _groups(groups)
     who = bytes(_of_type(user, Sid, "user"))
     again = b"".join(bytes(_of_type(sid, Sid, "restricting")) for sid in restricting)
-    return who, len(who), sids, len(sids), states, len(pairs), again, len(again), _number(privileges, "privileges")
+    return (who, len(who), *given, again, len(again), _number(privileges, "privileges"))
 
 
 _H = TypeVar("_H", bound="_Held")
@@ -702,6 +724,105 @@ class Entry(NamedTuple):
 
     def __str__(self) -> str:
         return self.text
+
+
+class Access(NamedTuple):
+    """Rights, and a way to be granted them: by ``sid``, in a token that has none of ``unless``. It prints as a line of
+    ``sdstore who``."""
+
+    mask: int
+    #: "sid", "owner", "everyone" or "nobody".
+    holder: str
+    #: Of "sid" the user or an enabled group, of "owner" the descriptor's owner, who needs no entry; otherwise None.
+    sid: Optional[Sid]
+    #: None of these is in the token, enabled or for denies alone.
+    unless: Tuple[Sid, ...]
+
+    def __str__(self) -> str:
+        holder = self.sid.full + (" as the owner" if self.holder == "owner" else "") if self.sid else self.holder
+        unless = " unless " + " ".join(sid.full for sid in self.unless) if self.unless else ""
+        return f"{self.mask:#x} to {holder}{unless}"
+
+
+class Change(NamedTuple):
+    """Rights that some token gains, or loses, and a token that shows it: beside the base ``user``, ``denied`` and the
+    ``restricting`` SIDs. It prints as a line of ``sdstore compare``."""
+
+    #: "gained" or "lost".
+    kind: str
+    mask: int
+    #: Its user. If ``is_everyone`` is true any other that neither descriptor names shows the same.
+    user: Sid
+    is_everyone: bool
+    #: A group for denies alone, or None.
+    denied: Optional[Sid]
+    #: The SIDs that restrict it, or none.
+    restricting: Tuple[Sid, ...]
+    #: The groups that all tokens in question have.
+    base: Tuple[Group, ...]
+
+    @property
+    def groups(self) -> Tuple[Group, ...]:
+        """Its groups: the base, and the one for denies alone."""
+        return self.base if self.denied is None else (*self.base, (self.denied, DENY_ONLY))
+
+    def token(self) -> Token:
+        """It as a ``Token``, until ``close``."""
+        return Token(self.user, self.groups, restricting=self.restricting)
+
+    def __str__(self) -> str:
+        user = "everyone" if self.is_everyone else self.user.full
+        denied = f" {self.denied.full}=deny" if self.denied else ""
+        restricting = "".join(f" {sid.full}=restrict" for sid in self.restricting)
+        return f"{self.kind} {self.mask:#x} by {user}{denied}{restricting}"
+
+
+class Comparison(NamedTuple):
+    """What tokens gain and lose by a change of a descriptor. It is true if some token does, and prints as ``sdstore
+    compare`` does."""
+
+    #: In the order of their lowest bits. No token gains or loses another bit.
+    gained: Tuple[Change, ...]
+    lost: Tuple[Change, ...]
+
+    def __bool__(self) -> bool:
+        return bool(self.gained or self.lost)
+
+    def __str__(self) -> str:
+        return "\n".join(str(change) for change in self.gained + self.lost) or "same"
+
+
+_ACCESS = re.compile(r"(0x[0-9a-f]+) to (\S+)( as the owner)?(?: unless (.+))?")
+_CHANGE = re.compile(r"(gained|lost) (0x[0-9a-f]+) by (\S+)(?: (\S+)=deny)?((?: \S+=restrict)*)")
+
+
+def _fields(form: "re.Pattern[str]", line: str) -> Tuple[Any, ...]:
+    """The fields of a line that the library wrote."""
+    found = form.fullmatch(line)
+    if found is None:
+        raise RuntimeError(f"the library wrote {line!r}")
+    return found.groups()
+
+
+def _access(line: str) -> Access:
+    bits, holder, as_owner, unless = _fields(_ACCESS, line)
+    sid = None if holder in ("everyone", "nobody") else Sid.from_text(holder)
+    kind = holder if sid is None else "owner" if as_owner else "sid"
+    return Access(int(bits, 16), kind, sid, tuple(map(Sid.from_text, (unless or "").split())))
+
+
+def _change(line: str, everyone: Sid, base: Tuple[Group, ...]) -> Change:
+    """A change; ``everyone`` is a user whom neither descriptor names."""
+    kind, bits, user, denied, restricting = _fields(_CHANGE, line)
+    return Change(
+        kind,
+        int(bits, 16),
+        everyone if user == "everyone" else Sid.from_text(user),
+        user == "everyone",
+        Sid.from_text(denied) if denied else None,
+        tuple(Sid.from_text(word.partition("=")[0]) for word in restricting.split()),
+        base,
+    )
 
 
 class Descriptor(_Bytes):
@@ -815,6 +936,40 @@ class Descriptor(_Bytes):
         """The verdict of ``check`` with the same arguments, and why."""
         with KeptDescriptor(self) as kept, Token(user, groups, privileges, restricting) as token:
             return kept.explain(token, asked, mapping)
+
+    def who(
+        self, asked: Mask = _MAXIMUM_ALLOWED, base: Iterable[Group] = (), mapping: Iterable[Mask] = FILES
+    ) -> Tuple[Access, ...]:
+        """Who is granted which rights of ``asked``, or of all, among all tokens that have the groups of the ``base``. A
+        token that nothing restricts, and without privileges, is granted a right if and only if one of the accesses with
+        that right holds for it."""
+        given, request = _groups(base), (_mapping(mapping), _mask(asked, "asked"))
+        with KeptDescriptor(self) as kept:
+            lines, _ = _filled(lambda *buffer: _library.hudarin_who(kept._kept, *given, *request, *buffer))
+        return tuple(map(_access, lines.decode().splitlines()))
+
+    def compare(
+        self, new: "Descriptor", base: Iterable[Group] = (), mapping: Iterable[Mask] = FILES
+    ) -> Comparison:
+        """What tokens that have the groups of the ``base`` gain and lose if ``new`` takes this descriptor's place, each
+        change with a token that shows it. No token gains or loses another right, restricted ones and those with
+        privileges included."""
+        groups = tuple(base)
+        given, masks = _groups(groups), _mapping(mapping)
+        with KeptDescriptor(self) as kept, KeptDescriptor(new) as other:
+            call = _library.hudarin_compare
+            lines, _ = _filled(lambda *buffer: call(kept._kept, other._kept, *given, masks, *buffer))
+        everyone = _unnamed(self, new)
+        changes = [_change(line, everyone, groups) for line in lines.decode().splitlines() if line != "same"]
+        gained = tuple(change for change in changes if change.kind == "gained")
+        return Comparison(gained, tuple(changes[len(gained) :]))
+
+
+def _unnamed(*descriptors: Descriptor) -> Sid:
+    """A SID that none of the descriptors names."""
+    named = {sid for one in descriptors for sid in (one.owner, *(entry.sid for entry in one.entries or ()))}
+    numbered = (Sid.from_text(f"S-1-0-{number}") for number in itertools.count())
+    return next(sid for sid in numbered if sid not in named)
 
 
 def _entry_texts(text: str) -> Tuple[str, ...]:

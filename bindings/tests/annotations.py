@@ -5,6 +5,9 @@ from typing import Iterator, Optional, Tuple
 from hudarin import (
     DENY_ONLY,
     FILES,
+    Access,
+    Change,
+    Comparison,
     Descriptor,
     Entry,
     Explanation,
@@ -25,6 +28,14 @@ descriptor: Descriptor = Descriptor.from_sddl("D:", domain=user)
 verdict: Verdict = descriptor.check(user, [user, (user, DENY_ONLY)], asked="FR", mapping=FILES, restricting=[user])
 why: Explanation = descriptor.explain(user, asked=0x1, mapping=("FR", "FW", 0, "FA"))
 kind: str = verdict.kind
+accesses: Tuple[Access, ...] = descriptor.who("FR", [user, (user, DENY_ONLY)], mapping=FILES)
+holders: Tuple[Optional[Sid], ...] = tuple(access.sid for access in descriptor.who())
+comparison: Comparison = descriptor.compare(descriptor, [user])
+changes: Tuple[Change, ...] = comparison.gained + comparison.lost
+tokens: Tuple[Token, ...] = tuple(change.token() for change in changes)
+again: Tuple[Verdict, ...] = tuple(
+    descriptor.check(change.user, change.groups, change.mask, restricting=change.restricting) for change in changes
+)
 bits: int = mask("FR") | verdict.mask
 owner: Optional[Sid] = descriptor.owner
 entries: Optional[Tuple[Entry, ...]] = descriptor.entries
@@ -54,6 +65,8 @@ descriptor.check("SY")  # type: ignore
 descriptor.check(user, ["WD"])  # type: ignore
 descriptor.check(user, asked=1.0)  # type: ignore
 descriptor.check_by(user)  # type: ignore
+descriptor.who(1.0)  # type: ignore
+descriptor.compare("D:")  # type: ignore
 sid: Sid = descriptor.owner  # type: ignore
 copied.owner = user  # type: ignore
 mask(1)  # type: ignore

@@ -48,7 +48,7 @@ void __wrap_free(void *block)
 /* The last five keep something or check. */
 enum call {
     TO_BYTES, TRIM_TEXT, TO_SDDL, CANONICAL, LENGTH, SID_BYTES, SID_TEXT, FULL_TEXT, MASK_TEXT, OWNER, ENTRY, SUBJECT,
-    CHECK, KEEP_SDDL, KEEP_BYTES, KEEP_TOKEN, SHARE
+    WHO, COMPARE, CHECK, KEEP_SDDL, KEEP_BYTES, KEEP_TOKEN, SHARE
 };
 
 /* A call, what it is given, and what it answers: what it writes, NULL where that isn't looked at, and how much; a fault of a
@@ -67,6 +67,8 @@ typedef struct row {
 #define LONGEST_SID "S-1-0xffffffffffff" FIFTEEN("-4294967295")
 #define TOO_LONG_SID "S-1-5" FIFTEEN("-1") "-1"
 #define CHECKED "O:BAG:SYD:(D;;0x1;;;BU)(A;;FR;;;WD)(A;;FA;;;S-1-5-21-1-2-3-1001)"
+/* The same without one right of the user. */
+#define CHANGED "O:BAG:SYD:(D;;0x1;;;BU)(A;;FR;;;WD)(A;;0x1f01fd;;;S-1-5-21-1-2-3-1001)"
 
 static const char row_1[] = "010004801400000024000000000000003000000001020000000000052000000020020000010100000000000512000000"
                             "02001c000100000000001400ff011f00010100000000000100000000";
@@ -103,6 +105,8 @@ static const row rows[] = {
     { OWNER, CHECKED, "01020000000000052000000020020000", 16, 0, 0 },
     { ENTRY, CHECKED, "010100000000000100000000", 12, 0, 0 },
     { SUBJECT, CHECKED, "010100000000000100000000", 12, 0, 0 },
+    { WHO, CHECKED, "0x1 to nobody\n0x2 to S-1-5-21-1-2-3-1001\n", 41, 0, 0 },
+    { COMPARE, CHECKED, "lost 0x2 by S-1-5-21-1-2-3-1001\n", 32, 0, 0 },
     { CHECK, CHECKED, NULL, 0, 0, 0 },
     { KEEP_SDDL, CHECKED, NULL, 0, 0, 0 },
     { KEEP_SDDL, "O:DA", NULL, 0, HUDARIN_TEXT_DOMAIN_ALIAS, 2 },
@@ -121,7 +125,7 @@ typedef struct loan {
 } loan;
 
 static loan lent;
-static hudarin_descriptor descriptor;
+static hudarin_descriptor descriptor, changed;
 static hudarin_token token;
 /* What the call keeps, of the one kind or the other. */
 static union {
@@ -176,6 +180,12 @@ static void made(const row *row, outcome *it)
     case OWNER: written(it, hudarin_descriptor_owner(&descriptor, it->room, room)); break;
     case ENTRY: written(it, hudarin_descriptor_entry(&descriptor, 1, it->room, room).written); break;
     case SUBJECT: written(it, hudarin_descriptor_subject(&descriptor, 1, it->room, room)); break;
+    case WHO:
+        written(it, hudarin_who(&descriptor, lent.groups, lent.groups_length, states, 2, files, 0x3, chars, room).written);
+        break;
+    case COMPARE:
+        written(it, hudarin_compare(&descriptor, &changed, lent.groups, lent.groups_length, states, 2, files, chars, room).written);
+        break;
     case CHECK:
         judged(it, hudarin_check(lent.bytes, lent.length, lent.user, lent.user_length, lent.groups, lent.groups_length, states, 2,
                                  NULL, 0, 0, files, 0x80000000u));
@@ -221,6 +231,12 @@ static size_t bytes_of(const char *digits, unsigned char *bytes)
     return length;
 }
 
+static int writes_text(enum call call)
+{
+    return call == TO_SDDL || call == CANONICAL || call == SID_TEXT || call == FULL_TEXT || call == MASK_TEXT || call == WHO ||
+           call == COMPARE;
+}
+
 /* Whether the row's text or bytes were written. */
 static int is_wanted(const row *row, const outcome *it)
 {
@@ -228,8 +244,7 @@ static int is_wanted(const row *row, const outcome *it)
     if (row->wanted == NULL) {
         return 1;
     }
-    if (row->call != TO_SDDL && row->call != CANONICAL && row->call != SID_TEXT && row->call != FULL_TEXT &&
-        row->call != MASK_TEXT) {
+    if (!writes_text(row->call)) {
         return bytes_of(row->wanted, bytes) == it->length && same(it->room, bytes, (size_t)it->length);
     }
     return strlen(row->wanted) == it->length && same(it->room, row->wanted, (size_t)it->length);
@@ -321,6 +336,7 @@ int main(void)
         (size_t)hudarin_sid_text_to_bytes("WD", 2, lent.groups + lent.groups_length, HUDARIN_SID_BYTES).length;
     HOLDS(lent.user_length == 28 && lent.groups_length == 28 && taken == 0);
     HOLDS(hudarin_keep_sddl(CHECKED, sizeof CHECKED - 1, &descriptor).status == HUDARIN_OK);
+    HOLDS(hudarin_keep_sddl(CHANGED, sizeof CHANGED - 1, &changed).status == HUDARIN_OK);
     HOLDS(keep_token(&token).status == HUDARIN_OK);
     HOLDS(descriptor.kept.is_there && token.kept.is_there);
     for (at = 0; at < sizeof rows / sizeof rows[0]; at++) {
@@ -334,6 +350,7 @@ int main(void)
     }
     takes_none();
     hudarin_free(&descriptor.kept);
+    hudarin_free(&changed.kept);
     hudarin_free(&token.kept);
     HOLDS(taken == 0 && refusals > 0);
     printf("%ld requests for memory were refused\n", refusals);

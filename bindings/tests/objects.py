@@ -1,11 +1,13 @@
 """How the objects of hudarin.py behave in Python: truth, copies, pickles and a second __init__; the parts of a
-descriptor, masks by names, which mistake raises what, and SACLs. The last line is 'N passed, M failed'.
+descriptor, masks by names, which mistake raises what, SACLs, and who is granted what. The last line is 'N passed, M failed'.
 
 The module is that of the folder `python` beside this one, or else the one that Python finds.
 """
 
 import copy
+import functools
 import multiprocessing
+import operator
 import os
 import pickle
 import sys
@@ -18,6 +20,9 @@ import hudarin  # noqa: E402
 from hudarin import (  # noqa: E402
     FILES,
     FLAGS,
+    Access,
+    Change,
+    Comparison,
     Descriptor,
     Explanation,
     KeptDescriptor,
@@ -313,8 +318,52 @@ def sacls() -> None:
     gives("out of a blob, refused", wire, lambda: refused(lambda: Descriptor.from_blob(with_sacl, 0)))
 
 
+def analysis() -> None:
+    """Who is granted what, and what a change grants and takes away, as values."""
+    guests, admins, everyone = map(Sid.from_text, ("BG", "BA", "WD"))
+    denying = Descriptor.from_sddl("O:BAG:SYD:(D;;0x1;;;BG)(A;;0x1;;;BU)")
+    granted = (Access(0x120089, "sid", USERS, ()), Access(0x20000, "owner", admins, ()))
+    gives("who", granted, lambda: READERS.who("FR"))
+    gives("unless", (Access(0x1, "sid", USERS, (guests,)),), lambda: denying.who(0x1))
+    gives("nobody", (Access(0x1, "nobody", None, ()),), lambda: denying.who(0x1, [(guests, hudarin.DENY_ONLY)]))
+    gives("everyone", (Access(0x1, "everyone", None, ()),), lambda: READERS.who(0x1, [everyone, USERS]))
+    gives("no right", (), lambda: READERS.who(0))
+    gives("all rights", 0x1FFFFF, lambda: functools.reduce(operator.or_, (access.mask for access in READERS.who())))
+    keys = (Access(0x20019, "sid", USERS, ()), Access(0x20000, "owner", admins, ()))
+    gives("by a mapping", keys, lambda: _users("GR").who("KR", mapping=hudarin.KEYS))
+    same, gain = READERS.compare(READERS), READERS.compare(_users("FW"))
+    gives("nothing changed", (False, "same", ((), ())), lambda: (bool(same), str(same), same))
+    shown = ("gained 0x116 by S-1-5-32-545", "lost 0x89 by S-1-5-32-545")
+    gives("a change", (True, "\n".join(shown)), lambda: (bool(gain), str(gain)))
+    restricted = _users("FA").compare(READERS, [(USERS, hudarin.DENY_ONLY)])
+    gives("a group of the base", ((USERS, hudarin.DENY_ONLY),), lambda: restricted.lost[0].groups)
+    for nobody, named in (("S-1-0-0", "D:"), ("S-1-0-1", "O:S-1-0-0D:"), ("S-1-0-2", "O:S-1-0-0D:(A;;;;;S-1-0-1)")):
+        opened = Descriptor.from_sddl(named).compare(Descriptor.from_sddl("D:NO_ACCESS_CONTROL"))
+        gives(f"a user whom {named} doesn't name", (True, nobody), lambda: _user(opened.gained[0]))
+    gives("a comparison as a tuple", True, lambda: Comparison((), ()) == ((), ()))
+    wide, state = (0, 0, 0, 0x200000), [USERS, (USERS, 0x1)]
+    asks: List[Tuple[str, Callable[..., Any]]] = [
+        ("who", lambda **words: READERS.who("FR", **words)),
+        ("compare", lambda **words: READERS.compare(READERS, **words)),
+    ]
+    for name, ask in asks:
+        gives(f"{name}, a state", ("state", 0, None, 1, "states"), lambda: refused(lambda: ask(base=state)))
+        gives(f"{name}, a mapping", ("mapping", 0, None, 0, "mapping"), lambda: refused(lambda: ask(mapping=wide)))
+        raises(f"{name}, no groups", TypeError, lambda: ask(base=USERS))
+        raises(f"{name}, texts for groups", TypeError, lambda: ask(base=["WD"]))
+    raises("compare with a text", TypeError, lambda: READERS.compare("D:"))  # type: ignore[arg-type]
+
+
+def _users(rights: str) -> Descriptor:
+    return Descriptor.from_sddl(f"O:BAG:SYD:(A;;{rights};;;BU)")
+
+
+def _user(change: Change) -> Tuple[bool, str]:
+    return change.is_everyone, change.user.full
+
+
 def main() -> int:
-    for test in (truth, copies, refusals, pool, again, parts, names, one_exception, sacls):
+    for test in (truth, copies, refusals, pool, again, parts, names, one_exception, sacls, analysis):
         test()
     gives("all names of the module", [], lambda: [name for name in hudarin.__all__ if not hasattr(hudarin, name)])
     gives("the mapping of files", FILES, lambda: (mask("FR"), mask("FW"), mask("FX"), mask("FA")))

@@ -18,7 +18,7 @@ sys.path.insert(0, os.path.join(os.path.dirname(os.path.abspath(__file__)), ".."
 import hudarin  # noqa: E402
 
 PROGRAM, USER, FILES = sys.argv[1], sys.argv[2], sys.argv[3:]
-COMMANDS = ("verdict", "why", "print", "tobin", "frombin")
+COMMANDS = ("verdict", "why", "who", "compare", "print", "tobin", "frombin")
 STATES = {"deny": hudarin.DENY_ONLY, "off": hudarin.DISABLED}
 PRIVILEGES = {"+security": hudarin.SECURITY, "+take": hudarin.TAKE_OWNERSHIP}
 
@@ -104,14 +104,46 @@ def why(*words):
     return str(told) if told == by else f"{told}\nand by what is kept {by}"
 
 
+def base_words(words):
+    """The groups of a base, or the line that refuses one: restricting SIDs and privileges are no groups."""
+    token, refused = token_words(words)
+    if not refused and (token[1] or token[2]):
+        refused = "fault token"
+    return (None, refused) if refused else (token[0], None)
+
+
+def who(sddl, asked, *words):
+    descriptor, refused = fault(lambda: hudarin.Descriptor.from_sddl(sddl), "sddl")
+    mask, refused = (None, refused) if refused else fault(lambda: hudarin.mask(asked), "mask")
+    base, refused = (None, refused) if refused else base_words(words)
+    return refused or "\n".join(map(str, descriptor.who(mask, base)))
+
+
+def shows(change, granting, denying):
+    """The change's token is granted all of its bits by the one descriptor, and none of them by the other."""
+    with change.token() as token:
+        verdicts = granting.check_by(token, change.mask), denying.check_by(token, change.mask)
+    return verdicts == (("granted", change.mask), ("denied", change.mask))
+
+
+def compare(old_sddl, new_sddl, *words):
+    old, refused = fault(lambda: hudarin.Descriptor.from_sddl(old_sddl), "sddl")
+    new, refused = (None, refused) if refused else fault(lambda: hudarin.Descriptor.from_sddl(new_sddl), "sddl")
+    base, refused = (None, refused) if refused else base_words(words)
+    if refused:
+        return refused
+    comparison = old.compare(new, base)
+    unshown = [change for change in comparison.gained if not shows(change, new, old)]
+    unshown += [change for change in comparison.lost if not shows(change, old, new)]
+    return "\n".join(map(str, [comparison, *unshown]))
+
+
 def answer(command, *words):
     """The lines that the library's answer would be printed as."""
     if words and words[0] == "--":
         words = words[1:]
-    if command == "verdict":
-        return verdict(*words)
-    if command == "why":
-        return why(*words)
+    if command in QUESTIONS:
+        return QUESTIONS[command](*words)
     if command == "frombin":
         if not re.fullmatch("([0-9a-fA-F]{2})*", words[0]):
             return "fault hex"
@@ -119,6 +151,9 @@ def answer(command, *words):
         return refused or str(read)
     read, refused = fault(lambda: hudarin.Descriptor.from_sddl(words[0]), "sddl")
     return refused or (str(read) if command == "print" else bytes(read).hex())
+
+
+QUESTIONS = {"verdict": verdict, "why": why, "who": who, "compare": compare}
 
 
 def ask(place, *words):
@@ -192,6 +227,10 @@ class Table:
         elif heads.startswith("Name|Bits|"):
             for name, _ in pairs(cells):
                 ask(place, "verdict", "D:", USER, name)
+        elif heads == "SDDL|MASK|Base|Lines":
+            ask(place, "who", one, cells[1], *cells[2].split())
+        elif heads == "OLD|NEW|Base|Lines":
+            ask(place, "compare", one, two, *cells[2].split())
         elif heads == "DACL|Words|Asked|Verdict":
             check_row(place, "verdict", "BA", one, cells[1], cells[2])
         elif heads == "Owner|DACL|Words|Asked|Verdict":

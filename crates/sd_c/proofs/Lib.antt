@@ -4,3 +4,5 @@ mod RestrictingLoop
 pub mod Front
 pub mod SealSteps
 mod Told
+mod Changes
+mod Unasked

@@ -6,7 +6,9 @@ use Rattle.sd_check.specs.declared.verdict.Verdict.{Verdict}
 use Rattle.sd_check.specs.declared.verdict.Verdict.TheVariants.{Granted, Denied, Reserved, EmptyRequest}
 use Rattle.sd_c.specs.declared.answer.CheckAnswer.{CheckAnswer}
 use Rattle.sd_c.specs.declared.stop.NotRead.{NotRead}
-use Rattle.sd_c.specs.declared.stop.NotRead.TheVariants.{Descriptor, User, Group, BehindGroups, State, Restricting, PrivilegeBits, MappingBits, DescriptorHandle, TokenHandle}
+use Rattle.sd_c.specs.declared.stop.NotRead.TheVariants.{Descriptor, User, Group, BehindGroups, State, Restricting}
+use Rattle.sd_c.specs.declared.stop.NotRead.TheVariants.{PrivilegeBits, MappingBits, DescriptorHandle, TokenHandle}
+use Rattle.sd_c.specs.declared.stop.NotRead.TheVariants.{NewHandle}
 use Rattle.sd_c.specs.Request.{RequestValue, verdict_of}
 
 -- ---- a check
@@ -36,6 +38,7 @@ not_read PrivilegeBits = unread 9 6 0 0
 not_read MappingBits = unread 10 7 0 0
 not_read DescriptorHandle = unread 11 1 0 0
 not_read TokenHandle = unread 11 8 0 0
+not_read NewHandle = unread 11 14 0 0
 
 -- out of memory
 abbrev pub check_memory : CheckAnswer

@@ -6,7 +6,8 @@ use Rattle.sd_explain.specs.Reasons.{grants, reasons_of}
 use Rattle.sd_explain.specs.Parts.{part_at, reason_in}
 use Rattle.sd_explain.specs.declared.explanation.Part.{Part}
 use Rattle.sd_explain.specs.declared.reason.Cause.{Cause}
-use Rattle.sd_explain.specs.declared.reason.Cause.TheVariants.{NoList, Listed, Restricted, Owner, TakeOwnership, Security, NoSecurity, BeyondAll, Reserved}
+use Rattle.sd_explain.specs.declared.reason.Cause.TheVariants.{NoList, Listed, Restricted, Owner, TakeOwnership}
+use Rattle.sd_explain.specs.declared.reason.Cause.TheVariants.{Security, NoSecurity, BeyondAll, Reserved}
 use Rattle.sd_explain.specs.declared.reason.Finding.{Finding}
 use Rattle.sd_explain.specs.declared.reason.Finding.TheVariants.{Allowed, Denied, NoEntry}
 use Rattle.sd_explain.specs.declared.reason.Reason.{Reason}

@@ -1,5 +1,6 @@
 -- The length of a self-relative descriptor ([MS-DTYP] 2.4.6): from its first byte to the end of the last part.
-use Rattle.std.specs.Prelude.{◌≡◌, ◌⊎◌, ℕ, ◌+◌, ◌*◌, ◌<◌, ◌≤◌, max, List, length, take, slice_index, Option, Some, None, Ok}
+use Rattle.std.specs.Prelude.{◌≡◌, ◌⊎◌, ℕ, ◌+◌, ◌*◌, ◌<◌, ◌≤◌, max, List, length, take, slice_index, Option, Some, None}
+use Rattle.std.specs.Prelude.{Ok}
 use Rattle.sd_sid.specs.Sid.{SidValue}
 use Rattle.sd_sid.specs.SidBytes.{u32_at}
 use Rattle.sd_acl.specs.Descriptor.{DescriptorValue, IsDescriptor}

@@ -16,3 +16,4 @@ pub mod Explaining
 pub mod Meaning
 pub mod Entries
 pub mod WithoutSacl
+pub mod Analysis

@@ -8,7 +8,9 @@ use Rattle.sd_c.specs.declared.answer.CheckAnswer.{CheckAnswer}
 use Rattle.sd_c.specs.declared.not_done.PathArgument.{PathArgument}
 use Rattle.sd_c.specs.declared.not_done.PathArgument.TheVariants as arguments
 use Rattle.sd_c.specs.declared.not_done.NotDone.{NotDone}
-use Rattle.sd_c.specs.declared.not_done.NotDone.TheVariants.{Memory, StoreHandle, ViewHandle, TokenHandle, MappingBits, EditKind, Utf8, Path, Descriptor, Parts, Sid, Refused, NoNode}
+use Rattle.sd_c.specs.declared.not_done.NotDone.TheVariants.{Memory, StoreHandle, ViewHandle, TokenHandle, MappingBits}
+use Rattle.sd_c.specs.declared.not_done.NotDone.TheVariants.{EditKind, Utf8, Path, Descriptor, Parts, Sid, Refused}
+use Rattle.sd_c.specs.declared.not_done.NotDone.TheVariants.{NoNode}
 use Rattle.sd_c.specs.Answer.{unread}
 
 abbrev pub argument_number : PathArgument → ℕ

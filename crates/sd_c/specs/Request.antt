@@ -1,5 +1,6 @@
 -- What the arguments of a check are parsed as, from the left; the first invalid one is reported.
-use Rattle.std.specs.Prelude.{◌≡◌, ℕ, zero, suc, ◌+◌, ◌==◌, nat_lt, not, List, [], ◌∷◌, length, drop, slice_index, bit_and, Option, Some, None, Result, Ok, Err, if◌then◌else◌}
+use Rattle.std.specs.Prelude.{◌≡◌, ℕ, zero, suc, ◌+◌, ◌==◌, nat_lt, not, List, [], ◌∷◌, length, drop, slice_index}
+use Rattle.std.specs.Prelude.{bit_and, Option, Some, None, Result, Ok, Err, if◌then◌else◌}
 use Rattle.sd_sid.specs.Sid.{SidValue}
 use Rattle.sd_sid.specs.SidBytes.{sid_reading}
 use Rattle.sd_sid.specs.Mapping.{MappingValue, mapping_of}
@@ -16,7 +17,8 @@ use Rattle.sd_check.specs.declared.token.GroupState.TheVariants.{Enabled, DenyOn
 use Rattle.sd_check.specs.declared.token.Privileges.{Privileges}
 use Rattle.sd_c.specs.declared.mapping.Mapping.{Mapping}
 use Rattle.sd_c.specs.declared.stop.NotRead.{NotRead}
-use Rattle.sd_c.specs.declared.stop.NotRead.TheVariants.{Descriptor, User, Group, BehindGroups, State, Restricting, PrivilegeBits, MappingBits}
+use Rattle.sd_c.specs.declared.stop.NotRead.TheVariants.{Descriptor, User, Group, BehindGroups, State, Restricting}
+use Rattle.sd_c.specs.declared.stop.NotRead.TheVariants.{PrivilegeBits, MappingBits}
 use Rattle.sd_c.specs.declared.stop.Stop.{Stop}
 use Rattle.sd_c.specs.declared.stop.Stop.TheVariants as stops
 

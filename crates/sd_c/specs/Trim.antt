@@ -1,5 +1,6 @@
 -- A descriptor in a larger blob, from whose front its offsets count.
-use Rattle.std.specs.Prelude.{◌≡◌, ◌⊎◌, ℕ, ◌+◌, Bool, not, ◌&&◌, ◌==◌, nat_lt, List, [], ◌∷◌, ◌++◌, length, drop, slice_index, slice_range, Result, Ok, Err, if◌then◌else◌}
+use Rattle.std.specs.Prelude.{◌≡◌, ◌⊎◌, ℕ, ◌+◌, Bool, not, ◌&&◌, ◌==◌, nat_lt, List, [], ◌∷◌, ◌++◌, length, drop}
+use Rattle.std.specs.Prelude.{slice_index, slice_range, Result, Ok, Err, if◌then◌else◌}
 use Rattle.sd_acl.specs.Descriptor.{DescriptorValue}
 use Rattle.sd_sid.specs.SidBytes.{u32_at}
 use Rattle.sd_wire.specs.Reading.{descriptor_read, is_set, u16_at}

@@ -119,6 +119,7 @@ pub(crate) fn not_read(why: NotRead) -> CheckAnswer
         NotRead::MappingBits => unread(MAPPING, 7, 0, 0),
         NotRead::DescriptorHandle => unread(HANDLE, 1, 0, 0),
         NotRead::TokenHandle => unread(HANDLE, 8, 0, 0),
+        NotRead::NewHandle => unread(HANDLE, 14, 0, 0),
     }
 }
 

@@ -4,7 +4,8 @@ ghost use Rattle.std.specs.Prelude.{◌≡◌, IfErr, IfOk, Ok};
 ghost use Rattle.sd_acl.specs.Descriptor.{descriptor_of as value_of};
 ghost use Rattle.sd_path.specs.PathText.{path_of as path_read};
 ghost use Rattle.sd_wire.specs.Reading.{descriptor_read};
-ghost use Rattle.sd_c.specs.Edits.{IsDacl, IsEdit, IsNoDacl, IsNoDescriptor, IsNoEdit, IsNoNode, IsNoPath, IsNoSid, IsNode, IsSid, own_dacl};
+ghost use Rattle.sd_c.specs.Edits.{IsDacl, IsEdit, IsNoDacl, IsNoDescriptor, IsNoEdit, IsNoNode, IsNoPath, IsNoSid};
+ghost use Rattle.sd_c.specs.Edits.{IsNode, IsSid, own_dacl};
 
 use crate::not_done::{NotDone, PathArgument};
 use crate::text::utf8_of;

@@ -2,7 +2,9 @@
 
 ghost use Rattle.std.specs.Prelude.{◌≡◌, IfErr, IfOk, option_copied};
 ghost use Rattle.sd_acl.specs.Descriptor.{descriptor_of};
-ghost use Rattle.sd_c.specs.Entries.{IsEntryPart, IsSidPart, LacksPart, ReturnsDacl, WritesEntry, WritesSidPart, control_of, dacl_answer, dacl_in, entry_at, entry_in, entry_kind, no_dacl, no_entry, no_part, sid_in, where_set};
+ghost use Rattle.sd_c.specs.Entries.{IsEntryPart, IsSidPart, LacksPart, ReturnsDacl, WritesEntry, WritesSidPart};
+ghost use Rattle.sd_c.specs.Entries.{control_of, dacl_answer, dacl_in, entry_at, entry_in, entry_kind, no_dacl};
+ghost use Rattle.sd_c.specs.Entries.{no_entry, no_part, sid_in, where_set};
 ghost use Rattle.sd_c.specs.Kept.{Stays};
 ghost use Rattle.sd_c.specs.declared.entries.NoPart.TheVariants.{Memory};
 

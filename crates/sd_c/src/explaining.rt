@@ -1,7 +1,8 @@
 //! Why a check answers as it does, for C: the parts of a request by value, and as numbers.
 
 ghost use Rattle.std.specs.Prelude.{◌≡◌, Ok, Err, IfErr, IfOk};
-ghost use Rattle.sd_c.specs.Explaining.{explained, parts_of, part_told, cause_number, findings_of, finding_told, reasons_on};
+ghost use Rattle.sd_c.specs.Explaining.{explained, parts_of, part_told, cause_number, findings_of, finding_told};
+ghost use Rattle.sd_c.specs.Explaining.{reasons_on};
 ghost use Rattle.sd_c.specs.Kept.{Stays, asked_of, kept_request};
 ghost use Rattle.sd_c.specs.Request.{RequestValue, verdict_of};
 ghost use Rattle.sd_explain.specs.Parts.{reason_in, told_verdict};

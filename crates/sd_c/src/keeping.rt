@@ -5,7 +5,8 @@ ghost use Rattle.sd_acl.specs.Descriptor.{DescriptorValue, descriptor_of as desc
 ghost use Rattle.sd_check.specs.Token.{TokenValue};
 ghost use Rattle.sd_text.specs.Grammar.{Spells};
 ghost use Rattle.sd_text.specs.Sddl.{sddl};
-ghost use Rattle.sd_c.specs.Kept.{IsHeldAs, KeepsDescriptor, KeepsToken, TokenInUse, TokenLacksMemory, TokenTakesMemory, descriptor_in, token_in};
+ghost use Rattle.sd_c.specs.Kept.{IsHeldAs, KeepsDescriptor, KeepsToken, TokenInUse, TokenLacksMemory};
+ghost use Rattle.sd_c.specs.Kept.{TokenTakesMemory, descriptor_in, token_in};
 ghost use Rattle.sd_c.specs.Request.{Fails, token_read};
 ghost use Rattle.sd_c.specs.Written.{RefusesBytes, RefusesText};
 

@@ -6,7 +6,8 @@ ghost use Rattle.sd_acl.specs.declared.descriptor.DaclOf.TheVariants.{List as En
 ghost use Rattle.sd_acl.specs.Descriptor.{descriptor_of};
 ghost use Rattle.sd_wire.specs.Reading.{u16_at};
 ghost use Rattle.sd_wire.specs.Standing.{DaclStands, Holds};
-ghost use Rattle.sd_c.specs.Length.{AnswersLength, FrontIsRead, HasListRoom, IsLengthOf, dacl_end, descriptor_end, length_told, trustee_end};
+ghost use Rattle.sd_c.specs.Length.{AnswersLength, FrontIsRead, HasListRoom, IsLengthOf, dacl_end, descriptor_end};
+ghost use Rattle.sd_c.specs.Length.{length_told, trustee_end};
 ghost use Rattle.sd_c.specs.Written.{RefusesBytes};
 
 use crate::answer::{Written, length_told, refused};

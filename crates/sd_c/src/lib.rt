@@ -9,6 +9,7 @@
 //! ```
 #![tactic(auto)]
 
+mod analysis;
 mod answer;
 mod bytes;
 mod check;
@@ -36,6 +37,7 @@ mod version;
 mod views;
 mod without_sacl;
 
+pub use analysis::{CompareAnswer, WhoAnswer, hudarin_compare, hudarin_who};
 pub use answer::{CheckAnswer, MaskAnswer, Written};
 pub use bytes::{hudarin_bytes_to_sddl, hudarin_sid_bytes_to_full_text, hudarin_sid_bytes_to_text};
 pub use check::hudarin_check;

@@ -1,7 +1,8 @@
 //! What the statuses and faults of an answer mean, in words.
 
 ghost use Rattle.std.specs.Prelude.{◌≡◌};
-ghost use Rattle.sd_c.specs.Meaning.{FaultsHaveNames, fault_name, path_fault_name, refusal_of, sid_fault, status_text, text_fault, wire_fault};
+ghost use Rattle.sd_c.specs.Meaning.{FaultsHaveNames, fault_name, path_fault_name, refusal_of, sid_fault, status_text};
+ghost use Rattle.sd_c.specs.Meaning.{text_fault, wire_fault};
 ghost use Rattle.sd_c.specs.Written.{Writes};
 
 use crate::answer::{

@@ -5,7 +5,8 @@ ghost use Rattle.sd_tree.specs.Answers.{given_at};
 ghost use Rattle.sd_tree.specs.History.{history_of};
 ghost use Rattle.sd_tree.specs.Journal.{replay};
 ghost use Rattle.sd_c.specs.Kept.{Stays};
-ghost use Rattle.sd_c.specs.Nodes.{IsNoOwnAt, IsNoPathAt, IsOwnAt, IsOwnIn, IsPathAt, OwnFormsComeBack, TellsNode, kind_number, no_node_told};
+ghost use Rattle.sd_c.specs.Nodes.{IsNoOwnAt, IsNoPathAt, IsOwnAt, IsOwnIn, IsPathAt, OwnFormsComeBack, TellsNode};
+ghost use Rattle.sd_c.specs.Nodes.{kind_number, no_node_told};
 ghost use Rattle.sd_c.specs.Views.{IsNotFound};
 ghost use Rattle.sd_c.specs.Written.{Writes};
 

@@ -3,7 +3,8 @@
 ghost use Rattle.std.specs.Prelude.{◌≡◌, ◌<◌, ◌≤◌, ◌⊎◌, length, IfOk, IsErrOf};
 ghost use Rattle.sd_acl.specs.Descriptor.{descriptor_of};
 ghost use Rattle.sd_wire.specs.Memory.{TakesMemory};
-ghost use Rattle.sd_c.specs.Request.{Gives, state_read, group_read, groups_read, restricting_sid, restricting_read, privileges_read, mapping_read, token_read, of_wire, of_user};
+ghost use Rattle.sd_c.specs.Request.{Gives, state_read, group_read, groups_read, restricting_sid, restricting_read};
+ghost use Rattle.sd_c.specs.Request.{privileges_read, mapping_read, token_read, of_wire, of_user};
 ghost use Rattle.sd_wire.specs.Reading.{descriptor_read};
 ghost use Rattle.sd_sid.specs.SidBytes.{sid_reading};
 
@@ -104,7 +105,11 @@ fn group_of(
 
 /// The groups: as many as there are states. Memory is taken first, for no more than fit the bytes.
 #[tactic(auto, unfolding(crate::specs::Request::groups_read))]
-fn groups_of(alloc: Global, bytes: &[u8], states: &[u32]) -> Result<Vec<(Sid, GroupState)>, Stop>
+pub(crate) fn groups_of(
+    alloc: Global,
+    bytes: &[u8],
+    states: &[u32],
+) -> Result<Vec<(Sid, GroupState)>, Stop>
     ensures read { Gives (λ groups. groups.items) result (groups_read bytes.now states.now 0 (length states.now)) }
     ensures memory { IsErrOf result Stop.Memory → 0 < length states.now }
 {

@@ -30,6 +30,8 @@ pub enum NotRead {
     DescriptorHandle,
     /// The token's handle keeps no token.
     TokenHandle,
+    /// The handle of a comparison's new descriptor keeps none.
+    NewHandle,
 }
 
 /// Why a check stops: an invalid argument, or out of memory.

@@ -3,7 +3,8 @@
 ghost use Rattle.std.specs.Prelude.{◌≡◌, ◌⊎◌, None, Some, IfErr, IfOk, IsSome, MatchOption, MatchResult, OnOk};
 ghost use Rattle.sd_tree.specs.History.{history_of};
 ghost use Rattle.sd_c.specs.Kept.{IsSame, Stays, store_in, view_in};
-ghost use Rattle.sd_c.specs.Publishing.{Begins, Edits, IsAllowed, IsBegun, IsEdited, IsNotBegun, IsNotEdited, IsReverted, IsViewOf, Judges, Publishes, Reverts, tree_reason};
+ghost use Rattle.sd_c.specs.Publishing.{Begins, Edits, IsAllowed, IsBegun, IsEdited, IsNotBegun, IsNotEdited};
+ghost use Rattle.sd_c.specs.Publishing.{IsReverted, IsViewOf, Judges, Publishes, Reverts, tree_reason};
 
 use crate::answer::{CheckAnswer, HANDLE, MEMORY, OK, Written, length_told, not_written, unread};
 use crate::edits::{edit_of, node_of};

@@ -6,7 +6,8 @@ ghost use Rattle.sd_text.specs.Grammar.{Spells};
 ghost use Rattle.sd_text.specs.Rights.{mask_text};
 ghost use Rattle.sd_text.specs.Sddl.{sddl, sddl_in};
 ghost use Rattle.sd_text.specs.Sid.{sid_text, sid_text_in};
-ghost use Rattle.sd_c.specs.Written.{Answers, AnswersMask, IsCanonOf, IsFormOf, IsNamesOf, IsNotUtf8, IsSidOf, RefusesMask, RefusesMemory, RefusesText, text_refusal};
+ghost use Rattle.sd_c.specs.Written.{Answers, AnswersMask, IsCanonOf, IsFormOf, IsNamesOf, IsNotUtf8, IsSidOf};
+ghost use Rattle.sd_c.specs.Written.{RefusesMask, RefusesMemory, RefusesText, text_refusal};
 
 use crate::answer::{MaskAnswer, Written, mask_given, no_mask, refused, write};
 use crate::refusal::Refusal;

@@ -2,7 +2,8 @@
 
 ghost use Rattle.std.specs.Prelude.{◌≡◌, ◌+◌, ◌≤◌, length, IfErr, IfOk};
 ghost use Rattle.sd_wire.specs.Reading.{u16_at};
-ghost use Rattle.sd_c.specs.Trim.{IsFormIn, RefusesBlob, Trims, left_out, manager_left_out, sacl_left_out, sacl_offset, with_header};
+ghost use Rattle.sd_c.specs.Trim.{IsFormIn, RefusesBlob, Trims, left_out, manager_left_out, sacl_left_out, sacl_offset};
+ghost use Rattle.sd_c.specs.Trim.{with_header};
 
 use crate::answer::{Written, refused, write};
 use crate::refusal::Refusal;

@@ -5,7 +5,8 @@ ghost use Rattle.sd_tree.specs.Answers.{descriptor_at};
 ghost use Rattle.sd_tree.specs.History.{history_of};
 ghost use Rattle.sd_tree.specs.Journal.{replay};
 ghost use Rattle.sd_c.specs.Kept.{Stays};
-ghost use Rattle.sd_c.specs.Views.{Asks, IsAnswered, IsFormAt, IsFormIn, IsNoFormAt, IsNotAsked, IsNotFound, TellsLength, WritesNode, length_in, not_told, reply_given, unasked, view_answer};
+ghost use Rattle.sd_c.specs.Views.{Asks, IsAnswered, IsFormAt, IsFormIn, IsNoFormAt, IsNotAsked, IsNotFound};
+ghost use Rattle.sd_c.specs.Views.{TellsLength, WritesNode, length_in, not_told, reply_given, unasked, view_answer};
 
 use crate::answer::{CheckAnswer, HANDLE, Written, length_told, not_written, verdict_given, write};
 use crate::edits::path_of;

@@ -1,0 +1,19 @@
+use Rattle.std.proofs.Common.{◌≡◌, Ok, rules, string_bytes}
+use Rattle.sd_acl.specs.Descriptor.{descriptor_of}
+use Rattle.sd_c.specs.Analysis.{BaseValue, asked_over, base_read}
+use Rattle.sd_c.specs.Kept.{descriptor_in}
+use Rattle.sd_c.proofs.Unasked.{who_of_base}
+use Rattle.sd_c.proofs.analysis.who_of.Goals as goal
+
+pub returns-clause-ok : goal.returns-clause-ok
+unfolding asked_over base_read
+returns-clause-ok c =
+    let d = descriptor_of c.deref.result.now in
+    let base : BaseValue = record { groups = c.in_ok-groups.groups.items; mapping = c.in_ok-mapping.mapping } in
+    let read : asked_over (descriptor_in c.args.kept.now) c.args.groups.now c.args.states.now c.args.mapping ≡ Ok (d, base) = search rules in (
+      d,
+      base,
+      read,
+      who_of_base d c.in_ok-mapping.mapping c.deref-2.result.now c.in_ok-groups.groups.items c.args.asked (string_bytes c.in_ok-who_lines.field-0)
+          c.deref-2.ensures.value c.in_ok-who_lines.ensures,
+    )

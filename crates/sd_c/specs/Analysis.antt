@@ -1,0 +1,154 @@
+-- What `hudarin_who` and `hudarin_compare` return: who is granted rights, and what a change of a descriptor grants and
+-- takes away, of all tokens that have a base.
+use Rattle.std.specs.Prelude.{◌≡◌, ◌⊎◌, ◌<◌, ℕ, List, [], length, Result, Ok, Err, IsOk, if◌then◌else◌}
+use Rattle.sd_sid.specs.Mapping.{MappingValue, mapped}
+use Rattle.sd_sid.specs.Mask.{holds, mask_of}
+use Rattle.sd_sid.specs.Sid.{SidValue}
+use Rattle.sd_acl.specs.Descriptor.{DescriptorValue}
+use Rattle.sd_check.specs.Check.{dacl_entries}
+use Rattle.sd_check.specs.declared.token.GroupState.{GroupState}
+use Rattle.sd_analysis.specs.Compare.{AreGains, is_reported}
+use Rattle.sd_analysis.specs.Sufficient.{Parts}
+use Rattle.sd_analysis.specs.Who.{AllBeyond, HasEachOnce, IsMost, IsWho}
+use Rattle.sd_analysis.specs.declared.compare_report.Change.{Change}
+use Rattle.sd_analysis.specs.declared.who_has.Access.{Access}
+use Rattle.sd_answer.specs.Compare.{compare_text}
+use Rattle.sd_answer.specs.Who.{who_text}
+use Rattle.sd_answer.specs.declared.answer.Spelling.TheVariants.{Number}
+use Rattle.sd_c.specs.declared.analysis.CompareAnswer.{CompareAnswer}
+use Rattle.sd_c.specs.declared.analysis.WhoAnswer.{WhoAnswer}
+use Rattle.sd_c.specs.declared.answer.CheckAnswer.{CheckAnswer}
+use Rattle.sd_c.specs.declared.handle.Handle.{Handle}
+use Rattle.sd_c.specs.declared.handle.kept.Kept.{Kept}
+use Rattle.sd_c.specs.declared.mapping.Mapping.{Mapping}
+use Rattle.sd_c.specs.declared.stop.NotRead.{NotRead}
+use Rattle.sd_c.specs.declared.stop.NotRead.TheVariants.{DescriptorHandle, NewHandle}
+use Rattle.sd_c.specs.declared.stop.Stop.{Stop}
+use Rattle.sd_c.specs.declared.stop.Stop.TheVariants as stops
+use Rattle.sd_c.specs.Answer.{check_memory, not_read}
+use Rattle.sd_c.specs.Kept.{descriptor_in, is_kept}
+use Rattle.sd_c.specs.Request.{◌>>=◌, Fails, groups_read, mapping_read}
+use Rattle.sd_c.specs.Written.{Writes, not_written}
+
+-- ---- the arguments, from the left
+
+-- the descriptor that a handle keeps
+unfoldable pub kept_in : Handle → Result DescriptorValue NotRead
+kept_in handle = is_kept handle.is_there DescriptorHandle >>= λ u. descriptor_in handle.seal.kept
+
+-- the new descriptor of a comparison
+abbrev pub as_new : Result DescriptorValue NotRead → Result DescriptorValue NotRead
+as_new (Ok d) = Ok d
+as_new (Err why) = Err NewHandle
+
+-- the old and the new descriptor
+unfoldable pub descriptors_in : Kept → Kept → Result (DescriptorValue × DescriptorValue) NotRead
+descriptors_in old new = descriptor_in old >>= λ d. (as_new (descriptor_in new) >>= λ e. Ok (d, e))
+
+-- the same of two handles
+unfoldable pub both_kept : Handle → Handle → Result (DescriptorValue × DescriptorValue) NotRead
+both_kept old new =
+    is_kept old.is_there DescriptorHandle >>= λ u.
+    (is_kept new.is_there NewHandle >>= λ v. descriptors_in old.seal.kept new.seal.kept)
+
+-- the groups that all tokens in question have, and what the generic rights stand for
+pub record BaseValue : Type 0 where
+  pub groups : List (SidValue × GroupState)
+  pub mapping : MappingValue
+
+unfoldable pub base_read : List ℕ → List ℕ → Mapping → Result BaseValue NotRead
+base_read groups states mapping =
+    groups_read groups states 0 (length states) >>= λ base.
+    (mapping_read mapping >>= λ g. Ok (record { groups = base; mapping = g }))
+
+-- what is kept, one descriptor or two, and the base
+unfoldable pub asked_over : {D : Type 0} → Result D NotRead → List ℕ → List ℕ → Mapping → Result (D × BaseValue) NotRead
+asked_over kept groups states mapping = kept >>= λ d. (base_read groups states mapping >>= λ base. Ok (d, base))
+
+-- why there is no answer: the first invalid argument, or out of memory, which takes valid handles, and groups to hold
+-- or lines to write
+abbrev pub Stops : {D : Type 0} → Result D NotRead → List ℕ → List ℕ → Mapping → Stop → Type 0
+Stops kept groups states mapping stop =
+    Fails stop (asked_over kept groups states mapping)
+    × (stop ≡ stops.Memory → IsOk kept × ((0 < length states) ⊎ IsOk (asked_over kept groups states mapping)))
+
+abbrev pub why_not : Stop → CheckAnswer
+why_not (stops.NotRead why) = not_read why
+why_not stops.Memory = check_memory
+
+-- ---- who
+
+-- the rights that are asked about: those of the mask, generic ones mapped; with MAXIMUM_ALLOWED, place 25, all
+abbrev pub rights_asked : MappingValue → ℕ → ℕ
+rights_asked g asked = if holds asked 25 then 0x001FFFFF else mapped g asked
+
+-- the lines of accesses that say exactly who is granted each right once, of the tokens with the base
+abbrev pub IsWhoText : DescriptorValue → BaseValue → ℕ → List ℕ → Type 0
+IsWhoText d base asked printed =
+    (all : List Access)
+    × IsWho d.owner (dacl_entries d.dacl) base.mapping base.groups (rights_asked base.mapping asked) all
+    × IsMost d.owner (dacl_entries d.dacl) base.mapping base.groups (rights_asked base.mapping asked) all
+    × HasEachOnce (rights_asked base.mapping asked) all
+    × AllBeyond base.groups all
+    × (printed ≡ who_text Number all)
+
+abbrev pub IsWhoOf : Result DescriptorValue NotRead → List ℕ → List ℕ → Mapping → ℕ → List ℕ → Type 0
+IsWhoOf kept groups states mapping asked printed =
+    (d : DescriptorValue) × (base : BaseValue) × (asked_over kept groups states mapping ≡ Ok (d, base))
+    × IsWhoText d base asked printed
+
+abbrev pub no_accesses : CheckAnswer → WhoAnswer
+no_accesses told = record { written = not_written told.status told.fault told.place; argument = told.argument }
+
+-- the lines are written, or the buffer is too small for them; or nothing is, for a reason that holds
+abbrev pub AnswersWho : Result DescriptorValue NotRead → List ℕ → List ℕ → Mapping → ℕ → List ℕ → List ℕ → WhoAnswer
+    → Type 0
+AnswersWho kept groups states mapping asked old new answer =
+    ((printed : List ℕ) × IsWhoOf kept groups states mapping asked printed × Writes printed old new answer.written
+    × (answer.argument ≡ 0))
+    ⊎ ((stop : Stop) × Stops kept groups states mapping stop × (new ≡ old) × (answer ≡ no_accesses (why_not stop)))
+
+-- ---- compare
+
+-- a descriptor, as far as a check looks at it
+abbrev pub parts_in : DescriptorValue → Parts
+parts_in d = record { owner = d.owner; dacl = dacl_entries d.dacl }
+
+-- the bits of all changes
+abbrev pub bits_of : List Change → ℕ
+bits_of changes = mask_of (is_reported changes) 32
+
+-- the lines of the changes that tokens with the base gain and lose where the new descriptor takes the place of the old
+-- one; none where both are the same to a check. The bits that some token gains, and those that some token loses
+abbrev pub IsCompareText : DescriptorValue → DescriptorValue → BaseValue → List ℕ → ℕ → ℕ → Type 0
+IsCompareText old new base printed gained_bits lost_bits =
+    (gained lost : List Change)
+    × AreGains base.mapping base.groups (parts_in old) (parts_in new) gained
+    × AreGains base.mapping base.groups (parts_in new) (parts_in old) lost
+    × (parts_in old ≡ parts_in new → (gained ≡ []) × (lost ≡ []))
+    × (printed ≡ compare_text Number (parts_in old) (parts_in new) gained lost)
+    × (gained_bits ≡ bits_of gained) × (lost_bits ≡ bits_of lost)
+
+abbrev pub IsCompareOf :
+    Result (DescriptorValue × DescriptorValue) NotRead → List ℕ → List ℕ → Mapping → List ℕ → ℕ → ℕ → Type 0
+IsCompareOf kept groups states mapping printed gained lost =
+    (ds : DescriptorValue × DescriptorValue) × (base : BaseValue)
+    × (asked_over kept groups states mapping ≡ Ok (ds, base))
+    × IsCompareText ds.0 ds.1 base printed gained lost
+
+abbrev pub no_comparison : CheckAnswer → CompareAnswer
+no_comparison told =
+    record {
+      written = not_written told.status told.fault told.place;
+      argument = told.argument;
+      gained = 0;
+      lost = 0;
+    }
+
+abbrev pub AnswersCompare :
+    Result (DescriptorValue × DescriptorValue) NotRead → List ℕ → List ℕ → Mapping → List ℕ → List ℕ → CompareAnswer
+    → Type 0
+AnswersCompare kept groups states mapping old new answer =
+    ((printed : List ℕ) × IsCompareOf kept groups states mapping printed answer.gained answer.lost
+    × Writes printed old new answer.written × (answer.argument ≡ 0))
+    ⊎ ((stop : Stop) × Stops kept groups states mapping stop × (new ≡ old) × (answer ≡ no_comparison (why_not stop)))
