@@ -245,7 +245,7 @@ _tasks: set["asyncio.Task[None]"] = set()
 def _status(request: _Request) -> None:
     shown = request.service.shown
     place = {"line": shown.place.number, "chain": shown.place.chain.hex()}
-    request.reply(Response(HTTPStatus.OK, {**_state(request), **place, "takes_edits": request.service.is_ready}))
+    request.reply(Response(HTTPStatus.OK, {**_state(request), **place, "takes_edits": request.service.takes_edits}))
 
 
 # Edits

@@ -7,7 +7,9 @@ from collections.abc import Callable, Sequence
 from pathlib import Path
 
 import stores
+from config import read_config
 from errors import Failed, ServiceError
+from following import seed
 from loading import Loaded
 from serving import serve
 from tree import MAPPINGS
@@ -64,6 +66,8 @@ def _parser() -> argparse.ArgumentParser:
     restore = command("restore", _restore, "make a store of a backup, with an id of its own")
     restore.add_argument("file", type=Path, metavar="FILE")
     restore.add_argument("folder", type=Path, metavar="FOLDER", help="the folder, which must not exist or be empty")
+    seed = command("seed", _seed, "put a store into Redis, for the services that share its stream")
+    seed.add_argument("config", type=Path, metavar="CONFIG", help="a configuration with a table 'redis'")
     return parser
 
 
@@ -87,6 +91,10 @@ def _backup(arguments: argparse.Namespace) -> int:
 
 def _restore(arguments: argparse.Namespace) -> int:
     return _told(stores.restore(arguments.file, arguments.folder))
+
+
+def _seed(arguments: argparse.Namespace) -> int:
+    return _told(seed(read_config(arguments.config)))
 
 
 def _told(state: Loaded) -> int:

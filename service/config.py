@@ -63,23 +63,27 @@ class Listen:
 
 
 @dataclass(frozen=True)
-class Leader:
-    """Whom a replica follows: where its lines are; for TCP the replica's certificate and the leader's authority."""
+class Source:
+    """Where a replica's lines come from: another service, which leads, or a Redis, whose lease says which service does.
+    For TCP it has the replica's certificate, and the authority of the other side."""
 
     unix: str = ""
     tcp: tuple[str, int] = ("", 0)
     certificate: str = ""
     key: str = ""
     authority: str = ""
-    #: A replica that has known nothing of its leader for so long answers nothing.
+    #: A replica that has known nothing of its source for so long answers nothing.
     max_age_seconds: int = 10
+    #: Of a Redis: the key of its stream, and how long it keeps the lease of a service that is silent.
+    stream: str = ""
+    lease_seconds: int = 10
 
 
 @dataclass(frozen=True)
 class Config:
     folder: Path
     listen: tuple[Listen, ...]
-    leader: Leader | None = None
+    source: Source | None = None
     limits: Limits = Limits()
     #: Whether each check that isn't granted has a record in the log.
     logs_denials: bool = False
@@ -100,28 +104,42 @@ def read_config(file: Path) -> Config:
 
 
 def _config(given: dict[str, Any]) -> Config:
-    _know(given, {"folder", "listen", "leader", "limits", "log"}, "")
+    _know(given, {"folder", "listen", "leader", "redis", "limits", "log"}, "")
     log = _typed(given, "log", dict, {})
     _know(log, {"denials"}, "log: ")
     listen = tuple(_listen(each) for each in _typed(given, "listen", list))
     names = [each.name for each in listen]
     if not listen or len(set(names)) != len(names):
         raise ValueError("listen: at least one is required, and each at a place of its own")
-    leader = _leader(_typed(given, "leader", dict)) if "leader" in given else None
     limits = _limits(_typed(given, "limits", dict, {}))
-    return Config(Path(_typed(given, "folder", str)), listen, leader, limits, _typed(log, "denials", bool, False))
+    denials = _typed(log, "denials", bool, False)
+    return Config(Path(_typed(given, "folder", str)), listen, _source(given), limits, denials)
 
 
-def _leader(given: dict[str, Any]) -> Leader:
-    _know(given, {each.name for each in fields(Leader)}, "leader: ")
-    unix, tcp = _place(given, "leader")
-    files = {name: _typed(given, name, str, "") for name in ("certificate", "key", "authority")}
-    if {bool(name) for name in files.values()} != {not unix}:
-        raise ValueError("leader: 'certificate', 'key' and 'authority' are required for TCP, and for nothing else")
-    seconds = _typed(given, "max_age_seconds", int, 10)
+def _source(config: dict[str, Any]) -> Source | None:
+    if "leader" in config and "redis" in config:
+        raise ValueError("leader: a service with a table 'redis' has its leader by the lease")
+    where = "redis" if "redis" in config else "leader"
+    if where not in config:
+        return None
+    given, of_redis = _typed(config, where, dict), {"stream", "lease_seconds"}
+    _know(given, {each.name for each in fields(Source)} - (of_redis if where == "leader" else set()), f"{where}: ")
+    unix, tcp = _place(given, where)
+    certificate, key, authority = (_typed(given, name, str, "") for name in ("certificate", "key", "authority"))
+    if {certificate != "", key != "", authority != ""} != {not unix}:
+        raise ValueError(f"{where}: 'certificate', 'key' and 'authority' are required for TCP, and for nothing else")
+    age, lease = (_seconds(given, name, where) for name in ("max_age_seconds", "lease_seconds"))
+    stream = _typed(given, "stream", str, "sdstored")
+    if not stream:
+        raise ValueError(f"{where}: stream: a name is required")
+    return Source(unix, tcp, certificate, key, authority, age, stream if where == "redis" else "", lease)
+
+
+def _seconds(given: dict[str, Any], name: str, where: str) -> int:
+    seconds = _typed(given, name, int, 10)
     if seconds < 1:
-        raise ValueError("leader: max_age_seconds: a whole number of at least 1 is required")
-    return Leader(unix, tcp, **files, max_age_seconds=seconds)
+        raise ValueError(f"{where}: {name}: a whole number of at least 1 is required")
+    return seconds
 
 
 def _place(given: dict[str, Any], where: str) -> tuple[str, tuple[str, int]]:

@@ -106,10 +106,14 @@ class Connection(asyncio.Protocol):
         """Whether the client takes its answers, and has had no more than its turn."""
         if time.perf_counter() < self._turn_ends:
             return not self._is_full
+        self._proceed_later()
+        return False
+
+    def _proceed_later(self) -> None:
+        """In the loop's next turn, after the other clients."""
         if not self._has_turn:
             self._has_turn = True
             self._loop.call_soon(self._take_turn)
-        return False
 
     def _take_turn(self) -> None:
         self._has_turn = False
@@ -119,7 +123,7 @@ class Connection(asyncio.Protocol):
         """A request in progress is answered."""
         self.in_progress -= 1
         self._idle_since = time.monotonic()
-        self.proceed()
+        self._proceed_later()
 
     def reject(self, reason: str) -> None:
         """Closes the connection at once."""

@@ -106,11 +106,6 @@ class HttpConnection(Connection):
 
         route(self.service, self.caller, head.method, head.target, head.fields, body, reply)
 
-    def finished(self) -> None:
-        # In the loop's next turn, so that many requests at once aren't many calls in one another.
-        self.in_progress -= 1
-        asyncio.get_running_loop().call_soon(self.proceed)
-
     def _answer(self, response: Response, closes: bool) -> None:
         body = response.body if isinstance(response.body, str) else json.dumps(response.body)
         kind = "text/plain; version=0.0.4; charset=utf-8" if isinstance(response.body, str) else "application/json"

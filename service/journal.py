@@ -92,8 +92,8 @@ class Journal:
     def lines(self, after: int) -> Iterator[tuple[Line, bytes]]:
         """The lines after this number, in order, each with its chain."""
         with _named(self.file):
-            rows = self._database.execute(f"SELECT {_LINE}, chain FROM lines WHERE number > ? ORDER BY number", (after,
-                                                                                                                 ))
+            query = f"SELECT {_LINE}, chain FROM lines WHERE number > ? ORDER BY number"
+            rows = self._database.execute(query, (after,))
             for *fields, chain in rows:
                 yield Line(*fields), chain
 
@@ -127,8 +127,10 @@ class Journal:
         the last line."""
         with self._transaction():
             self._write_snapshot(snapshot)
-            self._database.execute("DELETE FROM epochs WHERE epoch < ?", (snapshot.epoch - 1,))
-            self._database.execute("DELETE FROM snapshot WHERE epoch < ?", (snapshot.epoch - 1,))
+            # A replica's epochs aren't all its own, so the one before may be any earlier one.
+            before = "SELECT max(epoch) FROM epochs WHERE epoch < ?"
+            self._database.execute(f"DELETE FROM epochs WHERE epoch < ({before})", (snapshot.epoch,))
+            self._database.execute("DELETE FROM snapshot WHERE epoch NOT IN (SELECT epoch FROM epochs)")
             (oldest,) = self._database.execute("SELECT min(number) FROM epochs").fetchone()
             self._drop_lines(min(oldest, last - KEPT_LINES))
 

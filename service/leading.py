@@ -2,15 +2,30 @@
 
 import json
 from collections.abc import Sequence
+from dataclasses import dataclass
+from itertools import islice
 from pathlib import Path
 
 from entry import Line, Place, Snapshot
 from errors import Fault, Mismatch
 from journal import Journal
-from questions import number_of
+from spelling import number_of
 
 #: The most lines of one answer.
-_MOST_LINES = 1_000
+MOST_LINES = 1_000
+#: The types of what a row has, and the end of its numbers, which SQLite takes.
+_TYPES = [int, int, int, str, str, str, str, str]
+_NUMBERS = 1 << 63
+
+
+@dataclass(frozen=True, slots=True)
+class Lines:
+    """The lines that follow a replica's last one, the number of the last one that there is, and whether the replica
+    leads from now on."""
+
+    lines: Sequence[tuple[Line, bytes]]
+    last: int
+    leads: bool = False
 
 
 def answer(file: Path, words: Sequence[str]) -> str:
@@ -18,45 +33,56 @@ def answer(file: Path, words: Sequence[str]) -> str:
     if len(words) != (2 if words[0] == "lines" else 1):
         raise Fault("fault words")
     with Journal(file, only_reads=True) as journal:
-        return "\n".join(_snapshot(journal) if words[0] == "snapshot" else _lines(journal, number_of(words[1])))
-
-
-def _snapshot(journal: Journal) -> list[str]:
-    newest = journal.snapshots()[-1]
-    place = newest.place
-    head = [journal.store, journal.mapping, newest.epoch, place.number, place.chain.hex(), newest.length]
-    return [json.dumps(head), *newest.lines]
+        if words[0] == "snapshot":
+            return snapshot_text(journal.store, journal.mapping, journal.snapshots()[-1])
+        return "\n".join(_lines(journal, number_of(words[1])))
 
 
 def _lines(journal: Journal, after: int) -> list[str]:
     """The number of the last line first."""
     if not journal.start.number <= after <= journal.last_number():
         raise Fault("fault gone")
-    rows = []
-    for each, chain in journal.lines(after):
-        fields = [each.epoch, each.number, each.time, each.who, each.key, each.line, each.answer, chain.hex()]
-        rows.append(json.dumps(fields))
-        if len(rows) == _MOST_LINES:
-            break
+    rows = [row_of(*each) for each in islice(journal.lines(after), MOST_LINES)]
     return [f"last {journal.last_number()}", *rows]
 
 
-def snapshot_in(lines: Sequence[str]) -> tuple[str, str, Snapshot]:
-    """The store, its mapping, and the snapshot of such an answer. Mismatch: it is none."""
-    try:
-        store, mapping, epoch, number, chain, length = json.loads(lines[0])
-        return store, mapping, Snapshot(epoch, Place(number, bytes.fromhex(chain)), length, tuple(lines[1:]))
-    except (ValueError, TypeError) as error:
-        raise Mismatch(f"the leader's snapshot: {error}") from error
+def row_of(line: Line, chain: bytes) -> str:
+    """A line and its chain."""
+    return json.dumps([line.epoch, line.number, line.time, line.who, line.key, line.line, line.answer, chain.hex()])
 
 
-def lines_in(lines: Sequence[str]) -> tuple[int, list[tuple[Line, bytes]]]:
-    """The number of the leader's last line, and the lines of such an answer. Mismatch: it is none."""
+def line_in(row: str) -> tuple[Line, bytes]:
+    """The line and the chain of a row. ValueError: it is none."""
+    given = json.loads(row)
+    if not isinstance(given, list) or [type(each) for each in given] != _TYPES:
+        raise ValueError(f"{row!a:.100} is no line")
+    if not all(0 <= each < _NUMBERS for each in given[:3]):
+        raise ValueError(f"{row!a:.100} has no number of a line")
+    return Line(*given[:-1]), bytes.fromhex(given[-1])
+
+
+def lines_in(lines: Sequence[str]) -> Lines:
+    """What such an answer has. Mismatch: it is none."""
     try:
         word, last = lines[0].split(" ")
         if word != "last":
             raise ValueError(f"{lines[0]!a:.100} is no number of a line")
-        rows = [json.loads(line) for line in lines[1:]]
-        return int(last), [(Line(*row[:-1]), bytes.fromhex(row[-1])) for row in rows]
-    except (ValueError, TypeError, IndexError) as error:
+        return Lines([line_in(row) for row in lines[1:]], int(last))
+    except (ValueError, IndexError, RecursionError) as error:
         raise Mismatch(f"the leader's lines: {error}") from error
+
+
+def snapshot_text(store: str, mapping: str, snapshot: Snapshot) -> str:
+    """A snapshot, and whose it is."""
+    place = snapshot.place
+    head = [store, mapping, snapshot.epoch, place.number, place.chain.hex(), snapshot.length]
+    return "\n".join([json.dumps(head), *snapshot.lines])
+
+
+def snapshot_in(lines: Sequence[str]) -> tuple[str, str, Snapshot]:
+    """The store, its mapping, and the snapshot of such a text's lines. Mismatch: it is none."""
+    try:
+        store, mapping, epoch, number, chain, length = json.loads(lines[0])
+        return store, mapping, Snapshot(epoch, Place(number, bytes.fromhex(chain)), length, tuple(lines[1:]))
+    except (ValueError, TypeError, RecursionError) as error:
+        raise Mismatch(f"the leader's snapshot: {error}") from error

@@ -10,6 +10,7 @@ from script import CHANGES, OF_JOURNAL, OF_LINES, Reader, words_of
 from service import Caller, Service
 from writer import Task
 
+_OF_LINES = frozenset(name.encode() for name in OF_LINES)
 _LONG = OF_JOURNAL | {"list", "dump"}
 _GRAPHIC = frozenset(range(0x21, 0x7F))
 
@@ -31,10 +32,9 @@ class LineConnection(Connection):
 
     def data_received(self, data: bytes) -> None:
         if b"\n" in data:
-            self._buffer += data
-            *lines, rest = self._buffer.split(b"\n")
-            self._lines.extend(map(bytes, lines))
-            self._buffer, data = bytearray(), bytes(rest)
+            *lines, data = (bytes(self._buffer) + data).split(b"\n")
+            self._lines += lines
+            self._buffer.clear()
             self._owes_since = None
         if len(self._buffer) + len(data) > self.service.limits.request_bytes:
             self.reject("line too long")
@@ -101,9 +101,9 @@ class LineConnection(Connection):
 
     def _lines_of(self, tag: bytes, answer: str, asked: bytes) -> bytes:
         """The lines of an answer, each with the tag; to some commands an empty one ends it."""
-        if asked.split(b" ", 1)[0].decode(errors="replace") in OF_LINES:
+        if asked.partition(b" ")[0] in _OF_LINES:
             answer += "\n"
-        return b"".join(tag + line.encode() + b"\n" for line in answer.split("\n"))
+        return tag + answer.encode().replace(b"\n", b"\n" + tag) + b"\n"
 
 
 def tagged(line: bytes) -> tuple[bytes, bytes]:

@@ -5,6 +5,7 @@ import json
 import sys
 import threading
 import time
+from collections.abc import Sequence
 from typing import TextIO
 
 
@@ -16,8 +17,13 @@ class Log:
         self._turn = threading.Lock()
 
     def event(self, what: str, **fields: object) -> None:
-        """One line. Texts may come from outside: JSON escapes what would make a line of its own."""
-        line = json.dumps({"time": round(time.time(), 3), "event": what, **fields})
+        """One line."""
+        self.events(what, [fields])
+
+    def events(self, what: str, many: Sequence[dict[str, object]]) -> None:
+        """A line each. Texts may come from outside: JSON escapes what would make a line of its own."""
+        head = {"time": round(time.time(), 3), "event": what}
+        text = "".join(json.dumps(head | fields) + "\n" for fields in many)
         with self._turn, contextlib.suppress(OSError):
-            self._out.write(line + "\n")
+            self._out.write(text)
             self._out.flush()

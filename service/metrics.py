@@ -23,9 +23,9 @@ _HELP = {
     "journal_bytes": "The size of the journal on disk.",
     "published_length": "The length of the published journal.",
     "published_line": "The number of the line that published it.",
-    "replica_age_seconds": "For how long the replica has known nothing of its leader.",
-    "replica_lag_lines": "The leader's lines that the replica lacks, as far as it knows.",
-    "takes_edits": "Whether edits are taken: 0 after a failed commit.",
+    "replica_age_seconds": "For how long the replica has known nothing of its source.",
+    "replica_lag_lines": "The lines of its source that the replica lacks, as far as it knows.",
+    "takes_edits": "Whether edits are taken: not after a failed commit, nor by a replica.",
 }
 
 

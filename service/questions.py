@@ -1,8 +1,8 @@
 """The questions of a script, answered by a published tree: `check`, `why`, `show`, `list`, and the like."""
 
+import functools
 from collections import OrderedDict
 from collections.abc import Iterator, Sequence
-from dataclasses import dataclass
 
 import hudarin
 from hudarin import KeptDescriptor, Refused, Sid, Token, Verdict, View
@@ -19,8 +19,6 @@ MOST_WORDS = 2_048
 _KEPT_WORDS, _KEPT_MASKS, _MASK_LENGTH = 65_536, 1_024, 64
 _STATES = {"": hudarin.ENABLED, "=deny": hudarin.DENY_ONLY, "=off": hudarin.DISABLED}
 _PRIVILEGES = {"+security": hudarin.SECURITY, "+take": hudarin.TAKE_OWNERSHIP}
-#: A number of a line is below this.
-_NUMBERS = 1 << 64
 
 
 class Tokens:
@@ -84,24 +82,9 @@ def _token(user: Sid, words: Sequence[str]) -> Token:
     return Token(user, groups, privileges, restricting)
 
 
-def number_of(word: str) -> int:
-    """The number that a word spells in decimal digits. Fault: none below 2^64."""
-    digits = word.lstrip("0")
-    if not word or not word.isascii() or not (digits or "0").isdigit() or len(digits) > 20 or int(word) >= _NUMBERS:
-        raise Fault("fault number")
-    return int(word)
-
-
-@dataclass(frozen=True, slots=True)
-class Verdicts:
-    """The verdicts of one request, all by one published journal of this length; None where there is no node."""
-
-    length: int
-    verdicts: list[Verdict | None]
-
-    def __str__(self) -> str:
-        texts = {each: "nonode" if each is None else str(each) for each in set(self.verdicts)}
-        return f"seen {self.length} {', '.join(texts[each] for each in self.verdicts)}"
+@functools.lru_cache(4096)
+def _verdict_text(verdict: Verdict | None) -> str:
+    return "nonode" if verdict is None else str(verdict)
 
 
 class Questions:
@@ -111,7 +94,7 @@ class Questions:
         self.shown, self.store = shown, store
         self._tokens, self._mapping = Tokens(), MAPPINGS[mapping]
 
-    def check(self, mask: str, words: tuple[str, ...], paths: Sequence[str]) -> Verdicts:
+    def check(self, mask: str, words: tuple[str, ...], paths: Sequence[str]) -> str:
         """Whether the token of the words, a user first, is granted the mask at each of the paths."""
         shown = self.shown
         try:
@@ -120,19 +103,20 @@ class Questions:
             require_paths(shown.view, paths)
             raise
         try:
-            return Verdicts(shown.length, shown.view.check_all(paths, token, bits))
+            verdicts = shown.view.check_all(paths, token, bits)
         except Refused as refused:
             raise Fault(fault_of(refused)) from None
+        return f"seen {shown.length} {', '.join(map(_verdict_text, verdicts))}"
 
     def why(self, mask: str, words: tuple[str, ...], path: str) -> str:
         """The answer of `check`, and the lines of its reasons."""
-        verdicts = self.check(mask, words, [path])
-        if verdicts.verdicts == [None]:
-            return str(verdicts)
+        said = self.check(mask, words, [path])
+        if said.endswith("nonode"):
+            return said
         token, bits = self._tokens.parsed(mask, words)
         with KeptDescriptor(self.shown.view.descriptor(path)) as kept:
             explained = kept.explain(token, bits, self._mapping)
-        return "\n".join([f"seen {verdicts.length} {explained.verdict}", *map(str, explained.parts)])
+        return "\n".join([said, *map(str, explained.parts)])
 
     def show(self, path: str) -> str:
         found = descriptor_in(self.shown.view, path)

@@ -11,8 +11,8 @@ from hudarin import View
 
 from edits import NAMES, PUBLISH
 from errors import Fault
-from questions import Questions, listed, number_of
-from spelling import path_of
+from questions import Questions, listed
+from spelling import number_of, path_of
 from tree import dumped
 
 #: Commands that change the store: the writer answers them.
@@ -107,8 +107,8 @@ def _learn(words: Sequence[str], questions: Questions, reader: Reader) -> str:
 
 def _check(words: Sequence[str], questions: Questions, reader: Reader) -> str:
     number_of(words[1])
-    verdicts = questions.check(words[4], (words[3], *words[5:]), [path_of(words[2])])
-    return _by_reader(words[1], str(verdicts), questions, reader)
+    said = questions.check(words[4], (words[3], *words[5:]), [path_of(words[2])])
+    return _by_reader(words[1], said, questions, reader)
 
 
 def _checks(words: Sequence[str], questions: Questions, reader: Reader) -> str:
@@ -120,7 +120,7 @@ def _checks(words: Sequence[str], questions: Questions, reader: Reader) -> str:
         raise Fault("fault words")
     paths = [path_of(word) for word in words[3 : 3 + count]]
     user, mask, *groups = words[3 + count :]
-    return _by_reader(words[1], str(questions.check(mask, (user, *groups), paths)), questions, reader)
+    return _by_reader(words[1], questions.check(mask, (user, *groups), paths), questions, reader)
 
 
 def _why(words: Sequence[str], questions: Questions, reader: Reader) -> str:

@@ -4,6 +4,8 @@ import asyncio
 import contextlib
 import functools
 import math
+import secrets
+import socket
 import sqlite3
 import time
 from collections.abc import Callable, Sequence
@@ -17,14 +19,15 @@ import script
 from config import ROLES, Config
 from edits import PUBLISH, edit_of
 from errors import Fault, Mismatch, ServiceError
-from following import Following
+from following import Following, feed_of, stream_of
 from journal import Journal
 from loading import Loaded
 from logs import Log
 from metrics import Metrics, seconds_since
 from questions import Questions
-from writer import NO_MEMORY, UNAVAILABLE, Shown, Task, Writer
+from writer import NO_LEADER, NO_MEMORY, UNAVAILABLE, Shown, Task, Writer
 
+_RANKS = {role: rank for rank, role in enumerate(ROLES)}
 _VERDICTS = ("granted", "denied", "reserved", "empty", "nonode")
 
 
@@ -37,7 +40,7 @@ class Caller:
 
     def require(self, role: str) -> None:
         """Fault: the client may not do so."""
-        if ROLES.index(self.role) < ROLES.index(role):
+        if _RANKS[self.role] < _RANKS[role]:
             raise Fault("fault role")
 
 
@@ -49,14 +52,22 @@ class Service:
         self._logs_denials = config.logs_denials
         self._loop = asyncio.get_running_loop()
         self._journal = journal
-        fresh_until = math.inf if config.leader is None else -math.inf
-        self._writer = Writer(journal, state, self._done, self._warn, config.limits.lines_in_epoch, fresh_until)
+        source, name = config.source, f"{socket.gethostname()} {secrets.token_hex(8)}"
+        feed = None if source is None else feed_of(source, name, journal.store)
+        self._writer = Writer(
+            journal, state, self._done, self._warn, config.limits.lines_in_epoch,
+            leads=source is None,
+            fresh_until=math.inf if source is None else -math.inf,
+            stream=stream_of(source, name) if source is not None and source.stream else None,
+        )
         self._questions = Questions(self._writer.shown, journal.store, journal.mapping)
         self._pool = ThreadPoolExecutor(config.limits.long_answers)
         self._edits = self._long_answers = 0
         self.is_stopping = False
         self._writer.start()
-        self._following = None if config.leader is None else Following(config.leader, self._writer)
+        self._following = None
+        if source is not None and feed is not None:
+            self._following = Following(feed, self._writer, source.max_age_seconds)
 
     @property
     def shown(self) -> Shown:
@@ -68,9 +79,13 @@ class Service:
 
     @property
     def is_ready(self) -> bool:
-        """Whether it does what it is for: edits are taken, or a replica knows enough of its leader."""
-        does = self.shown.takes_edits if self._following is None else time.monotonic() <= self.shown.fresh_until
+        """Whether it does what it is for: edits are taken, or a replica knows enough of its source."""
+        does = self.takes_edits if self._following is None else time.monotonic() <= self.shown.fresh_until
         return does and not self.is_stopping
+
+    @property
+    def takes_edits(self) -> bool:
+        return self.shown.takes_edits and not self.is_stopping
 
     @property
     def failure(self) -> Mismatch | None:
@@ -149,8 +164,8 @@ class Service:
             line = PUBLISH if edit is None else edit.line()
         except MemoryError:
             raise Fault(NO_MEMORY) from None
-        if self._following is not None:
-            raise Fault("unavailable replica")
+        if not self._writer.leads:
+            raise Fault(NO_LEADER)
         if self.is_stopping:
             raise Fault("unavailable stopping")
         if self._edits >= self.limits.edits:
@@ -160,8 +175,10 @@ class Service:
 
     def _done(self, tasks: list[Task], shown: Shown) -> None:
         """In the writer's thread: the audit record of each edit is written before its answer goes out."""
-        for task in tasks:
-            self.log.event("edit", who=task.who, key=task.key, line=task.line, answer=task.answer, number=task.number)
+        self.log.events("edit", [
+            {"who": task.who, "key": task.key, "line": task.line, "answer": task.answer, "number": task.number}
+            for task in tasks
+        ])
         self._loop.call_soon_threadsafe(self._deliver, tasks, shown)
 
     def _warn(self, text: str) -> None:
@@ -200,7 +217,7 @@ class Service:
             "published_length": shown.length,
             "published_line": shown.place.number,
             "epoch": shown.epoch,
-            "takes_edits": int(shown.takes_edits),
+            "takes_edits": int(self.takes_edits),
             "edits_in_progress": self._edits,
             "journal_bytes": self._journal.bytes_on_disk(),
             "journal_age_seconds": seconds_since(shown.time) if shown.time else 0,

@@ -32,8 +32,8 @@ def serve(file: Path) -> int:
     log = Log()
     _raise_limit(config.limits.connections + _OTHER_FILES)
     began = time.monotonic()
-    if config.leader is not None and not (config.folder / DATABASE).exists():
-        make(config.folder, *fetch(config.leader))
+    if config.source is not None and not (config.folder / DATABASE).exists():
+        make(config.folder, *fetch(config.source))
     with opened(config.folder) as journal:
         state = load(journal)
         seconds = round(time.monotonic() - began, 3)

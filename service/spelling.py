@@ -8,6 +8,8 @@ from errors import Fault
 
 #: What a printed path has as it is: all printable ASCII but `%`.
 _SAFE = "".join(map(chr, range(0x21, 0x7F))).replace("%", "")
+#: A number of a line is below this.
+_NUMBERS = 1 << 64
 
 
 def spelled(path: str) -> str:
@@ -50,6 +52,14 @@ def sid_of(word: str) -> Sid:
         return Sid.from_text(word)
     except Refused:
         raise Fault("fault sid") from None
+
+
+def number_of(word: str) -> int:
+    """The number that a word spells in decimal digits. Fault: none below 2^64."""
+    digits = word.lstrip("0")
+    if not word or not word.isascii() or not (digits or "0").isdigit() or len(digits) > 20 or int(word) >= _NUMBERS:
+        raise Fault("fault number")
+    return int(word)
 
 
 def fault_of(refused: Refused) -> str:

@@ -19,14 +19,16 @@ from edits import Edit
 from entry import Line, Place, Snapshot
 from errors import Fault, Mismatch, ServiceError
 from journal import Journal
+from leading import Lines
 from loading import Loaded, load
+from stream import Stream
 from tree import Tree, built, dumped, first_difference
 
 #: The edits that share one commit at most.
 MOST_AT_ONCE = 512
 #: A library's journal takes 1,048,576 edits; a new epoch starts well before.
 MOST_EDITS = 900_000
-UNAVAILABLE, NO_MEMORY = "unavailable journal", "unavailable memory"
+UNAVAILABLE, NO_MEMORY, NO_LEADER = "unavailable journal", "unavailable memory", "unavailable replica"
 
 
 @dataclass(slots=True)
@@ -52,10 +54,11 @@ class Shown:
     length: int
     place: Place
     epoch: int
-    #: When the last line was accepted, in milliseconds since 1970; and whether edits are taken.
+    #: The last line on disk, and when it was accepted, in milliseconds since 1970.
+    last: Place
     time: int
     takes_edits: bool
-    #: No answer is given after that, by the monotonic clock: a replica knows no more of its leader.
+    #: No answer is given after that, by the monotonic clock: a replica knows no more of its source.
     fresh_until: float
 
 
@@ -69,10 +72,9 @@ class Batch:
 
 @dataclass(frozen=True, slots=True)
 class Received:
-    """Lines of the leader, the number of its last one, and until when its replica may answer by them if that is all."""
+    """Lines of a replica's source, and until when it may answer by them if these are all."""
 
-    lines: list[tuple[Line, bytes]]
-    last: int
+    following: Lines
     fresh_until: float
     #: Set once the lines are on disk, or can't be.
     ended: threading.Event
@@ -98,10 +100,13 @@ class Writer:
     warn: Callable[[str], None]
     #: So many lines after its snapshot a new epoch starts.
     lines_in_epoch: int = 100_000
-    #: That of what is shown.
+    #: Whether edits are taken: of a replica, whether it leads. And what is shown of it.
+    leads: bool = True
     fresh_until: float = math.inf
+    #: Of a service that leads by a lease: each line has to be there before it is in the journal.
+    stream: Stream | None = None
     waiting: "queue.SimpleQueue[Task | NextEpoch | Received | None]" = field(default_factory=queue.SimpleQueue)
-    #: Why nothing more is served: the leader's lines aren't those of this store.
+    #: Why nothing more is served: the source's lines aren't those of this store.
     failure: Mismatch | None = None
     #: Views that no reader uses any more: the thread closes them.
     retired: deque[View] = field(default_factory=deque)
@@ -109,7 +114,7 @@ class Writer:
     #: Makes a new epoch; None once that has begun, or can't.
     _maker: threading.Thread | None = None
     #: The store isn't the journal's since a commit failed.
-    _is_lost: bool = False
+    is_lost: bool = False
 
     def __post_init__(self) -> None:
         #: What readers see: only what is on disk.
@@ -128,11 +133,13 @@ class Writer:
         for thread in (self._thread, self._maker):
             if thread is not None:
                 thread.join()
+        if self.stream is not None:
+            self.stream.resign()
 
     def _show(self) -> Shown:
-        state = self.state
-        view, length, takes_edits = state.tree.view, state.tree.length, self.fresh_until == math.inf
-        return Shown(view, length, state.published, state.epoch, state.time, takes_edits, self.fresh_until)
+        state, tree = self.state, self.state.tree
+        return Shown(tree.view, tree.length, state.published, state.epoch, state.last, state.time, self.leads,
+                     self.fresh_until)
 
     # In the thread
 
@@ -156,13 +163,15 @@ class Writer:
         if other is not None:
             self._begin(other) if isinstance(other, NextEpoch) else self._receive(other)
             self._answer([])
+        if isinstance(other, Received):
+            other.ended.set()
         if not is_last:
             self._make_epoch_if_due()
         return not is_last
 
     def _answer(self, tasks: list[Task]) -> None:
         """Has the tasks answered. Readers see what is on disk from here on; if that isn't known, what they saw."""
-        if self._is_lost:
+        if self.is_lost:
             self.shown = replace(self.shown, takes_edits=False, fresh_until=self.fresh_until)
         else:
             self.shown = self._show()
@@ -186,20 +195,29 @@ class Writer:
         """Makes the edits and commits them. If that fails none is acknowledged, and the store is read again."""
         batch = Batch()
         try:
-            if self._is_lost:
+            if self.is_lost:
                 self._reload()
+            last = self.state.last
             for task in tasks:
                 self._make(task, batch)
+            if self.stream is not None and self.leads:
+                # Without lines too: what is refused, is refused by the leader.
+                self.stream.append(last, batch.lines)
             if batch.lines:
                 self.journal.append(batch.lines)
         except (sqlite3.Error, OSError, ServiceError, MemoryError) as error:
-            self._is_lost = True
+            self.is_lost = True
+            # A replica asks whether it leads.
+            self.leads = self.leads and self.stream is None
             self.warn(f"the journal takes no edits: {error}")
             for task in tasks:
                 task.answer, task.number = UNAVAILABLE, 0
 
     def _make(self, task: Task, batch: Batch) -> None:
         """Makes one edit or publish, and adds its line to those to commit."""
+        if not self.leads:
+            task.answer = NO_LEADER
+            return
         if task.key and self._was_made(task, batch):
             return
         try:
@@ -254,7 +272,7 @@ class Writer:
         """Reads the store again, as a start does. Readers keep what was published, which is on disk."""
         state = load(self.journal)
         self._go_on_in(state)
-        self._is_lost = False
+        self.is_lost = False
 
     def _go_on_in(self, state: Loaded) -> None:
         old, self.state = self.state.tree, state
@@ -264,28 +282,35 @@ class Writer:
     # Of a replica
 
     def _receive(self, received: Received) -> None:
-        """Makes the leader's next lines, and commits them."""
+        """Makes the next lines, and commits them."""
         try:
-            if self._is_lost:
+            if self.is_lost:
                 # They are asked for again.
                 self._reload()
                 return
-            for line, chain in received.lines:
-                last = self.state.last
-                if line.number != last.number + 1 or chain != line.chained(self.journal.store, last.chain):
-                    raise Mismatch(f"line {last.number + 1} of the leader isn't the one that follows here")
+            following = received.following
+            # What it has appended itself since it asked is there too.
+            lines = [each for each in following.lines if each[0].number > self.state.last.number]
+            for line, chain in lines:
+                self._require_next(line, chain)
                 self.state.replay(line, chain, self._drop)
-            if received.lines:
-                self.journal.append(received.lines)
-            if self.state.last.number >= received.last:
+            if lines:
+                self.journal.append(lines)
+            has_all = self.state.last.number >= following.last
+            self.leads = following.leads and has_all
+            if has_all:
                 self.fresh_until = received.fresh_until
         except Mismatch as mismatch:
-            self._is_lost, self.failure, self.fresh_until = True, mismatch, -math.inf
+            self.is_lost, self.failure, self.leads, self.fresh_until = True, mismatch, False, -math.inf
         except (sqlite3.Error, OSError, ServiceError, MemoryError) as error:
-            self._is_lost = True
+            self.is_lost = True
             self.warn(f"the journal takes no lines: {error}")
-        finally:
-            received.ended.set()
+
+    def _require_next(self, line: Line, chain: bytes) -> None:
+        """Mismatch: it isn't the line that follows the last one."""
+        last = self.state.last
+        if line.number != last.number + 1 or chain != line.chained(self.journal.store, last.chain):
+            raise Mismatch(f"line {last.number + 1} of the source isn't the one that follows here")
 
     # A new epoch
 
@@ -293,7 +318,7 @@ class Writer:
         """Starts to make one in the background, if there are enough lines and none is being made."""
         state, shown = self.state, self.shown
         is_long = state.last.number - state.since >= self.lines_in_epoch or state.tree.own_length >= MOST_EDITS
-        is_due = is_long and shown.place.number > state.since and not self._is_lost
+        is_due = is_long and shown.place.number > state.since and not self.is_lost
         if is_due and self._maker is None:
             arguments = (shown, shown.view.share(), self.journal.mapping)
             self._maker = threading.Thread(target=self._make_epoch, args=arguments, name="epoch")
@@ -327,9 +352,14 @@ class Writer:
             self.journal.start_epoch(made.snapshot, state.last.number)
         except (sqlite3.Error, OSError, ServiceError, MemoryError) as error:
             # It may be on disk all the same, so the journal is read again.
-            self._is_lost = True
+            self.is_lost = True
             self.warn(f"no new epoch: {error}")
             made.tree.close()
             return
         following.time = state.time
         self._go_on_in(following)
+        if self.stream is not None and self.leads:
+            try:
+                self.stream.renew(self.journal, made.snapshot)
+            except (OSError, ServiceError) as error:
+                self.warn(f"no new snapshot for replicas: {error}")

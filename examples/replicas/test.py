@@ -1,62 +1,304 @@
 #!/usr/bin/env python3
-"""Tests the replica set over a Redis that it starts itself: replicas and writers are killed and started again.
+"""Tests services that share a Redis, which it starts itself: services and Redis are killed, stopped and started again.
 
-    test.py PROGRAM
+    test.py [NAME ..]
 
-Every answer that somebody had is compared with that of one `sdstore script` over the lines that the log has at the end.
-Where Redis, or its module for Python, isn't there, it is skipped.
-"""
+The last line is 'N passed, M failed'."""
 
-import importlib.util
+import random
 import shutil
 import signal
+import subprocess
 import sys
-import traceback
-from contextlib import ExitStack
+import threading
+import time
+import unittest
+from pathlib import Path
 
-from rig import Redis, Replicas
-from tally import Tally
+TOP = Path(__file__).resolve().parents[2]
+sys.path[:0] = [str(TOP / "service/tests")]
 
-#: The seconds after which it is given up. It takes less than one minute, and several on a busy machine.
-LIMIT = 900
+import rig  # noqa: E402 (it is in that folder)
+from run import report  # noqa: E402
+from test_tls import Certificates  # noqa: E402
 
+from client import Client, Unavailable  # noqa: E402 (rig says where)
+from redis_client import Redis  # noqa: E402
 
-def give_up(number: int, _: object) -> None:
-    """What was started is ended on the way out."""
-    raise TimeoutError(f"ended by signal {number}")
-
-
-def run(program: str, tally: Tally) -> None:
-    from failures import Failures  # (these require redis)
-    from stories import Stories
-
-    with ExitStack() as stack:
-        server = stack.enter_context(Redis())
-        replicas = stack.enter_context(Replicas(program, server.url))
-        stories = Stories(program, server, replicas, stack, tally)
-        stories.run()
-        Failures(stories).run()
+NAMES = ("a", "b", "c")
+#: A lease that is short, and an age that a busy machine doesn't exceed by chance.
+LEASE = "lease_seconds = 2\nmax_age_seconds = 20"
+#: The kills of the random test.
+KILLS = 15
 
 
-def main(program: str) -> int:
-    tally = Tally()
-    if not shutil.which("redis-server") or not importlib.util.find_spec("redis"):
-        print("skipped: the packages redis-server and python3-redis are required")
-        print(tally)
-        return 0
-    for number in (signal.SIGALRM, signal.SIGHUP, signal.SIGTERM):
-        signal.signal(number, give_up)
-    signal.alarm(LIMIT)
-    try:
-        run(program, tally)
-    except Exception:
-        traceback.print_exc()
-        tally.holds("the test", False, "to its end")
-    print(tally)
-    return 1 if tally.failed else 0
+class Server:
+    """A Redis that has each line on the disk before it says so."""
+
+    def __init__(self, room: Path, *options: str) -> None:
+        self.room, self.socket, self._options = room, room / "redis", options
+        self._process: subprocess.Popen[bytes] | None = None
+
+    def start(self) -> None:
+        command = ["redis-server", "--port", "0", "--unixsocket", str(self.socket), "--dir", str(self.room), "--save", "",
+                   "--appendonly", "yes", "--appendfsync", "always", *self._options]
+        self._process = subprocess.Popen(command, stdout=subprocess.PIPE)
+        if not any(b"ready to accept connections" in line for line in self._process.stdout):
+            raise RuntimeError("redis-server isn't ready")
+
+    def kill(self, number: int = signal.SIGKILL) -> None:
+        self._process.send_signal(number)
+        if number == signal.SIGKILL:
+            self._process.wait()
+            self._process.stdout.close()
+
+    def ask(self, *words: str | int) -> object:
+        redis = Redis(lambda: rig.connected(self.socket))
+        try:
+            return redis.ask(*words)
+        finally:
+            redis.close()
+
+
+class Replicas(rig.Case):
+    """Three services over one Redis, of which the first has its store."""
+
+    def setUp(self) -> None:
+        super().setUp()
+        self.redis = Server(self.room)
+        self.redis.start()
+        self.addCleanup(self.redis.kill)
+        self.nodes = {name: rig.Case() for name in NAMES}
+        for node in self.nodes.values():
+            node.setUp()
+            self.addCleanup(node.doCleanups)
+        self.first = self.nodes["a"]
+        self.first.make()
+        self.configure_node(self.first)
+        rig.run("seed", self.first.config)
+        for node in self.nodes.values():
+            self.start_node(node)
+
+    def configure_node(self, node: rig.Case, limits: str = "lines_in_epoch = 40") -> None:
+        node.configure(limits, more=f'[redis]\nunix = "{self.redis.socket}"\n{LEASE}')
+
+    def start_node(self, node: rig.Case) -> None:
+        self.configure_node(node)
+        node.launch()
+        node.wait_until_ready()
+
+    def client(self, timeout: float = 2 * rig.PATIENCE) -> Client:
+        return Client([str(node.lines) for node in self.nodes.values()], timeout=timeout)
+
+    def leader(self) -> rig.Case:
+        """The service that takes edits, once there is one."""
+        end = time.monotonic() + rig.PATIENCE
+        while time.monotonic() < end:
+            for node in self.nodes.values():
+                if node.process is not None and node.said("publish")[0].startswith("published"):
+                    return node
+            time.sleep(0.02)
+        raise AssertionError("nobody leads")
+
+    def others(self, node: rig.Case) -> list[rig.Case]:
+        return [each for each in self.nodes.values() if each is not node]
+
+    def assert_all_alike(self) -> None:
+        """All that run show one state; and their journals are whole."""
+        state = self.leader().said("status")[0].split(" ")[3:]
+        for node in self.nodes.values():
+            node.wait_for(lambda: node.said("status")[0].split(" ")[3:] == state)
+        self.assertEqual(len({tuple(node.dump()) for node in self.nodes.values()}), 1)
+        for node in self.nodes.values():
+            rig.run("verify", node.store)
+
+    def test_one_leads(self) -> None:
+        leader = self.leader()
+        with self.client() as client:
+            client.edit("addo", "/a b", "O:BAG:SYD:(A;;FW;;;BU)")
+            self.assertEqual(client.publish(), 1)
+        for node in self.others(leader):
+            node.wait_for(lambda: node.said(f"check 0 /a%20b {rig.USER} FW BU") == ["seen 1 granted 0x120116"])
+            self.assertEqual(node.said("publish", "addo /c O:BAG:SYD:"), ["unavailable replica"] * 2)
+        self.assert_all_alike()
+
+    def test_a_leader_that_is_killed_or_stopped(self) -> None:
+        """Another one leads: after the lease, or at once; the old one follows when it is back."""
+        with self.client() as client:
+            for turn, end in enumerate(("kill", "stop", "kill")):
+                leader = self.leader()
+                client.edit("addo", f"/n{turn}", "O:BAG:SYD:")
+                getattr(leader, end)()
+                self.assertEqual(client.publish(), turn + 1)
+                self.assertIsNotNone(client.show(f"/n{turn}"))
+                self.start_node(leader)
+                self.assertIsNot(self.leader(), leader)
+        self.assert_all_alike()
+
+    def test_a_leader_that_sleeps(self) -> None:
+        """Its lease ends meanwhile: what it then gets isn't made, and it answers by nothing old."""
+        leader = self.leader()
+        with leader.connect() as asked, self.client() as client:
+            leader.process.send_signal(signal.SIGSTOP)
+            asked.send(b"x addo /late O:BAG:SYD:\nx publish\n")
+            client.close()
+            client._where = str(self.others(leader)[0].lines)
+            client.edit("addo", "/early", "O:BAG:SYD:")
+            self.assertEqual(client.publish(), 1)
+            leader.process.send_signal(signal.SIGCONT)
+            for _ in range(2):
+                self.assertTrue(asked.read().startswith(b"x unavailable "))
+        self.assert_all_alike()
+        self.assertEqual(leader.said("show 0 /late", "show 0 /early")[0], "seen 1 nonode")
+
+    def test_redis_comes_back(self) -> None:
+        """Without it there are no edits; what it kept goes on."""
+        leader = self.leader()
+        self.assertEqual(leader.said("addo /a O:BAG:SYD:", "publish"), ["ok", "published 1"])
+        self.redis.kill()
+        self.assertEqual(leader.said("addo /b O:BAG:SYD:"), ["unavailable journal"])
+        self.assertEqual(leader.said("show 0 /b"), ["seen 1 nonode"])
+        self.redis.start()
+        with self.client() as client:
+            client.edit("addo", "/b", "O:BAG:SYD:")
+            self.assertEqual(client.publish(), 2)
+        self.assert_all_alike()
+
+    def test_a_silent_redis(self) -> None:
+        """Services that know nothing of it for too long answer nothing."""
+        self.leader()
+        self.redis.kill(signal.SIGSTOP)
+        for node in self.nodes.values():
+            node.wait_for(lambda: node.said("tell") == ["unavailable behind"])
+        self.redis.kill(signal.SIGCONT)
+        for node in self.nodes.values():
+            node.wait_for(lambda: node.said("tell") == ["told 0"])
+
+    def test_redis_that_lost_lines(self) -> None:
+        """Each service ends with status 1, and says so; the one that has all lines makes the stream again."""
+        leader = self.leader()
+        self.assertEqual(leader.said("addo /a O:BAG:SYD:", "publish"), ["ok", "published 1"])
+        self.assert_all_alike()
+        self.redis.ask("FLUSHALL")
+        for node in self.nodes.values():
+            self.assertEqual(node.process.wait(rig.PATIENCE), 1)
+            self.assertIn("there is no stream", node.log.read_text())
+            node.process = None
+        rig.run("seed", self.first.config)
+        self.assertIn("there is a stream", rig.run("seed", self.first.config, status=2).stderr)
+        for node in self.nodes.values():
+            self.start_node(node)
+        with self.client() as client:
+            self.assertEqual(client.publish(), 1)
+        self.assert_all_alike()
+
+    def test_other_stores_and_dropped_lines(self) -> None:
+        """A service with another store ends, and one whose next lines the stream has dropped."""
+        stranger, late = self.nodes["b"], self.nodes["c"]
+        for node in (stranger, late):
+            node.kill()
+        stranger.store = stranger.room / "other"
+        stranger.make()
+        with self.client() as client:
+            client.edit("addo", "/a", "O:BAG:SYD:")
+            client.publish()
+        self.redis.ask("XTRIM", "sdstored", "MAXLEN", 1)
+        for node in (stranger, late):
+            self.configure_node(node)
+            node.launch()
+            self.assertEqual(node.process.wait(rig.PATIENCE), 1, node.log.read_text())
+            node.process = None
+        self.assertIn("isn't the one that follows here", late.log.read_text())
+
+    def test_a_new_replica_starts_from_a_snapshot(self) -> None:
+        with self.client() as client:
+            for number in range(100):
+                client.edit("addo", f"/n{number}", "O:BAG:SYD:")
+                if number % 10 == 9:
+                    client.publish()
+        self.first.wait_for(lambda: self.redis.ask("GET", "sdstored:snapshot").startswith(b'["') and
+                            b"/n30" in self.redis.ask("GET", "sdstored:snapshot"))
+        late = self.nodes["b"]
+        late.kill()
+        late.store = late.room / "again"
+        self.start_node(late)
+        self.assert_all_alike()
+        self.assertGreater(next(each for each in late.events() if each["event"] == "loaded")["line"], 30)
+
+    def test_certificates(self) -> None:
+        """Over TCP Redis and service show certificates; one of another authority is good for nothing."""
+        if shutil.which("openssl") is None:
+            self.skipTest("the command openssl is required")
+        ours, others = Certificates(self.room, "authority"), Certificates(self.room, "others")
+        ours.sign("server", "/CN=redis")
+        ours.sign("ours", "/CN=service")
+        others.sign("theirs", "/CN=service")
+        room, port = self.room / "tls", rig.free_port()
+        room.mkdir()
+        files = [f"--tls-{name}-file={self.room / file}" for name, file in
+                 (("cert", "server.pem"), ("key", "server.key"), ("ca-cert", "authority.pem"))]
+        options = [word for each in files for word in each.split("=")]
+        server = Server(room, "--tls-port", str(port), *options)
+        server.start()
+        self.addCleanup(server.kill)
+        self.make()
+        for name, status in (("theirs", 3), ("ours", 0)):
+            self.configure(more=f'[redis]\ntcp = "127.0.0.1:{port}"\nauthority = "{self.room}/authority.pem"\n'
+                           f'certificate = "{self.room}/{name}.pem"\nkey = "{self.room}/{name}.key"')
+            rig.run("seed", self.config, status=status)
+        self.launch()
+        self.wait_until_ready()
+        with Client(str(self.lines), timeout=rig.PATIENCE) as client:
+            self.assertEqual(client.publish(), 0)
+        self.stop()
+
+    def test_kills(self) -> None:
+        """Leaders, replicas and Redis are killed in turn: each acknowledged edit is there, once."""
+        chance, made, stop = random.Random(1), [0] * 3, threading.Event()
+        faults: list[BaseException] = []
+
+        def edit(number: int) -> None:
+            try:
+                with self.client(20 * rig.PATIENCE) as client:
+                    client.edit("addc", f"/{number}", "O:BAG:SYD:")
+                    while not stop.is_set():
+                        client.edit("addo", f"/{number}/{made[number]}", "O:BAG:SYD:")
+                        made[number] += 1
+                        if made[number] % 4 == 0:
+                            client.publish()
+                            assert client.show(f"/{number}/{made[number] - 1}") is not None
+            except BaseException as error:
+                faults.append(error)
+
+        threads = [threading.Thread(target=edit, args=(number,)) for number in range(len(made))]
+        for thread in threads:
+            thread.start()
+        for turn in range(KILLS):
+            time.sleep(chance.random() * 2)
+            self.kill_one(chance, turn)
+        stop.set()
+        for thread in threads:
+            thread.join()
+        self.assertEqual(faults, [])
+        with self.client() as client:
+            self.assertEqual(client.publish(), len(made) + sum(made))
+        self.assert_all_alike()
+        self.assertGreater(sum(made), KILLS)
+
+    def kill_one(self, chance: random.Random, turn: int) -> None:
+        """Kills Redis or a service, the leader more often than not, and starts it again."""
+        if turn % 5 == 4:
+            self.redis.kill()
+            self.redis.start()
+            return
+        node = self.leader() if chance.random() < 0.6 else chance.choice(list(self.nodes.values()))
+        node.kill()
+        if chance.random() < 0.5:
+            time.sleep(chance.random() * 2)
+        self.start_node(node)
 
 
 if __name__ == "__main__":
-    if len(sys.argv) != 2:
-        sys.exit(__doc__)
-    sys.exit(main(sys.argv[1]))
+    loader, module = unittest.TestLoader(), sys.modules[__name__]
+    names = sys.argv[1:]
+    sys.exit(report(loader.loadTestsFromNames(names, module) if names else loader.loadTestsFromModule(module)))

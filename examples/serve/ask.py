@@ -14,7 +14,7 @@ import sys
 import time
 
 #: The commands whose answers have several lines, and an empty one after them.
-SEVERAL = ("why", "find", "list", "dump", "who")
+SEVERAL = ("why", "find", "list", "dump", "who", "review")
 
 
 def line_of(*words: str) -> str:

@@ -23,7 +23,7 @@ ask() {
     printf '%s\n' "$serving_id $1" >&"${SERVING[1]}" && next_line || return
     answer=$line
     case ${1%% *} in
-    why | find | list | dump | who)
+    why | find | list | dump | who | review)
         while true; do
             next_line || return
             [[ -n $line ]] || break

@@ -1,8 +1,15 @@
 #!/usr/bin/env python3
-"""By hand: what the service costs. `costs.py [FOLDER]` makes its stores in FOLDER, on the disk to measure."""
+"""By hand: what the service costs, as the table of docs/PERFORMANCE.md.
 
+    costs.py [FOLDER]
+
+makes its stores in FOLDER, on the disk to measure, and measures how often that flushes a page. It takes a minute, on a
+machine that does nothing else."""
+
+import itertools
 import os
 import resource
+import selectors
 import statistics
 import sys
 import tempfile
@@ -37,11 +44,52 @@ def rate(ask: Callable[[], int], seconds: float = SECONDS) -> tuple[float, int]:
     return count / took, count
 
 
+def say(what: str, measured: str, processor: str = "") -> None:
+    """A row of the table."""
+    print(f"| {what} | {measured} | {processor} |", flush=True)
+
+
+class Editors:
+    """Clients that each edit an object of their own, in one thread: an edit is sent once the one before is answered."""
+
+    def __init__(self, where: Path, count: int) -> None:
+        self._selector = selectors.DefaultSelector()
+        self._clients = [rig.connected(where) for _ in range(count)]
+        self._sent = [0] * count
+        for number, client in enumerate(self._clients):
+            self._selector.register(client, selectors.EVENT_READ, number)
+            self._send(number)
+
+    def _send(self, number: int) -> None:
+        words = f"remove /c{number}" if self._sent[number] % 2 else f"addo /c{number} O:BAG:SYD:"
+        self._clients[number].sendall(f"x {words}\n".encode())
+        self._sent[number] += 1
+
+    def work(self) -> int:
+        """Takes the answers that are there, and sends as many edits."""
+        ready = self._selector.select()
+        for key, _ in ready:
+            said = self._clients[key.data].recv(100)
+            assert said == b"x ok\n", said
+            self._send(key.data)
+        return len(ready)
+
+    def close(self) -> None:
+        for number, client in enumerate(self._clients):
+            assert client.recv(100) == b"x ok\n"
+            if self._sent[number] % 2:
+                client.sendall(f"x remove /c{number}\n".encode())
+                assert client.recv(100) == b"x ok\n"
+            client.close()
+
+
 class Costs(rig.Case):
     def run_all(self, folder: str | None) -> None:
         self.room = Path(tempfile.mkdtemp(prefix="costs-", dir=folder))
         self.store, self.lines, self.http = self.room / "store", self.room / "lines", self.room / "http"
         self.log, self.config = self.room / "log", self.room / "config.toml"
+        print(f"{os.cpu_count()} processors, load {os.getloadavg()[0]:.1f}\n")
+        print("| What | Measured | Processor |\n|---|---:|---:|")
         self.make()
         self.idle()
         self.edits()
@@ -56,7 +104,7 @@ class Costs(rig.Case):
                 os.fdatasync(file.fileno())
                 return 1
 
-            return rate(one)[0]
+            return rate(one, SECONDS / 2)[0]
 
     def processor(self) -> float:
         """The processor seconds of the service."""
@@ -72,35 +120,20 @@ class Costs(rig.Case):
             found.append(one)
             count += more
         used = (self.processor() - before) / count
-        print(f"{what}: best {max(found):,.0f}/s, median {statistics.median(found):,.0f}/s, "
-              f"{used * 1e6:.1f} us of a processor each")
+        say(what, f"{statistics.median(found):,.0f}/s, at best {max(found):,.0f}/s", f"{used * 1e6:.1f} us each")
 
     def edits(self) -> None:
         """Edits in a small tree, each acknowledged before the next of its client."""
         self.start()
         for clients in (1, 64):
-            total, flushes = [0], self.flushes()
-
-            def ask(number: int) -> None:
-                with self.connect() as asked:
-                    at, end = 0, time.monotonic() + SECONDS
-                    while time.monotonic() < end:
-                        words = f"addo /c{number} O:BAG:SYD:" if at % 2 == 0 else f"remove /c{number}"
-                        assert asked.ask(words) == "ok"
-                        at += 1
-                    if at % 2:
-                        asked.ask(f"remove /c{number}")
-                    total[0] += at
-
-            threads = [threading.Thread(target=ask, args=(number,)) for number in range(clients)]
-            began = time.perf_counter()
-            for each in threads:
-                each.start()
-            for each in threads:
-                each.join()
-            found = total[0] / (time.perf_counter() - began)
-            flushes = (flushes + self.flushes()) / 2
-            print(f"acknowledged edits, {clients} clients: {found:,.0f}/s, {found / flushes:.2f} of the flushes")
+            before, used, editors = self.flushes(), self.processor(), Editors(self.lines, clients)
+            found, count = rate(editors.work)
+            used = (self.processor() - used) / count
+            editors.close()
+            flushes = (before + self.flushes()) / 2
+            say(f"acknowledged edits, {clients} clients", f"{found:,.0f}/s, {found / flushes:.1f} times the flushes",
+                f"{used * 1e6:.0f} us each")
+            say("flushes of a page on the same disk, before and after", f"{flushes:,.0f}/s")
         self.stop()
         os.rename(self.store, self.room / "small")
 
@@ -108,17 +141,17 @@ class Costs(rig.Case):
         """A start, checks, and checks beside edits of the root."""
         self.start()
         event = next(each for each in self.events() if each["event"] == "loaded")
-        print(f"start with a full tree from a snapshot: {event['seconds']} s, {self.processor():.2f} s of a processor, "
-              f"{self.memory() / 1024:.0f} MiB")
+        say(f"start with a full tree from a snapshot; {self.memory() / 1024:.0f} MiB then", f"{event['seconds']} s",
+            f"{self.processor():.2f} s")
         paths = [f"/{folder}/{number}" for folder in range(250) for number in range(0, 256, 8)]
-        singles = iter(paths * 1000)
+        singles = itertools.cycle(paths)
         with self.connect() as asked:
             def single() -> int:
                 asked.send(b"x check 0 %s %s FR BU\n" % (next(singles).encode(), rig.USER.encode()))
                 assert asked.read().startswith(b"x seen")
                 return 1
 
-            self.say_rate("checks, single", single)
+            self.say_rate("checks over the Unix socket, one client, each after the answer before", single)
             batch = f"x checks 0 100 {' '.join(paths[:100])} {rig.USER} FR BU\n".encode()
 
             def hundred() -> int:
@@ -126,7 +159,7 @@ class Costs(rig.Case):
                 assert asked.read().count(b"granted") == 100
                 return 100
 
-            self.say_rate("checks, in batches of 100", hundred)
+            self.say_rate("the same in batches of 100", hundred)
             self.beside_edits(single)
         self.stop()
 
@@ -151,8 +184,8 @@ class Costs(rig.Case):
         stop.set()
         thread.join()
         parts = statistics.quantiles(times, n=1000)
-        print(f"checks beside edits of the root: median {parts[499] * 1e3:.2f} ms, p99 {parts[989] * 1e3:.2f} ms, "
-              f"most {max(times) * 1e3:.1f} ms; {made[0] / (2 * SECONDS):.0f} edits/s")
+        say(f"a check beside {made[0] / (2 * SECONDS):.0f} edits a second at the root of a full tree: median, 99 of 100, "
+            "most", f"{parts[499] * 1e3:.2f}, {parts[989] * 1e3:.1f}, {max(times) * 1e3:.1f} ms")
 
     def idle(self) -> None:
         resource.setrlimit(resource.RLIMIT_NOFILE, (4096, resource.getrlimit(resource.RLIMIT_NOFILE)[1]))
@@ -160,7 +193,7 @@ class Costs(rig.Case):
         before = self.memory()
         many = [self.connect() for _ in range(1000)]
         assert all(each.ask("tell").startswith("told ") for each in many)
-        print(f"memory of 1,000 idle connections: {(self.memory() - before) / 1024:.1f} MiB")
+        say("memory of 1,000 idle connections", f"{(self.memory() - before) / 1024:.1f} MiB")
         for each in many:
             each.close()
         self.stop()

@@ -36,13 +36,25 @@ def run(*words: object, given: str = "", status: int = 0) -> subprocess.Complete
     return done
 
 
+def free_port() -> int:
+    """A port of the loopback interface at which nobody listened a moment ago."""
+    with socket.socket() as found:
+        found.bind(("127.0.0.1", 0))
+        return int(found.getsockname()[1])
+
+
+def connected(where: Path) -> socket.socket:
+    made = socket.socket(socket.AF_UNIX)
+    made.settimeout(PATIENCE)
+    made.connect(str(where))
+    return made
+
+
 class Lines:
     """A connection for lines, without a client: what is sent is exactly what a test says."""
 
     def __init__(self, where: Path) -> None:
-        self.socket = socket.socket(socket.AF_UNIX)
-        self.socket.settimeout(PATIENCE)
-        self.socket.connect(str(where))
+        self.socket = connected(where)
         self._file = self.socket.makefile("rb")
 
     def __enter__(self) -> "Lines":

@@ -10,7 +10,10 @@ import rig
 
 def main(names: list[str]) -> int:
     loader = unittest.TestLoader()
-    tests = loader.loadTestsFromNames(names) if names else loader.discover(str(rig.HERE))
+    return report(loader.loadTestsFromNames(names) if names else loader.discover(str(rig.HERE)))
+
+
+def report(tests: unittest.TestSuite) -> int:
     result = unittest.TestResult()
     tests.run(result)
     for test, why in result.failures + result.errors:

@@ -35,10 +35,11 @@ class Http(rig.Case):
             self.skipTest("the command curl is required")
         self.make("open 1 O:BAG:SYD:(A;OICI;FR;;;BU)\naddc /d O:BAG:SYD:\npublish\n")
 
-    def curl(self, target: str, *words: str) -> tuple[int, str]:
-        """The status, and the body."""
-        command = ["curl", "-s", "--max-time", "30", "--unix-socket", str(self.http), "-w", "\n%{http_code}", *words,
-                   f"http://localhost{target}"]
+    def curl(self, target: str, *words: str, port: int = 0) -> tuple[int, str]:
+        """The status, and the body; by the Unix socket, or by a port."""
+        by_socket = ["--unix-socket", str(self.http), f"http://localhost{target}"]
+        where = [f"http://127.0.0.1:{port}{target}"] if port else by_socket
+        command = ["curl", "-s", "--max-time", str(rig.PATIENCE), "-w", "\n%{http_code}", *words, *where]
         said = subprocess.run(command, capture_output=True, text=True, check=True).stdout
         body, _, status = said.rpartition("\n")
         return int(status), body
@@ -59,10 +60,14 @@ class Http(rig.Case):
 
     def test_requests(self) -> None:
         self.start()
-        edits = [{"edit": "addo", "path": "/d/a b\n", "descriptor": "O:BAG:SYD:(A;;FW;;;BU)"}, {"edit": "remove",
-                                                                                                "path": "/none"},
-                 {"edit": "owner", "path": "/d", "sid": "QQ"}, {"edit": "move", "path": "/d/a b\n", "target": "/d/é"},
-                 {"edit": "protect", "path": "/d"}, {"edit": "dacl", "path": "/d/é", "descriptor": "D:(A;;FA;;;BU)"}]
+        edits = [
+            {"edit": "addo", "path": "/d/a b\n", "descriptor": "O:BAG:SYD:(A;;FW;;;BU)"},
+            {"edit": "remove", "path": "/none"},
+            {"edit": "owner", "path": "/d", "sid": "QQ"},
+            {"edit": "move", "path": "/d/a b\n", "target": "/d/é"},
+            {"edit": "protect", "path": "/d"},
+            {"edit": "dacl", "path": "/d/é", "descriptor": "D:(A;;FA;;;BU)"},
+        ]
         status, said = self.ask("/v1/edit", {"edits": edits, "publish": True, "key": "k"})
         self.assertEqual((status, [each["answer"] for each in said["answers"]]),
                          (200, ["ok", "refused 4 NoNode", "fault sid", "ok", "ok", "ok", "published 5"]))
@@ -82,8 +87,8 @@ class Http(rig.Case):
                          "O:BAG:SYD:AI(A;;FA;;;BU)(A;ID;FR;;;BU)")
         self.assertEqual(self.ask("/v1/show", {"path": "/x"}), (404, {"fault": "nonode"}))
         self.assertEqual([each["path"] for each in self.ask("/v1/list", {})[1]["nodes"]], ["/", "/d", "/d/é"])
-        self.assertEqual([each["kind"] for each in self.ask("/v1/list", {"path": "/d"})[1]["nodes"]], ["container",
-                                                                                                       "object"])
+        kinds = [each["kind"] for each in self.ask("/v1/list", {"path": "/d"})[1]["nodes"]]
+        self.assertEqual(kinds, ["container", "object"])
         self.assertEqual(self.ask("/v1/publish", {})[1]["answers"], [{"answer": "published 5", "line": 0}])
         status, body = self.curl("/v1/status")
         schema = API["paths"]["/v1/status"]["get"]["responses"]["200"]["content"]["application/json"]["schema"]
@@ -93,28 +98,34 @@ class Http(rig.Case):
         self.start()
         check = {"user": rig.USER, "groups": ["BU"], "checks": [{"path": "/", "mask": "FR"}]}
         for target, given, status, fault in (
-            ("/v1/check", "{", 400, "json"), ("/v1/check", "[]", 400, "json"), ("/v1/check", '{"user": 1, "user": 2}',
-                                                                                400, "json"),
-            ("/v1/check", "[" * 100_000, 400, "json"), ("/v1/check", '{"seen": NaN}', 400, "json"), ("/v1/check", {},
-                                                                                                     400, "user"),
-            ("/v1/check", check | {"more": 1}, 400, "'more'"), ("/v1/check", check | {"user": "BU x"}, 400, "user"),
-            ("/v1/check", check | {"user": "QQ"}, 400, "sid"), ("/v1/check", check | {"groups": ["BU="]}, 400, "token"),
-            ("/v1/check", check | {"groups": ["BU\npublish"]}, 400, "groups"), ("/v1/check", check | {"groups": "BU"},
-                                                                                400, "groups"),
+            ("/v1/check", "{", 400, "json"),
+            ("/v1/check", "[]", 400, "json"),
+            ("/v1/check", '{"user": 1, "user": 2}', 400, "json"),
+            ("/v1/check", "[" * 100000, 400, "json"),
+            ("/v1/check", '{"seen": NaN}', 400, "json"),
+            ("/v1/check", {}, 400, "user"),
+            ("/v1/check", check | {"more": 1}, 400, "'more'"),
+            ("/v1/check", check | {"user": "BU x"}, 400, "user"),
+            ("/v1/check", check | {"user": "QQ"}, 400, "sid"),
+            ("/v1/check", check | {"groups": ["BU="]}, 400, "token"),
+            ("/v1/check", check | {"groups": ["BU\npublish"]}, 400, "groups"),
+            ("/v1/check", check | {"groups": "BU"}, 400, "groups"),
             ("/v1/check", check | {"checks": [{"path": "a", "mask": "FR"}]}, 400, "path"),
             ("/v1/check", check | {"checks": [{"path": "/", "mask": "QQ"}]}, 400, "mask"),
             ("/v1/check", check | {"checks": [{"path": "/\ud800", "mask": "FR"}]}, 400, "utf8"),
-            ("/v1/check", check | {"checks": [{"path": "/a/b/%2F\0", "mask": "FR"}]}, 400, "path"),
-            ("/v1/check", check | {"checks": [7]}, 400, "checks"), ("/v1/check", check | {"seen": -1}, 400, "seen"),
-            ("/v1/check", check | {"seen": True}, 400, "seen"), ("/v1/check", check | {"seen": 9}, 409, "nonotice"),
-            ("/v1/check", check | {"store": "other"}, 409, "nonotice"), ("/v1/edit", {"edits": [{"edit": "open"}]},
-                                                                         400, "edit"),
+            ("/v1/check", check | {"checks": [{"path": "/a/b/%2F\x00", "mask": "FR"}]}, 400, "path"),
+            ("/v1/check", check | {"checks": [7]}, 400, "checks"),
+            ("/v1/check", check | {"seen": -1}, 400, "seen"),
+            ("/v1/check", check | {"seen": True}, 400, "seen"),
+            ("/v1/check", check | {"seen": 9}, 409, "nonotice"),
+            ("/v1/check", check | {"store": "other"}, 409, "nonotice"),
+            ("/v1/edit", {"edits": [{"edit": "open"}]}, 400, "edit"),
             ("/v1/edit", {"edits": [{"edit": "remove", "path": "/", "sid": "BU"}]}, 400, "'sid'"),
-            ("/v1/edit", {"edits": [], "publish": 1}, 400, "publish"), ("/v1/edit", {"edits": [], "key": "a b"}, 409,
-                                                                        "key"),
-            ("/v1/show", {"path": ""}, 400, "path"), ("/v1/list", {"path": "/none"}, 404, "nonode"), ("/v1/list",
-                                                                                                      {"path": "none"},
-                                                                                                      400, "path"),
+            ("/v1/edit", {"edits": [], "publish": 1}, 400, "publish"),
+            ("/v1/edit", {"edits": [], "key": "a b"}, 409, "key"),
+            ("/v1/show", {"path": ""}, 400, "path"),
+            ("/v1/list", {"path": "/none"}, 404, "nonode"),
+            ("/v1/list", {"path": "none"}, 400, "path"),
         ):
             with self.subTest(given=str(given)[:80]):
                 self.assertEqual(self.ask(target, given), (status, {"fault": fault}))
@@ -128,17 +139,19 @@ class Http(rig.Case):
         self.start("request_bytes = 5000\nrequest_seconds = 1")
         post = b"POST /v1/show HTTP/1.1\r\nHost: x\r\nContent-Type: application/json\r\n"
         for given, status in (
-            (b"GET /healthz HTTP/1.0\r\nHost: x\r\n\r\n", b"505"), (b"GET /healthz\r\n\r\n", b"400"), (b"\r\n\r\n",
-                                                                                                       b"400"),
-            (b"GET /healthz HTTP/1.1\r\n\r\n", b"400"), (b"GET /healthz HTTP/1.1\r\nHost: x\r\nHost: y\r\n\r\n",
-                                                         b"400"),
+            (b"GET /healthz HTTP/1.0\r\nHost: x\r\n\r\n", b"505"),
+            (b"GET /healthz\r\n\r\n", b"400"),
+            (b"\r\n\r\n", b"400"),
+            (b"GET /healthz HTTP/1.1\r\n\r\n", b"400"),
+            (b"GET /healthz HTTP/1.1\r\nHost: x\r\nHost: y\r\n\r\n", b"400"),
             (b"GET /healthz HTTP/1.1\r\nHost: x\r\n folded\r\n\r\n", b"400"),
             (b"GET /h\xe9 HTTP/1.1\r\nHost: x\r\n\r\n", b"400"),
             (b"GET /healthz HTTP/1.1\r\nHost : x\r\n\r\n", b"400"),
             (post + b"Transfer-Encoding: chunked\r\n\r\n0\r\n\r\n", b"501"),
             (post + b"Content-Length: +3\r\n\r\n{}", b"400"),
             (post + b"Content-Length: 3\r\nContent-Length: 3\r\n\r\n{} ", b"400"),
-            (post + b"Content-Length: 5001\r\n\r\n", b"413"), (b"GET / HTTP/1.1\r\nx: " + b"y" * 20_000, b"431"),
+            (post + b"Content-Length: 5001\r\n\r\n", b"413"),
+            (b"GET / HTTP/1.1\r\nx: " + b"y" * 20000, b"431"),
         ):
             with self.subTest(given[:80]):
                 said = self.raw(given)
@@ -155,11 +168,17 @@ class Http(rig.Case):
             return asked.rest()
 
     def test_watching(self) -> None:
-        self.start(more='[[listen]]\ntcp = "127.0.0.1:0"\nprotocol = "http"')
+        port = rig.free_port()
+        self.start(more=f'[[listen]]\ntcp = "127.0.0.1:{port}"\nprotocol = "http"')
         self.said("addo /x O:BAG:SYD:", "addo /x O:BAG:SYD:", "publish", f"check 0 /x {rig.USER} FR BU",
                   f"check 0 /x {rig.USER} FW BU")
         self.assertEqual([self.curl(each) for each in ("/healthz", "/readyz")], [(200, "ok\n"), (200, "ready\n")])
-        status, text = self.curl("/metrics")
+        # Who comes by the loopback interface, without a certificate, may watch and nothing else.
+        self.assertEqual(self.curl("/readyz", port=port), (200, "ready\n"))
+        for target, method in (("/v1/status", "GET"), ("/v1/check", "POST"), ("/v1/publish", "POST")):
+            self.assertEqual(self.curl(target, "-X", method, port=port), (403, '{"fault": "role"}'))
+        status, text = self.curl("/metrics", port=port)
+        self.assertEqual(status, 200)
         values = dict(line.rsplit(" ", 1) for line in text.splitlines() if not line.startswith("#"))
         for name, value in (('sdstored_checks_total{verdict="granted"}', "1"),
                             ('sdstored_checks_total{verdict="denied"}', "1"),

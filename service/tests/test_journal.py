@@ -245,6 +245,12 @@ class Journals(rig.Case):
         self.assertIn("isn't an empty folder", rig.run("init", self.store, given=rig.DUMP, status=2).stderr)
 
     def test_full_disks(self) -> None:
+        self.fill_disk()
+
+    def test_full_disks_at_new_epochs(self) -> None:
+        self.fill_disk("lines_in_epoch = 7")
+
+    def fill_disk(self, limits: str = "") -> None:
         """Where the disk is full an edit is answered `unavailable journal`, and reads go on; later edits are taken."""
         if os.geteuid() != 0:
             self.skipTest("root is required for a small file system")
@@ -255,22 +261,31 @@ class Journals(rig.Case):
         self.addCleanup(subprocess.run, ["umount", "-l", str(small)], check=False)
         self.store = small / "store"
         self.make()
-        self.start()
-        accepted, answer = 0, "ok"
+        self.start(limits)
+        accepted, published, answer = 0, 0, "ok"
         with self.connect() as asked:
             while answer == "ok":
                 answer = asked.ask(f"addo /n{accepted} O:BAG:SYD:(A;;FR;;;{rig.USER}){'(A;;FR;;;BU)' * 100}")
                 accepted += answer == "ok"
-                if accepted == 50:
-                    asked.ask("publish")
+                if answer == "ok" and accepted % 20 == 0:
+                    answer = asked.ask("publish")
+                    if answer == f"published {accepted}":
+                        answer, published = "ok", accepted
             self.assertEqual(answer, "unavailable journal")
-            self.assertGreater(accepted, 50)
+            self.assertGreater(published, 20)
             for at in range(3):
                 # A publish that isn't on disk is shown to nobody.
                 asked.send(f"p addo /p O:BAG:SYD:{'(A;;FR;;;BU)' * 2000}\np publish\np tell\n".encode())
-                self.assertEqual([asked.read() for _ in range(3)], [b"p unavailable journal\n"] * 2 + [b"p told 50\n"])
-            self.assertEqual(asked.ask("show 0 /n50"), "seen 50 nonode")
-            self.assertEqual(asked.ask(f"check 0 /n3 {rig.USER} FR"), "seen 50 granted 0x120089")
+                said = [asked.read().decode() for _ in range(3)]
+                self.assertEqual(said[0], "p unavailable journal\n")
+                if said[1] == f"p published {accepted}\n":
+                    # (a line as short as that of a publish may still fit)
+                    published = accepted
+                else:
+                    self.assertEqual(said[1], "p unavailable journal\n")
+                self.assertEqual(said[2], f"p told {published}\n")
+            self.assertEqual(asked.ask(f"show 0 /n{published}"), f"seen {published} nonode")
+            self.assertEqual(asked.ask(f"check 0 /n3 {rig.USER} FR"), f"seen {published} granted 0x120089")
             subprocess.run(["mount", "-o", "remount,size=64m", str(small)], check=True)
             self.assertEqual(asked.ask("addo /after O:BAG:SYD:"), "ok")
             self.assertEqual(asked.ask("publish"), f"published {accepted + 1}")

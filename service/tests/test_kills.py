@@ -1,10 +1,16 @@
-"""kill -9 at random moments, with a model that only knows what was acknowledged: `test_kills.py [KILLS [SEED]]`."""
+"""kill -9 at random moments, with a model that only knows what was acknowledged.
+
+    test_kills.py [KILLS [STORES]]
+
+kills services so often in all, some stores at once, each some dozen times; it prints what was done so far."""
 
 import random
 import subprocess
 import sys
 import threading
 import time
+from collections import Counter
+from concurrent.futures import ProcessPoolExecutor
 from pathlib import Path
 
 import rig
@@ -14,6 +20,8 @@ KILLS = 12
 #: Small epochs, so that most kills are near one.
 LIMITS = "lines_in_epoch = 40"
 CLIENTS = 4
+#: A kill comes after fewer answers than these.
+ANSWERS = 80
 
 
 class Client:
@@ -96,19 +104,25 @@ class Kills(rig.Case):
     def test_kills(self) -> None:
         self.run_kills(KILLS, 1)
 
-    def run_kills(self, kills: int, seed: int) -> int:
-        """Kills the service so often, and returns how many answers there were."""
+    def run_kills(self, kills: int, seed: int) -> Counter[str]:
+        """Kills the service so often, and returns what was done."""
         chance = random.Random(seed)
+        self.done: Counter[str] = Counter()
         self.make()
         clients = [Client(f"c{number}", seed * 100 + number) for number in range(CLIENTS)]
         for turn in range(kills):
+            self.done["kills"] += 1
+            if chance.random() < 0.15:
+                self.kill_start(chance)
+                continue
             self.start(LIMITS)
             self.settle(clients)
             threads = [threading.Thread(target=each.run, args=(self.lines,)) for each in clients]
             for thread in threads:
                 thread.start()
             copy = self.copy(turn) if chance.random() < 0.3 else None
-            time.sleep(chance.random() * 0.4)
+            self.wait_for_answers(clients, chance.randrange(ANSWERS))
+            time.sleep(chance.random() * 0.02)
             self.kill()
             for thread in threads:
                 thread.join()
@@ -118,9 +132,25 @@ class Kills(rig.Case):
             self.assertEqual([each for each in self.events() if each["event"] in ("warning", "error")], [])
         self.start(LIMITS)
         self.settle(clients)
+        self.done["epochs"] = int(self.said("status")[0].split(" ")[2])
+        self.done["answers"] = sum(each.answers for each in clients)
         self.stop()
         rig.run("verify", self.store)
-        return sum(each.answers for each in clients)
+        return self.done
+
+    def wait_for_answers(self, clients: list[Client], count: int) -> None:
+        """Until the clients have had so many more, however busy the machine is."""
+        before = sum(each.answers for each in clients)
+        self.wait_for(lambda: sum(each.answers for each in clients) >= before + count
+                      or any(each.faults for each in clients))
+
+    def kill_start(self, chance: random.Random) -> None:
+        """Kills the service before it is ready, more often than not."""
+        self.configure(LIMITS)
+        self.launch()
+        time.sleep(chance.random() * 0.5)
+        self.done["starts killed"] += not any(each["event"] == "ready" for each in self.events())
+        self.kill()
 
     def settle(self, clients: list[Client]) -> None:
         """What was published is served before any edit; then all that was acknowledged is there."""
@@ -146,22 +176,33 @@ class Kills(rig.Case):
             restore = subprocess.Popen(command, stdout=subprocess.DEVNULL, stderr=subprocess.DEVNULL)
             time.sleep(chance.random() * 0.4)
             restore.kill()
-            restore.wait(rig.PATIENCE)
+            self.done["restores killed"] += restore.wait(rig.PATIENCE) != 0
             if folder.exists():
                 rig.run("verify", folder)
-        elif file.exists():
-            rig.run("verify", file)
+        else:
+            self.done["backups killed"] += 1
+            if file.exists():
+                rig.run("verify", file)
 
 
-def main(kills: int, seed: int) -> None:
+def run_store(kills: int, seed: int) -> Counter[str]:
     case = Kills()
     case.setUp()
     try:
-        answers = case.run_kills(kills, seed)
+        return case.run_kills(kills, seed)
     finally:
         case.doCleanups()
-    print(f"{kills} kills, {answers} answers, none lost")
+
+
+def main(kills: int = 1000, stores: int = 1) -> None:
+    rig.PATIENCE = 600
+    shares = [min(KILLS, kills - before) for before in range(0, kills, KILLS)]
+    done: Counter[str] = Counter()
+    with ProcessPoolExecutor(stores) as pool:
+        for more in pool.map(run_store, shares, range(len(shares))):
+            done += more
+            print(f"{', '.join(f'{count:,} {what}' for what, count in sorted(done.items()))}; none lost", flush=True)
 
 
 if __name__ == "__main__":
-    main(int(sys.argv[1]) if sys.argv[1:] else 1000, int(sys.argv[2]) if sys.argv[2:] else 1)
+    main(*map(int, sys.argv[1:]))

@@ -17,7 +17,7 @@ class Replicas(rig.Case):
         self.make()
         self.start("lines_in_epoch = 30")
 
-    def follow(self, seconds: int = 2, limits: str = "lines_in_epoch = 20") -> None:
+    def follow(self, seconds: int = 20, limits: str = "lines_in_epoch = 20") -> None:
         leader = f'[leader]\nunix = "{self.lines}"\nmax_age_seconds = {seconds}'
         self.other.start(limits, more=leader)
 
@@ -90,7 +90,7 @@ class Replicas(rig.Case):
         rig.run("restore", self.room / "copy", self.store)
         self.start()
         self.assertEqual(self.other.process.wait(rig.PATIENCE), 1)
-        self.assertIn("leader: the store is", self.other.log.read_text())
+        self.assertIn(": the store is", self.other.log.read_text())
 
     def test_roles(self) -> None:
         self.stop()
@@ -114,7 +114,7 @@ class Replicas(rig.Case):
         chance = random.Random(3)
         seen = 0
         for turn in range(8):
-            self.follow(5)
+            self.follow()
             self.edit(chance.randrange(1, 40), f"t{turn}-")
             time.sleep(chance.random() * 0.3)
             said = self.other.said("tell")[0].split(" ")

@@ -1,6 +1,8 @@
 """TCP with certificates of both sides, and the Python clients over it and over the Unix socket."""
 
 import asyncio
+import contextlib
+import select
 import shutil
 import signal
 import socket
@@ -16,10 +18,8 @@ import rig
 from client import AsyncClient, Behind, Client, OtherStore, Rejected, Unavailable
 
 
-def free_port() -> int:
-    with socket.socket() as found:
-        found.bind(("127.0.0.1", 0))
-        return int(found.getsockname()[1])
+#: A new key, without a password.
+_KEY = ("-newkey", "ec", "-pkeyopt", "ec_paramgen_curve:P-256", "-nodes")
 
 
 class Certificates:
@@ -27,9 +27,8 @@ class Certificates:
 
     def __init__(self, room: Path, name: str) -> None:
         self.room, self.name = room, name
-        self._run("req", "-x509", "-newkey", "ec", "-pkeyopt", "ec_paramgen_curve:P-256", "-nodes", "-days", "2",
-                  "-subj",
-                  f"/CN={name}", "-keyout", f"{name}.key", "-out", f"{name}.pem")
+        self._run("req", "-x509", *_KEY, "-days", "2", "-subj", f"/CN={name}", "-keyout", f"{name}.key",
+                  "-out", f"{name}.pem")
 
     def _run(self, *words: str) -> None:
         subprocess.run(["openssl", *words], cwd=self.room, check=True, capture_output=True)
@@ -37,11 +36,9 @@ class Certificates:
     def sign(self, name: str, subject: str) -> None:
         """A certificate and its key, NAME.pem and NAME.key."""
         (self.room / "extensions").write_text("subjectAltName=IP:127.0.0.1\nbasicConstraints=CA:FALSE\n")
-        self._run("req", "-new", "-newkey", "ec", "-pkeyopt", "ec_paramgen_curve:P-256", "-nodes", "-subj", subject,
-                  "-keyout", f"{name}.key", "-out", f"{name}.csr")
+        self._run("req", "-new", *_KEY, "-subj", subject, "-keyout", f"{name}.key", "-out", f"{name}.csr")
         self._run("x509", "-req", "-in", f"{name}.csr", "-CA", f"{self.name}.pem", "-CAkey", f"{self.name}.key",
-                  "-days", "2",
-                  "-extfile", "extensions", "-out", f"{name}.pem")
+                  "-days", "2", "-extfile", "extensions", "-out", f"{name}.pem")
 
     def context(self, name: str | None) -> ssl.SSLContext:
         """That of a client, with a certificate or without one."""
@@ -62,7 +59,7 @@ class Tls(rig.Case):
         self.ours.sign("mail", "/CN=mail")
         self.ours.sign("two", "/CN=web/CN=mail")
         self.others.sign("foreign", "/CN=web")
-        self.port = free_port()
+        self.port = rig.free_port()
         self.make()
         self.start(more=self.listen('{"cn:web" = "edit", "cn:watch" = "watch"}'))
 
@@ -71,8 +68,21 @@ class Tls(rig.Case):
                         (("certificate", "server.pem"), ("key", "server.key"), ("clients", "authority.pem")))
         return f'[[listen]]\ntcp = "127.0.0.1:{self.port}"\nprotocol = "lines"\n{files}allow = {allow}'
 
-    def client(self, name: str | None, timeout: float = 1.0) -> Client:
-        return Client(("127.0.0.1", self.port), self.ours.context(name), timeout)
+    def client(self, name: str) -> Client:
+        return Client(("127.0.0.1", self.port), self.ours.context(name), rig.PATIENCE)
+
+    def connected(self, name: str | None) -> ssl.SSLSocket:
+        plain = socket.create_connection(("127.0.0.1", self.port), rig.PATIENCE)
+        return self.ours.context(name).wrap_socket(plain, server_hostname="127.0.0.1")
+
+    def said_to(self, name: str | None) -> bytes:
+        """What a client with this certificate is answered before it is disconnected."""
+        try:
+            with self.connected(name) as asked:
+                asked.sendall(b"1 tell\n")
+                return asked.recv(1000)
+        except OSError:
+            return b""
 
     def test_certificates(self) -> None:
         with self.client("web") as client:
@@ -80,23 +90,25 @@ class Tls(rig.Case):
             self.assertEqual(client.publish(), 1)
             self.assertTrue(client.check("/a b", rig.USER, "FW", ["BU"]))
         for name in (None, "mail", "two", "foreign"):
-            with self.subTest(name), self.client(name) as client, self.assertRaises(Unavailable):
-                client.check("/", rig.USER, "FR")
-        with socket.create_connection(("127.0.0.1", self.port)) as plain:
-            plain.settimeout(30)
+            with self.subTest(name):
+                self.assertEqual(self.said_to(name), b"")
+        with socket.create_connection(("127.0.0.1", self.port), rig.PATIENCE) as plain:
             plain.sendall(b"1 tell\n")
             self.assertNotIn(b"told", plain.recv(1000))
         self.assertEqual(self.said("tell"), ["told 1"])
 
     def test_hang_up_takes_other_certificates(self) -> None:
-        with self.client("web") as client:
-            client.publish()
+        self.assertEqual(self.said_to("web"), b"1 told 0\n")
+        with self.connected("web") as web:
+            web.sendall(b"1 tell\n")
+            self.assertEqual(web.recv(1000), b"1 told 0\n")
             self.configure(more=self.listen('{"cn:mail" = "edit"}'))
             self.ours.sign("server", "/CN=service")
             self.process.send_signal(signal.SIGHUP)
-            self.wait_for(lambda: any(each["event"] == "reloaded" for each in self.events()))
-            with self.assertRaises(Unavailable):
-                client.publish()
+            with contextlib.suppress(OSError):
+                self.assertEqual(web.recv(1000), b"")
+        self.wait_for(lambda: any(each["event"] == "reloaded" for each in self.events()))
+        self.assertEqual(self.said_to("web"), b"")
         with self.client("mail") as client:
             self.assertEqual(client.publish(), 0)
 
@@ -116,14 +128,13 @@ class Clients(rig.Case):
             client.edit("move", "/d/50% a", "/d/b c")
             client.edit("owner", "/d", "BU")
             self.assertEqual(client.publish(), 4)
-            self.assertEqual([(each.kind, each.mask, each.seen) for each in client.checks(["/", "/d/b c", "/x"],
-                                                                                          rig.USER, "FW", ["BU"])],
+            self.assertEqual(client.checks(["/", "/d/b c", "/x"], rig.USER, "FW", ["BU"]),
                              [("denied", 0x116, 4), ("granted", 0x120116, 4), ("nonode", 0, 4)])
             self.assertEqual(client.checks([], rig.USER, "FW"), [])
             verdict, reasons = client.why("/d/b c", rig.USER, "0x2", ["BU"])
             self.assertEqual((bool(verdict), reasons), (True, ["granted 0x2 by entry 1 (A;;FW;;;BU) as S-1-5-32-545"]))
-            self.assertEqual((client.show("/x"), client.show("/d/b c")), (None,
-                                                                          "O:BAG:SYD:AI(A;;FW;;;BU)(A;ID;FR;;;BU)"))
+            self.assertIsNone(client.show("/x"))
+            self.assertEqual(client.show("/d/b c"), "O:BAG:SYD:AI(A;;FW;;;BU)(A;ID;FR;;;BU)")
             self.assertEqual(client.lines("list", "/d")[1], "object /d/b%20c O:BAG:SYD:AI(A;;FW;;;BU)(A;ID;FR;;;BU)")
             for words, answer in (
                 (("remove", "/x"), "refused 4 NoNode"), (("remove", "x"), "fault path"), (("frob",), "fault words")
@@ -173,13 +184,15 @@ class Clients(rig.Case):
         self.make()
         rig.run("backup", self.store, self.room / "copy")
         self.start()
-        with Client(str(self.lines), timeout=1) as client:
+        with Client(str(self.lines), timeout=rig.PATIENCE) as client:
             client.edit("addo", "/a", "O:BAG:SYD:")
             client.publish()
+            client._timeout = 0
             self.kill()
             shutil.rmtree(self.store)
             rig.run("restore", self.room / "copy", self.store)
             self.start()
+            client.close()
             with self.assertRaises(OtherStore):
                 client.check("/a", rig.USER, "FR")
             client.store = ""
@@ -194,7 +207,7 @@ class Clients(rig.Case):
             client.edit("addo", "/a", "O:BAG:SYD:(A;;FW;;;BU)")
             client.publish()
             client._socket.sendall(b"left.1 tell\n")
-            time.sleep(0.2)
+            select.select([client._socket], [], [], rig.PATIENCE)
             self.assertEqual(client.check("/a", rig.USER, "FW", ["BU"]).kind, "granted")
 
     def test_tasks(self) -> None:
@@ -202,7 +215,7 @@ class Clients(rig.Case):
         self.start()
 
         async def work() -> None:
-            async with AsyncClient(str(self.lines), timeout=5) as client:
+            async with AsyncClient(str(self.lines), timeout=rig.PATIENCE) as client:
                 await asyncio.gather(*(client.edit("addo", f"/n{at}", "O:BAG:SYD:") for at in range(20)))
                 self.assertEqual(await client.publish(), 20)
                 task = asyncio.ensure_future(client.lines("dump"))
@@ -215,7 +228,7 @@ class Clients(rig.Case):
                 with self.assertRaises(Rejected):
                     await client.edit("remove", "/x")
                 self.kill()
-                client._timeout = 1
+                client._timeout = 0
                 with self.assertRaises(Unavailable):
                     await client.publish()
 
