@@ -1,15 +1,10 @@
 -- That masks computed from masks are those of the tests on places.
 use Rattle.std.proofs.Common.{◌≡◌, ℕ, ◌<◌, Bool, true, false, ◌&&◌, ◌||◌, not, nat_lt, refl, ◌∙◌, ap, arith, List, Option, Some, None}
-use Rattle.std.proofs.lemmas.Bool.{agree_below_at}
+use Rattle.sd_check.proofs.Words.{agree_below_at, holds, mask_of, MappingValue, holds_place, mask_of-alike, missing_of, most_of, joined_with, is_implied, maximum_verdict, Ace}
 use Rattle.std.proofs.Math.Bool.{and_comm}
-use Rattle.sd_sid.specs.Mask.{holds, mask_of}
-use Rattle.sd_sid.specs.Mapping.{MappingValue}
-use Rattle.sd_sid.proofs.Masks.{holds_place, mask_of-alike}
-use Rattle.sd_check.specs.Check.{missing_of, most_of, joined_with, is_implied, maximum_verdict}
-use Rattle.sd_acl.specs.declared.ace.Ace.{Ace}
 use Rattle.sd_check.proofs.Given.{implied_low}
 
-holds_object : (b : ℕ) → b < 32 → holds 0x001FFFFF b ≡ nat_lt b 21
+pub holds_object : (b : ℕ) → b < 32 → holds 0x001FFFFF b ≡ nat_lt b 21
 holds_object b h = agree_below_at (holds 0x001FFFFF) (λ k. nat_lt k 21) 32 b refl h
 
 pub within_is : (m r : ℕ) → r ≡ mask_of (λ b. holds m b && holds 0x001FFFFF b) 32 → r ≡ mask_of (λ b. nat_lt b 21 && holds m b) 32
@@ -26,37 +21,21 @@ pub granted_without_a_list : (o free : Bool) (wanted r : ℕ) → r ≡ mask_of 
 granted_without_a_list o free wanted r is =
     is ∙ mask_of-alike _ _ 32 (λ b h. grind (arith, holds_object b h, implied_low o b))
 
-pub granted_by_list : (allowed : ℕ → Bool) (o free : Bool) (wanted asked owners r : ℕ)
+-- the list's in one pass, where nothing restricts, or in both
+pub granted_by_passes : (allowed first again : ℕ → Bool) (restricted o free : Bool) (wanted asked owners r : ℕ)
+    → ((b : ℕ) → allowed b ≡ (first b && (not restricted || again b)))
     → asked ≡ mask_of (λ b. holds wanted b && holds 0x001FFFFF b) 32
     → owners ≡ mask_of (λ b. holds wanted b && is_implied o false false b) 32
     → r ≡ mask_of (λ b. (holds asked b && allowed b) || (holds owners b && free)) 32
-    → r ≡ mask_of (λ b. holds wanted b && ((nat_lt b 21 && allowed b) || is_implied (o && free) false false b)) 32
-granted_by_list allowed o free wanted asked owners r is_asked is_owners is =
+    → r ≡ mask_of (λ b. holds wanted b && (((nat_lt b 21 && first b) && (not restricted || (nat_lt b 21 && again b))) || is_implied (o && free) false false b)) 32
+granted_by_passes allowed first again restricted o free wanted asked owners r is_allowed is_asked is_owners is =
     is ∙ mask_of-alike _ _ 32 (λ b h. grind (
       arith,
       holds_object b h,
+      is_allowed b,
       stands (λ k. holds wanted k && holds 0x001FFFFF k) asked b h is_asked,
       stands (λ k. holds wanted k && is_implied o false false k) owners b h is_owners,
     ))
-
--- of one pass, where nothing restricts, and of both, where something does
-pub granted_by_one_pass : (first again : ℕ → Bool) (restricted o free : Bool) (wanted asked owners r : ℕ) → restricted ≡ false
-    → asked ≡ mask_of (λ b. holds wanted b && holds 0x001FFFFF b) 32
-    → owners ≡ mask_of (λ b. holds wanted b && is_implied o false false b) 32
-    → r ≡ mask_of (λ b. (holds asked b && first b) || (holds owners b && free)) 32
-    → r ≡ mask_of (λ b. holds wanted b && (((nat_lt b 21 && first b) && (not restricted || (nat_lt b 21 && again b))) || is_implied (o && free) false false b)) 32
-granted_by_one_pass first again restricted o free wanted asked owners r alone is_asked is_owners is =
-    granted_by_list first o free wanted asked owners r is_asked is_owners is
-    ∙ mask_of-alike _ _ 32 (λ b h. grind (arith, alone))
-
-pub granted_by_both_passes : (first again : ℕ → Bool) (restricted o free : Bool) (wanted asked owners r : ℕ) → restricted ≡ true
-    → asked ≡ mask_of (λ b. holds wanted b && holds 0x001FFFFF b) 32
-    → owners ≡ mask_of (λ b. holds wanted b && is_implied o false false b) 32
-    → r ≡ mask_of (λ b. (holds asked b && (first b && again b)) || (holds owners b && free)) 32
-    → r ≡ mask_of (λ b. holds wanted b && (((nat_lt b 21 && first b) && (not restricted || (nat_lt b 21 && again b))) || is_implied (o && free) false false b)) 32
-granted_by_both_passes first again restricted o free wanted asked owners r both is_asked is_owners is =
-    granted_by_list (λ b. first b && again b) o free wanted asked owners r is_asked is_owners is
-    ∙ mask_of-alike _ _ 32 (λ b h. grind (arith, both))
 
 pub granted_is : (listed : ℕ → Bool) (o t s : Bool) (wanted by_list privileged kept r : ℕ)
     → by_list ≡ mask_of (λ b. holds wanted b && (listed b || is_implied o false false b)) 32

@@ -1,15 +1,11 @@
 -- The chains of a token's index: one more group, one more SID at a place, and a walk along a chain.
 use Rattle.std.proofs.Common.{◌≡◌, ℕ, suc, zero, ◌+◌, ◌<◌, ◌≤◌, ◌⊎◌, inl, inr, Bool, true, false, ◌||◌, List, [], ◌∷◌, length, get_or, set, drop, refl, sym, ◌∙◌, ap, subst, arith, length-set, replicate}
 use Rattle.std.specs.List.{list_any}
-use Rattle.std.proofs.lemmas.Bool.{cases_eq, cases_lt}
-use Rattle.std.proofs.lemmas.List.{get_or-set_other, get_or_default, get_or-replicate, length-replicate}
+use Rattle.sd_check.proofs.Words.{cases_eq, cases_lt, SidValue, Deny, GroupState, counts}
+use Rattle.std.proofs.lemmas.List.{get_or-set_other, get_or-replicate, length-replicate}
 use Rattle.std.proofs.lemmas.Grind.{get_or-set_at}
 use Rattle.std.proofs.Math.ListN.{get_or-eq_default}
-use Rattle.sd_sid.specs.Sid.{SidValue}
-use Rattle.sd_acl.specs.declared.ace.AceKind.TheVariants.{Deny}
-use Rattle.sd_check.specs.declared.token.GroupState.{GroupState}
 use Rattle.sd_check.specs.Index.{OnChain, here, behind, IsIndex, place_of}
-use Rattle.sd_check.specs.Token.{counts}
 
 -- ---- one chain
 
@@ -55,10 +51,10 @@ linked heads nexts at m v fits room is_v back starts q k c =
 
 -- a link that is written is as small as the others
 at_most : (xs : List ℕ) (at v n : ℕ) → at < length xs → v ≤ n → ((p : ℕ) → get_or xs p 0 ≤ n) → (p : ℕ) → get_or (set xs at v) p 0 ≤ n
-at_most xs at v n fits small all p = elim (cases_eq p at) as (λ _. get_or (set xs at v) p 0 ≤ n) [
-  | inl e ↦ let now : get_or (set xs at v) p 0 ≡ v = get_or-set_at xs at p v 0 e fits in omega (arith, now, small)
-  | inr ne ↦ let now : get_or (set xs at v) p 0 ≡ get_or xs p 0 = get_or-set_other xs at p v 0 ne in omega (arith, now, all p)
-]
+at_most xs at v n fits small all p = grind (arith, cases_eq p at, get_or-set_at xs at p v 0, get_or-set_other xs at p v 0, fits, small, all p)
+
+links_back : (xs : List ℕ) (at v j : ℕ) → at < length xs → v ≤ at → get_or xs j 0 ≤ j → get_or (set xs at v) j 0 ≤ j
+links_back xs at v j fits small back = grind (arith, cases_eq j at, get_or-set_at xs at j v 0, get_or-set_other xs at j v 0, fits, small, back)
 
 -- ---- the index
 
@@ -105,12 +101,7 @@ module _ (user : SidValue) (groups : List (SidValue × GroupState)) where
         room = length-set nexts (i + 1) (get_or heads at 0) ∙ index.room;
         starts = at_most heads at v (i + 1 + 1) fits (omega (arith, is_v)) (λ p. omega (arith, index.starts p));
         within = at_most heads at v 255 fits (omega (arith, is_v, low)) index.within;
-        goes_back = λ j. elim (cases_eq j (i + 1)) as (λ _. get_or (set nexts (i + 1) (get_or heads at 0)) j 0 ≤ j) [
-          | inl e ↦ let now : get_or (set nexts (i + 1) (get_or heads at 0)) j 0 ≡ get_or heads at 0 = get_or-set_at nexts (i + 1) j (get_or heads at 0) 0 e room in
-              omega (arith, now, e, index.starts at)
-          | inr ne ↦ let now : get_or (set nexts (i + 1) (get_or heads at 0)) j 0 ≡ get_or nexts j 0 = get_or-set_other nexts (i + 1) j (get_or heads at 0) 0 ne in
-              omega (arith, now, index.goes_back j)
-        ];
+        goes_back = λ j. links_back nexts (i + 1) (get_or heads at 0) j room (index.starts at) (index.goes_back j);
         to_user = led (place_of user) 0 index.to_user;
         to_group = λ k d below few counted.
             let P : ℕ → ℕ → Type 0 = λ link k. OnChain (set nexts (i + 1) (get_or heads at 0)) link (suc k) in
@@ -125,10 +116,10 @@ module _ (user : SidValue) (groups : List (SidValue × GroupState)) where
             ];
       }
 
-  -- with one more group, which counts for nothing
-  pub index_skips : (heads nexts : List ℕ) (i : ℕ) (group : SidValue × GroupState) → i < length groups → group ≡ get_or groups i group → counts Deny group.1 ≡ false
+  -- with one more group that no chain has to lead to
+  pub index_on : (heads nexts : List ℕ) (i : ℕ) → ((d : SidValue × GroupState) → i < 254 → counts Deny (get_or groups i d).1 ≡ true → ⊥)
       → IsIndex heads nexts user groups i → IsIndex heads nexts user groups (i + 1)
-  index_skips heads nexts i group inside is none index = record {
+  index_on heads nexts i none index = record {
     places = index.places;
     room = index.room;
     starts = λ p. omega (arith, index.starts p);
@@ -136,24 +127,9 @@ module _ (user : SidValue) (groups : List (SidValue × GroupState)) where
     goes_back = index.goes_back;
     to_user = index.to_user;
     to_group = λ k d below few counted. elim (cases_eq k i) as (λ _. OnChain nexts (get_or heads (place_of (get_or groups k d).0) 0) (suc k)) [
-      | inl e ↦ absurd (
-          let clash : true ≡ false =
-          sym counted ∙ ap (λ n. counts Deny (get_or groups n d).1) e ∙ ap (λ (g : SidValue × GroupState). counts Deny g.1) (get_or_default groups i d group inside ∙ sym is) ∙ none in
-          cc)
+      | inl e ↦ absurd (none d (omega (arith, few, e)) (ap (λ n. counts Deny (get_or groups n d).1) (sym e) ∙ counted))
       | inr ne ↦ index.to_group k d (omega (arith, below, ne)) few counted
     ];
-  }
-
-  -- with one more group, beyond those that chains lead to
-  pub index_beyond : (heads nexts : List ℕ) (i : ℕ) → 254 ≤ i → IsIndex heads nexts user groups i → IsIndex heads nexts user groups (i + 1)
-  index_beyond heads nexts i many index = record {
-    places = index.places;
-    room = index.room;
-    starts = λ p. omega (arith, index.starts p);
-    within = index.within;
-    goes_back = index.goes_back;
-    to_user = index.to_user;
-    to_group = λ k d below few counted. index.to_group k d (omega (arith, few, many)) few counted;
   }
 
 -- ---- the end of a walk

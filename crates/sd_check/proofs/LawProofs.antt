@@ -1,26 +1,15 @@
 -- The proofs of the laws.
 use Rattle.std.proofs.Common.{◌≡◌, ℕ, ◌^◌, ◌<◌, Bool, true, false, ◌&&◌, ◌||◌, not, ◌==◌, nat_lt, cond, List, [], ◌∷◌, ◌++◌, Option, Some, None, inl, inr, refl, sym, ◌∙◌, ap, arith, find}
 use Rattle.std.specs.List.{AllByRecursion, list_any}
-use Rattle.std.proofs.lemmas.Bool.{and_parts, ltb-true, cases_Bool, cases_eq, or_cases, or_left, or_right, false≢true, lt-ltb, le-ltb, ne_eqb}
-use Rattle.std.proofs.Math.Bool.{and-false}
-use Rattle.std.proofs.lemmas.Nat.Bits.{bit_at-pow_same, bit_at-pow_other, bit_at-zero}
+use Rattle.sd_check.proofs.Words.{and_parts, ltb-true, cases_Bool, cases_eq, or_left, or_right, false≢true, lt-ltb, ne_eqb, cond-true, cond-false, and-false, bit_at-pow_same, bit_at-pow_other, bit_at-zero, holds, MappingValue, mapped, SidValue, same_sid-true, holds_place, holds-mask_of, mask_of-alike, is_allow, is_inherit_only, decides, is_allowed_by, is_limit, first, limits_owner, subject, judged, missing_of, joined_with, reserved_of, without_maximum, applies, applies_again, stands_for_subject, is_granted, is_given, is_listed, Ace, AceKind, Allow, Deny, Verdict, Granted, Denied, TokenValue}
+use Rattle.std.proofs.lemmas.Bool.{or_cases, le-ltb}
+use Rattle.std.proofs.lemmas.List.Folds.{find-append, list_any-append}
+use Rattle.std.specs.Option.{option_or}
 use Rattle.std.proofs.Math.Pow.{pow_pos}
 use Rattle.std.proofs.lemmas.Nat.{pow_below}
-use Rattle.sd_sid.specs.Mask.{holds, mask_of}
-use Rattle.sd_sid.specs.Mapping.{MappingValue, mapped}
-use Rattle.sd_sid.specs.Sid.{SidValue, same_sid, owner_rights}
-use Rattle.sd_sid.proofs.Compared.{same_sid-true}
-use Rattle.sd_sid.proofs.Masks.{holds_place, holds-mask_of, mask_of-alike}
-use Rattle.sd_acl.specs.Ace.{is_allow, is_inherit_only}
-use Rattle.sd_check.specs.Check.{decides, is_allowed_by, first, limits_owner, subject, judged, missing_of, joined_with, reserved_of, without_maximum, applies, applies_again, stands_for_subject, is_granted, is_given, is_listed}
-use Rattle.sd_acl.specs.declared.ace.Ace.{Ace}
-use Rattle.sd_acl.specs.declared.ace.AceKind.{AceKind}
-use Rattle.sd_acl.specs.declared.ace.AceKind.TheVariants.{Allow, Deny}
-use Rattle.sd_check.specs.declared.verdict.Verdict.{Verdict}
-use Rattle.sd_check.specs.declared.verdict.Verdict.TheVariants.{Granted, Denied}
-use Rattle.sd_check.specs.Token.{TokenValue}
+use Rattle.sd_sid.specs.Mask.{mask_of}
 use Rattle.sd_check.specs.Laws.{FirstEntryDecides, SilentEntryChangesNothing, IsSilent, GrantsWhatWasAsked, MaximumIsEachByItself, DeniedMaximumIsNone, NothingBeyondMaximum, EnabledGroupTakesNothing, NamesNot, with_group, EntriesGrantRightsAlone}
-use Rattle.sd_check.proofs.LowMasks.{judged_plainly, no_places}
+use Rattle.sd_check.proofs.LowMasks.{judged_low, no_places}
 
 -- ---- the first entry that settles a bit
 
@@ -28,22 +17,11 @@ find_skips : {X : Type 0} (p : X → Bool) (before rest : List X) → AllByRecur
 find_skips p [] rest h = refl
 find_skips p (x ∷ xs) rest h = rw h.0 (find_skips p xs rest h.1)
 
-find_at : {X : Type 0} (p : X → Bool) (x : X) (xs : List X) → p x ≡ true → find p (x ∷ xs) ≡ Some x
-find_at p x xs h = rw h refl
-
 pub first_entry_decides : FirstEntryDecides
 first_entry_decides g who before after e b none settles =
-    ap (λ o. nat_lt b 21 && is_allowed_by o) (find_skips (decides g who b) before (e ∷ after) none ∙ find_at (decides g who b) e after settles)
+    ap (λ o. nat_lt b 21 && is_allowed_by o) (find_skips (decides g who b) before (e ∷ after) none ∙ cond-true _ _ _ settles)
 
 -- ---- an entry without a part
-
-find_without : {X : Type 0} (p : X → Bool) (before after : List X) (e : X) → p e ≡ false → find p (before ++ e ∷ after) ≡ find p (before ++ after)
-find_without p [] after e h = rw h refl
-find_without p (x ∷ xs) after e h = ap (cond (p x) (Some x)) (find_without p xs after e h)
-
-any_without : {X : Type 0} (p : X → Bool) (before after : List X) (e : X) → p e ≡ false → list_any p (before ++ e ∷ after) ≡ list_any p (before ++ after)
-any_without p [] after e h = rw h refl
-any_without p (x ∷ xs) after e h = ap (λ b. p x || b) (any_without p xs after e h)
 
 -- tests that agree everywhere are one
 pub one_test : (p q : ℕ → Bool) → ((b : ℕ) → p b ≡ q b) → p ≡ q
@@ -55,16 +33,16 @@ judged_list g p r = judged g p (mask_of (λ b. nat_lt b 21 && p b) 32) r
 
 module _ (owner : Option SidValue) (before after : List Ace) (e : Ace) (g : MappingValue) (t : TokenValue) (silent : IsSilent t owner e) where
   same_limits : limits_owner (Some (before ++ e ∷ after)) ≡ limits_owner (Some (before ++ after))
-  same_limits = any_without (λ x. not (is_inherit_only x) && same_sid x.sid owner_rights) before after e silent.limits_not
+  same_limits = list_any-append is_limit before (e ∷ after) ∙ ap (λ b. list_any is_limit before || (b || list_any is_limit after)) silent.limits_not ∙ sym (list_any-append is_limit before after)
 
-  same_first : (b : ℕ) → first g (applies t owner) (before ++ e ∷ after) b ≡ first g (applies t owner) (before ++ after) b
-  same_first b = find_without (decides g (applies t owner) b) before after e (ap (λ x. x && holds (mapped g e.mask) b) silent.applies_not)
-
-  same_first_again : (b : ℕ) → first g (applies_again t owner) (before ++ e ∷ after) b ≡ first g (applies_again t owner) (before ++ after) b
-  same_first_again b = find_without (decides g (applies_again t owner) b) before after e (ap (λ x. x && holds (mapped g e.mask) b) silent.applies_not_again)
+  same_first : (who : AceKind → SidValue → Bool) → (not (is_inherit_only e) && who e.kind e.sid) ≡ false → (b : ℕ) → first g who (before ++ e ∷ after) b ≡ first g who (before ++ after) b
+  same_first who none b =
+      find-append (decides g who b) before (e ∷ after)
+      ∙ ap (option_or (first g who before b)) (cond-false _ _ _ (ap (λ x. x && holds (mapped g e.mask) b) none))
+      ∙ sym (find-append (decides g who b) before after)
 
   same_grants : (b : ℕ) → is_granted owner (Some (before ++ e ∷ after)) g t b ≡ is_granted owner (Some (before ++ after)) g t b
-  same_grants b = grind (arith, same_first b, same_first_again b, same_limits)
+  same_grants b = grind (arith, same_first (applies t owner) silent.applies_not b, same_first (applies_again t owner) silent.applies_not_again b, same_limits)
 
 pub silent_entry_changes_nothing : SilentEntryChangesNothing
 unfolding judged_list
@@ -131,7 +109,8 @@ one_missing p b low refused = ne_eqb _ 0 (λ none.
 alone : (g : MappingValue) (p : ℕ → Bool) (most b : ℕ) → b < 21
     → judged g p most (2 ^ b) ≡ cond (missing_of p (2 ^ b) == 0) (Granted (2 ^ b)) (Denied (missing_of p (2 ^ b)))
 alone g p most b low =
-    judged_plainly g p most (2 ^ b) (ne_eqb (2 ^ b) 0 (λ e. let some : 0 < 2 ^ b = pow_pos b in absurd (omega arith))) (pow_below b 21 low)
+    let some : (2 ^ b == 0) ≡ false = ne_eqb (2 ^ b) 0 (λ e. let some : 0 < 2 ^ b = pow_pos b in absurd (omega arith)) in
+    judged_low g p most (2 ^ b) some (pow_below b 21 low) ∙ cond-false _ _ _ some
 
 pub maximum_is_each_by_itself : MaximumIsEachByItself
 unfolding judged_list
@@ -159,6 +138,8 @@ nothing_beyond_maximum owner es g t m b granted high =
     let p = is_granted owner (Some es) g t in
     grind (arith, ap (λ n. holds n b) (at_maximum g p _ m granted), most_holds p b, le-ltb b 21 high)
 
+pub ruleset on_maximum = (maximum_is_each_by_itself, nothing_beyond_maximum)
+
 -- ---- one more group
 
 -- with one more enabled group a token stands for all that it did
@@ -176,9 +157,6 @@ stands_new t s kind (Some x) h none = ap Some (sym (same_sid-true s x (grind (ar
 kind_denies : (kind : AceKind) → is_allow kind ≡ false → kind ≡ Deny
 kind_denies Allow h = absurd cc
 kind_denies Deny h = refl
-
-find_next : {X : Type 0} (p : X → Bool) (x : X) (xs : List X) → p x ≡ false → find p (x ∷ xs) ≡ find p xs
-find_next p x xs h = rw h refl
 
 module _ (g : MappingValue) (owner : Option SidValue) (t : TokenValue) (s : SidValue) (b : ℕ) where
   -- an entry that settles the bit for the larger token alone is an allow

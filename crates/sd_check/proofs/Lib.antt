@@ -1,3 +1,4 @@
+pub mod Words
 pub mod LowMasks
 pub mod Given
 pub mod Places

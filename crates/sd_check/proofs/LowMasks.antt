@@ -1,15 +1,7 @@
 -- Requests for some of the object's own rights and the standard ones alone, the places below 21.
-use Rattle.std.proofs.Common.{◌≡◌, ℕ, ◌^◌, ◌<◌, ◌≤◌, Bool, true, false, ◌&&◌, not, ◌==◌, inl, inr, refl, sym, ◌∙◌, ap, arith, cond}
-use Rattle.std.proofs.lemmas.Bool.{agree_below_at, cases_lt, lt-ltb}
-use Rattle.std.proofs.lemmas.Bool.Decides.{nat_tests}
-use Rattle.std.proofs.lemmas.Nat.Bits.{bit_at_above}
-use Rattle.std.proofs.Math.Bool.{and-true, or-false}
-use Rattle.sd_sid.specs.Mask.{holds, mask_of}
-use Rattle.sd_sid.specs.Mapping.{MappingValue, mapped, is_mapped}
-use Rattle.sd_sid.proofs.Masks.{is_mask_of, mask_of-alike}
-use Rattle.sd_check.specs.Check.{reserved_of, without_maximum, answered, judged, missing_of, plain_verdict}
-use Rattle.sd_check.specs.declared.verdict.Verdict.TheVariants.{Granted, Denied}
-use Rattle.sd_check.specs.Fold.{wanted_bits}
+use Rattle.std.proofs.Common.{◌≡◌, ℕ, ◌^◌, ◌<◌, ◌≤◌, Bool, true, false, ◌&&◌, not, ◌==◌, inl, inr, refl, sym, ◌∙◌, ap, arith}
+use Rattle.sd_check.proofs.Words.{agree_below_at, cases_lt, lt-ltb, nat_tests, bit_at_above, and-true, or-false, holds, MappingValue, mapped, is_mapped, is_mask_of, mask_of-alike, reserved_of, without_maximum, answered, judged, missing_of, plain_verdict, wanted_bits}
+use Rattle.sd_sid.specs.Mask.{mask_of}
 
 -- such a mask has no place from 21 on
 pub high_place : (q b : ℕ) → q < 2 ^ 21 → 21 ≤ b → holds q b ≡ false
@@ -46,12 +38,6 @@ mapped_to_itself g q small =
 -- the verdict on such a request has nothing reserved, and nothing mapped
 pub judged_low : (g : MappingValue) (p : ℕ → Bool) (most q : ℕ) → (q == 0) ≡ false → q < 2 ^ 21 → judged g p most q ≡ plain_verdict q (missing_of p q)
 judged_low g p most q some small =
-    rw (some, nothing_reserved q small, high_place q 25 small (omega arith), mapped_to_itself g q small, some) refl
-
--- it is granted or denied
-pub judged_plainly : (g : MappingValue) (p : ℕ → Bool) (most q : ℕ) → (q == 0) ≡ false → q < 2 ^ 21
-    → judged g p most q ≡ cond (missing_of p q == 0) (Granted q) (Denied (missing_of p q))
-judged_plainly g p most q some small =
     rw (some, nothing_reserved q small, high_place q 25 small (omega arith), mapped_to_itself g q small, some) refl
 
 -- a list is asked for no other bits

@@ -3,12 +3,7 @@ use Rattle.std.proofs.Common.{◌≡◌, ℕ, ◌∙◌, ◌++◌, [], List, Opt
 use Rattle.std.specs.Option.{option_map}
 use Rattle.std.proofs.lemmas.List.{map-id}
 use Rattle.std.proofs.lemmas.Iterator.Adapters.{option_map_id}
-use Rattle.sd_sid.specs.Mapping.{MappingValue}
-use Rattle.sd_sid.specs.Sid.{SidValue}
-use Rattle.sd_acl.specs.declared.ace.Ace.{Ace}
-use Rattle.sd_check.specs.Check.{verdict}
-use Rattle.sd_check.specs.Token.{TokenValue}
-use Rattle.sd_check.specs.declared.verdict.Verdict.{Verdict}
+use Rattle.sd_check.proofs.Words.{MappingValue, SidValue, Ace, verdict, TokenValue, Verdict}
 
 module _ (r : Verdict) (owner : Option SidValue) (g : MappingValue) (t : TokenValue) (asked : ℕ) where
   pub owned_lists : (front back : List Ace) → r ≡ verdict (option_map (λ s. s) owner) (Some (map (λ e. e) front ++ map (λ e. e) back)) g t asked

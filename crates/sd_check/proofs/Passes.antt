@@ -1,20 +1,11 @@
 -- What a pass comes to with one more entry, bit by bit.
 use Rattle.std.proofs.Common.{◌≡◌, ℕ, ◌<◌, ◌++◌, Bool, true, false, not, ◌&&◌, ◌||◌, ◌==◌, cond, List, [], ◌∷◌, Option, Some, None, refl, sym, ◌∙◌, ap, arith, subst, append-nil, append_assoc, eqb-true}
 use Rattle.std.specs.Option.{option_or, is_none}
-use Rattle.std.proofs.Math.Bool.{or-false}
+use Rattle.sd_check.proofs.Words.{or-false, bit_at-zero, holds, mask_of, MappingValue, mapped, SidValue, same_sid, owner_rights, holds_when, mask_of-alike, is_allow, is_inherit_only, applies, applies_again, applies_in, decides, first, is_allowed_by, is_limit, is_restricting_subject, limits_owner, stands_for_subject, subject, TokenValue, is_restricting, stands_for, Pass, First, Second, Ace, AceKind, IsTally, part_of}
 use Rattle.std.proofs.lemmas.List.Folds.{find-append, list_any-append}
-use Rattle.std.proofs.lemmas.Nat.Bits.{bit_at-zero}
-use Rattle.sd_sid.specs.Mask.{holds, mask_of}
-use Rattle.sd_sid.specs.Mapping.{MappingValue, mapped}
-use Rattle.sd_sid.specs.Sid.{SidValue, same_sid, owner_rights}
-use Rattle.sd_sid.proofs.Masks.{holds_when, mask_of-alike}
-use Rattle.sd_acl.specs.Ace.{is_allow, is_inherit_only}
-use Rattle.sd_check.specs.Check.{applies, applies_again, decides, first, is_allowed_by, is_limit, limits_owner, subject}
-use Rattle.sd_acl.specs.declared.ace.Ace.{Ace}
-use Rattle.sd_acl.specs.declared.ace.AceKind.{AceKind}
 use Rattle.sd_check.specs.declared.tally.Settled.{Settled}
 use Rattle.sd_check.specs.declared.tally.Tally.{Tally}
-use Rattle.sd_check.specs.Fold.{Asking, IsPass, IsSettled, IsTally, part_of}
+use Rattle.sd_check.specs.Fold.{Asking, IsPass, IsSettled}
 use Rattle.sd_check.proofs.Answered.{stands}
 
 -- ---- a bit
@@ -76,13 +67,22 @@ module _ (g : MappingValue) (who : AceKind → SidValue → Bool) (bits owners :
 
 -- ---- an entry that has no part
 
--- an entry for a SID that isn't OWNER RIGHTS, and that nobody here stands for
-pub takes_no_part : (g : MappingValue) (who : Option SidValue → Bool) (owner : Option SidValue) (e : Ace) → same_sid e.sid owner_rights ≡ false → who (Some e.sid) ≡ false
+takes_no_part : (g : MappingValue) (who : Option SidValue → Bool) (owner : Option SidValue) (e : Ace) → same_sid e.sid owner_rights ≡ false → who (Some e.sid) ≡ false
     → cond (not (is_inherit_only e) && who (subject owner e.sid)) (mapped g e.mask) 0 ≡ 0
 takes_no_part g who owner e other none = rw (other, none) (grind arith)
 
-pub limits_nobody : (e : Ace) → same_sid e.sid owner_rights ≡ false → is_limit e ≡ false
-limits_nobody e other = grind (arith, other)
+-- an entry for a SID that isn't OWNER RIGHTS, and that nobody here stands for
+module _ (g : MappingValue) (t : TokenValue) (owner : Option SidValue) (e : Ace) (s : SidValue) (is : s ≡ e.sid) (other : same_sid s owner_rights ≡ false)
+    (first : (kind : AceKind) → stands_for t kind s ≡ false) (again : is_restricting t s ≡ false) where
+  other_than : same_sid e.sid owner_rights ≡ false
+  other_than = ap (λ (s : SidValue). same_sid s owner_rights) (sym is) ∙ other
+
+  pub none_in : (pass : Pass) → part_of g (applies_in pass t owner) e ≡ 0
+  none_in First = takes_no_part g (stands_for_subject t e.kind) owner e other_than (ap (stands_for t e.kind) (sym is) ∙ first e.kind)
+  none_in Second = takes_no_part g (is_restricting_subject t) owner e other_than (ap (is_restricting t) (sym is) ∙ again)
+
+  pub limits_nobody : is_limit e ≡ false
+  limits_nobody = grind (arith, other_than)
 
 -- ---- the end of a walk, and its beginning
 

@@ -1,18 +1,10 @@
 -- The proofs of the laws on restricting SIDs.
 use Rattle.std.proofs.Common.{◌≡◌, ℕ, ◌<◌, true, not, ◌&&◌, ◌||◌, ◌==◌, nat_lt, List, [], ◌∷◌, length, Option, Some, None, refl, sym, ◌∙◌, ap, arith}
 use Rattle.std.specs.List.{list_any}
-use Rattle.std.proofs.lemmas.Bool.{or_left, false≢true}
-use Rattle.std.proofs.Math.Bool.{and-true}
+use Rattle.sd_check.proofs.Words.{or_left, false≢true, and-true, holds, MappingValue, SidValue, same_sid, holds_place, limits_owner, subject, is_implied, judged, most_of, applies, applies_again, stands_for_subject, is_restricting_subject, is_granted, is_given, is_listed, most, Ace, Allow, TokenValue, is_restricted, is_restricting}
 use Rattle.std.proofs.Math.Dec.{eqb-suc-zero}
-use Rattle.sd_sid.specs.Mask.{holds}
-use Rattle.sd_sid.specs.Mapping.{MappingValue}
-use Rattle.sd_sid.specs.Sid.{SidValue, same_sid}
 use Rattle.sd_sid.proofs.Compared.{same_sid-itself}
-use Rattle.sd_sid.proofs.Masks.{holds_place}
-use Rattle.sd_check.specs.Check.{acl_grants, limits_owner, subject, is_implied, judged, most_of, applies, applies_again, stands_for_subject, is_restricting_subject, is_granted, is_given, is_listed, most}
-use Rattle.sd_acl.specs.declared.ace.Ace.{Ace}
-use Rattle.sd_acl.specs.declared.ace.AceKind.TheVariants.{Allow}
-use Rattle.sd_check.specs.Token.{TokenValue, is_restricted, is_restricting}
+use Rattle.sd_check.specs.Check.{acl_grants}
 use Rattle.sd_check.specs.Laws.{restricted_to, NobodyRestrictsNothing, RestrictionGrantsNoBit, RestrictionGrantsNoRequest, OrderOfRestrictingSidsIsFree}
 use Rattle.sd_check.proofs.LawProofs.{one_test}
 use Rattle.sd_check.proofs.MoreGranted.{judged_with_more}
@@ -57,6 +49,8 @@ pub restriction_grants_no_request : RestrictionGrantsNoRequest
 restriction_grants_no_request owner dacl g t r m granted =
     judged_with_more g (is_granted owner dacl g t) (is_granted owner dacl g (restricted_to t [])) (most owner dacl g t) (most owner dacl g (restricted_to t [])) r m
     (restriction_grants_no_bit owner dacl g t) (most_more owner dacl g t) granted
+
+pub ruleset on_restriction = (restriction_grants_no_bit, restriction_grants_no_request)
 
 -- ---- their order
 

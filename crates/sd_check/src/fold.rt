@@ -1,7 +1,7 @@
 //! The check: a fold over the entries of a list, wherever they are stored.
 
-ghost use Rattle.std.specs.Prelude.{◌≡◌, ◌==◌, ◌<◌, ◌^◌, ◌==◌, ◌<◌, ◌^◌, ◌∷◌, [], ◌++◌, ◌&&◌, ◌||◌, not, false, true};
-ghost use Rattle.std.specs.Prelude.{map, Bool, List, Option, Some, None};
+ghost use Rattle.std.specs.Prelude.{◌≡◌, ◌==◌, ◌<◌, ◌^◌, ◌∷◌, [], ◌++◌, ◌&&◌, ◌||◌, not, false, true, map, Bool, List};
+ghost use Rattle.std.specs.Prelude.{Option, Some, None};
 ghost use Rattle.sd_sid.specs.Mask.{holds, mask_of};
 ghost use Rattle.sd_acl.specs.declared.ace.Ace.{Ace};
 ghost use Rattle.sd_check.specs.Check.{is_given, is_granted, is_implied, is_listed, is_owner, limits_owner, most_of};

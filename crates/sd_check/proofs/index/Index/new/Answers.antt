@@ -1,9 +1,8 @@
-use Rattle.std.proofs.Common.{◌≡◌, true, false, sym, ◌∙◌, ap, subst}
+use Rattle.std.proofs.Common.{◌≡◌, true, get_or, sym, ◌∙◌, ap, subst}
+use Rattle.sd_check.proofs.Words.{false≢true, SidValue, owner_rights, GroupState, Deny, counts}
 use Rattle.std.proofs.lemmas.List.{take_all, get_or_default}
-use Rattle.sd_sid.specs.Sid.{SidValue, owner_rights}
-use Rattle.sd_check.specs.declared.token.GroupState.{GroupState}
 use Rattle.sd_check.specs.Index.{IsIndexOfEach}
-use Rattle.sd_check.proofs.Chains.{index_skips}
+use Rattle.sd_check.proofs.Chains.{index_on}
 use Rattle.sd_check.proofs.Places.{each_of_user, each_of_more}
 use Rattle.sd_check.proofs.index.Index.new.Goals as goal
 use Rattle.sd_check.proofs.index.Index.new.Goals.{then-counts, else-counts}
@@ -24,18 +23,20 @@ loop-number-preserved c =
     let group = c.index-groups-number.result in
     let inside = c.loop-number-test.true in
     let is = c.index-groups-number.is in
+    let same : (d : SidValue × GroupState) → get_or groups number d ≡ group = λ d. get_or_default groups number d group inside ∙ sym is in
     elim c.if-counts.branch [
       | then-counts w ↦ rw w.index-is (
-        w.add.ensures.chains user groups (λ d. ap (λ (g : SidValue × GroupState). g.0) (get_or_default groups number d group inside ∙ sym is)) c.loop-number.invariant.0,
+        w.add.ensures.chains user groups (λ d. ap (λ (g : SidValue × GroupState). g.0) (same d)) c.loop-number.invariant.0,
         each_of_more heads w.add.new.self.heads user groups number group inside is c.loop-number.invariant.1 w.add.ensures.kept (λ h. w.add.ensures.here),
         w.add.ensures.kept owner_rights c.loop-number.invariant.2,
       )
-      | else-counts w ↦ rw w.index-is (
-        index_skips user groups heads c.loop-number.index.nexts number group inside is (sym c.counts.ensures ∙ w.if-counts.false) c.loop-number.invariant.0,
-        each_of_more heads heads user groups number group inside is c.loop-number.invariant.1 (λ s h. h)
-            (λ h. absurd (let clash : true ≡ false = sym h ∙ sym c.counts.ensures ∙ w.if-counts.false in cc)),
-        c.loop-number.invariant.2,
-      )
+      | else-counts w ↦
+          let not_counted : counts Deny group.1 ≡ true → ⊥ = λ h. false≢true (sym (sym c.counts.ensures ∙ w.if-counts.false) ∙ h) in
+          rw w.index-is (
+            index_on user groups heads c.loop-number.index.nexts number (λ d _ h. not_counted (ap (λ (g : SidValue × GroupState). counts Deny g.1) (sym (same d)) ∙ h)) c.loop-number.invariant.0,
+            each_of_more heads heads user groups number group inside is c.loop-number.invariant.1 (λ s h. h) (λ h. absurd (not_counted h)),
+            c.loop-number.invariant.2,
+          )
     ]
 
 pub returns-clause-token : goal.returns-clause-token

@@ -1,13 +1,10 @@
 -- A walk along the chain of the SID's place meets the user and each group that has the SID.
 use Rattle.std.proofs.Common.{◌≡◌, ℕ, suc, ◌-◌, ◌<◌, ◌≤◌, ◌&&◌, ◌||◌, true, false, List, length, get_or, inl, inr, sym, ◌∙◌, ap, subst, arith}
-use Rattle.std.proofs.lemmas.Bool.{and_parts, or_right, false_from_ne_true}
+use Rattle.sd_check.proofs.Words.{and_parts, or_right, SidValue, same_sid, same_sid-true, counts, a_group_stands_for, GroupState}
+use Rattle.std.proofs.lemmas.Bool.{false_from_ne_true}
 use Rattle.std.proofs.lemmas.List.{get_or_default}
 use Rattle.std.proofs.lemmas.List.Folds.{list_any_at}
-use Rattle.sd_sid.specs.Sid.{SidValue, same_sid}
-use Rattle.sd_sid.proofs.Compared.{same_sid-true}
 use Rattle.sd_check.specs.Index.{OnChain, place_of}
-use Rattle.sd_check.specs.Token.{counts, a_group_stands_for}
-use Rattle.sd_check.specs.declared.token.GroupState.{GroupState}
 use Rattle.sd_check.proofs.Chains.{next_on_chain, none_at_end, none_of_first, user_is_last}
 use Rattle.sd_check.proofs.Places.{counts_for_deny}
 use Rattle.sd_check.proofs.index.Index.stands_for.Goals as goal

@@ -1,9 +1,7 @@
 -- The user, and a group that counts for the SID, are on the chain from here.
 use Rattle.std.proofs.Common.{◌≡◌, ◌+◌, ◌<◌, ◌≤◌, ◌&&◌, ℕ, suc, true, length, get_or}
-use Rattle.sd_sid.specs.Sid.{SidValue, same_sid}
+use Rattle.sd_check.proofs.Words.{SidValue, same_sid, counts, GroupState}
 use Rattle.sd_check.specs.Index.{OnChain}
-use Rattle.sd_check.specs.Token.{counts}
-use Rattle.sd_check.specs.declared.token.GroupState.{GroupState}
 use Rattle.sd_check.proofs.index.Index.stands_for.Given as goal
 
 abbrev pub invariant-loop-link : goal.invariant-loop-link

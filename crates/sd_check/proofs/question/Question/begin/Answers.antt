@@ -1,7 +1,6 @@
 -- Before any entry nothing is settled.
 use Rattle.std.proofs.Common.{◌∙◌, ap}
-use Rattle.sd_check.specs.Check.{applies, applies_again}
-use Rattle.sd_check.specs.Fold.{asking, owners_in, rights_in, wanted_bits}
+use Rattle.sd_check.proofs.Words.{applies, applies_again, asking, owners_in, rights_in, wanted_bits}
 use Rattle.sd_check.proofs.Passes.{pass_begins}
 use Rattle.sd_check.proofs.question.Question.begin.Goals as goal
 

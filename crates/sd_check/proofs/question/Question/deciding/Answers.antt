@@ -1,7 +1,6 @@
 -- The entry decides what was undecided of its mask, in each pass.
 use Rattle.std.proofs.Common.{◌≡◌, true, false, not, nat_eq, cond, sym, ◌∙◌, ap}
-use Rattle.sd_check.specs.Check.{applies, applies_again}
-use Rattle.sd_check.specs.Fold.{asking}
+use Rattle.sd_check.proofs.Words.{applies, applies_again, asking}
 use Rattle.sd_check.proofs.Passes.{pass_decides}
 use Rattle.sd_check.proofs.question.Question.deciding.Goals.{then-this-ne0, else-this-ne0}
 use Rattle.sd_check.proofs.question.Question.deciding.Goals as goal

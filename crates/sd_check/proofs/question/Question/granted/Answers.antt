@@ -1,7 +1,5 @@
 use Rattle.std.proofs.Common.{false, ◌&&◌, ◌∙◌, ap}
-use Rattle.sd_sid.specs.Mask.{holds, mask_of}
-use Rattle.sd_check.specs.Check.{is_implied}
-use Rattle.sd_check.specs.declared.token.Privileges.{Privileges}
+use Rattle.sd_check.proofs.Words.{holds, mask_of, is_implied, Privileges}
 use Rattle.sd_check.proofs.Answered.{granted_is}
 use Rattle.sd_check.proofs.question.Question.granted.Goals as goal
 

@@ -1,7 +1,6 @@
 -- The entries so far come to this tally.
 use Rattle.std.proofs.Common.{List, ◌++◌, take, map, not, nat_eq}
-use Rattle.sd_acl.specs.declared.ace.Ace.{Ace}
-use Rattle.sd_check.specs.Fold.{asking, IsTally}
+use Rattle.sd_check.proofs.Words.{Ace, asking, IsTally}
 use Rattle.sd_check.proofs.question.Question.over.Given as goal
 
 abbrev pub invariant-loop-entry : goal.invariant-loop-entry

@@ -1,10 +1,7 @@
 -- Each right is granted, and what is granted without an entry.
 use Rattle.std.proofs.Common.{◌≡◌, false, ◌&&◌, ◌||◌, not, nat_lt, None, ◌∙◌, ap}
-use Rattle.sd_sid.specs.Mask.{holds, mask_of}
-use Rattle.sd_check.specs.Check.{is_given, is_implied, is_owner, limits_owner}
-use Rattle.sd_check.specs.Fold.{asking}
-use Rattle.sd_check.specs.Token.{is_restricted}
-use Rattle.sd_check.specs.declared.token.Privileges.{Privileges}
+use Rattle.sd_check.proofs.Words.{holds, mask_of, is_given, is_implied, limits_owner, asking, is_restricted, Privileges}
+use Rattle.sd_check.specs.Check.{is_owner}
 use Rattle.sd_check.proofs.Answered.{granted_is, granted_without_a_list, most_without_a_list}
 use Rattle.sd_check.proofs.question.Question.verdict_without_a_list.Goals as goal
 

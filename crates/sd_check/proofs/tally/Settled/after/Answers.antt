@@ -1,6 +1,5 @@
 use Rattle.std.proofs.Common.{◌||◌, ◌&&◌, not, cond, ◌∙◌, ap}
-use Rattle.sd_sid.specs.Mask.{holds, mask_of}
-use Rattle.sd_acl.specs.Ace.{is_allow}
+use Rattle.sd_check.proofs.Words.{holds, mask_of, is_allow}
 use Rattle.sd_check.proofs.tally.Settled.after.Goals as goal
 
 pub returns-clause-undecided : goal.returns-clause-undecided
