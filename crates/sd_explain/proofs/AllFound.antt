@@ -1,17 +1,7 @@
 -- One walk that finds for each bit the entry that settles it.
 use Rattle.std.proofs.Common.{◌≡◌, ℕ, ◌+◌, ◌<◌, ◌≤◌, ◌==◌, ◌&&◌, Bool, true, false, not, cond, List, length, get_or, drop, ◌∙◌, ap, arith}
-use Rattle.std.proofs.lemmas.Bool.{eqb-true}
-use Rattle.std.proofs.lemmas.Nat.Bits.{bit_at-zero}
+use Rattle.sd_check.proofs.Words.{eqb-true, bit_at-zero, holds, mask_of, MappingValue, mapped, SidValue, holds_when, is_allow, is_inherit_only, decides, Ace, AceKind, part_of}
 use Rattle.std.proofs.lemmas.List.{drop_all}
-use Rattle.sd_sid.specs.Mask.{holds, mask_of}
-use Rattle.sd_sid.specs.Mapping.{MappingValue, mapped}
-use Rattle.sd_sid.specs.Sid.{SidValue}
-use Rattle.sd_sid.proofs.Masks.{holds_when}
-use Rattle.sd_acl.specs.Ace.{is_allow, is_inherit_only}
-use Rattle.sd_check.specs.Check.{decides}
-use Rattle.sd_acl.specs.declared.ace.Ace.{Ace}
-use Rattle.sd_acl.specs.declared.ace.AceKind.{AceKind}
-use Rattle.sd_check.specs.Fold.{part_of}
 use Rattle.sd_check.proofs.Answered.{stands}
 use Rattle.sd_explain.specs.Reasons.{finding_of}
 use Rattle.sd_explain.specs.declared.reason.Finding.{Finding}

@@ -1,26 +1,15 @@
 -- Which bits a list is asked for.
 use Rattle.std.proofs.Common.{◌≡◌, ◌==◌, ℕ, ◌<◌, true, false, ◌&&◌, ◌||◌, nat_lt, List, Option, None, refl, arith}
-use Rattle.std.proofs.lemmas.Bool.{agree_below_at}
-use Rattle.std.proofs.lemmas.Bool.Decides.{nat_tests}
-use Rattle.sd_sid.specs.Mask.{holds, mask_of}
-use Rattle.sd_sid.specs.Mapping.{MappingValue, mapped}
-use Rattle.sd_sid.specs.Sid.{SidValue}
-use Rattle.sd_acl.specs.declared.ace.Ace.{Ace}
-use Rattle.sd_check.specs.Check.{reserved_of, without_maximum}
-use Rattle.sd_check.specs.Fold.{rights_in, wanted_bits}
-use Rattle.sd_check.specs.Token.{TokenValue}
-use Rattle.sd_check.proofs.Answered.{stands}
+use Rattle.sd_check.proofs.Words.{nat_tests, holds, mask_of, MappingValue, mapped, SidValue, Ace, reserved_of, without_maximum, rights_in, wanted_bits, TokenValue}
+use Rattle.sd_check.proofs.Answered.{stands, holds_object}
 use Rattle.sd_explain.specs.Reasons.{reason_at}
-
-object : (b : ℕ) → b < 32 → holds 0x001FFFFF b ≡ nat_lt b 21
-object b h = agree_below_at (holds 0x001FFFFF) (λ k. nat_lt k 21) 32 b refl h
 
 -- with MAXIMUM_ALLOWED, each right is looked for
 wanted : (q b : ℕ) → b < 32 → holds (mask_of (λ k. holds q k || holds 0x001FFFFF k) 32) b ≡ (holds q b || nat_lt b 21)
-wanted q b h = grind (arith, object b h, stands (λ k. holds q k || holds 0x001FFFFF k) _ b h refl)
+wanted q b h = grind (arith, holds_object b h, stands (λ k. holds q k || holds 0x001FFFFF k) _ b h refl)
 
 in_rights : (w b : ℕ) → b < 32 → holds (rights_in w) b ≡ (holds w b && nat_lt b 21)
-in_rights w b h = grind (arith, object b h, stands (λ k. holds w k && holds 0x001FFFFF k) (rights_in w) b h refl)
+in_rights w b h = grind (arith, holds_object b h, stands (λ k. holds w k && holds 0x001FFFFF k) (rights_in w) b h refl)
 
 -- a right that the request names
 pub named_is_asked : (g : MappingValue) (r b : ℕ) → b < 32 → b < 21 → holds (mapped g (without_maximum r)) b ≡ true → holds (rights_in (wanted_bits g r)) b ≡ true

@@ -1,15 +1,8 @@
 -- That a cause grants just what the rules of the check grant.
 use Rattle.std.proofs.Common.{◌≡◌, ℕ, ◌<◌, Bool, true, false, not, ◌&&◌, ◌||◌, ◌==◌, nat_lt, List, Option, Some, None, inl, inr, refl, ◌∙◌, ap, arith}
 use Rattle.std.specs.List.{position_or_len}
-use Rattle.std.proofs.lemmas.Bool.{cases_lt, lt-ltb}
-use Rattle.std.proofs.lemmas.Bool.Decides.{nat_tests}
-use Rattle.sd_sid.specs.Mask.{holds}
-use Rattle.sd_sid.specs.Mapping.{MappingValue}
-use Rattle.sd_sid.specs.Sid.{SidValue}
-use Rattle.sd_sid.proofs.Masks.{holds_place}
-use Rattle.sd_check.specs.Check.{decides, first, is_allowed_by, is_implied, applies, applies_again, is_granted, is_given, most, implied_of}
-use Rattle.sd_acl.specs.declared.ace.Ace.{Ace}
-use Rattle.sd_check.specs.Token.{TokenValue, is_restricted}
+use Rattle.sd_check.proofs.Words.{cases_lt, lt-ltb, nat_tests, holds, MappingValue, SidValue, holds_place, decides, first, is_allowed_by, is_implied, applies, applies_again, is_granted, is_given, most, Ace, TokenValue, is_restricted}
+use Rattle.sd_check.specs.Check.{implied_of}
 use Rattle.sd_check.specs.declared.grounds.Implied.{Implied}
 use Rattle.sd_explain.specs.Reasons.{finding_at, is_allowed, grants, listed_cause, granting_or, named_cause, maximum_cause, same_cause}
 use Rattle.sd_explain.specs.declared.reason.Cause.{Cause}

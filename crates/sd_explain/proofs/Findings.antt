@@ -2,8 +2,7 @@
 use Rattle.std.proofs.Common.{◌≡◌, ℕ, ◌+◌, ◌<◌, Bool, true, false, cond, not, List, ◌∷◌, length, get_or, drop, Some, refl, sym, ◌∙◌, ap, arith, add-one, add-zero, zero-add, find}
 use Rattle.std.specs.List.{position_or_len}
 use Rattle.std.proofs.Math.Seq.{drop-cons}
-use Rattle.sd_acl.specs.Ace.{is_allow}
-use Rattle.sd_acl.specs.declared.ace.Ace.{Ace}
+use Rattle.sd_check.proofs.Words.{is_allow, Ace}
 use Rattle.sd_explain.specs.Reasons.{finding_at}
 use Rattle.sd_explain.specs.declared.reason.Finding.{Finding}
 use Rattle.sd_explain.specs.declared.reason.Finding.TheVariants.{Allowed, Denied}

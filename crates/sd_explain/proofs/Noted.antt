@@ -1,11 +1,10 @@
 -- The finding that is written at the places that an entry decides, one place after the other.
 use Rattle.std.proofs.Common.{◌≡◌, ◌==◌, ◌/◌, ◌*◌, ◌^◌, subst, eqb-true, pow_pos, ℕ, ◌+◌, ◌<◌, ◌≤◌, Bool, true, false, cond, List, length, get_or, sym, ◌∙◌, ap, arith, inl, inr}
 use Rattle.std.proofs.Math.Nat.{lt-div-mul-add}
-use Rattle.std.proofs.lemmas.Bool.{cases_eq, cases_lt}
-use Rattle.std.proofs.lemmas.Nat.Bits.{bit_at-trailing_zeros, bit_at-zero, bit_at_above}
+use Rattle.sd_check.proofs.Words.{cases_eq, cases_lt, bit_at-zero, bit_at_above, holds}
+use Rattle.std.proofs.lemmas.Nat.Bits.{bit_at-trailing_zeros}
 use Rattle.std.specs.Int.{trailing_zeros}
 use Rattle.std.specs.Int.Width.{w32}
-use Rattle.sd_sid.specs.Mask.{holds}
 use Rattle.sd_explain.specs.declared.reason.Finding.{Finding}
 use Rattle.sd_explain.specs.declared.reason.Finding.TheVariants.{NoEntry}
 

@@ -1,9 +1,8 @@
 -- The proofs of the laws on parts.
 use Rattle.std.proofs.Common.{◌≡◌, ◌≢◌, ℕ, zero, suc, ◌+◌, ◌*◌, ◌^◌, ◌<◌, Bool, true, false, ◌==◌, cond, Option, Some, None, inl, inr, refl, sym, ◌∙◌, ap, arith}
-use Rattle.std.proofs.lemmas.Bool.{cases_Bool, cases_order, and_parts, and_from, eqb-true, eq-eqb, lt-ltb, cond-true, false≢true}
-use Rattle.std.proofs.lemmas.Nat.Bits.{bit_at-zero}
-use Rattle.sd_sid.specs.Mask.{holds, mask_of}
-use Rattle.sd_sid.proofs.Masks.{holds_place, holds-mask_of}
+use Rattle.sd_check.proofs.Words.{cases_Bool, and_parts, eqb-true, lt-ltb, cond-true, false≢true, bit_at-zero, holds, holds_place, holds-mask_of}
+use Rattle.std.proofs.lemmas.Bool.{cases_order, and_from, eq-eqb}
+use Rattle.sd_sid.specs.Mask.{mask_of}
 use Rattle.sd_explain.specs.Reasons.{same_finding, same_cause}
 use Rattle.sd_explain.specs.Parts.{is_of_share, bits_of, part_of, part_at}
 use Rattle.sd_explain.specs.Laws.{IsPartOf}
@@ -158,3 +157,5 @@ module _ (reasons : ℕ → Option Reason) where
           | inr behind ↦ not_below (because one.cause) j k (part_parts j (reasons j) one is_one).1.1.1 (ap (λ x. because x k) same ∙ place_of_part k other is_other) behind
         ]
       ]
+
+pub ruleset on_parts = (are_apart, has_its_part, hold_their_cause)

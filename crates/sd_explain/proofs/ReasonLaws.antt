@@ -1,16 +1,8 @@
 -- The proofs of the laws on findings, causes and requests.
-use Rattle.std.proofs.Common.{◌≡◌, ℕ, Bool, true, false, List, Option, Some, None, inl, inr, refl, sym, ap, arith, slice_get}
+use Rattle.std.proofs.Common.{◌≡◌, ℕ, Bool, true, false, cond, List, Option, Some, None, refl, sym, ap, arith, slice_get}
 use Rattle.std.specs.List.{position_or_len}
-use Rattle.std.proofs.lemmas.Bool.{cases_Bool}
 use Rattle.std.proofs.lemmas.List.Folds.{find_at}
-use Rattle.sd_sid.specs.Mapping.{MappingValue}
-use Rattle.sd_sid.specs.Sid.{SidValue}
-use Rattle.sd_acl.specs.Ace.{is_allow}
-use Rattle.sd_check.specs.Check.{decides, first, subject, stands_for_subject, is_restricting_subject}
-use Rattle.sd_acl.specs.declared.ace.Ace.{Ace}
-use Rattle.sd_acl.specs.declared.ace.AceKind.{AceKind}
-use Rattle.sd_check.specs.declared.verdict.Verdict.TheVariants.{Denied}
-use Rattle.sd_check.specs.Token.{TokenValue, stands_for, is_restricting}
+use Rattle.sd_check.proofs.Words.{MappingValue, SidValue, decides, first, subject, stands_for_subject, is_restricting_subject, Ace, AceKind, TokenValue, stands_for, is_restricting}
 use Rattle.sd_explain.specs.Reasons.{finding_at}
 use Rattle.sd_explain.specs.Laws.{IsFirstAt, AllowedNamesFirst, DeniedNamesFirst, NoEntryWhereNone, FirstPassHasSubject, SecondPassHasSubject, ReasonsJoinToRequest, GrantedAreTheParts}
 use Rattle.sd_explain.specs.declared.reason.Finding.TheVariants.{Allowed, Denied, NoEntry}
@@ -22,19 +14,11 @@ module _ (g : MappingValue) (who : AceKind → SidValue → Bool) (es : List Ace
   found : ℕ
   found = position_or_len (decides g who b) es
 
-  allowed_by : (o : Option Ace) → first g who es b ≡ o → slice_get es found ≡ o → finding_at found o ≡ Allowed at → IsFirstAt g who es b at true
-  allowed_by None is stands finds = absurd cc
-  allowed_by (Some e) is stands finds = elim (cases_Bool (is_allow e.kind)) [
-    | inl allows ↦ record { entry = e; at_place = grind (arith, stands, finds, allows); is_first = is; is_kind = allows }
-    | inr denies ↦ absurd (grind (arith, finds, denies))
-  ]
-
-  denied_by : (o : Option Ace) → first g who es b ≡ o → slice_get es found ≡ o → finding_at found o ≡ Denied at → IsFirstAt g who es b at false
-  denied_by None is stands finds = absurd cc
-  denied_by (Some e) is stands finds = elim (cases_Bool (is_allow e.kind)) [
-    | inl allows ↦ absurd (grind (arith, finds, allows))
-    | inr denies ↦ record { entry = e; at_place = grind (arith, stands, finds, denies); is_first = is; is_kind = denies }
-  ]
+  named_by : (allows : Bool) (o : Option Ace) → first g who es b ≡ o → slice_get es found ≡ o → finding_at found o ≡ cond allows (Allowed at) (Denied at) → IsFirstAt g who es b at allows
+  named_by true None is stands finds = absurd cc
+  named_by false None is stands finds = absurd cc
+  named_by true (Some e) is stands finds = record { entry = e; at_place = grind (arith, stands, finds); is_first = is; is_kind = grind (arith, finds) }
+  named_by false (Some e) is stands finds = record { entry = e; at_place = grind (arith, stands, finds); is_first = is; is_kind = grind (arith, finds) }
 
   stands_there : slice_get es found ≡ first g who es b
   unfolding found
@@ -42,11 +26,11 @@ module _ (g : MappingValue) (who : AceKind → SidValue → Bool) (es : List Ace
 
 pub allowed_names_first : AllowedNamesFirst
 unfolding found
-allowed_names_first g who es b place finds = allowed_by g who es b place (first g who es b) refl (stands_there g who es b place) finds
+allowed_names_first g who es b place finds = named_by g who es b place true (first g who es b) refl (stands_there g who es b place) finds
 
 pub denied_names_first : DeniedNamesFirst
 unfolding found
-denied_names_first g who es b place finds = denied_by g who es b place (first g who es b) refl (stands_there g who es b place) finds
+denied_names_first g who es b place finds = named_by g who es b place false (first g who es b) refl (stands_there g who es b place) finds
 
 none_found : (place : ℕ) (o : Option Ace) → finding_at place o ≡ NoEntry → o ≡ None
 none_found place None is = refl
@@ -54,6 +38,8 @@ none_found place (Some e) is = absurd (grind (arith, is))
 
 pub no_entry_where_none : NoEntryWhereNone
 no_entry_where_none g who es b = (none_found (position_or_len (decides g who b) es) (first g who es b), λ is. ap (finding_at (position_or_len (decides g who b) es)) is)
+
+pub ruleset on_findings = (allowed_names_first, denied_names_first, no_entry_where_none)
 
 stands_for_some : (t : TokenValue) (kind : AceKind) (who : Option SidValue) → stands_for_subject t kind who ≡ true
     → (s : SidValue) × ((who ≡ Some s) × (stands_for t kind s ≡ true))
@@ -72,6 +58,8 @@ pub second_pass_has_subject : SecondPassHasSubject
 second_pass_has_subject owner g t e b h =
     restricts_some t (subject owner e.sid) (grind (arith, h))
 
+pub ruleset on_subjects = (first_pass_has_subject, second_pass_has_subject)
+
 -- ---- requests
 
 pub reasons_join_to_request : ReasonsJoinToRequest
@@ -80,3 +68,5 @@ reasons_join_to_request owner dacl g t r b free plain =
 
 pub granted_are_the_parts : GrantedAreTheParts
 granted_are_the_parts owner dacl g t r m granted = grind (arith, granted, told_verdict_is owner dacl g t r)
+
+pub ruleset on_requests = (reasons_join_to_request, granted_are_the_parts)

@@ -1,16 +1,9 @@
 -- That the verdict follows from the reasons.
 use Rattle.std.proofs.Common.{◌≡◌, ℕ, ◌^◌, ◌<◌, Bool, true, false, not, ◌&&◌, ◌||◌, ◌==◌, nat_lt, cond, List, Option, Some, None, lit<, inl, inr, refl, sym, ◌∙◌, ap, arith}
-use Rattle.std.proofs.lemmas.Bool.{cases_Bool, eqb-true, ne_eqb, false≢true, ltb-true, cond-true, cond-false}
-use Rattle.std.proofs.lemmas.Nat.Bits.{bit_at-zero}
-use Rattle.sd_sid.specs.Mask.{holds, mask_of}
-use Rattle.sd_sid.specs.Mapping.{MappingValue, mapped, is_mapped}
-use Rattle.sd_sid.specs.Sid.{SidValue}
-use Rattle.sd_sid.proofs.Masks.{holds_place, mask_of-alike, mask_of-lt}
-use Rattle.sd_check.specs.Check.{reserved_of, without_maximum, missing_of, joined_with, answered, plain_verdict, maximum_verdict, is_granted, is_given, most, verdict}
-use Rattle.sd_acl.specs.declared.ace.Ace.{Ace}
+use Rattle.sd_check.proofs.Words.{cases_Bool, eqb-true, ne_eqb, false≢true, ltb-true, cond-true, cond-false, bit_at-zero, holds, MappingValue, mapped, is_mapped, SidValue, holds_place, mask_of-alike, mask_of-lt, reserved_of, without_maximum, missing_of, joined_with, answered, plain_verdict, maximum_verdict, is_granted, is_given, most, verdict, Ace, TokenValue}
+use Rattle.sd_sid.specs.Mask.{mask_of}
 use Rattle.sd_check.specs.declared.verdict.Verdict.{Verdict}
 use Rattle.sd_check.specs.declared.verdict.Verdict.TheVariants.{Granted, Denied, Reserved, EmptyRequest}
-use Rattle.sd_check.specs.Token.{TokenValue}
 use Rattle.sd_explain.specs.Reasons.{grants, named_cause, maximum_cause, reason_at, belongs}
 use Rattle.sd_explain.specs.Parts.{is_of_share, bits_of, told_verdict}
 use Rattle.sd_explain.specs.declared.reason.Reason.{Reason}

@@ -10,7 +10,7 @@ ghost use Rattle.sd_check.specs.Token.{is_restricted};
 ghost use Rattle.sd_explain.specs.Reasons.{finding_of, given_or as given_or_of, granting_or as granting_or_of};
 ghost use Rattle.sd_explain.specs.Reasons.{high_cause as high_cause_of, named_cause as named_cause_of};
 ghost use Rattle.sd_explain.specs.Reasons.{maximum_cause as maximum_cause_of, reason_at};
-ghost use Rattle.sd_explain.specs.Findings.{IsFoundIn, IsListed, listed_by};
+ghost use Rattle.sd_explain.specs.Findings.{given_to, IsFoundIn, IsListed, listed_by, of_case};
 
 use crate::explanation::PLACES;
 use crate::reason::{Cause, Finding, Reason};
@@ -168,8 +168,7 @@ impl Case<'_> {
 
     /// What is granted without an entry.
     pub(crate) fn given(&self) -> Implied
-        ensures { result ≡ implied_of self.now.question.owner.now
-            (entries_of self.now.dacl) self.now.question.token.now }
+        ensures { result ≡ given_to self.now }
     {
         self.question.implied(self.dacl)
     }
@@ -184,9 +183,7 @@ impl Case<'_> {
     /// The bits that have a part in the answer.
     pub(crate) fn answered(&self) -> Mask
         ensures { (b : ℕ) → b < 32 → holds result b ≡ false
-            → reason_at self.now.question.owner.now
-            (entries_of self.now.dacl) self.now.question.mapping.now self.now.question.token.now
-            self.now.question.asked b ≡ None }
+            → of_case reason_at self.now self.now.question.asked b ≡ None }
     {
         let reserved = self.question.asked.common(RESERVED);
         if reserved.is_empty() {
@@ -205,14 +202,9 @@ impl Case<'_> {
         second: &[Finding; 32],
     ) -> Cause
         requires place { place < 32 }
-        requires given { given ≡ implied_of self.now.question.owner.now
-            (entries_of self.now.dacl) self.now.question.token.now }
-        requires listed { place < 21
-            → IsListed self.now.question.owner.now
-            (entries_of self.now.dacl) self.now.question.mapping.now self.now.question.token.now place
-            (listed_by (is_restricted self.now.question.token.now) first.now second.now place) }
-        ensures { result ≡ named_cause_of self.now.question.owner.now
-            (entries_of self.now.dacl) self.now.question.mapping.now self.now.question.token.now place }
+        requires given { given ≡ given_to self.now }
+        requires listed { place < 21 → IsListed self.now first.now second.now place }
+        ensures { result ≡ of_case named_cause_of self.now place }
     {
         if place >= RIGHTS_END {
             return high_cause(given, place);
@@ -235,14 +227,9 @@ impl Case<'_> {
         second: &[Finding; 32],
     ) -> Cause
         requires place { place < 32 }
-        requires given { given ≡ implied_of self.now.question.owner.now
-            (entries_of self.now.dacl) self.now.question.token.now }
-        requires listed { place < 21
-            → IsListed self.now.question.owner.now
-            (entries_of self.now.dacl) self.now.question.mapping.now self.now.question.token.now place
-            (listed_by (is_restricted self.now.question.token.now) first.now second.now place) }
-        ensures { result ≡ maximum_cause_of self.now.question.owner.now
-            (entries_of self.now.dacl) self.now.question.mapping.now self.now.question.token.now place }
+        requires given { given ≡ given_to self.now }
+        requires listed { place < 21 → IsListed self.now first.now second.now place }
+        ensures { result ≡ of_case maximum_cause_of self.now place }
     {
         match self.dacl {
             DaclRef::Absent => self.maximum_cause_without_a_list(place, given),
@@ -276,16 +263,10 @@ impl Case<'_> {
     ) -> Option<Reason>
         requires wanted { wanted ≡ mapped self.now.question.mapping.now (without_maximum self.now.question.asked) }
         requires place { place < 32 }
-        requires given { given ≡ implied_of self.now.question.owner.now
-            (entries_of self.now.dacl) self.now.question.token.now }
+        requires given { given ≡ given_to self.now }
         requires listed { holds (rights_in (wanted_bits self.now.question.mapping.now self.now.question.asked)) place
-            ≡ true
-            → IsListed self.now.question.owner.now
-            (entries_of self.now.dacl) self.now.question.mapping.now self.now.question.token.now place
-            (listed_by (is_restricted self.now.question.token.now) first.now second.now place) }
-        ensures { result ≡ reason_at self.now.question.owner.now
-            (entries_of self.now.dacl) self.now.question.mapping.now self.now.question.token.now
-            self.now.question.asked place }
+            ≡ true → IsListed self.now first.now second.now place }
+        ensures { result ≡ of_case reason_at self.now self.now.question.asked place }
     {
         let reserved = self.question.asked.common(RESERVED);
         if !reserved.is_empty() {

@@ -1,9 +1,8 @@
-use Rattle.std.proofs.Common.{◌≡◌, ℕ, ◌+◌, ◌<◌, List, length, get_or, set, refl, sym, ◌∙◌, ap, Option, None, inl, inr, arith, length-set}
-use Rattle.std.proofs.lemmas.Bool.{cases_eq}
+use Rattle.std.proofs.Common.{◌≡◌, ℕ, ◌+◌, ◌<◌, List, length, get_or, set, refl, sym, ◌∙◌, ap, Option, None, arith, length-set}
+use Rattle.sd_check.proofs.Words.{cases_eq, entries_of}
 use Rattle.std.proofs.lemmas.List.{get_or-replicate, get_or-set_other}
 use Rattle.std.proofs.lemmas.List.Edits.{fill_by_more}
 use Rattle.std.proofs.lemmas.List.FromFn.{fill_by_all}
-use Rattle.sd_check.specs.Check.{entries_of}
 use Rattle.sd_explain.specs.Parts.{reason_in}
 use Rattle.sd_explain.specs.Reasons.{reason_at}
 use Rattle.sd_explain.specs.declared.reason.Reason.{Reason}
@@ -13,10 +12,7 @@ use Rattle.sd_explain.proofs.explanation.explain.Goals as goal
 -- a place that has no reason is passed over
 passed : (reasons : List (Option Reason)) (reason : ℕ → Option Reason) (i : ℕ) → ((k : ℕ) → k < i → get_or reasons k None ≡ reason k)
     → get_or reasons i None ≡ reason i → (k : ℕ) → k < i + 1 → get_or reasons k None ≡ reason k
-passed reasons reason i done here k h = elim (cases_eq k i) as (λ _. get_or reasons k None ≡ reason k) [
-  | inl e ↦ ap (λ n. get_or reasons n None) e ∙ here ∙ sym (ap reason e)
-  | inr ne ↦ done k (omega (arith, h, ne))
-]
+passed reasons reason i done here k h = grind (arith, cases_eq k i, here, done k, h)
 
 pub loop-place-init : goal.loop-place-init
 loop-place-init c = (refl, (λ k h. absurd (omega (arith, h))), λ k h low. get_or-replicate 32 k None None low)

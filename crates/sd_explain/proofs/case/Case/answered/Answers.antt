@@ -1,7 +1,6 @@
 -- A bit that the request doesn't name, and that MAXIMUM_ALLOWED doesn't ask for, has no reason.
 use Rattle.std.proofs.Common.{◌==◌, sym, ◌∙◌, ap}
-use Rattle.sd_sid.specs.Mask.{holds}
-use Rattle.sd_check.specs.Check.{entries_of}
+use Rattle.sd_check.proofs.Words.{holds, entries_of}
 use Rattle.sd_explain.proofs.Asked.{no_reason, no_reserved}
 use Rattle.sd_explain.proofs.case.Case.answered.Goals as goal
 

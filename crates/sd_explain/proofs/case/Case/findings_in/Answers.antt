@@ -1,9 +1,7 @@
 use Rattle.std.proofs.Common.{replicate, refl, Option, ◌∙◌, sym, ap}
 use Rattle.std.proofs.lemmas.List.{get_or-replicate}
 use Rattle.std.proofs.lemmas.Iterator.Adapters.{option_map_id}
-use Rattle.sd_sid.specs.Sid.{SidValue}
-use Rattle.sd_check.specs.Check.{applies_in}
-use Rattle.sd_check.specs.Fold.{part_of}
+use Rattle.sd_check.proofs.Words.{SidValue, applies_in, part_of}
 use Rattle.sd_explain.specs.declared.reason.Finding.TheVariants.{NoEntry}
 use Rattle.sd_explain.proofs.AllFound.{found_none, found_passed, found_more, found_all, found_settled}
 use Rattle.sd_explain.proofs.case.Case.findings_in.Goals as goal
@@ -14,27 +12,19 @@ loop-index-init c =
 
 pub loop-index-preserved-then-is_empty-2 : goal.loop-index-preserved-then-is_empty-2
 loop-index-preserved-then-is_empty-2 c =
-    let m = c.args.self.now.question.mapping.now in
-    let t = c.args.self.now.question.token.now in
-    let owner = c.args.self.now.question.owner.now in
-    let pass = c.args.pass in
-    let es = c.args.entries.now in
+    let q = c.args.self.now.question in
     let e = c.index-entries-index.result in
     let loop = c.loop-index in
-    found_passed m (applies_in pass t owner) es c.args.bits loop.findings loop.undecided loop.index c.part.result c.common-decided.result e
-    c.loop-index-test.true c.index-entries-index.is (c.part.ensures ∙ ap (λ (who : Option SidValue). part_of m (applies_in pass t who) e) (option_map_id owner)) c.common-decided.ensures (sym c.is_empty-in-loop-index.ensures ∙ c.if-is_empty-2.true) loop.invariant
+    found_passed q.mapping.now (applies_in c.args.pass q.token.now q.owner.now) c.args.entries.now c.args.bits loop.findings loop.undecided loop.index c.part.result c.common-decided.result e
+    c.loop-index-test.true c.index-entries-index.is (c.part.ensures ∙ ap (λ (who : Option SidValue). part_of q.mapping.now (applies_in c.args.pass q.token.now who) e) (option_map_id q.owner.now)) c.common-decided.ensures (sym c.is_empty-in-loop-index.ensures ∙ c.if-is_empty-2.true) loop.invariant
 
 pub loop-index-preserved : goal.loop-index-preserved
 loop-index-preserved c =
-    let m = c.args.self.now.question.mapping.now in
-    let t = c.args.self.now.question.token.now in
-    let owner = c.args.self.now.question.owner.now in
-    let pass = c.args.pass in
-    let es = c.args.entries.now in
+    let q = c.args.self.now.question in
     let e = c.index-entries-index.result in
     let loop = c.loop-index in
-    found_more m (applies_in pass t owner) es c.args.bits loop.findings c.note.new.findings loop.undecided c.minus-undecided.result loop.index c.part.result c.common-decided.result e c.found.result
-    c.loop-index-test.true c.index-entries-index.is (c.part.ensures ∙ ap (λ (who : Option SidValue). part_of m (applies_in pass t who) e) (option_map_id owner)) c.common-decided.ensures c.minus-undecided.ensures c.found.ensures c.note.ensures.size c.note.ensures.at loop.invariant
+    found_more q.mapping.now (applies_in c.args.pass q.token.now q.owner.now) c.args.entries.now c.args.bits loop.findings c.note.new.findings loop.undecided c.minus-undecided.result loop.index c.part.result c.common-decided.result e c.found.result
+    c.loop-index-test.true c.index-entries-index.is (c.part.ensures ∙ ap (λ (who : Option SidValue). part_of q.mapping.now (applies_in c.args.pass q.token.now who) e) (option_map_id q.owner.now)) c.common-decided.ensures c.minus-undecided.ensures c.found.ensures c.note.ensures.size c.note.ensures.at loop.invariant
 
 pub returns-then-is_empty-clause-found : goal.returns-then-is_empty-clause-found
 returns-then-is_empty-clause-found c = λ b h want.
