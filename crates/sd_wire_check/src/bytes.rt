@@ -44,6 +44,7 @@ pub fn check_bytes(
 // Most descriptors have a list, and few tokens are restricted: what either comes to stays out of the others' way.
 
 #[inline(never)]
+#[tactic(auto, using(std::proofs::lemmas::Iterator::Adapters::option_map_id))]
 fn check_no_list(question: &Question<'_, SidRef<'_>>) -> Verdict
     ensures { result ≡ verdict question.now.owner.now None question.now.mapping.now question.now.token.now
         question.now.asked }

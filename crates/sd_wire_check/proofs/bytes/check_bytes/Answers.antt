@@ -1,11 +1,9 @@
 -- What the entries come to, with the owner, is what the descriptor comes to.
 use Rattle.std.proofs.Common.{◌≡◌, ℕ, List, Result, Ok, Err, refl, sym, ap, ◌∙◌}
-use Rattle.sd_sid.specs.Mapping.{MappingValue}
+use Rattle.sd_check.proofs.Words.{MappingValue, Ace, verdict, TokenValue}
 use Rattle.sd_acl.specs.Descriptor.{DescriptorValue}
-use Rattle.sd_acl.specs.declared.ace.Ace.{Ace}
 use Rattle.sd_acl.specs.declared.descriptor.DaclOf.TheVariants as dacls
-use Rattle.sd_check.specs.Check.{verdict, dacl_entries}
-use Rattle.sd_check.specs.Token.{TokenValue}
+use Rattle.sd_check.specs.Check.{dacl_entries}
 use Rattle.sd_wire.specs.Parts.{ArePartsOf, dacl_at, with_dacl}
 use Rattle.sd_wire.specs.Reading.{◌>>=◌, entries_read}
 use Rattle.sd_wire.specs.declared.fault.WireFault.{WireFault}

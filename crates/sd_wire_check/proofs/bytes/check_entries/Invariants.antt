@@ -1,7 +1,6 @@
 -- The entries so far and those that are left are all of them, and the tally is what those so far come to.
 use Rattle.std.proofs.Common.{◌≡◌, ◌-◌, ◌≤◌, List, not, nat_eq}
-use Rattle.sd_acl.specs.declared.ace.Ace.{Ace}
-use Rattle.sd_check.specs.Fold.{asking, IsTally}
+use Rattle.sd_check.proofs.Words.{Ace, asking, IsTally}
 use Rattle.sd_wire.specs.Reading.{entries_read}
 use Rattle.sd_wire.proofs.Loop.{behind}
 use Rattle.sd_wire_check.proofs.bytes.check_entries.Given as goal
