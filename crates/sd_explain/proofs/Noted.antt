@@ -34,9 +34,8 @@ none_below_lowest n b small low = elim (cases_eq n 0) as (λ _. holds n b ≡ fa
   | inr some ↦ ap (λ k. k == 1) ((bit_at-trailing_zeros w32 n (omega (arith, some)) small).2 b low)
 ]
 
-below : (n i : ℕ) → n / 2 ^ i ≡ 0 → n < 2 ^ i
-below n i none = let less : n < 0 * 2 ^ i + 2 ^ i = subst (λ q. n < q * 2 ^ i + 2 ^ i) none (lt-div-mul-add (pow_pos i)) in omega (arith, less)
-
 -- nor any from a place on where nothing is left of it
 pub none_from : (n i k : ℕ) → (n / 2 ^ i == 0) ≡ true → i ≤ k → holds n k ≡ false
-none_from n i k nothing high = ap (λ d. d == 1) (bit_at_above n i k (below n i (eqb-true (n / 2 ^ i) 0 nothing)) high)
+none_from n i k nothing high =
+    let less : n < 0 * 2 ^ i + 2 ^ i = subst (λ q. n < q * 2 ^ i + 2 ^ i) (eqb-true (n / 2 ^ i) 0 nothing) (lt-div-mul-add (pow_pos i)) in
+    ap (λ d. d == 1) (bit_at_above n i k (omega (arith, less)) high)

@@ -11,7 +11,7 @@ use Rattle.sd_explain.proofs.Told.{told_verdict_is}
 -- ---- findings
 
 module _ (g : MappingValue) (who : AceKind → SidValue → Bool) (es : List Ace) (b at : ℕ) where
-  found : ℕ
+  abbrev found : ℕ
   found = position_or_len (decides g who b) es
 
   named_by : (allows : Bool) (o : Option Ace) → first g who es b ≡ o → slice_get es found ≡ o → finding_at found o ≡ cond allows (Allowed at) (Denied at) → IsFirstAt g who es b at allows
@@ -21,15 +21,12 @@ module _ (g : MappingValue) (who : AceKind → SidValue → Bool) (es : List Ace
   named_by false (Some e) is stands finds = record { entry = e; at_place = grind (arith, stands, finds); is_first = is; is_kind = grind (arith, finds) }
 
   stands_there : slice_get es found ≡ first g who es b
-  unfolding found
   stands_there = sym (find_at (decides g who b) es)
 
 pub allowed_names_first : AllowedNamesFirst
-unfolding found
 allowed_names_first g who es b place finds = named_by g who es b place true (first g who es b) refl (stands_there g who es b place) finds
 
 pub denied_names_first : DeniedNamesFirst
-unfolding found
 denied_names_first g who es b place finds = named_by g who es b place false (first g who es b) refl (stands_there g who es b place) finds
 
 none_found : (place : ℕ) (o : Option Ace) → finding_at place o ≡ NoEntry → o ≡ None

@@ -84,9 +84,6 @@ module _ (owner : Option SidValue) (dacl : Option (List Ace)) (g : MappingValue)
   most_low None b h high = holds_place (λ k. nat_lt k 21 && (holds g.all k || is_given owner None t k)) b h ∙ ap (λ x. x && (holds g.all b || is_given owner None t b)) high
   most_low (Some es) b h high = holds_place (λ k. nat_lt k 21 && is_granted owner (Some es) g t k) b h ∙ ap (λ x. x && is_granted owner (Some es) g t b) high
 
-  wide : asked < 2 ^ 32
-  wide = mask_of-lt (is_mapped g (without_maximum r)) 32
-
   -- a share where no bit is reserved
   share_at : (reserved_of r == 0) ≡ true → (share : Share) (b : ℕ)
       → is_of_share share (reason b) ≡ cond (holds asked b) (belongs share (named b)) (cond (holds r 25 && nat_lt b 21) (belongs share (taken b)) false)
@@ -119,7 +116,7 @@ module _ (owner : Option SidValue) (dacl : Option (List Ace)) (g : MappingValue)
       (mask_of-alike _ (λ b. false) 32 (λ b h. grind (arith, plain, share_at free shares.Unnamed b)) ∙ no_places)
       (λ none. mask_of-alike _ (holds asked) 32 (λ b h. granted_at free b
       ∙ plain_bit (holds asked b) (is_granted owner dacl g t b) (holds r 25) (nat_lt b 21) (grants (maximum_cause owner dacl g t b)) plain (whole_at none b h))
-      ∙ sym (own_places asked wide))
+      ∙ sym (own_places asked (mask_of-lt (is_mapped g (without_maximum r)) 32)))
       (λ empty. ap (λ n. n == 0) (nothing_is_missing empty)))
 
   -- with it
