@@ -26,10 +26,20 @@ class Line:
 
 @dataclass(frozen=True, slots=True)
 class Place:
-    """A state of a store: the number of its last line, and the chain up to it."""
+    """A state of a store: the number of its last line, and the chain up to it. Wherever it is a text it is `NUMBER
+    CHAIN`, with the chain in hexadecimal digits."""
 
     number: int
     chain: bytes
+
+    @classmethod
+    def of(cls, text: str) -> "Place":
+        """ValueError: the text is none."""
+        number, _, chain = text.partition(" ")
+        return cls(int(number), bytes.fromhex(chain))
+
+    def __str__(self) -> str:
+        return f"{self.number} {self.chain.hex()}"
 
 
 @dataclass(frozen=True, slots=True)
@@ -43,6 +53,4 @@ class Snapshot:
 
     def digest(self, store: str, mapping: str) -> bytes:
         head = (store, mapping, self.epoch, self.place.number, self.place.chain.hex(), self.length)
-        digest = hashlib.sha256("\n".join(map(str, head)).encode())
-        digest.update(("\n" + "\n".join(self.lines)).encode())
-        return digest.digest()
+        return hashlib.sha256("\n".join([*map(str, head), *self.lines]).encode()).digest()

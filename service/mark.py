@@ -34,8 +34,8 @@ class Mark:
     def read(self) -> tuple[str, Place]:
         """The store, and the place. Mismatch: it is no mark."""
         try:
-            store, number, chain = os.pread(self._file, _BYTES, 0).decode().split(" ")[:3]
-            return store, Place(int(number), bytes.fromhex(chain))
+            store, _, place = os.pread(self._file, _BYTES, 0).decode().partition(" ")
+            return store, Place.of(place)
         except ValueError:
             raise Mismatch(f"{self._name}: it isn't a mark") from None
 
@@ -52,4 +52,4 @@ def create_mark(file: Path, store: str, place: Place) -> None:
 
 
 def _text(store: str, place: Place) -> bytes:
-    return f"{store} {place.number} {place.chain.hex()}".encode().ljust(_BYTES - 1) + b"\n"
+    return f"{store} {place}".encode().ljust(_BYTES - 1) + b"\n"

@@ -1,8 +1,8 @@
 """The lines of several services in a stream of Redis. One of them leads, by a lease.
 
 The id of a line is its number, and its one field, `line`, the row of `leading.py`. Beside the stream NAME there are
-NAME:last, the number and the chain of its last line, NAME:lease, who leads, and NAME:snapshot. Only the leader appends,
-and only to the line that it has as its last one: so there is one history, whatever a clock says."""
+NAME:last, the place of its last line, NAME:lease, who leads, and NAME:snapshot. Only the leader appends, and only to
+the line that it has as its last one: so there is one history, whatever a clock says."""
 
 import contextlib
 from collections.abc import Sequence
@@ -81,7 +81,7 @@ class Stream:
         leads, last, rows = self._poll(after, may_lead)
         if last is None:
             raise Mismatch(self._missing)
-        place = _place_in(last.decode())
+        place = Place.of(last.decode())
         if place.number < after.number or (place.number == after.number) != (place == after):
             raise Mismatch(f"redis: the stream ends at line {place.number}, and lacks the line {after.number} of here")
         if place != after and not rows:
@@ -95,7 +95,7 @@ class Stream:
     def append(self, last: Place, lines: Sequence[tuple[Line, bytes]]) -> None:
         """Appends lines after the last one, or none. Failed: this service doesn't lead, or lacks lines."""
         end = Place(lines[-1][0].number, lines[-1][1]) if lines else last
-        places, rows = (_text(last), last.number, _text(end)), [row_of(*each) for each in lines]
+        places, rows = (str(last), last.number, str(end)), [row_of(*each) for each in lines]
         if not self._redis.ask("EVAL", _APPEND, 3, *self._keys[:3], self._name, *places, *rows):
             raise Failed("redis: another service leads")
 
@@ -112,18 +112,9 @@ class Stream:
             raise Invalid(f"redis: there is a stream {stream!a} already")
         place, lines = journal.start, journal.lines(journal.start.number)
         self._redis.ask("DEL", stream)
-        self._redis.ask("MSET", last, _text(place), lease, self._name)
+        self._redis.ask("MSET", last, str(place), lease, self._name)
         while batch := list(islice(lines, MOST_LINES)):
             self.append(place, batch)
             place = Place(batch[-1][0].number, batch[-1][1])
         text = snapshot_text(journal.store, journal.mapping, journal.snapshots()[-1])
         self._redis.ask("EVAL", _END_OF_SEED, 2, snapshot, lease, text)
-
-
-def _text(place: Place) -> str:
-    return f"{place.number} {place.chain.hex()}"
-
-
-def _place_in(text: str) -> Place:
-    number, chain = text.split(" ")
-    return Place(int(number), bytes.fromhex(chain))
