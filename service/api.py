@@ -142,9 +142,13 @@ def _know(given: dict[str, Any], *names: str) -> None:
 # Questions
 
 
+def _groups(request: _Request) -> list[str]:
+    return [_text({"groups": each}, "groups") for each in _list(request.given, "groups", MOST_WORDS, [])]
+
+
 def _token(request: _Request) -> tuple[str, list[str]]:
     """The user and the other words of a token."""
-    words = [_text({"groups": each}, "groups") for each in _list(request.given, "groups", MOST_WORDS, [])]
+    words = _groups(request)
     return request.text("user"), words
 
 
@@ -218,20 +222,65 @@ def _show(request: _Request) -> None:
     request.reply(Response(HTTPStatus.OK, {**_state(request), "descriptor": said.removeprefix("shown ")}))
 
 
-def _list_nodes(request: _Request) -> None:
-    _know(request.given, "path")
-    words = ["list", _path(request.given, "path", "/")]
+# Questions that may take long
+
+
+def _asked_long(request: _Request, words: list[str], made: Callable[[list[str]], dict[str, Any]]) -> None:
+    """Replies once another thread has made an answer: `made` makes an object of its lines."""
 
     async def work() -> None:
-        said = await request.service.long_answer(words, request.caller)
-        if said.startswith(("fault", "unavailable")) or said == "nonode":
+        state = _state(request)
+        said = await request.service.long_answer(words, request.caller, Reader())
+        if said.startswith(("fault", "unavailable")):
             request.reply(_fault(said))
-            return
-        nodes = [_node(*line.split(" ")) for line in said.split("\n")]
-        request.reply(Response(HTTPStatus.OK, {"store": request.service.store, "nodes": nodes}))
+        elif said.rpartition(" ")[2] == "nonode":
+            request.reply(_fault("nonode"))
+        else:
+            request.reply(Response(HTTPStatus.OK, {**state, **made(said.split("\n"))}))
 
     _tasks.add(task := asyncio.get_running_loop().create_task(work()))
     task.add_done_callback(_tasks.discard)
+
+
+def _list_nodes(request: _Request) -> None:
+    _know(request.given, "path", "store", "seen")
+    _require_seen(request)
+    _asked_long(request, ["list", _path(request.given, "path", "/")],
+                lambda lines: {"nodes": [_node(*line.split(" ")) for line in lines]})
+
+
+def _find(request: _Request) -> None:
+    _know(request.given, "user", "groups", "path", "mask", "store", "seen")
+    _require_seen(request)
+    user, words = _token(request)
+    _asked_long(request, ["find", "0", _path(request.given, "path", "/"), user, request.text("mask"), *words],
+                lambda lines: {"paths": [path_of(line) for line in lines[1:]]})
+
+
+def _who(request: _Request) -> None:
+    _know(request.given, "path", "mask", "groups", "store", "seen")
+    _require_seen(request)
+    words = ["who", _path(request.given, "path"), request.text("mask", "0x02000000"), *_groups(request)]
+    _asked_long(request, words, lambda lines: {"accesses": [line for line in lines if line != "empty"]})
+
+
+def _compare(request: _Request) -> None:
+    _know(request.given, "path", "descriptor", "groups", "store", "seen")
+    _require_seen(request)
+    words = ["compare", _path(request.given, "path"), request.text("descriptor"), *_groups(request)]
+    _asked_long(request, words, lambda lines: {"changes": [line for line in lines if line != "same"]})
+
+
+def _review(request: _Request) -> None:
+    _know(request.given, "path", "store", "seen")
+    _require_seen(request)
+    _asked_long(request, ["review", _path(request.given, "path", "/")], _reviewed)
+
+
+def _reviewed(lines: list[str]) -> dict[str, Any]:
+    """The last line has the lengths of the two journals."""
+    _, seen, pending = lines[-1].split(" ")
+    return {"seen": int(seen), "pending": int(pending), "changes": lines[:-1]}
 
 
 def _node(kind: str, path: str, descriptor: str) -> dict[str, str]:
@@ -339,7 +388,11 @@ _ROUTES: dict[str, dict[str, tuple[str, Callable[[_Request], None]]]] = {
     "/v1/check": {"POST": ("check", _check)},
     "/v1/why": {"POST": ("check", _why)},
     "/v1/show": {"POST": ("check", _show)},
+    "/v1/find": {"POST": ("check", _find)},
     "/v1/list": {"POST": ("check", _list_nodes)},
+    "/v1/who": {"POST": ("check", _who)},
+    "/v1/compare": {"POST": ("check", _compare)},
+    "/v1/review": {"POST": ("check", _review)},
     "/v1/status": {"GET": ("check", _status)},
     "/v1/edit": {"POST": ("edit", _edit)},
     "/v1/publish": {"POST": ("edit", _publish)},

@@ -15,7 +15,12 @@ _TURN_SECONDS = 0.002
 _LEAST_TAKEN = 1 << 16
 
 
-class Connection(asyncio.Protocol):
+#: What is received at once. All connections are read by the one thread of the loop, into this: a buffer of its own for
+#: each read takes longer than a check.
+_ROOM = memoryview(bytearray(1 << 17))
+
+
+class Connection(asyncio.BufferedProtocol):
     """One client. Its requests are answered in their order; nothing here waits, so none delays another client."""
 
     def __init__(
@@ -59,12 +64,18 @@ class Connection(asyncio.Protocol):
         self._connections.discard(self)
         self.service.metrics.connections -= 1
 
-    def data_received(self, data: bytes) -> None:
-        if self.transport.is_closing():
-            return
+    def get_buffer(self, sizehint: int) -> memoryview:
+        return _ROOM
+
+    def buffer_updated(self, nbytes: int) -> None:
+        if not self.transport.is_closing():
+            self._idle_since = time.monotonic()
+            self.take(bytes(_ROOM[:nbytes]))
+            self.proceed()
+
+    def take(self, data: bytes) -> None:
+        """Takes what was received."""
         self._buffer += data
-        self._idle_since = time.monotonic()
-        self.proceed()
 
     def eof_received(self) -> bool:
         """What was asked is answered yet, but over TLS, which can't be half open; half a request isn't carried out."""
@@ -123,7 +134,13 @@ class Connection(asyncio.Protocol):
         """A request in progress is answered."""
         self.in_progress -= 1
         self._idle_since = time.monotonic()
-        self._proceed_later()
+        if self.has_waiting or self._is_ended:
+            self._proceed_later()
+
+    @property
+    def has_waiting(self) -> bool:
+        """Whether there is anything else to answer, or to read on."""
+        return bool(self._buffer) or not self.transport.is_reading()
 
     def reject(self, reason: str) -> None:
         """Closes the connection at once."""

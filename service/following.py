@@ -17,7 +17,7 @@ from loading import Loaded, load
 from redis_client import Redis
 from stores import opened
 from stream import Stream
-from writer import Received, Writer
+from writer import Writer
 
 #: A replica that has all lines asks again after so many seconds.
 _PAUSE = 0.05
@@ -153,8 +153,6 @@ class Following:
         """Asks once, and returns whether the replica then has all lines."""
         sent, shown = time.monotonic(), self._writer.shown
         lines = self._feed.lines(shown.last, may_lead=sent <= shown.fresh_until and not self._writer.is_lost)
-        ended = threading.Event()
-        self._writer.waiting.put(Received(lines, sent + self._max_age, ended))
-        ended.wait()
+        self._writer.receive(lines, sent + self._max_age)
         self._known, self._last = sent, lines.last
         return self._writer.shown.last.number >= lines.last

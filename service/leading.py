@@ -1,7 +1,7 @@
 """What replicas ask: `snapshot`, the newest one, and `lines N`, those after line N, each with its chain as JSON."""
 
 import json
-from collections.abc import Sequence
+from collections.abc import Iterator, Sequence
 from dataclasses import dataclass
 from itertools import islice
 from pathlib import Path
@@ -44,6 +44,12 @@ def _lines(journal: Journal, after: int) -> list[str]:
         raise Fault("fault gone")
     rows = [row_of(*each) for each in islice(journal.lines(after), MOST_LINES)]
     return [f"last {journal.last_number()}", *rows]
+
+
+def made_between(file: Path, after: int, last: int) -> Iterator[str]:
+    """The edits and publishes after a line of the journal, up to another one."""
+    with Journal(file, only_reads=True) as journal:
+        yield from (line.line for line, _ in islice(journal.lines(after), last - after))
 
 
 def row_of(line: Line, chain: bytes) -> str:

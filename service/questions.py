@@ -1,15 +1,16 @@
-"""The questions of a script, answered by a published tree: `check`, `why`, `show`, `list`, and the like."""
+"""The questions of a script that are answered at once, by a published tree: `check`, `why` and `show`; and tokens."""
 
 import functools
 from collections import OrderedDict
-from collections.abc import Iterator, Sequence
+from collections.abc import Sequence
 
 import hudarin
-from hudarin import KeptDescriptor, Refused, Sid, Token, Verdict, View
+from hudarin import Group, KeptDescriptor, Refused, Sid, Token, Verdict
 
+from analysis import descriptor_in
 from edits import require_paths
 from errors import Fault
-from spelling import fault_of, sid_of, spelled
+from spelling import fault_of, sid_of
 from tree import MAPPINGS
 from writer import Shown
 
@@ -42,10 +43,7 @@ class Tokens:
         return token, bits
 
     def _mask(self, word: str) -> int:
-        try:
-            bits = hudarin.mask(word)
-        except Refused:
-            raise Fault("fault mask") from None
+        bits = mask_of(word)
         if len(self._masks) == _KEPT_MASKS:
             self._masks.clear()
         if len(word) <= _MASK_LENGTH:
@@ -62,23 +60,47 @@ class Tokens:
         return token
 
 
+def mask_of(word: str) -> int:
+    try:
+        return hudarin.mask(word)
+    except Refused:
+        raise Fault("fault mask") from None
+
+
+def base_of(words: Sequence[str]) -> list[Group]:
+    """The groups that all tokens in question have."""
+    if len(words) > MOST_WORDS:
+        raise Fault("fault token")
+    return [_group(word) for word in words]
+
+
+def _group(word: str) -> Group:
+    front, mark, ending = word.partition("=")
+    if mark + ending not in _STATES:
+        raise Fault("fault token")
+    return _member(front), _STATES[mark + ending]
+
+
+def _member(word: str) -> Sid:
+    try:
+        return sid_of(word)
+    except Fault:
+        raise Fault("fault token") from None
+
+
 def _token(user: Sid, words: Sequence[str]) -> Token:
     if len(words) > MOST_WORDS:
         raise Fault("fault token")
-    groups: list[hudarin.Group] = []
+    groups: list[Group] = []
     restricting: list[Sid] = []
     privileges = 0
     for word in words:
-        front, mark, ending = word.partition("=")
-        try:
-            if word in _PRIVILEGES:
-                privileges |= _PRIVILEGES[word]
-            elif ending == "restrict":
-                restricting.append(sid_of(front))
-            else:
-                groups.append((sid_of(front), _STATES[mark + ending]))
-        except (Fault, KeyError):
-            raise Fault("fault token") from None
+        if word in _PRIVILEGES:
+            privileges |= _PRIVILEGES[word]
+        elif word.endswith("=restrict"):
+            restricting.append(_member(word.removesuffix("=restrict")))
+        else:
+            groups.append(_group(word))
     return Token(user, groups, privileges, restricting)
 
 
@@ -92,16 +114,32 @@ class Questions:
 
     def __init__(self, shown: Shown, store: str, mapping: str) -> None:
         self.shown, self.store = shown, store
-        self._tokens, self._mapping = Tokens(), MAPPINGS[mapping]
+        self.tokens, self.mapping = Tokens(), MAPPINGS[mapping]
 
-    def check(self, mask: str, words: tuple[str, ...], paths: Sequence[str]) -> str:
-        """Whether the token of the words, a user first, is granted the mask at each of the paths."""
-        shown = self.shown
+    def _token(self, mask: str, words: tuple[str, ...], paths: Sequence[str]) -> tuple[Token, int]:
+        """The token of the words, a user first, and the mask. The paths come before them."""
         try:
-            token, bits = self._tokens.parsed(mask, words)
+            return self.tokens.parsed(mask, words)
         except Fault:
-            require_paths(shown.view, paths)
+            require_paths(self.shown.view, paths)
             raise
+
+    def check(self, mask: str, words: tuple[str, ...], path: str) -> str:
+        """Whether the token of the words is granted the mask at the path."""
+        shown = self.shown
+        token, bits = self._token(mask, words, [path])
+        try:
+            verdict = shown.view.check(path, token, bits)
+        except Refused as refused:
+            if refused.status != "no node":
+                raise Fault(fault_of(refused)) from None
+            return f"seen {shown.length} nonode"
+        return f"seen {shown.length} {_verdict_text(verdict)}"
+
+    def checks(self, mask: str, words: tuple[str, ...], paths: Sequence[str]) -> str:
+        """The same at each of the paths."""
+        shown = self.shown
+        token, bits = self._token(mask, words, paths)
         try:
             verdicts = shown.view.check_all(paths, token, bits)
         except Refused as refused:
@@ -110,34 +148,14 @@ class Questions:
 
     def why(self, mask: str, words: tuple[str, ...], path: str) -> str:
         """The answer of `check`, and the lines of its reasons."""
-        said = self.check(mask, words, [path])
+        said = self.check(mask, words, path)
         if said.endswith("nonode"):
             return said
-        token, bits = self._tokens.parsed(mask, words)
+        token, bits = self.tokens.parsed(mask, words)
         with KeptDescriptor(self.shown.view.descriptor(path)) as kept:
-            explained = kept.explain(token, bits, self._mapping)
+            explained = kept.explain(token, bits, self.mapping)
         return "\n".join([said, *map(str, explained.parts)])
 
     def show(self, path: str) -> str:
         found = descriptor_in(self.shown.view, path)
         return f"seen {self.shown.length} {'nonode' if found is None else f'shown {found}'}"
-
-
-def descriptor_in(view: View, path: str) -> str | None:
-    """The descriptor of the node with the entries that it inherits, in canonical SDDL; None without a node."""
-    try:
-        return str(view.descriptor(path))
-    except Refused as refused:
-        if refused.status == "no node":
-            return None
-        raise Fault(fault_of(refused)) from None
-
-
-def listed(view: View, path: str) -> Iterator[str]:
-    """The lines of the answer to `list`: the nodes at and below the path."""
-    if descriptor_in(view, path) is None:
-        yield "nonode"
-        return
-    for node in view.nodes():
-        if path == "/" or node.path == path or node.path.startswith(path + "/"):
-            yield f"{'container' if node.is_container else 'object'} {spelled(node.path)} {view.descriptor(node.path)}"

@@ -1,32 +1,32 @@
 """The lines of a script: which command each is, and its answer by what readers see.
 
 The store has one reader, number 0, for each client. Besides the commands of a script there are `checks`, which asks for
-several paths at once, `status`, and `once KEY` before an edit or a publish, which is then made once however often it is
-sent."""
+several paths at once, `compare`, `status`, and `once KEY` before an edit or a publish, which is then made once however
+often it is sent."""
 
-from collections.abc import Callable, Sequence
+from collections.abc import Callable, Iterable, Sequence
 from dataclasses import dataclass
 
-from hudarin import View
-
-from edits import NAMES, PUBLISH
+import analysis
+from edits import NAMES, PUBLISH, require_paths
 from errors import Fault
-from questions import Questions, listed
-from spelling import number_of, path_of
-from tree import dumped
+from questions import Questions, base_of, mask_of
+from spelling import descriptor_of, number_of, path_of
 
 #: Commands that change the store: the writer answers them.
 CHANGES = NAMES | {PUBLISH}
-#: Commands whose answer ends with an empty line, also after a fault.
-OF_LINES = frozenset({"why", "list", "dump", "snapshot", "lines"})
 #: What a replica asks of its leader's journal.
 OF_JOURNAL = frozenset({"snapshot", "lines"})
+#: What the writer's tree is asked: what a publish would change.
+REVIEW = "review"
 #: The most printable ASCII characters of a key.
 _KEY_LENGTH = 100
 #: The most paths of one request: its answer delays others by a few milliseconds.
 MOST_PATHS = 1_000
-#: The most characters of one answer.
-_ANSWER_LENGTH = 1 << 28
+
+
+#: Makes an answer. Fault: there is none.
+Work = Callable[[], str]
 
 
 @dataclass(slots=True)
@@ -34,17 +34,6 @@ class Reader:
     """A client's reader: the length of the journal that it has seen or learned of."""
 
     floor: int = 0
-
-
-def words_of(line: bytes) -> list[str]:
-    """The words of a line. Fault: it isn't UTF-8, or has an empty word."""
-    try:
-        words = line.decode().split(" ")
-    except UnicodeDecodeError:
-        raise Fault("fault utf8") from None
-    if "" in words:
-        raise Fault("fault words")
-    return words
 
 
 def without_key(words: list[str]) -> tuple[str, list[str]]:
@@ -70,24 +59,33 @@ def answer(words: Sequence[str], questions: Questions, reader: Reader) -> str:
     return ask(words, questions, reader)
 
 
-def long_answer(words: Sequence[str], view: View) -> str:
-    """The answer to `list` or `dump` by a view."""
-    if len(words) > (2 if words[0] == "list" else 1):
+def long_work(words: Sequence[str], questions: Questions, reader: Reader) -> Work:
+    """What another thread does to answer a question that may take long. Fault: its first fault."""
+    least, most, prepare = _LONG_QUESTIONS[words[0]]
+    if not least <= len(words) - 1 <= most:
         raise Fault("fault words")
-    lines, length = [], 0
-    for line in dumped(view) if words[0] == "dump" else listed(view, path_of(words[1]) if words[1:] else "/"):
-        lines.append(line)
-        length += len(line)
-        if length > _ANSWER_LENGTH:
-            raise Fault("unavailable large")
-    return "\n".join(lines)
+    return prepare(words, questions, reader)
 
 
-def _by_reader(number: str, said: str, questions: Questions, reader: Reader) -> str:
+def reviewed_path(words: Sequence[str], questions: Questions) -> str:
+    """The path of a `review`."""
+    if len(words) > 2:
+        raise Fault("fault words")
+    return _path(words[1] if words[1:] else "/", questions)
+
+
+def _path(word: str, questions: Questions) -> str:
+    path = path_of(word)
+    require_paths(questions.shown.view, [path])
+    return path
+
+
+def _by_reader(number: int, said: str, questions: Questions, reader: Reader) -> str:
     """What the reader of this number is answered, if there is one: it has then seen what is published."""
-    if number.strip("0"):
+    if number != 0:
         return "noreader"
-    reader.floor = max(reader.floor, questions.shown.length)
+    if reader.floor < questions.shown.length:
+        reader.floor = questions.shown.length
     return said
 
 
@@ -106,13 +104,13 @@ def _learn(words: Sequence[str], questions: Questions, reader: Reader) -> str:
 
 
 def _check(words: Sequence[str], questions: Questions, reader: Reader) -> str:
-    number_of(words[1])
-    said = questions.check(words[4], (words[3], *words[5:]), [path_of(words[2])])
-    return _by_reader(words[1], said, questions, reader)
+    number = number_of(words[1])
+    said = questions.check(words[4], (words[3], *words[5:]), path_of(words[2]))
+    return _by_reader(number, said, questions, reader)
 
 
 def _checks(words: Sequence[str], questions: Questions, reader: Reader) -> str:
-    number_of(words[1])
+    number = number_of(words[1])
     count = number_of(words[2])
     if count > MOST_PATHS:
         raise Fault("fault paths")
@@ -120,18 +118,18 @@ def _checks(words: Sequence[str], questions: Questions, reader: Reader) -> str:
         raise Fault("fault words")
     paths = [path_of(word) for word in words[3 : 3 + count]]
     user, mask, *groups = words[3 + count :]
-    return _by_reader(words[1], questions.check(mask, (user, *groups), paths), questions, reader)
+    return _by_reader(number, questions.checks(mask, (user, *groups), paths), questions, reader)
 
 
 def _why(words: Sequence[str], questions: Questions, reader: Reader) -> str:
-    number_of(words[1])
+    number = number_of(words[1])
     said = questions.why(words[4], (words[3], *words[5:]), path_of(words[2]))
-    return _by_reader(words[1], said, questions, reader)
+    return _by_reader(number, said, questions, reader)
 
 
 def _show(words: Sequence[str], questions: Questions, reader: Reader) -> str:
-    number_of(words[1])
-    return _by_reader(words[1], questions.show(path_of(words[2])), questions, reader)
+    number = number_of(words[1])
+    return _by_reader(number, questions.show(path_of(words[2])), questions, reader)
 
 
 def _open(words: Sequence[str], questions: Questions, reader: Reader) -> str:
@@ -139,12 +137,50 @@ def _open(words: Sequence[str], questions: Questions, reader: Reader) -> str:
 
 
 def _status(words: Sequence[str], questions: Questions, reader: Reader) -> str:
-    """The store's id; the epoch, the number and the chain of the published line; and the published length."""
+    """The store's id, the epoch, the place of the published tree, and the published length."""
     shown = questions.shown
-    return f"status {questions.store} {shown.epoch} {shown.place.number} {shown.place.chain.hex()} {shown.length}"
+    return f"status {questions.store} {shown.epoch} {shown.place} {shown.length}"
+
+
+# Questions that may take long
+
+
+def _work(lines: Iterable[str]) -> Work:
+    return lambda: analysis.text_of(lines)
+
+
+def _find(words: Sequence[str], questions: Questions, reader: Reader) -> Work:
+    number = number_of(words[1])
+    shown, path = questions.shown, _path(words[2], questions)
+    token, bits = questions.tokens.parsed(words[4], (words[3], *words[5:]))
+    seen = _by_reader(number, f"seen {shown.length} ", questions, reader)
+    if not seen.startswith("seen "):
+        return lambda: seen
+    lines = analysis.found(shown.view.share(), path, token.share(), bits)
+    return lambda: seen + analysis.text_of(lines)
+
+
+def _list(words: Sequence[str], questions: Questions, reader: Reader) -> Work:
+    path = _path(words[1] if words[1:] else "/", questions)
+    return _work(analysis.listed(questions.shown.view.share(), path))
+
+
+def _dump(words: Sequence[str], questions: Questions, reader: Reader) -> Work:
+    return _work(analysis.dump(questions.shown.view.share()))
+
+
+def _who(words: Sequence[str], questions: Questions, reader: Reader) -> Work:
+    path, bits, base = _path(words[1], questions), mask_of(words[2]), base_of(words[3:])
+    return _work(analysis.granted(questions.shown.view.share(), path, bits, base, questions.mapping))
+
+
+def _compare(words: Sequence[str], questions: Questions, reader: Reader) -> Work:
+    path, new, base = _path(words[1], questions), descriptor_of(words[2]), base_of(words[3:])
+    return _work(analysis.compared(questions.shown.view.share(), path, new, base, questions.mapping))
 
 
 _Ask = Callable[[Sequence[str], Questions, Reader], str]
+_Prepare = Callable[[Sequence[str], Questions, Reader], Work]
 _MOST = 1 << 20
 #: The least and the most arguments of a question, and its answer.
 _QUESTIONS: dict[str, tuple[int, int, _Ask]] = {
@@ -159,3 +195,15 @@ _QUESTIONS: dict[str, tuple[int, int, _Ask]] = {
 }
 #: Another word is no command.
 _UNKNOWN = (1, 0, _open)
+#: The same of those that may take long.
+_LONG_QUESTIONS: dict[str, tuple[int, int, _Prepare]] = {
+    "find": (4, _MOST, _find),
+    "list": (0, 1, _list),
+    "dump": (0, 0, _dump),
+    "who": (2, _MOST, _who),
+    "compare": (2, _MOST, _compare),
+}
+#: Commands that another thread answers.
+LONG = OF_JOURNAL | _LONG_QUESTIONS.keys() | {REVIEW}
+#: Commands whose answer ends with an empty line, also after a fault.
+OF_LINES = LONG | {"why"}

@@ -12,8 +12,7 @@ from collections.abc import Callable, Sequence
 from concurrent.futures import ThreadPoolExecutor
 from dataclasses import dataclass
 
-from hudarin import View
-
+import analysis
 import leading
 import script
 from config import ROLES, Config
@@ -117,14 +116,13 @@ class Service:
         if self._logs_denials and ("denied" in said or "reserved" in said):
             self.log.event("denial", who=caller.who, asked=" ".join(words), answer=said)
 
-    async def long_answer(self, words: Sequence[str], caller: Caller) -> str:
-        """The answer to `list`, `dump` or a replica, made in another thread."""
-        try:
-            work = self._long_work(words, caller)
-        except Fault as fault:
-            return fault.answer
+    async def long_answer(self, words: Sequence[str], caller: Caller, reader: script.Reader) -> str:
+        """The answer to a question that may take long, or to a replica, made in another thread."""
+        if self._long_answers >= 4 * self.limits.long_answers:
+            return "unavailable busy"
         self._long_answers += 1
         try:
+            work = await self._review(words, caller) if words[0] == script.REVIEW else self._work(words, caller, reader)
             return await self._loop.run_in_executor(self._pool, work)
         except Fault as fault:
             return fault.answer
@@ -136,16 +134,24 @@ class Service:
         finally:
             self._long_answers -= 1
 
-    def _long_work(self, words: Sequence[str], caller: Caller) -> Callable[[], str]:
-        """What the other thread does."""
-        if self._long_answers >= 4 * self.limits.long_answers:
-            raise Fault("unavailable busy")
+    def _work(self, words: Sequence[str], caller: Caller, reader: script.Reader) -> script.Work:
         if words[0] in script.OF_JOURNAL:
             caller.require("follow")
             return functools.partial(leading.answer, self._journal.file, words)
         caller.require("check")
         self.require_fresh()
-        return functools.partial(_long_answer, words, self.shown.view.share())
+        return script.long_work(words, self._questions, reader)
+
+    async def _review(self, words: Sequence[str], caller: Caller) -> script.Work:
+        caller.require("check")
+        self.require_fresh()
+        path = script.reviewed_path(words, self._questions)
+        if self.is_stopping:
+            raise Fault("unavailable stopping")
+        pending, between = await asyncio.wrap_future(self._writer.look())
+        lines = leading.made_between(self._journal.file, *between)
+        reviewed = analysis.reviewed(pending, lines, path, self._questions.mapping)
+        return lambda: analysis.text_of(reviewed)
 
     def require_fresh(self) -> None:
         """Fault: a replica, which doesn't know enough of its leader."""
@@ -196,7 +202,7 @@ class Service:
                 self.metrics.publishes += 1
             else:
                 self.metrics.edits[_label(task.answer)] += 1
-            self._loop.call_soon(task.reply, task)
+            task.reply(task)
 
     async def stop(self) -> None:
         """Takes no more edits, and returns once those in progress are answered and the journal is at rest."""
@@ -222,11 +228,6 @@ class Service:
             "journal_bytes": self._journal.bytes_on_disk(),
             "journal_age_seconds": seconds_since(shown.time) if shown.time else 0,
         })
-
-
-def _long_answer(words: Sequence[str], view: View) -> str:
-    with view:
-        return script.long_answer(words, view)
 
 
 def _label(answer: str) -> str:

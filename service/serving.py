@@ -6,6 +6,7 @@ import os
 import resource
 import signal
 import socket
+import sys
 import time
 from pathlib import Path
 from typing import Any
@@ -24,6 +25,8 @@ from stores import make, opened
 _DRAIN_SECONDS = 5
 #: Files besides those of connections.
 _OTHER_FILES = 64
+#: A thread that computes lets another one go on after so many seconds: a check waits for that up to three times.
+_SWITCH_SECONDS = 0.0005
 
 
 def serve(file: Path) -> int:
@@ -31,6 +34,7 @@ def serve(file: Path) -> int:
     config = read_config(file)
     log = Log()
     _raise_limit(config.limits.connections + _OTHER_FILES)
+    sys.setswitchinterval(_SWITCH_SECONDS)
     began = time.monotonic()
     if config.source is not None and not (config.folder / DATABASE).exists():
         make(config.folder, *fetch(config.source))

@@ -1,5 +1,6 @@
 """The words of a line: paths spelled by `%` as `sdstore --percent` has them, and descriptors in canonical SDDL."""
 
+import functools
 from urllib.parse import quote_from_bytes, unquote_to_bytes
 
 from hudarin import Descriptor, Refused, Sid
@@ -10,11 +11,14 @@ from errors import Fault
 _SAFE = "".join(map(chr, range(0x21, 0x7F))).replace("%", "")
 #: A number of a line is below this.
 _NUMBERS = 1 << 64
+#: Descriptors and their texts are kept, as a tree has many nodes of one descriptor: so many, and each so long at most.
+_KEPT, _KEPT_LENGTH = 4096, 256
 
 
 def spelled(path: str) -> str:
     """The path as one word of a line."""
-    return quote_from_bytes(path.encode(), safe=_SAFE)
+    is_plain = path.isascii() and path.isprintable() and " " not in path and "%" not in path
+    return path if is_plain else quote_from_bytes(path.encode(), safe=_SAFE)
 
 
 def path_of(word: str) -> str:
@@ -32,18 +36,32 @@ def path_of(word: str) -> str:
 
 def descriptor_of(word: str) -> Descriptor:
     """The descriptor that a word spells."""
+    return _kept_descriptor(word) if len(word) <= _KEPT_LENGTH else _descriptor(word)
+
+
+def _descriptor(word: str) -> Descriptor:
     try:
         return Descriptor.from_sddl(word)
     except Refused as refused:
         raise Fault(fault_of(refused)) from None
 
 
+_kept_descriptor = functools.lru_cache(_KEPT)(_descriptor)
+
+
 def printed(descriptor: Descriptor) -> str:
     """The canonical text, which parses to the same bytes. Fault: it doesn't."""
+    return _kept_text(descriptor) if len(bytes(descriptor)) <= _KEPT_LENGTH else _text(descriptor)
+
+
+def _text(descriptor: Descriptor) -> str:
     text = str(descriptor)
     if Descriptor.from_sddl(text) != descriptor:
         raise Fault("fault parts")
     return text
+
+
+_kept_text = functools.lru_cache(_KEPT)(_text)
 
 
 def sid_of(word: str) -> Sid:
@@ -56,10 +74,12 @@ def sid_of(word: str) -> Sid:
 
 def number_of(word: str) -> int:
     """The number that a word spells in decimal digits. Fault: none below 2^64."""
-    digits = word.lstrip("0")
-    if not word or not word.isascii() or not (digits or "0").isdigit() or len(digits) > 20 or int(word) >= _NUMBERS:
+    if word == "0":
+        return 0
+    digits = word.lstrip("0") or word[-1:]
+    if not (word.isascii() and word.isdigit()) or len(digits) > 20 or int(digits) >= _NUMBERS:
         raise Fault("fault number")
-    return int(word)
+    return int(digits)
 
 
 def fault_of(refused: Refused) -> str:

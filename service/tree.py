@@ -9,7 +9,8 @@ from edits import PUBLISH, Edit, edit_of
 from errors import Fault, Mismatch
 from spelling import descriptor_of, fault_of, printed, spelled
 
-MAPPINGS = {
+Mapping = tuple[int, int, int, int]
+MAPPINGS: dict[str, Mapping] = {
     "file": hudarin.FILES,
     "key": hudarin.KEYS,
     "service": hudarin.SERVICES,
@@ -35,10 +36,19 @@ class Tree:
         old, self.view = self.view, self._store.publish()
         return old
 
+    def pending_view(self) -> View:
+        """The tree with all pending edits, of which none is published by that."""
+        return self._store.publish()
+
     @property
     def length(self) -> int:
         """The number of published edits."""
         return self._before + len(self.view)
+
+    @property
+    def pending_length(self) -> int:
+        """The same with the pending ones."""
+        return self._before + len(self._store)
 
     @property
     def has_pending(self) -> bool:

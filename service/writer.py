@@ -3,6 +3,7 @@
 Edits that arrive during a commit share the next one. A new epoch starts in the background: a snapshot of the published
 tree is made and compared, and the store goes on in one built of it, whose journal is short again."""
 
+import functools
 import math
 import os
 import queue
@@ -11,10 +12,12 @@ import threading
 import time
 from collections import deque
 from collections.abc import Callable
+from concurrent.futures import Future
 from dataclasses import dataclass, field, replace
 
 from hudarin import View
 
+from analysis import Pending
 from edits import Edit
 from entry import Line, Place, Snapshot
 from errors import Fault, Mismatch, ServiceError
@@ -70,22 +73,8 @@ class Batch:
     by_key: dict[str, Line] = field(default_factory=dict)
 
 
-@dataclass(frozen=True, slots=True)
-class Received:
-    """Lines of a replica's source, and until when it may answer by them if these are all."""
-
-    following: Lines
-    fresh_until: float
-    #: Set once the lines are on disk, or can't be.
-    ended: threading.Event
-
-
-@dataclass(frozen=True, slots=True)
-class NextEpoch:
-    """A snapshot, and the tree that was built of it and compared with the published one."""
-
-    snapshot: Snapshot
-    tree: Tree
+#: What is pending, and the numbers of the published line and of the last one.
+Look = tuple[Pending, tuple[int, int]]
 
 
 @dataclass
@@ -105,7 +94,7 @@ class Writer:
     fresh_until: float = math.inf
     #: Of a service that leads by a lease: each line has to be there before it is in the journal.
     stream: Stream | None = None
-    waiting: "queue.SimpleQueue[Task | NextEpoch | Received | None]" = field(default_factory=queue.SimpleQueue)
+    waiting: "queue.SimpleQueue[Task | Callable[[], None] | None]" = field(default_factory=queue.SimpleQueue)
     #: Why nothing more is served: the source's lines aren't those of this store.
     failure: Mismatch | None = None
     #: Views that no reader uses any more: the thread closes them.
@@ -126,6 +115,25 @@ class Writer:
 
     def put(self, task: Task) -> None:
         self.waiting.put(task)
+
+    def receive(self, following: Lines, fresh_until: float) -> None:
+        """Has the lines of a replica's source made, and returns once they are on disk, or can't be. Until then it may
+        answer by them if these are all."""
+        ended = threading.Event()
+
+        def work() -> None:
+            self._receive(following, fresh_until)
+            self._answer([])
+            ended.set()
+
+        self.waiting.put(work)
+        ended.wait()
+
+    def look(self) -> "Future[Look]":
+        """The published tree beside that of all edits that are on disk."""
+        found: Future[Look] = Future()
+        self.waiting.put(functools.partial(self._look, found))
+        return found
 
     def stop(self) -> None:
         """Returns once all that was put is answered."""
@@ -161,10 +169,7 @@ class Writer:
             self._carry_out(tasks)
             self._answer(tasks)
         if other is not None:
-            self._begin(other) if isinstance(other, NextEpoch) else self._receive(other)
-            self._answer([])
-        if isinstance(other, Received):
-            other.ended.set()
+            other()
         if not is_last:
             self._make_epoch_if_due()
         return not is_last
@@ -177,8 +182,8 @@ class Writer:
             self.shown = self._show()
         self.done(tasks, self.shown)
 
-    def _take(self) -> tuple[list[Task], NextEpoch | Received | None, bool]:
-        """Waits for a task, and takes those that wait with it, up to another item or the end."""
+    def _take(self) -> tuple[list[Task], Callable[[], None] | None, bool]:
+        """Waits for a task, and takes those that wait with it, up to other work or the end."""
         tasks: list[Task] = []
         item = self.waiting.get()
         while isinstance(item, Task):
@@ -279,16 +284,27 @@ class Writer:
         self._drop(old.view)
         old.close_store()
 
+    def _look(self, found: "Future[Look]") -> None:
+        shown, tree = self.shown, self.state.tree
+        if not found.set_running_or_notify_cancel():
+            return
+        try:
+            if self.is_lost:
+                raise Fault(UNAVAILABLE)
+            pending = Pending(shown.view.share(), tree.pending_view(), shown.length, tree.pending_length)
+            found.set_result((pending, (shown.place.number, shown.last.number)))
+        except (Fault, MemoryError) as error:
+            found.set_exception(error)
+
     # Of a replica
 
-    def _receive(self, received: Received) -> None:
+    def _receive(self, following: Lines, fresh_until: float) -> None:
         """Makes the next lines, and commits them."""
         try:
             if self.is_lost:
                 # They are asked for again.
                 self._reload()
                 return
-            following = received.following
             # What it has appended itself since it asked is there too.
             lines = [each for each in following.lines if each[0].number > self.state.last.number]
             for line, chain in lines:
@@ -299,7 +315,7 @@ class Writer:
             has_all = self.state.last.number >= following.last
             self.leads = following.leads and has_all
             if has_all:
-                self.fresh_until = received.fresh_until
+                self.fresh_until = fresh_until
         except Mismatch as mismatch:
             self.is_lost, self.failure, self.leads, self.fresh_until = True, mismatch, False, -math.inf
         except (sqlite3.Error, OSError, ServiceError, MemoryError) as error:
@@ -337,29 +353,35 @@ class Writer:
             self.warn(f"no new epoch: {error}")
             self._maker = None
             return
-        self.waiting.put(NextEpoch(Snapshot(shown.epoch + 1, shown.place, shown.length, lines), tree))
+        snapshot = Snapshot(shown.epoch + 1, shown.place, shown.length, lines)
+        self.waiting.put(functools.partial(self._begin, snapshot, tree))
 
-    def _begin(self, made: NextEpoch) -> None:
-        """Commits the snapshot and goes on in its tree, after the lines that came meanwhile."""
+    def _begin(self, snapshot: Snapshot, tree: Tree) -> None:
+        """Goes on in the tree that was built of the snapshot and compared with the published one."""
         self._maker = None
-        state, place = self.state, made.snapshot.place
-        following = Loaded(made.tree, made.snapshot.epoch, place, place, place.number)
+        self._start_epoch(snapshot, tree)
+        self._answer([])
+
+    def _start_epoch(self, snapshot: Snapshot, tree: Tree) -> None:
+        """Commits the snapshot, and makes the lines that came meanwhile in its tree."""
+        state, place = self.state, snapshot.place
+        following = Loaded(tree, snapshot.epoch, place, place, place.number)
         try:
             for line, chain in self.journal.lines(place.number):
                 following.replay(line, chain)
             if following.last != state.last:
                 raise ServiceError(f"the journal ends at line {following.last.number}, not {state.last.number}")
-            self.journal.start_epoch(made.snapshot, state.last.number)
+            self.journal.start_epoch(snapshot, state.last.number)
         except (sqlite3.Error, OSError, ServiceError, MemoryError) as error:
             # It may be on disk all the same, so the journal is read again.
             self.is_lost = True
             self.warn(f"no new epoch: {error}")
-            made.tree.close()
+            tree.close()
             return
         following.time = state.time
         self._go_on_in(following)
         if self.stream is not None and self.leads:
             try:
-                self.stream.renew(self.journal, made.snapshot)
+                self.stream.renew(self.journal, snapshot)
             except (OSError, ServiceError) as error:
                 self.warn(f"no new snapshot for replicas: {error}")

@@ -23,7 +23,7 @@ import ssl
 import threading
 import time
 from typing import Any, Generator, List, NamedTuple, Optional, Sequence, Tuple, TypeVar, Union
-from urllib.parse import quote_from_bytes
+from urllib.parse import quote_from_bytes, unquote
 
 __all__ = ["AsyncClient", "Behind", "Client", "OtherStore", "Rejected", "Unavailable", "Verdict"]
 
@@ -34,7 +34,9 @@ Where = Union[_Place, List[str], List[Tuple[str, int]]]
 
 _SAFE = "".join(map(chr, range(0x21, 0x7F))).replace("%", "")
 _PATHS = {"move": 2, "list": 1, "addc": 1, "addo": 1, "owner": 1, "group": 1, "dacl": 1, "remove": 1, "protect": 1}
-_OF_LINES = ("why", "list", "dump", "snapshot", "lines")
+_OF_LINES = ("why", "find", "list", "dump", "who", "compare", "review", "snapshot", "lines")
+#: The mask of all rights.
+_ALL = "0x02000000"
 _PAUSE = 0.05
 
 
@@ -194,6 +196,15 @@ class _Words:
         said = (yield from self._asked("show", "0", _spelled(path)))[0].split(" ")
         return said[3] if said[2] == "shown" else None
 
+    def _find(self, path: str, user: str, mask: str, groups: Sequence[str]) -> _Talk[Optional[List[str]]]:
+        lines = yield from self._asked("find", "0", _spelled(path), user, mask, *groups)
+        return None if lines[0].endswith(" nonode") else [unquote(line) for line in lines[1:]]
+
+    def _of_node(self, command: str, path: str, *words: str) -> _Talk[Optional[List[str]]]:
+        """The lines of an answer about a node, without the one that says that there are none."""
+        lines = yield from self._asked(command, _spelled(path), *words)
+        return None if lines == ["nonode"] else [line for line in lines if line not in ("empty", "same")]
+
 
 def _word(word: str) -> str:
     """The text, if it is exactly one word of a line."""
@@ -257,6 +268,25 @@ class Client(_Words):
     def show(self, path: str) -> Optional[str]:
         """The descriptor of the path's node with the entries that it inherits, in SDDL; None without a node."""
         return self._run(self._show(path))
+
+    def find(self, path: str, user: str, mask: str, groups: Sequence[str] = ()) -> Optional[List[str]]:
+        """The paths of the nodes at and below the path that grant the mask; None without a node."""
+        return self._run(self._find(path, user, mask, groups))
+
+    def who(self, path: str, mask: str = _ALL, base: Sequence[str] = ()) -> Optional[List[str]]:
+        """Whom the node grants which rights of the mask, of all users with the groups of the base: the lines of
+        `sdstore who`; None without a node."""
+        return self._run(self._of_node("who", path, mask, *base))
+
+    def compare(self, path: str, descriptor: str, base: Sequence[str] = ()) -> Optional[List[str]]:
+        """What such users gain and lose if the descriptor takes the place of the node's: the lines of `sdstore
+        compare`, or none; None without a node."""
+        return self._run(self._of_node("compare", path, descriptor, *base))
+
+    def review(self, path: str = "/") -> Optional[List[str]]:
+        """What a publish would change at and below the path: the lines of `review`, the last of which has the lengths
+        of the two journals; None without a node."""
+        return self._run(self._of_node("review", path))
 
     def lines(self, command: str, *words: str) -> List[str]:
         """The lines of the answer to any other question, as `lines("list", "/")`."""
@@ -359,6 +389,18 @@ class AsyncClient(_Words):
 
     async def show(self, path: str) -> Optional[str]:
         return await self._run(self._show(path))
+
+    async def find(self, path: str, user: str, mask: str, groups: Sequence[str] = ()) -> Optional[List[str]]:
+        return await self._run(self._find(path, user, mask, groups))
+
+    async def who(self, path: str, mask: str = _ALL, base: Sequence[str] = ()) -> Optional[List[str]]:
+        return await self._run(self._of_node("who", path, mask, *base))
+
+    async def compare(self, path: str, descriptor: str, base: Sequence[str] = ()) -> Optional[List[str]]:
+        return await self._run(self._of_node("compare", path, descriptor, *base))
+
+    async def review(self, path: str = "/") -> Optional[List[str]]:
+        return await self._run(self._of_node("review", path))
 
     async def lines(self, command: str, *words: str) -> List[str]:
         return await self._run(self._asked(command, *words))

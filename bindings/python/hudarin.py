@@ -19,6 +19,7 @@ finds.
 """
 
 import ctypes
+import functools
 import itertools
 import os
 import re
@@ -161,7 +162,8 @@ class _Verdict(ctypes.Structure):
 
 
 class _ViewVerdict(ctypes.Structure):
-    _fields_ = [("answer", _Verdict), ("length", _U64)]
+    # Its answer is here field by field: to take a structure out of another takes as long as a check.
+    _fields_ = [*_Verdict._fields_, ("length", _U64)]
 
 
 class _Finding(ctypes.Structure):
@@ -305,7 +307,7 @@ def _load() -> ctypes.CDLL:
 
 _library = _load()
 
-# The same call without leaving Python's lock in between, of which many calls in a row would lose their turn each.
+# The same call without leaving Python's lock: it takes less than to leave that, and to wait for the next turn.
 _view_check = ctypes.PyDLL(_library._name, handle=_library._handle).hudarin_view_check
 _view_check.argtypes, _view_check.restype = _library.hudarin_view_check.argtypes, _ViewVerdict
 
@@ -525,8 +527,13 @@ class Explanation(NamedTuple):
         return "\n".join(str(line) for line in (self.verdict, *self.parts))
 
 
+@functools.lru_cache(1024)
+def _verdict_of(kind: int, mask: int) -> Verdict:
+    return Verdict(VERDICTS[kind], mask)
+
+
 def _verdict(answer: Any) -> Verdict:
-    return Verdict(VERDICTS[answer.kind], answer.mask)
+    return _verdict_of(answer.kind, answer.mask)
 
 
 def _entry(finding: Any) -> Optional[int]:
@@ -1081,8 +1088,8 @@ class View(_Held):
         _of_type(token, Token, "token")
         bits = _mask(asked, "asked")
         with self._turn, token._turn:
-            checked = _library.hudarin_view_check(self._kept, given, len(given), token._kept, bits)
-        return _verdict(_checked(checked.answer))
+            checked = _view_check(self._kept, given, len(given), token._kept, bits)
+        return _verdict(_checked(checked))
 
     def check_all(self, paths: Iterable[str], token: Token, asked: Mask = 0) -> List[Optional[Verdict]]:
         """The same for the node of each path, faster than one by one. None where there is no such node."""
@@ -1091,8 +1098,8 @@ class View(_Held):
             raise TypeError(f"paths: expected paths, not {paths!r}")
         given, bits = [_text(path) for path in paths], _mask(asked, "asked")
         with self._turn, token._turn:
-            held = self._kept, token._kept
-            answers = [_view_check(held[0], path, len(path), held[1], bits).answer for path in given]
+            view, kept = self._kept, token._kept
+            answers = [_view_check(view, path, len(path), kept, bits) for path in given]
         return [None if answer.status == _NO_NODE else _verdict(_checked(answer)) for answer in answers]
 
     def descriptor(self, path: str) -> Descriptor:
@@ -1112,8 +1119,8 @@ class View(_Held):
                 argument=lambda written: self._argument if written.status == _HANDLE else "path",
             )
 
-    def nodes(self) -> Iterator[Node]:
-        """Each node, in the order of the paths: the root first, and each node after its parent."""
+    def paths(self) -> Iterator[str]:
+        """The path of each node, in their order: the root's first, and each after its parent's."""
         for place in itertools.count():
             try:
                 path = self._path_at(place)
@@ -1121,7 +1128,11 @@ class View(_Held):
                 if refused.status == STATUSES[_NO_NODE]:
                     return
                 raise
-            yield self.own(path.decode())
+            yield path.decode()
+
+    def nodes(self) -> Iterator[Node]:
+        """Each node, in the order of the paths."""
+        return map(self.own, self.paths())
 
     def _path_at(self, place: int) -> bytes:
         with self._turn:

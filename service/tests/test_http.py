@@ -89,7 +89,22 @@ class Http(rig.Case):
         self.assertEqual([each["path"] for each in self.ask("/v1/list", {})[1]["nodes"]], ["/", "/d", "/d/é"])
         kinds = [each["kind"] for each in self.ask("/v1/list", {"path": "/d"})[1]["nodes"]]
         self.assertEqual(kinds, ["container", "object"])
-        self.assertEqual(self.ask("/v1/publish", {})[1]["answers"], [{"answer": "published 5", "line": 0}])
+        said = self.ask("/v1/find", {"user": rig.USER, "groups": ["BU"], "mask": "FA"})[1]
+        self.assertEqual((said["seen"], said["paths"]), (5, ["/d/é"]))
+        self.assertEqual(self.ask("/v1/who", {"path": "/d", "mask": "FR"})[1]["accesses"],
+                         ["0x120089 to S-1-5-32-545", "0x20000 to S-1-5-32-544 as the owner"])
+        self.assertEqual(len(self.ask("/v1/who", {"path": "/d"})[1]["accesses"]), 3)
+        self.assertEqual(self.ask("/v1/who", {"path": "/d", "mask": "0"})[1]["accesses"], [])
+        change = {"path": "/", "descriptor": "O:BAG:SYD:(A;;FA;;;BU)"}
+        self.assertEqual(self.ask("/v1/compare", change)[1]["changes"], ["gained 0xd0176 by S-1-5-32-545"])
+        self.assertEqual(self.ask("/v1/compare", change | {"groups": ["BU=deny"]})[1]["changes"],
+                         ["gained 0xd0176 by S-1-5-32-545"])
+        self.assertEqual(self.ask("/v1/compare", change | {"descriptor": "O:BAD:(A;;FR;;;BU)"})[1]["changes"], [])
+        self.assertEqual(self.ask("/v1/edit", {"edits": [{"edit": "remove", "path": "/d/é"}]})[1]["seen"], 5)
+        said = self.ask("/v1/review", {"path": "/d"})[1]
+        self.assertEqual((said["seen"], said["pending"], said["changes"]), (5, 6, ["gone /d/%C3%A9"]))
+        self.assertEqual(self.ask("/v1/publish", {})[1]["answers"][0]["answer"], "published 6")
+        self.assertEqual(self.ask("/v1/publish", {})[1]["answers"], [{"answer": "published 6", "line": 0}])
         status, body = self.curl("/v1/status")
         schema = API["paths"]["/v1/status"]["get"]["responses"]["200"]["content"]["application/json"]["schema"]
         self.assertTrue(status == 200 and fits(json.loads(body), schema), body)
@@ -126,6 +141,17 @@ class Http(rig.Case):
             ("/v1/show", {"path": ""}, 400, "path"),
             ("/v1/list", {"path": "/none"}, 404, "nonode"),
             ("/v1/list", {"path": "none"}, 400, "path"),
+            ("/v1/find", {"user": rig.USER, "mask": "FR", "path": "/none"}, 404, "nonode"),
+            ("/v1/find", {"user": rig.USER, "mask": "QQ"}, 400, "mask"),
+            ("/v1/find", {"user": rig.USER, "mask": "FR", "seen": 9}, 409, "nonotice"),
+            ("/v1/who", {"path": "/none"}, 404, "nonode"),
+            ("/v1/who", {"path": "/", "groups": ["BU=restrict"]}, 400, "token"),
+            ("/v1/who", {"path": "/", "user": rig.USER}, 400, "'user'"),
+            ("/v1/compare", {"path": "/none", "descriptor": "D:"}, 404, "nonode"),
+            ("/v1/compare", {"path": "/"}, 400, "descriptor"),
+            ("/v1/compare", {"path": "/", "descriptor": "X"}, 400, "sddl 1 Syntax at 0"),
+            ("/v1/review", {"path": "/none"}, 404, "nonode"),
+            ("/v1/review", {"path": "none"}, 400, "path"),
         ):
             with self.subTest(given=str(given)[:80]):
                 self.assertEqual(self.ask(target, given), (status, {"fault": fault}))

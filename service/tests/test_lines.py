@@ -40,7 +40,8 @@ class Chance(random.Random):
     def line(self) -> str:
         command = self.choice(
             ("addc", "addo", "addo", "owner", "group", "dacl", "remove", "protect", "move", "publish", "publish",
-             "tell", "learn", "check", "check", "check", "why", "why", "show", "list", "dump", "open", "frob", "")
+             "tell", "learn", "check", "check", "check", "why", "why", "find", "find", "show", "list", "dump", "who",
+             "review", "review", "open", "frob", "")
         )
         reader = self.choice(("0",) * 12 + ("1", "x", "00", "18446744073709551616"))
         user, mask = self.choice(SIDS), self.choice(RIGHTS)
@@ -52,6 +53,8 @@ class Chance(random.Random):
             "remove": [self.path()], "protect": [self.path()], "move": [self.path(), self.path()],
             "learn": [reader, str(self.randrange(60))],
             "check": [reader, self.path(), user, mask, *groups], "why": [reader, self.path(), user, mask, *groups],
+            "find": [reader, self.path(), user, mask, *groups], "who": [self.path(), mask, *groups],
+            "review": [] if self.random() < 0.5 else [self.path()],
             "show": [reader, self.path()], "list": [] if self.random() < 0.5 else [self.path()],
             "open": ["1", "O:BAG:SYD:"],
         }.get(command, [])
@@ -72,7 +75,7 @@ class SameAnswers(rig.Case):
         chance = Chance(54)
         lines = [f"i{at} {chance.line()}\n".encode() for at in range(4000)]
         lines[100:100] = [b"#x\n", b"\n", b"7\n", b"8 \n", b"9 tell\xff\n", b"\xef\xbb\xbf1 tell\n", b" why\n",
-                          b"why list /\n", b"1\ttell\n", b"2 tell\r\n", b"open tell\n", b"3  tell\n", b"4 # tell\n",
+                          b"why list /\n", b"5 find\n", b"6 who /\n", b"1\ttell\n", b"2 tell\r\n", b"open tell\n", b"3  tell\n", b"4 # tell\n",
                           b"\xc3\xa9 tell\n"]
         given = b"".join(lines)
         opening = b"o open 1 O:BAG:SYD:(A;OICI;FR;;;BU)\n"

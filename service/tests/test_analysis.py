@@ -1,0 +1,114 @@
+"""Who can, what a change opens, and what a publish would change: as the pages' tables and the proved program have it."""
+
+import asyncio
+import re
+import unittest
+from collections.abc import Iterator
+
+import rig
+
+from client import AsyncClient, Client, Rejected
+
+PAGES = rig.TOP / "docs"
+
+
+def rows(page: str, heading: str) -> Iterator[tuple[str, str, list[str], list[str]]]:
+    """The rows of four columns below a heading: two texts, groups, and lines."""
+    text = (PAGES / page).read_text().partition(f"\n## {heading}\n")[2].partition("\n## ")[0]
+    for row in text.splitlines():
+        cells = [cell.strip() for cell in row.strip("|").split("|")]
+        if len(cells) == 4 and cells[0].startswith("`"):
+            yield cells[0].strip("`"), cells[1].strip("`"), cells[2].split(), re.findall(r"`([^`]*)`", cells[3])
+
+
+def is_canonical(descriptor: str) -> bool:
+    """Whether no deny is after an allow: a tree refuses others."""
+    return "D" not in "".join(re.findall(r"\(([AD]);", descriptor)).lstrip("D")
+
+
+class Analysis(rig.Case):
+    def answers(self, command: str, heading: str) -> int:
+        """The rows of docs/ANALYSIS.md are answered, each by a node of its first descriptor. Returns how many."""
+        found = [row for row in rows("ANALYSIS.md", heading) if re.match("O:.*G:.*D:", row[0]) and is_canonical(row[0])]
+        self.make("open 1 O:BAG:SYD:\npublish\n")
+        self.start()
+        with Client(str(self.lines), timeout=rig.PATIENCE) as client:
+            for at, row in enumerate(found):
+                client.edit("addo", f"/{at}", row[0])
+            client.publish()
+            for at, (descriptor, asked, base, wanted) in enumerate(found):
+                with self.subTest(descriptor=descriptor, asked=asked):
+                    self.assertEqual(client.lines(command, f"/{at}", asked, *base), wanted)
+        return len(found)
+
+    def test_who(self) -> None:
+        self.assertGreater(self.answers("who", "Who"), 9)
+
+    def test_compare(self) -> None:
+        self.assertGreater(self.answers("compare", "Compare"), 9)
+
+    def test_faults(self) -> None:
+        self.make()
+        self.start()
+        with Client(str(self.lines), timeout=rig.PATIENCE) as client:
+            for words, fault in (
+                (("find", "0", "/", rig.USER), "fault words"),
+                (("find", "x", "a", "QQ", "QQ"), "fault number"),
+                (("find", "0", "a", "QQ", "QQ"), "fault path"),
+                (("find", "0", "/", "QQ", "QQ"), "fault sid"),
+                (("find", "0", "/", rig.USER, "QQ", "x"), "fault mask"),
+                (("find", "0", "/", rig.USER, "FR", "x"), "fault token"),
+                (("find", "1", "/", rig.USER, "FR"), "noreader"),
+                (("who", "/"), "fault words"),
+                (("who", "a", "QQ"), "fault path"),
+                (("who", "/", "QQ", "x"), "fault mask"),
+                (("who", "/", "FR", "+take"), "fault token"),
+                (("compare", "/"), "fault words"),
+                (("compare", "a", "X"), "fault path"),
+                (("compare", "/", "X", "x"), "fault sddl 1 Syntax at 0"),
+                (("compare", "/", "D:", "BU=restrict"), "fault token"),
+                (("review", "/", "/"), "fault words"),
+                (("review", "a"), "fault path"),
+            ):
+                with self.subTest(words=words), self.assertRaises(Rejected) as rejected:
+                    client.lines(*words)
+                self.assertEqual(str(rejected.exception), fault)
+            self.assertEqual([client.find("/x", rig.USER, "FR"), client.who("/x"), client.compare("/x", "D:"),
+                              client.review("/x")], [None] * 4)
+
+    def test_of_the_clients(self) -> None:
+        self.make()
+        self.start()
+        with Client(str(self.lines), timeout=rig.PATIENCE) as client:
+            client.edit("addc", "/a b", "O:BAG:SYD:")
+            client.edit("addo", "/a b/nonode", "O:BAG:SYD:P(A;;FW;;;BU)")
+            self.assertEqual(client.review("/a b"), ["new /a%20b", "new /a%20b/nonode", "reviewed 0 2"])
+            client.publish()
+            self.assertEqual(client.review(), ["reviewed 2 2"])
+            self.assertEqual(client.find("/", rig.USER, "FR", ["BU"]), ["/", "/a b"])
+            self.assertEqual(client.find("/a b", rig.USER, "FW", ["BU"]), ["/a b/nonode"])
+            self.assertEqual(client.find("/a b", rig.USER, "FA", ["BU"]), [])
+            self.assertEqual(client.who("/a b/nonode", "0x2"), ["0x2 to S-1-5-32-545"])
+            self.assertEqual(client.who("/", "0"), [])
+            self.assertEqual(client.compare("/", "O:BAG:SYD:(A;OICI;FR;;;BU)"), [])
+            client.edit("move", "/a b/nonode", "/x")
+            client.edit("dacl", "/a b", "D:(A;;0x2;;;BU)")
+            changes = ["/a%20b gained 0x2 by S-1-5-32-545", "moved /a%20b/nonode /x", "gone /a%20b/nonode"]
+            self.assertEqual(client.review(), [*changes, "reviewed 2 4"])
+            self.kill()
+            self.start()
+            self.assertEqual(client.review(), [*changes, "reviewed 2 4"])
+
+        async def asked() -> None:
+            async with AsyncClient(str(self.lines), timeout=rig.PATIENCE) as client:
+                self.assertEqual(await client.review("/x"), ["moved /a%20b/nonode /x", "reviewed 2 4"])
+                self.assertEqual(await client.find("/", rig.USER, "FW", ["BU"]), ["/a b/nonode"])
+                self.assertEqual(await client.who("/a b", "0x1"), ["0x1 to S-1-5-32-545"])
+                self.assertEqual(await client.compare("/a b", "O:BAG:SYD:"),
+                                 ["lost 0x120089 by S-1-5-32-545"])
+
+        asyncio.run(asked())
+
+
+if __name__ == "__main__":
+    unittest.main()
