@@ -1,12 +1,13 @@
 //! Nodes that stand beside one, among which what it inherits may be found before it is built.
 
-ghost use Rattle.std.specs.Prelude.{◌≡◌, ◌<◌, ◌≤◌, length, true, false, IfSome};
+ghost use Rattle.std.specs.Prelude.{◌≡◌, ◌<◌, ◌≤◌, length, slice_index_or, true, false, IfSome};
 ghost use Rattle.sd_path.specs.Names.{is_root};
 ghost use Rattle.sd_tree.specs.Sharing.{trustees_matter, IsSibling};
 ghost use Rattle.sd_tree.specs.View.{IsView};
+ghost use Rattle.sd_tree.specs.declared.node.Node.{Node};
 
 use crate::alike::{are_alike, inherits, trustees_matter};
-use crate::node::Row;
+use crate::node::{Node, Row};
 use crate::nodes::locate;
 use crate::tree_view::TreeView;
 use crate::whole::WholeDacl;
@@ -26,12 +27,13 @@ impl TreeView<'_> {
         above: &WholeDacl,
         by_trustees: bool,
         at: usize,
+        node: &Node,
     ) -> bool
         requires place { at < length self.now.nodes.now }
+        requires node { (n : Node) → node.now ≡ slice_index_or self.now.nodes.now at n }
         requires trustees { by_trustees ≡ false → trustees_matter above.now ≡ false }
         ensures { result ≡ true → IsSibling self.now.nodes.now path.now row.now above.now at }
     {
-        let node = self.node(at);
         let beside = node.path();
         if beside.is_root() || !are_alike(node.row.get(), row, by_trustees) {
             return false;
@@ -39,28 +41,34 @@ impl TreeView<'_> {
         beside.depth() == path.depth() && beside.is_within(&path.parent())
     }
 
-    /// The place of the sibling right before a place, if there is one.
-    fn sibling_before(&self, path: &PathRef<'_>, at: usize) -> Option<usize>
+    /// The sibling right before a place, and its own place, if there is one.
+    fn sibling_before(&self, path: &PathRef<'_>, at: usize) -> Option<(usize, &Node)>
         requires standing { IsView self.now }
         requires place { at ≤ length self.now.nodes.now }
-        ensures { IfSome result (λ before. before < length self.now.nodes.now) }
+        ensures place { IfSome result (λ before. before.0 < length self.now.nodes.now) }
+        ensures node { IfSome result
+            (λ before. (n : Node) → before.1.now ≡ slice_index_or self.now.nodes.now before.0 n) }
     {
         let before = at.checked_sub(1)?;
-        let mut beside = self.node(before).path();
+        let node = self.node(before);
+        let mut beside = node.path();
         if beside.depth() < path.depth() {
             return None;
         }
         if beside.depth() == path.depth() {
-            return Some(before);
+            return Some((before, node));
         }
         // It stands below the sibling.
         for _ in path.depth()..beside.depth() {
             beside = beside.parent();
         }
-        locate(self.nodes, &beside).ok()
+        match locate(self.nodes, &beside) {
+            Ok(before) => Some((before, self.node(before))),
+            Err(_) => None,
+        }
     }
 
-    /// The place of a sibling before a place that inherits what the row does, if one is found near.
+    /// A sibling before a place that inherits what the row does, and its own place, if one is found near.
     fn sibling_among(
         &self,
         path: &PathRef<'_>,
@@ -68,18 +76,24 @@ impl TreeView<'_> {
         above: &WholeDacl,
         by_trustees: bool,
         at: usize,
-    ) -> Option<usize>
+    ) -> Option<(usize, &Node)>
         requires standing { IsView self.now }
         requires place { at ≤ length self.now.nodes.now }
         requires trustees { by_trustees ≡ false → trustees_matter above.now ≡ false }
-        ensures { IfSome result (IsSibling self.now.nodes.now path.now row.now above.now) }
+        ensures sibling { IfSome result
+            (λ beside. IsSibling self.now.nodes.now path.now row.now above.now beside.0) }
+        ensures node { IfSome result
+            (λ beside. (n : Node) → beside.1.now ≡ slice_index_or self.now.nodes.now beside.0 n) }
     {
         let mut near = at;
         for _ in 0..NEAR {
-            near = self.sibling_before(path, near)?;
-            if self.is_sibling(path, row, above, by_trustees, near) {
-                return Some(near);
+            let Some((before, node)) = self.sibling_before(path, near) else {
+                return None;
+            };
+            if self.is_sibling(path, row, above, by_trustees, before, node) {
+                return Some((before, node));
             }
+            near = before;
         }
         None
     }
@@ -91,10 +105,13 @@ impl TreeView<'_> {
         row: &Row,
         above: &WholeDacl,
         at: usize,
-    ) -> Option<usize>
+    ) -> Option<(usize, &Node)>
         requires standing { IsView self.now }
         requires place { at ≤ length self.now.nodes.now }
-        ensures { IfSome result (IsSibling self.now.nodes.now path.now row.now above.now) }
+        ensures sibling { IfSome result
+            (λ beside. IsSibling self.now.nodes.now path.now row.now above.now beside.0) }
+        ensures node { IfSome result
+            (λ beside. (n : Node) → beside.1.now ≡ slice_index_or self.now.nodes.now beside.0 n) }
     {
         if !inherits(&row.dacl) {
             return None;
@@ -116,13 +133,19 @@ impl TreeView<'_> {
         row: &Row,
         above: &WholeDacl,
         at: usize,
-    ) -> Option<usize>
+    ) -> Option<(usize, &Node)>
         requires standing { IsView self.now }
         requires place { at ≤ length self.now.nodes.now }
-        ensures { IfSome result (IsSibling self.now.nodes.now path.now row.now above.now) }
+        ensures sibling { IfSome result
+            (λ beside. IsSibling self.now.nodes.now path.now row.now above.now beside.0) }
+        ensures node { IfSome result
+            (λ beside. (n : Node) → beside.1.now ≡ slice_index_or self.now.nodes.now beside.0 n) }
     {
-        if at < self.nodes.len() && self.is_sibling(path, row, above, true, at) {
-            return Some(at);
+        if at < self.nodes.len() {
+            let node = self.node(at);
+            if self.is_sibling(path, row, above, true, at, node) {
+                return Some((at, node));
+            }
         }
         self.sibling_with(path, row, above, at)
     }

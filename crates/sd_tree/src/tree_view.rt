@@ -68,8 +68,30 @@ impl<'a> TreeView<'a> {
         self.node(at).path().compare(path) == Ordering::Equal
     }
 
-    /// The place of a node that is there, looked for at two places first.
-    fn place_near(&self, path: &PathRef<'_>, first: usize, second: usize) -> usize
+    /// The node of a path that is there, and its place: this one, or it is looked for at another place first.
+    fn node_near(
+        &self,
+        path: &PathRef<'_>,
+        near: (usize, &'a Node),
+        other: usize,
+    ) -> (usize, &'a Node)
+        requires standing { IsView self.now }
+        requires there { IsSome (row_at (tree_in self.now) path.now) }
+        requires within { near.0 < length self.now.nodes.now }
+        requires node { (n : Node) → near.1.now ≡ slice_index_or self.now.nodes.now near.0 n }
+        ensures within { result.0 < length self.now.nodes.now }
+        ensures stands { HoldsAt (λ b. path_of_node b ≡ path.now) self.now.nodes.now result.0 }
+        ensures node { (n : Node) → result.1.now ≡ slice_index_or self.now.nodes.now result.0 n }
+    {
+        if near.1.path().compare(path) == Ordering::Equal {
+            return near;
+        }
+        let at = self.place_near(path, other);
+        (at, self.node(at))
+    }
+
+    /// The place of a node that is there, looked for at one place first.
+    fn place_near(&self, path: &PathRef<'_>, first: usize) -> usize
         requires standing { IsView self.now }
         requires there { IsSome (row_at (tree_in self.now) path.now) }
         ensures within { result < length self.now.nodes.now }
@@ -77,9 +99,6 @@ impl<'a> TreeView<'a> {
     {
         if self.stands_at(path, first) {
             return first;
-        }
-        if self.stands_at(path, second) {
-            return second;
         }
         self.place_of(path)
     }
@@ -123,8 +142,8 @@ impl<'a> TreeView<'a> {
         ensures fits { OnOk result (dacl_size (dacl_of_row self.now.mapping.now row.now above.now) ≤ 65535) }
         ensures refused { IfErr result (λ e. IsSizeError e (dacl_of_row self.now.mapping.now row.now above.now)) }
     {
-        if let Some(k) = self.sibling_around(path, row.get(), above, at) {
-            let sibling = self.node(k);
+        if let Some(beside) = self.sibling_around(path, row.get(), above, at) {
+            let sibling = beside.1;
             if let Some(inherited) = sibling.whole.behind(sibling.row.get()) {
                 return WholeDacl::new(row, inherited.share()?);
             }
@@ -174,18 +193,18 @@ impl<'a> TreeView<'a> {
         let mut wholes = Vec::with_capacity(self.alloc, end - at)?;
         let first = self.whole_of(path, at, row)?;
         wholes.push(first)?;
-        let mut last_parent = at;
+        let mut last = (at, self.node(at));
         for k in at + 1..end {
             let node = self.node(k);
             let below = node.path();
             // Mostly the parent of the node before, or that node.
-            let parent = self.place_near(&below.parent(), last_parent, k - 1);
-            last_parent = parent;
+            let parent = self.node_near(&below.parent(), last, k - 1);
+            last = parent;
             let whole = self.whole_in_run(
                 &below,
                 (at, k),
                 &node.row,
-                &wholes[parent - at],
+                &wholes[parent.0 - at],
                 &wholes,
             )?;
             wholes.push(whole)?;
@@ -212,9 +231,8 @@ impl<'a> TreeView<'a> {
         ensures refused { IfErr result (λ e. IsSizeError e (dacl_of_row self.now.mapping.now row.now above.now)) }
     {
         let (at, k) = places;
-        if let Some(beside) = self.sibling_with(path, row.get(), above, k) {
+        if let Some((beside, sibling)) = self.sibling_with(path, row.get(), above, k) {
             if at < beside && beside - at < made.len() {
-                let sibling = self.node(beside);
                 if let Some(inherited) = made[beside - at].behind(sibling.row.get()) {
                     return WholeDacl::new(row, inherited.share()?);
                 }

@@ -29,7 +29,7 @@ same_parent p q below long inside =
 pub returns-then-depth : goal.returns-then-depth
 returns-then-depth c held =
     let bs = c.args.self.now.nodes.now in
-    let node_is : (b : Node) → c.node-node.result.now ≡ get_or bs c.args.at b = c.node-node.ensures in
+    let node_is : (b : Node) → c.args.node.now ≡ get_or bs c.args.at b = c.requires.node in
     let path_is : (b : Node) → c.path-beside.result ≡ path_of_node (get_or bs c.args.at b) =
     λ b. c.path-beside.ensures ∙ ap (λ (n : Node). n.path) (node_is b) in
     record {

@@ -1,5 +1,4 @@
 use Rattle.std.proofs.Common.{ap, sym, ◌∙◌, arith}
-use Rattle.sd_tree.specs.Stored.{path_of_node}
 use Rattle.sd_tree.specs.declared.node.Node.{Node}
 use Rattle.sd_tree.proofs.Rows.{compared_same}
 use Rattle.sd_tree.proofs.tree_view.TreeView.stands_at.Goals as goal

@@ -8,21 +8,21 @@ use Rattle.sd_tree.proofs.tree_view.TreeView.whole_beside.Goals as goal
 
 pub returns-in-Some-behind-clause-dacl : goal.returns-in-Some-behind-clause-dacl
 returns-in-Some-behind-clause-dacl c =
-    let whole = dacl_beside c.args.self.now.mapping.now c.args.self.now.nodes.now c.requires.standing c.args.path.now c.args.row.now c.args.above.now c.in-Some.k c.requires.above
-    (rw c.get.ensures at c.in-Some.ensures) c.node-sibling.result.now c.node-sibling.result.now (c.node-sibling.ensures c.node-sibling.result.now) c.get-in-Some.result.now c.get-in-Some.ensures
+    let whole = dacl_beside c.args.self.now.mapping.now c.args.self.now.nodes.now c.requires.standing c.args.path.now c.args.row.now c.args.above.now c.in-Some.beside.0 c.requires.above
+    (rw c.get.ensures at c.in-Some.ensures.sibling) c.in-Some.beside.1.now c.in-Some.beside.1.now (c.in-Some.ensures.node c.in-Some.beside.1.now) c.get-in-Some.result.now c.get-in-Some.ensures
     c.in_ok-share.field-0 (λ rest is. c.in_ok-share.ensures ∙ c.in-Some-behind.ensures rest is) in
     IfOk-weaker c.new.result _ _ (λ dacl h. h ∙ whole) c.new.ensures.dacl
 
 pub returns-in-Some-behind-clause-fits : goal.returns-in-Some-behind-clause-fits
 returns-in-Some-behind-clause-fits c =
-    let whole = dacl_beside c.args.self.now.mapping.now c.args.self.now.nodes.now c.requires.standing c.args.path.now c.args.row.now c.args.above.now c.in-Some.k c.requires.above
-    (rw c.get.ensures at c.in-Some.ensures) c.node-sibling.result.now c.node-sibling.result.now (c.node-sibling.ensures c.node-sibling.result.now) c.get-in-Some.result.now c.get-in-Some.ensures
+    let whole = dacl_beside c.args.self.now.mapping.now c.args.self.now.nodes.now c.requires.standing c.args.path.now c.args.row.now c.args.above.now c.in-Some.beside.0 c.requires.above
+    (rw c.get.ensures at c.in-Some.ensures.sibling) c.in-Some.beside.1.now c.in-Some.beside.1.now (c.in-Some.ensures.node c.in-Some.beside.1.now) c.get-in-Some.result.now c.get-in-Some.ensures
     c.in_ok-share.field-0 (λ rest is. c.in_ok-share.ensures ∙ c.in-Some-behind.ensures rest is) in
     subst (λ (w : Option (List Ace)). OnOk c.new.result (dacl_size w ≤ 65535)) whole c.new.ensures.fits
 
 pub returns-in-Some-behind-clause-refused : goal.returns-in-Some-behind-clause-refused
 returns-in-Some-behind-clause-refused c =
-    let whole = dacl_beside c.args.self.now.mapping.now c.args.self.now.nodes.now c.requires.standing c.args.path.now c.args.row.now c.args.above.now c.in-Some.k c.requires.above
-    (rw c.get.ensures at c.in-Some.ensures) c.node-sibling.result.now c.node-sibling.result.now (c.node-sibling.ensures c.node-sibling.result.now) c.get-in-Some.result.now c.get-in-Some.ensures
+    let whole = dacl_beside c.args.self.now.mapping.now c.args.self.now.nodes.now c.requires.standing c.args.path.now c.args.row.now c.args.above.now c.in-Some.beside.0 c.requires.above
+    (rw c.get.ensures at c.in-Some.ensures.sibling) c.in-Some.beside.1.now c.in-Some.beside.1.now (c.in-Some.ensures.node c.in-Some.beside.1.now) c.get-in-Some.result.now c.get-in-Some.ensures
     c.in_ok-share.field-0 (λ rest is. c.in_ok-share.ensures ∙ c.in-Some-behind.ensures rest is) in
     IfErr-weaker c.new.result _ _ (λ e h. size_error e _ _ whole h) c.new.ensures.refused

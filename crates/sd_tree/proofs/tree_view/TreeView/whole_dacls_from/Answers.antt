@@ -22,8 +22,8 @@ returns-in_err-first-clause-refused c =
     let p = err_from_is_err_and c.from_residual-in_err-first.result c.from_residual-in_err-first.ensures.1 in
     rw (p.1, p.2) (large_error _ _ c.args.path.now c.args.row.now c.in_err-first.field-0.0 (row_at-insert_same _ _ _) c.in_err-first.ensures.refused)
 
-pub place_near-parent-requires-clause-there : goal.place_near-parent-requires-clause-there
-place_near-parent-requires-clause-there c =
+pub node_near-parent-requires-clause-there : goal.node_near-parent-requires-clause-there
+node_near-parent-requires-clause-there c =
     let bs = c.args.self.now.nodes.now in
     let b = c.node-node.result.now in
     let parent_is : c.parent.result ≡ up (path_of_node (get_or bs c.loop-k.k b)) = c.parent.ensures ∙ ap up (c.path-below.ensures ∙ ap (λ (n : Node). n.path) (c.node-node.ensures c.node-node.result.now)) in
@@ -35,7 +35,7 @@ overflow_sub-parent c =
     let b = c.node-node.result.now in
     let parent_is : c.parent.result ≡ up (path_of_node (get_or bs c.loop-k.k b)) = c.parent.ensures ∙ ap up (c.path-below.ensures ∙ ap (λ (n : Node). n.path) (c.node-node.ensures c.node-node.result.now)) in
     (parent_place bs c.requires.standing.kept.order c.args.path.now c.args.at c.requires.stands c.loop-k.k b (omega arith) (omega (arith, c.end_below-end.ensures.place.1))
-    (c.end_below-end.ensures.below c.loop-k.k b (omega arith) (omega arith)) c.place_near-parent.result c.place_near-parent.ensures.within (λ d. c.place_near-parent.ensures.stands d ∙ parent_is)).0
+    (c.end_below-end.ensures.below c.loop-k.k b (omega arith) (omega arith)) c.node_near-parent.result.0 c.node_near-parent.ensures.within (λ d. c.node_near-parent.ensures.stands d ∙ parent_is)).0
 
 pub index-requires : goal.index-requires
 index-requires c =
@@ -43,8 +43,8 @@ index-requires c =
     let b = c.node-node.result.now in
     let parent_is : c.parent.result ≡ up (path_of_node (get_or bs c.loop-k.k b)) = c.parent.ensures ∙ ap up (c.path-below.ensures ∙ ap (λ (n : Node). n.path) (c.node-node.ensures c.node-node.result.now)) in
     let place = parent_place bs c.requires.standing.kept.order c.args.path.now c.args.at c.requires.stands c.loop-k.k b (omega arith) (omega (arith, c.end_below-end.ensures.place.1))
-    (c.end_below-end.ensures.below c.loop-k.k b (omega arith) (omega arith)) c.place_near-parent.result c.place_near-parent.ensures.within (λ d. c.place_near-parent.ensures.stands d ∙ parent_is) in
-    omega (arith, place.0, place.1, c.loop-k.invariant.count, c.loop-k.wholes.ok.0)
+    (c.end_below-end.ensures.below c.loop-k.k b (omega arith) (omega arith)) c.node_near-parent.result.0 c.node_near-parent.ensures.within (λ d. c.node_near-parent.ensures.stands d ∙ parent_is) in
+    omega (arith, place.0, place.1, c.loop-k.invariant.rebuilt.count, c.loop-k.wholes.ok.0)
 
 pub returns-in_err-whole-clause-refused : goal.returns-in_err-whole-clause-refused
 returns-in_err-whole-clause-refused c =
@@ -57,8 +57,8 @@ returns-in_err-whole-clause-refused c =
     let in' : k < length bs = omega (arith, c.end_below-end.ensures.place.1) in
     let inside = c.end_below-end.ensures.below k b (omega arith) (omega arith) in
     let parent_is : c.parent.result ≡ up (path_of_node (get_or bs k b)) = c.parent.ensures ∙ ap up (c.path-below.ensures ∙ ap (λ (n : Node). n.path) (c.node-node.ensures c.node-node.result.now)) in
-    let next = next_rebuilt g bs order q c.args.at c.requires.stands c.args.row.now k b (omega arith) in' inside c.loop-k.wholes.items c.loop-k.invariant
-    c.place_near-parent.result c.place_near-parent.ensures.within (λ d. c.place_near-parent.ensures.stands d ∙ parent_is)
+    let next = next_rebuilt g bs order q c.args.at c.requires.stands c.args.row.now k b (omega arith) in' inside c.loop-k.wholes.items c.loop-k.invariant.rebuilt
+    c.node_near-parent.result.0 c.node_near-parent.ensures.within (λ d. c.node_near-parent.ensures.stands d ∙ parent_is)
     c.node-node.result.now.row (ap (λ (n : Node). n.row) (c.node-node.ensures c.node-node.result.now)) c.index.result.now c.index.ensures in
     let other = run_other bs order q c.args.at c.requires.stands k b (omega arith) in' inside in
     let found = row_at-insert_other (tree_of bs) q (path_of_node (get_or bs k b)) c.args.row.now other ∙ row_here bs order k b in' in
@@ -76,16 +76,20 @@ loop-k-preserved c =
     let in' : k < length bs = omega (arith, c.end_below-end.ensures.place.1) in
     let inside = c.end_below-end.ensures.below k b (omega arith) (omega arith) in
     let parent_is : c.parent.result ≡ up (path_of_node (get_or bs k b)) = c.parent.ensures ∙ ap up (c.path-below.ensures ∙ ap (λ (n : Node). n.path) (c.node-node.ensures c.node-node.result.now)) in
-    let next = next_rebuilt g bs order q c.args.at c.requires.stands c.args.row.now k b (omega arith) in' inside c.loop-k.wholes.items c.loop-k.invariant
-    c.place_near-parent.result c.place_near-parent.ensures.within (λ d. c.place_near-parent.ensures.stands d ∙ parent_is)
+    let next = next_rebuilt g bs order q c.args.at c.requires.stands c.args.row.now k b (omega arith) in' inside c.loop-k.wholes.items c.loop-k.invariant.rebuilt
+    c.node_near-parent.result.0 c.node_near-parent.ensures.within (λ d. c.node_near-parent.ensures.stands d ∙ parent_is)
     c.node-node.result.now.row (ap (λ (n : Node). n.row) (c.node-node.ensures c.node-node.result.now)) c.index.result.now c.index.ensures in
-    rw c.in_ok-push-2.ensures.items (rebuilt_more g _ bs c.args.at k c.loop-k.wholes.items b _ c.loop-k.invariant in' (c.in_ok-whole.ensures.dacl ∙ next) (rw c.in_ok-whole.ensures.dacl c.in_ok-whole.ensures.fits))
+    record {
+      within = c.node_near-parent.ensures.within;
+      node = c.node_near-parent.ensures.node;
+      rebuilt = rw c.in_ok-push-2.ensures.items (rebuilt_more g _ bs c.args.at k c.loop-k.wholes.items b _ c.loop-k.invariant.rebuilt in' (c.in_ok-whole.ensures.dacl ∙ next) (rw c.in_ok-whole.ensures.dacl c.in_ok-whole.ensures.fits));
+    }
 
 pub returns-clause-rebuilt : goal.returns-clause-rebuilt
 returns-clause-rebuilt c =
     let end : c.loop-k.k ≡ c.end_below-end.result = omega (arith, c.end_below-end.ensures.place.0) in
     run_rewriting c.args.self.now.mapping.now c.args.self.now.nodes.now c.requires.standing c.args.path.now c.args.at c.requires.within c.requires.stands c.args.row.now c.loop-k.k c.loop-k.wholes.items
-    (omega (arith, c.end_below-end.ensures.place.1, end)) (rw end c.end_below-end.ensures.beyond) c.loop-k.invariant
+    (omega (arith, c.end_below-end.ensures.place.1, end)) (rw end c.end_below-end.ensures.beyond) c.loop-k.invariant.rebuilt
 
 pub whole_in_run-requires-clause-made : goal.whole_in_run-requires-clause-made
 whole_in_run-requires-clause-made c =
@@ -99,8 +103,8 @@ whole_in_run-requires-clause-made c =
     let inside = c.end_below-end.ensures.below k b (omega arith) (omega arith) in
     let path_is : c.path-below.result ≡ path_of_node (get_or bs k b) = c.path-below.ensures ∙ ap (λ (n : Node). n.path) (c.node-node.ensures c.node-node.result.now) in
     let parent_is = c.parent.ensures ∙ ap up path_is in
-    let above = above_rebuilt g bs order q c.args.at c.requires.stands c.args.row.now k b (omega arith) in' inside c.loop-k.wholes.items c.loop-k.invariant
-    c.place_near-parent.result c.place_near-parent.ensures.within (λ d. c.place_near-parent.ensures.stands d ∙ parent_is) c.index.result.now c.index.ensures in
+    let above = above_rebuilt g bs order q c.args.at c.requires.stands c.args.row.now k b (omega arith) in' inside c.loop-k.wholes.items c.loop-k.invariant.rebuilt
+    c.node_near-parent.result.0 c.node_near-parent.ensures.within (λ d. c.node_near-parent.ensures.stands d ∙ parent_is) c.index.result.now c.index.ensures in
     rw c.deref.ensures.value (siblings_made g bs order q c.args.at c.end_below-end.result c.requires.stands c.end_below-end.ensures.below c.args.row.now k (omega arith)
-    c.loop-k.wholes.items c.loop-k.invariant c.path-below.result c.node-node.result.now.row c.index.result.now
+    c.loop-k.wholes.items c.loop-k.invariant.rebuilt c.path-below.result c.node-node.result.now.row c.index.result.now
     (above ∙ ap (dacl_at g (insert (tree_of bs) q c.args.row.now)) (ap up (sym path_is))))

@@ -5,7 +5,6 @@ use Rattle.sd_tree.specs.Inheritance.{dacl_of_row}
 use Rattle.sd_path.specs.Names.{up}
 use Rattle.sd_tree.specs.Plain.{dacl_at}
 use Rattle.sd_tree.specs.Stored.{tree_of}
-use Rattle.sd_tree.specs.declared.node.Node.{Node}
 use Rattle.sd_tree.proofs.Wholes.{whole_at_root, whole_below, stored_whole, size_error}
 use Rattle.sd_tree.proofs.tree_view.TreeView.whole_of.Goals as goal
 

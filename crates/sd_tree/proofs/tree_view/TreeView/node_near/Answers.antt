@@ -1,0 +1,9 @@
+use Rattle.std.proofs.Common.{ap, sym, ◌∙◌}
+use Rattle.sd_tree.specs.declared.node.Node.{Node}
+use Rattle.sd_tree.proofs.Rows.{compared_same}
+use Rattle.sd_tree.proofs.tree_view.TreeView.node_near.Goals as goal
+
+pub returns-then-eq-clause-stands : goal.returns-then-eq-clause-stands
+returns-then-eq-clause-stands c d =
+    let same = compared_same _ _ c.compare.result c.compare.ensures (sym c.if-eq.ensures) in
+    sym (c.path.ensures ∙ ap (λ (n : Node). n.path) (c.requires.node d)) ∙ same
