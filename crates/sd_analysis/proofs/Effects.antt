@@ -21,7 +21,6 @@ use Rattle.sd_analysis.specs.Compare.{AreGains, HasABit}
 use Rattle.sd_analysis.specs.Effect.{HasEffect, HasNoEffect}
 use Rattle.sd_analysis.specs.Sufficient.{Parts, gains, token_of, with_denied}
 use Rattle.sd_analysis.specs.declared.compare_report.Change.{Change}
-use Rattle.sd_analysis.specs.declared.witness.Witness.{Witness}
 use Rattle.sd_analysis.proofs.BitChecks.{bit_is_its_check}
 
 -- for a list the verdict rests on which bits are granted
@@ -112,9 +111,10 @@ still_there : (base : List (SidValue × GroupState)) (denied : Option SidValue) 
 still_there base None kind s h = h
 still_there base (Some d) kind s h = or_right _ _ h
 
--- a witness has the base
-witness_has_base : (base : List (SidValue × GroupState)) (w : Witness) → HasBase base (token_of base w)
-witness_has_base base w kind s h = or_right _ _ (still_there base w.first.denied kind s h)
+-- a token has the base where its groups are the base, or that and one more
+pub has_base_with : (base : List (SidValue × GroupState)) (denied : Option SidValue) (t : TokenValue) → t.groups ≡ with_denied base denied → HasBase base t
+has_base_with base denied t is kind s h =
+    or_right _ _ (subst (λ groups. a_group_stands_for groups kind s ≡ true) (sym is) (still_there base denied kind s h))
 
 -- a change shows a token with the base
 pub gains_show : (g : MappingValue) (base : List (SidValue × GroupState)) (old new : Parts) (changes : List Change)
@@ -124,7 +124,7 @@ gains_show g base old new [] are some = absurd cc
 gains_show g base old new (c ∷ cs) are some =
     let bit = All-head (λ (change : Change). HasABit change.mask) c cs are.some in
     let shown = All-head (λ (change : Change). (b : ℕ) → holds change.mask b ≡ true → gains g old new (token_of base change.witness) b ≡ true) c cs are.shown in
-    (token_of base c.witness, bit.0, (witness_has_base base c.witness, shown bit.0 bit.1.1))
+    (token_of base c.witness, bit.0, (has_base_with base c.witness.first.denied (token_of base c.witness) refl, shown bit.0 bit.1.1))
 
 -- without changes nobody gains
 pub none_gains : (g : MappingValue) (base : List (SidValue × GroupState)) (old new : Parts) (changes : List Change)

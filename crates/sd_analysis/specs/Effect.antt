@@ -6,6 +6,8 @@ use Rattle.sd_acl.specs.declared.ace.Ace.{Ace}
 use Rattle.sd_check.specs.Check.{DaclRef, entries_of, verdict}
 use Rattle.sd_check.specs.Token.{TokenValue}
 use Rattle.sd_check.specs.declared.token.GroupState.{GroupState}
+use Rattle.sd_check.specs.declared.verdict.Verdict.{Verdict}
+use Rattle.sd_check.specs.declared.verdict.Verdict.TheVariants.{Granted, Denied, Reserved, EmptyRequest}
 use Rattle.sd_analysis.specs.Base.{HasBase}
 use Rattle.sd_analysis.specs.Sufficient.{Parts}
 
@@ -28,3 +30,10 @@ pub record HasEffect (owner : Option SidValue) (es : List Ace) (g : MappingValue
 -- a descriptor with this owner and this DACL
 abbrev pub parts : Option SidValue → DaclRef → Parts
 parts owner dacl = record { owner = owner; dacl = entries_of dacl }
+
+-- the bits that a verdict grants
+abbrev pub granted_by : Verdict → ℕ
+granted_by (Granted mask) = mask
+granted_by (Denied missing) = 0
+granted_by (Reserved bits) = 0
+granted_by EmptyRequest = 0

@@ -7,6 +7,7 @@ ghost use Rattle.sd_analysis.specs.Compare.{AreGains};
 use crate::base::Base;
 use crate::compare_gains::{Comparison, compare};
 use crate::compare_sides::DescriptorRef;
+use crate::trial::shows_effect;
 use sd_acl::Ace;
 use sd_check::DaclRef;
 use sd_sid::{GenericMapping, Sid};
@@ -28,6 +29,9 @@ pub fn has_effect(
 {
     if place >= entries.len() {
         return Ok(false);
+    }
+    if shows_effect(alloc, &owner, entries, place, mapping, base)? {
+        return Ok(true);
     }
     let mut others = Vec::from_slice(alloc, entries)?;
     others.remove(place);

@@ -27,6 +27,7 @@ mod compare_table;
 mod effect;
 mod laws;
 mod redundancy;
+mod trial;
 mod who_case;
 mod who_has;
 mod who_walk;

@@ -1,0 +1,151 @@
+//! Tokens by which an entry's effect shows at once. Most entries of a long list have one that shows so, and it costs
+//! two checks in place of a comparison.
+
+ghost use Rattle.std.specs.Prelude.{◌≡◌, ◌<◌, true, IfOk, None, Some, length, remove};
+ghost use Rattle.sd_check.specs.Check.{verdict};
+ghost use Rattle.sd_analysis.specs.Effect.{granted_by, HasEffect};
+ghost use Rattle.sd_analysis.specs.Sufficient.{token_of, with_denied};
+
+use crate::base::Base;
+use sd_acl::{Ace, AceKind};
+use sd_check::{
+    DaclRef, GroupState, MAXIMUM_ALLOWED, Privileges, Token, Verdict, check_joined, check_parts,
+    subject_of,
+};
+use sd_sid::{GenericMapping, Mask, Sid};
+use std::alloc::{AllocError, Global};
+
+/// Whether a token shows the effect of the entry at the place: of an allow the token whose user it speaks of; of a deny
+/// the token for which it denies what the next allow that names one of its bits grants. An effect that only other
+/// tokens show is not found.
+pub(crate) fn shows_effect(
+    alloc: Global,
+    owner: &Option<Sid>,
+    entries: &[Ace],
+    place: usize,
+    mapping: &GenericMapping,
+    base: &Base<'_>,
+) -> Result<bool, AllocError>
+    requires { place < length entries.now }
+    ensures { IfOk result (λ shows. shows ≡ true → HasEffect owner.now entries.now mapping.now base.now place) }
+{
+    let entry = &entries[place];
+    let subject = match subject_of(owner, &entry.sid) {
+        None => return Ok(false),
+        Some(subject) => *subject,
+    };
+    if entry.kind.is_allow() {
+        return is_shown(alloc, owner, entries, place, mapping, base, subject, &None);
+    }
+    match next_allowed(owner, &entries[place + 1..], mapping, entry.mask) {
+        None => Ok(false),
+        Some(user) => is_shown(
+            alloc,
+            owner,
+            entries,
+            place,
+            mapping,
+            base,
+            user,
+            &Some(subject),
+        ),
+    }
+}
+
+/// Whom the first effective allow that names one of the bits speaks of.
+fn next_allowed(
+    owner: &Option<Sid>,
+    entries: &[Ace],
+    mapping: &GenericMapping,
+    mask: Mask,
+) -> Option<Sid> {
+    let bits = mapping.map(mask);
+    for entry in entries {
+        let names = entry.kind.is_allow()
+            && !entry.is_inherit_only()
+            && !mapping.map(entry.mask).common(bits).is_empty();
+        if names {
+            return subject_of(owner, &entry.sid).copied();
+        }
+    }
+    None
+}
+
+/// Whether the token with the base shows the effect whose user is this, with one more group for denies alone.
+fn is_shown(
+    alloc: Global,
+    owner: &Option<Sid>,
+    entries: &[Ace],
+    place: usize,
+    mapping: &GenericMapping,
+    base: &Base<'_>,
+    user: Sid,
+    denied: &Option<Sid>,
+) -> Result<bool, AllocError>
+    requires { place < length entries.now }
+    ensures { IfOk result (λ shows. shows ≡ true → HasEffect owner.now entries.now mapping.now base.now place) }
+{
+    let groups = groups_with(alloc, base, denied)?;
+    let token = Token::new(user, groups, Privileges::default());
+    Ok(differs(owner, entries, place, mapping, &token))
+}
+
+/// The base, and one more group for denies alone.
+fn groups_with(
+    alloc: Global,
+    base: &Base<'_>,
+    denied: &Option<Sid>,
+) -> Result<Vec<(Sid, GroupState)>, AllocError>
+    ensures { IfOk result (λ groups. groups.items ≡ with_denied base.now denied.now) }
+{
+    match denied {
+        None => Vec::from_slice(alloc, base.groups),
+        Some(sid) => {
+            let mut groups = Vec::new(alloc);
+            groups.push((*sid, GroupState::DenyOnly))?;
+            groups.extend_from_slice(base.groups)?;
+            Ok(groups)
+        }
+    }
+}
+
+/// Whether the list grants the token something else without the entry.
+fn differs(
+    owner: &Option<Sid>,
+    entries: &[Ace],
+    place: usize,
+    mapping: &GenericMapping,
+    token: &Token,
+) -> bool
+    requires { place < length entries.now }
+    ensures { result ≡ true
+        → verdict owner.now (Some (remove entries.now place)) mapping.now token.now 0x02000000
+        ≡ verdict owner.now (Some entries.now) mapping.now token.now 0x02000000
+        → ⊥ }
+{
+    let whole = check_parts(
+        *owner,
+        DaclRef::List(entries),
+        mapping,
+        token,
+        MAXIMUM_ALLOWED,
+    );
+    let front = &entries[..place];
+    let back = &entries[place + 1..];
+    let others = check_joined(*owner, front, back, mapping, token, MAXIMUM_ALLOWED);
+    let before = granted_by(whole).bits();
+    let after = granted_by(others).bits();
+    before != after
+}
+
+/// The bits that the verdict grants.
+fn granted_by(verdict: Verdict) -> Mask
+    ensures { result ≡ granted_by verdict }
+{
+    match verdict {
+        Verdict::Granted(mask) => mask,
+        Verdict::Denied { missing: _ } => Mask(0),
+        Verdict::Reserved(_) => Mask(0),
+        Verdict::EmptyRequest => Mask(0),
+    }
+}
