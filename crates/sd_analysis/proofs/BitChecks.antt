@@ -1,6 +1,6 @@
 -- A request for one bit below place 21: it is granted where nothing is missing of it.
 use Rattle.std.proofs.Common.{◌≡◌, ℕ, ◌^◌, ◌<◌, Bool, true, false, ◌&&◌, not, ◌==◌, cond, inl, inr, sym, ◌∙◌, ap, arith}
-use Rattle.std.proofs.lemmas.Bool.{cases_eq, false≢true, ne_eqb, true_from_ne_false}
+use Rattle.std.proofs.lemmas.Bool.{cases_eq, cond-false, false≢true, ne_eqb, true_from_ne_false}
 use Rattle.std.proofs.lemmas.Nat.{pow_below}
 use Rattle.std.proofs.lemmas.Nat.Bits.{bit_at-pow_same, bit_at-pow_other, bit_at-zero}
 use Rattle.std.proofs.Math.Bool.{and-false}
@@ -9,7 +9,7 @@ use Rattle.sd_sid.specs.Mask.{holds}
 use Rattle.sd_sid.proofs.Masks.{holds_place, mask_of-alike}
 use Rattle.sd_check.specs.Check.{is_granted, missing_of, most}
 use Rattle.sd_check.specs.declared.verdict.Verdict.TheVariants.{Granted, Denied}
-use Rattle.sd_check.proofs.LowMasks.{judged_plainly, no_places}
+use Rattle.sd_check.proofs.LowMasks.{judged_low, no_places}
 use Rattle.sd_analysis.specs.Base.{BitIsItsCheck}
 
 none_missing : (p : ℕ → Bool) (b : ℕ) → p b ≡ true → missing_of p (2 ^ b) ≡ 0
@@ -31,8 +31,8 @@ denied_not n m false q e h = cc
 pub bit_is_its_check : BitIsItsCheck
 bit_is_its_check owner dacl g t b low =
     let p = is_granted owner dacl g t in
-    let one = judged_plainly g p (most owner dacl g t) (2 ^ b)
-    (ne_eqb (2 ^ b) 0 (λ e. let some : 0 < 2 ^ b = pow_pos b in absurd (omega arith))) (pow_below b 21 low) in (
+    let some : (2 ^ b == 0) ≡ false = ne_eqb (2 ^ b) 0 (λ e. let some : 0 < 2 ^ b = pow_pos b in absurd (omega arith)) in
+    let one = judged_low g p (most owner dacl g t) (2 ^ b) some (pow_below b 21 low) ∙ cond-false _ _ _ some in (
       λ is. true_from_ne_false (p b) (λ refused. denied_not _ _ _ _ (one_missing p b (omega arith) refused) (sym one ∙ is)),
       λ is. one ∙ ap (λ n. cond (n == 0) (Granted (2 ^ b)) (Denied n)) (none_missing p b is),
     )
