@@ -52,7 +52,7 @@ pub(crate) fn shows_effect(
     }
 }
 
-/// Whom the first effective allow that names one of the bits speaks of.
+/// Whom the first effective allow that names one of the bits speaks of. No answer would be wrong: `is_shown` tests it.
 fn next_allowed(
     owner: &Option<Sid>,
     entries: &[Ace],
