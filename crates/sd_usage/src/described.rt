@@ -2,7 +2,7 @@
 
 use crate::notes::NOTES;
 use crate::row::{Argument, CommandRow, Flag, OptionRow, Value};
-use crate::table::{COMMANDS, OPTIONS};
+use crate::table::{command_rows, option_rows};
 use crate::texts::{CommandTexts, argument_name, flag_help, option_help, required};
 use clap::{Arg, ArgAction, Command};
 use std::alloc::{AllocError, Global};
@@ -22,11 +22,11 @@ pub(crate) struct Texts {
 impl Texts {
     pub(crate) fn new(alloc: Global) -> Result<Texts, AllocError> {
         let mut commands = Vec::new(alloc);
-        for row in COMMANDS {
+        for row in command_rows() {
             commands.push(CommandTexts::new(alloc, row)?)?;
         }
         let mut options = Vec::new(alloc);
-        for row in OPTIONS {
+        for row in option_rows() {
             options.push(option_help(alloc, row)?)?;
         }
         Ok(Texts { commands, options })
@@ -40,10 +40,10 @@ impl Texts {
             .after_help(NOTES)
             .version(WITHOUT_CLAP)
             .subcommand_required(true);
-        for (row, help) in OPTIONS.iter().zip(self.options.iter()) {
+        for (row, help) in option_rows().iter().zip(self.options.iter()) {
             program = program.arg(option(alloc, row, help.as_str()))?;
         }
-        for (row, texts) in COMMANDS.iter().zip(self.commands.iter()) {
+        for (row, texts) in command_rows().iter().zip(self.commands.iter()) {
             program = program.subcommand(described(alloc, row, texts)?)?;
         }
         Ok(program)
@@ -97,8 +97,19 @@ fn option<'a>(alloc: Global, row: &'static OptionRow, help: &'a str) -> Arg<'a> 
     let name = row.0.strip_prefix("--").unwrap_or(row.0);
     let option = Arg::new(alloc, name).long(name).help(help);
     match row.1.value {
-        Some(Value::Sid) => option.value_name("SID").allow_hyphen_values(true),
-        Some(Value::Kind) => option.value_name("KIND").allow_hyphen_values(true),
+        Some(value) => with_value(option, value_name(value)),
         None => option.action(ArgAction::SetTrue),
+    }
+}
+
+/// The option with a value, even if it begins with a hyphen.
+fn with_value<'a>(option: Arg<'a>, name: &'a str) -> Arg<'a> {
+    option.value_name(name).allow_hyphen_values(true)
+}
+
+fn value_name(value: Value) -> &'static str {
+    match value {
+        Value::Sid => "SID",
+        Value::Kind => "KIND",
     }
 }

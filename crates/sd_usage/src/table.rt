@@ -305,3 +305,13 @@ the generic mapping, that of a 'file' (the default), of a registry 'key', of a '
 'process', or R,W,X,A, the four masks of GR, GW, GX and GA",
     ),
 ];
+
+/// The commands, for texts: no contract speaks of these, so their proofs don't carry the table along.
+pub(crate) fn command_rows() -> &'static [CommandRow] {
+    COMMANDS
+}
+
+/// The options, likewise.
+pub(crate) fn option_rows() -> &'static [OptionRow] {
+    OPTIONS
+}

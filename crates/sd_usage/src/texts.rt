@@ -2,7 +2,7 @@
 
 use crate::notes::notes_of;
 use crate::row::{Argument, Arguments, CommandName, CommandRow, Flag, OptionName, OptionRow};
-use crate::table::COMMANDS;
+use crate::table::command_rows;
 use std::alloc::{AllocError, Global};
 
 const USER: &str = "The user's SID: in full, as S-1-5-21-1-2-3-1001, or an alias, as SY";
@@ -145,7 +145,7 @@ pub(crate) fn commands_with(
     option: OptionName,
 ) -> Result<Vec<&'static str>, AllocError> {
     let mut names = Vec::new(alloc);
-    for row in COMMANDS {
+    for row in command_rows() {
         if row.1.takes_option(option) {
             names.push(row.0)?;
         }
@@ -156,7 +156,7 @@ pub(crate) fn commands_with(
 /// The names of the commands that `each` takes.
 pub(crate) fn line_commands(alloc: Global) -> Result<Vec<&'static str>, AllocError> {
     let mut names = Vec::new(alloc);
-    for row in COMMANDS {
+    for row in command_rows() {
         if matches!(row.1.name, CommandName::Ask(_)) {
             names.push(row.0)?;
         }

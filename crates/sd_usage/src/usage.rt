@@ -3,7 +3,7 @@
 
 use crate::described::{Texts, described};
 use crate::row::{CommandName, CommandRow, OptionName, OptionRow};
-use crate::table::{COMMANDS, OPTIONS};
+use crate::table::{command_rows, option_rows};
 use crate::texts::{CommandTexts, commands_with, line_commands, listed};
 use clap::error::ErrorKind;
 use clap::{Command, Error};
@@ -25,13 +25,17 @@ const LATER_DASHES: &str =
 /// The help on a command, or on the program, in ASCII. The only error is out of memory.
 pub fn help(alloc: Global, command: Option<CommandName>) -> Result<String, AllocError> {
     if let Some(name) = command {
-        for row in COMMANDS {
+        for row in command_rows() {
             if row.1.name == name {
                 return command_help(alloc, row);
             }
         }
     }
     let texts = Texts::new(alloc)?;
+    program_help(alloc, &texts)
+}
+
+fn program_help(alloc: Global, texts: &Texts) -> Result<String, AllocError> {
     let mut program = texts.program(alloc)?;
     program.render_help()
 }
@@ -46,12 +50,31 @@ fn command_help(alloc: Global, row: &'static CommandRow) -> Result<String, Alloc
 /// rejects them too. The text has arguments unescaped. The only error is out of memory.
 pub fn refusal(alloc: Global, arguments: &[&str]) -> Result<String, AllocError> {
     let texts = Texts::new(alloc)?;
+    refusal_by(alloc, &texts, arguments)
+}
+
+fn refusal_by<'a>(
+    alloc: Global,
+    texts: &'a Texts,
+    arguments: &'a [&'a str],
+) -> Result<String, AllocError> {
     let mut program = texts.program(alloc)?;
     match error_on(&mut program, arguments) {
-        Some(error) if error.use_stderr() => text_of(alloc, error),
-        Some(_shown) => reason(alloc, &mut program, STANDS_ALONE),
+        Some(error) => reason_by_clap(alloc, &mut program, error),
         None => reason_beside_clap(alloc, &mut program, arguments),
     }
+}
+
+/// `clap`'s reason, or where it would print help or the version, why it doesn't.
+fn reason_by_clap<'a>(
+    alloc: Global,
+    program: &mut Command<'a>,
+    error: Error,
+) -> Result<String, AllocError> {
+    if error.use_stderr() {
+        return text_of(alloc, error);
+    }
+    reason(alloc, program, STANDS_ALONE)
 }
 
 /// What `clap` parses arguments as, by the table of commands.
@@ -96,7 +119,7 @@ fn reason_beside_clap<'a>(
         let misplaced = misplaced_option(alloc)?;
         return reason(alloc, program, misplaced.as_str());
     }
-    for row in COMMANDS {
+    for row in command_rows() {
         if row.0 == *first {
             return reason_of_command(alloc, row);
         }
@@ -106,15 +129,18 @@ fn reason_beside_clap<'a>(
 
 /// The error for arguments of a command that `clap` accepts.
 fn reason_of_command(alloc: Global, row: &'static CommandRow) -> Result<String, AllocError> {
+    let text = reason_after(alloc, row.1.name)?;
     let texts = CommandTexts::new(alloc, row)?;
     let mut described = described(alloc, row, &texts)?;
-    match row.1.name {
-        CommandName::Audit => reason(alloc, &mut described, WORKERS),
-        CommandName::Each => {
-            let question = question_reason(alloc)?;
-            reason(alloc, &mut described, question.as_str())
-        }
-        _ => reason(alloc, &mut described, LATER_DASHES),
+    reason(alloc, &mut described, text.as_str())
+}
+
+/// Why arguments after this command that `clap` accepts aren't valid.
+fn reason_after(alloc: Global, command: CommandName) -> Result<String, AllocError> {
+    match command {
+        CommandName::Audit => String::from_str(alloc, WORKERS),
+        CommandName::Each => question_reason(alloc),
+        _ => String::from_str(alloc, LATER_DASHES),
     }
 }
 
@@ -133,7 +159,7 @@ fn misplaced_option(alloc: Global) -> Result<String, AllocError> {
         alloc,
         "an option goes before its command, at most once, and its value is the next argument:\n",
     )?;
-    for row in OPTIONS {
+    for row in option_rows() {
         push_option(alloc, &mut text, row)?;
     }
     text.push_str("before 'each' go the options of its command")?;
@@ -160,7 +186,7 @@ fn push_option(alloc: Global, text: &mut String, row: &OptionRow) -> Result<(), 
 }
 
 fn option_name(option: OptionName) -> &'static str {
-    for row in OPTIONS {
+    for row in option_rows() {
         if row.1.name == option {
             return row.0;
         }
