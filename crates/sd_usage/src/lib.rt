@@ -23,4 +23,4 @@ pub use row::{
     ProgramOption, Question, Value, command_named, option_named,
 };
 pub use table::{COMMANDS, OPTIONS};
-pub use usage::{ByClap, by_clap, help, refusal};
+pub use usage::{help, refusal};

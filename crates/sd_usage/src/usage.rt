@@ -77,35 +77,6 @@ fn reason_by_clap<'a>(
     reason(alloc, program, STANDS_ALONE)
 }
 
-/// What `clap` parses arguments as, by the table of commands.
-#[derive(Clone, Copy, Debug, PartialEq, Eq)]
-pub enum ByClap {
-    /// They ask for a command.
-    Command,
-    /// They ask for help.
-    Help,
-    /// They ask for the version.
-    Version,
-    /// They aren't a valid command line.
-    Nothing,
-}
-
-/// What `clap` parses the arguments as, of which the first is the program's name. The only error is out of memory.
-pub fn by_clap(alloc: Global, arguments: &[&str]) -> Result<ByClap, AllocError> {
-    let texts = Texts::new(alloc)?;
-    let mut program = texts.program(alloc)?;
-    let made = match error_on(&mut program, arguments) {
-        None => ByClap::Command,
-        Some(error) => match error.kind() {
-            ErrorKind::DisplayHelp => ByClap::Help,
-            ErrorKind::DisplayVersion => ByClap::Version,
-            ErrorKind::OutOfMemory => return Err(AllocError),
-            _ => ByClap::Nothing,
-        },
-    };
-    Ok(made)
-}
-
 /// The error for arguments that `clap` accepts.
 fn reason_beside_clap<'a>(
     alloc: Global,
