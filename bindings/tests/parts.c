@@ -178,6 +178,7 @@ static void mask_texts(void)
     WRITES(hudarin_mask_to_text(0x160089, room, length), "FR+WD", 5);
     WRITES(hudarin_mask_to_text(0x120289, room, length), "FR+0x200", 8);
     WRITES(hudarin_mask_to_text(0x80000001, room, length), "GR+CC", 5);
+    WRITES(hudarin_mask_to_text(0xF0100000, room, length), "GR+GW+GX+GA+0x100000", 20);
     WRITES(hudarin_mask_to_text(0, room, length), "0x0", 3);
 }
 

@@ -4,7 +4,6 @@
 
 mod audits;
 mod each;
-mod scripts;
 mod serving;
 mod streams;
 mod trees;

@@ -1,6 +1,5 @@
 //! A test calls a store by helpers without contracts: the proof of the test then carries no journal along.
 
-mod analysis;
 mod audits;
 mod calls;
 mod client;

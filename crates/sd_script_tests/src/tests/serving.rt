@@ -95,14 +95,9 @@ struct Ended<W: Drop> {
     writer: W,
 }
 
-fn served<R: Read + Drop, W: Write + Drop>(
-    alloc: Global,
-    has_ids: bool,
-    reader: R,
-    writer: W,
-) -> Ended<W> {
+fn served<R: Read + Drop, W: Write + Drop>(alloc: Global, reader: R, writer: W) -> Ended<W> {
     let (mut reader, mut writer) = (Watched::new(reader), Watched::new(writer));
-    let answer = serve(alloc, &plain(), has_ids, &mut reader, &mut writer);
+    let answer = serve(alloc, &plain(), false, &mut reader, &mut writer);
     Ended {
         error: answer.err(),
         is_read_failed: reader.failed(),
@@ -120,7 +115,7 @@ fn answers_pieces_of_every_length(rt: HostRuntime) {
         .expect(&rt, "memory is there");
     for size in 1..=length {
         let reader = in_pieces(&rt, size, usize::MAX);
-        let ended = served(rt.alloc(), false, reader, Vec::new(rt.alloc()));
+        let ended = served(rt.alloc(), reader, Vec::new(rt.alloc()));
         assert_eq!(rt; ended.error, None, "by {size}");
         assert!(rt; ended.writer == wanted, "by {size}");
     }
@@ -131,7 +126,7 @@ fn answers_what_had_ended_before_the_reader_failed(rt: HostRuntime) {
     let length = script(rt.alloc()).expect(&rt, "memory is there").len();
     for fails_at in 0..=length {
         let reader = in_pieces(&rt, 7, fails_at);
-        let ended = served(rt.alloc(), false, reader, Vec::new(rt.alloc()));
+        let ended = served(rt.alloc(), reader, Vec::new(rt.alloc()));
         assert_eq!(rt; ended.error, Some(RunError::Read), "at {fails_at}");
         assert!(rt;
             ended.is_read_failed && !ended.is_write_failed,
@@ -170,7 +165,7 @@ fn writes_a_beginning_where_the_writer_fails(rt: HostRuntime) {
             taken: Vec::new(rt.alloc()),
             room,
         };
-        let ended = served(rt.alloc(), false, script.as_slice(), writer);
+        let ended = served(rt.alloc(), script.as_slice(), writer);
         assert_eq!(rt; ended.error, Some(RunError::Write), "room for {room}");
         assert!(rt;
             ended.is_write_failed && !ended.is_read_failed,
@@ -178,16 +173,4 @@ fn writes_a_beginning_where_the_writer_fails(rt: HostRuntime) {
         );
         assert_eq!(rt; ended.writer.taken.as_slice(), &whole[..room]);
     }
-}
-
-#[test]
-fn each_line_of_an_answer_has_the_id(rt: HostRuntime) {
-    let ended = served(
-        rt.alloc(),
-        true,
-        b"7 why\n".as_slice(),
-        Vec::new(rt.alloc()),
-    );
-    assert_eq!(rt; ended.error, None);
-    assert_eq!(rt; ended.writer.as_slice(), b"7 fault words\n7 \n".as_slice());
 }
