@@ -1,6 +1,6 @@
 //! Streams that give and take one byte at a call, and that fail at each of their calls in turn.
 use sd_stream::*;
-use std::alloc::{AllocError, Global};
+use std::alloc::Global;
 use std::io;
 use std::io::{ErrorKind, Read, Write};
 use std::process::Abort;
@@ -191,29 +191,4 @@ fn a_write_of_nothing_may_take_nothing(rt: HostRuntime) {
     let output = all_written(writer.into_inner(), b"");
     assert_eq!(rt; output.answer, Ok(()));
     assert!(rt; !output.is_failed);
-}
-
-fn one_byte(alloc: Global) -> Result<Vec<u8>, RunError> {
-    let mut bytes = Vec::new(alloc);
-    bytes.push(1)?;
-    Ok(bytes)
-}
-
-#[test]
-fn errors_have_numbers_and_names(rt: HostRuntime) {
-    let bytes = one_byte(rt.alloc()).expect(&rt, "memory is there");
-    assert_eq!(rt; bytes.len(), 1);
-    let rows = [
-        (RunError::Read, 1, "Read"),
-        (RunError::TooLong, 2, "TooLong"),
-        (RunError::Write, 3, "Write"),
-        (RunError::from(AllocError), 4, "Memory"),
-        (RunError::Thread, 5, "Thread"),
-    ];
-    for (error, number, name) in rows {
-        assert_eq!(rt; error.number(), number);
-        assert_eq!(rt; error.name(), name);
-        let shown = error.to_string(rt.alloc()).expect(&rt, "memory is there");
-        assert_eq!(rt; shown.as_str(), name);
-    }
 }
