@@ -442,7 +442,7 @@ def _filled(
     that the answer says."""
     length = 256
     while True:
-        buffer = ctypes.create_string_buffer(length)
+        buffer = (ctypes.c_char * length)()
         answer = call(buffer, length)
         written = getattr(answer, "written", answer)
         if written.status == 0:

@@ -50,6 +50,7 @@ with Token(user, [user], restricting=[user]) as token, KeptDescriptor(descriptor
     with store.publish() as view, view.share() as other:
         seen: View = other
         nodes: Iterator[Node] = view.nodes()
+        paths: Iterator[str] = view.paths()
         count: int = len(view) + len(store)
         store.judge.move("/a", "/b")
 

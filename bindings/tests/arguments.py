@@ -262,6 +262,7 @@ with Store(ROOT) as store, Token(USER) as token:
             ],
             lambda: [(node.path, node.is_container, str(node.own)) for node in second.nodes()],
         )
+        gives("their paths", ["/", "/b", "/b/o"], lambda: list(second.paths()))
         gives("one of them", second.own("/b/o"), lambda: list(second.nodes())[2])
         gives("no such node", ("no node", None, "path"), lambda: refusal(lambda: second.own("/a")))
         store.remove("/b/o")
