@@ -12,10 +12,11 @@ from spelling import descriptor_of, fault_of, path_of, printed, sid_of, spelled
 
 @dataclass(frozen=True, slots=True)
 class Edit:
-    """An edit: its name, and its arguments in the order of its words."""
+    """An edit: its name, its arguments, and the words that spell them."""
 
     name: str
     arguments: tuple[Any, ...]
+    words: Sequence[str]
 
     def make(self, store: Store) -> str:
         """Makes it: `ok`, or why the library refuses it, and then the store is as it was."""
@@ -27,15 +28,17 @@ class Edit:
 
     def line(self) -> str:
         """The one line that spells it: parsed again it is the same edit."""
-        return " ".join([self.name, *(show(given) for (_, show), given in zip(_EDITS[self.name][0], self.arguments))])
+        spellings = zip(_EDITS[self.name][0], self.arguments, self.words)
+        return " ".join([self.name, *(show(argument, word) for (_, show), argument, word in spellings)])
 
 
-#: What a word is parsed to, and how it is printed again.
-_PATH = (path_of, spelled)
-_SDDL = (descriptor_of, printed)
-_SID = (sid_of, str)
+_Argument = tuple[Callable[[str], Any], Callable[[Any, str], str]]
+#: What a word is parsed to, and how that is printed again.
+_PATH: _Argument = (path_of, lambda path, word: spelled(path))
+_SDDL: _Argument = (descriptor_of, printed)
+_SID: _Argument = (sid_of, lambda sid, word: str(sid))
 #: The arguments of each edit, and its call.
-_EDITS: dict[str, tuple[tuple[tuple[Callable[[str], Any], Callable[[Any], str]], ...], Callable[..., None]]] = {
+_EDITS: dict[str, tuple[tuple[_Argument, ...], Callable[..., None]]] = {
     "addc": ((_PATH, _SDDL), Store.add_container),
     "addo": ((_PATH, _SDDL), Store.add_object),
     "owner": ((_PATH, _SID), Store.set_owner),
@@ -62,7 +65,7 @@ def edit_of(words: Sequence[str], view: View) -> Edit:
     except Fault:
         require_paths(view, [given for given in arguments if isinstance(given, str)])
         raise
-    return Edit(words[0], tuple(arguments))
+    return Edit(words[0], tuple(arguments), words[1:])
 
 
 def require_paths(view: View, paths: Sequence[str]) -> None:

@@ -49,14 +49,15 @@ def _descriptor(word: str) -> Descriptor:
 _kept_descriptor = functools.lru_cache(_KEPT)(_descriptor)
 
 
-def printed(descriptor: Descriptor) -> str:
-    """The canonical text, which parses to the same bytes. Fault: it doesn't."""
-    return _kept_text(descriptor) if len(bytes(descriptor)) <= _KEPT_LENGTH else _text(descriptor)
+def printed(descriptor: Descriptor, given: str = "") -> str:
+    """The canonical text, which parses to the same bytes, as the text does that they were given by. Fault: it doesn't."""
+    is_short = len(bytes(descriptor)) <= _KEPT_LENGTH and len(given) <= _KEPT_LENGTH
+    return _kept_text(descriptor, given) if is_short else _text(descriptor, given)
 
 
-def _text(descriptor: Descriptor) -> str:
+def _text(descriptor: Descriptor, given: str) -> str:
     text = str(descriptor)
-    if Descriptor.from_sddl(text) != descriptor:
+    if text != given and Descriptor.from_sddl(text) != descriptor:
         raise Fault("fault parts")
     return text
 
