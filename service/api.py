@@ -46,7 +46,7 @@ def route(
     service: Service, caller: Caller, method: str, target: str, fields: dict[str, str], body: bytes, reply: _Reply
 ) -> None:
     """Answers a request by one call of `reply`, now or later."""
-    methods = _ROUTES.get(target.partition("?")[0])
+    methods = ROUTES.get(target.partition("?")[0])
     if methods is None:
         reply(Response(HTTPStatus.NOT_FOUND, {"fault": "path of the request"}))
     elif method not in methods:
@@ -384,7 +384,8 @@ def _metrics(request: _Request) -> None:
     request.reply(Response(HTTPStatus.OK, request.service.metrics_text()))
 
 
-_ROUTES: dict[str, dict[str, tuple[str, Callable[[_Request], None]]]] = {
+#: By path and method the role that is required, and what answers.
+ROUTES: dict[str, dict[str, tuple[str, Callable[[_Request], None]]]] = {
     "/v1/check": {"POST": ("check", _check)},
     "/v1/why": {"POST": ("check", _why)},
     "/v1/show": {"POST": ("check", _show)},

@@ -161,8 +161,19 @@ class Costs(rig.Case):
                 return 100
 
             self.say_rate("the same in batches of 100", hundred)
+            for line in (f"find 0 / {rig.USER} FR BU", "list", "review"):
+                self.whole(asked, line)
             self.beside_edits(single)
         self.stop()
+
+    def whole(self, asked: rig.Lines, line: str) -> None:
+        """A question that looks at each node."""
+        before, began, count = self.processor(), time.perf_counter(), 0
+        asked.send(f"x {line}\n".encode())
+        while asked.read() != b"x \n":
+            count += 1
+        took, used = time.perf_counter() - began, self.processor() - before
+        say(f"`{line.partition(' ')[0]}` of a full tree, {count:,} lines", f"{took:.1f} s", f"{used:.1f} s")
 
     def beside_edits(self, single: Callable[[], int]) -> None:
         stop, made = threading.Event(), [0]

@@ -8,6 +8,8 @@ from typing import Any
 
 import rig
 
+from api import ROUTES
+
 API = json.loads((rig.SERVICE / "openapi.json").read_text())
 
 
@@ -57,6 +59,11 @@ class Http(rig.Case):
         if status == 200:
             self.assertTrue(fits(given, post["requestBody"]["content"]["application/json"]["schema"]), given)
         return status, answer
+
+    def test_each_route(self) -> None:
+        """openapi.json has just the paths and methods of the service."""
+        self.assertEqual({path: {method.lower() for method in methods} for path, methods in ROUTES.items()},
+                         {path: set(methods) for path, methods in API["paths"].items()})
 
     def test_requests(self) -> None:
         self.start()

@@ -215,14 +215,14 @@ class Lines(rig.Case):
         for each in many:
             each.close()
 
-    def test_reads_beside_a_large_dump(self) -> None:
-        """A dump that takes long delays no check."""
+    def test_reads_beside_long_answers(self) -> None:
+        """Answers that take long delay no check."""
         count = 20_000
         nodes = "".join(f"addo /n{at} O:BAG:SYD:\n" for at in range(count))
         self.make(f"open 1 O:BAG:SYD:(A;OICI;FR;;;BU)\n{nodes}publish\n")
         self.start()
         with self.connect() as long, self.connect() as other:
-            long.send(b"d dump\nl list\n")
+            long.send(f"d dump\nl list\nf find 0 / {rig.USER} FR BU\nr review\n".encode())
             latest = 0.0
             for _ in range(50):
                 began = time.monotonic()
@@ -230,7 +230,8 @@ class Lines(rig.Case):
                 latest = max(latest, time.monotonic() - began)
             long.socket.shutdown(socket.SHUT_WR)
             said = long.rest()
-            self.assertEqual(said.count(b"\n"), 2 * (count + 1) + 3)
+            self.assertEqual([said.count(b"\n%b " % each) for each in (b"d", b"l", b"f", b"r")],
+                             [count + 2, count + 2, count + 3, 2])
         self.assertLess(latest, 10)
 
     def test_stop_answers_what_is_in_progress(self) -> None:
