@@ -1,5 +1,6 @@
 -- What the program prints for a command line, and whether it did what was asked for.
-use Rattle.std.specs.Prelude.{◌≡◌, ◌⊎◌, ℕ, Bool, ◌||◌, true, false, List, [], ◌++◌, Option, Some, None, IfSome, codes}
+use Rattle.std.specs.Prelude.{◌≡◌, ◌⊎◌, ℕ, Bool, true, false, MatchBool, List, [], ◌++◌, Option, Some, None, IfSome}
+use Rattle.std.specs.Prelude.{codes}
 use Rattle.std.specs.Io.KnownBytes.{Appends}
 use Rattle.std.specs.Str.{IsUtf8}
 use Rattle.sd_answer.specs.Answer.{line, fault_line}
@@ -18,11 +19,13 @@ use Rattle.sd_usage.specs.declared.row.Question.TheVariants as questions
 use Rattle.sd_command_line.specs.CommandLine.{CommandLineValue, InvocationValue, Ask, Script as AsksScript}
 use Rattle.sd_command_line.specs.CommandLine.{Serve as AsksServe, Audit as AsksAudit, Each as AsksEach, Help, Version}
 use Rattle.sd_command_line.specs.CommandLine.{RequestValue}
+use Rattle.sd_command_line.specs.Each.{is_blank, outcome_of_lines, told_of_lines, with_line}
+use Rattle.sd_command_line.specs.declared.each.Progress.{Progress}
+use Rattle.sd_command_line.specs.declared.each.Progress.TheVariants.{NoLine}
 use Rattle.sd_command_line.specs.Options.{OptionsValue, AreSettings, HasBadValue, is_strict}
 use Rattle.sd_commands.specs.Answer.{AnswerValue, AnswersQuestion, IsDone, IsFault, is_refusal}
 use Rattle.sd_commands.specs.Told.{told_line, IsSidReason}
-use Rattle.sd_commands.specs.declared.answer.Outcome.{Outcome}
-use Rattle.sd_commands.specs.declared.answer.Outcome.TheVariants.{Done, Refused}
+use Rattle.sd_commands.specs.declared.answer.Outcome.TheVariants.{Done}
 use Rattle.sd_command_line.specs.declared.options.BadValue.{BadValue}
 use Rattle.sd_command_line.specs.declared.options.BadValue.TheVariants.{NoDomain, NoMapping}
 use Rattle.sd_commands.specs.declared.settings.Settings.{Settings}
@@ -74,11 +77,17 @@ AnswersScript Prints input options settings answer =
 
 -- ---- of each line
 
--- the answer to a line's text is the one command's; no text is told of a line that is too long
+-- the answer to a line's text is the one command's, but a blank line is a fault; no text is told of a line that is too
+-- long
+abbrev pub AnswersText : OptionsValue → RequestValue → List ℕ → AnswerValue → Type 0
+AnswersText options request text answer = MatchBool (is_blank text)
+    (IsFault (fault_line (codes "blank")) [] answer)
+    (AnswersArguments options (Ask text request) answer)
+
 abbrev pub AnswersTold : OptionsValue → RequestValue → Option (List ℕ) → AnswerValue → Type 0
 AnswersTold options request None answer = IsFault (fault_line (codes "long")) [] answer
 AnswersTold options request (Some text) answer =
-    (IsUtf8 text × AnswersArguments options (Ask text request) answer)
+    (IsUtf8 text × AnswersText options request text answer)
     ⊎ ((IsUtf8 text → ⊥) × IsFault (fault_line (codes "utf8")) [] answer)
 
 -- what follows each answer: an empty line, where an answer may have several lines
@@ -89,37 +98,37 @@ after_answer questions.Compare = codes "\n"
 after_answer questions.Lint = codes "\n"
 after_answer question = []
 
-abbrev pub outcome_of_lines : Bool → Outcome
-outcome_of_lines true = Refused
-outcome_of_lines false = Done
-
 -- a line's answer, and whether it is a refusal
 abbrev pub AnswersLine : OptionsValue → RequestValue → Option (List ℕ) → List ℕ → Bool → Type 0
 AnswersLine options request told printed is_refused =
     (answer : AnswerValue) × AnswersTold options request told answer
     × (printed ≡ answer.printed ++ after_answer request.question) × (is_refused ≡ is_refusal answer.outcome)
 
--- the same, and whether this line or one before it was refused
-abbrev pub AnswersNext : OptionsValue → RequestValue → Bool → Option (List ℕ) → List ℕ → Bool → Type 0
-AnswersNext options request was_refused told printed refused =
-    (is_refused : Bool) × AnswersLine options request told printed is_refused × (refused ≡ (was_refused || is_refused))
+-- the same, and how the lines up to this one were answered
+abbrev pub AnswersNext : OptionsValue → RequestValue → Progress → Option (List ℕ) → List ℕ → Progress → Type 0
+AnswersNext options request before told printed after =
+    (is_refused : Bool) × AnswersLine options request told printed is_refused × (after ≡ with_line before is_refused)
 
 -- the lines of an input, of which one that is too long is answered too
 abbrev pub form_of : Ending → LineForm
 form_of ending = record { ending = ending; skips_mark = true; stops_at_long = false; line_by_line = false }
 
--- the lines' answers, one after the other; refused where one is, and nothing is told beside them
+-- the lines' answers, one after the other; refused where one is or where there is none
 abbrev pub AnswersEach : OptionsValue → Ending → RequestValue → Option (List ℕ) → AnswerValue → Type 0
 AnswersEach options ending request input answer =
-    (text : List ℕ) × (refused : Bool) × IfSome input (λ bytes. text ≡ bytes)
-    × PrintsAndLeaves (form_of ending) (AnswersNext options request) false text answer.printed refused
-    × (answer.told ≡ []) × (answer.outcome ≡ outcome_of_lines refused)
+    (text : List ℕ) × (progress : Progress) × IfSome input (λ bytes. text ≡ bytes)
+    × PrintsAndLeaves (form_of ending) (AnswersNext options request) NoLine text answer.printed progress
+    × (answer.told ≡ told_of_lines progress) × (answer.outcome ≡ outcome_of_lines progress)
 
 -- known bytes grow by them
 pub record AppendsEach (options : OptionsValue) (ending : Ending) (request : RequestValue)
-    (input old new : Option (List ℕ)) (outcome : Outcome) : Type 0 where
+    (input old new : Option (List ℕ)) (progress : Progress) : Type 0 where
   pub printed : List ℕ
-  pub answers : AnswersEach options ending request input (record { printed = printed; told = []; outcome = outcome })
+  pub answers : AnswersEach options ending request input (record {
+    printed = printed;
+    told = told_of_lines progress;
+    outcome = outcome_of_lines progress;
+  })
   pub appended : Appends old new printed
 
 -- what is printed for a command line, with this input where it is known, and what came of it

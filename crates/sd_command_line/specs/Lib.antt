@@ -1,5 +1,6 @@
 pub mod Answer
 pub mod CommandLine
+pub mod Each
 pub mod Laws
 pub mod Options
 pub mod Output

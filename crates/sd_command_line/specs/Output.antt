@@ -15,6 +15,7 @@ use Rattle.sd_command_line.specs.Answer.{Answers, AnswersNext, form_of}
 use Rattle.sd_commands.specs.Answer.{AnswerValue, outcome_status}
 use Rattle.sd_command_line.specs.CommandLine.{CommandLineValue, RequestValue, Each, Serve, reading, IsAudit, IsUnread}
 use Rattle.sd_command_line.specs.Options.{AreSettings}
+use Rattle.sd_command_line.specs.declared.each.Progress.TheVariants.{NoLine}
 use Rattle.sd_command_line.specs.Scripts.{manner_of}
 use Rattle.sd_commands.specs.declared.answer.Outcome.{Outcome}
 use Rattle.sd_commands.specs.declared.settings.Settings.{Settings}
@@ -60,7 +61,7 @@ pub record LeavesEach (line : CommandLineValue) (input left old new : Option (Li
   pub ending : Ending
   pub request : RequestValue
   pub asked : line.invocation ≡ Each ending request
-  pub answers : LeavesAnswers (form_of ending) (Prints (form_of ending) (AnswersNext line.options request) false)
+  pub answers : LeavesAnswers (form_of ending) (Prints (form_of ending) (AnswersNext line.options request) NoLine)
       input left old new error
 
 -- what was answered line by line until then

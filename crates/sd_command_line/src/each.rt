@@ -1,25 +1,78 @@
 //! The answers of one command to each line of an input.
-ghost use Rattle.std.specs.Prelude.{◌≡◌, ◌||◌, false, IfErr, IfOk, option_map};
+ghost use Rattle.std.specs.Prelude.{◌≡◌, ◌||◌, IfErr, IfOk, option_map, string_bytes};
 ghost use Rattle.sd_lines.specs.Answers.{Prints};
 ghost use Rattle.sd_lines.specs.Output.{LeavesAnswers};
 ghost use Rattle.sd_stream.specs.Watched.{has_failed, inner_of};
 ghost use Rattle.sd_stream.specs.Whole.{is_read_error, is_write_error};
-ghost use Rattle.sd_commands.specs.Answer.{answer_of};
-ghost use Rattle.sd_command_line.specs.Answer.{AnswersNext, AnswersTold, AppendsEach, after_answer, form_of};
-ghost use Rattle.sd_command_line.specs.Answer.{outcome_of_lines};
+ghost use Rattle.sd_commands.specs.Answer.{answer_of, is_refusal};
+ghost use Rattle.sd_command_line.specs.Answer.{AnswersNext, AnswersText, AnswersTold, AppendsEach, after_answer};
+ghost use Rattle.sd_command_line.specs.Answer.{form_of};
 ghost use Rattle.sd_command_line.specs.CommandLine.{request_of};
+ghost use Rattle.sd_command_line.specs.Each.{is_blank, is_white, no_line_note, outcome_of_lines, told_of_lines};
+ghost use Rattle.sd_command_line.specs.Each.{with_line};
 ghost use Rattle.sd_command_line.specs.Options.{options_of};
+ghost use Rattle.sd_command_line.specs.declared.each.Progress.TheVariants.{NoLine};
 
 use crate::answer::answer_to;
 use crate::command_line::{CommandLine, Invocation, Request};
 use crate::options::Options;
-use sd_commands::{Answer, Outcome, fault};
+use sd_commands::{Answer, Outcome, fault, told_line};
 use sd_lines::{Answers, Ending, Form, answer_lines};
 use sd_stream::{RunError, Watched};
 use sd_usage::Question;
 use std::alloc::{AllocError, Global};
 use std::io::{Read, Write};
 use std::str::from_utf8;
+
+/// How the lines so far were answered.
+#[derive(Clone, Copy, Debug)]
+pub(crate) enum Progress {
+    /// There was none.
+    NoLine,
+    /// None was refused.
+    AllDone,
+    AnyRefused,
+}
+
+impl Progress {
+    /// The same with one more line, of which this came.
+    fn with_line(self, outcome: Outcome) -> Progress
+        ensures { result ≡ with_line self (is_refusal outcome) }
+    {
+        match self {
+            Progress::NoLine | Progress::AllDone if !outcome.is_refusal() => Progress::AllDone,
+            _ => Progress::AnyRefused,
+        }
+    }
+
+    /// What came of all of them. An input without a line is refused.
+    pub(crate) fn outcome(self) -> Outcome
+        ensures { result ≡ outcome_of_lines self }
+    {
+        match self {
+            Progress::AllDone => Outcome::Done,
+            Progress::NoLine | Progress::AnyRefused => Outcome::Refused,
+        }
+    }
+
+    /// What standard error is told of them: this note, where there was none.
+    pub(crate) fn told(self, alloc: Global, note: String) -> String
+        requires { string_bytes note ≡ no_line_note }
+        ensures { string_bytes result ≡ told_of_lines self }
+    {
+        match self {
+            Progress::NoLine => note,
+            Progress::AllDone | Progress::AnyRefused => String::new(alloc),
+        }
+    }
+}
+
+/// The note on an input without a line.
+pub(crate) fn no_line_note(alloc: Global) -> Result<String, AllocError>
+    ensures { IfOk result (λ note. string_bytes note ≡ no_line_note) }
+{
+    told_line(alloc, "standard input", "no line")
+}
 
 /// A command with its arguments, under its options, that is asked of each line.
 #[derive(Clone, Copy, Debug)]
@@ -29,24 +82,23 @@ pub(crate) struct LineQuestion<'a> {
 }
 
 impl Answers for LineQuestion<'_> {
-    /// Whether a line so far was refused.
-    type State = bool;
+    type State = Progress;
 
-    ghost answers = { λ question was_refused told printed refused. AnswersNext (options_of question.options)
+    ghost answers = { λ question before told printed after. AnswersNext (options_of question.options)
         (request_of question.request)
-        was_refused told printed refused };
+        before told printed after };
 
     fn answer(
         &self,
         alloc: Global,
-        refused: &mut bool,
+        progress: &mut Progress,
         line: Option<&[u8]>,
         text: &mut Vec<u8>,
     ) -> Result<(), AllocError> {
         let answer = self.answer_told(alloc, line)?;
         text.extend_from_slice(answer.text.as_bytes())?;
         text.extend_from_slice(after_answer(self.request.question).as_bytes())?;
-        *refused |= answer.outcome.is_refusal();
+        *progress = progress.with_line(answer.outcome);
         Ok(())
     }
 }
@@ -63,6 +115,17 @@ impl LineQuestion<'_> {
         let Ok(text) = from_utf8(bytes) else {
             return fault(alloc, "utf8", String::new(alloc));
         };
+        self.answer_text(alloc, text)
+    }
+
+    /// The answer to a line's text.
+    fn answer_text(&self, alloc: Global, text: &str) -> Result<Answer, AllocError>
+        ensures { IfOk result (λ answer. AnswersText (options_of self.now.options) (request_of self.now.request)
+            text.now (answer_of answer)) }
+    {
+        if is_blank(text.as_bytes()) {
+            return fault(alloc, "blank", String::new(alloc));
+        }
         answer_to(
             alloc,
             CommandLine {
@@ -86,15 +149,17 @@ fn after_answer(question: Question) -> &'static str
     }
 }
 
-/// What came of a run over lines.
-fn outcome_of_lines(is_refused: bool) -> Outcome
-    ensures { result ≡ outcome_of_lines is_refused }
+/// Whether the line has nothing but white space.
+fn is_blank(line: &[u8]) -> bool
+    ensures { result ≡ is_blank line.now }
 {
-    if is_refused {
-        Outcome::Refused
-    } else {
-        Outcome::Done
-    }
+    line.iter().all(|byte| is_white(*byte))
+}
+
+fn is_white(byte: u8) -> bool
+    ensures { result ≡ is_white byte }
+{
+    matches!(byte, b'\t' | b'\n' | b'\r' | b' ')
 }
 
 /// The lines of an input, of which one that is too long is answered too.
@@ -116,26 +181,26 @@ pub(crate) fn answer_each<R: Read, W: Write>(
     ending: Ending,
     reader: &mut Watched<R>,
     writer: &mut Watched<W>,
-) -> Result<Outcome, RunError>
+) -> Result<Progress, RunError>
     ensures ok { IfOk result (AppendsEach (options_of question.entry.options) ending (request_of question.entry.request)
         (R.remaining (inner_of reader.old))
         (W.contents (inner_of writer.old)) (W.contents (inner_of writer.new))) }
     ensures err { IfErr result (LeavesAnswers (form_of ending)
         (Prints (form_of ending)
-        (AnswersNext (options_of question.entry.options) (request_of question.entry.request)) false)
+        (AnswersNext (options_of question.entry.options) (request_of question.entry.request)) NoLine)
         (R.remaining (inner_of reader.old)) (R.remaining (inner_of reader.new))
         (W.contents (inner_of writer.old)) (W.contents (inner_of writer.new))) }
     ensures read { has_failed reader.new ≡ (has_failed reader.old || is_read_error result) }
     ensures write { has_failed writer.new ≡ (has_failed writer.old || is_write_error result) }
 {
-    let mut refused = false;
+    let mut progress = Progress::NoLine;
     answer_lines(
         alloc,
         &question,
-        &mut refused,
+        &mut progress,
         form_of(ending),
         reader,
         writer,
     )?;
-    Ok(outcome_of_lines(refused))
+    Ok(progress)
 }

@@ -1,5 +1,5 @@
 //! A command line, carried out over streams.
-ghost use Rattle.std.specs.Prelude.{◌≡◌, ◌≢◌, ◌||◌, ℕ, List, [], true, false, Err, IfErr, IfOk, string_bytes};
+ghost use Rattle.std.specs.Prelude.{◌≡◌, ◌≢◌, ◌||◌, ℕ, List, true, false, Err, IfErr, IfOk, string_bytes};
 ghost use Rattle.std.specs.Io.KnownBytes.{Appends};
 ghost use Rattle.sd_stream.specs.Watched.{has_failed, inner_of};
 ghost use Rattle.sd_stream.specs.Whole.{AppendsBeginning, ReadsPart, is_read_error, is_write_error};
@@ -13,7 +13,7 @@ ghost use Rattle.sd_command_line.specs.Scripts.{IsToldOfScript, script_outcome};
 
 use crate::answer::{answer_to, bad_value};
 use crate::command_line::{CommandLine, Invocation, Request};
-use crate::each::{LineQuestion, answer_each};
+use crate::each::{LineQuestion, answer_each, no_line_note};
 use crate::failure::Failure;
 use crate::options::Options;
 use crate::scripts::{script_outcome, told_of_script};
@@ -33,19 +33,6 @@ use std::thread::Threads;
 pub(crate) struct Ended {
     pub(crate) told: String,
     pub(crate) outcome: Outcome,
-}
-
-impl Ended {
-    /// Nothing is told beside the output.
-    fn quiet(alloc: Global, outcome: Outcome) -> Ended
-        ensures told { string_bytes result.told ≡ [] }
-        ensures outcome { result.outcome ≡ outcome }
-    {
-        Ended {
-            told: String::new(alloc),
-            outcome,
-        }
-    }
 }
 
 /// Carries out a command line. Only what is answered from the input uses `reader`.
@@ -180,9 +167,13 @@ fn perform_each<R: Read, W: Write>(
     ensures too_long { result ≢ Err (Failure.Run RunError.TooLong) }
     ensures thread { result ≢ Err (Failure.Run RunError.Thread) }
 {
+    let note = no_line_note(alloc)?;
     let question = LineQuestion { options, request };
-    let outcome = answer_each(alloc, question, ending, reader, writer)?;
-    Ok(Ended::quiet(alloc, outcome))
+    let progress = answer_each(alloc, question, ending, reader, writer)?;
+    Ok(Ended {
+        told: progress.told(alloc, note),
+        outcome: progress.outcome(),
+    })
 }
 
 /// Prints an answer.

@@ -236,14 +236,14 @@ write a line, wait for its answer, and write the next. Answers of 'why', 'who', 
 
 A line ends with a line feed, and one carriage return before it is dropped; with '-0' it ends with a
 zero byte. The last line may lack its end. A byte order mark before the first line is dropped. A
-line of more than 16777216 bytes is answered by 'fault long', and one that isn't UTF-8 by
-'fault utf8'.
+blank line is answered by 'fault blank', one of more than 16777216 bytes by 'fault long', and one
+that isn't UTF-8 by 'fault utf8'.
 
 '-0' goes between 'each' and COMMAND, all other options before 'each'. After COMMAND everything is
 an argument, except a first '--', which is dropped.
 
 Statuses:
   0  each line was answered with status 0
-  1  a line was answered with status 1
+  1  a line was answered with status 1, or there was none, as standard error says
   2  the arguments aren't a valid command line
   3  out of memory, an input error, or an output error";

@@ -12,6 +12,6 @@ returns-clause-ok g c =
     let out = rw (c.form_of.ensures) at c.in_ok-answer_lines.ensures.ok in
     record {
       printed = out.printed;
-      answers = (out.output.0, c.answer_lines.new.state, out.output.1, out.output.2, refl, c.outcome_of_lines.ensures);
+      answers = (out.output.0, c.answer_lines.new.state, out.output.1, out.output.2, refl, refl);
       appended = out.appended;
     }
