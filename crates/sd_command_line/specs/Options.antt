@@ -15,8 +15,8 @@ use Rattle.sd_answer.specs.declared.answer.Spelling.TheVariants.{Number, Names a
 use Rattle.sd_usage.specs.Table.{option_named, takes_option}
 use Rattle.sd_usage.specs.declared.row.Command.{Command}
 use Rattle.sd_usage.specs.declared.row.OptionName.{OptionName}
-use Rattle.sd_usage.specs.declared.row.OptionName.TheVariants.{Names, WithoutSacl, Base64, Loose, Percent, Strict}
-use Rattle.sd_usage.specs.declared.row.OptionName.TheVariants.{Domain, Mapping}
+use Rattle.sd_usage.specs.declared.row.OptionName.TheVariants.{Names, WithoutSacl, RequireDacl, Base64, Loose}
+use Rattle.sd_usage.specs.declared.row.OptionName.TheVariants.{Percent, Strict, Domain, Mapping}
 use Rattle.sd_usage.specs.declared.row.ProgramOption.{ProgramOption}
 use Rattle.sd_usage.specs.declared.table.TheConstants.{OPTIONS}
 use Rattle.sd_commands.specs.Mapping.{GivesMapping, GivesNoMapping, kind_given}
@@ -31,6 +31,7 @@ use Rattle.sd_commands.specs.declared.settings.Settings.{Settings}
 pub record OptionsValue : Type 0 where
   pub names : Option (List ℕ)
   pub without_sacl : Option (List ℕ)
+  pub require_dacl : Option (List ℕ)
   pub base64 : Option (List ℕ)
   pub loose : Option (List ℕ)
   pub percent : Option (List ℕ)
@@ -42,6 +43,7 @@ abbrev pub options_of : Options → OptionsValue
 options_of options = record {
   names = option_map (λ text. text.now) options.names;
   without_sacl = option_map (λ text. text.now) options.without_sacl;
+  require_dacl = option_map (λ text. text.now) options.require_dacl;
   base64 = option_map (λ text. text.now) options.base64;
   loose = option_map (λ text. text.now) options.loose;
   percent = option_map (λ text. text.now) options.percent;
@@ -54,6 +56,7 @@ abbrev pub no_options : OptionsValue
 no_options = record {
   names = None;
   without_sacl = None;
+  require_dacl = None;
   base64 = None;
   loose = None;
   percent = None;
@@ -66,6 +69,7 @@ no_options = record {
 abbrev pub given : OptionsValue → OptionName → Option (List ℕ)
 given options Names = options.names
 given options WithoutSacl = options.without_sacl
+given options RequireDacl = options.require_dacl
 given options Base64 = options.base64
 given options Loose = options.loose
 given options Percent = options.percent
@@ -79,6 +83,7 @@ has options option = is_some (given options option)
 abbrev pub with_value : OptionsValue → OptionName → List ℕ → OptionsValue
 with_value options Names value = record options { names = Some value }
 with_value options WithoutSacl value = record options { without_sacl = Some value }
+with_value options RequireDacl value = record options { require_dacl = Some value }
 with_value options Base64 value = record options { base64 = Some value }
 with_value options Loose value = record options { loose = Some value }
 with_value options Percent value = record options { percent = Some value }
@@ -161,6 +166,7 @@ pub record AreSettings (options : OptionsValue) (settings : Settings) : Type 0 w
   pub mapping : GivesMapping options.mapping settings.mapping
   pub kind : settings.kind ≡ kind_given options.mapping
   pub without_sacl : settings.without_sacl ≡ is_some options.without_sacl
+  pub require_dacl : settings.require_dacl ≡ is_some options.require_dacl
   pub bytes : settings.bytes ≡ byte_form_of options
 
 -- the value of an option isn't read: the domain's, or else the mapping's

@@ -31,6 +31,7 @@ pub(crate) enum BadValue<'a> {
 pub(crate) struct Options<'a> {
     names: Option<&'a str>,
     without_sacl: Option<&'a str>,
+    require_dacl: Option<&'a str>,
     base64: Option<&'a str>,
     loose: Option<&'a str>,
     percent: Option<&'a str>,
@@ -47,6 +48,7 @@ impl<'a> Options<'a> {
         Options {
             names: None,
             without_sacl: None,
+            require_dacl: None,
             base64: None,
             loose: None,
             percent: None,
@@ -63,6 +65,7 @@ impl<'a> Options<'a> {
         match option {
             OptionName::Names => self.names,
             OptionName::WithoutSacl => self.without_sacl,
+            OptionName::RequireDacl => self.require_dacl,
             OptionName::Base64 => self.base64,
             OptionName::Loose => self.loose,
             OptionName::Percent => self.percent,
@@ -93,6 +96,10 @@ impl<'a> Options<'a> {
             },
             OptionName::WithoutSacl => Options {
                 without_sacl: value,
+                ..self
+            },
+            OptionName::RequireDacl => Options {
+                require_dacl: value,
                 ..self
             },
             OptionName::Base64 => Options {
@@ -156,6 +163,7 @@ impl<'a> Options<'a> {
             mapping,
             kind: kind_given(self.mapping),
             without_sacl: self.has(OptionName::WithoutSacl),
+            require_dacl: self.has(OptionName::RequireDacl),
             bytes: self.byte_form(),
         })
     }

@@ -1,12 +1,12 @@
 -- What a command about a descriptor prints as an answer, and whether it did what was asked for. The arguments are read
 -- from left to right, and the first that isn't read is told as a fault.
 use Rattle.std.specs.Prelude.{◌≡◌, ◌⊎◌, ℕ, Bool, true, false, MatchBool, List, [], ◌∷◌, ◌++◌, Result, Ok, Err, codes}
-use Rattle.std.specs.Prelude.{string_bytes, drop, slice_get}
+use Rattle.std.specs.Prelude.{Option, Some, None, string_bytes, drop, slice_get}
 use Rattle.std.specs.Option.{option_map_or}
 use Rattle.std.specs.Borrow.{Bor}
 use Rattle.hex.specs.Hex.{encode_lower}
 use Rattle.sd_sid.specs.Sid.{SidValue}
-use Rattle.sd_acl.specs.Descriptor.{DescriptorValue}
+use Rattle.sd_acl.specs.Descriptor.{DescriptorValue, descriptor_of}
 use Rattle.sd_check.specs.declared.verdict.Verdict.{Verdict}
 use Rattle.sd_check.specs.declared.verdict.Verdict.TheVariants.{Granted, Denied, Reserved, EmptyRequest}
 use Rattle.sd_text.specs.Grammar.{Grammar, Spells, HasFault}
@@ -37,6 +37,7 @@ use Rattle.sd_commands.specs.Analysis.{AreAccesses, IsBaseIn, IsFirstNoGroupIn, 
 use Rattle.sd_commands.specs.Bytes.{bytes_read, form_name, has_sacl, without_sacl}
 use Rattle.sd_usage.specs.declared.row.Question.{Question}
 use Rattle.sd_usage.specs.declared.row.Question.TheVariants as questions
+use Rattle.sd_commands.specs.MissingDacl.{missing_dacl}
 use Rattle.sd_commands.specs.Rights.{rights_line}
 use Rattle.sd_commands.specs.Told.{fault_text, sacl_note, told_line, wire_fault_text, word_argument, word_at}
 use Rattle.sd_commands.specs.Told.{IsStateReason, IsWordReason}
@@ -44,6 +45,8 @@ use Rattle.sd_commands.specs.Words.{IsTokenIn, IsFirstNoWordIn}
 use Rattle.sd_commands.specs.declared.answer.Answer.{Answer}
 use Rattle.sd_commands.specs.declared.answer.Outcome.{Outcome}
 use Rattle.sd_commands.specs.declared.answer.Outcome.TheVariants.{Done, Refused}
+use Rattle.sd_commands.specs.declared.descriptor.Given.{Given}
+use Rattle.sd_commands.specs.declared.descriptor.Given.TheVariants as givens
 use Rattle.sd_commands.specs.declared.settings.Settings.{Settings}
 use Rattle.sd_commands.specs.declared.verdict.Form.{Form}
 use Rattle.sd_commands.specs.declared.verdict.Form.TheVariants.{Short, Explained}
@@ -133,13 +136,37 @@ abbrev pub Noting : List ℕ → Bool → (AnswerValue → Type 0) → AnswerVal
 Noting argument left_out Answers answer =
     (inner : AnswerValue) × Answers inner × (answer ≡ record inner { told = sacl_note argument left_out ++ inner.told })
 
--- what is answered of the descriptor that the argument of this name is, or the fault of its text
+-- the descriptor lacks the list that is required
+abbrev pub IsMissingDacl : List ℕ → List ℕ → AnswerValue → Type 0
+IsMissingDacl argument missing answer = IsFault (fault_line (codes "nodacl")) (told_line argument missing) answer
+
+-- the argument of this name isn't taken: the first fault of its text is printed, or that its descriptor lacks a list
+abbrev pub IsRefusedArgument : List ℕ → Settings → List ℕ → AnswerValue → Type 0
+IsRefusedArgument argument settings written answer =
+    AnswersSddlFault argument settings written answer
+    ⊎ ((d : DescriptorValue) × (left_out : Bool) × (missing : List ℕ) × IsRead settings written d left_out
+    × (missing_dacl settings.require_dacl d.dacl ≡ Some missing)
+    × Noting argument left_out (IsMissingDacl argument missing) answer)
+
+-- the argument is this descriptor, and it is taken
+abbrev pub IsTaken : Settings → List ℕ → DescriptorValue → Bool → Type 0
+IsTaken settings written d left_out = IsRead settings written d left_out
+    × (missing_dacl settings.require_dacl d.dacl ≡ None)
+
+-- what the argument of this name is
+abbrev pub IsGiven : List ℕ → Settings → List ℕ → Given → Type 0
+IsGiven argument settings written (givens.Descriptor read) =
+    IsTaken settings written (descriptor_of read.descriptor) read.left_out
+IsGiven argument settings written (givens.Refused answer) = IsRefusedArgument argument settings written
+    (answer_of answer)
+
+-- what is answered of the descriptor that the argument of this name is, or that it is none that is taken
 abbrev pub AnswersOfArgument : List ℕ → Settings → List ℕ → (DescriptorValue → AnswerValue → Type 0) → AnswerValue
     → Type 0
 AnswersOfArgument argument settings written Answers answer =
-    ((d : DescriptorValue) × (left_out : Bool) × IsRead settings written d left_out
+    ((d : DescriptorValue) × (left_out : Bool) × IsTaken settings written d left_out
     × Noting argument left_out (Answers d) answer)
-    ⊎ AnswersSddlFault argument settings written answer
+    ⊎ IsRefusedArgument argument settings written answer
 
 abbrev pub AnswersOfText : Settings → List ℕ → (DescriptorValue → AnswerValue → Type 0) → AnswerValue → Type 0
 AnswersOfText settings written Answers answer = AnswersOfArgument (codes "SDDL") settings written Answers answer
@@ -206,17 +233,22 @@ abbrev pub AnswersToBinary : Settings → List ℕ → AnswerValue → Type 0
 AnswersToBinary settings written answer = AnswersOfText settings written
     (λ d. IsDone (line (encode_lower (wire_of d)))) answer
 
--- the canonical text of what bytes hold, or their fault
-abbrev pub AnswersRead : Result DescriptorValue WireFault → AnswerValue → Type 0
-AnswersRead (Ok d) answer = IsDone (line (canon d)) answer
-AnswersRead (Err fault) answer = IsFault (wire_fault_line fault)
+-- the canonical text of a descriptor, where it doesn't lack the list that is required
+abbrev pub AnswersFit : Option (List ℕ) → DescriptorValue → AnswerValue → Type 0
+AnswersFit None d answer = IsDone (line (canon d)) answer
+AnswersFit (Some missing) d answer = IsMissingDacl (codes "BYTES") missing answer
+
+-- the same of what bytes hold, or their fault
+abbrev pub AnswersRead : Settings → Result DescriptorValue WireFault → AnswerValue → Type 0
+AnswersRead settings (Ok d) answer = AnswersFit (missing_dacl settings.require_dacl d.dacl) d answer
+AnswersRead settings (Err fault) answer = IsFault (wire_fault_line fault)
     (told_line (codes "BYTES") (wire_fault_text fault)) answer
 
 -- the same of bytes in which a SACL is passed over, where that is asked for
 abbrev pub AnswersBytes : Settings → List ℕ → AnswerValue → Type 0
 AnswersBytes settings bytes answer = MatchBool settings.without_sacl
-    (Noting (codes "BYTES") (has_sacl bytes) (AnswersRead (descriptor_read (without_sacl bytes))) answer)
-    (AnswersRead (descriptor_read bytes) answer)
+    (Noting (codes "BYTES") (has_sacl bytes) (AnswersRead settings (descriptor_read (without_sacl bytes))) answer)
+    (AnswersRead settings (descriptor_read bytes) answer)
 
 -- the same of the bytes that a text spells, or that it spells none
 abbrev pub AnswersDecoded : Settings → Result (List ℕ) (List ℕ) → AnswerValue → Type 0

@@ -9,8 +9,8 @@ ghost use Rattle.sd_commands.specs.Answer.{AnswersCompare, AnswersCompareOf, Ans
 ghost use Rattle.sd_commands.specs.Answer.{AnswersWho, AnswersWhoMask, AnswersWhoOf, IsGroupFault, PrintsComparison};
 ghost use Rattle.sd_commands.specs.Answer.{PrintsWho, answer_of};
 
-use crate::answer::{Answer, Outcome, fault, sddl_fault, text_fault};
-use crate::descriptor::{noting, read_text};
+use crate::answer::{Answer, Outcome, fault, text_fault};
+use crate::descriptor::{Given, noting, read_argument};
 use crate::settings::Settings;
 use crate::told::{state_reason, told_line, word_argument};
 use crate::words::{argument, arguments_from, base_in};
@@ -51,12 +51,9 @@ fn who_on_text(
 ) -> Result<Answer, AllocError>
     ensures { IfOk result (λ answer. AnswersWhoOf settings sddl.now mask.now words.now (answer_of answer)) }
 {
-    let read = match read_text(alloc, settings, sddl) {
-        Ok(read) => read,
-        Err(TextError::Fault { fault, place }) => {
-            return sddl_fault(alloc, "SDDL", fault, place);
-        }
-        Err(TextError::Memory) => return Err(AllocError),
+    let read = match read_argument(alloc, settings, "SDDL", sddl)? {
+        Given::Descriptor(read) => read,
+        Given::Refused(answer) => return Ok(answer),
     };
     let answer = who_on_mask(alloc, settings, &read.descriptor, mask, words)?;
     Ok(noting(alloc, "SDDL", read.left_out, answer)?)
@@ -170,10 +167,9 @@ fn compare_on_texts(
 ) -> Result<Answer, AllocError>
     ensures { IfOk result (λ answer. AnswersCompareOf settings old.now new.now words.now (answer_of answer)) }
 {
-    let read = match read_text(alloc, settings, old) {
-        Ok(read) => read,
-        Err(TextError::Fault { fault, place }) => return sddl_fault(alloc, "OLD", fault, place),
-        Err(TextError::Memory) => return Err(AllocError),
+    let read = match read_argument(alloc, settings, "OLD", old)? {
+        Given::Descriptor(read) => read,
+        Given::Refused(answer) => return Ok(answer),
     };
     let answer = compare_with(alloc, settings, &read.descriptor, new, words)?;
     Ok(noting(alloc, "OLD", read.left_out, answer)?)
@@ -188,10 +184,9 @@ fn compare_with(
 ) -> Result<Answer, AllocError>
     ensures { IfOk result (λ answer. AnswersNew settings new.now words.now (descriptor_of old.now) (answer_of answer)) }
 {
-    let read = match read_text(alloc, settings, new) {
-        Ok(read) => read,
-        Err(TextError::Fault { fault, place }) => return sddl_fault(alloc, "NEW", fault, place),
-        Err(TextError::Memory) => return Err(AllocError),
+    let read = match read_argument(alloc, settings, "NEW", new)? {
+        Given::Descriptor(read) => read,
+        Given::Refused(answer) => return Ok(answer),
     };
     let answer = compare_with_base(alloc, settings, old, &read.descriptor, words)?;
     Ok(noting(alloc, "NEW", read.left_out, answer)?)

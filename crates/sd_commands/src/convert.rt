@@ -1,17 +1,21 @@
 //! The answers to `print`, `tobin` and `frombin`: a descriptor in another form.
 ghost use Rattle.std.specs.Prelude.{◌≡◌, ◌++◌, IfOk, codes, string_bytes};
+ghost use Rattle.sd_acl.specs.Descriptor.{descriptor_of};
 ghost use Rattle.sd_wire.specs.Reading.{descriptor_read};
 ghost use Rattle.sd_answer.specs.Answer.{line};
 ghost use Rattle.sd_commands.specs.Told.{told_line, wire_fault_text};
-ghost use Rattle.sd_commands.specs.Answer.{AnswersPrint, AnswersToBinary, AnswersFromBinary, AnswersBytes, AnswersRead};
-ghost use Rattle.sd_commands.specs.Answer.{IsDone, IsFault, answer_of, wire_fault_line};
+ghost use Rattle.sd_commands.specs.Answer.{AnswersPrint, AnswersToBinary, AnswersFromBinary, AnswersBytes, AnswersFit};
+ghost use Rattle.sd_commands.specs.Answer.{AnswersRead, IsDone, IsFault, answer_of, wire_fault_line};
+ghost use Rattle.sd_commands.specs.MissingDacl.{missing_dacl};
 
-use crate::answer::{Answer, Outcome, fault, sddl_fault};
+use crate::answer::{Answer, Outcome, fault};
 use crate::bytes::{BytesError, leave_out_sacl, read_bytes};
-use crate::descriptor::{noting, read_text};
+use crate::descriptor::{Given, noting, read_argument};
+use crate::missing_dacl::{missing_dacl, missing_dacl_fault};
 use crate::settings::Settings;
 use crate::told::told_line;
-use sd_text::{TextError, print_sddl};
+use sd_acl::Descriptor;
+use sd_text::print_sddl;
 use sd_wire::{WireError, WireFault, read_descriptor, write_descriptor};
 use std::alloc::{AllocError, Global};
 
@@ -23,12 +27,9 @@ pub(crate) fn answer_print(
 ) -> Result<Answer, AllocError>
     ensures { IfOk result (λ answer. AnswersPrint settings sddl.now (answer_of answer)) }
 {
-    let read = match read_text(alloc, settings, sddl) {
-        Ok(read) => read,
-        Err(TextError::Fault { fault, place }) => {
-            return sddl_fault(alloc, "SDDL", fault, place);
-        }
-        Err(TextError::Memory) => return Err(AllocError),
+    let read = match read_argument(alloc, settings, "SDDL", sddl)? {
+        Given::Descriptor(read) => read,
+        Given::Refused(answer) => return Ok(answer),
     };
     let answer = printed(alloc, print_sddl(alloc, &read.descriptor)?)?;
     Ok(noting(alloc, "SDDL", read.left_out, answer)?)
@@ -42,12 +43,9 @@ pub(crate) fn answer_to_binary(
 ) -> Result<Answer, AllocError>
     ensures { IfOk result (λ answer. AnswersToBinary settings sddl.now (answer_of answer)) }
 {
-    let read = match read_text(alloc, settings, sddl) {
-        Ok(read) => read,
-        Err(TextError::Fault { fault, place }) => {
-            return sddl_fault(alloc, "SDDL", fault, place);
-        }
-        Err(TextError::Memory) => return Err(AllocError),
+    let read = match read_argument(alloc, settings, "SDDL", sddl)? {
+        Given::Descriptor(read) => read,
+        Given::Refused(answer) => return Ok(answer),
     };
     let bytes = write_descriptor(alloc, &read.descriptor)?;
     let answer = printed(alloc, hex::encode(alloc, bytes.as_slice())?)?;
@@ -78,21 +76,37 @@ fn answer_bytes(alloc: Global, settings: Settings, mut bytes: Vec<u8>) -> Result
     ensures { IfOk result (λ answer. AnswersBytes settings bytes.items (answer_of answer)) }
 {
     if !settings.without_sacl {
-        return answer_held(alloc, &bytes);
+        return answer_held(alloc, settings, &bytes);
     }
     let left_out = leave_out_sacl(&mut bytes);
-    let answer = answer_held(alloc, &bytes)?;
+    let answer = answer_held(alloc, settings, &bytes)?;
     Ok(noting(alloc, "BYTES", left_out, answer)?)
 }
 
 /// The canonical text of what the bytes hold.
-fn answer_held(alloc: Global, bytes: &[u8]) -> Result<Answer, AllocError>
-    ensures { IfOk result (λ answer. AnswersRead (descriptor_read bytes.now) (answer_of answer)) }
+fn answer_held(alloc: Global, settings: Settings, bytes: &[u8]) -> Result<Answer, AllocError>
+    ensures { IfOk result (λ answer. AnswersRead settings (descriptor_read bytes.now) (answer_of answer)) }
 {
     match read_descriptor(alloc, bytes) {
-        Ok(descriptor) => printed(alloc, print_sddl(alloc, &descriptor)?),
+        Ok(descriptor) => answer_fit(alloc, settings, &descriptor),
         Err(WireError::Fault(fault)) => wire_fault(alloc, fault),
         Err(WireError::Memory) => Err(AllocError),
+    }
+}
+
+/// The canonical text of a descriptor, if it has the list that is required.
+fn answer_fit(
+    alloc: Global,
+    settings: Settings,
+    descriptor: &Descriptor,
+) -> Result<Answer, AllocError>
+    ensures { IfOk result
+        (λ answer. AnswersFit (missing_dacl settings.require_dacl descriptor.now.dacl) (descriptor_of descriptor.now)
+        (answer_of answer)) }
+{
+    match missing_dacl(settings, &descriptor.dacl) {
+        None => printed(alloc, print_sddl(alloc, descriptor)?),
+        Some(missing) => missing_dacl_fault(alloc, "BYTES", missing),
     }
 }
 

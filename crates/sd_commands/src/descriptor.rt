@@ -1,20 +1,51 @@
-//! The reading of a descriptor's text, with a SACL that is left out where that is asked for.
+//! The descriptor that an argument's text is, with a SACL that is left out where that is asked for.
 ghost use Rattle.std.specs.Prelude.{◌≡◌, IfErr, IfOk};
 ghost use Rattle.sd_acl.specs.Descriptor.{descriptor_of};
-ghost use Rattle.sd_commands.specs.Answer.{IsRead, IsUnread, Noting, answer_of};
+ghost use Rattle.sd_commands.specs.Answer.{IsGiven, IsRead, IsUnread, Noting, answer_of};
 
-use crate::answer::Answer;
+use crate::answer::{Answer, sddl_fault};
+use crate::missing_dacl::{missing_dacl, missing_dacl_fault};
 use crate::settings::Settings;
 use crate::told::sacl_note;
 use sd_text::{TextError, WithoutSacl, read_sddl_in, read_sddl_without_sacl};
 use std::alloc::{AllocError, Global};
 
-/// The descriptor that the text spells, or its first fault ([MS-DTYP] 2.5.1.1).
-pub(crate) fn read_text(
+/// What an argument is.
+#[derive(Drop)]
+pub(crate) enum Given {
+    Descriptor(WithoutSacl),
+    /// None that is taken, and this is the answer.
+    Refused(Answer),
+}
+
+/// What the argument of this name is ([MS-DTYP] 2.5.1.1).
+pub(crate) fn read_argument(
     alloc: Global,
     settings: Settings,
+    argument: &str,
     sddl: &str,
-) -> Result<WithoutSacl, TextError>
+) -> Result<Given, AllocError>
+    ensures { IfOk result (IsGiven argument.now settings sddl.now) }
+{
+    let read = match read_text(alloc, settings, sddl) {
+        Ok(read) => read,
+        Err(TextError::Fault { fault, place }) => {
+            return Ok(Given::Refused(sddl_fault(alloc, argument, fault, place)?));
+        }
+        Err(TextError::Memory) => return Err(AllocError),
+    };
+    match missing_dacl(settings, &read.descriptor.dacl) {
+        None => Ok(Given::Descriptor(read)),
+        Some(missing) => {
+            let answer = missing_dacl_fault(alloc, argument, missing)?;
+            let answer = noting(alloc, argument, read.left_out, answer)?;
+            Ok(Given::Refused(answer))
+        }
+    }
+}
+
+/// The descriptor that the text spells, or its first fault.
+fn read_text(alloc: Global, settings: Settings, sddl: &str) -> Result<WithoutSacl, TextError>
     ensures read { IfOk result (λ read. IsRead settings sddl.now (descriptor_of read.descriptor) read.left_out) }
     ensures unread { IfErr result (IsUnread settings sddl.now) }
 {

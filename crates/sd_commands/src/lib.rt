@@ -19,6 +19,7 @@ mod descriptor;
 mod lint;
 mod loose;
 mod mapping;
+mod missing_dacl;
 mod rights;
 mod settings;
 mod shown;

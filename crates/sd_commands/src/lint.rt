@@ -4,8 +4,8 @@ ghost use Rattle.sd_acl.specs.Descriptor.{descriptor_of};
 ghost use Rattle.sd_commands.specs.Answer.{AnswersLint, AnswersOfBase, IsLinted, PrintsFindings, answer_of};
 
 use crate::analysis::group_fault;
-use crate::answer::{Answer, Outcome, sddl_fault};
-use crate::descriptor::{noting, read_text};
+use crate::answer::{Answer, Outcome};
+use crate::descriptor::{Given, noting, read_argument};
 use crate::settings::Settings;
 use crate::words::base_in;
 use sd_acl::Descriptor;
@@ -13,7 +13,6 @@ use sd_analysis::Base;
 use sd_answer::{TokenError, lint_text};
 use sd_check::GroupState;
 use sd_sid::Sid;
-use sd_text::TextError;
 use std::alloc::{AllocError, Global};
 
 /// The findings in a descriptor's text, or `clean`, where each token has the base that the words are; or the fault of
@@ -26,12 +25,9 @@ pub(crate) fn answer_lint(
 ) -> Result<Answer, AllocError>
     ensures { IfOk result (λ answer. AnswersLint settings sddl.now words.now (answer_of answer)) }
 {
-    let read = match read_text(alloc, settings, sddl) {
-        Ok(read) => read,
-        Err(TextError::Fault { fault, place }) => {
-            return sddl_fault(alloc, "SDDL", fault, place);
-        }
-        Err(TextError::Memory) => return Err(AllocError),
+    let read = match read_argument(alloc, settings, "SDDL", sddl)? {
+        Given::Descriptor(read) => read,
+        Given::Refused(answer) => return Ok(answer),
     };
     let answer = lint_with_base(alloc, settings, &read.descriptor, words)?;
     Ok(noting(alloc, "SDDL", read.left_out, answer)?)

@@ -29,6 +29,8 @@ pub struct Settings {
     pub kind: Option<ObjectKind>,
     /// Whether a SACL is left out.
     pub without_sacl: bool,
+    /// Whether a descriptor without a list of entries is a fault.
+    pub require_dacl: bool,
     /// How bytes are spelled.
     pub bytes: ByteForm,
 }

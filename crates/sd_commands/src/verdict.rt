@@ -7,8 +7,8 @@ ghost use Rattle.sd_commands.specs.Answer.{AnswersVerdict, AnswersVerdictOf, Ans
 ghost use Rattle.sd_commands.specs.Answer.{IsWordFault, answer_of, form_text, verdict_outcome};
 ghost use Rattle.sd_commands.specs.Words.{IsFirstNoWordIn};
 
-use crate::answer::{Answer, Outcome, fault, sddl_fault, text_fault};
-use crate::descriptor::{noting, read_text};
+use crate::answer::{Answer, Outcome, fault, text_fault};
+use crate::descriptor::{Given, noting, read_argument};
 use crate::settings::Settings;
 use crate::told::{told_line, word_argument, word_reason};
 use crate::words::{argument, arguments_from, token_in};
@@ -57,12 +57,9 @@ fn verdict_on_text(
     ensures { IfOk result (λ answer. AnswersVerdictOf settings form sddl.now user.now mask.now words.now
         (answer_of answer)) }
 {
-    let read = match read_text(alloc, settings, sddl) {
-        Ok(read) => read,
-        Err(TextError::Fault { fault, place }) => {
-            return sddl_fault(alloc, "SDDL", fault, place);
-        }
-        Err(TextError::Memory) => return Err(AllocError),
+    let read = match read_argument(alloc, settings, "SDDL", sddl)? {
+        Given::Descriptor(read) => read,
+        Given::Refused(answer) => return Ok(answer),
     };
     let answer = verdict_for_user(alloc, settings, form, &read.descriptor, user, mask, words)?;
     Ok(noting(alloc, "SDDL", read.left_out, answer)?)

@@ -57,6 +57,8 @@ pub enum OptionName {
     Names,
     /// `--without-sacl`.
     WithoutSacl,
+    /// `--require-dacl`.
+    RequireDacl,
     /// `--base64`.
     Base64,
     /// `--loose`.
@@ -135,6 +137,7 @@ pub enum Argument {
 pub struct OptionSet {
     pub names: bool,
     pub without_sacl: bool,
+    pub require_dacl: bool,
     pub base64: bool,
     pub loose: bool,
     pub percent: bool,
@@ -216,6 +219,7 @@ impl Command {
         match option {
             OptionName::Names => self.options.names,
             OptionName::WithoutSacl => self.options.without_sacl,
+            OptionName::RequireDacl => self.options.require_dacl,
             OptionName::Base64 => self.options.base64,
             OptionName::Loose => self.options.loose,
             OptionName::Percent => self.options.percent,

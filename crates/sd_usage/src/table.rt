@@ -8,6 +8,7 @@ use crate::row::{
 const NO_OPTIONS: OptionSet = OptionSet {
     names: false,
     without_sacl: false,
+    require_dacl: false,
     base64: false,
     loose: false,
     percent: false,
@@ -19,6 +20,7 @@ const NO_OPTIONS: OptionSet = OptionSet {
 // Of commands that parse a descriptor's text.
 const TEXT_OPTIONS: OptionSet = OptionSet {
     without_sacl: true,
+    require_dacl: true,
     domain: true,
     ..NO_OPTIONS
 };
@@ -31,6 +33,7 @@ const MAPPED_TEXT_OPTIONS: OptionSet = OptionSet {
 
 const BYTES_OPTIONS: OptionSet = OptionSet {
     without_sacl: true,
+    require_dacl: true,
     base64: true,
     loose: true,
     ..NO_OPTIONS
@@ -239,6 +242,15 @@ pub const OPTIONS: &[OptionRow] = &[
         "\
 drops a section S: of audit and label entries, or the SACL in bytes, and reports it on standard
 error",
+    ),
+    (
+        "--require-dacl",
+        ProgramOption {
+            name: OptionName::RequireDacl,
+            value: None,
+            excludes: None,
+        },
+        "a descriptor without a DACL, or with a null one, is a fault: either grants everything",
     ),
     (
         "--base64",

@@ -1,16 +1,12 @@
-use Rattle.std.proofs.Common.{codes, inl}
+use Rattle.std.proofs.Common.{codes}
 use Rattle.sd_acl.specs.Descriptor.{descriptor_of}
 use Rattle.sd_commands.specs.Answer.{AnswersOfBase, PrintsComparison, answer_of}
-use Rattle.sd_commands.proofs.Texts.{noted}
+use Rattle.sd_commands.proofs.Texts.{answered}
 use Rattle.sd_commands.proofs.analysis.compare_with.Goals as goal
 
 pub returns : goal.returns
 returns c =
-    let d = descriptor_of c.in-Ok.read.descriptor in
-    inl (
-      d,
-      c.in-Ok.read.left_out,
-      c.in-Ok.ensures.read,
-      noted (codes "NEW") c.in-Ok.read.left_out (AnswersOfBase c.args.settings c.args.words.now (PrintsComparison c.args.settings (descriptor_of c.args.old.now) d))
-          (answer_of c.in_ok-answer.answer) (answer_of c.in_ok-noting.field-0) c.in_ok-answer.ensures c.in_ok-noting.ensures,
-    )
+    answered (codes "NEW") c.args.settings c.args.new.now
+    (λ d. AnswersOfBase c.args.settings c.args.words.now (PrintsComparison c.args.settings (descriptor_of c.args.old.now) d))
+    c.in_ok-read.field-0 c.in-Descriptor.read (answer_of c.in_ok-answer.answer) (answer_of c.in_ok-noting.field-0)
+    c.in_ok-read.ensures c.in-Descriptor.is c.in_ok-answer.ensures c.in_ok-noting.ensures

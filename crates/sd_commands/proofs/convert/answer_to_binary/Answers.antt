@@ -1,0 +1,17 @@
+use Rattle.std.proofs.Common.{◌≡◌, ◌∙◌, ap, codes, string_bytes, subst}
+use Rattle.hex.specs.Hex.{encode_lower}
+use Rattle.sd_wire.specs.Writing.{wire_of}
+use Rattle.sd_acl.specs.Descriptor.{descriptor_of}
+use Rattle.sd_answer.specs.Answer.{line}
+use Rattle.sd_commands.specs.Answer.{IsDone, answer_of}
+use Rattle.sd_commands.proofs.Texts.{answered}
+use Rattle.sd_commands.proofs.convert.answer_to_binary.Goals as goal
+
+pub returns : goal.returns
+returns c =
+    let text : line (string_bytes c.in_ok-encode.field-0) ≡ line (encode_lower (wire_of (descriptor_of c.in-Descriptor.read.descriptor))) =
+    ap line (c.in_ok-encode.ensures ∙ ap encode_lower (c.as_slice.ensures.value ∙ c.in_ok-bytes.ensures)) in
+    answered (codes "SDDL") c.args.settings c.args.sddl.now (λ d. IsDone (line (encode_lower (wire_of d))))
+    c.in_ok-read.field-0 c.in-Descriptor.read (answer_of c.in_ok-answer.answer) (answer_of c.in_ok-noting.field-0)
+    c.in_ok-read.ensures c.in-Descriptor.is (subst (λ printed. IsDone printed (answer_of c.in_ok-answer.answer)) text c.in_ok-answer.ensures)
+    c.in_ok-noting.ensures
