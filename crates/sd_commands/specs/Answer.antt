@@ -39,6 +39,7 @@ use Rattle.sd_usage.specs.declared.row.Question.{Question}
 use Rattle.sd_usage.specs.declared.row.Question.TheVariants as questions
 use Rattle.sd_commands.specs.MissingDacl.{missing_dacl}
 use Rattle.sd_commands.specs.Rights.{rights_line}
+use Rattle.sd_commands.specs.Sort.{move_notes, sorted_descriptor}
 use Rattle.sd_commands.specs.Told.{fault_text, sacl_note, told_line, wire_fault_text, word_argument, word_at}
 use Rattle.sd_commands.specs.Told.{IsStateReason, IsWordReason}
 use Rattle.sd_commands.specs.Words.{IsTokenIn, IsFirstNoWordIn}
@@ -228,6 +229,14 @@ AnswersVerdict settings form written arguments answer =
 abbrev pub AnswersPrint : Settings → List ℕ → AnswerValue → Type 0
 AnswersPrint settings written answer = AnswersOfText settings written (λ d. IsDone (line (canon d))) answer
 
+-- the canonical text with the DACL in canonical order; standard error says what moved
+abbrev pub IsSorted : DescriptorValue → AnswerValue → Type 0
+IsSorted d answer = (answer.printed ≡ line (canon (sorted_descriptor d))) × (answer.told ≡ move_notes d.dacl)
+    × (answer.outcome ≡ Done)
+
+abbrev pub AnswersSort : Settings → List ℕ → AnswerValue → Type 0
+AnswersSort settings written answer = AnswersOfText settings written IsSorted answer
+
 -- the self-relative form in hexadecimal
 abbrev pub AnswersToBinary : Settings → List ℕ → AnswerValue → Type 0
 AnswersToBinary settings written answer = AnswersOfText settings written
@@ -361,6 +370,7 @@ AnswersQuestion settings questions.Who text arguments answer = AnswersWho settin
 AnswersQuestion settings questions.Compare text arguments answer = AnswersCompare settings text arguments answer
 AnswersQuestion settings questions.Lint text arguments answer = AnswersLint settings text arguments answer
 AnswersQuestion settings questions.Print text arguments answer = AnswersPrint settings text answer
+AnswersQuestion settings questions.Sort text arguments answer = AnswersSort settings text answer
 AnswersQuestion settings questions.ToBinary text arguments answer = AnswersToBinary settings text answer
 AnswersQuestion settings questions.FromBinary text arguments answer = AnswersFromBinary settings text answer
 AnswersQuestion settings questions.Rights text arguments answer = AnswersRights settings text answer

@@ -4,5 +4,6 @@ pub mod Bytes
 pub mod Mapping
 pub mod MissingDacl
 pub mod Rights
+pub mod Sort
 pub mod Told
 pub mod Words

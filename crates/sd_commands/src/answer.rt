@@ -9,6 +9,7 @@ use crate::convert::{answer_from_binary, answer_print, answer_to_binary};
 use crate::lint::answer_lint;
 use crate::rights::answer_rights;
 use crate::settings::Settings;
+use crate::sort::answer_sort;
 use crate::told::told_fault;
 use crate::verdict::{Form, answer_verdict};
 use sd_answer::{fault_line, sddl_fault_line};
@@ -84,6 +85,7 @@ pub fn answer_question(
         Question::Compare => answer_compare(alloc, settings, text, arguments),
         Question::Lint => answer_lint(alloc, settings, text, arguments),
         Question::Print => answer_print(alloc, settings, text),
+        Question::Sort => answer_sort(alloc, settings, text),
         Question::ToBinary => answer_to_binary(alloc, settings, text),
         Question::FromBinary => answer_from_binary(alloc, settings, text),
         Question::Rights => answer_rights(alloc, settings, text),

@@ -1,7 +1,7 @@
 //! The commands about one descriptor: text in, answer out.
 //!
-//! `answer_question` answers `verdict`, `why`, `who`, `compare`, `lint`, `print`, `tobin`, `frombin` and `rights`, as
-//! `Settings` says.
+//! `answer_question` answers `verdict`, `why`, `who`, `compare`, `lint`, `print`, `sort`, `tobin`, `frombin` and
+//! `rights`, as `Settings` says.
 //! It needs no stream and no thread. `sd_command_line` parses a command line to its arguments.
 //!
 //! ```text
@@ -16,6 +16,7 @@ mod answer;
 mod bytes;
 mod convert;
 mod descriptor;
+mod laws;
 mod lint;
 mod loose;
 mod mapping;
@@ -23,11 +24,13 @@ mod missing_dacl;
 mod rights;
 mod settings;
 mod shown;
+mod sort;
 mod told;
 mod verdict;
 mod words;
 
 pub use answer::{Answer, Outcome, answer_question, fault};
+pub use laws::sorted_is_canonical;
 pub use mapping::{ObjectKind, kind_given, mapping_given};
 pub use settings::{ByteForm, Settings};
 pub use shown::shown_word;

@@ -11,6 +11,7 @@ pub(crate) fn notes_of(command: CommandName) -> &'static str {
         CommandName::Ask(Question::Compare) => COMPARE_NOTES,
         CommandName::Ask(Question::Lint) => LINT_NOTES,
         CommandName::Ask(Question::Print) => PRINT_NOTES,
+        CommandName::Ask(Question::Sort) => SORT_NOTES,
         CommandName::Ask(Question::ToBinary) => TO_BINARY_NOTES,
         CommandName::Ask(Question::FromBinary) => FROM_BINARY_NOTES,
         CommandName::Ask(Question::Rights) => RIGHTS_NOTES,
@@ -132,6 +133,13 @@ Statuses:
 
 const PRINT_NOTES: &str = "\
 A first '--' after 'print' is dropped. Options go before 'print': 'sdstore help' lists them.";
+
+const SORT_NOTES: &str = "\
+A first '--' after 'sort' is dropped. Options go before 'sort': 'sdstore help' lists them.
+
+The explicit denies go first, then the explicit allows, then what was inherited; entries of one kind
+keep their order. Standard error has a line for each entry that moves:
+  sdstore: SDDL: entry 2 (D;;FW;;;BG) moves before entry 1";
 
 const TO_BINARY_NOTES: &str = "\
 A first '--' after 'tobin' is dropped. Options go before 'tobin': 'sdstore help' lists them.";

@@ -42,6 +42,8 @@ pub enum Question {
     Lint,
     /// `print`.
     Print,
+    /// `sort`.
+    Sort,
     /// `tobin`.
     ToBinary,
     /// `frombin`.

@@ -131,6 +131,18 @@ sdstore verdict 'D:(D;;0x2;;;S-1-5-21-1-2-3-1001)(A;;0x1f01ff;;;S-1-5-21-1-2-3-1
         "sdstore print 'o:s-1-5-18d:(a;;0x1f01ff;;;s-1-1-0)'",
     ),
     (
+        "sort",
+        Command {
+            name: CommandName::Ask(Question::Sort),
+            flag: None,
+            arguments: Arguments::One(Argument::Descriptor),
+            repeated: None,
+            options: TEXT_OPTIONS,
+        },
+        "Prints a descriptor with its DACL in canonical order",
+        "sdstore sort 'D:(A;;FA;;;BU)(D;;FW;;;BG)'",
+    ),
+    (
         "tobin",
         Command {
             name: CommandName::Ask(Question::ToBinary),

@@ -1,0 +1,18 @@
+-- The line is that of the first entry before which this one belongs.
+use Rattle.std.proofs.Common.{◌≡◌, ◌∙◌, ◌+◌, ◌++◌, Some, ap, append_assoc, codes, position, string_bytes, sym, take}
+use Rattle.std.specs.Fmt.{decimal}
+use Rattle.std.proofs.lemmas.Result.{IfOk-weaker}
+use Rattle.sd_answer.specs.Lint.{entry_head, is_misplaced}
+use Rattle.sd_commands.specs.Sort.{move_note}
+use Rattle.sd_commands.specs.Told.{told_line}
+use Rattle.sd_commands.proofs.sort.note_of.Goals as goal
+
+pub returns-in_ok-what-in-Some : goal.returns-in_ok-what-in-Some
+returns-in_ok-what-in-Some c =
+    let head = entry_head c.args.place c.args.entry.now in
+    let found : position (is_misplaced c.args.entry.now) (take c.args.place c.args.entries.now) ≡ Some c.in-Some.first =
+    sym c.first_behind.ensures.first ∙ c.in-Some.is in
+    let what : string_bytes c.in_ok-what-in-Some.what ≡ head ++ codes "moves before entry " ++ decimal (c.in-Some.first + 1) =
+    rw (c.in_ok-what-in-Some.ensures.ok, c.as_str-entry.ensures.value, c.in_ok-entry-in-Some.ensures) (simp append_assoc) in
+    IfOk-weaker c.told_line.result _ _ (λ text is.
+    is ∙ ap (told_line (codes "SDDL")) (c.as_str.ensures.value ∙ what) ∙ ap (λ first. move_note first head) (sym found)) c.told_line.ensures

@@ -1,0 +1,57 @@
+-- What `sort` prints: the descriptor with its DACL in canonical order ([MS-DTYP] 2.4.5), and what moved for that.
+use Rattle.std.specs.Prelude.{◌≡◌, ℕ, zero, suc, ◌+◌, Option, Some, None, List, [], ◌++◌, length, filter, take}
+use Rattle.std.specs.Prelude.{true, slice_get, position, codes}
+use Rattle.std.specs.Fmt.{decimal}
+use Rattle.sd_acl.specs.Canonical.{canonical_order, is_canonical, is_explicit, is_inherited}
+use Rattle.sd_acl.specs.Dacl.{Dacl}
+use Rattle.sd_acl.specs.Descriptor.{DescriptorValue}
+use Rattle.sd_acl.specs.declared.ace.Ace.{Ace}
+use Rattle.sd_acl.specs.declared.descriptor.DaclOf.TheVariants.{Absent, Null, List as Entries}
+use Rattle.sd_answer.specs.Lint.{entry_head, is_misplaced}
+use Rattle.sd_commands.specs.Told.{told_line}
+
+-- ---- the order
+
+-- the explicit denies, the explicit allows and what was inherited, of each the entries in their order
+abbrev pub sorted : List Ace → List Ace
+sorted es = canonical_order (filter is_explicit es) ++ filter is_inherited es
+
+abbrev pub sorted_dacl : Dacl → Dacl
+sorted_dacl Absent = Absent
+sorted_dacl Null = Null
+sorted_dacl (Entries es) = Entries (sorted es)
+
+abbrev pub sorted_descriptor : DescriptorValue → DescriptorValue
+sorted_descriptor d = record d { dacl = sorted_dacl d.dacl }
+
+-- a sorted list is in canonical order, and one that is stays as it is
+abbrev pub SortedIsCanonical : Type 0
+SortedIsCanonical = (es : List Ace) → is_canonical (sorted es) ≡ true
+
+abbrev pub CanonicalStays : Type 0
+CanonicalStays = (es : List Ace) → is_canonical es ≡ true → sorted es ≡ es
+
+-- ---- what moved
+
+-- an entry that stands out of canonical order moves before the first one behind which it does
+abbrev pub move_note : Option ℕ → List ℕ → List ℕ
+move_note None head = []
+move_note (Some first) head =
+    told_line (codes "SDDL") (head ++ codes "moves before entry " ++ decimal (first + 1))
+
+abbrev pub note_of : List Ace → ℕ → Ace → List ℕ
+note_of es place e = move_note (position (is_misplaced e) (take place es)) (entry_head place e)
+
+abbrev pub note_at : List Ace → ℕ → Option Ace → List ℕ
+note_at es place None = []
+note_at es place (Some e) = note_of es place e
+
+-- those of the entries below a place
+unfoldable pub notes_below : List Ace → ℕ → List ℕ
+notes_below es zero = []
+notes_below es (suc k) = notes_below es k ++ note_at es k (slice_get es k)
+
+abbrev pub move_notes : Dacl → List ℕ
+move_notes Absent = []
+move_notes Null = []
+move_notes (Entries es) = notes_below es (length es)

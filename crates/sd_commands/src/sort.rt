@@ -1,0 +1,146 @@
+//! The answer to `sort`: a descriptor with its DACL in canonical order, and what moved for that.
+ghost use Rattle.std.specs.Prelude.{◌≡◌, ◌<◌, ◌^◌, IfOk, IfSome, length, position, string_bytes};
+ghost use Rattle.sd_acl.specs.Ace.{acl_size_of};
+ghost use Rattle.sd_acl.specs.Descriptor.{descriptor_of};
+ghost use Rattle.sd_answer.specs.Lint.{is_misplaced};
+ghost use Rattle.sd_commands.specs.Answer.{AnswersSort, IsSorted, answer_of};
+ghost use Rattle.sd_commands.specs.Sort.{move_notes, note_of, notes_below, sorted, sorted_dacl, sorted_descriptor};
+
+use crate::answer::{Answer, Outcome};
+use crate::descriptor::{Given, noting, read_argument};
+use crate::settings::Settings;
+use crate::told::told_line;
+use sd_acl::{Ace, AceList, Dacl, Descriptor, canonicalize};
+use sd_text::{print_entry, print_sddl};
+use std::alloc::{AllocError, Global};
+
+/// The canonical text of a descriptor's text with its DACL in canonical order ([MS-DTYP] 2.4.5).
+pub(crate) fn answer_sort(
+    alloc: Global,
+    settings: Settings,
+    sddl: &str,
+) -> Result<Answer, AllocError>
+    ensures { IfOk result (λ answer. AnswersSort settings sddl.now (answer_of answer)) }
+{
+    let read = match read_argument(alloc, settings, "SDDL", sddl)? {
+        Given::Descriptor(read) => read,
+        Given::Refused(answer) => return Ok(answer),
+    };
+    let answer = sorted_answer(alloc, &read.descriptor)?;
+    Ok(noting(alloc, "SDDL", read.left_out, answer)?)
+}
+
+fn sorted_answer(alloc: Global, descriptor: &Descriptor) -> Result<Answer, AllocError>
+    ensures { IfOk result (λ answer. IsSorted (descriptor_of descriptor.now) (answer_of answer)) }
+{
+    let told = move_notes(alloc, &descriptor.dacl)?;
+    let sorted = sorted_descriptor(alloc, descriptor)?;
+    let mut text = print_sddl(alloc, &sorted)?;
+    text.push_str("\n")?;
+    Ok(Answer {
+        text,
+        told,
+        outcome: Outcome::Done,
+    })
+}
+
+fn sorted_descriptor(alloc: Global, descriptor: &Descriptor) -> Result<Descriptor, AllocError>
+    ensures { IfOk result (λ sorted. descriptor_of sorted ≡ sorted_descriptor (descriptor_of descriptor.now)) }
+{
+    Ok(Descriptor {
+        owner: descriptor.owner,
+        group: descriptor.group,
+        dacl: sorted_dacl(alloc, &descriptor.dacl)?,
+        protected: descriptor.protected,
+        auto_req: descriptor.auto_req,
+        auto_inherited: descriptor.auto_inherited,
+    })
+}
+
+fn sorted_dacl(alloc: Global, dacl: &Dacl) -> Result<Dacl, AllocError>
+    ensures { IfOk result (λ ordered. ordered ≡ sorted_dacl dacl.now) }
+{
+    match dacl {
+        Dacl::Absent => Ok(Dacl::Absent),
+        Dacl::Null => Ok(Dacl::Null),
+        Dacl::List(list) => Ok(Dacl::List(sorted_list(alloc, list)?)),
+    }
+}
+
+/// The list in canonical order, which takes as many bytes.
+fn sorted_list(alloc: Global, list: &AceList) -> Result<AceList, AllocError>
+    ensures { IfOk result (λ ordered. ordered ≡ sorted list.now) }
+{
+    match AceList::new(sorted_entries(alloc, list.entries())?) {
+        Ok(ordered) => Ok(ordered),
+        Err(_) => unreachable!(),
+    }
+}
+
+fn sorted_entries(alloc: Global, entries: &[Ace]) -> Result<Vec<Ace>, AllocError>
+    ensures order { IfOk result (λ ordered. ordered.items ≡ sorted entries.now) }
+    ensures size { IfOk result (λ ordered. acl_size_of ordered.items ≡ acl_size_of entries.now) }
+{
+    let explicit = entries.iter().filter(|entry| !entry.is_inherited());
+    let explicit: Vec<Ace> = explicit.copied().collect(alloc)?;
+    let mut ordered = canonicalize(alloc, &explicit)?;
+    let inherited = entries.iter().filter(|entry| entry.is_inherited());
+    ordered.extend(inherited.copied())?;
+    Ok(ordered)
+}
+
+/// A line for each entry that moves.
+fn move_notes(alloc: Global, dacl: &Dacl) -> Result<String, AllocError>
+    ensures { IfOk result (λ text. string_bytes text ≡ move_notes dacl.now) }
+{
+    match dacl {
+        Dacl::List(list) => list_notes(alloc, list.entries()),
+        _ => Ok(String::new(alloc)),
+    }
+}
+
+fn list_notes(alloc: Global, entries: &[Ace]) -> Result<String, AllocError>
+    ensures { IfOk result (λ text. string_bytes text ≡ notes_below entries.now (length entries.now)) }
+{
+    let mut text = String::new(alloc);
+    for place in 0..entries.len() {
+        let note = note_of(alloc, entries, place, &entries[place])?;
+        text.push_str(note.as_str())?;
+    }
+    Ok(text)
+}
+
+/// Before which entry the one at the place moves, or nothing.
+fn note_of(alloc: Global, entries: &[Ace], place: usize, entry: &Ace) -> Result<String, AllocError>
+    requires { place < length entries.now }
+    ensures { IfOk result (λ text. string_bytes text ≡ note_of entries.now place entry.now) }
+{
+    match first_behind(&entries[..place], entry) {
+        None => Ok(String::new(alloc)),
+        Some(first) => {
+            let (number, before) = (place + 1, first + 1);
+            let entry = print_entry(alloc, entry)?;
+            let entry = entry.as_str();
+            let what = format!(in alloc; "entry {number} {entry} moves before entry {before}")?;
+            told_line(alloc, "SDDL", what.as_str())
+        }
+    }
+}
+
+/// The first of the entries before which this one belongs.
+fn first_behind(before: &[Ace], entry: &Ace) -> Option<usize>
+    ensures first { result ≡ position (is_misplaced entry.now) before.now }
+    ensures low { IfSome result (λ place. place < 2 ^ 63) }
+{
+    before
+        .iter()
+        .position(|earlier| belongs_before(entry, earlier))
+}
+
+/// Whether the later one belongs before the earlier one ([MS-DTYP] 2.4.5).
+fn belongs_before(later: &Ace, earlier: &Ace) -> bool
+    ensures { result ≡ is_misplaced later.now earlier.now }
+{
+    !later.is_inherited()
+        && (earlier.is_inherited() || (earlier.kind.is_allow() && !later.kind.is_allow()))
+}
