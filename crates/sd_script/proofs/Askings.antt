@@ -1,41 +1,55 @@
--- What a line asks for, from what its words ask for.
-use Rattle.std.proofs.Common.{◌≡◌, ℕ, List, Bool, false, Some, Result, Ok, Err, inl, refl, subst, sym, ap, ◌∙◌}
+-- What a line asks for, from what its command's arguments ask for.
+use Rattle.std.proofs.Common.{◌≡◌, ℕ, List, Bool, true, false, Option, Some, None, Result, Ok, Err, inl, refl, subst, sym, ap, ◌∙◌}
 use Rattle.std.specs.Prelude.{MatchBool}
 use Rattle.std.specs.Str.{IsUtf8}
-use Rattle.sd_tree.specs.Names.{Names}
-use Rattle.sd_script.specs.Argument.{number, path}
-use Rattle.sd_script.specs.Command.{CommandValue, asks, asks_where, command_of, is_untimely, line_asks, posed}
-use Rattle.sd_script.specs.Fault.{Just, Reading, Then, UnlessMemory}
+use Rattle.sd_script.specs.Command.{Arguments, Parses, asks, asks_where, command_of, is_untimely, line_asks, reads, reads_where}
+use Rattle.sd_script.specs.Fault.{UnlessMemory}
 use Rattle.sd_script.specs.Lines.{words_of}
 use Rattle.sd_script.specs.declared.asked.Asked.{Asked}
-use Rattle.sd_script.specs.declared.asked.Question.{Question}
+use Rattle.sd_script.specs.declared.command.CommandName.{CommandName}
+use Rattle.sd_script.specs.declared.fault.LineFault.{LineFault}
 use Rattle.sd_script.specs.declared.fault.LineFault.TheVariants as faults
 use Rattle.sd_script.specs.declared.fault.Stop.{Stop}
+use Rattle.sd_script.specs.declared.fault.Stop.TheVariants.{Fault}
 use Rattle.sd_script.specs.declared.paths.PathSpelling.{PathSpelling}
-use Rattle.sd_script.proofs.Readings.{Then-stop, Then-value, UnlessMemory-weaker}
+use Rattle.sd_script.proofs.Readings.{UnlessMemory-weaker}
 
--- a line of text whose words are a timely command asks for what the command asks for
-pub line_reads : (paths : PathSpelling) (is_open : Bool) (line text : List ℕ) (words : List (List ℕ)) (command : CommandValue) (r : Result Asked Stop)
-    → text ≡ line → IsUtf8 line → words ≡ words_of text → Some command ≡ command_of words → is_untimely is_open command ≡ false
-    → UnlessMemory (asks paths command) r → UnlessMemory (line_asks paths is_open line) r
-line_reads paths is_open line text words command r same utf8 parted found timely read =
-    UnlessMemory-weaker (asks paths command) (line_asks paths is_open line) r (λ told asked. inl (
-      utf8,
-      subst (λ found. asks_where paths is_open found told) (found ∙ ap command_of (parted ∙ ap words_of same))
-          (subst (λ untimely. MatchBool untimely (told ≡ Err faults.Open) (asks paths command told)) (sym timely) asked),
-    )) read
+-- a line of text whose words are this command
+module _ (paths : PathSpelling) (is_open : Bool) (line text : List ℕ) (words arguments : List (List ℕ)) (name : CommandName)
+    (same : text ≡ line) (utf8 : IsUtf8 line) (parted : words ≡ words_of text) (found : Some (name, arguments) ≡ command_of words) where
+  asks_as_command : (r : Result Asked Stop) → UnlessMemory (reads_where paths is_open name (asks name arguments)) r
+      → UnlessMemory (line_asks paths is_open line) r
+  asks_as_command r read =
+      UnlessMemory-weaker (reads_where paths is_open name (asks name arguments)) (line_asks paths is_open line) r (λ told asked. inl (
+        utf8,
+        subst (λ found. asks_where paths is_open found told) (found ∙ ap command_of (parted ∙ ap words_of same)) asked,
+      )) read
 
--- ---- a question to a reader, of a path
+  -- the command doesn't take as many
+  pub line_miscounts : Parses paths (asks name arguments) None → UnlessMemory (line_asks paths is_open line) (Err (Fault faults.Words))
+  line_miscounts none = asks_as_command (Err (Fault faults.Words)) (miscounts (asks name arguments) none) where
+    miscounts : (asked : Option Arguments) → Parses paths asked None → reads_where paths is_open name asked (Err faults.Words)
+    miscounts None none = refl
+    miscounts (Some asked) none = absurd none
 
-module _ (make : ℕ → Names → Question → Asked) (paths : PathSpelling) (reader at : List ℕ) (asking : Reading Question) where
-  pub question_read : (i : ℕ) (p : Names) (q : Question) → number reader (Ok i) → path paths at (Ok p) → asking (Ok q)
-      → posed make paths reader at asking (Ok (make i p q))
-  question_read i p q one two three = inl (i, one, inl (p, two, inl (q, three, refl)))
+  -- it is for where no store is open, or for where one is
+  pub line_untimely : (r : Result Asked Stop) → Parses paths (asks name arguments) (Some r) → is_untimely is_open name ≡ true
+      → UnlessMemory (line_asks paths is_open line) (Err (Fault faults.Open))
+  line_untimely r some untimely = asks_as_command (Err (Fault faults.Open)) (comes (asks name arguments) some) where
+    by_test : (test : Bool) (asked : Arguments) (told : Result Asked LineFault) → test ≡ true → told ≡ Err faults.Open
+        → MatchBool test (told ≡ Err faults.Open) (reads paths asked told)
+    by_test true asked told is same = same
+    by_test false asked told is same = absurd (cc is)
 
-  -- the question isn't read
-  pub question_stopped : (i : ℕ) (p : Names) (stop : Stop) → number reader (Ok i) → path paths at (Ok p) → UnlessMemory asking (Err stop)
-      → UnlessMemory (posed make paths reader at asking) (Err stop)
-  question_stopped i p stop one two three =
-      Then-value (number reader) (λ i. Then (path paths at) (λ p. Then asking (λ q. Just (make i p q)))) i (Err stop) one (
-      Then-value (path paths at) (λ p. Then asking (λ q. Just (make i p q))) p (Err stop) two (
-      Then-stop asking (λ q. Just (make i p q)) stop three))
+    comes : (asked : Option Arguments) → Parses paths asked (Some r) → reads_where paths is_open name asked (Err faults.Open)
+    comes None some = absurd some
+    comes (Some asked) some = by_test (is_untimely is_open name) asked (Err faults.Open) untimely refl
+
+  -- it is timely, and the line asks for what its arguments ask for
+  pub line_reads : (r : Result Asked Stop) → Parses paths (asks name arguments) (Some r) → is_untimely is_open name ≡ false
+      → UnlessMemory (line_asks paths is_open line) r
+  line_reads r some timely = asks_as_command r (comes (asks name arguments) some) where
+    comes : (asked : Option Arguments) → Parses paths asked (Some r) → UnlessMemory (reads_where paths is_open name asked) r
+    comes None some = absurd some
+    comes (Some asked) some = UnlessMemory-weaker (reads paths asked) (reads_where paths is_open name (Some asked)) r
+        (λ told is. subst (λ untimely. MatchBool untimely (told ≡ Err faults.Open) (reads paths asked told)) (sym timely) is) some

@@ -1,19 +1,27 @@
 -- A line whose first word is no id is no command.
 use Rattle.std.proofs.Common.{◌≡◌, ◌≤◌, ℕ, Bool, true, false, List, [], ◌∷◌, length, Option, Some, None, Ok, ap, arith, inl, inr, refl, sym, ◌∙◌}
-use Rattle.std.specs.Prelude.{◌++◌, ◌==◌, MatchBool, bytes_eq, codes, if◌then◌else◌, is_some, nat_lt, option_and_then, take}
+use Rattle.std.specs.Prelude.{◌++◌, ◌==◌, MatchBool, bytes_eq, codes, if◌then◌else◌, is_some, nat_lt, option_map, take}
 use Rattle.std.specs.List.{list_any}
 use Rattle.std.proofs.lemmas.Bool.Decides.{nat_tests}
 use Rattle.std.proofs.lemmas.List.{take_all}
 use Rattle.std.proofs.lemmas.List.Splits.{slice_split_first, slice_split_none}
 use Rattle.std.proofs.lemmas.List.Sums.{fails_before_first}
 use Rattle.std.proofs.lemmas.Slice.Eq.{bytes_eq-Decides}
-use Rattle.sd_script.specs.Command.{CommandValue, command_named, command_of, is_empty, line_asks}
+use Rattle.sd_script.specs.Command.{beside, command_named, command_of, is_empty, line_asks, names}
 use Rattle.sd_script.specs.Lines.{is_silent, word_len, words_of}
 use Rattle.sd_script.specs.Output.{IsAnswered, IsTold, closing_of, is_open, manner_of}
 use Rattle.sd_script.specs.declared.asked.Asked.{Asked}
 use Rattle.sd_script.specs.declared.paths.PathSpelling.{PathSpelling}
 use Rattle.sd_script.specs.declared.session.Session.{Session}
 use Rattle.sd_script.specs.Ids.{NoCommandWithoutAnId, asked_of, is_id}
+
+abbrev all_ids : {A : Type 0} → List (List ℕ × A) → Bool
+all_ids [] = true
+all_ids (row ∷ rows) = if is_id row.0 then all_ids rows else false
+
+both_true : (one other : Bool) → (if one then other else false) ≡ true → (one ≡ true) × (other ≡ true)
+both_true true other is = (refl, is)
+both_true false other is = absurd (cc is)
 
 -- a word that is this name, or another one
 one_of : {A : Type 0} → (word name : List ℕ) (found : A) (others : Option A)
@@ -25,30 +33,16 @@ one_of {A} word name found others named next is = by_test (bytes_eq word name) r
   by_test true same is = let equal : word ≡ name = (bytes_eq-Decides word name).0 same in rw equal named
   by_test false other is = next is
 
+-- a word of a table of ids
+beside_is_id : {A : Type 0} (word : List ℕ) (rows : List (List ℕ × A)) → all_ids rows ≡ true → is_some (beside word rows) ≡ true
+    → is_id word ≡ true
+beside_is_id word [] ids is = absurd (cc is)
+beside_is_id word (row ∷ rows) ids is =
+    let both = both_true (is_id row.0) (all_ids rows) ids in
+    one_of word row.0 row.1 (beside word rows) both.0 (beside_is_id word rows both.1) is
+
 name_is_id : (word : List ℕ) → is_some (command_named word) ≡ true → is_id word ≡ true
-name_is_id word =
-    one_of word (codes "open") _ _ refl
-    (one_of word (codes "addc") _ _ refl
-    (one_of word (codes "addo") _ _ refl
-    (one_of word (codes "owner") _ _ refl
-    (one_of word (codes "group") _ _ refl
-    (one_of word (codes "dacl") _ _ refl
-    (one_of word (codes "remove") _ _ refl
-    (one_of word (codes "protect") _ _ refl
-    (one_of word (codes "move") _ _ refl
-    (one_of word (codes "publish") _ _ refl
-    (one_of word (codes "tell") _ _ refl
-    (one_of word (codes "learn") _ _ refl
-    (one_of word (codes "check") _ _ refl
-    (one_of word (codes "why") _ _ refl
-    (one_of word (codes "find") _ _ refl
-    (one_of word (codes "show") _ _ refl
-    (one_of word (codes "list") _ _ refl
-    (one_of word (codes "dump") _ _ refl
-    (one_of word (codes "who") _ _ refl
-    (one_of word (codes "review") _ _ refl
-    (one_of word (codes "import") _ _ refl
-    (λ none. cc)))))))))))))))))))))
+name_is_id word = beside_is_id word names refl
 
 -- the first of a line's words
 first_word : (line : List ℕ) → (words : List (List ℕ)) × (words_of line ≡ take (word_len line) line ∷ words)
@@ -64,12 +58,12 @@ first_word line = by_test (nat_lt (word_len line) (length line)) refl where
             ∙ ap (λ word. word ∷ []) (sym (take_all (word_len line) line long)),
       )
 
-neither : (test : Bool) (other : Option CommandValue) → other ≡ None → (if test then None else other) ≡ None
+neither : {A : Type 0} (test : Bool) (other : Option A) → other ≡ None → (if test then None else other) ≡ None
 neither true other is = refl
 neither false other is = is
 
-nothing_then : {A B : Type 0} → (named : Option A) (next : A → Option B) → (is_some named ≡ true → ⊥)
-    → option_and_then next named ≡ None
+nothing_then : {A B : Type 0} → (named : Option A) (next : A → B) → (is_some named ≡ true → ⊥)
+    → option_map next named ≡ None
 nothing_then (Some x) next isnt = absurd (isnt refl)
 nothing_then None next isnt = refl
 

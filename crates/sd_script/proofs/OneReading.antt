@@ -10,18 +10,14 @@ use Rattle.sd_text.proofs.Engine.{one_value, no_fault, one_fault}
 use Rattle.sd_answer.proofs.OneToken.{groups_one, token_one, token_or_none}
 use Rattle.sd_answer.specs.Word.{AreGroups}
 use Rattle.sd_tree.specs.Names.{Names}
-use Rattle.sd_tree.specs.declared.edit.Edit.TheVariants as edits
-use Rattle.sd_desk.specs.declared.request.Request.TheVariants as requests
-use Rattle.sd_script.specs.Addition.{addition, row_of}
 use Rattle.sd_script.specs.Argument.{IsNumber, number, path, sid, mask, token, base, descriptor, node, node_of, dacl, dacl_of, imported, import_of}
-use Rattle.sd_script.specs.Command.{CommandValue, Open, AddContainer, AddObject, SetOwner, SetGroup, SetDacl, Remove, Protect, Move, Publish, Tell, Learn, Check, Why, Find, Show, ListNodes, Dump, Who, Review, ImportNode, asks, asks_where, command_of, edit, is_untimely, line_asks, posed, question, question_by, question_with, request, view}
+use Rattle.sd_script.specs.Command.{Arguments, Asks, Number, Path, Sid, Mask, Token, Groups, Node, Dacl, Imported}
+use Rattle.sd_script.specs.Command.{asks, asks_where, command_of, is_untimely, line_asks, reads, reads_where}
 use Rattle.sd_script.specs.Fault.{Reading, SomeOr, Just, Then}
 use Rattle.sd_script.specs.Lines.{words_of}
 use Rattle.sd_script.specs.Paths.{IsPath}
 use Rattle.sd_script.specs.declared.asked.Asked.{Asked}
-use Rattle.sd_script.specs.declared.asked.Asked.TheVariants.{Opening, Asking, Explaining, Finding, Importing}
-use Rattle.sd_script.specs.declared.view.View.TheVariants as views
-use Rattle.sd_script.specs.declared.asked.Question.{Question}
+use Rattle.sd_script.specs.declared.command.CommandName.{CommandName}
 use Rattle.sd_script.specs.declared.fault.LineFault.{LineFault}
 use Rattle.sd_script.specs.declared.fault.LineFault.TheVariants as faults
 use Rattle.sd_script.specs.declared.paths.PathSpelling.{PathSpelling}
@@ -104,52 +100,32 @@ dacl-one word = Then-one (descriptor word) (λ d read. read ≡ dacl_of d) (desc
 imported-one : (word : List ℕ) → IsOne (imported word)
 imported-one word = Then-one (descriptor word) (λ d read. read ≡ import_of d) (descriptor-one word) (λ d r s x y. x ∙ sym y)
 
-question-one : (user asked : List ℕ) (words : List (List ℕ)) → IsOne (question user asked words)
-question-one user asked words =
-    Then-one (sid user) (question_by asked words) (sid-one user) (λ s.
-    Then-one (mask asked) (question_with words s) (mask-one asked) (λ m.
-    Then-one (token s words) (λ t. Just (record { token = t; asked = m })) (token-one s words) (λ t. Just-one _)))
+-- ---- arguments
 
-posed-one : (make : ℕ → Names → Question → Asked) (paths : PathSpelling) (reader at : List ℕ) (asking : Reading Question) → IsOne asking → IsOne (posed make paths reader at asking)
-posed-one make paths reader at asking one =
-    Then-one (number reader) (λ i. Then (path paths at) (λ p. Then asking (λ q. Just (make i p q)))) (number-one reader) (λ i.
-    Then-one (path paths at) (λ p. Then asking (λ q. Just (make i p q))) (path-one paths at) (λ p.
-    Then-one asking (λ q. Just (make i p q)) one (λ q. Just-one _)))
+reads-one : (paths : PathSpelling) (arguments : Arguments) → IsOne (reads paths arguments)
+reads-one paths (Asks asked) = Just-one asked
+reads-one paths (Number word next) = Then-one (number word) (λ n. reads paths (next n)) (number-one word) (λ n. reads-one paths (next n))
+reads-one paths (Path word next) = Then-one (path paths word) (λ p. reads paths (next p)) (path-one paths word) (λ p. reads-one paths (next p))
+reads-one paths (Sid word next) = Then-one (sid word) (λ s. reads paths (next s)) (sid-one word) (λ s. reads-one paths (next s))
+reads-one paths (Mask word next) = Then-one (mask word) (λ m. reads paths (next m)) (mask-one word) (λ m. reads-one paths (next m))
+reads-one paths (Token user words next) = Then-one (token user words) (λ t. reads paths (next t)) (token-one user words) (λ t. reads-one paths (next t))
+reads-one paths (Groups words next) = Then-one (base words) (λ groups. reads paths (next groups)) (base-one words) (λ groups. reads-one paths (next groups))
+reads-one paths (Node word next) = Then-one (node word) (λ n. reads paths (next n)) (node-one word) (λ n. reads-one paths (next n))
+reads-one paths (Dacl word next) = Then-one (dacl word) (λ d. reads paths (next d)) (dacl-one word) (λ d. reads-one paths (next d))
+reads-one paths (Imported word next) = Then-one (imported word) (λ i. reads paths (next i)) (imported-one word) (λ i. reads-one paths (next i))
 
-asks-one : (paths : PathSpelling) (command : CommandValue) → IsOne (asks paths command)
-asks-one paths (Open readers text) = Then-one (number readers) (λ n. Then (node text) (λ root. Just (Opening n root))) (number-one readers) (λ n. Then-one (node text) (λ root. Just (Opening n root)) (node-one text) (λ root. Just-one _))
-asks-one paths (AddContainer at text) = Then-one (path paths at) (λ p. Then (node text) (λ n. edit (edits.AddContainer p n.owner n.group n.dacl))) (path-one paths at) (λ p. Then-one (node text) (λ n. edit (edits.AddContainer p n.owner n.group n.dacl)) (node-one text) (λ n. Just-one _))
-asks-one paths (AddObject at text) = Then-one (path paths at) (λ p. Then (node text) (λ n. edit (edits.AddObject p n.owner n.group n.dacl))) (path-one paths at) (λ p. Then-one (node text) (λ n. edit (edits.AddObject p n.owner n.group n.dacl)) (node-one text) (λ n. Just-one _))
-asks-one paths (SetOwner at owner) = Then-one (path paths at) (λ p. Then (sid owner) (λ s. edit (edits.SetOwner p s))) (path-one paths at) (λ p. Then-one (sid owner) (λ s. edit (edits.SetOwner p s)) (sid-one owner) (λ s. Just-one _))
-asks-one paths (SetGroup at group) = Then-one (path paths at) (λ p. Then (sid group) (λ s. edit (edits.SetGroup p s))) (path-one paths at) (λ p. Then-one (sid group) (λ s. edit (edits.SetGroup p s)) (sid-one group) (λ s. Just-one _))
-asks-one paths (SetDacl at text) = Then-one (path paths at) (λ p. Then (dacl text) (λ d. edit (edits.SetDacl p d))) (path-one paths at) (λ p. Then-one (dacl text) (λ d. edit (edits.SetDacl p d)) (dacl-one text) (λ d. Just-one _))
-asks-one paths (Remove at) = Then-one (path paths at) (λ p. edit (edits.Remove p)) (path-one paths at) (λ p. Just-one _)
-asks-one paths (Protect at) = Then-one (path paths at) (λ p. edit (edits.ProtectKeeping p)) (path-one paths at) (λ p. Just-one _)
-asks-one paths (Move source target) = Then-one (path paths source) (λ from. Then (path paths target) (λ to. edit (edits.Move from to))) (path-one paths source) (λ from. Then-one (path paths target) (λ to. edit (edits.Move from to)) (path-one paths target) (λ to. Just-one _))
-asks-one paths Publish = Just-one _
-asks-one paths Tell = Just-one _
-asks-one paths (Learn reader len) = Then-one (number reader) (λ i. Then (number len) (λ n. request (requests.Learn i n))) (number-one reader) (λ i. Then-one (number len) (λ n. request (requests.Learn i n)) (number-one len) (λ n. Just-one _))
-asks-one paths (Check reader at user asked words) = posed-one (λ i p q. Asking (requests.Check i p q.token q.asked)) paths reader at (question user asked words) (question-one user asked words)
-asks-one paths (Why reader at user asked words) = posed-one (λ i p q. Explaining i p q.token q.asked) paths reader at (question user asked words) (question-one user asked words)
-asks-one paths (Find reader at user asked words) = posed-one (λ i p q. Finding i p q.token q.asked) paths reader at (question user asked words) (question-one user asked words)
-asks-one paths (Show reader at) = Then-one (number reader) (λ i. Then (path paths at) (λ p. request (requests.Show i p))) (number-one reader) (λ i. Then-one (path paths at) (λ p. request (requests.Show i p)) (path-one paths at) (λ p. Just-one _))
-asks-one paths (ListNodes at) = Then-one (path paths at) (λ p. view (views.List p)) (path-one paths at) (λ p. Just-one _)
-asks-one paths Dump = Just-one _
-asks-one paths (Review at) = Then-one (path paths at) (λ p. view (views.Review p)) (path-one paths at) (λ p. Just-one _)
-asks-one paths (Who at asked words) =
-    Then-one (path paths at) (λ p. Then (mask asked) (λ m. Then (base words) (λ groups. view (views.Who p groups m)))) (path-one paths at) (λ p.
-    Then-one (mask asked) (λ m. Then (base words) (λ groups. view (views.Who p groups m))) (mask-one asked) (λ m.
-    Then-one (base words) (λ groups. view (views.Who p groups m)) (base-one words) (λ groups. Just-one _)))
-asks-one paths (ImportNode kind at text) = Then-one (path paths at) (λ p. Then (imported text) (λ m. Just (Importing (addition kind p (row_of kind m.node)) p m.inherited))) (path-one paths at) (λ p. Then-one (imported text) (λ m. Just (Importing (addition kind p (row_of kind m.node)) p m.inherited)) (imported-one text) (λ m. Just-one _))
+by_time : (paths : PathSpelling) (untimely : Bool) (arguments : Arguments) (r s : Result Asked LineFault)
+    → MatchBool untimely (r ≡ Err faults.Open) (reads paths arguments r) → MatchBool untimely (s ≡ Err faults.Open) (reads paths arguments s) → r ≡ s
+by_time paths true arguments r s x y = x ∙ sym y
+by_time paths false arguments r s x y = reads-one paths arguments r s x y
 
-by_time : (paths : PathSpelling) (untimely : Bool) (command : CommandValue) (r s : Result Asked LineFault)
-    → MatchBool untimely (r ≡ Err faults.Open) (asks paths command r) → MatchBool untimely (s ≡ Err faults.Open) (asks paths command s) → r ≡ s
-by_time paths true command r s x y = x ∙ sym y
-by_time paths false command r s x y = asks-one paths command r s x y
+reads_where-one : (paths : PathSpelling) (is_open : Bool) (name : CommandName) (arguments : Option Arguments) → IsOne (reads_where paths is_open name arguments)
+reads_where-one paths is_open name None r s x y = x ∙ sym y
+reads_where-one paths is_open name (Some arguments) r s x y = by_time paths (is_untimely is_open name) arguments r s x y
 
-where-one : (paths : PathSpelling) (is_open : Bool) (command : Option CommandValue) → IsOne (asks_where paths is_open command)
+where-one : (paths : PathSpelling) (is_open : Bool) (command : Option (CommandName × List (List ℕ))) → IsOne (asks_where paths is_open command)
 where-one paths is_open None r s x y = x ∙ sym y
-where-one paths is_open (Some command) r s x y = by_time paths (is_untimely is_open command) command r s x y
+where-one paths is_open (Some command) r s x y = reads_where-one paths is_open command.0 (asks command.0 command.1) r s x y
 
 -- a line asks for one thing, or has one fault
 pub line-one : (paths : PathSpelling) (is_open : Bool) (text : List ℕ) → IsOne (line_asks paths is_open text)

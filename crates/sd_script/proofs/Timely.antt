@@ -1,13 +1,27 @@
 -- What a line can ask for: an opening where no store is open, and something of a store where one is.
-use Rattle.std.proofs.Common.{◌≡◌, ⊎_elim, ℕ, List, Bool, true, false, not, Option, Some, None, Ok, Err, refl, sym, ap, subst, ◌∙◌}
-use Rattle.std.specs.Prelude.{MatchBool, if◌then◌else◌}
-use Rattle.sd_script.specs.Command.{CommandValue, Open, AddContainer, AddObject, SetOwner, SetGroup, SetDacl, Remove, Protect, Move, Publish, Tell, Learn, Check, Why, Find, Show, ListNodes, Dump, Who, Review, ImportNode, asks, asks_where, is_untimely, line_asks, command_of}
-use Rattle.sd_script.specs.Fault.{Just, Reading}
+use Rattle.std.proofs.Common.{◌≡◌, ⊎_elim, ℕ, List, [], ◌∷◌, Bool, true, false, not, Option, Some, None, Ok, Err, inl, inr, refl, sym, subst, ◌∙◌}
+use Rattle.std.specs.Prelude.{⊤, MatchBool, if◌then◌else◌, option_map}
+use Rattle.sd_sid.specs.Sid.{SidValue}
+use Rattle.sd_check.specs.Token.{TokenValue}
+use Rattle.sd_check.specs.declared.token.GroupState.{GroupState}
+use Rattle.sd_tree.specs.Names.{Names}
+use Rattle.sd_tree.specs.declared.node.NodeDacl.{NodeDacl}
+use Rattle.sd_tree.specs.declared.node.NodeKind.{NodeKind}
+use Rattle.sd_tree.specs.declared.opening.RootSpec.{RootSpec}
+use Rattle.sd_script.specs.Argument.{number, path, sid, mask, token, base, node, dacl, imported}
+use Rattle.sd_script.specs.Command.{Arguments, Asks, Number, Path, Sid, Mask, Token, Groups, Node, Dacl, Imported}
+use Rattle.sd_script.specs.Command.{asks, asks_where, command_of, imports, is_untimely, kind_named, line_asks, poses, reads, reads_where}
+use Rattle.sd_script.specs.Fault.{Reading, Then}
 use Rattle.sd_script.specs.Lines.{words_of}
 use Rattle.sd_script.specs.Output.{is_open, line_asks_in}
 use Rattle.sd_script.specs.declared.asked.Asked.{Asked}
 use Rattle.sd_script.specs.declared.asked.Asked.TheVariants.{Opening, Asking, Explaining, Finding, Viewing, Importing}
+use Rattle.sd_script.specs.declared.asked.Question.{Question}
+use Rattle.sd_script.specs.declared.asked.Question.TheVariants as questions
+use Rattle.sd_script.specs.declared.command.CommandName.{CommandName}
+use Rattle.sd_script.specs.declared.command.CommandName.TheVariants.{Open, AddContainer, AddObject, SetOwner, SetGroup, SetDacl, Remove, Protect, Move, Publish, Tell, Learn, Check, Why, Find, Show, ListNodes, Dump, Who, Review, ImportNode}
 use Rattle.sd_script.specs.declared.fault.LineFault.TheVariants as faults
+use Rattle.sd_script.specs.declared.importing.Import.{Import}
 use Rattle.sd_script.specs.declared.paths.PathSpelling.{PathSpelling}
 use Rattle.sd_script.specs.declared.session.Session.{Session}
 use Rattle.sd_script.specs.declared.session.Session.TheVariants.{Closed, Opened}
@@ -27,92 +41,104 @@ opens (Finding reader path token asked) = false
 opens (Viewing view) = false
 opens (Importing edit path inherited) = false
 
-abbrev is_opening : CommandValue → Bool
-is_opening (Open readers sddl) = true
-is_opening (AddContainer path sddl) = false
-is_opening (AddObject path sddl) = false
-is_opening (SetOwner path sid) = false
-is_opening (SetGroup path sid) = false
-is_opening (SetDacl path sddl) = false
-is_opening (Remove path) = false
-is_opening (Protect path) = false
-is_opening (Move source target) = false
-is_opening Publish = false
-is_opening Tell = false
-is_opening (Learn reader len) = false
-is_opening (Check reader path user mask words) = false
-is_opening (Why reader path user mask words) = false
-is_opening (Find reader path user mask words) = false
-is_opening (Show reader path) = false
-is_opening (ListNodes path) = false
-is_opening Dump = false
-is_opening (Who path mask words) = false
-is_opening (Review path) = false
-is_opening (ImportNode kind path sddl) = false
+abbrev is_opening : CommandName → Bool
+is_opening Open = true
+is_opening name = false
 
 abbrev Opens : Bool → Asked → Type 0
 Opens b a = opens a ≡ b
 
-same_opens : (a b : Asked) → Just b (Ok a) → opens a ≡ opens b
-same_opens a b is = let same : a ≡ b = cc (is) in ap opens same
+-- all that the arguments can come to
+abbrev All : (Asked → Type 0) → Arguments → Type 0
+All P (Asks asked) = P asked
+All P (Number word next) = (n : ℕ) → All P (next n)
+All P (Path word next) = (p : Names) → All P (next p)
+All P (Sid word next) = (s : SidValue) → All P (next s)
+All P (Mask word next) = (m : ℕ) → All P (next m)
+All P (Token user words next) = (t : TokenValue) → All P (next t)
+All P (Groups words next) = (groups : List (SidValue × GroupState)) → All P (next groups)
+All P (Node word next) = (n : RootSpec) → All P (next n)
+All P (Dacl word next) = (d : NodeDacl) → All P (next d)
+All P (Imported word next) = (i : Import) → All P (next i)
 
-words_open : (paths : PathSpelling) (command : CommandValue) → Gives (Opens (is_opening command)) (asks paths command)
-words_open paths (Open readers sddl) a is = ⊎_elim (λ w. ⊎_elim (λ x. same_opens a _ x.2) (λ x. absurd (cc (x.2))) w.2) (λ w. absurd (cc (w.2))) is
-words_open paths (AddContainer at sddl) a is = ⊎_elim (λ w. ⊎_elim (λ x. same_opens a _ x.2) (λ x. absurd (cc (x.2))) w.2) (λ w. absurd (cc (w.2))) is
-words_open paths (AddObject at sddl) a is = ⊎_elim (λ w. ⊎_elim (λ x. same_opens a _ x.2) (λ x. absurd (cc (x.2))) w.2) (λ w. absurd (cc (w.2))) is
-words_open paths (SetOwner at owner) a is = ⊎_elim (λ w. ⊎_elim (λ x. same_opens a _ x.2) (λ x. absurd (cc (x.2))) w.2) (λ w. absurd (cc (w.2))) is
-words_open paths (SetGroup at group) a is = ⊎_elim (λ w. ⊎_elim (λ x. same_opens a _ x.2) (λ x. absurd (cc (x.2))) w.2) (λ w. absurd (cc (w.2))) is
-words_open paths (SetDacl at sddl) a is = ⊎_elim (λ w. ⊎_elim (λ x. same_opens a _ x.2) (λ x. absurd (cc (x.2))) w.2) (λ w. absurd (cc (w.2))) is
-words_open paths (Remove at) a is = ⊎_elim (λ w. same_opens a _ w.2) (λ w. absurd (cc (w.2))) is
-words_open paths (Protect at) a is = ⊎_elim (λ w. same_opens a _ w.2) (λ w. absurd (cc (w.2))) is
-words_open paths (Move source target) a is = ⊎_elim (λ w. ⊎_elim (λ x. same_opens a _ x.2) (λ x. absurd (cc (x.2))) w.2) (λ w. absurd (cc (w.2))) is
-words_open paths Publish a is = same_opens a _ is
-words_open paths Tell a is = same_opens a _ is
-words_open paths (Learn reader len) a is = ⊎_elim (λ w. ⊎_elim (λ x. same_opens a _ x.2) (λ x. absurd (cc (x.2))) w.2) (λ w. absurd (cc (w.2))) is
-words_open paths (Check reader at user asked words) a is = ⊎_elim (λ w. ⊎_elim (λ x. ⊎_elim (λ y. same_opens a _ y.2) (λ y. absurd (cc (y.2))) x.2) (λ x. absurd (cc (x.2))) w.2) (λ w. absurd (cc (w.2))) is
-words_open paths (Why reader at user asked words) a is = ⊎_elim (λ w. ⊎_elim (λ x. ⊎_elim (λ y. same_opens a _ y.2) (λ y. absurd (cc (y.2))) x.2) (λ x. absurd (cc (x.2))) w.2) (λ w. absurd (cc (w.2))) is
-words_open paths (Find reader at user asked words) a is = ⊎_elim (λ w. ⊎_elim (λ x. ⊎_elim (λ y. same_opens a _ y.2) (λ y. absurd (cc (y.2))) x.2) (λ x. absurd (cc (x.2))) w.2) (λ w. absurd (cc (w.2))) is
-words_open paths (Show reader at) a is = ⊎_elim (λ w. ⊎_elim (λ x. same_opens a _ x.2) (λ x. absurd (cc (x.2))) w.2) (λ w. absurd (cc (w.2))) is
-words_open paths (ListNodes at) a is = ⊎_elim (λ w. same_opens a _ w.2) (λ w. absurd (cc (w.2))) is
-words_open paths Dump a is = same_opens a _ is
-words_open paths (Review at) a is = ⊎_elim (λ w. same_opens a _ w.2) (λ w. absurd (cc (w.2))) is
-words_open paths (Who at asked words) a is = ⊎_elim (λ w. ⊎_elim (λ x. ⊎_elim (λ y. same_opens a _ y.2) (λ y. absurd (cc (y.2))) x.2) (λ x. absurd (cc (x.2))) w.2) (λ w. absurd (cc (w.2))) is
-words_open paths (ImportNode kind at sddl) a is = ⊎_elim (λ w. ⊎_elim (λ x. same_opens a _ x.2) (λ x. absurd (cc (x.2))) w.2) (λ w. absurd (cc (w.2))) is
+then_gives : {A : Type 0} (P : Asked → Type 0) (first : Reading A) (next : A → Reading Asked)
+    → ((v : A) → Gives P (next v)) → Gives P (Then first next)
+then_gives P first next all a (inl (v, read, more)) = all v a more
+then_gives P first next all a (inr (fault, read, is)) = absurd (cc is)
 
-untimely_is : (is_open : Bool) (command : CommandValue) → is_untimely is_open command ≡ (if is_opening command then is_open else not is_open)
-untimely_is is_open (Open readers sddl) = refl
-untimely_is is_open (AddContainer path sddl) = refl
-untimely_is is_open (AddObject path sddl) = refl
-untimely_is is_open (SetOwner path sid) = refl
-untimely_is is_open (SetGroup path sid) = refl
-untimely_is is_open (SetDacl path sddl) = refl
-untimely_is is_open (Remove path) = refl
-untimely_is is_open (Protect path) = refl
-untimely_is is_open (Move source target) = refl
-untimely_is is_open Publish = refl
-untimely_is is_open Tell = refl
-untimely_is is_open (Learn reader len) = refl
-untimely_is is_open (Check reader path user mask words) = refl
-untimely_is is_open (Why reader path user mask words) = refl
-untimely_is is_open (Find reader path user mask words) = refl
-untimely_is is_open (Show reader path) = refl
-untimely_is is_open (ListNodes path) = refl
-untimely_is is_open Dump = refl
-untimely_is is_open (Who path mask words) = refl
-untimely_is is_open (Review path) = refl
-untimely_is is_open (ImportNode kind path sddl) = refl
+all_given : (P : Asked → Type 0) (paths : PathSpelling) (arguments : Arguments) → All P arguments → Gives P (reads paths arguments)
+all_given P paths (Asks asked) holds a is = let same : a ≡ asked = cc is in subst P (sym same) holds
+all_given P paths (Number word next) all a is = then_gives P (number word) (λ n. reads paths (next n)) (λ n. all_given P paths (next n) (all n)) a is
+all_given P paths (Path word next) all a is = then_gives P (path paths word) (λ p. reads paths (next p)) (λ p. all_given P paths (next p) (all p)) a is
+all_given P paths (Sid word next) all a is = then_gives P (sid word) (λ s. reads paths (next s)) (λ s. all_given P paths (next s) (all s)) a is
+all_given P paths (Mask word next) all a is = then_gives P (mask word) (λ m. reads paths (next m)) (λ m. all_given P paths (next m) (all m)) a is
+all_given P paths (Token user words next) all a is = then_gives P (token user words) (λ t. reads paths (next t)) (λ t. all_given P paths (next t) (all t)) a is
+all_given P paths (Groups words next) all a is = then_gives P (base words) (λ g. reads paths (next g)) (λ g. all_given P paths (next g) (all g)) a is
+all_given P paths (Node word next) all a is = then_gives P (node word) (λ n. reads paths (next n)) (λ n. all_given P paths (next n) (all n)) a is
+all_given P paths (Dacl word next) all a is = then_gives P (dacl word) (λ d. reads paths (next d)) (λ d. all_given P paths (next d) (all d)) a is
+all_given P paths (Imported word next) all a is = then_gives P (imported word) (λ i. reads paths (next i)) (λ i. all_given P paths (next i) (all i)) a is
 
-by_test : (paths : PathSpelling) (is_open is : Bool) (command : CommandValue) (b : Asked) → is_opening command ≡ is
-    → MatchBool (if is then is_open else not is_open) (Ok b ≡ Err faults.Open) (asks paths command (Ok b)) → Opens (not is_open) b
-by_test paths true true command b same h = absurd (cc (h))
-by_test paths true false command b same h = words_open paths command b h ∙ same
-by_test paths false true command b same h = words_open paths command b h ∙ same
-by_test paths false false command b same h = absurd (cc (h))
+abbrev AllOf : (Asked → Type 0) → Option Arguments → Type 0
+AllOf P None = ⊤
+AllOf P (Some arguments) = All P arguments
 
-where_open : (paths : PathSpelling) (is_open : Bool) (command : Option CommandValue) → Gives (Opens (not is_open)) (asks_where paths is_open command)
+poses_nothing : (question : Question) (i : ℕ) (p : Names) (t : TokenValue) (m : ℕ) → opens (poses question i p t m) ≡ false
+poses_nothing questions.Check i p t m = refl
+poses_nothing questions.Why i p t m = refl
+poses_nothing questions.Find i p t m = refl
+
+imports_open : (at sddl : List ℕ) (kind : Option NodeKind) → AllOf (Opens false) (option_map (imports at sddl) kind)
+imports_open at sddl None = tt
+imports_open at sddl (Some kind) = λ p i. refl
+
+-- only an opening opens
+words_open : (name : CommandName) (arguments : List (List ℕ)) → AllOf (Opens (is_opening name)) (asks name arguments)
+words_open Open (readers ∷ sddl ∷ []) = λ n root. refl
+words_open AddContainer (at ∷ sddl ∷ []) = λ p n. refl
+words_open AddObject (at ∷ sddl ∷ []) = λ p n. refl
+words_open SetOwner (at ∷ owner ∷ []) = λ p s. refl
+words_open SetGroup (at ∷ group ∷ []) = λ p s. refl
+words_open SetDacl (at ∷ sddl ∷ []) = λ p d. refl
+words_open Remove (at ∷ []) = λ p. refl
+words_open Protect (at ∷ []) = λ p. refl
+words_open Move (source ∷ target ∷ []) = λ from to. refl
+words_open Publish [] = refl
+words_open Tell [] = refl
+words_open Learn (reader ∷ len ∷ []) = λ i n. refl
+words_open Check (reader ∷ at ∷ user ∷ asked ∷ words) = λ i p s m t. refl
+words_open Why (reader ∷ at ∷ user ∷ asked ∷ words) = λ i p s m t. refl
+words_open Find (reader ∷ at ∷ user ∷ asked ∷ words) = λ i p s m t. refl
+words_open Show (reader ∷ at ∷ []) = λ i p. refl
+words_open ListNodes [] = λ p. refl
+words_open ListNodes (at ∷ []) = λ p. refl
+words_open Dump [] = refl
+words_open Who (at ∷ asked ∷ words) = λ p m groups. refl
+words_open Review [] = λ p. refl
+words_open Review (at ∷ []) = λ p. refl
+words_open ImportNode (kind ∷ at ∷ sddl ∷ []) = imports_open at sddl (kind_named kind)
+words_open name arguments = tt
+
+untimely_is : (is_open : Bool) (name : CommandName) → is_untimely is_open name ≡ (if is_opening name then is_open else not is_open)
+untimely_is is_open Open = refl
+untimely_is is_open name = refl
+
+by_test : (paths : PathSpelling) (is_open is : Bool) (arguments : Arguments) (b : Asked) → All (Opens is) arguments
+    → MatchBool (if is then is_open else not is_open) (Ok b ≡ Err faults.Open) (reads paths arguments (Ok b)) → Opens (not is_open) b
+by_test paths true true arguments b all h = absurd (cc (h))
+by_test paths true false arguments b all h = all_given (Opens false) paths arguments all b h
+by_test paths false true arguments b all h = all_given (Opens true) paths arguments all b h
+by_test paths false false arguments b all h = absurd (cc (h))
+
+reads_open : (paths : PathSpelling) (is_open : Bool) (name : CommandName) (arguments : Option Arguments) → AllOf (Opens (is_opening name)) arguments
+    → Gives (Opens (not is_open)) (reads_where paths is_open name arguments)
+reads_open paths is_open name None all b h = absurd (cc (h))
+reads_open paths is_open name (Some arguments) all b h =
+    by_test paths is_open (is_opening name) arguments b all (subst (λ t. MatchBool t (Ok b ≡ Err faults.Open) (reads paths arguments (Ok b))) (untimely_is is_open name) h)
+
+where_open : (paths : PathSpelling) (is_open : Bool) (command : Option (CommandName × List (List ℕ))) → Gives (Opens (not is_open)) (asks_where paths is_open command)
 where_open paths is_open None b h = absurd (cc (h))
 where_open paths is_open (Some command) b h =
-    by_test paths is_open (is_opening command) command b refl (subst (λ t. MatchBool t (Ok b ≡ Err faults.Open) (asks paths command (Ok b))) (untimely_is is_open command) h)
+    reads_open paths is_open command.0 (asks command.0 command.1) (words_open command.0 command.1) b h
 
 -- a line opens a store just where none is open
 pub line_opens : (paths : PathSpelling) (is_open : Bool) (line : List ℕ) → Gives (Opens (not is_open)) (line_asks paths is_open line)

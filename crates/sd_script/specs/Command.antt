@@ -1,106 +1,81 @@
--- What a line asks for.
-use Rattle.std.specs.Prelude.{◌≡◌, ℕ, Bool, not, ◌==◌, MatchBool, if◌then◌else◌, ◌⊎◌, List, [], ◌∷◌, length, Option}
-use Rattle.std.specs.Prelude.{Some, None, Err, option_and_then, option_map, codes, bytes_eq}
+-- What a line asks for: the table of commands.
+use Rattle.std.specs.Prelude.{◌≡◌, ℕ, Bool, not, ⊤, ◌==◌, MatchBool, if◌then◌else◌, ◌⊎◌, List, [], ◌∷◌, length}
+use Rattle.std.specs.Prelude.{Option, Some, None, Result, Err, option_map, codes, bytes_eq}
 use Rattle.std.specs.List.{list_any}
 use Rattle.std.specs.Str.{IsUtf8}
 use Rattle.sd_sid.specs.Sid.{SidValue}
+use Rattle.sd_check.specs.Token.{TokenValue}
+use Rattle.sd_check.specs.declared.token.GroupState.{GroupState}
 use Rattle.sd_tree.specs.Names.{Names}
 use Rattle.sd_tree.specs.declared.edit.Edit.{Edit}
 use Rattle.sd_tree.specs.declared.edit.Edit.TheVariants as edits
+use Rattle.sd_tree.specs.declared.node.NodeDacl.{NodeDacl}
 use Rattle.sd_tree.specs.declared.node.NodeKind.{NodeKind}
 use Rattle.sd_tree.specs.declared.node.NodeKind.TheVariants.{Container, Object}
+use Rattle.sd_tree.specs.declared.opening.RootSpec.{RootSpec}
 use Rattle.sd_desk.specs.declared.request.Request.{Request}
 use Rattle.sd_desk.specs.declared.request.Request.TheVariants as requests
 use Rattle.sd_script.specs.Addition.{addition, row_of}
 use Rattle.sd_script.specs.Argument.{number, path, sid, mask, token, base, node, dacl, imported}
-use Rattle.sd_script.specs.Fault.{Reading, Just, Then}
+use Rattle.sd_script.specs.Fault.{Reading, Just, Then, UnlessMemory}
 use Rattle.sd_script.specs.Lines.{words_of}
 use Rattle.sd_answer.specs.Word.{texts}
 use Rattle.sd_script.specs.declared.asked.Asked.{Asked}
 use Rattle.sd_script.specs.declared.asked.Asked.TheVariants.{Opening, Asking, Explaining, Finding, Viewing, Importing}
+use Rattle.sd_script.specs.declared.asked.OnGroups.{OnGroups}
 use Rattle.sd_script.specs.declared.asked.Question.{Question}
+use Rattle.sd_script.specs.declared.asked.Question.TheVariants as questions
 use Rattle.sd_script.specs.declared.command.Command.{Command}
-use Rattle.sd_script.specs.declared.command.Command.TheVariants as lent
 use Rattle.sd_script.specs.declared.command.CommandName.{CommandName}
-use Rattle.sd_script.specs.declared.command.CommandName.TheVariants as names
+use Rattle.sd_script.specs.declared.command.CommandName.TheVariants.{Open, AddContainer, AddObject, SetOwner, SetGroup}
+use Rattle.sd_script.specs.declared.command.CommandName.TheVariants.{SetDacl, Remove, Protect, Move, Publish, Tell}
+use Rattle.sd_script.specs.declared.command.CommandName.TheVariants.{Learn, Check, Why, Find, Show, ListNodes, Dump}
+use Rattle.sd_script.specs.declared.command.CommandName.TheVariants.{Who, Review, ImportNode}
 use Rattle.sd_script.specs.declared.fault.LineFault.TheVariants as faults
+use Rattle.sd_script.specs.declared.fault.Stop.{Stop}
+use Rattle.sd_script.specs.declared.importing.Import.{Import}
 use Rattle.sd_script.specs.declared.paths.PathSpelling.{PathSpelling}
 use Rattle.sd_script.specs.declared.view.View.{View}
 use Rattle.sd_script.specs.declared.view.View.TheVariants as views
 
--- ---- commands, with their words as they stand
+-- ---- arguments by kind
 
-pub data CommandValue : Type 0 where
-  Open : List ℕ → List ℕ → CommandValue
-  AddContainer : List ℕ → List ℕ → CommandValue
-  AddObject : List ℕ → List ℕ → CommandValue
-  SetOwner : List ℕ → List ℕ → CommandValue
-  SetGroup : List ℕ → List ℕ → CommandValue
-  SetDacl : List ℕ → List ℕ → CommandValue
-  Remove : List ℕ → CommandValue
-  Protect : List ℕ → CommandValue
-  Move : List ℕ → List ℕ → CommandValue
-  Publish : CommandValue
-  Tell : CommandValue
-  Learn : List ℕ → List ℕ → CommandValue
-  Check : List ℕ → List ℕ → List ℕ → List ℕ → List (List ℕ) → CommandValue
-  Why : List ℕ → List ℕ → List ℕ → List ℕ → List (List ℕ) → CommandValue
-  Find : List ℕ → List ℕ → List ℕ → List ℕ → List (List ℕ) → CommandValue
-  Show : List ℕ → List ℕ → CommandValue
-  ListNodes : List ℕ → CommandValue
-  ImportNode : NodeKind → List ℕ → List ℕ → CommandValue
-  Dump : CommandValue
-  Who : List ℕ → List ℕ → List (List ℕ) → CommandValue
-  Review : List ℕ → CommandValue
+-- what is left to be parsed of a command's arguments, each by its kind, and what they ask for
+pub data Arguments : Type 0 where
+  Asks : Asked → Arguments
+  Number : List ℕ → (ℕ → Arguments) → Arguments
+  Path : List ℕ → (Names → Arguments) → Arguments
+  Sid : List ℕ → (SidValue → Arguments) → Arguments
+  Mask : List ℕ → (ℕ → Arguments) → Arguments
+  Token : SidValue → List (List ℕ) → (TokenValue → Arguments) → Arguments
+  Groups : List (List ℕ) → (List (SidValue × GroupState) → Arguments) → Arguments
+  Node : List ℕ → (RootSpec → Arguments) → Arguments
+  Dacl : List ℕ → (NodeDacl → Arguments) → Arguments
+  Imported : List ℕ → (Import → Arguments) → Arguments
 
-abbrev pub command_value : Command → CommandValue
-command_value (lent.Open readers sddl) = Open readers.now sddl.now
-command_value (lent.AddContainer path sddl) = AddContainer path.now sddl.now
-command_value (lent.AddObject path sddl) = AddObject path.now sddl.now
-command_value (lent.SetOwner path sid) = SetOwner path.now sid.now
-command_value (lent.SetGroup path sid) = SetGroup path.now sid.now
-command_value (lent.SetDacl path sddl) = SetDacl path.now sddl.now
-command_value (lent.Remove path) = Remove path.now
-command_value (lent.Protect path) = Protect path.now
-command_value (lent.Move source target) = Move source.now target.now
-command_value lent.Publish = Publish
-command_value lent.Tell = Tell
-command_value (lent.Learn reader length) = Learn reader.now length.now
-command_value (lent.Check reader path user mask words) = Check reader.now path.now user.now mask.now (texts words.now)
-command_value (lent.Why reader path user mask words) = Why reader.now path.now user.now mask.now (texts words.now)
-command_value (lent.Find reader path user mask words) = Find reader.now path.now user.now mask.now (texts words.now)
-command_value (lent.Show reader path) = Show reader.now path.now
-command_value (lent.ListNodes path) = ListNodes path.now
-command_value (lent.ImportNode kind path sddl) = ImportNode kind path.now sddl.now
-command_value lent.Dump = Dump
-command_value (lent.Who path mask words) = Who path.now mask.now (texts words.now)
-command_value (lent.Review path) = Review path.now
+-- they are parsed from the left, and the first fault is the answer
+abbrev pub reads : PathSpelling → Arguments → Reading Asked
+reads paths (Asks asked) = Just asked
+reads paths (Number word next) = Then (number word) (λ n. reads paths (next n))
+reads paths (Path word next) = Then (path paths word) (λ p. reads paths (next p))
+reads paths (Sid word next) = Then (sid word) (λ s. reads paths (next s))
+reads paths (Mask word next) = Then (mask word) (λ m. reads paths (next m))
+reads paths (Token user words next) = Then (token user words) (λ t. reads paths (next t))
+reads paths (Groups words next) = Then (base words) (λ groups. reads paths (next groups))
+reads paths (Node word next) = Then (node word) (λ n. reads paths (next n))
+reads paths (Dacl word next) = Then (dacl word) (λ d. reads paths (next d))
+reads paths (Imported word next) = Then (imported word) (λ i. reads paths (next i))
 
--- the command that the word names
-abbrev pub command_named : List ℕ → Option CommandName
-command_named word =
-    if bytes_eq word (codes "open") then Some names.Open
-    else if bytes_eq word (codes "addc") then Some names.AddContainer
-    else if bytes_eq word (codes "addo") then Some names.AddObject
-    else if bytes_eq word (codes "owner") then Some names.SetOwner
-    else if bytes_eq word (codes "group") then Some names.SetGroup
-    else if bytes_eq word (codes "dacl") then Some names.SetDacl
-    else if bytes_eq word (codes "remove") then Some names.Remove
-    else if bytes_eq word (codes "protect") then Some names.Protect
-    else if bytes_eq word (codes "move") then Some names.Move
-    else if bytes_eq word (codes "publish") then Some names.Publish
-    else if bytes_eq word (codes "tell") then Some names.Tell
-    else if bytes_eq word (codes "learn") then Some names.Learn
-    else if bytes_eq word (codes "check") then Some names.Check
-    else if bytes_eq word (codes "why") then Some names.Why
-    else if bytes_eq word (codes "find") then Some names.Find
-    else if bytes_eq word (codes "show") then Some names.Show
-    else if bytes_eq word (codes "list") then Some names.ListNodes
-    else if bytes_eq word (codes "dump") then Some names.Dump
-    else if bytes_eq word (codes "who") then Some names.Who
-    else if bytes_eq word (codes "review") then Some names.Review
-    else if bytes_eq word (codes "import") then Some names.ImportNode
-    else None
+-- ---- the table: each command's name, its arguments by kind, and what it asks for
+
+abbrev pub names : List (List ℕ × CommandName)
+names =
+    (codes "open", Open) ∷ (codes "addc", AddContainer) ∷ (codes "addo", AddObject) ∷ (codes "owner", SetOwner)
+    ∷ (codes "group", SetGroup) ∷ (codes "dacl", SetDacl) ∷ (codes "remove", Remove) ∷ (codes "protect", Protect)
+    ∷ (codes "move", Move) ∷ (codes "publish", Publish) ∷ (codes "tell", Tell) ∷ (codes "learn", Learn)
+    ∷ (codes "check", Check) ∷ (codes "why", Why) ∷ (codes "find", Find) ∷ (codes "show", Show)
+    ∷ (codes "list", ListNodes) ∷ (codes "dump", Dump) ∷ (codes "who", Who) ∷ (codes "review", Review)
+    ∷ (codes "import", ImportNode) ∷ []
 
 -- the kind of node that the word names
 abbrev pub kind_named : List ℕ → Option NodeKind
@@ -109,123 +84,122 @@ kind_named word =
     else if bytes_eq word (codes "object") then Some Object
     else None
 
--- the command with these arguments, where they are as many as it takes
-abbrev pub command_taking : CommandName → List (List ℕ) → Option CommandValue
-command_taking names.Open (readers ∷ sddl ∷ []) = Some (Open readers sddl)
-command_taking names.AddContainer (path ∷ sddl ∷ []) = Some (AddContainer path sddl)
-command_taking names.AddObject (path ∷ sddl ∷ []) = Some (AddObject path sddl)
-command_taking names.SetOwner (path ∷ sid ∷ []) = Some (SetOwner path sid)
-command_taking names.SetGroup (path ∷ sid ∷ []) = Some (SetGroup path sid)
-command_taking names.SetDacl (path ∷ sddl ∷ []) = Some (SetDacl path sddl)
-command_taking names.Remove (path ∷ []) = Some (Remove path)
-command_taking names.Protect (path ∷ []) = Some (Protect path)
-command_taking names.Move (source ∷ target ∷ []) = Some (Move source target)
-command_taking names.Publish [] = Some Publish
-command_taking names.Tell [] = Some Tell
-command_taking names.Learn (reader ∷ length ∷ []) = Some (Learn reader length)
-command_taking names.Check (reader ∷ path ∷ user ∷ mask ∷ words) = Some (Check reader path user mask words)
-command_taking names.Why (reader ∷ path ∷ user ∷ mask ∷ words) = Some (Why reader path user mask words)
-command_taking names.Find (reader ∷ path ∷ user ∷ mask ∷ words) = Some (Find reader path user mask words)
-command_taking names.Show (reader ∷ path ∷ []) = Some (Show reader path)
-command_taking names.ListNodes [] = Some (ListNodes (codes "/"))
-command_taking names.ListNodes (path ∷ []) = Some (ListNodes path)
-command_taking names.Dump [] = Some Dump
-command_taking names.Review [] = Some (Review (codes "/"))
-command_taking names.Review (path ∷ []) = Some (Review path)
-command_taking names.ImportNode (kind ∷ path ∷ sddl ∷ []) = option_map (λ is. ImportNode is path sddl) (kind_named kind)
-command_taking name arguments = None
+abbrev pub edit : Edit → Arguments
+edit e = Asks (Asking (requests.Edit e))
 
--- the one on a path, a mask and groups
-abbrev pub command_with_base : List (List ℕ) → Option CommandValue
-command_with_base (path ∷ mask ∷ words) = Some (Who path mask words)
-command_with_base arguments = None
+abbrev pub request : Request → Arguments
+request r = Asks (Asking r)
 
-abbrev pub command_on : CommandName → List (List ℕ) → Option CommandValue
-command_on names.Who arguments = command_with_base arguments
-command_on name arguments = command_taking name arguments
+abbrev pub view : View → Arguments
+view v = Asks (Viewing v)
+
+-- a question for a token, to a reader, of a path
+abbrev pub poses : Question → ℕ → Names → TokenValue → ℕ → Asked
+poses questions.Check reader p t asked = Asking (requests.Check reader p t asked)
+poses questions.Why reader p t asked = Explaining reader p t asked
+poses questions.Find reader p t asked = Finding reader p t asked
+
+abbrev pub posed : Question → List ℕ → List ℕ → List ℕ → List ℕ → List (List ℕ) → Arguments
+posed question reader at user asked words =
+    Number reader (λ i. Path at (λ p. Sid user (λ s. Mask asked (λ m. Token s words
+    (λ t. Asks (poses question i p t m))))))
+
+-- what a node that comes from elsewhere asks for
+abbrev pub imports : List ℕ → List ℕ → NodeKind → Arguments
+imports at sddl kind =
+    Path at (λ p. Imported sddl (λ i. Asks (Importing (addition kind p (row_of kind i.node)) p i.inherited)))
+
+-- a path, a mask and groups
+abbrev pub groups_given : List (List ℕ) → Option (List ℕ × List ℕ × List (List ℕ))
+groups_given (at ∷ asked ∷ words) = Some (at, asked, words)
+groups_given arguments = None
+
+abbrev pub asks_groups : List ℕ × List ℕ × List (List ℕ) → Arguments
+asks_groups given =
+    Path given.0 (λ p. Mask given.1 (λ m. Groups given.2 (λ groups. view (views.Who p groups m))))
+
+abbrev pub asks_who : List (List ℕ) → Option Arguments
+asks_who arguments = option_map asks_groups (groups_given arguments)
+
+-- each other command on these arguments, where they are as many as it takes
+abbrev pub asks_taking : CommandName → List (List ℕ) → Option Arguments
+asks_taking Open (readers ∷ sddl ∷ []) = Some (Number readers (λ n. Node sddl (λ root. Asks (Opening n root))))
+asks_taking AddContainer (at ∷ sddl ∷ []) =
+    Some (Path at (λ p. Node sddl (λ n. edit (edits.AddContainer p n.owner n.group n.dacl))))
+asks_taking AddObject (at ∷ sddl ∷ []) =
+    Some (Path at (λ p. Node sddl (λ n. edit (edits.AddObject p n.owner n.group n.dacl))))
+asks_taking SetOwner (at ∷ owner ∷ []) = Some (Path at (λ p. Sid owner (λ s. edit (edits.SetOwner p s))))
+asks_taking SetGroup (at ∷ group ∷ []) = Some (Path at (λ p. Sid group (λ s. edit (edits.SetGroup p s))))
+asks_taking SetDacl (at ∷ sddl ∷ []) = Some (Path at (λ p. Dacl sddl (λ d. edit (edits.SetDacl p d))))
+asks_taking Remove (at ∷ []) = Some (Path at (λ p. edit (edits.Remove p)))
+asks_taking Protect (at ∷ []) = Some (Path at (λ p. edit (edits.ProtectKeeping p)))
+asks_taking Move (source ∷ target ∷ []) = Some (Path source (λ from. Path target (λ to. edit (edits.Move from to))))
+asks_taking Publish [] = Some (request requests.Publish)
+asks_taking Tell [] = Some (request requests.Tell)
+asks_taking Learn (reader ∷ len ∷ []) = Some (Number reader (λ i. Number len (λ n. request (requests.Learn i n))))
+asks_taking Check (reader ∷ at ∷ user ∷ asked ∷ words) = Some (posed questions.Check reader at user asked words)
+asks_taking Why (reader ∷ at ∷ user ∷ asked ∷ words) = Some (posed questions.Why reader at user asked words)
+asks_taking Find (reader ∷ at ∷ user ∷ asked ∷ words) = Some (posed questions.Find reader at user asked words)
+asks_taking Show (reader ∷ at ∷ []) = Some (Number reader (λ i. Path at (λ p. request (requests.Show i p))))
+asks_taking ListNodes [] = Some (Path (codes "/") (λ p. view (views.List p)))
+asks_taking ListNodes (at ∷ []) = Some (Path at (λ p. view (views.List p)))
+asks_taking Dump [] = Some (view views.Dump)
+asks_taking Review [] = Some (Path (codes "/") (λ p. view (views.Review p)))
+asks_taking Review (at ∷ []) = Some (Path at (λ p. view (views.Review p)))
+asks_taking ImportNode (kind ∷ at ∷ sddl ∷ []) = option_map (imports at sddl) (kind_named kind)
+asks_taking name arguments = None
+
+abbrev pub asks : CommandName → List (List ℕ) → Option Arguments
+asks Who arguments = asks_who arguments
+asks name arguments = asks_taking name arguments
+
+-- a store is opened where none is open, and each other command is for where one is
+abbrev pub is_untimely : Bool → CommandName → Bool
+is_untimely is_open Open = is_open
+is_untimely is_open name = not is_open
+
+-- ---- what a line asks for
+
+-- what stands beside this word
+abbrev pub beside : {A : Type 0} → List ℕ → List (List ℕ × A) → Option A
+beside word [] = None
+beside word (row ∷ rows) = if bytes_eq word row.0 then Some row.1 else beside word rows
 
 abbrev pub is_empty : List ℕ → Bool
 is_empty word = length word == 0
 
--- the command that the words are, none of which is empty
-abbrev pub command_of : List (List ℕ) → Option CommandValue
+abbrev pub command_named : List ℕ → Option CommandName
+command_named word = beside word names
+
+abbrev pub on_groups_value : OnGroups → List ℕ × List ℕ × List (List ℕ)
+on_groups_value given = (given.path.now, given.mask.now, texts given.words.now)
+
+abbrev pub command_value : Command → CommandName × List (List ℕ)
+command_value command = (command.name, texts command.arguments.now)
+
+-- the command that the words name, none of which is empty, and its arguments
+abbrev pub command_of : List (List ℕ) → Option (CommandName × List (List ℕ))
 command_of [] = None
 command_of (word ∷ words) =
-    if list_any is_empty (word ∷ words) then None
-    else option_and_then (λ name. command_on name words) (command_named word)
+    if list_any is_empty (word ∷ words) then None else option_map (λ name. (name, words)) (command_named word)
 
--- a store is opened where none is open, and each other command is for where one is
-abbrev pub is_untimely : Bool → CommandValue → Bool
-is_untimely is_open (Open readers sddl) = is_open
-is_untimely is_open command = not is_open
+abbrev pub reads_where : PathSpelling → Bool → CommandName → Option Arguments → Reading Asked
+reads_where paths is_open name None read = read ≡ Err faults.Words
+reads_where paths is_open name (Some arguments) read =
+    MatchBool (is_untimely is_open name) (read ≡ Err faults.Open) (reads paths arguments read)
 
--- ---- what a command asks for, where its words are read from the left
-
-abbrev pub edit : Edit → Reading Asked
-edit e = Just (Asking (requests.Edit e))
-
-abbrev pub request : Request → Reading Asked
-request r = Just (Asking r)
-
-abbrev pub view : View → Reading Asked
-view v = Just (Viewing v)
-
--- a question: the user, what is asked, and the user's groups and privileges
-abbrev pub question_with : List (List ℕ) → SidValue → ℕ → Reading Question
-question_with words user asked = Then (token user words) (λ t. Just (record { token = t; asked = asked }))
-
-abbrev pub question_by : List ℕ → List (List ℕ) → SidValue → Reading Question
-question_by asked words user = Then (mask asked) (question_with words user)
-
-abbrev pub question : List ℕ → List ℕ → List (List ℕ) → Reading Question
-question user asked words = Then (sid user) (question_by asked words)
-
--- such a question to a reader, of a path
-abbrev pub posed : (ℕ → Names → Question → Asked) → PathSpelling → List ℕ → List ℕ → Reading Question → Reading Asked
-posed make paths reader at asking = Then (number reader)
-    (λ i. Then (path paths at) (λ p. Then asking (λ q. Just (make i p q))))
-
--- what each command asks for
-abbrev pub asks : PathSpelling → CommandValue → Reading Asked
-asks paths (Open readers sddl) = Then (number readers) (λ n. Then (node sddl) (λ root. Just (Opening n root)))
-asks paths (AddContainer at sddl) = Then (path paths at)
-    (λ p. Then (node sddl) (λ n. edit (edits.AddContainer p n.owner n.group n.dacl)))
-asks paths (AddObject at sddl) = Then (path paths at)
-    (λ p. Then (node sddl) (λ n. edit (edits.AddObject p n.owner n.group n.dacl)))
-asks paths (SetOwner at owner) = Then (path paths at) (λ p. Then (sid owner) (λ s. edit (edits.SetOwner p s)))
-asks paths (SetGroup at group) = Then (path paths at) (λ p. Then (sid group) (λ s. edit (edits.SetGroup p s)))
-asks paths (SetDacl at sddl) = Then (path paths at) (λ p. Then (dacl sddl) (λ d. edit (edits.SetDacl p d)))
-asks paths (Remove at) = Then (path paths at) (λ p. edit (edits.Remove p))
-asks paths (Protect at) = Then (path paths at) (λ p. edit (edits.ProtectKeeping p))
-asks paths (Move source target) = Then (path paths source)
-    (λ from. Then (path paths target) (λ to. edit (edits.Move from to)))
-asks paths Publish = request requests.Publish
-asks paths Tell = request requests.Tell
-asks paths (Learn reader length) = Then (number reader) (λ i. Then (number length) (λ n. request (requests.Learn i n)))
-asks paths (Check reader at user asked words) =
-    posed (λ i p q. Asking (requests.Check i p q.token q.asked)) paths reader at (question user asked words)
-asks paths (Why reader at user asked words) =
-    posed (λ i p q. Explaining i p q.token q.asked) paths reader at (question user asked words)
-asks paths (Find reader at user asked words) =
-    posed (λ i p q. Finding i p q.token q.asked) paths reader at (question user asked words)
-asks paths (Show reader at) = Then (number reader) (λ i. Then (path paths at) (λ p. request (requests.Show i p)))
-asks paths (ListNodes at) = Then (path paths at) (λ p. view (views.List p))
-asks paths Dump = view views.Dump
-asks paths (Who at asked words) =
-    Then (path paths at) (λ p. Then (mask asked) (λ m. Then (base words) (λ groups. view (views.Who p groups m))))
-asks paths (Review at) = Then (path paths at) (λ p. view (views.Review p))
-asks paths (ImportNode kind at sddl) =
-    Then (path paths at) (λ p. Then (imported sddl)
-    (λ m. Just (Importing (addition kind p (row_of kind m.node)) p m.inherited)))
-
--- ---- what a line asks for
-
-abbrev pub asks_where : PathSpelling → Bool → Option CommandValue → Reading Asked
+abbrev pub asks_where : PathSpelling → Bool → Option (CommandName × List (List ℕ)) → Reading Asked
 asks_where paths is_open None read = read ≡ Err faults.Words
-asks_where paths is_open (Some command) read = MatchBool (is_untimely is_open command) (read ≡ Err faults.Open)
-    (asks paths command read)
+asks_where paths is_open (Some command) read = reads_where paths is_open command.0 (asks command.0 command.1) read
 
 abbrev pub line_asks : PathSpelling → Bool → List ℕ → Reading Asked
 line_asks paths is_open line read =
     (IsUtf8 line × asks_where paths is_open (command_of (words_of line)) read)
     ⊎ ((IsUtf8 line → ⊥) × (read ≡ Err faults.Utf8))
+
+-- ---- what parses a command's arguments and may be out of memory; nothing, where they aren't as many as it takes
+
+abbrev pub Parses : PathSpelling → Option Arguments → Option (Result Asked Stop) → Type 0
+Parses paths None None = ⊤
+Parses paths (Some arguments) (Some result) = UnlessMemory (reads paths arguments) result
+Parses paths arguments result = ⊥

@@ -59,21 +59,17 @@ IsDone old (Opens readers root) printed new = IsOpened (manner_of old) readers r
 IsDone (Opened paths old) (Asking request) printed new =
     (reply : Reply) × (machine : Machine) × Steps old request reply machine × (reply_line reply ≡ Some printed)
     × (new ≡ Opened paths machine)
-IsDone (Closed manner) (Asking request) printed new = ⊥
 IsDone (Opened paths old) (Explaining reader path token asked) printed new =
     (reply : Reply) × (machine : Machine) × Steps old (Show reader path) reply machine
     × (explained_reply old.opening.mapping token asked reply ≡ Some printed) × (new ≡ Opened paths machine)
-IsDone (Closed manner) (Explaining reader path token asked) printed new = ⊥
 IsDone (Opened paths old) (Finding reader path token asked) printed new =
     (reply : Reply) × (machine : Machine) × Steps old (Show reader path) reply machine
     × (found_reply paths machine path (Granting token asked) reply ≡ Some printed) × (new ≡ Opened paths machine)
-IsDone (Closed manner) (Finding reader path token asked) printed new = ⊥
 IsDone (Opened paths old) (Viewing view) printed new = IsViewed paths old view printed × (new ≡ Opened paths old)
-IsDone (Closed manner) (Viewing view) printed new = ⊥
 IsDone (Opened paths old) (Importing edit path inherited) printed new =
     (reply : Reply) × (machine : Machine) × Steps old (Edits edit) reply machine
     × IsImported machine path inherited reply printed × (new ≡ Opened paths machine)
-IsDone (Closed manner) (Importing edit path inherited) printed new = ⊥
+IsDone old asked printed new = ⊥
 
 -- a line that isn't silent is told what it asks for, or its fault
 abbrev pub IsTold : Session → List ℕ → List ℕ → Session → Type 0

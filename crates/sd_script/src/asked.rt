@@ -1,14 +1,16 @@
-//! What a line asks for, and how its words are read.
-ghost use Rattle.std.specs.Prelude.{◌≡◌};
-ghost use Rattle.sd_script.specs.Command.{CommandValue, Open, AddContainer, AddObject, SetOwner, SetGroup, SetDacl};
-ghost use Rattle.sd_script.specs.Command.{Remove, Protect, Move, Learn, Check, Why, Find, Show, ListNodes, Who, Review};
-ghost use Rattle.sd_script.specs.Command.{ImportNode, asks, question, command_value};
+//! What a line asks for, and how a command's arguments are parsed.
+ghost use Rattle.std.specs.Prelude.{◌≡◌, ◌∷◌, [], Some, option_map};
+ghost use Rattle.sd_script.specs.Command.{Parses, asks, asks_taking, asks_who, imports, kind_named, posed, poses};
+ghost use Rattle.sd_script.specs.Command.{asks_groups, groups_given, on_groups_value, reads};
 ghost use Rattle.sd_script.specs.Fault.{UnlessMemory};
+ghost use Rattle.sd_script.specs.declared.command.CommandName.TheVariants.{Open, AddContainer, AddObject, SetOwner};
+ghost use Rattle.sd_script.specs.declared.command.CommandName.TheVariants.{SetGroup, SetDacl, Remove, Protect, Move};
+ghost use Rattle.sd_script.specs.declared.command.CommandName.TheVariants.{Learn, Show, ListNodes, Review};
 ghost use Rattle.sd_answer.specs.Word.{texts};
 ghost use Rattle.sd_script.specs.declared.paths.PathSpelling.{PathSpelling as Spelling};
 
 use crate::argument::{base_in, dacl_in, mask_in, node_in, number_in, sid_in, token_in};
-use crate::command::Command;
+use crate::command::{Command, CommandName};
 use crate::fault::Stop;
 use crate::importing::{Import, addition, import_in};
 use crate::paths::{PathSpelling, path_in};
@@ -53,66 +55,189 @@ pub enum Asked {
     },
 }
 
-/// A token, and what is asked for it.
-#[derive(Debug, Drop)]
-pub(crate) struct Question {
-    token: Token,
-    asked: Mask,
+/// A path, a mask and groups.
+#[derive(Clone, Copy)]
+struct OnGroups<'a> {
+    path: &'a str,
+    mask: &'a str,
+    words: &'a [&'a str],
 }
 
-/// What a command asks for, or its first argument from the left that isn't read.
+/// What is asked of a reader and a path for a token.
+#[derive(Clone, Copy)]
+enum Question {
+    Check,
+    Why,
+    Find,
+}
+
+/// What a command asks for, or its first argument from the left that is rejected. None where it doesn't take as many
+/// arguments.
 pub(crate) fn asked_by(
     alloc: Global,
     paths: PathSpelling,
     command: Command<'_>,
-) -> Result<Asked, Stop>
-    ensures { UnlessMemory (asks paths (command_value command.entry)) result }
+) -> Option<Result<Asked, Stop>>
+    ensures { Parses paths (asks command.entry.name (texts command.entry.arguments.now)) result }
 {
-    match command {
-        Command::Open { readers, sddl } => opening(alloc, readers, sddl),
-        Command::AddContainer { path, sddl } => added_container(alloc, paths, path, sddl),
-        Command::AddObject { path, sddl } => added_object(alloc, paths, path, sddl),
-        Command::SetOwner { path, sid } => set_owner(alloc, paths, path, sid),
-        Command::SetGroup { path, sid } => set_group(alloc, paths, path, sid),
-        Command::SetDacl { path, sddl } => set_dacl(alloc, paths, path, sddl),
-        Command::Remove { path } => removed(alloc, paths, path),
-        Command::Protect { path } => protected(alloc, paths, path),
-        Command::Move { source, target } => moved(alloc, paths, source, target),
-        Command::Publish => Ok(Asked::Asking(Request::Publish)),
-        Command::Tell => Ok(Asked::Asking(Request::Tell)),
-        Command::Learn { reader, length } => learned(reader, length),
-        Command::Check {
-            reader,
-            path,
-            user,
-            mask,
-            words,
-        } => checked(alloc, paths, reader, path, user, mask, words),
-        Command::Why {
-            reader,
-            path,
-            user,
-            mask,
-            words,
-        } => explained(alloc, paths, reader, path, user, mask, words),
-        Command::Find {
-            reader,
-            path,
-            user,
-            mask,
-            words,
-        } => sought(alloc, paths, reader, path, user, mask, words),
-        Command::Show { reader, path } => shown(alloc, paths, reader, path),
-        Command::ListNodes { path } => listed(alloc, paths, path),
-        Command::Dump => Ok(Asked::Viewing(View::Dump)),
-        Command::Who { path, mask, words } => granted(alloc, paths, path, mask, words),
-        Command::Review { path } => reviewed(alloc, paths, path),
-        Command::ImportNode { kind, path, sddl } => importing(alloc, paths, kind, path, sddl),
+    match command.name {
+        CommandName::Who => who(alloc, paths, command.arguments),
+        _ => taking(alloc, paths, command.name, command.arguments),
     }
 }
 
+/// Who is granted a mask on a path, of groups.
+fn who(alloc: Global, paths: PathSpelling, arguments: &[&str]) -> Option<Result<Asked, Stop>>
+    ensures { Parses paths (asks_who (texts arguments.now)) result }
+{
+    match on_groups(arguments) {
+        Some(OnGroups { path, mask, words }) => Some(granted(alloc, paths, path, mask, words)),
+        None => None,
+    }
+}
+
+fn on_groups<'a>(arguments: &'a [&'a str]) -> Option<OnGroups<'a>>
+    ensures { option_map on_groups_value result ≡ groups_given (texts arguments.entry.now) }
+{
+    match arguments {
+        [path, mask, words @ ..] => Some(OnGroups { path, mask, words }),
+        [_] => None,
+        [] => None,
+    }
+}
+
+/// What each other command asks for, by the number of its arguments.
+fn taking(
+    alloc: Global,
+    paths: PathSpelling,
+    name: CommandName,
+    arguments: &[&str],
+) -> Option<Result<Asked, Stop>>
+    ensures { Parses paths (asks_taking name (texts arguments.now)) result }
+{
+    match arguments {
+        [] => alone(alloc, paths, name),
+        [path] => on_one(alloc, paths, name, path),
+        [first, second] => on_two(alloc, paths, name, first, second),
+        [kind, path, sddl] => on_three(alloc, paths, name, kind, path, sddl),
+        [reader, path, user, mask, words @ ..] => {
+            on_question(alloc, paths, name, reader, path, user, mask, words)
+        }
+    }
+}
+
+/// Without an argument.
+fn alone(alloc: Global, paths: PathSpelling, name: CommandName) -> Option<Result<Asked, Stop>>
+    ensures { Parses paths (asks_taking name []) result }
+{
+    match name {
+        CommandName::Publish => Some(Ok(Asked::Asking(Request::Publish))),
+        CommandName::Tell => Some(Ok(Asked::Asking(Request::Tell))),
+        CommandName::Dump => Some(Ok(Asked::Viewing(View::Dump))),
+        CommandName::ListNodes => Some(listed(alloc, paths, "/")),
+        CommandName::Review => Some(reviewed(alloc, paths, "/")),
+        _ => None,
+    }
+}
+
+/// On a path.
+fn on_one(
+    alloc: Global,
+    paths: PathSpelling,
+    name: CommandName,
+    path: &str,
+) -> Option<Result<Asked, Stop>>
+    ensures { Parses paths (asks_taking name (path.now ∷ [])) result }
+{
+    match name {
+        CommandName::Remove => Some(removed(alloc, paths, path)),
+        CommandName::Protect => Some(protected(alloc, paths, path)),
+        CommandName::ListNodes => Some(listed(alloc, paths, path)),
+        CommandName::Review => Some(reviewed(alloc, paths, path)),
+        _ => None,
+    }
+}
+
+/// On two arguments.
+fn on_two(
+    alloc: Global,
+    paths: PathSpelling,
+    name: CommandName,
+    first: &str,
+    second: &str,
+) -> Option<Result<Asked, Stop>>
+    ensures { Parses paths (asks_taking name (first.now ∷ second.now ∷ [])) result }
+{
+    match name {
+        CommandName::Open => Some(opening(alloc, first, second)),
+        CommandName::AddContainer => Some(added_container(alloc, paths, first, second)),
+        CommandName::AddObject => Some(added_object(alloc, paths, first, second)),
+        CommandName::SetOwner => Some(set_owner(alloc, paths, first, second)),
+        CommandName::SetGroup => Some(set_group(alloc, paths, first, second)),
+        CommandName::SetDacl => Some(set_dacl(alloc, paths, first, second)),
+        CommandName::Move => Some(moved(alloc, paths, first, second)),
+        CommandName::Learn => Some(learned(first, second)),
+        CommandName::Show => Some(shown(alloc, paths, first, second)),
+        _ => None,
+    }
+}
+
+/// On a kind, a path and a descriptor.
+fn on_three(
+    alloc: Global,
+    paths: PathSpelling,
+    name: CommandName,
+    kind: &str,
+    path: &str,
+    sddl: &str,
+) -> Option<Result<Asked, Stop>>
+    ensures { Parses paths (asks_taking name (kind.now ∷ path.now ∷ sddl.now ∷ [])) result }
+{
+    match name {
+        CommandName::ImportNode => {
+            let kind = kind_named(kind)?;
+            Some(importing(alloc, paths, kind, path, sddl))
+        }
+        _ => None,
+    }
+}
+
+/// The kind of node that the word names.
+fn kind_named(word: &str) -> Option<NodeKind>
+    ensures { result ≡ kind_named word.now }
+{
+    match word {
+        "container" => Some(NodeKind::Container),
+        "object" => Some(NodeKind::Object),
+        _ => None,
+    }
+}
+
+/// On a reader, a path and a question.
+fn on_question(
+    alloc: Global,
+    paths: PathSpelling,
+    name: CommandName,
+    reader: &str,
+    path: &str,
+    user: &str,
+    mask: &str,
+    words: &[&str],
+) -> Option<Result<Asked, Stop>>
+    ensures { Parses paths
+        (asks_taking name (reader.now ∷ path.now ∷ user.now ∷ mask.now ∷ texts words.now)) result }
+{
+    let question = match name {
+        CommandName::Check => Question::Check,
+        CommandName::Why => Question::Why,
+        CommandName::Find => Question::Find,
+        _ => return None,
+    };
+    Some(posed(alloc, paths, question, reader, path, user, mask, words))
+}
+
 fn opening(alloc: Global, readers: &str, sddl: &str) -> Result<Asked, Stop>
-    ensures { (paths : Spelling) → UnlessMemory (asks paths (Open readers.now sddl.now)) result }
+    ensures { (paths : Spelling) → Parses paths (asks_taking Open (readers.now ∷ sddl.now ∷ [])) (Some result) }
 {
     let readers = number_in(readers)?;
     let root = node_in(alloc, sddl)?;
@@ -125,7 +250,7 @@ fn added_container(
     path: &str,
     sddl: &str,
 ) -> Result<Asked, Stop>
-    ensures { UnlessMemory (asks paths (AddContainer path.now sddl.now)) result }
+    ensures { Parses paths (asks_taking AddContainer (path.now ∷ sddl.now ∷ [])) (Some result) }
 {
     let path = path_in(alloc, paths, path)?;
     let RootSpec { owner, group, dacl } = node_in(alloc, sddl)?;
@@ -138,7 +263,7 @@ fn added_container(
 }
 
 fn added_object(alloc: Global, paths: PathSpelling, path: &str, sddl: &str) -> Result<Asked, Stop>
-    ensures { UnlessMemory (asks paths (AddObject path.now sddl.now)) result }
+    ensures { Parses paths (asks_taking AddObject (path.now ∷ sddl.now ∷ [])) (Some result) }
 {
     let path = path_in(alloc, paths, path)?;
     let RootSpec { owner, group, dacl } = node_in(alloc, sddl)?;
@@ -151,7 +276,7 @@ fn added_object(alloc: Global, paths: PathSpelling, path: &str, sddl: &str) -> R
 }
 
 fn set_owner(alloc: Global, paths: PathSpelling, path: &str, sid: &str) -> Result<Asked, Stop>
-    ensures { UnlessMemory (asks paths (SetOwner path.now sid.now)) result }
+    ensures { Parses paths (asks_taking SetOwner (path.now ∷ sid.now ∷ [])) (Some result) }
 {
     let path = path_in(alloc, paths, path)?;
     let owner = sid_in(sid)?;
@@ -159,7 +284,7 @@ fn set_owner(alloc: Global, paths: PathSpelling, path: &str, sid: &str) -> Resul
 }
 
 fn set_group(alloc: Global, paths: PathSpelling, path: &str, sid: &str) -> Result<Asked, Stop>
-    ensures { UnlessMemory (asks paths (SetGroup path.now sid.now)) result }
+    ensures { Parses paths (asks_taking SetGroup (path.now ∷ sid.now ∷ [])) (Some result) }
 {
     let path = path_in(alloc, paths, path)?;
     let group = sid_in(sid)?;
@@ -167,7 +292,7 @@ fn set_group(alloc: Global, paths: PathSpelling, path: &str, sid: &str) -> Resul
 }
 
 fn set_dacl(alloc: Global, paths: PathSpelling, path: &str, sddl: &str) -> Result<Asked, Stop>
-    ensures { UnlessMemory (asks paths (SetDacl path.now sddl.now)) result }
+    ensures { Parses paths (asks_taking SetDacl (path.now ∷ sddl.now ∷ [])) (Some result) }
 {
     let path = path_in(alloc, paths, path)?;
     let dacl = dacl_in(alloc, sddl)?;
@@ -175,21 +300,21 @@ fn set_dacl(alloc: Global, paths: PathSpelling, path: &str, sddl: &str) -> Resul
 }
 
 fn removed(alloc: Global, paths: PathSpelling, path: &str) -> Result<Asked, Stop>
-    ensures { UnlessMemory (asks paths (Remove path.now)) result }
+    ensures { Parses paths (asks_taking Remove (path.now ∷ [])) (Some result) }
 {
     let path = path_in(alloc, paths, path)?;
     Ok(Asked::Asking(Request::Edit(Edit::Remove { path })))
 }
 
 fn protected(alloc: Global, paths: PathSpelling, path: &str) -> Result<Asked, Stop>
-    ensures { UnlessMemory (asks paths (Protect path.now)) result }
+    ensures { Parses paths (asks_taking Protect (path.now ∷ [])) (Some result) }
 {
     let path = path_in(alloc, paths, path)?;
     Ok(Asked::Asking(Request::Edit(Edit::ProtectKeeping { path })))
 }
 
 fn moved(alloc: Global, paths: PathSpelling, source: &str, target: &str) -> Result<Asked, Stop>
-    ensures { UnlessMemory (asks paths (Move source.now target.now)) result }
+    ensures { Parses paths (asks_taking Move (source.now ∷ target.now ∷ [])) (Some result) }
 {
     let source = path_in(alloc, paths, source)?;
     let target = path_in(alloc, paths, target)?;
@@ -197,16 +322,17 @@ fn moved(alloc: Global, paths: PathSpelling, source: &str, target: &str) -> Resu
 }
 
 fn learned(reader: &str, length: &str) -> Result<Asked, Stop>
-    ensures { (paths : Spelling) → UnlessMemory (asks paths (Learn reader.now length.now)) result }
+    ensures { (paths : Spelling) → Parses paths (asks_taking Learn (reader.now ∷ length.now ∷ [])) (Some result) }
 {
     let reader = number_in(reader)?;
     let length = number_in(length)?;
     Ok(Asked::Asking(Request::Learn { reader, length }))
 }
 
-fn checked(
+fn posed(
     alloc: Global,
     paths: PathSpelling,
+    question: Question,
     reader: &str,
     path: &str,
     user: &str,
@@ -214,77 +340,45 @@ fn checked(
     words: &[&str],
 ) -> Result<Asked, Stop>
     ensures { UnlessMemory
-        (asks paths (Check reader.now path.now user.now mask.now (texts words.now))) result }
+        (reads paths (posed question reader.now path.now user.now mask.now (texts words.now))) result }
 {
     let reader = number_in(reader)?;
     let path = path_in(alloc, paths, path)?;
-    let Question { token, asked } = question_in(alloc, user, mask, words)?;
-    Ok(Asked::Asking(Request::Check {
-        reader,
-        path,
-        token,
-        asked,
-    }))
-}
-
-fn explained(
-    alloc: Global,
-    paths: PathSpelling,
-    reader: &str,
-    path: &str,
-    user: &str,
-    mask: &str,
-    words: &[&str],
-) -> Result<Asked, Stop>
-    ensures { UnlessMemory
-        (asks paths (Why reader.now path.now user.now mask.now (texts words.now))) result }
-{
-    let reader = number_in(reader)?;
-    let path = path_in(alloc, paths, path)?;
-    let Question { token, asked } = question_in(alloc, user, mask, words)?;
-    Ok(Asked::Explaining {
-        reader,
-        path,
-        token,
-        asked,
-    })
-}
-
-fn sought(
-    alloc: Global,
-    paths: PathSpelling,
-    reader: &str,
-    path: &str,
-    user: &str,
-    mask: &str,
-    words: &[&str],
-) -> Result<Asked, Stop>
-    ensures { UnlessMemory
-        (asks paths (Find reader.now path.now user.now mask.now (texts words.now))) result }
-{
-    let reader = number_in(reader)?;
-    let path = path_in(alloc, paths, path)?;
-    let Question { token, asked } = question_in(alloc, user, mask, words)?;
-    Ok(Asked::Finding {
-        reader,
-        path,
-        token,
-        asked,
-    })
-}
-
-/// A user with its words, and what is asked for it.
-fn question_in(alloc: Global, user: &str, mask: &str, words: &[&str]) -> Result<Question, Stop>
-    ensures { UnlessMemory (question user.now mask.now (texts words.now)) result }
-{
     let user = sid_in(user)?;
     let asked = mask_in(mask)?;
     let token = token_in(alloc, user, words)?;
-    Ok(Question { token, asked })
+    Ok(question.about(reader, path, token, asked))
+}
+
+impl Question {
+    fn about(self, reader: u64, path: Path, token: Token, asked: Mask) -> Asked
+        ensures { result ≡ poses self reader path token asked }
+    {
+        match self {
+            Question::Check => Asked::Asking(Request::Check {
+                reader,
+                path,
+                token,
+                asked,
+            }),
+            Question::Why => Asked::Explaining {
+                reader,
+                path,
+                token,
+                asked,
+            },
+            Question::Find => Asked::Finding {
+                reader,
+                path,
+                token,
+                asked,
+            },
+        }
+    }
 }
 
 fn shown(alloc: Global, paths: PathSpelling, reader: &str, path: &str) -> Result<Asked, Stop>
-    ensures { UnlessMemory (asks paths (Show reader.now path.now)) result }
+    ensures { Parses paths (asks_taking Show (reader.now ∷ path.now ∷ [])) (Some result) }
 {
     let reader = number_in(reader)?;
     let path = path_in(alloc, paths, path)?;
@@ -292,7 +386,7 @@ fn shown(alloc: Global, paths: PathSpelling, reader: &str, path: &str) -> Result
 }
 
 fn listed(alloc: Global, paths: PathSpelling, path: &str) -> Result<Asked, Stop>
-    ensures { UnlessMemory (asks paths (ListNodes path.now)) result }
+    ensures { Parses paths (asks_taking ListNodes (path.now ∷ [])) (Some result) }
 {
     let path = path_in(alloc, paths, path)?;
     Ok(Asked::Viewing(View::List { path }))
@@ -305,7 +399,7 @@ fn granted(
     mask: &str,
     words: &[&str],
 ) -> Result<Asked, Stop>
-    ensures { UnlessMemory (asks paths (Who path.now mask.now (texts words.now))) result }
+    ensures { UnlessMemory (reads paths (asks_groups (path.now, mask.now, texts words.now))) result }
 {
     let path = path_in(alloc, paths, path)?;
     let asked = mask_in(mask)?;
@@ -318,7 +412,7 @@ fn granted(
 }
 
 fn reviewed(alloc: Global, paths: PathSpelling, path: &str) -> Result<Asked, Stop>
-    ensures { UnlessMemory (asks paths (Review path.now)) result }
+    ensures { Parses paths (asks_taking Review (path.now ∷ [])) (Some result) }
 {
     let path = path_in(alloc, paths, path)?;
     Ok(Asked::Viewing(View::Review { path }))
@@ -331,7 +425,7 @@ fn importing(
     path: &str,
     sddl: &str,
 ) -> Result<Asked, Stop>
-    ensures { UnlessMemory (asks paths (ImportNode kind path.now sddl.now)) result }
+    ensures { UnlessMemory (reads paths (imports path.now sddl.now kind)) result }
 {
     let path = path_in(alloc, paths, path)?;
     let Import { node, inherited } = import_in(alloc, sddl)?;

@@ -27,8 +27,11 @@ pub fn read_line(
     let Some(command) = command_of(&words) else {
         return Err(Stop::Fault(LineFault::Words));
     };
-    if command.is_untimely(is_open) {
+    let Some(asked) = asked_by(alloc, paths, command) else {
+        return Err(Stop::Fault(LineFault::Words));
+    };
+    if command.name.is_untimely(is_open) {
         return Err(Stop::Fault(LineFault::Open));
     }
-    asked_by(alloc, paths, command)
+    asked
 }

@@ -1,10 +1,9 @@
--- The words are read one behind the other.
+-- The arguments are parsed one after another.
 use Rattle.std.proofs.Common.{Err, inl, refl}
 use Rattle.std.proofs.lemmas.Result.{err_from_is_err_and}
 use Rattle.sd_answer.specs.Word.{texts}
 use Rattle.sd_script.specs.Argument.{base, mask, path}
-use Rattle.sd_script.specs.Command.{view}
-use Rattle.sd_script.specs.Fault.{Then}
+use Rattle.sd_script.specs.Command.{Groups, Mask, reads, view}
 use Rattle.sd_script.specs.declared.view.View.TheVariants.{Who}
 use Rattle.sd_script.proofs.Readings.{Then-value, Then-stop}
 use Rattle.sd_script.proofs.asked.granted.Goals as goal
@@ -18,9 +17,9 @@ returns-in_err-groups c =
     let stop = c.in_err-groups.field-0.0 in
     let p = err_from_is_err_and c.from_residual-in_err-groups.result c.from_residual-in_err-groups.ensures.1 in
     rw (p.1, p.2) (
-    Then-value (path paths c.args.path.now) (λ p. Then (mask c.args.mask.now) (λ m. Then (base words) (λ groups. view (Who p groups m)))) at (Err stop) c.in_ok-path.ensures (
-    Then-value (mask c.args.mask.now) (λ m. Then (base words) (λ groups. view (Who at groups m))) asked (Err stop) c.in_ok-asked.ensures (
-    Then-stop (base words) (λ groups. view (Who at groups asked)) stop c.in_err-groups.ensures)))
+    Then-value (path paths c.args.path.now) (λ p. reads paths (Mask c.args.mask.now (λ m. Groups words (λ groups. view (Who p groups m))))) at (Err stop) c.in_ok-path.ensures (
+    Then-value (mask c.args.mask.now) (λ m. reads paths (Groups words (λ groups. view (Who at groups m)))) asked (Err stop) c.in_ok-asked.ensures (
+    Then-stop (base words) (λ groups. reads paths (view (Who at groups asked))) stop c.in_err-groups.ensures)))
 
 pub returns : goal.returns
 returns c =
