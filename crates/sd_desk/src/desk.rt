@@ -5,25 +5,22 @@ ghost use Rattle.sd_tree.specs.Journal.{opening_of, root_refusal, IsLawful};
 ghost use Rattle.sd_desk.specs.Machine.{Steps, Runs, started, accepted};
 ghost use Rattle.sd_desk.specs.Starts.{IsReaderCount, IsStartError};
 
-use crate::draft::catch_up;
 use crate::request::{Answer, Reply, Request};
 use crate::start::{MAX_READERS, StartError};
 use sd_check::Token;
 use sd_sid::{GenericMapping, Mask};
 use sd_tree::{Edit, Journal, Path, RootSpec, Tree, TreeError};
+use sd_versions::Versions;
 use std::alloc::{AllocError, Global};
 use std::marker::Model;
-use std::mem;
 
 /// A store of one thread. Contracts see the machine: the opening, the edits that are seen, those that wait, and for
 /// each reader the journal that it has seen.
 #[derive(Drop)]
 pub struct Desk {
     alloc: Global,
-    /// What readers see.
-    published: Tree,
-    /// What takes the edits. After a publish it lags behind, until the next edit.
-    draft: Tree,
+    /// The tree that readers see, and the one that takes the edits.
+    tree: Versions,
     /// For each reader, the length of the journal that it has seen.
     floors: Vec<u64>,
 }
@@ -33,11 +30,11 @@ impl Model for Desk {
 
     ghost Value = { Machine };
 
-    ghost use Rattle.sd_desk.specs.Kept.{machine_of, IsKept};
+    ghost use Rattle.sd_desk.specs.Kept.{machine_of, AreWithin};
 
-    ghost view = { λ d. machine_of d.published d.draft d.floors.items };
+    ghost view = { λ d. machine_of d.tree d.floors.items };
 
-    ghost invariant = { λ d. IsKept d.published d.draft d.floors.items };
+    ghost invariant = { λ d. AreWithin d.tree.published d.floors.items };
 }
 
 impl Desk {
@@ -59,8 +56,7 @@ impl Desk {
         }
         Ok(Desk {
             alloc,
-            published: Tree::opening(alloc, mapping, root)?,
-            draft: Tree::opening(alloc, mapping, root)?,
+            tree: Versions::of(Tree::opening(alloc, mapping, root)?),
             floors: vec![in alloc; 0; readers as usize]?,
         })
     }
@@ -104,19 +100,15 @@ impl Desk {
         ensures opening { result.now.opening ≡ self.now.opening }
         ensures journal { result.now.journal ≡ self.now.published }
     {
-        &self.published
+        self.tree.published()
     }
 
-    /// The tree with all edits that were accepted: those that are seen, and behind them those that wait.
+    /// The tree with all edits that were accepted: those that are seen, and then those that wait.
     pub fn draft(&self) -> &Tree
         ensures opening { result.now.opening ≡ self.now.opening }
         ensures journal { result.now.journal ≡ accepted self.now }
     {
-        if self.draft.len() > self.published.len() {
-            &self.draft
-        } else {
-            &self.published
-        }
+        self.tree.draft()
     }
 
     /// How many readers there are.
@@ -131,45 +123,36 @@ impl Desk {
         ensures journal { result ≡ self.now.published }
         ensures lawful { IsLawful self.now.opening (accepted self.now) }
     {
-        // One of the two trees has all edits that were accepted, and both are lawful.
-        let _ = self.draft.len();
-        self.published.journal()
+        // The draft has all edits that were accepted, and is lawful.
+        let _ = self.tree.draft().len();
+        self.tree.published().journal()
     }
 
     /// The edit joins those that wait, unless it is refused.
     fn edit(&mut self, edit: &Edit) -> Reply
         ensures { Steps self.old (Request.Edit edit.now) result self.new }
     {
-        match catch_up(&self.published, &mut self.draft) {
-            Ok(()) => match self.draft.apply(edit) {
-                Ok(()) => Reply::Edited,
-                Err(TreeError::Refused(refusal)) => Reply::Refused(refusal),
-                Err(TreeError::Memory) => Reply::Memory,
-            },
-            // Nothing waits while the draft lags behind, so the published tree judges as the draft would.
-            Err(_) => match self.published.judge(edit) {
-                Ok(Some(refusal)) => Reply::Refused(refusal),
-                Ok(None) | Err(_) => Reply::Memory,
-            },
+        match self.tree.edit(edit) {
+            Ok(()) => Reply::Edited,
+            Err(TreeError::Refused(refusal)) => Reply::Refused(refusal),
+            Err(TreeError::Memory) => Reply::Memory,
         }
     }
 
-    /// The trees change places, where edits wait. Takes no memory.
+    /// The edits that wait are seen. Takes no memory.
     fn publish(&mut self) -> Reply
         ensures step { Steps self.old Request.Publish result self.new }
         ensures publish { result ≢ Reply.Memory }
     {
-        if self.published.len() < self.draft.len() {
-            mem::swap(&mut self.published, &mut self.draft);
-        }
-        Reply::Published(self.published.len())
+        self.tree.publish();
+        Reply::Published(self.tree.published().len())
     }
 
     /// How long the published journal is.
     fn tell(&self) -> Reply
         ensures { Steps self.now Request.Tell result self.now }
     {
-        Reply::Told(self.published.len())
+        Reply::Told(self.tree.published().len())
     }
 
     /// The reader's floor becomes the longer of itself and the first edits that it was told of.
@@ -179,7 +162,7 @@ impl Desk {
         if reader >= self.floors.len() as u64 {
             return Reply::NoReader;
         }
-        if length > self.published.len() {
+        if length > self.tree.published().len() {
             return Reply::NoNotice;
         }
         let floor = self.floors[reader as usize].max(length);
@@ -194,8 +177,9 @@ impl Desk {
         if reader >= self.floors.len() as u64 {
             return Reply::NoReader;
         }
-        let seen = self.published.len();
-        let reply = self.published.check(path, token, asked);
+        let tree = self.tree.published();
+        let seen = tree.len();
+        let reply = tree.check(path, token, asked);
         self.floors[reader as usize] = seen;
         Reply::Answered(Answer { seen, reply })
     }
@@ -207,10 +191,11 @@ impl Desk {
         if reader >= self.floors.len() as u64 {
             return Reply::NoReader;
         }
-        let Ok(descriptor) = self.published.descriptor(path) else {
+        let tree = self.tree.published();
+        let Ok(descriptor) = tree.descriptor(path) else {
             return Reply::Memory;
         };
-        let seen = self.published.len();
+        let seen = tree.len();
         self.floors[reader as usize] = seen;
         Reply::Shown { seen, descriptor }
     }

@@ -16,7 +16,6 @@
 #![tactic(auto)]
 
 mod desk;
-mod draft;
 mod laws;
 mod request;
 mod start;

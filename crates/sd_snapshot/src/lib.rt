@@ -1,7 +1,7 @@
 //! A tree that takes edits, and gives snapshots of itself, which never change.
 //!
-//! A snapshot is shared and not copied, whoever reads it. When an edit comes behind one, an earlier snapshot that
-//! nobody has any more gets the edits that it lacks and takes the new one; where there is none, the newest is copied.
+//! A snapshot is shared and not copied, whoever reads it. The first edit after one is made in a copy, which shares all
+//! that the edit doesn't change.
 //!
 //! ```text
 //! let mut snapshots = Snapshots::of(alloc, Tree::opening(alloc, &mapping, &root)?)?;

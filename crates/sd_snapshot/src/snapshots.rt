@@ -1,41 +1,31 @@
 //! A tree that takes edits and gives snapshots of itself.
 
 ghost use Rattle.std.specs.Prelude.{◌≡◌, [], ◌∷◌, ◌++◌, IfErr, IfOk, MatchResult, None, OnOk};
-ghost use Rattle.std.specs.Option.{ForSome};
 ghost use Rattle.sd_tree.specs.Answers.{IsError};
-ghost use Rattle.sd_tree.specs.History.{history_of, IsBefore};
+ghost use Rattle.sd_tree.specs.History.{history_of};
 ghost use Rattle.sd_tree.specs.Journal.{refusal};
 
 use sd_tree::{Edit, Shared, Tree, TreeError};
+use sd_versions::edited;
 use std::alloc::{AllocError, Global};
 use std::marker::Model;
-use std::mem;
 
-/// A tree that takes edits, and what its snapshots are. Contracts see its opening and the edits that it accepted.
+/// A tree that takes edits, and its newest snapshot. Contracts see its opening and the edits that it accepted.
 #[derive(Drop)]
 pub struct Snapshots {
     alloc: Global,
+    newest: Shared<Tree>,
     /// Has gone on from the newest snapshot; none where no edit has come since.
     draft: Option<Tree>,
-    newest: Shared<Tree>,
-    /// The one before the newest.
-    last: Option<Shared<Tree>>,
-    /// The one before that: whoever had it mostly has a newer one by now, so it may take edits again.
-    spare: Option<Shared<Tree>>,
 }
 
 impl Model for Snapshots {
-    ghost use Rattle.std.specs.Option.{ForSome};
     ghost use Rattle.sd_snapshot.specs.Kept.{latest};
-    ghost use Rattle.sd_tree.specs.History.{History, IsBefore, history_of};
+    ghost use Rattle.sd_tree.specs.History.{History, history_of};
 
     ghost Value = { History };
 
     ghost view = { λ s. history_of (latest s.draft s.newest) };
-
-    ghost invariant = { λ s. ForSome s.draft (λ tree. IsBefore s.newest tree)
-        × ForSome s.last (λ tree. IsBefore tree s.newest)
-        × ForSome s.spare (λ tree. IsBefore tree s.newest) };
 }
 
 impl Snapshots {
@@ -46,10 +36,8 @@ impl Snapshots {
         match Shared::try_new(alloc, tree) {
             Ok(newest) => Ok(Snapshots {
                 alloc,
-                draft: None,
                 newest,
-                last: None,
-                spare: None,
+                draft: None,
             }),
             Err(_) => Err(AllocError),
         }
@@ -74,19 +62,12 @@ impl Snapshots {
         ensures accepted { OnOk result (refusal self.old.opening self.old.journal edit.now ≡ None) }
         ensures refused { IfErr result (λ e. IsError e (refusal self.old.opening self.old.journal edit.now)) }
     {
-        if let Some(draft) = &mut self.draft {
-            return draft.apply(edit);
-        }
-        match next_draft(self.spare.take(), self.newest.get()) {
-            Ok(mut draft) => {
-                let done = draft.apply(edit);
-                self.draft = Some(draft);
-                done
+        match &mut self.draft {
+            Some(draft) => draft.apply(edit),
+            None => {
+                self.draft = Some(edited(self.newest.get(), edit)?);
+                Ok(())
             }
-            Err(_) => Err(match self.newest.get().judge(edit) {
-                Ok(Some(refusal)) => TreeError::Refused(refusal),
-                Ok(None) | Err(_) => TreeError::Memory,
-            }),
         }
     }
 
@@ -95,35 +76,15 @@ impl Snapshots {
         ensures same { self.new ≡ self.old }
         ensures snapshot { IfOk result (λ tree. history_of tree ≡ self.old) }
     {
-        let Some(draft) = self.draft.take() else {
-            return self.newest.share();
-        };
-        match Shared::try_new(self.alloc, draft) {
-            Ok(tree) => {
-                let shown = tree.share();
-                let last = mem::replace(&mut self.newest, tree);
-                self.spare = mem::replace(&mut self.last, Some(last));
-                shown
-            }
-            Err(draft) => {
-                self.draft = Some(draft);
-                Err(AllocError)
+        if let Some(draft) = self.draft.take() {
+            match Shared::try_new(self.alloc, draft) {
+                Ok(tree) => self.newest = tree,
+                Err(draft) => {
+                    self.draft = Some(draft);
+                    return Err(AllocError);
+                }
             }
         }
+        self.newest.share()
     }
-}
-
-/// A tree that is what the newest one is: the spare one brought up to date, where nobody else has it, or a copy.
-fn next_draft(spare: Option<Shared<Tree>>, newest: &Tree) -> Result<Tree, AllocError>
-    requires { ForSome spare (λ tree. IsBefore tree newest.now) }
-    ensures { IfOk result (λ tree. history_of tree ≡ history_of newest.now) }
-{
-    if let Some(spare) = spare {
-        if let Ok(mut tree) = spare.try_unwrap() {
-            if tree.catch_up(newest).is_ok() {
-                return Ok(tree);
-            }
-        }
-    }
-    newest.copy()
 }

@@ -10,24 +10,24 @@ use Rattle.sd_desk.proofs.desk.Desk.learn.Goals as goal
 
 pub returns : goal.returns
 returns c =
-    let p = c.self.inside.published in
-    let d = c.self.inside.draft in
+    let t = c.self.inside.tree in
     let ns = c.self.inside.floors.items in
     let floor = c.max-floor.result in
-    let m = machine_of p d ns in
-    let P : Machine → Type 0 = λ m. Steps m (Learn c.args.reader c.args.length) (Learned floor) (machine_of p d (slice_set ns c.args.reader floor)) in
+    let m = machine_of t ns in
+    let P : Machine → Type 0 = λ m. Steps m (Learn c.args.reader c.args.length) (Learned floor) (machine_of t (slice_set ns c.args.reader floor)) in
     let there : c.args.reader < length ns = omega (arith, c.self.inside.floors.ok.0) in
-    let told : c.args.length ≤ length p.journal = omega (arith, c.len-2.ensures.length) in
+    let whole : c.len-2.result ≡ length t.published = c.len-2.ensures.length ∙ ap length c.published.ensures.journal in
+    let told : c.args.length ≤ length t.published = omega (arith, whole) in
     let known = slice_index_or ns c.args.reader 0 in
-    let seen : known ≤ length p.journal = All-get_or (λ n. n ≤ length p.journal) ns c.args.reader 0 there c.self.invariant.floors_within in
+    let seen : known ≤ length t.published = All-get_or (λ n. n ≤ length t.published) ns c.args.reader 0 there c.self.invariant in
     let read : c.index.result.now ≡ known = get_or_read ns _ _ there c.index.ensures 0 in
     let is : floor ≡ max known c.args.length = c.max-floor.ensures ∙ ap (λ n. max n c.args.length) read in
-    let within : floor ≤ length p.journal = omega (arith, is) in
-    let long : longer (floor_of m c.args.reader) (take c.args.length p.journal) ≡ take floor p.journal =
-    ap (λ xs. longer xs (take c.args.length p.journal)) (floor_is p d ns c.args.reader there) ∙ longer_is p.journal known c.args.length floor seen told is in
+    let within : floor ≤ length t.published = omega (arith, is) in
+    let long : longer (floor_of m c.args.reader) (take c.args.length t.published) ≡ take floor t.published =
+    ap (λ xs. longer xs (take c.args.length t.published)) (floor_is t ns c.args.reader there) ∙ longer_is t.published known c.args.length floor seen told is in
     subst P c.self.view_is (
-      is_reader p d ns c.args.reader there,
+      is_reader t ns c.args.reader there,
       told,
-      sym (ap length long ∙ length-take-le floor p.journal within),
-      floor_set p d ns c.args.reader floor ∙ ap (with_floor m c.args.reader) (sym long),
+      sym (ap length long ∙ length-take-le floor t.published within),
+      floor_set t ns c.args.reader floor ∙ ap (with_floor m c.args.reader) (sym long),
     )
