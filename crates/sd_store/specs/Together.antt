@@ -1,5 +1,8 @@
 -- Several questions at one moment.
-use Rattle.std.specs.Prelude.{◌≡◌, List, [], length}
+use Rattle.std.specs.Prelude.{◌≡◌, ℕ, List, [], length, Some, IsSome, slice_get}
+use Rattle.sd_tree.specs.Names.{Names}
+use Rattle.sd_tree.specs.Answers.{descriptor_at}
+use Rattle.sd_tree.specs.Journal.{replay}
 use Rattle.sd_tree.specs.declared.edit.Edit.{Edit}
 use Rattle.sd_tree.specs.declared.opening.Opening.{Opening}
 use Rattle.sd_desk.specs.declared.request.Answer.{Answer}
@@ -14,3 +17,9 @@ answer_by opening journal query = record { seen = length journal; reply = reply_
 -- no answers are there
 abbrev pub AreNone : Answers → Type 0
 AreNone answers = (answers.checks.items ≡ []) × (answers.descriptors.items ≡ [])
+
+-- a node stands at one of the paths
+abbrev pub HasNode : Opening → List Edit → List Names → Type 0
+HasNode opening journal paths =
+    (k : ℕ) × (path : Names) × (slice_get paths k ≡ Some path)
+    × IsSome (descriptor_at opening.mapping (replay opening journal) path)

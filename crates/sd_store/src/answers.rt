@@ -4,7 +4,7 @@ ghost use Rattle.std.specs.Prelude.{◌≡◌, ◌<◌, ◌≤◌, ◌⊎◌, []
 ghost use Rattle.sd_acl.specs.Descriptor.{descriptor_of};
 ghost use Rattle.sd_tree.specs.Answers.{descriptor_at};
 ghost use Rattle.sd_tree.specs.Journal.{replay};
-ghost use Rattle.sd_store.specs.Together.{AreNone, answer_by};
+ghost use Rattle.sd_store.specs.Together.{AreNone, HasNode, answer_by};
 
 use crate::query::Query;
 use sd_acl::Descriptor;
@@ -36,7 +36,8 @@ impl Answers {
     /// No answers are left. The room stays.
     pub(crate) fn clear(&mut self)
         ensures none { AreNone self.new }
-        ensures room { vec_capacity self.new.checks ≡ vec_capacity self.old.checks }
+        ensures room { (vec_capacity self.new.checks ≡ vec_capacity self.old.checks)
+            × (vec_capacity self.new.descriptors ≡ vec_capacity self.old.descriptors) }
     {
         self.checks.clear();
         self.descriptors.clear();
@@ -47,7 +48,8 @@ impl Answers {
         ensures none { AreNone self.new }
         ensures room { OnOk result ((checks ≤ vec_capacity self.new.checks)
             × (descriptors ≤ vec_capacity self.new.descriptors)) }
-        ensures full { OnErr result ((vec_capacity self.old.checks < checks) ⊎ (0 < descriptors)) }
+        ensures full { OnErr result ((vec_capacity self.old.checks < checks)
+            ⊎ (vec_capacity self.old.descriptors < descriptors)) }
     {
         self.clear();
         self.checks.reserve(checks)?;
@@ -68,7 +70,7 @@ impl Answers {
             ≡ map (answer_by tree.now.opening tree.now.journal) queries.now) }
         ensures descriptors { OnOk result (map (option_map descriptor_of) self.new.descriptors.items
             ≡ map (descriptor_at tree.now.opening.mapping (replay tree.now.opening tree.now.journal)) paths.now) }
-        ensures failed { OnErr result (AreNone self.new × (0 < length paths.now)) }
+        ensures failed { OnErr result (AreNone self.new × HasNode tree.now.opening tree.now.journal paths.now) }
     {
         check_each(tree, queries, &mut self.checks);
         if describe_each(tree, paths, &mut self.descriptors).is_err() {
@@ -102,7 +104,7 @@ fn describe_each(
     requires room { length paths.now ≤ vec_capacity descriptors.old }
     ensures described { OnOk result (map (option_map descriptor_of) descriptors.new.items
         ≡ map (descriptor_at tree.now.opening.mapping (replay tree.now.opening tree.now.journal)) paths.now) }
-    ensures some { OnErr result (0 < length paths.now) }
+    ensures some { OnErr result (HasNode tree.now.opening tree.now.journal paths.now) }
 {
     for path in paths {
         descriptors.push_reserved(tree.descriptor(path)?);

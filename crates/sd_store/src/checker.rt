@@ -10,7 +10,7 @@ ghost use Rattle.sd_tree.specs.Journal.{replay, IsLawful};
 ghost use Rattle.sd_desk.specs.Machine.{longer};
 ghost use Rattle.sd_store.specs.Marks.{last_of};
 ghost use Rattle.sd_store.specs.Sights.{IsGone};
-ghost use Rattle.sd_store.specs.Together.{AreNone, answer_by};
+ghost use Rattle.sd_store.specs.Together.{AreNone, HasNode, answer_by};
 ghost use Rattle.sd_store.specs.declared.error.ShowError.TheVariants as show;
 
 use crate::answers::Answers;
@@ -162,7 +162,8 @@ impl<J: Naming> Checker<J> {
     /// enters the shared store once, as `check` does, and waits for nobody. Room for the answers to queries and then
     /// for the descriptors is made before that; then each descriptor takes memory for its list, in the order of the
     /// paths.
-    /// `Gone` and `Memory` leave what the reader has seen, and no answers.
+    /// `Gone` and `Memory` leave what the reader has seen, and no answers; `Memory` comes only where the room for them
+    /// was too small, or a path has a node.
     pub fn check_all(
         &mut self,
         queries: &[Query],
@@ -183,7 +184,9 @@ impl<J: Naming> Checker<J> {
         ensures failed { OnErr result ((self.new.floor ≡ self.old.floor) × AreNone answers.new) }
         ensures gone { IfErr result (λ e. e ≡ show.Gone → IsGone self.old self.new) }
         ensures memory { IfErr result (λ e. e ≡ show.Memory
-            → (vec_capacity answers.old.checks < length queries.now) ⊎ (0 < length paths.now)) }
+            → (vec_capacity answers.old.checks < length queries.now)
+            ⊎ (vec_capacity answers.old.descriptors < length paths.now)
+            ⊎ HasNode J.opening self.new.view.journal paths.now) }
     {
         if answers.make_room(queries.len(), paths.len()).is_err() {
             return Err(ShowError::Memory);
