@@ -1104,12 +1104,12 @@ class View(_Held):
 
     def descriptor(self, path: str) -> Descriptor:
         """The descriptor of the node of the path, with the entries that it inherits."""
-        return Descriptor(self._of_path(_library.hudarin_view_descriptor, path)[0])
+        return Descriptor._of(self._of_path(_library.hudarin_view_descriptor, path)[0])
 
     def own(self, path: str) -> Node:
         """The node of the path. An addition with its own descriptor makes the same node."""
         form, answer = self._of_path(_library.hudarin_view_own, path)
-        return Node(path, answer.kind == _CONTAINER, Descriptor(form))
+        return Node(path, answer.kind == _CONTAINER, Descriptor._of(form))
 
     def _of_path(self, call: Callable[..., Any], path: str) -> Tuple[bytes, Any]:
         given = _text(path)
