@@ -85,7 +85,8 @@ fn opened_root(
     }
     match read_line(alloc, manner.paths, false, line) {
         Ok(Asked::Opening { readers: _, root }) => Ok(Some(root)),
-        Ok(Asked::Asking(_) | Asked::Explaining { .. }) => unreachable!(),
+        Ok(Asked::Asking(_)) => unreachable!(),
+        Ok(Asked::Explaining { .. }) => unreachable!(),
         Ok(Asked::Finding { .. }) => unreachable!(),
         Ok(Asked::Viewing(_)) => unreachable!(),
         Ok(Asked::Importing { .. }) => unreachable!(),

@@ -1,6 +1,7 @@
-use Rattle.std.proofs.Common.{◌∙◌, sym, string_bytes}
+use Rattle.std.proofs.Common.{◌≡◌, ◌∙◌, false, true, sym, string_bytes}
 use Rattle.sd_script.specs.declared.asked.Asked.TheVariants.{Asking, Importing}
 use Rattle.sd_script_audit.specs.Parts.{progress}
+use Rattle.sd_script.proofs.Timely.{line_opens}
 use Rattle.sd_script_audit.proofs.LinesInOrder.{done_answers}
 use Rattle.sd_script_audit.proofs.queries.answer_line.Goals as goal
 
@@ -18,3 +19,12 @@ returns-in-Ok-Importing g c = λ workers.
     (progress c.args.paths g.J.Naming.opening workers c.import.new.writer c.args.queries.now.items)
     c.args.line.now (Importing c.in-Ok-Importing.edit c.in-Ok-Importing.path c.in-Ok-Importing.inherited)
     (sym c.is_silent.ensures ∙ c.if-is_silent.false) asked (c.import.ensures c.args.paths workers c.args.queries.now.items)
+
+impossible : true ≡ false → ⊥
+impossible is = absurd (cc (is))
+
+-- a store is open, so no line opens one
+pub unreachable-requires : goal.unreachable-requires
+unreachable-requires g c =
+    impossible (rw (c.in-Ok-Opening.field-0-is) at
+    (line_opens c.args.paths true c.args.line.now c.in-Ok-Opening.field-0 c.in-Ok-Opening.ensures))
