@@ -218,7 +218,7 @@ static int open_libraries(void)
 
 int main(void)
 {
-    static const int entries[] = { 1, 4, 16, 64, 256, 1000 };
+    static const int entries[] = { 1, 4, 16, 64, 256, 850, 1000 };
     static const int groups[] = { 5, 20, 100 };
     static const int lengths[] = { 1, 16, 256 };
     static const int over_bytes[][2] = { { 1, 5 }, { 1, 100 }, { 4, 20 }, { 16, 20 }, { 64, 100 } };
