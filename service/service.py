@@ -26,6 +26,9 @@ from metrics import Metrics, seconds_since
 from questions import Questions
 from writer import NO_LEADER, NO_MEMORY, UNAVAILABLE, Shown, Task, Writer
 
+#: The answer to a question that raised what nothing expects.
+FAILED = "unavailable failed"
+
 _RANKS = {role: rank for rank, role in enumerate(ROLES)}
 _VERDICTS = ("granted", "denied", "reserved", "empty", "nonode")
 
@@ -131,6 +134,9 @@ class Service:
         except (ServiceError, sqlite3.Error, OSError) as error:
             self._warn(f"the journal isn't readable: {error}")
             return UNAVAILABLE
+        except Exception as error:  # (a fault of this program: whoever asked isn't left without an answer)
+            self._warn(f"a question failed: {error!r}")
+            return FAILED
         finally:
             self._long_answers -= 1
 

@@ -4,10 +4,13 @@ import asyncio
 import re
 import unittest
 from collections.abc import Iterator
+from types import SimpleNamespace
+from typing import Any
 
 import rig
 
 from client import AsyncClient, Client, Rejected
+from service import FAILED, Service
 
 PAGES = rig.TOP / "docs"
 
@@ -112,3 +115,19 @@ class Analysis(rig.Case):
 
 if __name__ == "__main__":
     unittest.main()
+
+
+class Failures(unittest.TestCase):
+    def test_a_question_that_fails_is_answered(self) -> None:
+        """Whatever it raises: the log says so, and the next question has its turn."""
+
+        def work(*_: object) -> None:
+            raise RuntimeError("unexpected")
+
+        warned: list[str] = []
+        service: Any = SimpleNamespace(
+            limits=SimpleNamespace(long_answers=1), _long_answers=0, _work=work, _warn=warned.append
+        )
+        answer = asyncio.run(Service.long_answer(service, ["list"], service, service))
+        self.assertEqual((answer, service._long_answers), (FAILED, 0))
+        self.assertIn("unexpected", warned[0])
