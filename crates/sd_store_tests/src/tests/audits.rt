@@ -84,21 +84,40 @@ pub(super) fn audited_beside<J: Naming + Send + Sync, R: Threads + Wait + Sync>(
     checkers: &mut [Checker<J>],
     turns: &Turns,
 ) -> Option<bool> {
-    let first = edit(alloc, Change::Object, "/a", "O:BAG:SYD:(A;;0x1;;;BU)")?;
-    let next = edit(alloc, Change::Dacl, "/a", "O:BAG:SYD:(A;;0x2;;;BU)")?;
-    let queries = vec![in alloc; query(alloc, "/a")?, query(alloc, "/a")?].ok()?;
-    let mut right = published(rt, writer, &first);
+    let edits = both_edits(alloc)?;
+    let queries = both_queries(alloc)?;
+    let begins = published(rt, writer, &edits.0);
     let mut notice = writer.tell();
     let (is_published, answers) = join(
         rt,
-        || goes_on(rt, writer, &next, turns),
+        || goes_on(rt, writer, &edits.1, turns),
         || asked(rt, alloc, checkers, &mut notice, &queries, turns),
     );
-    right &= match answers {
+    Some(begins && are_wanted(turns, is_published, &answers))
+}
+
+/// The edit that is published before the audit, and the one meanwhile.
+fn both_edits(alloc: Global) -> Option<(Edit, Edit)> {
+    let first = edit(alloc, Change::Object, "/a", "O:BAG:SYD:(A;;0x1;;;BU)")?;
+    let next = edit(alloc, Change::Dacl, "/a", "O:BAG:SYD:(A;;0x2;;;BU)")?;
+    Some((first, next))
+}
+
+/// What the two workers ask.
+fn both_queries(alloc: Global) -> Option<Vec<Query>> {
+    vec![in alloc; query(alloc, "/a")?, query(alloc, "/a")?].ok()
+}
+
+/// Whether the audit ended as the gate has it.
+fn are_wanted(
+    turns: &Turns,
+    is_published: bool,
+    answers: &Result<Vec<Answer>, AuditError>,
+) -> bool {
+    match answers {
         Ok(answers) => is_published && !turns.is_closed && answers.as_slice() == WANTED.as_slice(),
-        Err(error) => error == AuditError::Gate && turns.is_closed,
-    };
-    Some(right)
+        Err(error) => *error == AuditError::Gate && turns.is_closed,
+    }
 }
 
 fn published<J: Naming, R: Wait>(rt: &R, writer: &mut StoreWriter<J>, edit: &Edit) -> bool {

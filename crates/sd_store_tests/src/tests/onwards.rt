@@ -149,19 +149,35 @@ fn over<J: Naming, K: Naming + Send + Sync + 'static, R: Threads>(
     checkers: Vec<Checker<K>>,
     succession: &mut Succession<J, K>,
 ) -> Option<(Checker<J>, Checker<K>)> {
-    let Worker {
-        checker: mut old,
-        query,
-        right,
-        ..
-    } = before;
     let mut checkers = checkers;
+    let mut before = before;
     let mut after = checkers.pop()?;
-    let first = handed(succession, &mut old, &mut after, &query)?;
-    let wanted = answered(FIRST, GRANTED);
-    let asked = away(rt, alloc, after, wanted)?.join(rt);
-    if right && first == wanted && asked.right {
-        Some((old, asked.checker))
+    if before.right && is_handed(succession, &mut before, &mut after) {
+        Some((before.checker, back(rt, alloc, after)?))
+    } else {
+        None
+    }
+}
+
+/// Whether the reader moves, and its first answer by the next store is right.
+fn is_handed<J: Naming, K: Naming>(
+    succession: &mut Succession<J, K>,
+    before: &mut Worker<J>,
+    after: &mut Checker<K>,
+) -> bool {
+    let first = handed(succession, &mut before.checker, after, &before.query);
+    first == Some(answered(FIRST, GRANTED))
+}
+
+/// The next store's checker after it asked in a thread. None when out of memory or where an answer was wrong.
+fn back<K: Naming + Send + Sync + 'static, R: Threads>(
+    rt: &R,
+    alloc: Global,
+    checker: Checker<K>,
+) -> Option<Checker<K>> {
+    let worker = away(rt, alloc, checker, answered(FIRST, GRANTED))?.join(rt);
+    if worker.right {
+        Some(worker.checker)
     } else {
         None
     }
@@ -191,11 +207,10 @@ fn are_apart<J: Naming, K: Naming, R: Wait>(
 ) -> Option<bool> {
     let query = query(alloc, "/c/a")?;
     let (mut before, mut after) = pair;
-    let lengths = (succession.last_length(), succession.first_length());
-    let published = (changed(rt, alloc, old)?, changed(rt, alloc, next)?);
     Some(
-        lengths == (LAST, FIRST)
-            && published == (LAST + 1, FIRST + 1)
+        (succession.last_length(), succession.first_length()) == (LAST, FIRST)
+            && changed(rt, alloc, old) == Some(LAST + 1)
+            && changed(rt, alloc, next) == Some(FIRST + 1)
             && asked(&mut before, &query) == answered(LAST + 1, DENIED)
             && asked(&mut after, &query) == answered(FIRST + 1, DENIED)
             && is_ahead(succession, &mut before, &mut after),

@@ -36,19 +36,11 @@ struct Asker<J: Naming> {
 
 impl<J: Naming> Asker<J> {
     fn new(alloc: Global, checker: Checker<J>, notice: Notice<J>) -> Option<Asker<J>> {
-        let mut queries = Vec::with_capacity(alloc, QUERIES).ok()?;
-        for place in 0..QUERIES {
-            queries.push(query(alloc, NODES[place % 2])?).ok()?;
-        }
-        let mut paths = Vec::with_capacity(alloc, NODES.len()).ok()?;
-        for node in NODES {
-            paths.push(Path::read(alloc, node).ok()?).ok()?;
-        }
         Some(Asker {
             checker,
             notice,
-            queries,
-            paths,
+            queries: all_queries(alloc)?,
+            paths: all_paths(alloc)?,
             answers: Answers::new(alloc),
             right: true,
         })
@@ -95,6 +87,23 @@ impl<J: Naming> Asker<J> {
         }
         asker
     }
+}
+
+/// What each checker asks at once.
+fn all_queries(alloc: Global) -> Option<Vec<Query>> {
+    let mut queries = Vec::with_capacity(alloc, QUERIES).ok()?;
+    for place in 0..QUERIES {
+        queries.push(query(alloc, NODES[place % 2])?).ok()?;
+    }
+    Some(queries)
+}
+
+fn all_paths(alloc: Global) -> Option<Vec<Path>> {
+    let mut paths = Vec::with_capacity(alloc, NODES.len()).ok()?;
+    for node in NODES {
+        paths.push(Path::read(alloc, node).ok()?).ok()?;
+    }
+    Some(paths)
 }
 
 /// The reply by the journal of that length.
@@ -187,18 +196,20 @@ fn published<J: Naming, R: Wait>(
     writer: &mut StoreWriter<J>,
     publish: u64,
 ) -> Option<u64> {
-    let change = match publish {
-        1 => Change::Object,
-        _ => Change::Dacl,
-    };
-    let sddl = match publish % 2 {
-        1 => "O:BAG:SYD:(A;;0x1;;;BU)",
-        _ => "O:BAG:SYD:(A;;0x2;;;BU)",
-    };
+    let (change, sddl) = change_by(publish);
     for node in NODES {
         edited(writer, &edit(alloc, change, node, sddl)?)?;
     }
     writer.publish(rt).ok()
+}
+
+/// What the publish of that number, from 1, makes of each node.
+fn change_by(publish: u64) -> (Change, &'static str) {
+    match (publish, publish % 2) {
+        (1, _) => (Change::Object, "O:BAG:SYD:(A;;0x1;;;BU)"),
+        (_, 1) => (Change::Dacl, "O:BAG:SYD:(A;;0x1;;;BU)"),
+        _ => (Change::Dacl, "O:BAG:SYD:(A;;0x2;;;BU)"),
+    }
 }
 
 fn edited<J: Naming>(writer: &mut StoreWriter<J>, edit: &Edit) -> Option<()> {
