@@ -14,7 +14,7 @@ use Rattle.sd_check.specs.declared.token.GroupState.{GroupState}
 use Rattle.sd_analysis.specs.Sufficient.{Parts, gains, token_of}
 use Rattle.sd_analysis.specs.Passes.{meets, sids_stand, stands_in}
 use Rattle.sd_analysis.specs.Compare.{AreGains}
-use Rattle.sd_analysis.specs.Report.{AreFindings, IsLess, IsRefused, IsRefusedAgain, IsReportOf, is_found, new_of, old_of, rest_of, token_meets}
+use Rattle.sd_analysis.specs.Report.{AreFindings, IsLess, IsNotGained, IsRefused, IsRefusedAgain, IsReportOf, is_found, new_of, old_of, rest_of, token_meets}
 use Rattle.sd_analysis.specs.declared.compare_report.Change.{Change}
 use Rattle.sd_analysis.specs.declared.compare_report.Report.{Report}
 use Rattle.sd_analysis.specs.declared.compare_search.Case.{Case}
@@ -90,25 +90,35 @@ module _ (case : Case) where
 
   -- ---- which bits are left
 
-  pub each_refused : (demand : Demand) (wanted : ℕ) (fs xs : List Finding) (now : Report) → xs ≡ fs → AreFindings case First demand wanted fs
+  pub each_refused : (by_owner : Bool) (wanted : ℕ) (fs xs : List Finding) (now : Report) → xs ≡ fs
+      → AreFindings case First (record { by_owner = by_owner; unlisted = true; unowned = true }) wanted fs
       → ((b : ℕ) → holds now.wanted b ≡ true → holds wanted b ≡ true)
       → ((b : ℕ) → b < 21 → is_found xs b ≡ true → holds now.wanted b ≡ false)
-      → (t : TokenValue) (b : ℕ) → b < 21 → HasBase case.base.now t → holds now.wanted b ≡ true → token_meets case First demand t b ≡ false
-  each_refused demand wanted fs xs now same are less gone t b low has still =
-      are.complete t b low has (less b still)
+      → (t : TokenValue) (b : ℕ) → b < 21 → HasBase case.base.now t → holds now.wanted b ≡ true
+      → token_meets case First (record { by_owner = by_owner; unlisted = true; unowned = true }) t b ≡ false
+  each_refused by_owner wanted fs xs now same are less gone t b low has still =
+      are.complete t b low has (less b still) (λ rest. absurd (false≢true rest))
       (false_from_ne_true _ (λ found. false≢true (sym (gone b low (ap (λ zs. is_found zs b) same ∙ found)) ∙ still)))
 
   pub pairs_refused : (demand rest : Demand) (wanted : ℕ) (fs ss xs ys : List Finding) (now : Report) → rest ≡ rest_of demand → xs ≡ fs → ys ≡ ss
       → AreFindings case First demand wanted fs → AreFindings case Second rest wanted ss
       → ((b : ℕ) → holds now.wanted b ≡ true → holds wanted b ≡ true)
       → ((b : ℕ) → b < 21 → is_found xs b ≡ true → is_found ys b ≡ true → holds now.wanted b ≡ false)
-      → (t : TokenValue) (b : ℕ) → b < 21 → HasBase case.base.now t → holds now.wanted b ≡ true → IsRefused case demand t b
-  pairs_refused demand rest wanted fs ss xs ys now is_rest same_first same_second first second less gone t b low has still = elim (cases_Bool (is_found fs b)) [
-    | inr none ↦ inl (first.complete t b low has (less b still) none)
-    | inl found ↦ inr (subst (λ r. token_meets case Second r t b ≡ false) is_rest (second.complete t b low has (less b still)
+      → (b : ℕ) → b < 21 → holds now.wanted b ≡ true → IsNotGained case demand.by_owner b
+      → (t : TokenValue) → HasBase case.base.now t → IsRefused case demand t b
+  pairs_refused demand rest wanted fs ss xs ys now is_rest same_first same_second first second less gone b low still not_gained t has = elim (cases_Bool (is_found fs b)) [
+    | inr none ↦ inl (first.complete t b low has (less b still) (λ so. not_gained) none)
+    | inl found ↦ inr (subst (λ r. token_meets case Second r t b ≡ false) is_rest (second.complete t b low has (less b still) (λ so. absurd (false≢true so))
         (false_from_ne_true _ (λ again. false≢true
         (sym (gone b low (ap (λ zs. is_found zs b) same_first ∙ found) (ap (λ zs. is_found zs b) same_second ∙ again)) ∙ still)))))
   ]
+
+  -- a second pass that shows nothing
+  pub rest_refused : (demand rest : Demand) (wanted : ℕ) (ss : List Finding) → rest ≡ rest_of demand → AreFindings case Second rest wanted ss → length ss ≡ 0
+      → (b : ℕ) → b < 21 → holds wanted b ≡ true → (t : TokenValue) → HasBase case.base.now t → token_meets case Second (rest_of demand) t b ≡ false
+  rest_refused demand rest wanted ss is_rest second none b low still t has =
+      subst (λ r. token_meets case Second r t b ≡ false) is_rest
+      (second.complete t b low has still (λ so. absurd (false≢true so)) (none_found ss b none))
 
   -- ---- the whole
 

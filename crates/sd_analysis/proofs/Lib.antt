@@ -14,4 +14,5 @@ pub mod Searched
 pub mod Placed
 pub mod Unnamed
 pub mod Effects
+pub mod Restricted
 pub mod Judged

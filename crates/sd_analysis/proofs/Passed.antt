@@ -76,7 +76,7 @@ lists_low : (g : MappingValue) (owner : Option SidValue) (dacl : Option (List Ac
 lists_low g owner None stands b h = h
 lists_low g owner (Some es) stands b h = (and_parts (nat_lt b 21) _ h).0
 
-not_and : (x y : Bool) → not (x && y) ≡ true → x ≡ true → y ≡ false
+pub not_and : (x y : Bool) → not (x && y) ≡ true → x ≡ true → y ≡ false
 not_and true y h is = not-true y h
 not_and false y h is = absurd (false≢true is)
 

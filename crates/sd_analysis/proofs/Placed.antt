@@ -1,6 +1,6 @@
 -- The SIDs of a search, their places in its table, and what the table's walks say of them.
 use Rattle.std.proofs.Common.{◌≡◌, ℕ, ◌<◌, ◌+◌, Bool, true, false, not, ◌&&◌, cond, List, [], ◌∷◌, length, get_or, take, Option, Some, None, inl, inr, refl, sym, ◌∙◌, ap, subst, arith}
-use Rattle.std.proofs.lemmas.Bool.{agree_below_at, and_from, and_parts, false≢true, not_from_false, not-true}
+use Rattle.std.proofs.lemmas.Bool.{agree_below_at, and_from, and_parts, false≢true, not_from_false}
 use Rattle.std.proofs.lemmas.List.{get_or-append-add, get_or-map, get_or_append_left, get_or_read, length-append, length-map, take-append-le}
 use Rattle.sd_sid.specs.Mask.{holds, mask_of}
 use Rattle.sd_sid.specs.Sid.{SidValue}
@@ -14,6 +14,7 @@ use Rattle.sd_analysis.specs.Table.{AreBoth, IsBeside, listed_of, place_in, poin
 use Rattle.sd_analysis.specs.declared.compare_search.Case.{Case}
 use Rattle.sd_analysis.specs.declared.compare_table.Both.{Both}
 use Rattle.sd_analysis.specs.declared.witness.Demand.{Demand}
+use Rattle.sd_analysis.proofs.Passed.{not_and}
 use Rattle.sd_analysis.proofs.Tables.{among_at, among_left, among_right, first_or_before, place_low}
 
 module _ (case : Case) (is : IsCase case) where
@@ -108,10 +109,6 @@ module _ (case : Case) (pass : Pass) (both : Both)
   new_alone m is_m b low =
       ap (λ n. holds n b) is_m ∙ ap (λ n. holds (listed_of (point_at both.after n)) b) (sym is.at) ∙ are.after.listed s b is.among low
 
-refuses : (asked listed : Bool) → asked ≡ true → not (asked && listed) ≡ true → listed ≡ false
-refuses true listed is h = not-true listed h
-refuses false listed is h = absurd (false≢true is)
-
 -- a pair that meets the demand is worth trying
 module _ (case : Case) (pass : Pass) (allowed : SidValue) (both : Both)
     (are : AreBoth case.mapping.now case.base.now (sids_in case) (old_of case) (new_of case) pass (Some allowed) both) (s : SidValue) (place : ℕ) (is : IsPlace case s place) where
@@ -129,7 +126,7 @@ module _ (case : Case) (pass : Pass) (allowed : SidValue) (both : Both)
   pair_worth demand unlisted worth is_worth b low met =
       let outer = and_parts (cond demand.by_owner (owns (new_of case) stands b) (lists case.mapping.now (new_of case) stands b)) _ met in
       let inner = and_parts (not (demand.unlisted && lists case.mapping.now (old_of case) stands b)) (not (demand.unowned && owns (old_of case) stands b)) outer.1 in
-      let refused = refuses demand.unlisted (lists case.mapping.now (old_of case) stands b) unlisted inner.0 in
+      let refused = not_and demand.unlisted (lists case.mapping.now (old_of case) stands b) inner.0 unlisted in
       ap (λ m. holds m b) is_worth
       ∙ holds_place (λ k. holds (granted_at both demand.by_owner place) k && not (holds (listed_of (point_at both.before place)) k)) b (omega arith)
       ∙ and_from _ _ (granted_worth demand.by_owner b low outer.0)

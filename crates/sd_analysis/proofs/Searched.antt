@@ -11,7 +11,7 @@ use Rattle.sd_sid.proofs.Compared.{same_sid-true}
 use Rattle.sd_sid.proofs.Masks.{holds_place}
 use Rattle.sd_check.specs.declared.grounds.Pass.{Pass}
 use Rattle.sd_analysis.specs.Sufficient.{is_among}
-use Rattle.sd_analysis.specs.Report.{AreFindings, IsCase, IsFound, IsLessLeft, is_found, is_granted_alone, new_of, old_of, sids_meet}
+use Rattle.sd_analysis.specs.Report.{AreFindings, IsCase, IsFound, IsLessLeft, IsSought, is_found, is_granted_alone, new_of, old_of, sids_meet}
 use Rattle.sd_analysis.specs.declared.compare_search.Case.{Case}
 use Rattle.sd_analysis.specs.declared.compare_search.Finding.{Finding}
 use Rattle.sd_analysis.specs.declared.compare_search.Found.{Found}
@@ -19,6 +19,7 @@ use Rattle.sd_analysis.specs.declared.witness.Demand.{Demand}
 use Rattle.sd_analysis.specs.declared.witness.PassSids.{PassSids}
 use Rattle.sd_analysis.proofs.Passed.{two_suffice}
 use Rattle.sd_analysis.proofs.Reports.{in_both, none_held}
+use Rattle.sd_analysis.proofs.Restricted.{sought}
 
 pub among_more : (sids : List SidValue) (i : ℕ) (one s : SidValue) → i < length sids → one ≡ get_or sids i one
     → is_among (take (i + 1) sids) s ≡ true → (is_among (take i sids) s ≡ true) ⊎ (one ≡ s)
@@ -60,16 +61,17 @@ pub search_done : (case : Case) (is : IsCase case) (pass : Pass) (demand : Deman
     → ((s : SidValue) → sids.denied ≡ Some s → is_among case.denied.items s ≡ true)
     → ((s : SidValue) → sids.denied ≡ Some s → demand.unlisted ≡ true)
     → is_granted_alone case pass demand sids.allowed b ≡ true
+    → IsSought case pass demand sids b
     → sids_meet case pass demand sids b ≡ true → holds found.left b ≡ false)
     → AreFindings case pass demand wanted found.findings.items
 search_done case is pass demand wanted found so_far gone = record {
   shown = so_far.shown;
-  complete = λ t b low has in_wanted none. false_from_ne_true _ (λ met.
+  complete = λ t b low has in_wanted not_gained none. false_from_ne_true _ (λ met.
       let two = two_suffice case.mapping.now (old_of case) (new_of case) case.base.now t case.other b pass demand has is.not_old is.not_new met in
       false≢true (sym (gone two.0 b low
       (ap (λ sids. is_among sids two.0.allowed) is.allowed ∙ two.1.0.allowed)
       (λ s eq. ap (λ sids. is_among sids s) is.denied ∙ two.1.0.denied s eq)
-      two.1.1.1.0 two.1.1.1.1 two.1.1.0) ∙ so_far.left b low in_wanted none));
+      two.1.1.1.0 two.1.1.1.1 (sought case pass demand two.0 b not_gained two.1.1.0) two.1.1.0) ∙ so_far.left b low in_wanted none));
 }
 
 pub nothing_found : (case : Case) (pass : Pass) (demand : Demand) (wanted : ℕ) (found : Found) → found.findings.items ≡ [] → found.left ≡ wanted
@@ -83,18 +85,20 @@ pub with_each : (case : Case) (pass : Pass) (demand : Demand) (allowed : SidValu
     → ((b : ℕ) → b < 21 → sids_meet case pass demand (record { allowed = allowed; denied = None }) b ≡ true → holds left b ≡ false)
     → ((s : SidValue) (b : ℕ) → b < 21 → is_among case.denied.items s ≡ true → demand.unlisted ≡ true
     → is_granted_alone case pass demand allowed b ≡ true
+    → IsSought case pass demand (record { allowed = allowed; denied = Some s }) b
     → sids_meet case pass demand (record { allowed = allowed; denied = Some s }) b ≡ true → holds left b ≡ false)
     → (denied : Option SidValue) (b : ℕ) → b < 21 → ((s : SidValue) → denied ≡ Some s → is_among case.denied.items s ≡ true)
     → ((s : SidValue) → denied ≡ Some s → demand.unlisted ≡ true)
     → is_granted_alone case pass demand allowed b ≡ true
+    → IsSought case pass demand (record { allowed = allowed; denied = denied }) b
     → sids_meet case pass demand (record { allowed = allowed; denied = denied }) b ≡ true → holds left b ≡ false
-with_each case pass demand allowed left alone each None b low among needed granted h = alone b low h
-with_each case pass demand allowed left alone each (Some s) b low among needed granted h = each s b low (among s refl) (needed s refl) granted h
+with_each case pass demand allowed left alone each None b low among needed granted is_sought h = alone b low h
+with_each case pass demand allowed left alone each (Some s) b low among needed granted is_sought h = each s b low (among s refl) (needed s refl) granted is_sought h
 
 -- a search for nothing
 pub none_sought : (case : Case) (pass : Pass) (demand : Demand) (wanted : ℕ) (findings : List Finding) → findings ≡ [] → (wanted == 0) ≡ true
     → AreFindings case pass demand wanted findings
 none_sought case pass demand wanted findings none empty = record {
   shown = λ k d low. absurd (omega (arith, ap length none));
-  complete = λ t b low has in_wanted h. absurd (false≢true (sym (none_held wanted b empty) ∙ in_wanted));
+  complete = λ t b low has in_wanted not_gained h. absurd (false≢true (sym (none_held wanted b empty) ∙ in_wanted));
 }

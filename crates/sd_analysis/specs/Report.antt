@@ -1,5 +1,5 @@
 -- How the gains of a change are gathered: what a search of one pass finds, and what is reported so far.
-use Rattle.std.specs.Prelude.{◌≡◌, ℕ, ◌<◌, Bool, true, false, not, ◌⊎◌, ◌++◌, List, length, cond, None}
+use Rattle.std.specs.Prelude.{◌≡◌, ℕ, ◌<◌, Bool, true, false, not, ◌&&◌, ◌⊎◌, ◌++◌, List, length, cond, None}
 use Rattle.std.specs.List.{All, list_any}
 use Rattle.sd_sid.specs.Mask.{holds}
 use Rattle.sd_sid.specs.Sid.{SidValue}
@@ -72,12 +72,30 @@ is_granted_alone case pass demand s b =
 abbrev pub is_found : List Finding → ℕ → Bool
 is_found findings b = list_any (λ (f : Finding). holds f.mask b) findings
 
--- what a search for the bits finds: SIDs of the pass that meet the demand; and for a bit without any, no token does
+-- no unrestricted token gains the bit, by an entry or as the owner's
+abbrev pub IsNotGained : Case → Bool → ℕ → Type 0
+IsNotGained case by_owner b = (t : TokenValue) → HasBase case.base.now t
+    → token_meets case First (record { by_owner = by_owner; unlisted = true; unowned = true }) t b ≡ false
+
+-- the demand on the first pass is the rest of what unrestricted tokens were tried for: the old descriptor doesn't list
+-- the bit, and may grant it as the owner's
+abbrev pub is_rest : Pass → Demand → Bool
+is_rest First demand = demand.unlisted && not demand.unowned
+is_rest Second demand = false
+
+-- a search for the rest seeks SIDs for which the old descriptor grants the bit as the owner's
+abbrev pub IsSought : Case → Pass → Demand → PassSids → ℕ → Type 0
+IsSought case pass demand sids b =
+    is_rest pass demand ≡ true → owns (old_of case) (sids_stand pass case.base.now sids) b ≡ true
+
+-- what a search for the bits finds: SIDs of the pass that meet the demand; and for a bit without any, no token does. A
+-- search for the rest is for bits that no unrestricted token gains
 pub record AreFindings (case : Case) (pass : Pass) (demand : Demand) (wanted : ℕ)
     (findings : List Finding) : Type 0 where
   pub shown : All (λ f. (b : ℕ) → holds f.mask b ≡ true
       → sids_meet case pass demand f.sids b ≡ true) findings
   pub complete : (t : TokenValue) (b : ℕ) → b < 21 → HasBase case.base.now t → holds wanted b ≡ true
+      → (is_rest pass demand ≡ true → IsNotGained case demand.by_owner b)
       → is_found findings b ≡ false
       → token_meets case pass demand t b ≡ false
 
@@ -104,6 +122,11 @@ IsReportOf case = IsReport (λ w. gains case.mapping.now (old_of case) (new_of c
 -- a bit that is still wanted was wanted before
 abbrev pub IsLess : Report → Report → Type 0
 IsLess before now = (b : ℕ) → holds now.wanted b ≡ true → holds before.wanted b ≡ true
+
+-- in neither pass is any token granted a bit so by the new descriptor that the old one doesn't grant as the owner's
+abbrev pub IsNeverMet : Case → Bool → Type 0
+IsNeverMet case by_owner = (pass : Pass) (unlisted : Bool) (t : TokenValue) (b : ℕ)
+    → token_meets case pass (record { by_owner = by_owner; unlisted = unlisted; unowned = true }) t b ≡ false
 
 -- the demand that is left to the second pass
 abbrev pub rest_of : Demand → Demand

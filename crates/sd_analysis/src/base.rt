@@ -1,6 +1,6 @@
 //! What all tokens of an analysis have.
 
-ghost use Rattle.std.specs.Prelude.{◌≡◌, ◌&&◌};
+ghost use Rattle.std.specs.Prelude.{◌≡◌, ◌&&◌, true, []};
 ghost use Rattle.sd_sid.specs.Sid.{same_sid};
 ghost use Rattle.sd_check.specs.Token.{a_group_stands_for, counts};
 
@@ -35,6 +35,13 @@ impl Base<'_> {
         self.groups
             .iter()
             .any(|group| group.0.is(sid) && counts(group.1, kind))
+    }
+
+    /// Whether it has no group.
+    pub(crate) fn is_empty(&self) -> bool
+        ensures { result ≡ true → self.now ≡ [] }
+    {
+        self.groups.is_empty()
     }
 }
 

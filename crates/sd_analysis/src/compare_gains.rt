@@ -8,8 +8,8 @@ ghost use Rattle.sd_check.specs.declared.grounds.Pass.TheVariants.{First, Second
 ghost use Rattle.sd_analysis.specs.Base.{HasBase};
 ghost use Rattle.sd_analysis.specs.Sufficient.{parts_of};
 ghost use Rattle.sd_analysis.specs.Compare.{AreGains};
-ghost use Rattle.sd_analysis.specs.Report.{AreFindings, IsCase, IsLess, IsRefused, IsRefusedAgain, IsReport};
-ghost use Rattle.sd_analysis.specs.Report.{IsReportOf, is_found, new_of, old_of, token_meets};
+ghost use Rattle.sd_analysis.specs.Report.{AreFindings, IsCase, IsLess, IsNotGained, IsRefused, IsRefusedAgain};
+ghost use Rattle.sd_analysis.specs.Report.{IsReport, IsReportOf, is_found, new_of, old_of, rest_of, token_meets};
 ghost use Rattle.sd_analysis.specs.Table.{IsTable};
 ghost use Rattle.sd_analysis.specs.declared.witness.Witness.{Witness};
 
@@ -132,6 +132,9 @@ impl Case<'_> {
             → token_meets self.now First (record { by_owner = by_owner; unlisted = true; unowned = true }) t b
             ≡ false) }
     {
+        if !self.may_gain(by_owner) {
+            return Ok(());
+        }
         let demand = Demand {
             by_owner,
             unlisted: true,
@@ -143,7 +146,7 @@ impl Case<'_> {
     }
 
     /// Reports what restricted tokens gain beside: the old descriptor fails by its entries, or by its owner, in the
-    /// second pass alone.
+    /// second pass alone. Without a base the second pass is that of another token, whose first pass was tried.
     fn restricted(
         &self,
         alloc: Global,
@@ -153,56 +156,114 @@ impl Case<'_> {
         requires { IsCase self.now }
         ensures report { OnOk result (IsReportOf self.now report.old → IsReportOf self.now report.new) }
         ensures less { OnOk result (IsLess report.old report.new) }
-        ensures complete { OnOk result ((t : TokenValue) (b : ℕ) → b < 21 → HasBase self.now.base.now t
-            → holds report.new.wanted b ≡ true
-            → IsRefusedAgain self.now t by_owner b) }
+        ensures complete { OnOk result ((b : ℕ) → b < 21 → holds report.new.wanted b ≡ true
+            → IsNotGained self.now by_owner b
+            → (t : TokenValue) → HasBase self.now.base.now t → IsRefusedAgain self.now t by_owner b) }
     {
-        self.both(
-            alloc,
-            report,
-            Demand {
-                by_owner,
-                unlisted: true,
-                unowned: false,
-            },
-        )?;
-        self.both(
-            alloc,
-            report,
-            Demand {
-                by_owner,
-                unlisted: false,
-                unowned: true,
-            },
-        )?;
-        self.both(
-            alloc,
-            report,
-            Demand {
-                by_owner,
-                unlisted: false,
-                unowned: false,
-            },
-        )?;
+        if !self.may_gain(by_owner) {
+            return Ok(());
+        }
+        let rest = Demand {
+            by_owner,
+            unlisted: true,
+            unowned: false,
+        };
+        let is_met = self.first_then_second(alloc, report, rest)?;
+        if !is_met && self.base.is_empty() {
+            return Ok(());
+        }
+        self.list_fails_again(alloc, report, by_owner)?;
         Ok(())
     }
 
-    /// Reports what tokens gain that meet the demand in the first pass, and the rest in the second.
-    fn both(&self, alloc: Global, report: &mut Report, demand: Demand) -> Result<(), AllocError>
+    /// Reports what restricted tokens gain for which the old descriptor fails by its entries in the second pass alone.
+    fn list_fails_again(
+        &self,
+        alloc: Global,
+        report: &mut Report,
+        by_owner: bool,
+    ) -> Result<(), AllocError>
         requires { IsCase self.now }
         ensures report { OnOk result (IsReportOf self.now report.old → IsReportOf self.now report.new) }
         ensures less { OnOk result (IsLess report.old report.new) }
-        ensures complete { OnOk result ((t : TokenValue) (b : ℕ) → b < 21 → HasBase self.now.base.now t
-            → holds report.new.wanted b ≡ true
-            → IsRefused self.now demand t b) }
+        ensures list { OnOk result ((b : ℕ) → b < 21 → holds report.new.wanted b ≡ true
+            → IsNotGained self.now by_owner b
+            → (t : TokenValue) → HasBase self.now.base.now t
+            → IsRefused self.now (record { by_owner = by_owner; unlisted = false; unowned = true }) t b) }
+        ensures both { OnOk result ((b : ℕ) → b < 21 → holds report.new.wanted b ≡ true
+            → IsNotGained self.now by_owner b
+            → (t : TokenValue) → HasBase self.now.base.now t
+            → IsRefused self.now (record { by_owner = by_owner; unlisted = false; unowned = false }) t b) }
+    {
+        let owned = Demand {
+            by_owner,
+            unlisted: false,
+            unowned: true,
+        };
+        let is_met = self.second_then_first(alloc, report, owned)?;
+        if !is_met {
+            return Ok(());
+        }
+        let either = Demand {
+            by_owner,
+            unlisted: false,
+            unowned: false,
+        };
+        self.second_then_first(alloc, report, either)?;
+        Ok(())
+    }
+
+    /// Reports what tokens gain that meet the demand in the first pass, and the rest in the second. Returns whether any
+    /// SIDs meet it in the first.
+    fn first_then_second(
+        &self,
+        alloc: Global,
+        report: &mut Report,
+        demand: Demand,
+    ) -> Result<bool, AllocError>
+        requires { IsCase self.now }
+        ensures report { OnOk result (IsReportOf self.now report.old → IsReportOf self.now report.new) }
+        ensures less { OnOk result (IsLess report.old report.new) }
+        ensures complete { OnOk result ((b : ℕ) → b < 21 → holds report.new.wanted b ≡ true
+            → IsNotGained self.now demand.by_owner b
+            → (t : TokenValue) → HasBase self.now.base.now t → IsRefused self.now demand t b) }
+        ensures none { IfOk result (λ is_met. is_met ≡ false → (b : ℕ) → b < 21 → holds report.new.wanted b ≡ true
+            → IsNotGained self.now demand.by_owner b
+            → (t : TokenValue) → HasBase self.now.base.now t → token_meets self.now First demand t b ≡ false) }
     {
         let first = self.search(alloc, Pass::First, demand, report.wanted)?;
         if first.is_empty() {
-            return Ok(());
+            return Ok(false);
         }
         let second = self.search(alloc, Pass::Second, demand.rest(), report.wanted)?;
         add_pairs(report, &first, &second)?;
-        Ok(())
+        Ok(true)
+    }
+
+    /// The same, the second pass first. Returns whether any SIDs meet the rest in that.
+    fn second_then_first(
+        &self,
+        alloc: Global,
+        report: &mut Report,
+        demand: Demand,
+    ) -> Result<bool, AllocError>
+        requires { IsCase self.now }
+        ensures report { OnOk result (IsReportOf self.now report.old → IsReportOf self.now report.new) }
+        ensures less { OnOk result (IsLess report.old report.new) }
+        ensures complete { OnOk result ((b : ℕ) → b < 21 → holds report.new.wanted b ≡ true
+            → IsNotGained self.now demand.by_owner b
+            → (t : TokenValue) → HasBase self.now.base.now t → IsRefused self.now demand t b) }
+        ensures none { IfOk result (λ is_met. is_met ≡ false → (b : ℕ) → b < 21 → holds report.new.wanted b ≡ true
+            → (t : TokenValue) → HasBase self.now.base.now t
+            → token_meets self.now Second (rest_of demand) t b ≡ false) }
+    {
+        let second = self.search(alloc, Pass::Second, demand.rest(), report.wanted)?;
+        if second.is_empty() {
+            return Ok(false);
+        }
+        let first = self.search(alloc, Pass::First, demand, report.wanted)?;
+        add_pairs(report, &first, &second)?;
+        Ok(true)
     }
 }
 

@@ -23,11 +23,11 @@ impl Case<'_> {
         both: &mut Both,
         pass: Pass,
         demand: Demand,
-        allowed: Sid,
+        allowed: &Sid,
         place: usize,
     ) -> Result<(), AllocError>
         requires case { IsCase self.now }
-        requires place { IsPlace self.now allowed place }
+        requires place { IsPlace self.now allowed.now place }
         requires room { HasRoom self.now both.old }
         requires unlisted { demand.unlisted ≡ true }
         ensures room { OnOk result (HasRoom self.now both.new) }
@@ -35,7 +35,7 @@ impl Case<'_> {
             → IsFound self.now pass demand wanted found.old → IsFound self.now pass demand wanted found.new) }
         ensures less { OnOk result (IsLessLeft found.old found.new) }
         ensures gone { OnOk result ((s : SidValue) (b : ℕ) → b < 21 → is_among self.now.denied.items s ≡ true
-            → sids_meet self.now pass demand (record { allowed = allowed; denied = Some s }) b ≡ true
+            → sids_meet self.now pass demand (record { allowed = allowed.now; denied = Some s }) b ≡ true
             → holds found.new.left b ≡ false) }
     {
         let role = Role {
@@ -45,31 +45,32 @@ impl Case<'_> {
         both.walk(&self.table.old, &self.table.new, role);
         for (number, denied) in self.denied.iter().enumerate() {
             let at = self.table.places[self.allowed.len() + number];
-            self.try_pair(found, both, pass, demand, allowed, *denied, at)?;
+            self.try_pair(found, both, pass, demand, allowed, denied, at)?;
         }
         Ok(())
     }
 
     /// Tries the SID with one of these.
+    #[inline(always)]
     fn try_pair(
         &self,
         found: &mut Found,
         both: &Both,
         pass: Pass,
         demand: Demand,
-        allowed: Sid,
-        denied: Sid,
+        allowed: &Sid,
+        denied: &Sid,
         at: usize,
     ) -> Result<(), AllocError>
-        requires place { IsPlace self.now denied at }
+        requires place { IsPlace self.now denied.now at }
         requires both { AreBoth self.now.mapping.now self.now.base.now (sids_in self.now) (old_of self.now)
-            (new_of self.now) pass (Some allowed) both.now }
+            (new_of self.now) pass (Some allowed.now) both.now }
         requires unlisted { demand.unlisted ≡ true }
         ensures found { OnOk result ((wanted : ℕ)
             → IsFound self.now pass demand wanted found.old → IsFound self.now pass demand wanted found.new) }
         ensures less { OnOk result (IsLessLeft found.old found.new) }
         ensures gone { OnOk result ((b : ℕ) → b < 21
-            → sids_meet self.now pass demand (record { allowed = allowed; denied = Some denied }) b ≡ true
+            → sids_meet self.now pass demand (record { allowed = allowed.now; denied = Some denied.now }) b ≡ true
             → holds found.new.left b ≡ false) }
     {
         let worth = worth_trying(both, demand.by_owner, at).common(found.left);
@@ -77,8 +78,8 @@ impl Case<'_> {
             return Ok(());
         }
         let sids = PassSids {
-            allowed,
-            denied: Some(denied),
+            allowed: *allowed,
+            denied: Some(*denied),
         };
         self.try_sids(found, pass, demand, &sids)?;
         Ok(())

@@ -6,7 +6,7 @@ ghost use Rattle.sd_sid.specs.Mask.{holds};
 ghost use Rattle.sd_sid.specs.Sid.{SidValue};
 ghost use Rattle.sd_analysis.specs.Sufficient.{is_among, parts_of};
 ghost use Rattle.sd_analysis.specs.Passes.{lists, owns, sids_stand};
-ghost use Rattle.sd_analysis.specs.Report.{AreFindings, HasRoom, IsCase, IsPlace, sids_in, IsFound};
+ghost use Rattle.sd_analysis.specs.Report.{AreFindings, HasRoom, IsCase, IsPlace, IsSought, sids_in, IsFound};
 ghost use Rattle.sd_analysis.specs.Report.{IsLessLeft, is_granted_alone, new_of, old_of, sids_meet};
 
 use crate::base::Base;
@@ -69,7 +69,7 @@ impl Case<'_> {
         }
         let mut both = Both::new(alloc, self.room(demand))?;
         for (place, allowed) in self.allowed.iter().enumerate() {
-            self.try_at(&mut found, &mut both, pass, demand, *allowed, place)?;
+            self.try_at(&mut found, &mut both, pass, demand, allowed, place)?;
         }
         Ok(found.findings)
     }
@@ -93,12 +93,12 @@ impl Case<'_> {
         both: &mut Both,
         pass: Pass,
         demand: Demand,
-        allowed: Sid,
+        allowed: &Sid,
         place: usize,
     ) -> Result<(), AllocError>
         requires case { IsCase self.now }
         requires within { place < length self.now.allowed.items }
-        requires at { allowed ≡ slice_index_or self.now.allowed.items place allowed }
+        requires at { allowed.now ≡ slice_index_or self.now.allowed.items place allowed.now }
         requires room { demand.unlisted ≡ true → HasRoom self.now both.old }
         ensures room { OnOk result (demand.unlisted ≡ true → HasRoom self.now both.new) }
         ensures found { OnOk result ((wanted : ℕ)
@@ -107,9 +107,10 @@ impl Case<'_> {
         ensures gone { OnOk result ((denied : Option SidValue) (b : ℕ) → b < 21
             → ((s : SidValue) → denied ≡ Some s → is_among self.now.denied.items s ≡ true)
             → ((s : SidValue) → denied ≡ Some s → demand.unlisted ≡ true)
-            → is_granted_alone self.now pass demand allowed b ≡ true
-            → sids_meet self.now pass demand (record { allowed = allowed; denied = denied }) b ≡ true
-            → (holds found.new.left b ≡ false) ⊎ (is_among (take place self.now.allowed.items) allowed ≡ true)) }
+            → is_granted_alone self.now pass demand allowed.now b ≡ true
+            → IsSought self.now pass demand (record { allowed = allowed.now; denied = denied }) b
+            → sids_meet self.now pass demand (record { allowed = allowed.now; denied = denied }) b ≡ true
+            → (holds found.new.left b ≡ false) ⊎ (is_among (take place self.now.allowed.items) allowed.now ≡ true)) }
     {
         let own = self.table.places[place];
         if own != place {
@@ -126,11 +127,11 @@ impl Case<'_> {
         both: &mut Both,
         pass: Pass,
         demand: Demand,
-        allowed: Sid,
+        allowed: &Sid,
         place: usize,
     ) -> Result<(), AllocError>
         requires case { IsCase self.now }
-        requires place { IsPlace self.now allowed place }
+        requires place { IsPlace self.now allowed.now place }
         requires room { demand.unlisted ≡ true → HasRoom self.now both.old }
         ensures room { OnOk result (demand.unlisted ≡ true → HasRoom self.now both.new) }
         ensures found { OnOk result ((wanted : ℕ)
@@ -139,10 +140,15 @@ impl Case<'_> {
         ensures gone { OnOk result ((denied : Option SidValue) (b : ℕ) → b < 21
             → ((s : SidValue) → denied ≡ Some s → is_among self.now.denied.items s ≡ true)
             → ((s : SidValue) → denied ≡ Some s → demand.unlisted ≡ true)
-            → is_granted_alone self.now pass demand allowed b ≡ true
-            → sids_meet self.now pass demand (record { allowed = allowed; denied = denied }) b ≡ true
+            → is_granted_alone self.now pass demand allowed.now b ≡ true
+            → IsSought self.now pass demand (record { allowed = allowed.now; denied = denied }) b
+            → sids_meet self.now pass demand (record { allowed = allowed.now; denied = denied }) b ≡ true
             → holds found.new.left b ≡ false) }
     {
+        let worth = self.worth_trying(pass, demand, allowed, place);
+        if worth.common(found.left).is_empty() {
+            return Ok(());
+        }
         self.try_alone(found, pass, demand, allowed, place)?;
         if !demand.unlisted {
             return Ok(());
@@ -150,14 +156,28 @@ impl Case<'_> {
         if self.denied.is_empty() {
             return Ok(());
         }
-        let worth = self
-            .granted_alone(demand.by_owner, pass, &allowed, place)
-            .common(found.left);
-        if worth.is_empty() {
+        if worth.common(found.left).is_empty() {
             return Ok(());
         }
         self.try_pairs(found, both, pass, demand, allowed, place)?;
         Ok(())
+    }
+
+    /// The bits for which the SID may meet the demand, by itself or with another: those that the new descriptor grants
+    /// it by itself, and of these, where only the rest is sought, what the old one grants it as the owner's.
+    fn worth_trying(&self, pass: Pass, demand: Demand, allowed: &Sid, place: usize) -> Mask
+        requires case { IsCase self.now }
+        requires place { IsPlace self.now allowed.now place }
+        ensures { (denied : Option SidValue) (b : ℕ) → b < 21
+            → is_granted_alone self.now pass demand allowed.now b ≡ true
+            → IsSought self.now pass demand (record { allowed = allowed.now; denied = denied }) b
+            → holds result b ≡ true }
+    {
+        let granted = self.granted_alone(demand.by_owner, pass, allowed, place);
+        if !demand.is_rest(pass) {
+            return granted;
+        }
+        granted.common(self.owned_alone(self.old, pass, allowed))
     }
 
     /// Tries the SID by itself.
@@ -166,26 +186,26 @@ impl Case<'_> {
         found: &mut Found,
         pass: Pass,
         demand: Demand,
-        allowed: Sid,
+        allowed: &Sid,
         place: usize,
     ) -> Result<(), AllocError>
         requires case { IsCase self.now }
-        requires place { IsPlace self.now allowed place }
+        requires place { IsPlace self.now allowed.now place }
         ensures found { OnOk result ((wanted : ℕ)
             → IsFound self.now pass demand wanted found.old → IsFound self.now pass demand wanted found.new) }
         ensures less { OnOk result (IsLessLeft found.old found.new) }
         ensures gone { OnOk result ((b : ℕ) → b < 21
-            → sids_meet self.now pass demand (record { allowed = allowed; denied = None }) b ≡ true
+            → sids_meet self.now pass demand (record { allowed = allowed.now; denied = None }) b ≡ true
             → holds found.new.left b ≡ false) }
     {
         let worth = self
-            .met_alone(pass, demand, &allowed, place)
+            .met_alone(pass, demand, allowed, place)
             .common(found.left);
         if worth.is_empty() {
             return Ok(());
         }
         let alone = PassSids {
-            allowed,
+            allowed: *allowed,
             denied: None,
         };
         self.try_sids(found, pass, demand, &alone)?;

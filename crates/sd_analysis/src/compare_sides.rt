@@ -1,6 +1,6 @@
 //! What a descriptor grants in a pass to a base with two SIDs more, as masks.
 
-ghost use Rattle.std.specs.Prelude.{◌≡◌, ◌||◌, ◌<◌, ◌≤◌, ◌++◌, ℕ, Some, IfOk, OnOk, false, length};
+ghost use Rattle.std.specs.Prelude.{◌≡◌, ◌&&◌, ◌||◌, ◌<◌, ◌≤◌, ◌++◌, ℕ, Some, IfOk, OnOk, false, length, not};
 ghost use Rattle.std.specs.List.{filter_map, list_any};
 ghost use Rattle.std.specs.Option.{is_some, option_to_list};
 ghost use Rattle.sd_sid.specs.Mask.{holds};
@@ -12,6 +12,7 @@ ghost use Rattle.sd_check.specs.Fold.{part_of};
 ghost use Rattle.sd_analysis.specs.Sufficient.{allowed_sids, denied_sids, entries_or_none, has_sid, is_named, parts_of};
 ghost use Rattle.sd_analysis.specs.Sufficient.{subject_if, subjects_in};
 ghost use Rattle.sd_analysis.specs.Passes.{about, lists, numbered, owns, sids_stand};
+ghost use Rattle.sd_analysis.specs.Report.{IsNeverMet};
 
 use crate::compare_search::Case;
 use crate::witness::PassSids;
@@ -61,6 +62,13 @@ impl DescriptorRef<'_> {
             DaclRef::Null => false,
             DaclRef::List(entries) => has_limit(entries),
         }
+    }
+
+    /// Whether READ_CONTROL and WRITE_DAC are the SID's, as the owner's ([MS-DTYP] 2.5.3.2).
+    fn is_owned_by(&self, sid: &Sid) -> bool
+        ensures { result ≡ (has_sid self.now.owner sid.now && not (limits_owner (entries_of self.now.dacl))) }
+    {
+        has_sid(&self.owner, sid) && !self.limits_owner()
     }
 
     /// Whether the SID is the owner's, or that of an entry.
@@ -254,6 +262,20 @@ impl Case<'_> {
             return Mask(0);
         }
         OWNERS_RIGHTS.when(!side.limits_owner())
+    }
+
+    /// Whether a token may be granted a bit by an entry of the new descriptor, or as its owner's, that the old one
+    /// doesn't grant as the owner's.
+    pub(crate) fn may_gain(&self, by_owner: bool) -> bool
+        ensures { result ≡ false → IsNeverMet self.now by_owner }
+    {
+        if !by_owner {
+            return true;
+        }
+        match &self.new.owner {
+            None => false,
+            Some(owner) => !self.old.is_owned_by(owner),
+        }
     }
 
     fn is_owner(&self, side: &DescriptorRef<'_>, pass: Pass, sids: &PassSids) -> bool

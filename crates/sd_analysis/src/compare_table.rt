@@ -142,7 +142,7 @@ impl Table {
 fn places_of(alloc: Global, sids: &[Sid]) -> Result<Vec<usize>, AllocError>
     ensures { IfOk result (λ places. places.items ≡ map (place_in sids.now) sids.now) }
 {
-    let mut places = Vec::new(alloc);
+    let mut places = Vec::with_capacity(alloc, sids.len())?;
     for sid in sids {
         places.push(place_of(sids, sid))?;
     }
@@ -212,7 +212,7 @@ fn rows_of(
 ) -> Result<Vec<Row>, AllocError>
     ensures { IfOk result (λ rows. rows.items ≡ map (row_of mapping.now base.now sids.now owner.now) entries.now) }
 {
-    let mut rows = Vec::new(alloc);
+    let mut rows = Vec::with_capacity(alloc, entries.len())?;
     for entry in entries {
         rows.push(row_of(owner, entry, sids, mapping, base))?;
     }

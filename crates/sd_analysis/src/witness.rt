@@ -1,9 +1,10 @@
 //! Tokens that tell two descriptors apart, and the law that few SIDs make one.
 
 ghost use Rattle.std.specs.Prelude.{◌≡◌, true};
-ghost use Rattle.sd_analysis.specs.Report.{rest_of};
+ghost use Rattle.sd_analysis.specs.Report.{is_rest, rest_of};
 ghost use Rattle.sd_analysis.specs.Sufficient.{TwoSidsPerPassSuffice, WitnessHasBase};
 
+use sd_check::Pass;
 use sd_sid::Sid;
 
 /// The SIDs that a witness has for one pass of the check, beside the base: two at most.
@@ -86,6 +87,17 @@ impl Demand {
             by_owner: self.by_owner,
             unlisted: !self.unlisted,
             unowned: !self.unowned,
+        }
+    }
+
+    /// Whether a search of the pass is for the rest of what unrestricted tokens were tried for: what only SIDs show for
+    /// which the old descriptor grants a bit as the owner's.
+    pub(crate) fn is_rest(self, pass: Pass) -> bool
+        ensures { result ≡ is_rest pass self }
+    {
+        match pass {
+            Pass::First => self.unlisted && !self.unowned,
+            Pass::Second => false,
         }
     }
 }

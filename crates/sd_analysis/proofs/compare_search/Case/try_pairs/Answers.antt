@@ -13,15 +13,15 @@ try_pair-requires-clause-place c =
 pub try_pair-requires-clause-both : goal.try_pair-requires-clause-both
 try_pair-requires-clause-both c =
     let case = c.args.self.now in
-    c.walk.ensures case.mapping.now case.base.now (sids_in case) (old_of case) (new_of case) (Some c.args.allowed) c.requires.case.table.old_rows c.requires.case.table.new_rows
-    (is_beside case c.args.allowed c.args.place c.requires.place) c.requires.room.before c.requires.room.after
+    c.walk.ensures case.mapping.now case.base.now (sids_in case) (old_of case) (new_of case) (Some c.args.allowed.now) c.requires.case.table.old_rows c.requires.case.table.new_rows
+    (is_beside case c.args.allowed.now c.args.place c.requires.place) c.requires.room.before c.requires.room.after
 
 pub returns-clause-room : goal.returns-clause-room
 returns-clause-room c =
     let case = c.args.self.now in
-    both_room case c.args.pass (Some c.args.allowed) c.walk.new.self
-    (c.walk.ensures case.mapping.now case.base.now (sids_in case) (old_of case) (new_of case) (Some c.args.allowed) c.requires.case.table.old_rows c.requires.case.table.new_rows
-    (is_beside case c.args.allowed c.args.place c.requires.place) c.requires.room.before c.requires.room.after)
+    both_room case c.args.pass (Some c.args.allowed.now) c.walk.new.self
+    (c.walk.ensures case.mapping.now case.base.now (sids_in case) (old_of case) (new_of case) (Some c.args.allowed.now) c.requires.case.table.old_rows c.requires.case.table.new_rows
+    (is_beside case c.args.allowed.now c.args.place c.requires.place) c.requires.room.before c.requires.room.after)
 
 pub loop-number-preserved : goal.loop-number-preserved
 loop-number-preserved c = record {
@@ -34,6 +34,6 @@ loop-number-preserved c = record {
         | inl before ↦ still_left c.loop-number.found c.try_pair.new.found b c.in_ok-try_pair.ensures.less
             (c.loop-number.invariant.gone s b low (sym (ap (λ xs. is_among (take number xs) s) same) ∙ before) h)
         | inr now ↦ c.in_ok-try_pair.ensures.gone b low
-            (ap (λ x. sids_meet c.args.self.now c.args.pass c.args.demand (record { allowed = c.args.allowed; denied = Some x }) b) now ∙ h)
+            (ap (λ x. sids_meet c.args.self.now c.args.pass c.args.demand (record { allowed = c.args.allowed.now; denied = Some x }) b) now ∙ h)
       ];
 }

@@ -1,6 +1,6 @@
-use Rattle.std.proofs.Common.{inl, sym, ◌∙◌, arith, eqb-true}
-use Rattle.sd_analysis.proofs.Gathered.{gains_of, pairs_gain, pairs_refused, none_found}
-use Rattle.sd_analysis.proofs.compare_search.Case.both.Goals as goal
+use Rattle.std.proofs.Common.{inr, sym, ◌∙◌, arith, eqb-true}
+use Rattle.sd_analysis.proofs.Gathered.{gains_of, pairs_gain, pairs_refused, rest_refused}
+use Rattle.sd_analysis.proofs.compare_search.Case.second_then_first.Goals as goal
 
 pub returns-clause-report : goal.returns-clause-report
 returns-clause-report c = λ before. c.in_ok-add_pairs.ensures.report (gains_of c.args.self.now) before
@@ -19,6 +19,11 @@ returns-clause-complete c =
     c.in_ok-add_pairs.ensures.less c.in_ok-add_pairs.ensures.gone
 
 pub returns-then-is_empty-clause-complete : goal.returns-then-is_empty-clause-complete
-returns-then-is_empty-clause-complete c = λ t b low has still. inl (c.in_ok-first.ensures.complete t b low has still
-    (none_found c.in_ok-first.first.items b
-    (omega (arith, eqb-true _ 0 (sym c.is_empty.ensures ∙ c.if-is_empty.true), c.in_ok-first.first.ok.0))))
+returns-then-is_empty-clause-complete c = λ b low still not_gained t has. inr (rest_refused c.args.self.now c.args.demand c.rest.result c.args.report.now.wanted
+    c.in_ok-second.second.items c.rest.ensures c.in_ok-second.ensures
+    (omega (arith, eqb-true _ 0 (sym c.is_empty.ensures ∙ c.if-is_empty.true), c.in_ok-second.second.ok.0)) b low still t has)
+
+pub returns-then-is_empty-clause-none : goal.returns-then-is_empty-clause-none
+returns-then-is_empty-clause-none c = λ is. rest_refused c.args.self.now c.args.demand c.rest.result c.args.report.now.wanted
+    c.in_ok-second.second.items c.rest.ensures c.in_ok-second.ensures
+    (omega (arith, eqb-true _ 0 (sym c.is_empty.ensures ∙ c.if-is_empty.true), c.in_ok-second.second.ok.0))
