@@ -1,5 +1,5 @@
 pub mod Findings
-pub mod Noted
+pub mod Written
 pub mod AllFound
 pub mod Asked
 pub mod Bits

@@ -1,5 +1,5 @@
 -- That the verdict follows from the reasons.
-use Rattle.std.proofs.Common.{◌≡◌, ℕ, ◌^◌, ◌<◌, Bool, true, false, not, ◌&&◌, ◌||◌, ◌==◌, nat_lt, cond, List, Option, Some, None, lit<, inl, inr, refl, sym, ◌∙◌, ap, arith}
+use Rattle.std.proofs.Common.{◌≡◌, ℕ, ◌<◌, Bool, true, false, not, ◌&&◌, ◌||◌, ◌==◌, nat_lt, cond, List, Option, Some, None, lit<, inl, inr, refl, sym, ◌∙◌, ap, arith}
 use Rattle.sd_check.proofs.Words.{cases_Bool, eqb-true, ne_eqb, false≢true, ltb-true, cond-true, cond-false, bit_at-zero, holds, MappingValue, mapped, is_mapped, SidValue, holds_place, mask_of-alike, mask_of-lt, reserved_of, without_maximum, missing_of, joined_with, answered, plain_verdict, maximum_verdict, is_granted, is_given, most, verdict, Ace, TokenValue}
 use Rattle.sd_sid.specs.Mask.{mask_of}
 use Rattle.sd_check.specs.declared.verdict.Verdict.{Verdict}

@@ -1,15 +1,15 @@
 //! A request to a DACL, and why each of its bits is granted or denied.
 
-ghost use Rattle.std.specs.Prelude.{◌≡◌, ◌<◌, ℕ, true, false, length, slice_index_or, None, if◌then◌else◌};
+ghost use Rattle.std.specs.Prelude.{◌≡◌, ◌<◌, ◌≤◌, ℕ, true, false, length, slice_index_or, None, if◌then◌else◌};
 ghost use Rattle.sd_acl.specs.Ace.{is_allow};
-ghost use Rattle.sd_check.specs.Check.{without_maximum, entries_of, applies_in, implied_of, applies_again};
+ghost use Rattle.sd_check.specs.Check.{without_maximum, entries_of, applies_in, implied_of};
 ghost use Rattle.sd_sid.specs.Mapping.{mapped};
 ghost use Rattle.sd_sid.specs.Mask.{holds};
 ghost use Rattle.sd_check.specs.Fold.{rights_in, wanted_bits, part_of};
 ghost use Rattle.sd_check.specs.Token.{is_restricted};
 ghost use Rattle.sd_explain.specs.Reasons.{finding_of, given_or as given_or_of, granting_or as granting_or_of};
 ghost use Rattle.sd_explain.specs.Reasons.{high_cause as high_cause_of, named_cause as named_cause_of};
-ghost use Rattle.sd_explain.specs.Reasons.{maximum_cause as maximum_cause_of, reason_at};
+ghost use Rattle.sd_explain.specs.Reasons.{maximum_cause as maximum_cause_of, reason_at, reasons_of};
 ghost use Rattle.sd_explain.specs.Findings.{given_to, IsFoundIn, IsListed, listed_by, of_case};
 
 use crate::explanation::PLACES;
@@ -83,6 +83,17 @@ fn high_cause(given: Implied, place: u32) -> Cause
     }
 }
 
+/// The places from the lowest bit of the mask to its highest: the first, and the one after the last.
+#[tactic(auto, using(crate::proofs::Written::none_below_lowest, crate::proofs::Written::none_above_highest))]
+fn span(mask: Mask) -> (u32, u32)
+    ensures end { result.1 ≤ 32 }
+    ensures below { (b : ℕ) → b < result.0 → holds mask b ≡ false }
+    ensures above { (b : ℕ) → result.1 ≤ b → holds mask b ≡ false }
+{
+    let bits = mask.bits();
+    (bits.trailing_zeros(), PLACES - bits.leading_zeros())
+}
+
 /// Writes the finding at the places that were decided.
 fn note(findings: &mut [Finding; 32], decided: Mask, finding: Finding)
     requires { length findings.old ≡ 32 }
@@ -91,10 +102,8 @@ fn note(findings: &mut [Finding; 32], decided: Mask, finding: Finding)
         → slice_index_or findings.new b Finding.NoEntry
         ≡ (if holds decided b then finding else slice_index_or findings.old b Finding.NoEntry) }
 {
-    for place in decided.bits().trailing_zeros()..PLACES {
-        if decided.bits() >> place == 0 {
-            return;
-        }
+    let (lowest, end) = span(decided);
+    for place in lowest..end {
         if decided.holds(place) {
             findings[place as usize] = finding;
         }
@@ -127,7 +136,7 @@ impl Case<'_> {
     }
 
     /// The same for the list, where there is one.
-    pub(crate) fn findings(&self, pass: Pass, bits: Mask) -> [Finding; 32]
+    fn findings(&self, pass: Pass, bits: Mask) -> [Finding; 32]
         ensures size { length result ≡ 32 }
         ensures found { let applies = applies_in pass self.now.question.token.now self.now.question.owner.now in
             IsFoundIn self.now.question.mapping.now applies (entries_of self.now.dacl) bits result }
@@ -139,18 +148,38 @@ impl Case<'_> {
         }
     }
 
-    /// What the second pass finds; nothing for a token that isn't restricted.
-    pub(crate) fn findings_again(&self, bits: Mask) -> [Finding; 32]
-        ensures size { length result ≡ 32 }
-        ensures found { let applies = applies_again self.now.question.token.now self.now.question.owner.now in
-            is_restricted self.now.question.token.now ≡ true
-            → IsFoundIn self.now.question.mapping.now applies (entries_of self.now.dacl) bits result }
+    /// The reasons of all bits.
+    pub(crate) fn reasons(&self) -> [Option<Reason>; 32]
+        ensures { result ≡ of_case reasons_of self.now self.now.question.asked }
     {
+        let rights = self.rights();
+        let first = self.findings(Pass::First, rights);
         if self.question.token.is_restricted() {
-            self.findings(Pass::Second, bits)
-        } else {
-            [Finding::NoEntry; 32]
+            return self.reasons_by(&first, &self.findings(Pass::Second, rights));
         }
+        self.reasons_by(&first, &first)
+    }
+
+    /// The same, by what each pass finds for the rights that the list is asked for. Without a second pass `second` is
+    /// of no use.
+    fn reasons_by(&self, first: &[Finding; 32], second: &[Finding; 32]) -> [Option<Reason>; 32]
+        requires { (b : ℕ) → b < 32
+            → holds (rights_in (wanted_bits self.now.question.mapping.now self.now.question.asked)) b ≡ true
+            → IsListed self.now first.now second.now b }
+        ensures { result ≡ of_case reasons_of self.now self.now.question.asked }
+    {
+        let wanted = self.question.wanted();
+        let given = self.given();
+        let answered = self.answered();
+        let mut reasons = [None; 32];
+        let (lowest, end) = span(answered);
+        for place in lowest..end {
+            if !answered.holds(place) {
+                continue;
+            }
+            reasons[place as usize] = self.reason(wanted, place, given, first, second);
+        }
+        reasons
     }
 
     /// The cause of the bit by what the passes find.
@@ -167,21 +196,21 @@ impl Case<'_> {
     }
 
     /// What is granted without an entry.
-    pub(crate) fn given(&self) -> Implied
+    fn given(&self) -> Implied
         ensures { result ≡ given_to self.now }
     {
         self.question.implied(self.dacl)
     }
 
     /// The rights that the list is asked for.
-    pub(crate) fn rights(&self) -> Mask
+    fn rights(&self) -> Mask
         ensures { result ≡ rights_in (wanted_bits self.now.question.mapping.now self.now.question.asked) }
     {
         self.question.wanted_bits().common(OBJECT_RIGHTS)
     }
 
     /// The bits that have a part in the answer.
-    pub(crate) fn answered(&self) -> Mask
+    fn answered(&self) -> Mask
         ensures { (b : ℕ) → b < 32 → holds result b ≡ false
             → of_case reason_at self.now self.now.question.asked b ≡ None }
     {
@@ -253,7 +282,7 @@ impl Case<'_> {
 
     /// The reason of the bit in the answer to the request, where it has a part in it. `first` and `second` are what the
     /// passes find for the bits that the list is asked for.
-    pub(crate) fn reason(
+    fn reason(
         &self,
         wanted: Mask,
         place: u32,

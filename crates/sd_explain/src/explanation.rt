@@ -8,7 +8,7 @@ ghost use Rattle.sd_explain.specs.Parts.{reason_in, is_of_share, bits_of, told_v
 use crate::case::Case;
 use crate::reason::{Cause, Reason, Share};
 use sd_acl::{Dacl, Descriptor};
-use sd_check::{DaclRef, MAXIMUM_ALLOWED, Pass, Question, Token, Verdict};
+use sd_check::{DaclRef, MAXIMUM_ALLOWED, Question, Token, Verdict};
 use sd_sid::{GenericMapping, Mask, Sid};
 
 /// The places of a mask: 0 to 31.
@@ -50,20 +50,9 @@ pub fn explain(
         },
         dacl,
     };
-    let wanted = case.question.wanted();
-    let rights = case.rights();
-    let given = case.given();
-    let first = case.findings(Pass::First, rights);
-    let second = case.findings_again(rights);
-    let answered = case.answered();
-    let mut reasons = [None; 32];
-    for place in 0..PLACES {
-        if !answered.holds(place) {
-            continue;
-        }
-        reasons[place as usize] = case.reason(wanted, place, given, &first, &second);
+    Explanation {
+        reasons: case.reasons(),
     }
-    Explanation { reasons }
 }
 
 /// The same for a descriptor ([MS-DTYP] 2.5.3.2): the verdict is that of `check`.

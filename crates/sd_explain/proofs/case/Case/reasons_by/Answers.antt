@@ -1,0 +1,32 @@
+use Rattle.std.proofs.Common.{Option, None, replicate, refl, sym, ◌∙◌, arith}
+use Rattle.std.proofs.lemmas.List.{get_or-replicate}
+use Rattle.std.proofs.lemmas.List.FromFn.{fill_by_all}
+use Rattle.sd_explain.specs.Findings.{of_case}
+use Rattle.sd_explain.specs.Reasons.{reason_at}
+use Rattle.sd_explain.specs.declared.reason.Reason.{Reason}
+use Rattle.sd_explain.proofs.Written.{written_from, written_here, written_not, written_all}
+use Rattle.sd_explain.proofs.case.Case.reasons_by.Goals as goal
+
+pub loop-place-init : goal.loop-place-init
+loop-place-init c = written_from None (replicate 32 None) c.answered-answered.result _ _ refl c.span-lowest.ensures.below
+
+pub loop-place-preserved : goal.loop-place-preserved
+loop-place-preserved c =
+    written_here None _ c.answered-answered.result _ c.loop-place.reasons c.reason.result c.loop-place.place
+    (omega (arith, c.loop-place-test.true, c.span-lowest.ensures.end)) (sym c.holds.ensures ∙ c.if-not-holds.false) c.reason.ensures c.loop-place.invariant
+
+pub loop-place-preserved-then-not-holds : goal.loop-place-preserved-then-not-holds
+loop-place-preserved-then-not-holds c =
+    written_not None _ c.answered-answered.result _ c.loop-place.reasons c.loop-place.place (sym c.holds.ensures ∙ c.if-not-holds.true) c.loop-place.invariant
+
+pub returns : goal.returns
+returns c =
+    let reason = of_case reason_at c.args.self.now c.args.self.now.question.asked in
+    fill_by_all reason c.loop-place.reasons 32 None c.loop-place.invariant.size (λ k h.
+    grind (
+      arith,
+      written_all None _ c.answered-answered.result reason c.loop-place.reasons c.loop-place.place k
+          (λ j high. c.span-lowest.ensures.above j (omega (arith, high, c.loop-place-test.false))) c.loop-place.invariant,
+      get_or-replicate {A = Option Reason} 32 k None None h,
+      c.answered-answered.ensures k h,
+    ))
