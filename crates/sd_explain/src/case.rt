@@ -1,6 +1,6 @@
 //! A request to a DACL, and why each of its bits is granted or denied.
 
-ghost use Rattle.std.specs.Prelude.{◌≡◌, ◌<◌, ◌≤◌, ℕ, true, false, length, slice_index_or, None, if◌then◌else◌};
+ghost use Rattle.std.specs.Prelude.{◌≡◌, ◌<◌, ◌≤◌, ℕ, true, false, length, replicate, slice_index_or, None, if◌then◌else◌};
 ghost use Rattle.sd_acl.specs.Ace.{is_allow};
 ghost use Rattle.sd_check.specs.Check.{without_maximum, entries_of, applies_in, implied_of};
 ghost use Rattle.sd_sid.specs.Mapping.{mapped};
@@ -111,67 +111,93 @@ fn note(findings: &mut [Finding; 32], decided: Mask, finding: Finding)
 }
 
 impl Case<'_> {
-    /// What the pass over the entries finds for each of the bits, in one walk.
-    fn findings_in(&self, entries: &[Ace], pass: Pass, bits: Mask) -> [Finding; 32]
-        ensures size { length result ≡ 32 }
-        ensures found { (b : ℕ) → b < 32 → holds bits b ≡ true
-            → slice_index_or result b Finding.NoEntry
+    // What is found and the reasons are written where the caller has them: each array that a function returns is
+    // cleared and copied.
+
+    /// Writes what the pass over the entries finds for each of the bits, in one walk, where nothing is found yet.
+    fn find_in(&self, entries: &[Ace], pass: Pass, bits: Mask, findings: &mut [Finding; 32])
+        requires { findings.old ≡ replicate 32 Finding.NoEntry }
+        ensures { (b : ℕ) → b < 32 → holds bits b ≡ true
+            → slice_index_or findings.new b Finding.NoEntry
             ≡ finding_of self.now.question.mapping.now
             (applies_in pass self.now.question.token.now self.now.question.owner.now) entries.now b }
     {
-        let mut findings = [Finding::NoEntry; 32];
         let mut undecided = bits;
         for (index, entry) in entries.iter().enumerate() {
             if undecided.is_empty() {
-                return findings;
+                return;
             }
             let decided = self.question.part(pass, entry).common(undecided);
             if decided.is_empty() {
                 continue;
             }
-            note(&mut findings, decided, found(entry.kind, index));
+            note(findings, decided, found(entry.kind, index));
             undecided = undecided.minus(decided);
         }
-        findings
     }
 
     /// The same for the list, where there is one.
-    fn findings(&self, pass: Pass, bits: Mask) -> [Finding; 32]
-        ensures size { length result ≡ 32 }
-        ensures found { let applies = applies_in pass self.now.question.token.now self.now.question.owner.now in
-            IsFoundIn self.now.question.mapping.now applies (entries_of self.now.dacl) bits result }
+    fn find(&self, pass: Pass, bits: Mask, findings: &mut [Finding; 32])
+        requires { findings.old ≡ replicate 32 Finding.NoEntry }
+        ensures { let applies = applies_in pass self.now.question.token.now self.now.question.owner.now in
+            IsFoundIn self.now.question.mapping.now applies (entries_of self.now.dacl) bits findings.new }
     {
         match self.dacl {
-            DaclRef::Absent => [Finding::NoEntry; 32],
-            DaclRef::Null => [Finding::NoEntry; 32],
-            DaclRef::List(entries) => self.findings_in(entries, pass, bits),
+            DaclRef::Absent => {}
+            DaclRef::Null => {}
+            DaclRef::List(entries) => self.find_in(entries, pass, bits, findings),
         }
     }
 
-    /// The reasons of all bits.
-    pub(crate) fn reasons(&self) -> [Option<Reason>; 32]
-        ensures { result ≡ of_case reasons_of self.now self.now.question.asked }
+    /// Writes the reasons of all bits, where there are none yet.
+    pub(crate) fn write_reasons(&self, reasons: &mut [Option<Reason>; 32])
+        requires { reasons.old ≡ replicate 32 None }
+        ensures { reasons.new ≡ of_case reasons_of self.now self.now.question.asked }
     {
         let rights = self.rights();
-        let first = self.findings(Pass::First, rights);
+        let mut first = [Finding::NoEntry; 32];
+        self.find(Pass::First, rights, &mut first);
         if self.question.token.is_restricted() {
-            return self.reasons_by(&first, &self.findings(Pass::Second, rights));
+            return self.write_of_both(rights, &first, reasons);
         }
-        self.reasons_by(&first, &first)
+        self.write_by(&first, &first, reasons);
+    }
+
+    /// The same for a restricted token, by what the first pass finds.
+    // (few tokens are restricted: the other findings are out of the others' way)
+    #[inline(never)]
+    fn write_of_both(&self, rights: Mask, first: &[Finding; 32], reasons: &mut [Option<Reason>; 32])
+        requires restricted { is_restricted self.now.question.token.now ≡ true }
+        requires rights { rights
+            ≡ rights_in (wanted_bits self.now.question.mapping.now self.now.question.asked) }
+        requires first { let applies = applies_in Pass.First self.now.question.token.now
+            self.now.question.owner.now in
+            IsFoundIn self.now.question.mapping.now applies (entries_of self.now.dacl) rights first.now }
+        requires none { reasons.old ≡ replicate 32 None }
+        ensures { reasons.new ≡ of_case reasons_of self.now self.now.question.asked }
+    {
+        let mut second = [Finding::NoEntry; 32];
+        self.find(Pass::Second, rights, &mut second);
+        self.write_by(first, &second, reasons);
     }
 
     /// The same, by what each pass finds for the rights that the list is asked for. Without a second pass `second` is
     /// of no use.
-    fn reasons_by(&self, first: &[Finding; 32], second: &[Finding; 32]) -> [Option<Reason>; 32]
-        requires { (b : ℕ) → b < 32
+    fn write_by(
+        &self,
+        first: &[Finding; 32],
+        second: &[Finding; 32],
+        reasons: &mut [Option<Reason>; 32],
+    )
+        requires listed { (b : ℕ) → b < 32
             → holds (rights_in (wanted_bits self.now.question.mapping.now self.now.question.asked)) b ≡ true
             → IsListed self.now first.now second.now b }
-        ensures { result ≡ of_case reasons_of self.now self.now.question.asked }
+        requires none { reasons.old ≡ replicate 32 None }
+        ensures { reasons.new ≡ of_case reasons_of self.now self.now.question.asked }
     {
         let wanted = self.question.wanted();
         let given = self.given();
         let answered = self.answered();
-        let mut reasons = [None; 32];
         let (lowest, end) = span(answered);
         for place in lowest..end {
             if !answered.holds(place) {
@@ -179,7 +205,6 @@ impl Case<'_> {
             }
             reasons[place as usize] = self.reason(wanted, place, given, first, second);
         }
-        reasons
     }
 
     /// The cause of the bit by what the passes find.

@@ -50,9 +50,9 @@ pub fn explain(
         },
         dacl,
     };
-    Explanation {
-        reasons: case.reasons(),
-    }
+    let mut reasons = [None; 32];
+    case.write_reasons(&mut reasons);
+    Explanation { reasons }
 }
 
 /// The same for a descriptor ([MS-DTYP] 2.5.3.2): the verdict is that of `check`.
@@ -89,6 +89,7 @@ fn lent(dacl: &Dacl) -> DaclRef<'_>
 
 impl Explanation {
     /// Whether the bit is of the share.
+    #[inline(always)]
     fn is_of(&self, share: Share, place: u32) -> bool
         requires { place < 32 }
         ensures { result ≡ is_of_share share (reason_in self.now.reasons place) }
@@ -100,6 +101,7 @@ impl Explanation {
     }
 
     /// The bits of the share at the places below the end.
+    #[inline(always)]
     fn bits_below(&self, share: Share, end: u32) -> Mask
         requires { end ≤ 32 }
         ensures { result ≡ bits_of share (reason_in self.now.reasons) end }
@@ -112,6 +114,7 @@ impl Explanation {
     }
 
     /// The bits of the share.
+    #[inline(always)]
     pub fn bits(&self, share: Share) -> Mask
         ensures { result ≡ bits_of share (reason_in self.now.reasons) 32 }
     {

@@ -7,12 +7,13 @@ ghost use Rattle.sd_explain.specs.Reasons.{is_allowed, grants, belongs};
 /// list, counted from 0.
 #[derive(Clone, Copy, Debug, PartialEq, Eq)]
 pub enum Finding {
+    // (first, so that an array without any is zeros)
+    /// No entry decides the bit.
+    NoEntry,
     /// An allow entry.
     Allowed(usize),
     /// A deny entry.
     Denied(usize),
-    /// No entry decides the bit.
-    NoEntry,
 }
 
 /// Why a bit is granted or denied ([MS-DTYP] 2.5.3.2).
@@ -64,6 +65,7 @@ pub enum Share {
 
 impl Finding {
     /// Whether the pass allows the bit.
+    #[inline(always)]
     pub fn is_allowed(self) -> bool
         ensures { result ≡ is_allowed self }
     {
@@ -77,6 +79,7 @@ impl Finding {
 
 impl Cause {
     /// Whether a bit of this cause is granted.
+    #[inline(always)]
     pub fn grants(self) -> bool
         ensures { result ≡ grants self }
     {
@@ -96,6 +99,7 @@ impl Cause {
 
 impl Reason {
     /// Whether a bit with this reason is of the share.
+    #[inline(always)]
     pub fn belongs(self, share: Share) -> bool
         ensures { result ≡ belongs share self }
     {

@@ -12,6 +12,6 @@ returns-clause-verdict c =
     let owner = c.args.owner in
     let dacl = entries_of c.args.dacl in
     let reason = reason_at owner dacl c.args.mapping.now c.args.token.now c.args.asked in
-    told_alike (reason_in c.reasons.result) reason
-    (λ k h. ap (λ (rs : List (Option Reason)). get_or rs k None) c.reasons.ensures ∙ get_or-map-range_with_len reason 0 32 k k None h (omega arith))
+    told_alike (reason_in c.write_reasons.new.reasons) reason
+    (λ k h. ap (λ (rs : List (Option Reason)). get_or rs k None) c.write_reasons.ensures ∙ get_or-map-range_with_len reason 0 32 k k None h (omega arith))
     ∙ told_verdict_is owner dacl c.args.mapping.now c.args.token.now c.args.asked
