@@ -1,11 +1,12 @@
 -- That the verdict follows from the reasons.
-use Rattle.std.proofs.Common.{◌≡◌, ℕ, ◌<◌, Bool, true, false, not, ◌&&◌, ◌||◌, ◌==◌, nat_lt, cond, List, Option, Some, None, lit<, inl, inr, refl, sym, ◌∙◌, ap, arith}
+use Rattle.std.proofs.Common.{◌≡◌, ℕ, ◌<◌, Bool, true, false, not, ◌&&◌, ◌||◌, ◌==◌, nat_lt, cond, List, get_or, Option, Some, None, lit<, inl, inr, refl, sym, ◌∙◌, ap, arith}
+use Rattle.std.proofs.lemmas.List.FromFn.{get_or-map-range_with_len}
 use Rattle.sd_check.proofs.Words.{cases_Bool, eqb-true, ne_eqb, false≢true, ltb-true, cond-true, cond-false, bit_at-zero, holds, MappingValue, mapped, is_mapped, SidValue, holds_place, mask_of-alike, mask_of-lt, reserved_of, without_maximum, missing_of, joined_with, answered, plain_verdict, maximum_verdict, is_granted, is_given, most, verdict, Ace, TokenValue}
 use Rattle.sd_sid.specs.Mask.{mask_of}
 use Rattle.sd_check.specs.declared.verdict.Verdict.{Verdict}
 use Rattle.sd_check.specs.declared.verdict.Verdict.TheVariants.{Granted, Denied, Reserved, EmptyRequest}
-use Rattle.sd_explain.specs.Reasons.{grants, named_cause, maximum_cause, reason_at, belongs}
-use Rattle.sd_explain.specs.Parts.{is_of_share, bits_of, told_verdict}
+use Rattle.sd_explain.specs.Reasons.{grants, named_cause, maximum_cause, reason_at, reasons_of, belongs}
+use Rattle.sd_explain.specs.Parts.{is_of_share, bits_of, reason_in, told_verdict}
 use Rattle.sd_explain.specs.declared.reason.Reason.{Reason}
 use Rattle.sd_explain.specs.declared.reason.Share.{Share}
 use Rattle.sd_explain.specs.declared.reason.Share.TheVariants as shares
@@ -171,3 +172,11 @@ module _ (owner : Option SidValue) (dacl : Option (List Ace)) (g : MappingValue)
 
   pub told_verdict_is : told_verdict reason ≡ verdict owner dacl g t r
   told_verdict_is = elim (cases_Bool (reserved_of r == 0)) [ inl free ↦ told_free free | inr stopped ↦ told_stopped stopped ]
+
+-- reasons that are those of the rules tell the rules' verdict
+pub told_reasons : (owner : Option SidValue) (dacl : Option (List Ace)) (g : MappingValue) (t : TokenValue) (r : ℕ) (reasons : List (Option Reason))
+    → reasons ≡ reasons_of owner dacl g t r → told_verdict (reason_in reasons) ≡ verdict owner dacl g t r
+told_reasons owner dacl g t r reasons are =
+    told_alike (reason_in reasons) (reason_at owner dacl g t r)
+    (λ b h. ap (λ (rs : List (Option Reason)). get_or rs b None) are ∙ get_or-map-range_with_len (reason_at owner dacl g t r) 0 32 b b None h (omega arith))
+    ∙ told_verdict_is owner dacl g t r

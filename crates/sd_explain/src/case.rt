@@ -2,7 +2,7 @@
 
 ghost use Rattle.std.specs.Prelude.{◌≡◌, ◌<◌, ◌≤◌, ℕ, true, false, length, replicate, slice_index_or, None, if◌then◌else◌};
 ghost use Rattle.sd_acl.specs.Ace.{is_allow};
-ghost use Rattle.sd_check.specs.Check.{without_maximum, entries_of, applies_in, implied_of};
+ghost use Rattle.sd_check.specs.Check.{without_maximum, entries_of, applies_in, implied_of, applies_again};
 ghost use Rattle.sd_sid.specs.Mapping.{mapped};
 ghost use Rattle.sd_sid.specs.Mask.{holds};
 ghost use Rattle.sd_check.specs.Fold.{rights_in, wanted_bits, part_of};
@@ -149,6 +149,18 @@ impl Case<'_> {
         }
     }
 
+    /// What the second pass finds; nothing for a token that isn't restricted.
+    fn find_again(&self, bits: Mask, findings: &mut [Finding; 32])
+        requires { findings.old ≡ replicate 32 Finding.NoEntry }
+        ensures { let applies = applies_again self.now.question.token.now self.now.question.owner.now in
+            is_restricted self.now.question.token.now ≡ true
+            → IsFoundIn self.now.question.mapping.now applies (entries_of self.now.dacl) bits findings.new }
+    {
+        if self.question.token.is_restricted() {
+            self.find(Pass::Second, bits, findings);
+        }
+    }
+
     /// Writes the reasons of all bits, where there are none yet.
     pub(crate) fn write_reasons(&self, reasons: &mut [Option<Reason>; 32])
         requires { reasons.old ≡ replicate 32 None }
@@ -156,45 +168,9 @@ impl Case<'_> {
     {
         let rights = self.rights();
         let mut first = [Finding::NoEntry; 32];
-        self.find(Pass::First, rights, &mut first);
-        if self.question.token.is_restricted() {
-            return self.write_of_both(rights, &first, reasons);
-        }
-        self.write_by(&first, &first, reasons);
-    }
-
-    /// The same for a restricted token, by what the first pass finds.
-    // (few tokens are restricted: the other findings are out of the others' way)
-    #[inline(never)]
-    fn write_of_both(&self, rights: Mask, first: &[Finding; 32], reasons: &mut [Option<Reason>; 32])
-        requires restricted { is_restricted self.now.question.token.now ≡ true }
-        requires rights { rights
-            ≡ rights_in (wanted_bits self.now.question.mapping.now self.now.question.asked) }
-        requires first { let applies = applies_in Pass.First self.now.question.token.now
-            self.now.question.owner.now in
-            IsFoundIn self.now.question.mapping.now applies (entries_of self.now.dacl) rights first.now }
-        requires none { reasons.old ≡ replicate 32 None }
-        ensures { reasons.new ≡ of_case reasons_of self.now self.now.question.asked }
-    {
         let mut second = [Finding::NoEntry; 32];
-        self.find(Pass::Second, rights, &mut second);
-        self.write_by(first, &second, reasons);
-    }
-
-    /// The same, by what each pass finds for the rights that the list is asked for. Without a second pass `second` is
-    /// of no use.
-    fn write_by(
-        &self,
-        first: &[Finding; 32],
-        second: &[Finding; 32],
-        reasons: &mut [Option<Reason>; 32],
-    )
-        requires listed { (b : ℕ) → b < 32
-            → holds (rights_in (wanted_bits self.now.question.mapping.now self.now.question.asked)) b ≡ true
-            → IsListed self.now first.now second.now b }
-        requires none { reasons.old ≡ replicate 32 None }
-        ensures { reasons.new ≡ of_case reasons_of self.now self.now.question.asked }
-    {
+        self.find(Pass::First, rights, &mut first);
+        self.find_again(rights, &mut second);
         let wanted = self.question.wanted();
         let given = self.given();
         let answered = self.answered();
@@ -203,7 +179,7 @@ impl Case<'_> {
             if !answered.holds(place) {
                 continue;
             }
-            reasons[place as usize] = self.reason(wanted, place, given, first, second);
+            reasons[place as usize] = self.reason(wanted, place, given, &first, &second);
         }
     }
 
@@ -272,7 +248,8 @@ impl Case<'_> {
         }
     }
 
-    /// Why MAXIMUM_ALLOWED takes the bit in, or leaves it out.
+    /// Why MAXIMUM_ALLOWED takes the bit in, or leaves it out: without a list it takes in what GENERIC_ALL stands for, and
+    /// what is granted without an entry.
     fn maximum_cause(
         &self,
         place: u32,
@@ -286,23 +263,10 @@ impl Case<'_> {
         ensures { result ≡ of_case maximum_cause_of self.now place }
     {
         match self.dacl {
-            DaclRef::Absent => self.maximum_cause_without_a_list(place, given),
-            DaclRef::Null => self.maximum_cause_without_a_list(place, given),
             DaclRef::List(_) => self.named_cause(place, given, first, second),
+            _ if self.question.mapping.all().holds(place) => Cause::NoList,
+            _ => given_or(given, place, Cause::BeyondAll),
         }
-    }
-
-    /// The same where there is no list: what GENERIC_ALL stands for, and what is granted without an entry.
-    fn maximum_cause_without_a_list(&self, place: u32, given: Implied) -> Cause
-        requires place { place < 32 }
-        requires given { given ≡ implied_of self.now.question.owner.now None self.now.question.token.now }
-        ensures { result ≡ maximum_cause_of self.now.question.owner.now None self.now.question.mapping.now
-            self.now.question.token.now place }
-    {
-        if self.question.mapping.all().holds(place) {
-            return Cause::NoList;
-        }
-        given_or(given, place, Cause::BeyondAll)
     }
 
     /// The reason of the bit in the answer to the request, where it has a part in it. `first` and `second` are what the
@@ -324,7 +288,10 @@ impl Case<'_> {
     {
         let reserved = self.question.asked.common(RESERVED);
         if !reserved.is_empty() {
-            return reserved_reason(reserved, place);
+            return reserved.holds(place).then_some(Reason {
+                named: true,
+                cause: Cause::Reserved,
+            });
         }
         if wanted.holds(place) {
             let cause = self.named_cause(place, given, first, second);
@@ -337,21 +304,6 @@ impl Case<'_> {
                 cause,
             });
         }
-        None
-    }
-}
-
-/// A reserved bit's.
-fn reserved_reason(reserved: Mask, place: u32) -> Option<Reason>
-    requires { place < 32 }
-    ensures { result ≡ (if holds reserved place then Some (record { named = true; cause = Cause.Reserved }) else None) }
-{
-    if reserved.holds(place) {
-        Some(Reason {
-            named: true,
-            cause: Cause::Reserved,
-        })
-    } else {
         None
     }
 }

@@ -1,6 +1,6 @@
 //! An explanation: the reasons of all bits, and what they come to.
 
-ghost use Rattle.std.specs.Prelude.{◌≡◌, ◌<◌, ◌≤◌};
+ghost use Rattle.std.specs.Prelude.{◌≡◌, ◌<◌, ◌≤◌, replicate, None};
 ghost use Rattle.sd_check.specs.Check.{verdict, dacl_entries, entries_of};
 ghost use Rattle.sd_explain.specs.Reasons.{reasons_of};
 ghost use Rattle.sd_explain.specs.Parts.{reason_in, is_of_share, bits_of, told_verdict, part_at};
@@ -30,6 +30,7 @@ pub struct Part {
 
 /// Why a request is answered as it is, for an owner and a DACL ([MS-DTYP] 2.5.3.2): the reason of each bit. The verdict
 /// that follows from the reasons is that of `check_parts`. Takes no memory.
+#[tactic(auto, using(crate::proofs::Told::told_reasons))]
 pub fn explain(
     owner: Option<Sid>,
     dacl: DaclRef<'_>,
@@ -41,21 +42,14 @@ pub fn explain(
     ensures verdict { told_verdict (reason_in result.reasons)
         ≡ verdict owner (entries_of dacl.entry) mapping.now token.now asked }
 {
-    let case = Case {
-        question: Question {
-            owner: &owner,
-            mapping,
-            token,
-            asked,
-        },
-        dacl,
-    };
     let mut reasons = [None; 32];
-    case.write_reasons(&mut reasons);
+    write_reasons(&owner, dacl, mapping, token, asked, &mut reasons);
     Explanation { reasons }
 }
 
 /// The same for a descriptor ([MS-DTYP] 2.5.3.2): the verdict is that of `check`.
+// (not by `explain`, which would clear and copy the reasons once more)
+#[tactic(auto, using(crate::proofs::Told::told_reasons))]
 pub fn explain_descriptor(
     descriptor: &Descriptor,
     mapping: &GenericMapping,
@@ -67,13 +61,31 @@ pub fn explain_descriptor(
     ensures verdict { told_verdict (reason_in result.reasons) ≡ verdict descriptor.now.owner
         (dacl_entries descriptor.now.dacl) mapping.now token.now asked }
 {
-    explain(
-        descriptor.owner,
-        lent(&descriptor.dacl),
+    let dacl = lent(&descriptor.dacl);
+    let mut reasons = [None; 32];
+    write_reasons(&descriptor.owner, dacl, mapping, token, asked, &mut reasons);
+    Explanation { reasons }
+}
+
+/// Writes the reasons of all bits, where there are none yet.
+fn write_reasons(
+    owner: &Option<Sid>,
+    dacl: DaclRef<'_>,
+    mapping: &GenericMapping,
+    token: &Token,
+    asked: Mask,
+    reasons: &mut [Option<Reason>; 32],
+)
+    requires { reasons.old ≡ replicate 32 None }
+    ensures { reasons.new ≡ reasons_of owner.now (entries_of dacl.entry) mapping.now token.now asked }
+{
+    let question = Question {
+        owner,
         mapping,
         token,
         asked,
-    )
+    };
+    Case { question, dacl }.write_reasons(reasons);
 }
 
 /// The DACL, borrowed for an explanation.

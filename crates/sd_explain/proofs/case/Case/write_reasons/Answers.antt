@@ -5,10 +5,10 @@ use Rattle.sd_explain.specs.Findings.{of_case}
 use Rattle.sd_explain.specs.Reasons.{reason_at}
 use Rattle.sd_explain.specs.declared.reason.Reason.{Reason}
 use Rattle.sd_explain.proofs.Written.{written_from, written_here, written_not, written_all}
-use Rattle.sd_explain.proofs.case.Case.write_by.Goals as goal
+use Rattle.sd_explain.proofs.case.Case.write_reasons.Goals as goal
 
 pub loop-place-init : goal.loop-place-init
-loop-place-init c = written_from None c.args.reasons.now c.answered-answered.result _ _ (ap length c.requires.none) c.span-lowest.ensures.below
+loop-place-init c = written_from None c.args.reasons.now c.answered-answered.result _ _ (ap length c.requires) c.span-lowest.ensures.below
 
 pub loop-place-preserved : goal.loop-place-preserved
 loop-place-preserved c =
@@ -27,6 +27,6 @@ returns c =
       arith,
       written_all None _ c.answered-answered.result reason c.loop-place.reasons c.loop-place.place k
           (λ j high. c.span-lowest.ensures.above j (omega (arith, high, c.loop-place-test.false))) c.loop-place.invariant,
-      ap (λ (rs : List (Option Reason)). get_or rs k None) c.requires.none ∙ get_or-replicate {A = Option Reason} 32 k None None h,
+      ap (λ (rs : List (Option Reason)). get_or rs k None) c.requires ∙ get_or-replicate {A = Option Reason} 32 k None None h,
       c.answered-answered.ensures k h,
     ))

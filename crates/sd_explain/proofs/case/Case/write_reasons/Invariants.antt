@@ -3,7 +3,7 @@ use Rattle.std.proofs.Common.{None, get_or}
 use Rattle.sd_explain.specs.Findings.{of_case}
 use Rattle.sd_explain.specs.Reasons.{reason_at}
 use Rattle.sd_explain.proofs.Written.{IsWritten}
-use Rattle.sd_explain.proofs.case.Case.write_by.Given as goal
+use Rattle.sd_explain.proofs.case.Case.write_reasons.Given as goal
 
 abbrev pub invariant-loop-place : goal.invariant-loop-place
 invariant-loop-place l = IsWritten None l.reasons (λ b. get_or l.fn.reasons b None) l.answered (of_case reason_at l.self l.self.question.asked) l.place
