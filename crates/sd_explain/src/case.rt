@@ -142,10 +142,8 @@ impl Case<'_> {
         ensures { let applies = applies_in pass self.now.question.token.now self.now.question.owner.now in
             IsFoundIn self.now.question.mapping.now applies (entries_of self.now.dacl) bits findings.new }
     {
-        match self.dacl {
-            DaclRef::Absent => {}
-            DaclRef::Null => {}
-            DaclRef::List(entries) => self.find_in(entries, pass, bits, findings),
+        if let DaclRef::List(entries) = self.dacl {
+            self.find_in(entries, pass, bits, findings);
         }
     }
 
@@ -240,11 +238,10 @@ impl Case<'_> {
             return high_cause(given, place);
         }
         match self.dacl {
-            DaclRef::Absent => Cause::NoList,
-            DaclRef::Null => Cause::NoList,
             DaclRef::List(_) => {
                 granting_or(given, place, self.listed_cause(first, second, place))
             }
+            _ => Cause::NoList,
         }
     }
 
