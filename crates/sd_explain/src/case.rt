@@ -1,6 +1,7 @@
 //! A request to a DACL, and why each of its bits is granted or denied.
 
-ghost use Rattle.std.specs.Prelude.{◌≡◌, ◌<◌, ◌≤◌, ℕ, true, false, length, replicate, slice_index_or, None, if◌then◌else◌};
+ghost use Rattle.std.specs.Prelude.{◌≡◌, ◌<◌, ◌≤◌, ℕ, true, false, length, replicate, slice_index_or, None};
+ghost use Rattle.std.specs.Prelude.{if◌then◌else◌};
 ghost use Rattle.sd_acl.specs.Ace.{is_allow};
 ghost use Rattle.sd_check.specs.Check.{without_maximum, entries_of, applies_in, implied_of, applies_again};
 ghost use Rattle.sd_sid.specs.Mapping.{mapped};
@@ -245,8 +246,8 @@ impl Case<'_> {
         }
     }
 
-    /// Why MAXIMUM_ALLOWED takes the bit in, or leaves it out: without a list it takes in what GENERIC_ALL stands for, and
-    /// what is granted without an entry.
+    /// Why MAXIMUM_ALLOWED takes the bit in, or leaves it out: without a list, what GENERIC_ALL stands for, and what is
+    /// granted without an entry.
     fn maximum_cause(
         &self,
         place: u32,
