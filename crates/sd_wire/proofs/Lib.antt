@@ -1,5 +1,6 @@
 pub mod Lengths
 pub mod Loop
+pub mod Rest
 pub mod Places
 pub mod Found
 pub mod HeldIsRead

@@ -82,11 +82,11 @@ fn check_entries<const BOTH: bool>(
         question.now.owner.now question.now.mapping.now question.now.token.now question.now.asked }
 {
     let mut tally = question.begin();
-    let mut at = entries.place;
+    let mut rest = &bytes[entries.place..entries.end];
     for _ in 0..entries.count {
-        let (entry, size) = read_entry(bytes, at, entries.end)?;
+        let (entry, size) = read_entry(rest, 0, rest.len())?;
         tally = question.after::<BOTH, AceRef<'_>>(tally, &entry);
-        at += size;
+        rest = &rest[size..];
     }
     Ok(question.verdict::<BOTH>(tally))
 }
