@@ -10,6 +10,7 @@ GENERIC = {0x80000000: 0x120089, 0x40000000: 0x120116, 0x20000000: 0x1200A0, 0x1
 MAXIMUM_ALLOWED, RESERVED, RIGHTS = 0x02000000, 0x0CE00000, 21
 READ_CONTROL, WRITE_DAC, WRITE_OWNER, SYSTEM_SECURITY = 17, 18, 19, 24
 OBJECT_RIGHTS = (1 << RIGHTS) - 1
+DELETE, DELETE_CHILD = 0x10000, 0x40
 
 # A SID is an authority and its sub-authorities.
 ALIASES = {
@@ -209,6 +210,16 @@ class Tree:
         below = [path for path in sorted(self.nodes) if path[: len(top)] == top]
         granted = [path for path in below if verdict(self.nodes[path].owner, self.dacl(path), token, asked).startswith("granted")]
         return [path_word(path, percent) for path in granted]
+
+    def deletion(self, path, token):
+        """What `delete` prints of the node at the path."""
+
+        def grants(at, mask):
+            return verdict(self.nodes[at].owner, self.dacl(at), token, mask).startswith("granted")
+
+        if grants(path, DELETE):
+            return "granted by node"
+        return "granted by parent" if path and grants(path[:-1], DELETE_CHILD) else "denied"
 
     def dumped(self, readers, percent):
         """The lines of `dump`."""

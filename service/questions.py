@@ -1,4 +1,5 @@
-"""The questions of a script that are answered at once, by a published tree: `check`, `why` and `show`; and tokens."""
+"""The questions of a script that are answered at once, by a published tree: `check`, `why`, `delete` and `show`; and
+tokens."""
 
 import functools
 from collections import OrderedDict
@@ -19,6 +20,8 @@ MOST_WORDS = 2_048
 #: The words of the tokens that are kept parsed, and the masks; a longer mask's text is parsed each time.
 _KEPT_WORDS, _KEPT_MASKS, _MASK_LENGTH = 65_536, 1_024, 64
 _STATES = {"": hudarin.ENABLED, "=deny": hudarin.DENY_ONLY, "=off": hudarin.DISABLED}
+#: FILE_DELETE_CHILD of folders (winnt.h).
+_DELETE_CHILD = 0x40
 _PRIVILEGES = {"+security": hudarin.SECURITY, "+take": hudarin.TAKE_OWNERSHIP}
 
 
@@ -135,6 +138,22 @@ class Questions:
                 raise Fault(fault_of(refused)) from None
             return f"seen {shown.length} nonode"
         return f"seen {shown.length} {_verdict_text(verdict)}"
+
+    def delete(self, words: tuple[str, ...], path: str) -> str:
+        """Whether the token of the words may delete the node of the path, and by which descriptor: its own, or its
+        parent's."""
+        shown = self.shown
+        token, delete = self._token("SD", words, [path])
+        try:
+            if shown.view.check(path, token, delete):
+                return f"seen {shown.length} granted by node"
+        except Refused as refused:
+            if refused.status != "no node":
+                raise Fault(fault_of(refused)) from None
+            return f"seen {shown.length} nonode"
+        parent = path.rpartition("/")[0] or "/"
+        by_parent = path != "/" and shown.view.check(parent, token, _DELETE_CHILD)
+        return f"seen {shown.length} {'granted by parent' if by_parent else 'denied'}"
 
     def checks(self, mask: str, words: tuple[str, ...], paths: Sequence[str]) -> str:
         """The same at each of the paths."""

@@ -127,6 +127,12 @@ def _why(words: Sequence[str], questions: Questions, reader: Reader) -> str:
     return _by_reader(number, said, questions, reader)
 
 
+def _delete(words: Sequence[str], questions: Questions, reader: Reader) -> str:
+    number = number_of(words[1])
+    said = questions.delete((words[3], *words[4:]), path_of(words[2]))
+    return _by_reader(number, said, questions, reader)
+
+
 def _show(words: Sequence[str], questions: Questions, reader: Reader) -> str:
     number = number_of(words[1])
     return _by_reader(number, questions.show(path_of(words[2])), questions, reader)
@@ -190,6 +196,7 @@ _QUESTIONS: dict[str, tuple[int, int, _Ask]] = {
     "check": (4, _MOST, _check),
     "checks": (4, _MOST, _checks),
     "why": (4, _MOST, _why),
+    "delete": (3, _MOST, _delete),
     "show": (2, 2, _show),
     "status": (0, 0, _status),
 }

@@ -12,7 +12,7 @@ from paths import Path, parsed, spelled
 from sddl import parts_of
 
 #: Commands that change no descriptor.
-_QUESTIONS = {"tell", "learn", "check", "why", "show", "list", "dump", "who", "find", "review"}
+_QUESTIONS = {"tell", "learn", "check", "why", "show", "list", "dump", "who", "find", "delete", "review"}
 #: Commands that make, remove or move files.
 _OF_FILES = {"open", "import", "addc", "addo", "remove", "move"}
 _LEFT_OUT = re.compile(r"# left out: (\d+) files of (/\S*)")

@@ -40,7 +40,7 @@ class Chance(random.Random):
     def line(self) -> str:
         command = self.choice(
             ("addc", "addo", "addo", "owner", "group", "dacl", "remove", "protect", "move", "publish", "publish",
-             "tell", "learn", "check", "check", "check", "why", "why", "find", "find", "show", "list", "dump", "who",
+             "tell", "learn", "check", "check", "check", "why", "why", "find", "find", "delete", "delete", "show", "list", "dump", "who",
              "review", "review", "open", "frob", "")
         )
         reader = self.choice(("0",) * 12 + ("1", "x", "00", "18446744073709551616"))
@@ -55,6 +55,7 @@ class Chance(random.Random):
             "check": [reader, self.path(), user, mask, *groups], "why": [reader, self.path(), user, mask, *groups],
             "find": [reader, self.path(), user, mask, *groups], "who": [self.path(), mask, *groups],
             "review": [] if self.random() < 0.5 else [self.path()],
+            "delete": [reader, self.path(), user, *groups],
             "show": [reader, self.path()], "list": [] if self.random() < 0.5 else [self.path()],
             "open": ["1", "O:BAG:SYD:"],
         }.get(command, [])

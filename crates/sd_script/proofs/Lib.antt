@@ -1,6 +1,8 @@
 pub mod Askings
 pub mod Beginnings
 pub mod Cutting
+pub mod Deleted
+pub mod DeletedAsChecked
 pub mod Dumping
 pub mod Found
 pub mod Granted

@@ -25,6 +25,7 @@ use Rattle.sd_desk.specs.declared.request.Request.TheVariants as requests
 use Rattle.sd_desk.specs.declared.start.StartError.{StartError}
 use Rattle.sd_desk.specs.declared.start.StartError.TheVariants as starts
 use Rattle.sd_answer.specs.Answer.{line}
+use Rattle.sd_script.specs.Deletion.{delete_right, deletion_line, deletion_reply, parent_grants}
 use Rattle.sd_script.specs.Dump.{IsDump}
 use Rattle.sd_script.specs.Fault.{line_of_fault}
 use Rattle.sd_script.specs.Find.{found_in, found_reply}
@@ -35,7 +36,7 @@ use Rattle.sd_lines.specs.Answers.{AreAnswered}
 use Rattle.sd_script.specs.Output.{is_open, manner_of, IsOpened, IsDone, IsTold, IsNext, begun, closing_of}
 use Rattle.sd_script.specs.Reply.{check_line, counted_line, refused_line, reply_line, seen_line, shown_line, start_error_line}
 use Rattle.sd_script.specs.declared.asked.Asked.{Asked}
-use Rattle.sd_script.specs.declared.asked.Asked.TheVariants.{Opening, Asking, Explaining, Finding, Viewing, Importing}
+use Rattle.sd_script.specs.declared.asked.Asked.TheVariants.{Opening, Asking, Explaining, Finding, Deleting, Viewing, Importing}
 use Rattle.sd_script.specs.declared.carried.Carried.{Carried}
 use Rattle.sd_script.specs.declared.manner.Manner.{Manner}
 use Rattle.sd_script.specs.declared.paths.PathSpelling.{PathSpelling}
@@ -165,6 +166,20 @@ one_found paths old reader names t asked (replies.Shown seen d) new printed is t
 one_found paths old reader names t asked replies.Memory new printed is text = absurd (cc (text))
 one_found paths old reader names t asked reply new printed is text = absurd is
 
+-- whether a node may be deleted, and the machine then
+abbrev pub deleted : Machine → Bool → ℕ → Names → TokenValue → List ℕ × Machine
+deleted m by_parent reader names t = for_reader m reader
+    (seen_line (length m.published) (deletion_line (answer m.opening m.published names t delete_right) by_parent), with_look m reader)
+
+pub one_deletion : (old : Machine) (by_parent : Bool) (reader : ℕ) (names : Names) (t : TokenValue) (reply : Reply) (new : Machine) (printed : List ℕ)
+    → Steps old (requests.Check reader names t delete_right) reply new → deletion_reply by_parent reply ≡ Some printed
+    → pair printed new ≡ deleted old by_parent reader names t
+one_deletion old by_parent reader names t replies.NoReader new printed is text =
+    printed_is _ printed _ new text is.1 ∙ sym (absent old reader _ is.0)
+one_deletion old by_parent reader names t (replies.Answered given) new printed is text =
+    printed_is _ printed _ new (ap (λ g. deletion_reply by_parent (replies.Answered g)) (sym is.1) ∙ text) is.2 ∙ sym (there old reader _ is.0)
+one_deletion old by_parent reader names t reply new printed is text = absurd is
+
 -- ---- openings
 
 errors-one : (e f : StartError) (readers : ℕ) (due : Option EditRefusal) (p q : List ℕ) → IsStartError e readers due → IsStartError f readers due
@@ -262,6 +277,11 @@ done-one (Opened paths m) (Finding reader names t asked) p q x y one other =
     let same = one_found paths m reader names t asked one.0 one.1 p one.2 one.3 ∙ sym (one_found paths m reader names t asked other.0 other.1 q other.2 other.3) in
     (λ plain. ap (λ (z : List ℕ × Machine). z.0) same, one.4 ∙ ap (λ (z : List ℕ × Machine). Opened paths z.1) same ∙ sym other.4)
 done-one (Closed manner) (Finding reader names t asked) p q x y one other = absurd one
+done-one (Opened paths m) (Deleting reader names t) p q x y one other =
+    let by_parent = parent_grants m.opening m.published names t in
+    let same = one_deletion m by_parent reader names t one.0 one.1 p one.2 one.3 ∙ sym (one_deletion m by_parent reader names t other.0 other.1 q other.2 other.3) in
+    (λ plain. ap (λ (z : List ℕ × Machine). z.0) same, one.4 ∙ ap (λ (z : List ℕ × Machine). Opened paths z.1) same ∙ sym other.4)
+done-one (Closed manner) (Deleting reader names t) p q x y one other = absurd one
 done-one (Opened paths m) (Viewing view) p q x y one other = (λ plain. viewed-one paths m view p q plain one.0 other.0, one.1 ∙ sym other.1)
 done-one (Closed manner) (Viewing view) p q x y one other = absurd one
 done-one (Opened paths m) (Importing e path inherited) p q x y one other =

@@ -15,11 +15,11 @@ use Rattle.sd_script.specs.Fault.{Reading, Then}
 use Rattle.sd_script.specs.Lines.{words_of}
 use Rattle.sd_script.specs.Output.{is_open, line_asks_in}
 use Rattle.sd_script.specs.declared.asked.Asked.{Asked}
-use Rattle.sd_script.specs.declared.asked.Asked.TheVariants.{Opening, Asking, Explaining, Finding, Viewing, Importing}
+use Rattle.sd_script.specs.declared.asked.Asked.TheVariants.{Opening, Asking, Explaining, Finding, Deleting, Viewing, Importing}
 use Rattle.sd_script.specs.declared.asked.Question.{Question}
 use Rattle.sd_script.specs.declared.asked.Question.TheVariants as questions
 use Rattle.sd_script.specs.declared.command.CommandName.{CommandName}
-use Rattle.sd_script.specs.declared.command.CommandName.TheVariants.{Open, AddContainer, AddObject, SetOwner, SetGroup, SetDacl, Remove, Protect, Move, Publish, Tell, Learn, Check, Why, Find, Show, ListNodes, Dump, Who, Review, ImportNode}
+use Rattle.sd_script.specs.declared.command.CommandName.TheVariants.{Open, AddContainer, AddObject, SetOwner, SetGroup, SetDacl, Remove, Protect, Move, Publish, Tell, Learn, Check, Why, Find, Show, ListNodes, Dump, Who, Review, ImportNode, Delete}
 use Rattle.sd_script.specs.declared.fault.LineFault.TheVariants as faults
 use Rattle.sd_script.specs.declared.importing.Import.{Import}
 use Rattle.sd_script.specs.declared.paths.PathSpelling.{PathSpelling}
@@ -38,6 +38,7 @@ opens (Opening readers root) = true
 opens (Asking r) = false
 opens (Explaining reader path token asked) = false
 opens (Finding reader path token asked) = false
+opens (Deleting reader path token) = false
 opens (Viewing view) = false
 opens (Importing edit path inherited) = false
 
@@ -116,6 +117,7 @@ words_open Who (at ∷ asked ∷ words) = λ p m groups. refl
 words_open Review [] = λ p. refl
 words_open Review (at ∷ []) = λ p. refl
 words_open ImportNode (kind ∷ at ∷ sddl ∷ []) = imports_open at sddl (kind_named kind)
+words_open Delete (reader ∷ at ∷ user ∷ words) = λ i p s t. refl
 words_open name arguments = tt
 
 untimely_is : (is_open : Bool) (name : CommandName) → is_untimely is_open name ≡ (if is_opening name then is_open else not is_open)

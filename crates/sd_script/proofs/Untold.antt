@@ -2,7 +2,7 @@
 use Rattle.std.proofs.Common.{◌≡◌, ◌⊎◌, ℕ, List, Result, Ok, Err, OnErr, inl, inr}
 use Rattle.sd_script.specs.Output.{IsDone, IsMade, IsTold, IsUntold}
 use Rattle.sd_script.specs.declared.asked.Asked.{Asked}
-use Rattle.sd_script.specs.declared.asked.Asked.TheVariants.{Opening, Asking, Explaining, Finding, Viewing, Importing}
+use Rattle.sd_script.specs.declared.asked.Asked.TheVariants.{Opening, Asking, Explaining, Finding, Deleting, Viewing, Importing}
 use Rattle.sd_script.specs.declared.session.Session.{Session}
 use Rattle.sd_script.specs.declared.session.Session.TheVariants.{Closed, Opened}
 
@@ -15,6 +15,8 @@ made (Opened paths m) new (Explaining reader path token asked) printed (reply, m
 made (Closed manner) new (Explaining reader path token asked) printed done = absurd done
 made (Opened paths m) new (Finding reader path token asked) printed (reply, machine, steps, said, is) = inr (reply, machine, steps, is)
 made (Closed manner) new (Finding reader path token asked) printed done = absurd done
+made (Opened paths m) new (Deleting reader path token) printed (reply, machine, steps, said, is) = inr (reply, machine, steps, is)
+made (Closed manner) new (Deleting reader path token) printed done = absurd done
 made (Opened paths m) new (Viewing view) printed (viewed, is) = inl is
 made (Closed manner) new (Viewing view) printed done = absurd done
 made (Opened paths m) new (Importing edit path inherited) printed (reply, machine, steps, said, is) = inr (reply, machine, steps, is)

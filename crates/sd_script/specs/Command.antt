@@ -21,16 +21,18 @@ use Rattle.sd_script.specs.Fault.{Reading, Just, Then, UnlessMemory}
 use Rattle.sd_script.specs.Lines.{words_of}
 use Rattle.sd_answer.specs.Word.{texts}
 use Rattle.sd_script.specs.declared.asked.Asked.{Asked}
-use Rattle.sd_script.specs.declared.asked.Asked.TheVariants.{Opening, Asking, Explaining, Finding, Viewing, Importing}
+use Rattle.sd_script.specs.declared.asked.Asked.TheVariants.{Opening, Asking, Explaining, Finding, Deleting, Viewing}
+use Rattle.sd_script.specs.declared.asked.Asked.TheVariants.{Importing}
 use Rattle.sd_script.specs.declared.asked.OnGroups.{OnGroups}
 use Rattle.sd_script.specs.declared.asked.Question.{Question}
 use Rattle.sd_script.specs.declared.asked.Question.TheVariants as questions
+use Rattle.sd_script.specs.declared.deletion.OnUser.{OnUser}
 use Rattle.sd_script.specs.declared.command.Command.{Command}
 use Rattle.sd_script.specs.declared.command.CommandName.{CommandName}
 use Rattle.sd_script.specs.declared.command.CommandName.TheVariants.{Open, AddContainer, AddObject, SetOwner, SetGroup}
 use Rattle.sd_script.specs.declared.command.CommandName.TheVariants.{SetDacl, Remove, Protect, Move, Publish, Tell}
 use Rattle.sd_script.specs.declared.command.CommandName.TheVariants.{Learn, Check, Why, Find, Show, ListNodes, Dump}
-use Rattle.sd_script.specs.declared.command.CommandName.TheVariants.{Who, Review, ImportNode}
+use Rattle.sd_script.specs.declared.command.CommandName.TheVariants.{Who, Review, ImportNode, Delete}
 use Rattle.sd_script.specs.declared.fault.LineFault.TheVariants as faults
 use Rattle.sd_script.specs.declared.fault.Stop.{Stop}
 use Rattle.sd_script.specs.declared.importing.Import.{Import}
@@ -75,7 +77,7 @@ names =
     ∷ (codes "move", Move) ∷ (codes "publish", Publish) ∷ (codes "tell", Tell) ∷ (codes "learn", Learn)
     ∷ (codes "check", Check) ∷ (codes "why", Why) ∷ (codes "find", Find) ∷ (codes "show", Show)
     ∷ (codes "list", ListNodes) ∷ (codes "dump", Dump) ∷ (codes "who", Who) ∷ (codes "review", Review)
-    ∷ (codes "import", ImportNode) ∷ []
+    ∷ (codes "import", ImportNode) ∷ (codes "delete", Delete) ∷ []
 
 -- the kind of node that the word names
 abbrev pub kind_named : List ℕ → Option NodeKind
@@ -103,6 +105,18 @@ abbrev pub posed : Question → List ℕ → List ℕ → List ℕ → List ℕ 
 posed question reader at user asked words =
     Number reader (λ i. Path at (λ p. Sid user (λ s. Mask asked (λ m. Token s words
     (λ t. Asks (poses question i p t m))))))
+
+-- a reader, a path, a user and words: whether the user may delete the node
+abbrev pub user_given : List (List ℕ) → Option (List ℕ × List ℕ × List ℕ × List (List ℕ))
+user_given (reader ∷ at ∷ user ∷ words) = Some (reader, at, user, words)
+user_given arguments = None
+
+abbrev pub deletes : List ℕ × List ℕ × List ℕ × List (List ℕ) → Arguments
+deletes given =
+    Number given.0 (λ i. Path given.1 (λ p. Sid given.2 (λ s. Token s given.3 (λ t. Asks (Deleting i p t)))))
+
+abbrev pub asks_delete : List (List ℕ) → Option Arguments
+asks_delete arguments = option_map deletes (user_given arguments)
 
 -- what a node that comes from elsewhere asks for
 abbrev pub imports : List ℕ → List ℕ → NodeKind → Arguments
@@ -151,6 +165,7 @@ asks_taking name arguments = None
 
 abbrev pub asks : CommandName → List (List ℕ) → Option Arguments
 asks Who arguments = asks_who arguments
+asks Delete arguments = asks_delete arguments
 asks name arguments = asks_taking name arguments
 
 -- a store is opened where none is open, and each other command is for where one is
@@ -170,6 +185,9 @@ is_empty word = length word == 0
 
 abbrev pub command_named : List ℕ → Option CommandName
 command_named word = beside word names
+
+abbrev pub on_user_value : OnUser → List ℕ × List ℕ × List ℕ × List (List ℕ)
+on_user_value given = (given.reader.now, given.path.now, given.user.now, texts given.words.now)
 
 abbrev pub on_groups_value : OnGroups → List ℕ × List ℕ × List (List ℕ)
 on_groups_value given = (given.path.now, given.mask.now, texts given.words.now)

@@ -1,5 +1,5 @@
 -- What follows from the output of a script.
-use Rattle.std.specs.Prelude.{◌≡◌, ℕ, Bool, true, false, List, [], ◌++◌, length, Some, Ok}
+use Rattle.std.specs.Prelude.{◌≡◌, ℕ, Bool, true, false, List, [], ◌++◌, length, Some, Ok, codes}
 use Rattle.std.specs.List.{All}
 use Rattle.std.specs.Str.Lines.{lines}
 use Rattle.sd_sid.specs.Mask.{holds}
@@ -10,11 +10,15 @@ use Rattle.sd_tree.specs.Plain.{row_at}
 use Rattle.sd_tree.specs.declared.node.Row.{Row}
 use Rattle.sd_desk.specs.Machine.{Machine, accepted}
 use Rattle.sd_desk.specs.declared.request.Request.TheVariants.{Check}
+use Rattle.sd_answer.specs.Answer.{line, mask_digits}
 use Rattle.sd_script.specs.Command.{line_asks}
+use Rattle.sd_script.specs.Deletion.{delete_right}
 use Rattle.sd_script.specs.Output.{IsAnswered, IsDone, Prints}
+use Rattle.sd_script.specs.Reply.{seen_line}
 use Rattle.sd_script.specs.Review.{IsNodeReview, IsReview, Trees, reviewed_line}
 use Rattle.sd_script.specs.declared.asked.Asked.{Asked}
-use Rattle.sd_script.specs.declared.asked.Asked.TheVariants.{Opening, Asking, Explaining, Finding, Viewing, Importing}
+use Rattle.sd_script.specs.declared.asked.Asked.TheVariants.{Opening, Asking, Explaining, Finding, Deleting, Viewing}
+use Rattle.sd_script.specs.declared.asked.Asked.TheVariants.{Importing}
 use Rattle.sd_script.specs.declared.manner.Manner.{Manner}
 use Rattle.sd_script.specs.declared.paths.PathSpelling.{PathSpelling}
 use Rattle.sd_script.specs.declared.session.Session.{Session}
@@ -28,6 +32,7 @@ is_analysis (Opening readers root) = false
 is_analysis (Asking request) = false
 is_analysis (Explaining reader path token asked) = false
 is_analysis (Finding reader path token asked) = false
+is_analysis (Deleting reader path token) = false
 is_analysis (Viewing (Lists path)) = false
 is_analysis (Viewing Dump) = false
 is_analysis (Viewing (Who path groups asked)) = true
@@ -61,6 +66,24 @@ BeginsAsCheck =
     → IsDone (Opened paths old) (Asking (Check reader path token asked)) checked one
     → IsDone (Opened paths old) (Explaining reader path token asked) explained other
     → ((reasons : List ℕ) × (explained ≡ checked ++ reasons)) × (other ≡ one)
+
+-- a check of a published tree of so many edits is answered by a grant
+abbrev pub IsGranted : ℕ → List ℕ → Type 0
+IsGranted len printed = (mask : ℕ) × (printed ≡ seen_line len (line (codes "granted " ++ mask_digits mask)))
+
+abbrev pub by_node_line : ℕ → List ℕ
+by_node_line len = seen_line len (line (codes "granted by node"))
+
+-- `delete` is granted by the node just where `check` for DELETE is granted, and leaves the same store
+abbrev pub DeletesAsChecked : Type 0
+DeletesAsChecked =
+    (paths : PathSpelling) (old : Machine) (reader : ℕ) (path : Names) (token : TokenValue)
+    (checked deleted : List ℕ) (one other : Session)
+    → IsDone (Opened paths old) (Asking (Check reader path token delete_right)) checked one
+    → IsDone (Opened paths old) (Deleting reader path token) deleted other
+    → (IsGranted (length old.published) checked → deleted ≡ by_node_line (length old.published))
+    × (deleted ≡ by_node_line (length old.published) → IsGranted (length old.published) checked)
+    × (other ≡ one)
 
 -- a node of the new tree for which a review prints no line: no check of it is answered otherwise, whatever the token
 -- is. Each bit of a request counts; MAXIMUM_ALLOWED, place 25, is none that is granted

@@ -8,6 +8,7 @@ pub mod Output
 pub mod Reply
 pub mod Ids
 pub mod Listing
+pub mod Deletion
 pub mod Dump
 pub mod Addition
 pub mod Paths

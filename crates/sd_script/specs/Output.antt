@@ -7,10 +7,11 @@ use Rattle.sd_tree.specs.declared.opening.RootSpec.{RootSpec}
 use Rattle.sd_desk.specs.Machine.{Machine, Steps, started}
 use Rattle.sd_desk.specs.Starts.{IsReaderCount, IsStartError}
 use Rattle.sd_desk.specs.declared.request.Reply.{Reply}
-use Rattle.sd_desk.specs.declared.request.Request.TheVariants.{Edit as Edits, Show}
+use Rattle.sd_desk.specs.declared.request.Request.TheVariants.{Check, Edit as Edits, Show}
 use Rattle.sd_desk.specs.declared.start.StartError.{StartError}
 use Rattle.sd_lines.specs.Answers.{AreAnswered}
 use Rattle.sd_script.specs.Command.{line_asks}
+use Rattle.sd_script.specs.Deletion.{delete_right, deletion_reply, parent_grants}
 use Rattle.sd_script.specs.Fault.{Reading, line_of_fault}
 use Rattle.sd_script.specs.Find.{found_reply}
 use Rattle.sd_script.specs.Importing.{IsImported}
@@ -21,7 +22,7 @@ use Rattle.sd_script.specs.Reply.{explained_reply}
 use Rattle.sd_script.specs.View.{IsViewed}
 use Rattle.sd_script.specs.declared.asked.Asked.{Asked}
 use Rattle.sd_script.specs.declared.asked.Asked.TheVariants.{Opening as Opens, Asking, Explaining, Finding, Viewing}
-use Rattle.sd_script.specs.declared.asked.Asked.TheVariants.{Importing}
+use Rattle.sd_script.specs.declared.asked.Asked.TheVariants.{Deleting, Importing}
 use Rattle.sd_script.specs.declared.carried.Carried.{Carried}
 use Rattle.sd_script.specs.declared.fault.LineFault.{LineFault}
 use Rattle.sd_script.specs.declared.listing.Which.TheVariants.{Granting}
@@ -65,6 +66,10 @@ IsDone (Opened paths old) (Explaining reader path token asked) printed new =
 IsDone (Opened paths old) (Finding reader path token asked) printed new =
     (reply : Reply) × (machine : Machine) × Steps old (Show reader path) reply machine
     × (found_reply paths machine path (Granting token asked) reply ≡ Some printed) × (new ≡ Opened paths machine)
+IsDone (Opened paths old) (Deleting reader path token) printed new =
+    (reply : Reply) × (machine : Machine) × Steps old (Check reader path token delete_right) reply machine
+    × (deletion_reply (parent_grants old.opening old.published path token) reply ≡ Some printed)
+    × (new ≡ Opened paths machine)
 IsDone (Opened paths old) (Viewing view) printed new = IsViewed paths old view printed × (new ≡ Opened paths old)
 IsDone (Opened paths old) (Importing edit path inherited) printed new =
     (reply : Reply) × (machine : Machine) × Steps old (Edits edit) reply machine
@@ -110,6 +115,9 @@ IsMade (Opened paths old) (Explaining reader path token asked) new =
     (reply : Reply) × (machine : Machine) × Steps old (Show reader path) reply machine × (new ≡ Opened paths machine)
 IsMade (Opened paths old) (Finding reader path token asked) new =
     (reply : Reply) × (machine : Machine) × Steps old (Show reader path) reply machine × (new ≡ Opened paths machine)
+IsMade (Opened paths old) (Deleting reader path token) new =
+    (reply : Reply) × (machine : Machine) × Steps old (Check reader path token delete_right) reply machine
+    × (new ≡ Opened paths machine)
 IsMade (Opened paths old) (Importing edit path inherited) new =
     (reply : Reply) × (machine : Machine) × Steps old (Edits edit) reply machine × (new ≡ Opened paths machine)
 IsMade old asked new = ⊥

@@ -1,18 +1,20 @@
 //! What a line asks for, and how a command's arguments are parsed.
 ghost use Rattle.std.specs.Prelude.{◌≡◌, ◌∷◌, [], Some, option_map};
-ghost use Rattle.sd_script.specs.Command.{Parses, asks, asks_taking, asks_who, imports, kind_named, posed, poses};
+ghost use Rattle.sd_script.specs.Command.{Parses, asks, asks_taking, asks_who, kind_named, posed, poses};
 ghost use Rattle.sd_script.specs.Command.{asks_groups, groups_given, on_groups_value, reads};
 ghost use Rattle.sd_script.specs.Fault.{UnlessMemory};
-ghost use Rattle.sd_script.specs.declared.command.CommandName.TheVariants.{Open, AddContainer, AddObject, SetOwner};
-ghost use Rattle.sd_script.specs.declared.command.CommandName.TheVariants.{SetGroup, SetDacl, Remove, Protect, Move};
-ghost use Rattle.sd_script.specs.declared.command.CommandName.TheVariants.{Learn, Show, ListNodes, Review};
+ghost use Rattle.sd_script.specs.declared.command.CommandName.TheVariants.{Open, Learn, Show, ListNodes, Review};
 ghost use Rattle.sd_answer.specs.Word.{texts};
 ghost use Rattle.sd_script.specs.declared.paths.PathSpelling.{PathSpelling as Spelling};
 
-use crate::argument::{base_in, dacl_in, mask_in, node_in, number_in, sid_in, token_in};
+use crate::argument::{base_in, mask_in, node_in, number_in, sid_in, token_in};
 use crate::command::{Command, CommandName};
+use crate::deletion::deletion;
+use crate::edits::{
+    added_container, added_object, moved, protected, removed, set_dacl, set_group, set_owner,
+};
 use crate::fault::Stop;
-use crate::importing::{Import, addition, import_in};
+use crate::importing::importing;
 use crate::paths::{PathSpelling, path_in};
 use crate::view::View;
 use sd_check::Token;
@@ -44,6 +46,13 @@ pub enum Asked {
         path: Path,
         token: Token,
         asked: Mask,
+    },
+    /// Of the store that is open, whether a reader's user may delete a node: by DELETE on it, or by FILE_DELETE_CHILD
+    /// on its parent ([MS-FSA] 2.1.5.1.2.1).
+    Deleting {
+        reader: u64,
+        path: Path,
+        token: Token,
     },
     /// A view of the published tree.
     Viewing(View),
@@ -82,6 +91,7 @@ pub(crate) fn asked_by(
 {
     match command.name {
         CommandName::Who => who(alloc, paths, command.arguments),
+        CommandName::Delete => deletion(alloc, paths, command.arguments),
         _ => taking(alloc, paths, command.name, command.arguments),
     }
 }
@@ -244,83 +254,6 @@ fn opening(alloc: Global, readers: &str, sddl: &str) -> Result<Asked, Stop>
     Ok(Asked::Opening { readers, root })
 }
 
-fn added_container(
-    alloc: Global,
-    paths: PathSpelling,
-    path: &str,
-    sddl: &str,
-) -> Result<Asked, Stop>
-    ensures { Parses paths (asks_taking AddContainer (path.now ∷ sddl.now ∷ [])) (Some result) }
-{
-    let path = path_in(alloc, paths, path)?;
-    let RootSpec { owner, group, dacl } = node_in(alloc, sddl)?;
-    Ok(Asked::Asking(Request::Edit(Edit::AddContainer {
-        path,
-        owner,
-        group,
-        dacl,
-    })))
-}
-
-fn added_object(alloc: Global, paths: PathSpelling, path: &str, sddl: &str) -> Result<Asked, Stop>
-    ensures { Parses paths (asks_taking AddObject (path.now ∷ sddl.now ∷ [])) (Some result) }
-{
-    let path = path_in(alloc, paths, path)?;
-    let RootSpec { owner, group, dacl } = node_in(alloc, sddl)?;
-    Ok(Asked::Asking(Request::Edit(Edit::AddObject {
-        path,
-        owner,
-        group,
-        dacl,
-    })))
-}
-
-fn set_owner(alloc: Global, paths: PathSpelling, path: &str, sid: &str) -> Result<Asked, Stop>
-    ensures { Parses paths (asks_taking SetOwner (path.now ∷ sid.now ∷ [])) (Some result) }
-{
-    let path = path_in(alloc, paths, path)?;
-    let owner = sid_in(sid)?;
-    Ok(Asked::Asking(Request::Edit(Edit::SetOwner { path, owner })))
-}
-
-fn set_group(alloc: Global, paths: PathSpelling, path: &str, sid: &str) -> Result<Asked, Stop>
-    ensures { Parses paths (asks_taking SetGroup (path.now ∷ sid.now ∷ [])) (Some result) }
-{
-    let path = path_in(alloc, paths, path)?;
-    let group = sid_in(sid)?;
-    Ok(Asked::Asking(Request::Edit(Edit::SetGroup { path, group })))
-}
-
-fn set_dacl(alloc: Global, paths: PathSpelling, path: &str, sddl: &str) -> Result<Asked, Stop>
-    ensures { Parses paths (asks_taking SetDacl (path.now ∷ sddl.now ∷ [])) (Some result) }
-{
-    let path = path_in(alloc, paths, path)?;
-    let dacl = dacl_in(alloc, sddl)?;
-    Ok(Asked::Asking(Request::Edit(Edit::SetDacl { path, dacl })))
-}
-
-fn removed(alloc: Global, paths: PathSpelling, path: &str) -> Result<Asked, Stop>
-    ensures { Parses paths (asks_taking Remove (path.now ∷ [])) (Some result) }
-{
-    let path = path_in(alloc, paths, path)?;
-    Ok(Asked::Asking(Request::Edit(Edit::Remove { path })))
-}
-
-fn protected(alloc: Global, paths: PathSpelling, path: &str) -> Result<Asked, Stop>
-    ensures { Parses paths (asks_taking Protect (path.now ∷ [])) (Some result) }
-{
-    let path = path_in(alloc, paths, path)?;
-    Ok(Asked::Asking(Request::Edit(Edit::ProtectKeeping { path })))
-}
-
-fn moved(alloc: Global, paths: PathSpelling, source: &str, target: &str) -> Result<Asked, Stop>
-    ensures { Parses paths (asks_taking Move (source.now ∷ target.now ∷ [])) (Some result) }
-{
-    let source = path_in(alloc, paths, source)?;
-    let target = path_in(alloc, paths, target)?;
-    Ok(Asked::Asking(Request::Edit(Edit::Move { source, target })))
-}
-
 fn learned(reader: &str, length: &str) -> Result<Asked, Stop>
     ensures { (paths : Spelling) → Parses paths (asks_taking Learn (reader.now ∷ length.now ∷ [])) (Some result) }
 {
@@ -416,24 +349,4 @@ fn reviewed(alloc: Global, paths: PathSpelling, path: &str) -> Result<Asked, Sto
 {
     let path = path_in(alloc, paths, path)?;
     Ok(Asked::Viewing(View::Review { path }))
-}
-
-fn importing(
-    alloc: Global,
-    paths: PathSpelling,
-    kind: NodeKind,
-    path: &str,
-    sddl: &str,
-) -> Result<Asked, Stop>
-    ensures { UnlessMemory (reads paths (imports path.now sddl.now kind)) result }
-{
-    let path = path_in(alloc, paths, path)?;
-    let Import { node, inherited } = import_in(alloc, sddl)?;
-    let added = path.copy(alloc)?;
-    let edit = addition(kind, added, node);
-    Ok(Asked::Importing {
-        edit,
-        path,
-        inherited,
-    })
 }

@@ -28,6 +28,7 @@ pub(crate) enum CommandName {
     Who,
     Review,
     ImportNode,
+    Delete,
 }
 
 /// A command with its arguments.
@@ -63,6 +64,7 @@ impl CommandName {
             "who" => Some(CommandName::Who),
             "review" => Some(CommandName::Review),
             "import" => Some(CommandName::ImportNode),
+            "delete" => Some(CommandName::Delete),
             _ => None,
         }
     }

@@ -5,6 +5,7 @@ ghost use Rattle.sd_acl.specs.Descriptor.{descriptor_of};
 ghost use Rattle.sd_script.specs.Addition.{addition as addition_of, row_of};
 ghost use Rattle.sd_script.specs.Argument.{import_of as import_from, imported, imported_dacl as imported_dacl_of};
 ghost use Rattle.sd_script.specs.Argument.{inherited_in as inherited_in_of};
+ghost use Rattle.sd_script.specs.Command.{imports, reads};
 ghost use Rattle.sd_script.specs.Fault.{UnlessMemory};
 ghost use Rattle.sd_script.specs.Importing.{IsImported, inherited_by};
 ghost use Rattle.sd_desk.specs.Machine.{Machine, accepted};
@@ -12,7 +13,9 @@ ghost use Rattle.sd_tree.specs.Answers.{descriptor_at};
 ghost use Rattle.sd_tree.specs.Journal.{replay};
 
 use crate::argument::own_dacl;
+use crate::asked::Asked;
 use crate::fault::{LineFault, Stop};
+use crate::paths::{PathSpelling, path_in};
 use crate::reply::reply_line;
 use crate::same::same_entries;
 use sd_acl::{Ace, Dacl, Descriptor, canonicalize};
@@ -28,8 +31,29 @@ pub(crate) struct Import {
     pub(crate) inherited: Entries,
 }
 
+/// A node of the kind with the descriptor of a text, and what it had inherited.
+pub(crate) fn importing(
+    alloc: Global,
+    paths: PathSpelling,
+    kind: NodeKind,
+    path: &str,
+    sddl: &str,
+) -> Result<Asked, Stop>
+    ensures { UnlessMemory (reads paths (imports path.now sddl.now kind)) result }
+{
+    let path = path_in(alloc, paths, path)?;
+    let Import { node, inherited } = import_in(alloc, sddl)?;
+    let added = path.copy(alloc)?;
+    let edit = addition(kind, added, node);
+    Ok(Asked::Importing {
+        edit,
+        path,
+        inherited,
+    })
+}
+
 /// The text of a descriptor ([MS-DTYP] 2.5.1) with an owner and a group, as a node had it.
-pub(crate) fn import_in(alloc: Global, word: &str) -> Result<Import, Stop>
+fn import_in(alloc: Global, word: &str) -> Result<Import, Stop>
     ensures { UnlessMemory (imported word.now) result }
 {
     match read_sddl(alloc, word) {
@@ -86,7 +110,7 @@ fn inherited_in(alloc: Global, dacl: &Dacl) -> Result<Vec<Ace>, AllocError>
 }
 
 /// The edit that adds a node of the kind with this of its own.
-pub(crate) fn addition(kind: NodeKind, path: Path, node: RootSpec) -> Edit
+fn addition(kind: NodeKind, path: Path, node: RootSpec) -> Edit
     ensures { result ≡ addition_of kind path (row_of kind node) }
 {
     let RootSpec { owner, group, dacl } = node;

@@ -1,7 +1,7 @@
 //! What follows from the output of a script. A law is the contract of a function that does nothing.
 ghost use Rattle.sd_script.specs.Ids.{NoCommandWithoutAnId};
-ghost use Rattle.sd_script.specs.Laws.{BeginsAsCheck, HasOneAnswer, HasOneOutput, SilentNodeIsUnchanged};
-ghost use Rattle.sd_script.specs.Laws.{SilentReviewChangesNothing};
+ghost use Rattle.sd_script.specs.Laws.{BeginsAsCheck, DeletesAsChecked, HasOneAnswer, HasOneOutput};
+ghost use Rattle.sd_script.specs.Laws.{SilentNodeIsUnchanged, SilentReviewChangesNothing};
 
 /// A line leaves one store and has one answer, unless it asks who is granted a right, or who is by the pending edits:
 /// those lines are exact in what they say.
@@ -17,6 +17,12 @@ pub fn texts_have_one_output()
 /// What `why` tells begins with what `check` tells of the same question, and leaves the same store.
 pub fn why_begins_as_check()
     ensures { BeginsAsCheck }
+{}
+
+/// `delete` is granted by the node just where `check` for DELETE is granted ([MS-DTYP] 2.5.3.2), and leaves the same
+/// store.
+pub fn deletes_as_checked()
+    ensures { DeletesAsChecked }
 {}
 
 /// With ids a line whose first word is no id changes nothing: it opens no store, edits none, and raises no floor.

@@ -20,7 +20,9 @@ mod asked;
 mod carried;
 mod command;
 mod compared;
+mod deletion;
 mod dump;
+mod edits;
 mod fault;
 mod find;
 mod ids;
@@ -49,8 +51,8 @@ pub use fault::{LineFault, Stop, line_of_fault};
 pub use ids::LINES;
 pub use importing::import_line;
 pub use laws::{
-    lines_have_one_answer, no_command_without_an_id, silent_review_changes_nothing,
-    texts_have_one_output, why_begins_as_check,
+    deletes_as_checked, lines_have_one_answer, no_command_without_an_id,
+    silent_review_changes_nothing, texts_have_one_output, why_begins_as_check,
 };
 pub use line::read_line;
 pub use lines::is_silent;

@@ -181,7 +181,7 @@ fn line_of(
 }
 
 /// Whether a check is granted.
-fn grants(reply: CheckReply) -> bool
+pub(crate) fn grants(reply: CheckReply) -> bool
     ensures { result ≡ grants reply }
 {
     matches!(reply, CheckReply::Verdict(Verdict::Granted(_)))

@@ -2,11 +2,12 @@
 ghost use Rattle.std.specs.Prelude.{◌≡◌, ◌⊎◌, true, IfOk, OnErr, string_bytes};
 ghost use Rattle.sd_script.specs.Output.{IsAnswered, IsDone, IsMade, IsNext, IsTold, IsUnanswered, IsUntold};
 ghost use Rattle.sd_script.specs.Output.{PrintsAndCounts, is_open};
-ghost use Rattle.sd_script.specs.declared.asked.Asked.TheVariants.{Asking, Explaining, Finding, Importing, Opening};
-ghost use Rattle.sd_script.specs.declared.asked.Asked.TheVariants.{Viewing};
+ghost use Rattle.sd_script.specs.declared.asked.Asked.TheVariants.{Asking, Deleting, Explaining, Finding, Importing};
+ghost use Rattle.sd_script.specs.declared.asked.Asked.TheVariants.{Opening, Viewing};
 
 use crate::asked::Asked;
 use crate::carried::Carried;
+use crate::deletion::{DELETE, deletion_reply, parent_grants};
 use crate::fault::{Stop, line_of_fault};
 use crate::find::found_reply;
 use crate::ids::{LINES, Script};
@@ -95,6 +96,13 @@ fn told(alloc: Global, session: &mut Session, line: &[u8]) -> Result<String, All
                 asked,
             },
         ) => find(alloc, session, reader, path, token, asked),
+        Ok(
+            Asked::Deleting {
+                reader,
+                path,
+                token,
+            },
+        ) => delete(alloc, session, reader, path, token),
         Ok(Asked::Viewing(asked)) => viewed(alloc, session, &asked),
         Ok(
             Asked::Importing {
@@ -193,6 +201,36 @@ fn find(
             let copy = path.copy(alloc)?;
             let reply = desk.step(&Request::Show { reader, path: copy });
             found_reply(alloc, *paths, desk.published(), &path, &which, &reply)
+        }
+        Session::Closed(_) => unreachable!(),
+    }
+}
+
+/// Answers, of the store that is open, whether a reader's user may delete a node. The parent is checked in the tree
+/// that the reader sees.
+fn delete(
+    alloc: Global,
+    session: &mut Session,
+    reader: u64,
+    path: Path,
+    token: Token,
+) -> Result<String, AllocError>
+    requires { is_open session.old ≡ true }
+    ensures done { IfOk result
+        (λ text. IsDone session.old (Deleting reader path token) (string_bytes text) session.new) }
+    ensures failed { OnErr result ((session.new ≡ session.old)
+        ⊎ IsMade session.old (Deleting reader path token) session.new) }
+{
+    match session {
+        Session::Opened(_, desk) => {
+            let by_parent = parent_grants(alloc, desk.published(), &path, &token)?;
+            let reply = desk.step(&Request::Check {
+                reader,
+                path,
+                token,
+                asked: DELETE,
+            });
+            deletion_reply(alloc, by_parent, &reply)
         }
         Session::Closed(_) => unreachable!(),
     }

@@ -25,7 +25,7 @@ use Rattle.sd_script.specs.Lines.{is_silent}
 use Rattle.sd_script.specs.Output.{IsDone, IsOpened, line_asks_in}
 use Rattle.sd_script.specs.Reply.{counted_line, refused_line, start_error_line}
 use Rattle.sd_script.specs.declared.asked.Asked.{Asked}
-use Rattle.sd_script.specs.declared.asked.Asked.TheVariants.{Opening as Opens, Asking, Explaining, Finding, Viewing, Importing}
+use Rattle.sd_script.specs.declared.asked.Asked.TheVariants.{Opening as Opens, Asking, Explaining, Finding, Deleting, Viewing, Importing}
 use Rattle.sd_script.specs.declared.fault.LineFault.{LineFault}
 use Rattle.sd_script.specs.declared.manner.Manner.{Manner}
 use Rattle.sd_script.specs.declared.paths.PathSpelling.{PathSpelling}
@@ -183,6 +183,7 @@ module _ (n m : ℕ) (text : List ℕ) where
   asking_alike a b (Asking r) p q c d alike asks one other = done_alike a b alike n m r p q c d one other
   asking_alike a b (Explaining reader path token asked) p q c d alike asks one other = stay_alike a b alike _ p q c d one other
   asking_alike a b (Finding reader path token asked) p q c d alike asks one other = stay_alike a b alike _ p q c d one other
+  asking_alike a b (Deleting reader path token) p q c d alike asks one other = stay_alike a b alike _ p q c d one other
   asking_alike a b (Viewing view) p q c d alike asks one other = stay_alike a b alike _ p q c d one other
   asking_alike a b (Importing e path inherited) p q c d alike asks one other = imports_alike a b alike e path inherited p q c d one other
 
@@ -287,6 +288,8 @@ module _ (manner : Manner) (n m : ℕ) (some : IsReaderCount n) (others : IsRead
         absurd (let no = line_opens manner.paths false text (Explaining reader path token asked) asks in cc (no))
     opening_asked (Finding reader path token asked) p q c d asks one other =
         absurd (let no = line_opens manner.paths false text (Finding reader path token asked) asks in cc (no))
+    opening_asked (Deleting reader path token) p q c d asks one other =
+        absurd (let no = line_opens manner.paths false text (Deleting reader path token) asks in cc (no))
     opening_asked (Viewing view) p q c d asks one other = absurd (let no = line_opens manner.paths false text (Viewing view) asks in cc (no))
     opening_asked (Importing e path inherited) p q c d asks one other =
         absurd (let no = line_opens manner.paths false text (Importing e path inherited) asks in cc (no))

@@ -16,7 +16,8 @@ use Rattle.sd_script.specs.Output.{IsDone, IsOpened, line_asks_in, manner_of}
 use Rattle.sd_script.specs.Reply.{check_line, counted_line, seen_line}
 use Rattle.sd_script.specs.Tally.{no_lines, tallied}
 use Rattle.sd_script.specs.declared.asked.Asked.{Asked}
-use Rattle.sd_script.specs.declared.asked.Asked.TheVariants.{Opening as Opens, Asking, Explaining, Finding, Viewing}
+use Rattle.sd_script.specs.declared.asked.Asked.TheVariants.{Opening as Opens, Asking, Explaining, Finding}
+use Rattle.sd_script.specs.declared.asked.Asked.TheVariants.{Deleting, Viewing}
 use Rattle.sd_script.specs.declared.fault.LineFault.{LineFault}
 use Rattle.sd_script.specs.declared.manner.Manner.{Manner}
 use Rattle.sd_script.specs.declared.session.Session.{Session}
@@ -53,6 +54,7 @@ IsDoneInAudit workers old (Asking (Learn reader len)) printed new = IsForScripts
 IsDoneInAudit workers old (Asking (Show reader path)) printed new = IsForScripts old printed new
 IsDoneInAudit workers old (Explaining reader path token asked) printed new = IsForScripts old printed new
 IsDoneInAudit workers old (Finding reader path token asked) printed new = IsForScripts old printed new
+IsDoneInAudit workers old (Deleting reader path token) printed new = IsForScripts old printed new
 IsDoneInAudit workers old (Viewing view) printed new = IsForScripts old printed new
 IsDoneInAudit workers old asked printed new = IsDone old.store asked printed new.store × (new.queries ≡ old.queries)
 

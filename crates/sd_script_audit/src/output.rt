@@ -88,6 +88,7 @@ fn opened_root(
         Ok(Asked::Asking(_)) => unreachable!(),
         Ok(Asked::Explaining { .. }) => unreachable!(),
         Ok(Asked::Finding { .. }) => unreachable!(),
+        Ok(Asked::Deleting { .. }) => unreachable!(),
         Ok(Asked::Viewing(_)) => unreachable!(),
         Ok(Asked::Importing { .. }) => unreachable!(),
         Err(Stop::Fault(fault)) => {

@@ -77,9 +77,12 @@ fn answer_line<J: Naming, T: Wait>(
                 inherited,
             },
         ) => import(alloc, writer, &edit, &path, &inherited),
-        Ok(Asked::Explaining { .. } | Asked::Finding { .. } | Asked::Viewing(_)) => {
-            only_in_scripts(alloc)
-        }
+        Ok(
+            Asked::Explaining { .. }
+            | Asked::Finding { .. }
+            | Asked::Deleting { .. }
+            | Asked::Viewing(_),
+        ) => only_in_scripts(alloc),
         Ok(Asked::Opening { .. }) => unreachable!(),
         Err(Stop::Fault(fault)) => line_of_fault(alloc, fault),
         Err(Stop::Memory) => Err(AllocError),

@@ -185,6 +185,7 @@ none. 'why', 'find', 'list', 'dump', 'who' and 'review' have several, the last o
   why I PATH USER MASK [WORD]...       asks, as reader I, for the reasons of such a check
   show I PATH                          asks, as reader I, for the node's descriptor
   find I PATH USER MASK [WORD]...      asks, as reader I, which nodes at and below the path grant it
+  delete I PATH USER [WORD]...         asks, as reader I, whether the user may delete the node
   list [PATH]                          lists the published nodes at and below the path, or all
   who PATH MASK [WORD]...              prints whom the published node grants which rights
   review [PATH]                        prints which users gain or lose rights by the pending edits
@@ -223,7 +224,7 @@ const AUDIT_NOTES: &str = "\
 Has the output of 'sdstore script', except for these lines:
   open N SDDL                          opens the store with a reader for each worker
   check I PATH USER MASK [WORD]...     is answered at the end, for any number I
-  tell, learn, why, find, show, list, dump, who, review
+  tell, learn, why, find, delete, show, list, dump, who, review
                                        are faults
 At the end all accepted edits are published, and then the checks are answered, in order.
 '--mapping', '--percent' and '--strict' go before 'audit', as before 'script'.

@@ -1,6 +1,6 @@
 -- Where a line asks something of a store, one is open.
 use Rattle.std.proofs.Common.{refl}
-use Rattle.sd_script.specs.declared.asked.Asked.TheVariants.{Asking, Explaining, Finding, Importing, Viewing}
+use Rattle.sd_script.specs.declared.asked.Asked.TheVariants.{Asking, Deleting, Explaining, Finding, Importing, Viewing}
 use Rattle.sd_script.proofs.Timely.{open_where_asked}
 use Rattle.sd_script.proofs.script.told.Goals as goal
 
@@ -23,6 +23,13 @@ find-requires c =
     let standing = rw (c.is_open.ensures, c.manner.ensures) at asked in
     let finding = Finding c.in-Ok-Finding.reader c.in-Ok-Finding.path c.in-Ok-Finding.token c.in-Ok-Finding.asked in
     open_where_asked c.args.session.now c.args.line.now finding refl standing
+
+pub delete-requires : goal.delete-requires
+delete-requires c =
+    let asked = rw (c.in-Ok-Deleting.field-0-is) at c.in-Ok-Deleting.ensures in
+    let standing = rw (c.is_open.ensures, c.manner.ensures) at asked in
+    let deleting = Deleting c.in-Ok-Deleting.reader c.in-Ok-Deleting.path c.in-Ok-Deleting.token in
+    open_where_asked c.args.session.now c.args.line.now deleting refl standing
 
 pub viewed-requires : goal.viewed-requires
 viewed-requires c =

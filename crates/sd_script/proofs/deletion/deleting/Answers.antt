@@ -1,0 +1,46 @@
+-- The arguments are parsed one after another.
+use Rattle.std.proofs.Common.{Err, inl, refl}
+use Rattle.std.proofs.lemmas.Result.{err_from_is_err_and}
+use Rattle.sd_answer.specs.Word.{texts}
+use Rattle.sd_script.specs.Argument.{number, path, sid, token}
+use Rattle.sd_script.specs.Command.{Asks, Path, Sid, Token, reads}
+use Rattle.sd_script.specs.declared.asked.Asked.TheVariants.{Deleting}
+use Rattle.sd_script.specs.declared.fault.Stop.TheVariants.{Fault}
+use Rattle.sd_script.proofs.Readings.{Then-fault, Then-value, Then-stop}
+use Rattle.sd_script.proofs.deletion.deleting.Goals as goal
+
+pub returns-in_err-user : goal.returns-in_err-user
+returns-in_err-user c =
+    let paths = c.args.paths in
+    let words = texts c.args.words.now in
+    let i = c.in_ok-reader.reader in
+    let at = c.in_ok-path.path in
+    let fault = c.in_err-user.field-0.0 in
+    let p = err_from_is_err_and c.from_residual-in_err-user.result c.from_residual-in_err-user.ensures.1 in
+    rw (p.1, p.2) (
+    Then-value (number c.args.reader.now) (λ i. reads paths (Path c.args.path.now (λ p. Sid c.args.user.now (λ s. Token s words (λ t. Asks (Deleting i p t)))))) i (Err (Fault fault)) c.in_ok-reader.ensures (
+    Then-value (path paths c.args.path.now) (λ p. reads paths (Sid c.args.user.now (λ s. Token s words (λ t. Asks (Deleting i p t))))) at (Err (Fault fault)) c.in_ok-path.ensures (
+    Then-fault (sid c.args.user.now) (λ s. reads paths (Token s words (λ t. Asks (Deleting i at t)))) fault c.in_err-user.ensures)))
+
+pub returns-in_err-token : goal.returns-in_err-token
+returns-in_err-token c =
+    let paths = c.args.paths in
+    let words = texts c.args.words.now in
+    let i = c.in_ok-reader.reader in
+    let at = c.in_ok-path.path in
+    let user = c.in_ok-user.user in
+    let stop = c.in_err-token.field-0.0 in
+    let p = err_from_is_err_and c.from_residual-in_err-token.result c.from_residual-in_err-token.ensures.1 in
+    rw (p.1, p.2) (
+    Then-value (number c.args.reader.now) (λ i. reads paths (Path c.args.path.now (λ p. Sid c.args.user.now (λ s. Token s words (λ t. Asks (Deleting i p t)))))) i (Err stop) c.in_ok-reader.ensures (
+    Then-value (path paths c.args.path.now) (λ p. reads paths (Sid c.args.user.now (λ s. Token s words (λ t. Asks (Deleting i p t))))) at (Err stop) c.in_ok-path.ensures (
+    Then-value (sid c.args.user.now) (λ s. reads paths (Token s words (λ t. Asks (Deleting i at t)))) user (Err stop) c.in_ok-user.ensures (
+    Then-stop (token user words) (λ t. reads paths (Asks (Deleting i at t))) stop c.in_err-token.ensures))))
+
+pub returns : goal.returns
+returns c =
+    inl (
+      c.in_ok-reader.reader,
+      c.in_ok-reader.ensures,
+      inl (c.in_ok-path.path, c.in_ok-path.ensures, inl (c.in_ok-user.user, c.in_ok-user.ensures, inl (c.in_ok-token.token, c.in_ok-token.ensures, refl))),
+    )

@@ -1,0 +1,47 @@
+-- What `delete` answers: whether a user may delete a node, as NTFS judges it ([MS-FSA] 2.1.5.1.2.1): who is granted
+-- DELETE on the node, or FILE_DELETE_CHILD on its parent.
+use Rattle.std.specs.Prelude.{ℕ, Bool, false, ◌||◌, nat_lt, List, length, Option, Some, None, if◌then◌else◌, codes}
+use Rattle.std.specs.Option.{option_map_or}
+use Rattle.sd_check.specs.Token.{TokenValue}
+use Rattle.sd_tree.specs.Answers.{answer}
+use Rattle.sd_tree.specs.Names.{Names, is_root, up}
+use Rattle.sd_tree.specs.declared.edit.Edit.{Edit}
+use Rattle.sd_tree.specs.declared.opening.Opening.{Opening}
+use Rattle.sd_tree.specs.declared.tree.CheckReply.{CheckReply}
+use Rattle.sd_tree.specs.declared.tree.CheckReply.TheVariants.{Verdict, NoNode}
+use Rattle.sd_desk.specs.declared.request.Reply.{Reply}
+use Rattle.sd_desk.specs.declared.request.Reply.TheVariants.{Answered}
+use Rattle.sd_answer.specs.Answer.{line}
+use Rattle.sd_script.specs.Listing.{grants}
+use Rattle.sd_script.specs.Reply.{reply_line, seen_line}
+
+-- DELETE ([MS-DTYP] 2.4.3)
+abbrev pub delete_right : ℕ
+delete_right = 0x10000
+
+-- FILE_DELETE_CHILD (winnt.h)
+abbrev pub delete_child_right : ℕ
+delete_child_right = 0x40
+
+-- the parent's path. The root has none; a path has at most 128 names
+abbrev pub parent_of : Names → Option Names
+parent_of path = if is_root path || nat_lt 128 (length path) then None else Some (up path)
+
+-- the parent grants the token to delete what is in it
+abbrev pub parent_grants : Opening → List Edit → Names → TokenValue → Bool
+parent_grants opening journal path token =
+    option_map_or (λ (parent : Names). grants (answer opening journal parent token delete_child_right))
+    (parent_of path) false
+
+-- by the reply to a check of the node for DELETE: which descriptor grants the deletion, the node's own first
+abbrev pub deletion_line : CheckReply → Bool → List ℕ
+deletion_line NoNode by_parent = line (codes "nonode")
+deletion_line (Verdict verdict) by_parent =
+    if grants (Verdict verdict) then line (codes "granted by node")
+    else if by_parent then line (codes "granted by parent")
+    else line (codes "denied")
+
+-- of the reply to a reader who asks for that check
+abbrev pub deletion_reply : Bool → Reply → Option (List ℕ)
+deletion_reply by_parent (Answered given) = Some (seen_line given.seen (deletion_line given.reply by_parent))
+deletion_reply by_parent reply = reply_line reply

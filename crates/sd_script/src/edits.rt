@@ -1,0 +1,123 @@
+//! What a line that edits the tree asks for: its arguments, parsed from the left.
+ghost use Rattle.std.specs.Prelude.{◌∷◌, [], Some};
+ghost use Rattle.sd_script.specs.Command.{Parses, asks_taking};
+ghost use Rattle.sd_script.specs.declared.command.CommandName.TheVariants.{AddContainer, AddObject, SetOwner, SetGroup};
+ghost use Rattle.sd_script.specs.declared.command.CommandName.TheVariants.{SetDacl, Remove, Protect, Move};
+
+use crate::argument::{dacl_in, node_in, sid_in};
+use crate::asked::Asked;
+use crate::fault::Stop;
+use crate::paths::{PathSpelling, path_in};
+use sd_desk::Request;
+use sd_tree::{Edit, RootSpec};
+use std::alloc::Global;
+
+/// A container with the descriptor of a text.
+pub(crate) fn added_container(
+    alloc: Global,
+    paths: PathSpelling,
+    path: &str,
+    sddl: &str,
+) -> Result<Asked, Stop>
+    ensures { Parses paths (asks_taking AddContainer (path.now ∷ sddl.now ∷ [])) (Some result) }
+{
+    let path = path_in(alloc, paths, path)?;
+    let RootSpec { owner, group, dacl } = node_in(alloc, sddl)?;
+    Ok(Asked::Asking(Request::Edit(Edit::AddContainer {
+        path,
+        owner,
+        group,
+        dacl,
+    })))
+}
+
+/// An object with the descriptor of a text.
+pub(crate) fn added_object(
+    alloc: Global,
+    paths: PathSpelling,
+    path: &str,
+    sddl: &str,
+) -> Result<Asked, Stop>
+    ensures { Parses paths (asks_taking AddObject (path.now ∷ sddl.now ∷ [])) (Some result) }
+{
+    let path = path_in(alloc, paths, path)?;
+    let RootSpec { owner, group, dacl } = node_in(alloc, sddl)?;
+    Ok(Asked::Asking(Request::Edit(Edit::AddObject {
+        path,
+        owner,
+        group,
+        dacl,
+    })))
+}
+
+/// Another owner of a node.
+pub(crate) fn set_owner(
+    alloc: Global,
+    paths: PathSpelling,
+    path: &str,
+    sid: &str,
+) -> Result<Asked, Stop>
+    ensures { Parses paths (asks_taking SetOwner (path.now ∷ sid.now ∷ [])) (Some result) }
+{
+    let path = path_in(alloc, paths, path)?;
+    let owner = sid_in(sid)?;
+    Ok(Asked::Asking(Request::Edit(Edit::SetOwner { path, owner })))
+}
+
+/// Another group of a node.
+pub(crate) fn set_group(
+    alloc: Global,
+    paths: PathSpelling,
+    path: &str,
+    sid: &str,
+) -> Result<Asked, Stop>
+    ensures { Parses paths (asks_taking SetGroup (path.now ∷ sid.now ∷ [])) (Some result) }
+{
+    let path = path_in(alloc, paths, path)?;
+    let group = sid_in(sid)?;
+    Ok(Asked::Asking(Request::Edit(Edit::SetGroup { path, group })))
+}
+
+/// Another DACL of a node.
+pub(crate) fn set_dacl(
+    alloc: Global,
+    paths: PathSpelling,
+    path: &str,
+    sddl: &str,
+) -> Result<Asked, Stop>
+    ensures { Parses paths (asks_taking SetDacl (path.now ∷ sddl.now ∷ [])) (Some result) }
+{
+    let path = path_in(alloc, paths, path)?;
+    let dacl = dacl_in(alloc, sddl)?;
+    Ok(Asked::Asking(Request::Edit(Edit::SetDacl { path, dacl })))
+}
+
+/// That a node is removed.
+pub(crate) fn removed(alloc: Global, paths: PathSpelling, path: &str) -> Result<Asked, Stop>
+    ensures { Parses paths (asks_taking Remove (path.now ∷ [])) (Some result) }
+{
+    let path = path_in(alloc, paths, path)?;
+    Ok(Asked::Asking(Request::Edit(Edit::Remove { path })))
+}
+
+/// That a node is protected, and keeps what it had inherited.
+pub(crate) fn protected(alloc: Global, paths: PathSpelling, path: &str) -> Result<Asked, Stop>
+    ensures { Parses paths (asks_taking Protect (path.now ∷ [])) (Some result) }
+{
+    let path = path_in(alloc, paths, path)?;
+    Ok(Asked::Asking(Request::Edit(Edit::ProtectKeeping { path })))
+}
+
+/// That a node goes to another path.
+pub(crate) fn moved(
+    alloc: Global,
+    paths: PathSpelling,
+    source: &str,
+    target: &str,
+) -> Result<Asked, Stop>
+    ensures { Parses paths (asks_taking Move (source.now ∷ target.now ∷ [])) (Some result) }
+{
+    let source = path_in(alloc, paths, source)?;
+    let target = path_in(alloc, paths, target)?;
+    Ok(Asked::Asking(Request::Edit(Edit::Move { source, target })))
+}
