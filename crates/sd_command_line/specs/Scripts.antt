@@ -29,6 +29,7 @@ abbrev pub script_notes : Bool → Tally → List ℕ
 script_notes strict tally =
     mark_note tally.begins_with_mark
     ++ line_note (codes "the node inherits otherwise than its descriptor says") tally.first_difference
+    ++ line_note (codes "the node's own entries are in canonical order now") tally.first_reordered
     ++ line_note (codes "a fault or a refusal") (first_fault_under strict tally)
 
 -- nothing is told where memory for it was refused

@@ -7,9 +7,9 @@ use sd_commands::{Outcome, told_line};
 use sd_script::Tally;
 use std::alloc::{AllocError, Global};
 
-/// What standard error is told of a script: the byte order mark that it begins with; the first line whose node inherits
-/// otherwise than it did; and where that is asked for, the first fault or refusal. Nothing, where memory for that is
-/// refused: the output stands by then.
+/// What standard error says of a script: the byte order mark that it begins with; the first line whose node inherits
+/// otherwise than it did, and the first whose node's own entries were put in order; and where that is asked for, the
+/// first fault or refusal. Nothing, if out of memory for it: the output stands by then.
 pub(crate) fn told_of_script(alloc: Global, strict: bool, tally: &Tally) -> String
     ensures { IsToldOfScript strict tally.now (string_bytes result) }
 {
@@ -35,9 +35,11 @@ fn script_notes(alloc: Global, strict: bool, tally: &Tally) -> Result<String, Al
     let mark = mark_note(alloc, tally.begins_with_mark)?;
     let what = "the node inherits otherwise than its descriptor says";
     let difference = line_note(alloc, what, tally.first_difference)?;
+    let what = "the node's own entries are in canonical order now";
+    let order = line_note(alloc, what, tally.first_reordered)?;
     let fault = first_fault_under(strict, tally);
     let fault = line_note(alloc, "a fault or a refusal", fault)?;
-    let text = format!(in alloc; "{mark}{difference}{fault}")?;
+    let text = format!(in alloc; "{mark}{difference}{order}{fault}")?;
     Ok(text)
 }
 

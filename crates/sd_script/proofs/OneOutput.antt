@@ -1,6 +1,7 @@
 -- A text has one output: a line is read as one thing, and a request has one reply that has a line.
 use Rattle.std.proofs.Common.{◌≡◌, ℕ, ◌<◌, ◌≤◌, Bool, true, false, List, [], ◌∷◌, ◌++◌, length, Option, Some, None, Ok, Err, inl, inr, refl, sym, ◌∙◌, ap, subst, arith, take}
 use Rattle.std.specs.Prelude.{MatchBool, codes, if◌then◌else◌, nat_lt, nat_le, option_map}
+use Rattle.std.specs.Bool.{one_answer}
 use Rattle.std.specs.List.{All}
 use Rattle.std.specs.Str.Lines.{lines}
 use Rattle.std.proofs.lemmas.Bool.{lt-ltb, le-ltb, le-leb, lt-leb}
@@ -31,7 +32,7 @@ use Rattle.sd_script.specs.Fault.{line_of_fault}
 use Rattle.sd_script.specs.Find.{found_in, found_reply}
 use Rattle.sd_script.specs.Laws.{AsksNoAnalysis, HasOneAnswer, HasOneOutput, is_analysis}
 use Rattle.sd_script.specs.Lines.{is_silent}
-use Rattle.sd_script.specs.Importing.{IsImported}
+use Rattle.sd_script.specs.Importing.{IsImported, imported_line}
 use Rattle.sd_lines.specs.Answers.{AreAnswered}
 use Rattle.sd_script.specs.Output.{is_open, manner_of, IsOpened, IsDone, IsTold, IsNext, begun, closing_of}
 use Rattle.sd_script.specs.Reply.{check_line, counted_line, refused_line, reply_line, seen_line, shown_line, start_error_line}
@@ -223,31 +224,31 @@ dump-one paths m p q (inr one) (inr other) = one.1 ∙ sym other.1
 
 -- ---- imports
 
-imported-one : (m : Machine) (path : Names) (inherited : List Ace) (p q : List ℕ)
-    → IsImported m path inherited replies.Edited p → IsImported m path inherited replies.Edited q → p ≡ q
-imported-one m path inherited p q (inl one) (inl other) = one.1 ∙ sym other.1
-imported-one m path inherited p q (inl one) (inr other) = absurd (other.0 one.0)
-imported-one m path inherited p q (inr one) (inl other) = absurd (one.0 other.0)
-imported-one m path inherited p q (inr one) (inr other) = one.1 ∙ sym other.1
+pub imported-one : (m : Machine) (path : Names) (given : List Ace) (p q : List ℕ)
+    → IsImported m path given replies.Edited p → IsImported m path given replies.Edited q → p ≡ q
+imported-one m path given p q one other =
+    let inherits = one_answer one.0 other.0 one.2 other.2 in
+    let ordered = one_answer one.1 other.1 one.3 other.3 in
+    one.4 ∙ ap (λ b. imported_line b one.1) inherits ∙ ap (imported_line other.0) ordered ∙ sym other.4
 
-step-one : (m : Machine) (e : Edit) (r s : Reply) (x y : Machine) (p q : List ℕ) (path : Names) (inherited : List Ace)
-    → Steps m (requests.Edit e) r x → Steps m (requests.Edit e) s y → IsImported x path inherited r p → IsImported y path inherited s q → (p ≡ q) × (x ≡ y)
-step-one m e replies.Edited replies.Edited x y p q path inherited one other first second =
+step-one : (m : Machine) (e : Edit) (r s : Reply) (x y : Machine) (p q : List ℕ) (path : Names) (given : List Ace)
+    → Steps m (requests.Edit e) r x → Steps m (requests.Edit e) s y → IsImported x path given r p → IsImported y path given s q → (p ≡ q) × (x ≡ y)
+step-one m e replies.Edited replies.Edited x y p q path given one other first second =
     let same = one.1 ∙ sym other.1 in
-    (imported-one y path inherited p q (subst (λ n. IsImported n path inherited replies.Edited p) same first) second, same)
-step-one m e replies.Edited (replies.Refused refusal) x y p q path inherited one other first second = absurd (let no = sym one.0 ∙ other.0 in cc (no))
-step-one m e (replies.Refused refusal) replies.Edited x y p q path inherited one other first second = absurd (let no = sym one.0 ∙ other.0 in cc (no))
-step-one m e (replies.Refused refusal) (replies.Refused later) x y p q path inherited one other first second =
+    (imported-one y path given p q (subst (λ n. IsImported n path given replies.Edited p) same first) second, same)
+step-one m e replies.Edited (replies.Refused refusal) x y p q path given one other first second = absurd (let no = sym one.0 ∙ other.0 in cc (no))
+step-one m e (replies.Refused refusal) replies.Edited x y p q path given one other first second = absurd (let no = sym one.0 ∙ other.0 in cc (no))
+step-one m e (replies.Refused refusal) (replies.Refused later) x y p q path given one other first second =
     let same = sym one.0 ∙ other.0 in
     let told : refusal ≡ later = cc (same) in
     let texts = sym first ∙ ap (λ r. Some (refused_line r)) told ∙ second in
     (cc (texts), one.1 ∙ sym other.1)
-step-one m e replies.Edited replies.Memory x y p q path inherited one other first second = absurd (cc (second))
-step-one m e (replies.Refused refusal) replies.Memory x y p q path inherited one other first second = absurd (cc (second))
-step-one m e replies.Memory s x y p q path inherited one other first second = absurd (cc (first))
-step-one m e replies.Edited s x y p q path inherited one other first second = absurd other
-step-one m e (replies.Refused refusal) s x y p q path inherited one other first second = absurd other
-step-one m e r s x y p q path inherited one other first second = absurd one
+step-one m e replies.Edited replies.Memory x y p q path given one other first second = absurd (cc (second))
+step-one m e (replies.Refused refusal) replies.Memory x y p q path given one other first second = absurd (cc (second))
+step-one m e replies.Memory s x y p q path given one other first second = absurd (cc (first))
+step-one m e replies.Edited s x y p q path given one other first second = absurd other
+step-one m e (replies.Refused refusal) s x y p q path given one other first second = absurd other
+step-one m e r s x y p q path given one other first second = absurd one
 
 -- ---- views
 
@@ -284,10 +285,10 @@ done-one (Opened paths m) (Deleting reader names t) p q x y one other =
 done-one (Closed manner) (Deleting reader names t) p q x y one other = absurd one
 done-one (Opened paths m) (Viewing view) p q x y one other = (λ plain. viewed-one paths m view p q plain one.0 other.0, one.1 ∙ sym other.1)
 done-one (Closed manner) (Viewing view) p q x y one other = absurd one
-done-one (Opened paths m) (Importing e path inherited) p q x y one other =
-    let stepped = step-one m e one.0 other.0 one.1 other.1 p q path inherited one.2 other.2 one.3 other.3 in
+done-one (Opened paths m) (Importing e path given) p q x y one other =
+    let stepped = step-one m e one.0 other.0 one.1 other.1 p q path given one.2 other.2 one.3 other.3 in
     (λ plain. stepped.0, one.4 ∙ ap (Opened paths) stepped.1 ∙ sym other.4)
-done-one (Closed manner) (Importing e path inherited) p q x y one other = absurd one
+done-one (Closed manner) (Importing e path given) p q x y one other = absurd one
 
 told-one : (old : Session) (text p q : List ℕ) (x y : Session) → IsTold old text p x → IsTold old text q y
     → (AsksNoAnalysis text → p ≡ q) × (x ≡ y)

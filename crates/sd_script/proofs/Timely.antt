@@ -40,7 +40,7 @@ opens (Explaining reader path token asked) = false
 opens (Finding reader path token asked) = false
 opens (Deleting reader path token) = false
 opens (Viewing view) = false
-opens (Importing edit path inherited) = false
+opens (Importing edit path given) = false
 
 abbrev is_opening : CommandName → Bool
 is_opening Open = true

@@ -19,8 +19,8 @@ made (Opened paths m) new (Deleting reader path token) printed (reply, machine, 
 made (Closed manner) new (Deleting reader path token) printed done = absurd done
 made (Opened paths m) new (Viewing view) printed (viewed, is) = inl is
 made (Closed manner) new (Viewing view) printed done = absurd done
-made (Opened paths m) new (Importing edit path inherited) printed (reply, machine, steps, said, is) = inr (reply, machine, steps, is)
-made (Closed manner) new (Importing edit path inherited) printed done = absurd done
+made (Opened paths m) new (Importing edit path given) printed (reply, machine, steps, said, is) = inr (reply, machine, steps, is)
+made (Closed manner) new (Importing edit path given) printed done = absurd done
 
 -- a line that was told, whose answer doesn't grow to its end
 pub told_untold : (old new : Session) (line told : List ℕ) → IsTold old line told new → IsUntold old line new

@@ -2,7 +2,7 @@
 use Rattle.std.specs.Prelude.{◌≡◌, ℕ, ◌<◌, ◌^◌, Bool, false, List, [], filter, Option, Some, None, Result, Ok, Err}
 use Rattle.std.specs.Str.Parse.{IsNumeral, digits_value}
 use Rattle.sd_sid.specs.Sid.{SidValue}
-use Rattle.sd_acl.specs.Canonical.{canonical_order, is_explicit, is_inherited}
+use Rattle.sd_acl.specs.Canonical.{canonical_order, is_explicit}
 use Rattle.sd_acl.specs.Descriptor.{DescriptorValue}
 use Rattle.sd_acl.specs.declared.ace.Ace.{Ace}
 use Rattle.sd_acl.specs.Dacl.{Dacl}
@@ -98,18 +98,18 @@ imported_dacl protected dacls.Absent = Entries false []
 imported_dacl protected dacls.Null = Null
 imported_dacl protected (dacls.List entries) = Entries protected (canonical_order (filter is_explicit entries))
 
--- what the node had inherited
-abbrev pub inherited_in : Dacl → List Ace
-inherited_in dacls.Absent = []
-inherited_in dacls.Null = []
-inherited_in (dacls.List entries) = filter is_inherited entries
+-- the entries of a list
+abbrev pub entries_in : Dacl → List Ace
+entries_in dacls.Absent = []
+entries_in dacls.Null = []
+entries_in (dacls.List entries) = entries
 
-abbrev pub with_inherited : List Ace → Result RootSpec LineFault → Result Import LineFault
-with_inherited inherited (Ok node) = Ok (record { node = node; inherited = inherited })
-with_inherited inherited (Err fault) = Err fault
+abbrev pub with_given : List Ace → Result RootSpec LineFault → Result Import LineFault
+with_given given (Ok node) = Ok (record { node = node; given = given })
+with_given given (Err fault) = Err fault
 
 abbrev pub import_of : DescriptorValue → Result Import LineFault
-import_of d = with_inherited (inherited_in d.dacl) (with_parts d.owner d.group (imported_dacl d.protected d.dacl))
+import_of d = with_given (entries_in d.dacl) (with_parts d.owner d.group (imported_dacl d.protected d.dacl))
 
 -- the text of such a descriptor, with an owner and a group
 abbrev pub imported : List ℕ → Reading Import

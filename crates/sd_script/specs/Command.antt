@@ -121,7 +121,7 @@ asks_delete arguments = option_map deletes (user_given arguments)
 -- what a node that comes from elsewhere asks for
 abbrev pub imports : List ℕ → List ℕ → NodeKind → Arguments
 imports at sddl kind =
-    Path at (λ p. Imported sddl (λ i. Asks (Importing (addition kind p (row_of kind i.node)) p i.inherited)))
+    Path at (λ p. Imported sddl (λ i. Asks (Importing (addition kind p (row_of kind i.node)) p i.given)))
 
 -- a path, a mask and groups
 abbrev pub groups_given : List (List ℕ) → Option (List ℕ × List ℕ × List (List ℕ))

@@ -1,6 +1,9 @@
--- What an import is answered by: the node is added, and it is told whether it inherits what it had inherited elsewhere.
-use Rattle.std.specs.Prelude.{◌≡◌, ◌⊎◌, ℕ, List, [], Option, Some, codes}
+-- What an import is answered by: the node is added, and the answer says whether it inherits what it had inherited
+-- elsewhere, and whether its own entries have the order that they had there.
+use Rattle.std.specs.Prelude.{◌≡◌, ℕ, Bool, true, false, List, [], filter, Option, Some, codes}
+use Rattle.std.specs.Bool.{Decides}
 use Rattle.std.specs.Option.{option_map_or}
+use Rattle.sd_acl.specs.Canonical.{is_explicit, is_inherited}
 use Rattle.sd_acl.specs.Descriptor.{DescriptorValue}
 use Rattle.sd_acl.specs.declared.ace.Ace.{Ace}
 use Rattle.sd_tree.specs.Answers.{descriptor_at}
@@ -10,19 +13,36 @@ use Rattle.sd_desk.specs.Machine.{Machine, accepted}
 use Rattle.sd_desk.specs.declared.request.Reply.{Reply}
 use Rattle.sd_desk.specs.declared.request.Reply.TheVariants.{Edited}
 use Rattle.sd_answer.specs.Answer.{line}
-use Rattle.sd_script.specs.Argument.{inherited_in}
+use Rattle.sd_script.specs.Argument.{entries_in}
 use Rattle.sd_script.specs.Reply.{reply_line}
 
--- what a node with this descriptor inherits, and nothing where there is none
-abbrev pub inherited_by : Option DescriptorValue → List Ace
-inherited_by d = option_map_or (λ (d : DescriptorValue). inherited_in d.dacl) d []
+-- the entries of a descriptor, and none where there is none
+abbrev pub entries_by : Option DescriptorValue → List Ace
+entries_by d = option_map_or (λ (d : DescriptorValue). entries_in d.dacl) d []
 
--- what the node of a path inherits, by all edits that were accepted
-abbrev pub inherited_at : Machine → Names → List Ace
-inherited_at m path = inherited_by (descriptor_at m.opening.mapping (replay m.opening (accepted m)) path)
+-- those of the node of a path, by all edits that were accepted
+abbrev pub entries_at : Machine → Names → List Ace
+entries_at m path = entries_by (descriptor_at m.opening.mapping (replay m.opening (accepted m)) path)
 
+-- both lists have the same inherited entries, in one order
+abbrev pub InheritAlike : List Ace → List Ace → Type 0
+InheritAlike stored given = filter is_inherited stored ≡ filter is_inherited given
+
+-- both have the same entries of their own, in one order
+abbrev pub AreOrderedAlike : List Ace → List Ace → Type 0
+AreOrderedAlike stored given = filter is_explicit stored ≡ filter is_explicit given
+
+abbrev pub imported_line : (inherits_alike is_ordered_alike : Bool) → List ℕ
+imported_line true true = line (codes "ok")
+imported_line true false = line (codes "ok reordered")
+imported_line false true = line (codes "ok differs")
+imported_line false false = line (codes "ok differs reordered")
+
+-- by the entries that were given; the node's are those in the tree of all accepted edits
 abbrev pub IsImported : Machine → Names → List Ace → Reply → List ℕ → Type 0
-IsImported m path inherited Edited printed =
-    ((inherited_at m path ≡ inherited) × (printed ≡ line (codes "ok")))
-    ⊎ ((inherited_at m path ≡ inherited → ⊥) × (printed ≡ line (codes "ok differs")))
-IsImported m path inherited reply printed = reply_line reply ≡ Some printed
+IsImported m path given Edited printed =
+    (inherits_alike : Bool) × (is_ordered_alike : Bool)
+    × Decides inherits_alike (InheritAlike (entries_at m path) given)
+    × Decides is_ordered_alike (AreOrderedAlike (entries_at m path) given)
+    × (printed ≡ imported_line inherits_alike is_ordered_alike)
+IsImported m path given reply printed = reply_line reply ≡ Some printed

@@ -37,7 +37,7 @@ is_analysis (Viewing (Lists path)) = false
 is_analysis (Viewing Dump) = false
 is_analysis (Viewing (Who path groups asked)) = true
 is_analysis (Viewing (Review path)) = true
-is_analysis (Importing edit path inherited) = false
+is_analysis (Importing edit path given) = false
 
 -- the line asks for no analysis, whatever stands before it
 abbrev pub AsksNoAnalysis : List ℕ → Type 0

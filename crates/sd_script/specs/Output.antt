@@ -71,9 +71,9 @@ IsDone (Opened paths old) (Deleting reader path token) printed new =
     × (deletion_reply (parent_grants old.opening old.published path token) reply ≡ Some printed)
     × (new ≡ Opened paths machine)
 IsDone (Opened paths old) (Viewing view) printed new = IsViewed paths old view printed × (new ≡ Opened paths old)
-IsDone (Opened paths old) (Importing edit path inherited) printed new =
+IsDone (Opened paths old) (Importing edit path given) printed new =
     (reply : Reply) × (machine : Machine) × Steps old (Edits edit) reply machine
-    × IsImported machine path inherited reply printed × (new ≡ Opened paths machine)
+    × IsImported machine path given reply printed × (new ≡ Opened paths machine)
 IsDone old asked printed new = ⊥
 
 -- a line that isn't silent is told what it asks for, or its fault
@@ -118,7 +118,7 @@ IsMade (Opened paths old) (Finding reader path token asked) new =
 IsMade (Opened paths old) (Deleting reader path token) new =
     (reply : Reply) × (machine : Machine) × Steps old (Check reader path token delete_right) reply machine
     × (new ≡ Opened paths machine)
-IsMade (Opened paths old) (Importing edit path inherited) new =
+IsMade (Opened paths old) (Importing edit path given) new =
     (reply : Reply) × (machine : Machine) × Steps old (Edits edit) reply machine × (new ≡ Opened paths machine)
 IsMade old asked new = ⊥
 

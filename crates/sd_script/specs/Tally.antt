@@ -7,7 +7,13 @@ use Rattle.sd_answer.specs.Answer.{line}
 use Rattle.sd_script.specs.declared.tally.Tally.{Tally}
 
 abbrev pub no_lines : Tally
-no_lines = record { lines = 0; first_fault = None; first_difference = None; begins_with_mark = false }
+no_lines = record {
+  lines = 0;
+  first_fault = None;
+  first_difference = None;
+  first_reordered = None;
+  begins_with_mark = false;
+}
 
 -- the answer tells a fault or a refusal
 abbrev pub tells_fault : List ℕ → Bool
@@ -15,7 +21,12 @@ tells_fault answer = starts_with nat_eq answer (codes "fault ") || starts_with n
 
 -- the answer tells that an imported node inherits otherwise than it did
 abbrev pub tells_difference : List ℕ → Bool
-tells_difference answer = bytes_eq answer (line (codes "ok differs"))
+tells_difference answer = starts_with nat_eq answer (codes "ok differs")
+
+-- the answer says that the own entries of an imported node were put in another order
+abbrev pub tells_order : List ℕ → Bool
+tells_order answer =
+    bytes_eq answer (line (codes "ok reordered")) || bytes_eq answer (line (codes "ok differs reordered"))
 
 -- UTF-8's byte order mark
 abbrev pub has_mark : List ℕ → Bool
@@ -35,5 +46,6 @@ tallied text answer t = record {
   lines = next_number t;
   first_fault = first_of t.first_fault (tells_fault answer) (next_number t);
   first_difference = first_of t.first_difference (tells_difference answer) (next_number t);
+  first_reordered = first_of t.first_reordered (tells_order answer) (next_number t);
   begins_with_mark = t.begins_with_mark || (t.lines == 0 && has_mark text);
 }

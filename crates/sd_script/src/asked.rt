@@ -56,11 +56,11 @@ pub enum Asked {
     },
     /// A view of the published tree.
     Viewing(View),
-    /// A node, and whether it inherits what it had inherited elsewhere.
+    /// A node, and how its entries compare with those that it had elsewhere.
     Importing {
         edit: Edit,
         path: Path,
-        inherited: Entries,
+        given: Entries,
     },
 }
 

@@ -1,13 +1,14 @@
 //! A node that comes with the descriptor that it had elsewhere.
-ghost use Rattle.std.specs.Prelude.{◌≡◌, IfOk, string_bytes};
+ghost use Rattle.std.specs.Prelude.{◌≡◌, IfOk, filter, string_bytes};
 ghost use Rattle.std.specs.Bool.{Decides};
+ghost use Rattle.sd_acl.specs.Canonical.{is_explicit, is_inherited};
 ghost use Rattle.sd_acl.specs.Descriptor.{descriptor_of};
 ghost use Rattle.sd_script.specs.Addition.{addition as addition_of, row_of};
-ghost use Rattle.sd_script.specs.Argument.{import_of as import_from, imported, imported_dacl as imported_dacl_of};
-ghost use Rattle.sd_script.specs.Argument.{inherited_in as inherited_in_of};
+ghost use Rattle.sd_script.specs.Argument.{entries_in as entries_in_of, import_of as import_from, imported};
+ghost use Rattle.sd_script.specs.Argument.{imported_dacl as imported_dacl_of};
 ghost use Rattle.sd_script.specs.Command.{imports, reads};
 ghost use Rattle.sd_script.specs.Fault.{UnlessMemory};
-ghost use Rattle.sd_script.specs.Importing.{IsImported, inherited_by};
+ghost use Rattle.sd_script.specs.Importing.{AreOrderedAlike, InheritAlike, IsImported, entries_by, imported_line};
 ghost use Rattle.sd_desk.specs.Machine.{Machine, accepted};
 ghost use Rattle.sd_tree.specs.Answers.{descriptor_at};
 ghost use Rattle.sd_tree.specs.Journal.{replay};
@@ -24,14 +25,14 @@ use sd_text::{TextError, read_sddl};
 use sd_tree::{Edit, Entries, NodeDacl, NodeKind, Path, RootSpec, Tree};
 use std::alloc::{AllocError, Global};
 
-/// What a descriptor gives a node, and what the node had inherited beside it.
+/// What a descriptor gives a node, and all entries that the node had elsewhere.
 #[derive(Debug, Drop)]
-pub(crate) struct Import {
-    pub(crate) node: RootSpec,
-    pub(crate) inherited: Entries,
+struct Import {
+    node: RootSpec,
+    given: Entries,
 }
 
-/// A node of the kind with the descriptor of a text, and what it had inherited.
+/// A node of the kind with the descriptor of a text, and the entries that it had elsewhere.
 pub(crate) fn importing(
     alloc: Global,
     paths: PathSpelling,
@@ -42,14 +43,10 @@ pub(crate) fn importing(
     ensures { UnlessMemory (reads paths (imports path.now sddl.now kind)) result }
 {
     let path = path_in(alloc, paths, path)?;
-    let Import { node, inherited } = import_in(alloc, sddl)?;
+    let Import { node, given } = import_in(alloc, sddl)?;
     let added = path.copy(alloc)?;
     let edit = addition(kind, added, node);
-    Ok(Asked::Importing {
-        edit,
-        path,
-        inherited,
-    })
+    Ok(Asked::Importing { edit, path, given })
 }
 
 /// The text of a descriptor ([MS-DTYP] 2.5.1) with an owner and a group, as a node had it.
@@ -71,9 +68,9 @@ fn import_of(alloc: Global, descriptor: &Descriptor) -> Result<Import, Stop>
     match (descriptor.owner, descriptor.group) {
         (Some(owner), Some(group)) => {
             let dacl = imported_dacl(alloc, descriptor)?;
-            let inherited = Entries::new(inherited_in(alloc, &descriptor.dacl)?);
+            let given = Entries::new(entries_in(alloc, &descriptor.dacl)?);
             let node = RootSpec { owner, group, dacl };
-            Ok(Import { node, inherited })
+            Ok(Import { node, given })
         }
         _ => Err(Stop::Fault(LineFault::Parts)),
     }
@@ -85,8 +82,7 @@ fn imported_dacl(alloc: Global, descriptor: &Descriptor) -> Result<NodeDacl, All
 {
     match &descriptor.dacl {
         Dacl::List(list) => {
-            let explicit = list.entries().iter().filter(|entry| !entry.is_inherited());
-            let explicit: Vec<Ace> = explicit.copied().collect(alloc)?;
+            let explicit = explicit_in(alloc, list.entries())?;
             Ok(NodeDacl::List {
                 protected: descriptor.protected,
                 entries: Entries::new(canonicalize(alloc, &explicit)?),
@@ -96,17 +92,30 @@ fn imported_dacl(alloc: Global, descriptor: &Descriptor) -> Result<NodeDacl, All
     }
 }
 
-/// What the node had inherited ([MS-DTYP] 2.4.4.1, INHERITED_ACE).
-fn inherited_in(alloc: Global, dacl: &Dacl) -> Result<Vec<Ace>, AllocError>
-    ensures { IfOk result (λ inherited. inherited.items ≡ inherited_in_of dacl.now) }
+/// The entries of a list; a null one and an absent one have none.
+fn entries_in(alloc: Global, dacl: &Dacl) -> Result<Vec<Ace>, AllocError>
+    ensures { IfOk result (λ entries. entries.items ≡ entries_in_of dacl.now) }
 {
     match dacl {
-        Dacl::List(list) => {
-            let inherited = list.entries().iter().filter(|entry| entry.is_inherited());
-            Ok(inherited.copied().collect(alloc)?)
-        }
+        Dacl::List(list) => Vec::from_slice(alloc, list.entries()),
         _ => Ok(Vec::new(alloc)),
     }
+}
+
+/// Those that were inherited ([MS-DTYP] 2.4.4.1, INHERITED_ACE).
+fn inherited_in(alloc: Global, entries: &[Ace]) -> Result<Vec<Ace>, AllocError>
+    ensures { IfOk result (λ inherited. inherited.items ≡ filter is_inherited entries.now) }
+{
+    let inherited = entries.iter().filter(|entry| entry.is_inherited());
+    Ok(inherited.copied().collect(alloc)?)
+}
+
+/// Those that weren't.
+fn explicit_in(alloc: Global, entries: &[Ace]) -> Result<Vec<Ace>, AllocError>
+    ensures { IfOk result (λ explicit. explicit.items ≡ filter is_explicit entries.now) }
+{
+    let explicit = entries.iter().filter(|entry| !entry.is_inherited());
+    Ok(explicit.copied().collect(alloc)?)
 }
 
 /// The edit that adds a node of the kind with this of its own.
@@ -130,40 +139,66 @@ fn addition(kind: NodeKind, path: Path, node: RootSpec) -> Edit
     }
 }
 
-/// The line of the reply to an edit that imports the node of a path: an edit that was accepted is told by whether the
-/// node inherits what it had inherited elsewhere, in the tree of all edits that were accepted. Want of memory has none.
+/// The line of the reply to an edit that imports the node of a path. Of one that was accepted it says whether the node,
+/// in the tree of all accepted edits, inherits what it had inherited elsewhere, and whether its own entries have the
+/// order that they had there. Out of memory has none.
 pub fn import_line(
     alloc: Global,
     tree: &Tree,
     path: &Path,
-    inherited: &Entries,
+    given: &Entries,
     reply: &Reply,
 ) -> Result<String, AllocError>
     ensures { (m : Machine) → m.opening ≡ tree.now.opening → accepted m ≡ tree.now.journal
-        → IfOk result (λ text. IsImported m path.now inherited.now reply.now (string_bytes text)) }
+        → IfOk result (λ text. IsImported m path.now given.now reply.now (string_bytes text)) }
 {
     match reply {
-        Reply::Edited if inherits(alloc, tree, path, inherited)? => {
-            String::from_str(alloc, "ok\n")
+        Reply::Edited => {
+            let stored = entries_at(alloc, tree, path)?;
+            let inherits_alike = inherit_alike(alloc, &stored, given.as_slice())?;
+            let is_ordered_alike = are_ordered_alike(alloc, &stored, given.as_slice())?;
+            String::from_str(alloc, imported_line(inherits_alike, is_ordered_alike))
         }
-        Reply::Edited => String::from_str(alloc, "ok differs\n"),
         _ => reply_line(alloc, reply),
     }
 }
 
-/// Whether the node of a path inherits just this.
-fn inherits(
-    alloc: Global,
-    tree: &Tree,
-    path: &Path,
-    inherited: &Entries,
-) -> Result<bool, AllocError>
-    ensures { IfOk result (λ is. Decides is (inherited_by (descriptor_at tree.now.opening.mapping
-        (replay tree.now.opening tree.now.journal) path.now) ≡ inherited.now)) }
+fn imported_line(inherits_alike: bool, is_ordered_alike: bool) -> &'static str
+    ensures { result.now ≡ imported_line inherits_alike is_ordered_alike }
 {
-    let there = match tree.descriptor(path)? {
-        Some(descriptor) => inherited_in(alloc, &descriptor.dacl)?,
-        None => Vec::new(alloc),
-    };
-    Ok(same_entries(&there, inherited.as_slice()))
+    match (inherits_alike, is_ordered_alike) {
+        (true, true) => "ok\n",
+        (true, false) => "ok reordered\n",
+        (false, true) => "ok differs\n",
+        (false, false) => "ok differs reordered\n",
+    }
+}
+
+/// The entries of the node of a path.
+fn entries_at(alloc: Global, tree: &Tree, path: &Path) -> Result<Vec<Ace>, AllocError>
+    ensures { IfOk result (λ entries. entries.items ≡ entries_by (descriptor_at tree.now.opening.mapping
+        (replay tree.now.opening tree.now.journal) path.now)) }
+{
+    match tree.descriptor(path)? {
+        Some(descriptor) => entries_in(alloc, &descriptor.dacl),
+        None => Ok(Vec::new(alloc)),
+    }
+}
+
+/// Whether the inherited entries of both lists are the same, in one order.
+fn inherit_alike(alloc: Global, stored: &[Ace], given: &[Ace]) -> Result<bool, AllocError>
+    ensures { IfOk result (λ are. Decides are (InheritAlike stored.now given.now)) }
+{
+    let stored = inherited_in(alloc, stored)?;
+    let given = inherited_in(alloc, given)?;
+    Ok(same_entries(&stored, &given))
+}
+
+/// Whether those that weren't inherited are.
+fn are_ordered_alike(alloc: Global, stored: &[Ace], given: &[Ace]) -> Result<bool, AllocError>
+    ensures { IfOk result (λ are. Decides are (AreOrderedAlike stored.now given.now)) }
+{
+    let stored = explicit_in(alloc, stored)?;
+    let given = explicit_in(alloc, given)?;
+    Ok(same_entries(&stored, &given))
 }

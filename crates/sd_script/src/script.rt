@@ -104,13 +104,7 @@ fn told(alloc: Global, session: &mut Session, line: &[u8]) -> Result<String, All
             },
         ) => delete(alloc, session, reader, path, token),
         Ok(Asked::Viewing(asked)) => viewed(alloc, session, &asked),
-        Ok(
-            Asked::Importing {
-                edit,
-                path,
-                inherited,
-            },
-        ) => import(alloc, session, edit, &path, &inherited),
+        Ok(Asked::Importing { edit, path, given }) => import(alloc, session, edit, &path, &given),
         Err(Stop::Fault(fault)) => line_of_fault(alloc, fault),
         Err(Stop::Memory) => Err(AllocError),
     }
@@ -247,23 +241,23 @@ fn viewed(alloc: Global, session: &Session, view: &View) -> Result<String, Alloc
     }
 }
 
-/// Adds a node to the store that is open, and tells whether it inherits what it had inherited elsewhere.
+/// Adds a node to the store that is open. The answer compares its entries with those that it had elsewhere.
 fn import(
     alloc: Global,
     session: &mut Session,
     edit: Edit,
     path: &Path,
-    inherited: &Entries,
+    given: &Entries,
 ) -> Result<String, AllocError>
     requires { is_open session.old ≡ true }
     ensures done { IfOk result
-        (λ text. IsDone session.old (Importing edit path.now inherited.now) (string_bytes text) session.new) }
-    ensures failed { OnErr result (IsMade session.old (Importing edit path.now inherited.now) session.new) }
+        (λ text. IsDone session.old (Importing edit path.now given.now) (string_bytes text) session.new) }
+    ensures failed { OnErr result (IsMade session.old (Importing edit path.now given.now) session.new) }
 {
     match session {
         Session::Opened(_, desk) => {
             let reply = desk.step(&Request::Edit(edit));
-            import_line(alloc, desk.draft(), path, inherited, &reply)
+            import_line(alloc, desk.draft(), path, given, &reply)
         }
         Session::Closed(_) => unreachable!(),
     }

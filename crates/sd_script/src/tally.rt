@@ -1,6 +1,7 @@
 //! What is counted of a script's lines, beside what they are answered by.
 ghost use Rattle.std.specs.Prelude.{◌≡◌};
 ghost use Rattle.sd_script.specs.Tally.{first_of, has_mark, no_lines, tallied, tells_difference, tells_fault};
+ghost use Rattle.sd_script.specs.Tally.{tells_order};
 
 /// What is told of a script beside its output. Lines are counted from 1, as far as 64 bits count.
 #[derive(Clone, Copy, Debug, PartialEq, Eq)]
@@ -11,6 +12,8 @@ pub struct Tally {
     pub first_fault: Option<u64>,
     /// The first line by which a node was imported that inherits otherwise than it did.
     pub first_difference: Option<u64>,
+    /// The first line by which a node was imported whose own entries were put in another order.
+    pub first_reordered: Option<u64>,
     /// Whether the first line begins with UTF-8's byte order mark.
     pub begins_with_mark: bool,
 }
@@ -24,6 +27,7 @@ impl Tally {
             lines: 0,
             first_fault: None,
             first_difference: None,
+            first_reordered: None,
             begins_with_mark: false,
         }
     }
@@ -37,6 +41,7 @@ impl Tally {
             lines: number,
             first_fault: first_of(self.first_fault, tells_fault(answer), number),
             first_difference: first_of(self.first_difference, tells_difference(answer), number),
+            first_reordered: first_of(self.first_reordered, tells_order(answer), number),
             begins_with_mark: self.begins_with_mark || (self.lines == 0 && has_mark(line)),
         }
     }
@@ -63,7 +68,14 @@ fn tells_fault(answer: &[u8]) -> bool
 fn tells_difference(answer: &[u8]) -> bool
     ensures { result ≡ tells_difference answer.now }
 {
-    answer == b"ok differs\n".as_slice()
+    answer.starts_with(b"ok differs")
+}
+
+/// Whether the answer says that an imported node's own entries were put in another order.
+fn tells_order(answer: &[u8]) -> bool
+    ensures { result ≡ tells_order answer.now }
+{
+    answer == b"ok reordered\n".as_slice() || answer == b"ok differs reordered\n".as_slice()
 }
 
 /// Whether the text begins with UTF-8's byte order mark.

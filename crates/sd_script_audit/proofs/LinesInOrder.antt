@@ -41,12 +41,12 @@ done_answers bytes (Err e) workers old new line asked loud asks done = tt
 
 -- an import is done as it is told
 pub import_done : {X E : Type 0} (bytes : X → List ℕ) (r : Result X E) (paths : PathSpelling) (workers : ℕ) (old new : Machine) (queries : List Query)
-    (e : Edit) (path : Names) (inherited : List Ace) (reply : Reply) → Steps old (requests.Edit e) reply new
-    → IfOk r (λ text. IsImported new path inherited reply (bytes text))
-    → IfOk r (λ text. IsDoneInAudit workers (record { store = Opened paths old; queries = queries }) (Importing e path inherited) (bytes text)
+    (e : Edit) (path : Names) (given : List Ace) (reply : Reply) → Steps old (requests.Edit e) reply new
+    → IfOk r (λ text. IsImported new path given reply (bytes text))
+    → IfOk r (λ text. IsDoneInAudit workers (record { store = Opened paths old; queries = queries }) (Importing e path given) (bytes text)
     (record { store = Opened paths new; queries = queries }))
-import_done bytes (Ok text) paths workers old new queries e path inherited reply steps told = ((reply, new, steps, told, refl), refl)
-import_done bytes (Err error) paths workers old new queries e path inherited reply steps told = tt
+import_done bytes (Ok text) paths workers old new queries e path given reply steps told = ((reply, new, steps, told, refl), refl)
+import_done bytes (Err error) paths workers old new queries e path given reply steps told = tt
 
 -- what stands with no store open, where this is counted
 abbrev pub before_opening : Manner → Tally → Audited

@@ -31,7 +31,7 @@ use Rattle.sd_script.specs.declared.manner.Manner.{Manner}
 use Rattle.sd_script.specs.declared.paths.PathSpelling.{PathSpelling}
 use Rattle.sd_script.specs.declared.session.Session.TheVariants as sessions
 use Rattle.sd_script.specs.declared.tally.Tally.{Tally}
-use Rattle.sd_script.proofs.OneOutput.{no_error, edited, outcome, one_step}
+use Rattle.sd_script.proofs.OneOutput.{no_error, edited, imported-one, outcome, one_step}
 use Rattle.sd_script.proofs.OneReading.{line-one}
 use Rattle.sd_script.proofs.Timely.{line_opens}
 use Rattle.sd_script_audit.specs.Audit.{Audited, Progress, IsDoneInAudit, IsAnsweredInAudit, AreAnsweredInAudit, IsEnd, answer_line, begun, last_publish, unopened}
@@ -57,34 +57,27 @@ same_outcome x y r one other alike = one ∙ ap (λ m. unread_after (outcome m r
 
 -- ---- imports into such machines
 
-imported_one : (m : Machine) (path : Names) (inherited : List Ace) (p q : List ℕ)
-    → IsImported m path inherited replies.Edited p → IsImported m path inherited replies.Edited q → p ≡ q
-imported_one m path inherited p q (inl one) (inl other) = one.1 ∙ sym other.1
-imported_one m path inherited p q (inl one) (inr other) = absurd (other.0 one.0)
-imported_one m path inherited p q (inr one) (inl other) = absurd (one.0 other.0)
-imported_one m path inherited p q (inr one) (inr other) = one.1 ∙ sym other.1
-
-same_import : (a b : Machine) (e : Edit) (r s : Reply) (x y : Machine) (p q : List ℕ) (path : Names) (inherited : List Ace) → unread a ≡ unread b
-    → Steps a (requests.Edit e) r x → Steps b (requests.Edit e) s y → IsImported x path inherited r p → IsImported y path inherited s q
+same_import : (a b : Machine) (e : Edit) (r s : Reply) (x y : Machine) (p q : List ℕ) (path : Names) (given : List Ace) → unread a ≡ unread b
+    → Steps a (requests.Edit e) r x → Steps b (requests.Edit e) s y → IsImported x path given r p → IsImported y path given s q
     → (p ≡ q) × (unread x ≡ unread y)
-same_import a b e replies.Edited replies.Edited x y p q path inherited alike one other first second =
+same_import a b e replies.Edited replies.Edited x y p q path given alike one other first second =
     let same : unread x ≡ unread y = ap unread one.1 ∙ ap (λ m. unread (with_edit m e)) alike ∙ sym (ap unread other.1) in
-    (imported_one y path inherited p q (subst (λ m. IsImported m path inherited replies.Edited p) same first) second, same)
-same_import a b e replies.Edited (replies.Refused later) x y p q path inherited alike one other first second =
+    (imported-one y path given p q (subst (λ m. IsImported m path given replies.Edited p) same first) second, same)
+same_import a b e replies.Edited (replies.Refused later) x y p q path given alike one other first second =
     absurd (let no = sym one.0 ∙ ap (λ m. due m e) alike ∙ other.0 in cc (no))
-same_import a b e (replies.Refused refusal) replies.Edited x y p q path inherited alike one other first second =
+same_import a b e (replies.Refused refusal) replies.Edited x y p q path given alike one other first second =
     absurd (let no = sym one.0 ∙ ap (λ m. due m e) alike ∙ other.0 in cc (no))
-same_import a b e (replies.Refused refusal) (replies.Refused later) x y p q path inherited alike one other first second =
+same_import a b e (replies.Refused refusal) (replies.Refused later) x y p q path given alike one other first second =
     let same = sym one.0 ∙ ap (λ m. due m e) alike ∙ other.0 in
     let told : refusal ≡ later = cc (same) in
     let texts = sym first ∙ ap (λ r. Some (refused_line r)) told ∙ second in
     (cc (texts), ap unread one.1 ∙ alike ∙ sym (ap unread other.1))
-same_import a b e replies.Edited replies.Memory x y p q path inherited alike one other first second = absurd (cc (second))
-same_import a b e (replies.Refused refusal) replies.Memory x y p q path inherited alike one other first second = absurd (cc (second))
-same_import a b e replies.Memory s x y p q path inherited alike one other first second = absurd (cc (first))
-same_import a b e replies.Edited s x y p q path inherited alike one other first second = absurd other
-same_import a b e (replies.Refused refusal) s x y p q path inherited alike one other first second = absurd other
-same_import a b e r s x y p q path inherited alike one other first second = absurd one
+same_import a b e replies.Edited replies.Memory x y p q path given alike one other first second = absurd (cc (second))
+same_import a b e (replies.Refused refusal) replies.Memory x y p q path given alike one other first second = absurd (cc (second))
+same_import a b e replies.Memory s x y p q path given alike one other first second = absurd (cc (first))
+same_import a b e replies.Edited s x y p q path given alike one other first second = absurd other
+same_import a b e (replies.Refused refusal) s x y p q path given alike one other first second = absurd other
+same_import a b e r s x y p q path given alike one other first second = absurd one
 
 -- ---- stores that differ in their readers alone
 
@@ -122,13 +115,13 @@ module _ (a b : Progress) (alike : AreAlike a b) where
       )
 
   -- an import into both stores
-  imports_alike : (e : Edit) (path : Names) (inherited : List Ace) (p q : List ℕ) (c d : Progress)
-      → IsDone a.store (Importing e path inherited) p c.store × (c.queries ≡ a.queries)
-      → IsDone b.store (Importing e path inherited) q d.store × (d.queries ≡ b.queries) → (p ≡ q) × AreAlike c d
-  imports_alike e path inherited p q c d one other =
-      let first = subst (λ s. IsDone s (Importing e path inherited) p c.store) alike.one_is one.0 in
-      let second = subst (λ s. IsDone s (Importing e path inherited) q d.store) alike.other_is other.0 in
-      let same = same_import alike.one alike.other e first.0 second.0 first.1 second.1 p q path inherited alike.alike first.2 second.2 first.3 second.3 in (
+  imports_alike : (e : Edit) (path : Names) (given : List Ace) (p q : List ℕ) (c d : Progress)
+      → IsDone a.store (Importing e path given) p c.store × (c.queries ≡ a.queries)
+      → IsDone b.store (Importing e path given) q d.store × (d.queries ≡ b.queries) → (p ≡ q) × AreAlike c d
+  imports_alike e path given p q c d one other =
+      let first = subst (λ s. IsDone s (Importing e path given) p c.store) alike.one_is one.0 in
+      let second = subst (λ s. IsDone s (Importing e path given) q d.store) alike.other_is other.0 in
+      let same = same_import alike.one alike.other e first.0 second.0 first.1 second.1 p q path given alike.alike first.2 second.2 first.3 second.3 in (
         same.0,
         record {
           paths = alike.paths;
@@ -185,7 +178,7 @@ module _ (n m : ℕ) (text : List ℕ) where
   asking_alike a b (Finding reader path token asked) p q c d alike asks one other = stay_alike a b alike _ p q c d one other
   asking_alike a b (Deleting reader path token) p q c d alike asks one other = stay_alike a b alike _ p q c d one other
   asking_alike a b (Viewing view) p q c d alike asks one other = stay_alike a b alike _ p q c d one other
-  asking_alike a b (Importing e path inherited) p q c d alike asks one other = imports_alike a b alike e path inherited p q c d one other
+  asking_alike a b (Importing e path given) p q c d alike asks one other = imports_alike a b alike e path given p q c d one other
 
   loud_alike : (a b : Progress) (p q : List ℕ) (c d : Progress) → AreAlike a b → Loud n a text p c → Loud m b text q d → (p ≡ q) × AreAlike c d
   loud_alike a b p q c d alike (inl one) (inl other) =
@@ -291,8 +284,8 @@ module _ (manner : Manner) (n m : ℕ) (some : IsReaderCount n) (others : IsRead
     opening_asked (Deleting reader path token) p q c d asks one other =
         absurd (let no = line_opens manner.paths false text (Deleting reader path token) asks in cc (no))
     opening_asked (Viewing view) p q c d asks one other = absurd (let no = line_opens manner.paths false text (Viewing view) asks in cc (no))
-    opening_asked (Importing e path inherited) p q c d asks one other =
-        absurd (let no = line_opens manner.paths false text (Importing e path inherited) asks in cc (no))
+    opening_asked (Importing e path given) p q c d asks one other =
+        absurd (let no = line_opens manner.paths false text (Importing e path given) asks in cc (no))
 
     loud_unopened : (p q : List ℕ) (c d : Progress) → Loud n (unopened manner) text p c → Loud m (unopened manner) text q d → Opened p q c d
     loud_unopened p q c d (inl one) (inl other) =

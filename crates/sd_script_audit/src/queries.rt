@@ -70,13 +70,7 @@ fn answer_line<J: Naming, T: Wait>(
     }
     match read_line(alloc, paths, true, line) {
         Ok(Asked::Asking(request)) => answer_request(rt, alloc, writer, queries, request),
-        Ok(
-            Asked::Importing {
-                edit,
-                path,
-                inherited,
-            },
-        ) => import(alloc, writer, &edit, &path, &inherited),
+        Ok(Asked::Importing { edit, path, given }) => import(alloc, writer, &edit, &path, &given),
         Ok(
             Asked::Explaining { .. }
             | Asked::Finding { .. }
@@ -123,15 +117,15 @@ fn import<J: Naming>(
     writer: &mut StoreWriter<J>,
     edit: &Edit,
     path: &Path,
-    inherited: &Entries,
+    given: &Entries,
 ) -> Result<String, AllocError>
     ensures { (paths : Spelling) (workers : ℕ) (queries : List Kept) → IfOk result (λ text. IsDoneInAudit workers
-        (progress paths J.opening workers writer.old queries) (Importing edit.now path.now inherited.now)
+        (progress paths J.opening workers writer.old queries) (Importing edit.now path.now given.now)
         (string_bytes text)
         (progress paths J.opening workers writer.new queries)) }
 {
     let reply = edit_reply(writer, edit);
-    import_line(alloc, writer.draft(), path, inherited, &reply)
+    import_line(alloc, writer.draft(), path, given, &reply)
 }
 
 /// What is told of a command that only a script carries out.

@@ -41,5 +41,5 @@ pub import-requires : goal.import-requires
 import-requires c =
     let asked = rw (c.in-Ok-Importing.field-0-is) at c.in-Ok-Importing.ensures in
     let standing = rw (c.is_open.ensures, c.manner.ensures) at asked in
-    let importing = Importing c.in-Ok-Importing.edit c.in-Ok-Importing.path c.in-Ok-Importing.inherited in
+    let importing = Importing c.in-Ok-Importing.edit c.in-Ok-Importing.path c.in-Ok-Importing.given in
     open_where_asked c.args.session.now c.args.line.now importing refl standing

@@ -17,7 +17,7 @@ returns-in-Ok-Importing g c = λ workers.
     done_answers string_bytes c.import.result workers
     (progress c.args.paths g.J.Naming.opening workers c.args.writer.now c.args.queries.now.items)
     (progress c.args.paths g.J.Naming.opening workers c.import.new.writer c.args.queries.now.items)
-    c.args.line.now (Importing c.in-Ok-Importing.edit c.in-Ok-Importing.path c.in-Ok-Importing.inherited)
+    c.args.line.now (Importing c.in-Ok-Importing.edit c.in-Ok-Importing.path c.in-Ok-Importing.given)
     (sym c.is_silent.ensures ∙ c.if-is_silent.false) asked (c.import.ensures c.args.paths workers c.args.queries.now.items)
 
 impossible : true ≡ false → ⊥

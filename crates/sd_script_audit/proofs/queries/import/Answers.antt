@@ -7,5 +7,5 @@ pub returns : goal.returns
 returns g c = λ paths workers queries.
     let old = machine_of g.J.Naming.opening workers c.args.writer.now in
     let new = machine_of g.J.Naming.opening workers c.edit_reply-reply.new.writer in
-    import_done string_bytes c.import_line.result paths workers old new queries c.args.edit.now c.args.path.now c.args.inherited.now c.edit_reply-reply.result
+    import_done string_bytes c.import_line.result paths workers old new queries c.args.edit.now c.args.path.now c.args.given.now c.edit_reply-reply.result
     (c.edit_reply-reply.ensures workers) (c.import_line.ensures new (sym c.draft.ensures.opening) (sym c.draft.ensures.journal))
