@@ -1,5 +1,6 @@
 -- What comes of a script beside its output: what standard error is told, and whether it did what was asked for.
-use Rattle.std.specs.Prelude.{◌≡◌, ◌⊎◌, ℕ, Bool, is_some, List, [], ◌++◌, Option, Some, None, if◌then◌else◌, codes}
+use Rattle.std.specs.Prelude.{◌≡◌, ◌⊎◌, ℕ, Bool, ◌&&◌, ◌||◌, is_some, List, [], ◌++◌, Option, Some, None}
+use Rattle.std.specs.Prelude.{if◌then◌else◌, codes}
 use Rattle.std.specs.Fmt.{decimal}
 use Rattle.sd_script.specs.declared.manner.Manner.{Manner}
 use Rattle.sd_script.specs.declared.tally.Tally.{Tally}
@@ -36,5 +37,10 @@ script_notes strict tally =
 abbrev pub IsToldOfScript : Bool → Tally → List ℕ → Type 0
 IsToldOfScript strict tally told = (told ≡ script_notes strict tally) ⊎ (told ≡ [])
 
+-- some line had a fault or was refused, or imported a node whose entries aren't as they were elsewhere
+abbrev pub has_failed : Tally → Bool
+has_failed tally =
+    is_some tally.first_fault || is_some tally.first_difference || is_some tally.first_reordered
+
 abbrev pub script_outcome : Bool → Tally → Outcome
-script_outcome strict tally = if is_some (first_fault_under strict tally) then Refused else Done
+script_outcome strict tally = if strict && has_failed tally then Refused else Done

@@ -1,7 +1,7 @@
 //! What comes of a script beside its output.
 ghost use Rattle.std.specs.Prelude.{◌≡◌, IfOk, string_bytes};
-ghost use Rattle.sd_command_line.specs.Scripts.{IsToldOfScript, first_fault_under, line_note, mark_note, script_notes};
-ghost use Rattle.sd_command_line.specs.Scripts.{script_outcome};
+ghost use Rattle.sd_command_line.specs.Scripts.{IsToldOfScript, first_fault_under, has_failed, line_note, mark_note};
+ghost use Rattle.sd_command_line.specs.Scripts.{script_notes, script_outcome};
 
 use sd_commands::{Outcome, told_line};
 use sd_script::Tally;
@@ -23,10 +23,20 @@ pub(crate) fn told_of_script(alloc: Global, strict: bool, tally: &Tally) -> Stri
 pub(crate) fn script_outcome(strict: bool, tally: &Tally) -> Outcome
     ensures { result ≡ script_outcome strict tally.now }
 {
-    match first_fault_under(strict, tally) {
-        Some(_) => Outcome::Refused,
-        None => Outcome::Done,
+    if strict && has_failed(tally) {
+        Outcome::Refused
+    } else {
+        Outcome::Done
     }
+}
+
+/// Whether some line had a fault or was refused, or imported a node whose entries aren't as they were elsewhere.
+fn has_failed(tally: &Tally) -> bool
+    ensures { result ≡ has_failed tally.now }
+{
+    tally.first_fault.is_some()
+        || tally.first_difference.is_some()
+        || tally.first_reordered.is_some()
 }
 
 fn script_notes(alloc: Global, strict: bool, tally: &Tally) -> Result<String, AllocError>

@@ -30,7 +30,7 @@ Statuses:
   0  the text was printed, the rights were granted, or the script was carried out to its end
   1  an argument is invalid: its fault was printed, and standard error names the argument; or a
      verdict other than granted, a finding of 'lint', a line that 'each' answered with status 1, or
-     with '--strict' a line that has a fault or was refused
+     with '--strict' a line that has a fault or was refused, or an import that isn't answered 'ok'
   2  the arguments aren't a valid command line
   3  out of memory, an input error, an input or line that is too long, an output error, or no
      answers from the workers of an audit
@@ -196,8 +196,9 @@ Generic rights are mapped by '--mapping KIND' before 'script', and without it as
 
 Statuses:
   0  the script was carried out to its end, even with faults and refusals
-  1  with '--strict', a line had a fault or was refused: standard error reports the first such line;
-     or the value of an option is invalid: its fault was printed, and no input was read
+  1  with '--strict', a line had a fault or was refused, or an import wasn't answered 'ok': standard
+     error reports the first line of each kind; or the value of an option is invalid: its fault was
+     printed, and no input was read
   2  the arguments aren't a valid command line
   3  out of memory, an input error, more than 16777216 bytes of input, or an output error";
 
@@ -214,8 +215,9 @@ and its answer has none. An id alone isn't answered.
 
 Statuses:
   0  the script was carried out to its end, even with faults and refusals
-  1  with '--strict', a line had a fault or was refused: standard error reports the first such line;
-     or the value of an option is invalid: its fault was printed, and no input was read
+  1  with '--strict', a line had a fault or was refused, or an import wasn't answered 'ok': standard
+     error reports the first line of each kind; or the value of an option is invalid: its fault was
+     printed, and no input was read
   2  the arguments aren't a valid command line
   3  out of memory, an input error, a line of more than 16777216 bytes, or an output error. The
      complete lines before are answered; after an output error a prefix of the answers was written";
@@ -231,8 +233,9 @@ At the end all accepted edits are published, and then the checks are answered, i
 
 Statuses:
   0  the audit was carried out to its end, even with faults and refusals
-  1  with '--strict', a line had a fault or was refused: standard error reports the first such line;
-     or the value of an option is invalid: its fault was printed, and no input was read
+  1  with '--strict', a line had a fault or was refused, or an import wasn't answered 'ok': standard
+     error reports the first line of each kind; or the value of an option is invalid: its fault was
+     printed, and no input was read
   2  the arguments aren't a valid command line
   3  out of memory, an input error, more than 16777216 bytes of input, an output error, or no
      answers from the workers";

@@ -303,8 +303,8 @@ byte",
             excludes: None,
         },
         "\
-the status is 1 if a line has a fault or is refused, and standard error reports the first such
-line",
+the status is 1 if a line has a fault or is refused, or an import isn't answered 'ok', and standard
+error reports the first line of each kind",
     ),
     (
         "--domain",
