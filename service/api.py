@@ -4,17 +4,17 @@ docs/SERVICE.md and openapi.json have the requests."""
 
 import asyncio
 import functools
-import json
 from collections.abc import Callable, Sequence
 from dataclasses import dataclass
 from http import HTTPStatus
 from typing import Any
 
 from errors import Fault
+from json_request import Given
 from questions import MOST_WORDS
 from script import MOST_PATHS, Reader, is_key
 from service import Caller, Service
-from spelling import path_of, spelled
+from spelling import path_of
 from writer import Task
 
 
@@ -35,11 +35,8 @@ _MOST_EDITS = 1_000
 class _Request:
     service: Service
     caller: Caller
-    given: dict[str, Any]
+    given: Given
     reply: _Reply
-
-    def text(self, name: str, default: str | None = None) -> str:
-        return _text(self.given, name, default)
 
 
 def route(
@@ -55,34 +52,10 @@ def route(
         role, work = methods[method]
         try:
             caller.require(role)
-            given = _object(fields, body) if method == "POST" else {}
+            given = Given.of_body(fields.get("content-type", ""), body) if method == "POST" else Given({}, "json")
             work(_Request(service, caller, given, reply))
         except Fault as fault:
             reply(_fault(fault.answer))
-
-
-def _object(fields: dict[str, str], body: bytes) -> dict[str, Any]:
-    """The JSON object of a body, in which no name is there twice."""
-    if fields.get("content-type", "").partition(";")[0].strip().lower() != "application/json":
-        raise Fault("fault content-type")
-    try:
-        given = json.loads(body.decode(), object_pairs_hook=_once, parse_constant=_no_number)
-    except (ValueError, RecursionError):
-        raise Fault("fault json") from None
-    if not isinstance(given, dict):
-        raise Fault("fault json")
-    return given
-
-
-def _once(pairs: Sequence[tuple[str, Any]]) -> dict[str, Any]:
-    made = dict(pairs)
-    if len(made) != len(pairs):
-        raise ValueError("a name is there twice")
-    return made
-
-
-def _no_number(text: str) -> None:
-    raise ValueError(f"{text} is no number of JSON")
 
 
 _STATUSES = {
@@ -102,66 +75,26 @@ def _fault(answer: str) -> Response:
     return Response(status, {"fault": answer.removeprefix("fault ")})
 
 
-def _text(given: dict[str, Any], name: str, default: str | None = None) -> str:
-    """A text without what would make it two words of a line, or none."""
-    value = given.get(name, default)
-    if not isinstance(value, str) or not value or any(each in value for each in " \r\n"):
-        raise Fault(f"fault {name}")
-    return _encodable(value)
-
-
-def _encodable(value: str) -> str:
-    try:
-        value.encode()
-    except UnicodeEncodeError:
-        raise Fault("fault utf8") from None
-    return value
-
-
-def _path(given: dict[str, Any], name: str, default: str | None = None) -> str:
-    """A path, spelled as one word."""
-    value = given.get(name, default)
-    if not isinstance(value, str) or not value:
-        raise Fault(f"fault {name}")
-    return spelled(_encodable(value))
-
-
-def _list(given: dict[str, Any], name: str, most: int, default: list[Any] | None = None) -> list[Any]:
-    value = given.get(name, default)
-    if not isinstance(value, list) or len(value) > most:
-        raise Fault(f"fault {name}")
-    return value
-
-
-def _know(given: dict[str, Any], *names: str) -> None:
-    """Fault: there is a name besides these."""
-    if not given.keys() <= set(names):
-        raise Fault(f"fault {min(given.keys() - set(names))!a}")
-
-
 # Questions
 
 
 def _groups(request: _Request) -> list[str]:
-    return [_text({"groups": each}, "groups") for each in _list(request.given, "groups", MOST_WORDS, [])]
+    return request.given.texts("groups", MOST_WORDS)
 
 
 def _token(request: _Request) -> tuple[str, list[str]]:
     """The user and the other words of a token."""
     words = _groups(request)
-    return request.text("user"), words
+    return request.given.text("user"), words
 
 
 def _require_seen(request: _Request) -> None:
     """A client that has seen a state gets no answer by an earlier one, or of another store; nobody does of a replica
     that is behind."""
     request.service.require_fresh()
-    store, seen = request.given.get("store", request.service.store), request.given.get("seen", 0)
-    if store != request.service.store:
+    if request.given.text("store", request.service.store) != request.service.store:
         raise Fault("nonotice")
-    if type(seen) is not int or seen < 0:
-        raise Fault("fault seen")
-    if seen > request.service.shown.length:
+    if request.given.number("seen", 0) > request.service.shown.length:
         raise Fault("nonotice")
 
 
@@ -179,18 +112,17 @@ def _asked(request: _Request, *words: str) -> str:
 
 
 def _check(request: _Request) -> None:
-    _know(request.given, "user", "groups", "checks", "store", "seen")
+    request.given.know("user", "groups", "checks", "store", "seen")
     _require_seen(request)
     user, words = _token(request)
-    checks = _list(request.given, "checks", MOST_PATHS)
+    checks = request.given.list("checks", MOST_PATHS)
     asked: dict[str, list[int]] = {}
     paths: list[str] = []
-    for at, each in enumerate(checks):
-        if not isinstance(each, dict):
-            raise Fault("fault checks")
-        _know(each, "path", "mask")
-        paths.append(_path(each, "path"))
-        asked.setdefault(_text(each, "mask"), []).append(at)
+    for at, value in enumerate(checks):
+        each = Given(value, "checks")
+        each.know("path", "mask")
+        paths.append(each.path("path"))
+        asked.setdefault(each.text("mask"), []).append(at)
     answers: list[dict[str, str]] = [{}] * len(checks)
     for mask, places in asked.items():
         said = _asked(request, "checks", "0", str(len(places)), *(paths[at] for at in places), user, mask, *words)
@@ -205,18 +137,19 @@ def _verdict(said: str) -> dict[str, str]:
 
 
 def _why(request: _Request) -> None:
-    _know(request.given, "user", "groups", "path", "mask", "store", "seen")
+    given = request.given
+    given.know("user", "groups", "path", "mask", "store", "seen")
     _require_seen(request)
     user, words = _token(request)
-    said = _asked(request, "why", "0", _path(request.given, "path"), user, request.text("mask"), *words)
+    said = _asked(request, "why", "0", given.path("path"), user, given.text("mask"), *words)
     verdict, *reasons = said.split("\n")
     request.reply(Response(HTTPStatus.OK, {**_state(request), **_verdict(verdict), "reasons": reasons}))
 
 
 def _show(request: _Request) -> None:
-    _know(request.given, "path", "store", "seen")
+    request.given.know("path", "store", "seen")
     _require_seen(request)
-    said = _asked(request, "show", "0", _path(request.given, "path"))
+    said = _asked(request, "show", "0", request.given.path("path"))
     if said == "nonode":
         raise Fault(said)
     request.reply(Response(HTTPStatus.OK, {**_state(request), "descriptor": said.removeprefix("shown ")}))
@@ -243,38 +176,41 @@ def _asked_long(request: _Request, words: list[str], made: Callable[[list[str]],
 
 
 def _list_nodes(request: _Request) -> None:
-    _know(request.given, "path", "store", "seen")
+    request.given.know("path", "store", "seen")
     _require_seen(request)
-    _asked_long(request, ["list", _path(request.given, "path", "/")],
+    _asked_long(request, ["list", request.given.path("path", "/")],
                 lambda lines: {"nodes": [_node(*line.split(" ")) for line in lines]})
 
 
 def _find(request: _Request) -> None:
-    _know(request.given, "user", "groups", "path", "mask", "store", "seen")
+    given = request.given
+    given.know("user", "groups", "path", "mask", "store", "seen")
     _require_seen(request)
     user, words = _token(request)
-    _asked_long(request, ["find", "0", _path(request.given, "path", "/"), user, request.text("mask"), *words],
+    _asked_long(request, ["find", "0", given.path("path", "/"), user, given.text("mask"), *words],
                 lambda lines: {"paths": [path_of(line) for line in lines[1:]]})
 
 
 def _who(request: _Request) -> None:
-    _know(request.given, "path", "mask", "groups", "store", "seen")
+    given = request.given
+    given.know("path", "mask", "groups", "store", "seen")
     _require_seen(request)
-    words = ["who", _path(request.given, "path"), request.text("mask", "0x02000000"), *_groups(request)]
+    words = ["who", given.path("path"), given.text("mask", "0x02000000"), *_groups(request)]
     _asked_long(request, words, lambda lines: {"accesses": [line for line in lines if line != "empty"]})
 
 
 def _compare(request: _Request) -> None:
-    _know(request.given, "path", "descriptor", "groups", "store", "seen")
+    given = request.given
+    given.know("path", "descriptor", "groups", "store", "seen")
     _require_seen(request)
-    words = ["compare", _path(request.given, "path"), request.text("descriptor"), *_groups(request)]
+    words = ["compare", given.path("path"), given.text("descriptor"), *_groups(request)]
     _asked_long(request, words, lambda lines: {"changes": [line for line in lines if line != "same"]})
 
 
 def _review(request: _Request) -> None:
-    _know(request.given, "path", "store", "seen")
+    request.given.know("path", "store", "seen")
     _require_seen(request)
-    _asked_long(request, ["review", _path(request.given, "path", "/")], _reviewed)
+    _asked_long(request, ["review", request.given.path("path", "/")], _reviewed)
 
 
 def _reviewed(lines: list[str]) -> dict[str, Any]:
@@ -302,16 +238,13 @@ def _status(request: _Request) -> None:
 
 def _edit(request: _Request) -> None:
     """Edits one after the other, each with its answer, and then a publish if it is asked for."""
-    _know(request.given, "edits", "publish", "key")
-    edits = [_words_of(each) for each in _list(request.given, "edits", _MOST_EDITS)]
-    publishes = request.given.get("publish", False)
-    if type(publishes) is not bool:
-        raise Fault("fault publish")
-    _submit(request, edits + ([["publish"]] if publishes else []))
+    request.given.know("edits", "publish", "key")
+    edits = [_words_of(Given(each, "edits")) for each in request.given.list("edits", _MOST_EDITS)]
+    _submit(request, edits + ([["publish"]] if request.given.flag("publish") else []))
 
 
 def _publish(request: _Request) -> None:
-    _know(request.given, "key")
+    request.given.know("key")
     _submit(request, [["publish"]])
 
 
@@ -321,26 +254,22 @@ _VALUES = {
 }
 
 
-def _words_of(given: Any) -> list[str]:
+def _words_of(given: Given) -> list[str]:
     """The words of an edit."""
-    if not isinstance(given, dict):
-        raise Fault("fault edits")
-    edit = given.get("edit")
-    if not isinstance(edit, str) or edit not in _VALUES:
+    edit = given.text("edit")
+    value = _VALUES.get(edit)
+    if value is None:
         raise Fault("fault edit")
-    value = _VALUES[edit]
-    _know(given, "edit", "path", *([value] if value else []))
-    words = [edit, _path(given, "path")]
+    given.know("edit", "path", *([value] if value else []))
+    words = [edit, given.path("path")]
     if value:
-        words.append((_path if value == "target" else _text)(given, value))
+        words.append(given.path(value) if value == "target" else given.text(value))
     return words
 
 
 def _submit(request: _Request, lines: Sequence[list[str]]) -> None:
     """Has the lines made in their order, and replies once the last is answered. A line with a fault isn't made."""
-    key = request.given.get("key")
-    if key is not None and not (isinstance(key, str) and is_key(f"{key}/{len(lines)}")):
-        raise Fault("fault key")
+    keys = _keys(request.given, len(lines))
     answers: list[dict[str, Any]] = [{} for _ in lines]
     left = set(range(len(lines)))
 
@@ -350,15 +279,24 @@ def _submit(request: _Request, lines: Sequence[list[str]]) -> None:
         if not left:
             request.reply(_edited(request, answers))
 
-    for at, words in enumerate(lines):
-        once = [] if key is None else ["once", f"{key}/{at}"]
+    for at, (key, words) in enumerate(zip(keys, lines)):
         try:
-            request.service.submit([*once, *words], request.caller, functools.partial(answered, at))
+            request.service.submit([*key, *words], request.caller, functools.partial(answered, at))
         except Fault as fault:
             answers[at] = {"answer": fault.answer, "line": 0}
             left.discard(at)
     if not left:
         request.reply(_edited(request, answers))
+
+
+def _keys(given: Given, count: int) -> list[list[str]]:
+    """The words before each of so many lines that have it made once: none without a key."""
+    if not given.has("key"):
+        return [[]] * count
+    key = given.text("key")
+    if not is_key(f"{key}/{count}"):
+        raise Fault("fault key")
+    return [["once", f"{key}/{at}"] for at in range(count)]
 
 
 def _edited(request: _Request, answers: list[dict[str, Any]]) -> Response:
