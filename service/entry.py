@@ -1,7 +1,19 @@
 """A line of the journal, and the chain of digests by which each names all lines before it."""
 
 import hashlib
+import re
+import secrets
 from dataclasses import dataclass
+
+
+def new_store() -> str:
+    """An id that no other store has."""
+    return secrets.token_hex(16)
+
+
+def is_store(text: str) -> bool:
+    """Whether it is the id of a store."""
+    return re.fullmatch("[0-9a-f]{32}", text) is not None
 
 
 @dataclass(frozen=True, slots=True)

@@ -17,6 +17,7 @@ from loading import Loaded, load
 from redis_client import Redis
 from stores import opened
 from stream import Stream
+from tree import built
 from writer import Writer
 
 #: A replica that has all lines asks again after so many seconds.
@@ -96,10 +97,12 @@ def _connected(source: Source, tls: ssl.SSLContext | None) -> socket.socket:
 
 
 def fetch(source: Source) -> tuple[str, str, Snapshot]:
-    """The store of the source, its mapping and its newest snapshot."""
+    """The store of the source, its mapping and its newest snapshot. Mismatch: that makes no tree."""
     feed = feed_of(source, "")
     try:
-        return feed.snapshot()
+        store, mapping, snapshot = feed.snapshot()
+        built(snapshot.lines, mapping).close()
+        return store, mapping, snapshot
     except OSError as error:
         raise Failed(f"no snapshot: {error}") from error
     finally:

@@ -5,16 +5,19 @@ from collections.abc import Iterator, Sequence
 from dataclasses import dataclass
 from itertools import islice
 from pathlib import Path
+from typing import Any
 
-from entry import Line, Place, Snapshot
+from entry import Line, Place, Snapshot, is_store
 from errors import Fault, Mismatch
 from journal import Journal
 from spelling import number_of
+from tree import MAPPINGS
 
 #: The most lines of one answer.
 MOST_LINES = 1_000
-#: The types of what a row has, and the end of its numbers, which SQLite takes.
-_TYPES = [int, int, int, str, str, str, str, str]
+#: The types of what a row of a line has, and the head of a snapshot, and the end of their numbers, which SQLite takes.
+_LINE = [int, int, int, str, str, str, str, str]
+_HEAD = [str, str, int, int, str, int]
 _NUMBERS = 1 << 63
 
 
@@ -59,12 +62,18 @@ def row_of(line: Line, chain: bytes) -> str:
 
 def line_in(row: str) -> tuple[Line, bytes]:
     """The line and the chain of a row. ValueError: it is none."""
-    given = json.loads(row)
-    if not isinstance(given, list) or [type(each) for each in given] != _TYPES:
-        raise ValueError(f"{row!a:.100} is no line")
-    if not all(0 <= each < _NUMBERS for each in given[:3]):
-        raise ValueError(f"{row!a:.100} has no number of a line")
-    return Line(*given[:-1]), bytes.fromhex(given[-1])
+    *fields, chain = _values(row, _LINE)
+    return Line(*fields), bytes.fromhex(chain)
+
+
+def _values(text: str, types: list[type]) -> list[Any]:
+    """The values of a list of JSON. ValueError: they aren't of these types, or a number is none of a journal."""
+    given = json.loads(text)
+    if not isinstance(given, list) or [type(each) for each in given] != types:
+        raise ValueError(f"{text!a:.100} has other values")
+    if not all(0 <= each < _NUMBERS for each in given if type(each) is int):
+        raise ValueError(f"{text!a:.100} has a number that is none of a journal")
+    return given
 
 
 def lines_in(lines: Sequence[str]) -> Lines:
@@ -88,7 +97,9 @@ def snapshot_text(store: str, mapping: str, snapshot: Snapshot) -> str:
 def snapshot_in(lines: Sequence[str]) -> tuple[str, str, Snapshot]:
     """The store, its mapping, and the snapshot of such a text's lines. Mismatch: it is none."""
     try:
-        store, mapping, epoch, number, chain, length = json.loads(lines[0])
+        store, mapping, epoch, number, chain, length = _values(lines[0], _HEAD)
+        if not is_store(store) or mapping not in MAPPINGS:
+            raise ValueError(f"{lines[0]!a:.100} is of no store")
         return store, mapping, Snapshot(epoch, Place(number, bytes.fromhex(chain)), length, tuple(lines[1:]))
-    except (ValueError, TypeError, RecursionError) as error:
+    except (ValueError, RecursionError) as error:
         raise Mismatch(f"the leader's snapshot: {error}") from error

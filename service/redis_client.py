@@ -60,7 +60,9 @@ def _reply(file: BinaryIO) -> Reply:
         return None
     if kind == b"*":
         return [_reply(file) for _ in range(count)]
-    return _bytes(file.read(count + 2), count + 2)[:-2]
+    if kind == b"$":
+        return _bytes(file.read(count + 2), count + 2)[:-2]
+    raise ValueError(f"{kind!a} begins no reply")
 
 
 def _bytes(data: bytes, least: int) -> bytes:

@@ -7,7 +7,7 @@ from collections.abc import Iterator, Sequence
 from contextlib import contextmanager
 from pathlib import Path
 
-from entry import Line, Place, Snapshot
+from entry import Line, Place, Snapshot, new_store
 from errors import Fault, Invalid, Mismatch
 from folders import locked, make_folder, sync_folder
 from journal import DATABASE, MARK, Journal, create
@@ -38,7 +38,7 @@ def init(folder: Path, mapping: str, lines: Sequence[str]) -> int:
     except (Mismatch, Fault) as error:
         raise Invalid(str(error)) from error
     snapshot = Snapshot(1, Place(0, b""), tree.length, made)
-    make(folder, secrets.token_hex(16), mapping, snapshot)
+    make(folder, new_store(), mapping, snapshot)
     return tree.length
 
 
@@ -81,7 +81,7 @@ def restore(file: Path, folder: Path) -> Loaded:
         pending = [line for line, _ in journal.lines(state.published.number)]
         mapping = journal.mapping
     snapshot = Snapshot(state.epoch + 1, state.published, state.tree.length, tuple(dumped(state.tree.view)))
-    make(folder, secrets.token_hex(16), mapping, snapshot, pending)
+    make(folder, new_store(), mapping, snapshot, pending)
     return state
 
 

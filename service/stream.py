@@ -100,7 +100,7 @@ class Stream:
             raise Failed("redis: another service leads")
 
     def renew(self, journal: Journal, snapshot: Snapshot) -> None:
-        """Replaces the snapshot, and drops the lines that the journal has dropped. Failed: this service doesn't lead."""
+        """Replaces the snapshot, and drops the lines that the journal has dropped. Failed: it doesn't lead."""
         text = snapshot_text(journal.store, journal.mapping, snapshot)
         if not self._redis.ask("EVAL", _RENEW, 4, *self._keys, self._name, text, journal.start.number + 1):
             raise Failed("redis: another service leads")

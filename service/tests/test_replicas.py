@@ -1,11 +1,15 @@
 """Replicas: they have the leader's lines, answer by them alone, and nothing once they know too little of it."""
 
+import json
 import os
 import random
 import time
 import unittest
 
 import rig
+
+from errors import Mismatch
+from leading import lines_in
 
 
 class Replicas(rig.Case):
@@ -62,12 +66,17 @@ class Replicas(rig.Case):
         self.wait_for_line()
         self.kill()
         self.other.wait_for(lambda: self.other.said("tell") == ["unavailable behind"])
+        self.assertEqual(self.other.get("/readyz"), (503, "not ready\n"))
+        self.assertGreater(self.other.metrics()["sdstored_replica_age_seconds"], 1)
         with self.other.connect() as asked:
             asked.send(b"l list\n")
             self.assertEqual((asked.read(), asked.read()), (b"l unavailable behind\n", b"l \n"))
         self.start()
         self.edit(1, "again")
         self.other.wait_for(lambda: self.other.said("tell") == ["told 4"])
+        self.assertEqual(self.other.get("/readyz"), (200, "ready\n"))
+        values = self.other.metrics()
+        self.assertEqual([values[f"sdstored_{name}"] for name in ("replica_lag_lines", "takes_edits")], [0, 0])
 
     def test_a_leader_that_was_never_there(self) -> None:
         """A replica that starts answers nothing before it has what the leader had then."""
@@ -91,6 +100,49 @@ class Replicas(rig.Case):
         self.start()
         self.assertEqual(self.other.process.wait(rig.PATIENCE), 1)
         self.assertIn(": the store is", self.other.log.read_text())
+
+    def test_a_leader_with_no_snapshot(self) -> None:
+        """What is no snapshot makes no store."""
+        store = "0" * 32
+        lines = ["open 1 O:BAG:SYD:", "publish"]
+        for said in (
+            [""], ["[]"], ["{"], ["[" * 100_000], ["7", *lines], [f'["{store}", "file", 1, 0, ""]', *lines],
+            ['["x", "file", 1, 0, "", 0]', *lines], [f'["{store}", "disk", 1, 0, "", 0]', *lines],
+            [f'["{store}", "file", "1", 0, "", 0]', *lines], [f'["{store}", "file", 1, -1, "", 0]', *lines],
+            [f'["{store}", "file", 1, {1 << 63}, "", 0]', *lines], [f'["{store}", "file", 1, 0, "x", 0]', *lines],
+            [f'["{store}", "file", 1, 0, "", 0]'], [f'["{store}", "file", 1, 0, "", 0]', "open 1 X", "publish"],
+            [f'["{store}", "file", 1, 0, "", 0]', lines[0]], [f'["{store}", "file", 1, 0, "", 0]', *lines, "publish"],
+        ):
+            with self.subTest(said=str(said)[:80]):
+                self.assert_ended(said, store)
+                self.assertFalse(self.other.store.exists())
+
+    def assert_ended(self, said: list[str], store: str) -> None:
+        """A replica whose leader has this store and these lines ends with status 1."""
+        answers = {"status": [f"status {store} 1 0 00 0"]}
+        with rig.Scripted(self.room / "false", lambda asked: answers.get(asked, [*said, ""])):
+            self.other.configure(more=f'[leader]\nunix = "{self.room / "false"}"\nmax_age_seconds = 20')
+            rig.run("run", self.other.config, status=1)
+
+    def test_a_leader_with_other_lines(self) -> None:
+        """What aren't the next lines ends a replica, and its journal stays as it is."""
+        self.edit(3)
+        self.follow()
+        self.wait_for_line()
+        self.other.stop()
+        _, store, _, number, chain, _ = self.said("status")[0].split(" ")
+        line = [1, int(number) + 1, 0, "uid:0", "", "addo /x O:BAG:SYD:", "ok", chain]
+        for said in (
+            [], [""], ["last"], ["first 9"], ["last x"], ["last 9", "{"], ["last 9", "[]"],
+            ["last 9", json.dumps([*line[:7], "x"])], ["last 9", json.dumps([True, *line[1:]])],
+            ["last 9", json.dumps([*line[:1], str(line[1]), *line[2:]])], ["last 9", json.dumps([1, -1, *line[2:]])],
+        ):
+            with self.subTest(said=said), self.assertRaises(Mismatch):
+                lines_in(said)
+        for said in (["last 9", "{"], ["last 9", json.dumps(line)], ["last 9", json.dumps([1, 9, *line[2:]])]):
+            with self.subTest(said=said):
+                self.assert_ended(said, store)
+        self.assertEqual(rig.run("verify", self.other.store).stdout.split(", ")[1], f"line {number}")
 
     def test_roles(self) -> None:
         self.stop()
