@@ -33,7 +33,8 @@ _Place = Union[str, Tuple[str, int]]
 Where = Union[_Place, List[str], List[Tuple[str, int]]]
 
 _SAFE = "".join(map(chr, range(0x21, 0x7F))).replace("%", "")
-_PATHS = {"move": 2, "list": 1, "addc": 1, "addo": 1, "owner": 1, "group": 1, "dacl": 1, "remove": 1, "protect": 1}
+#: The edits, each with how many of its words are paths.
+_EDITS = {"addc": 1, "addo": 1, "owner": 1, "group": 1, "dacl": 1, "remove": 1, "protect": 1, "move": 2}
 _OF_LINES = ("why", "find", "list", "dump", "who", "compare", "review", "snapshot", "lines")
 #: The mask of all rights.
 _ALL = "0x02000000"
@@ -178,10 +179,16 @@ class _Words:
 
     def _edit(self, words: Sequence[str]) -> _Talk[str]:
         """An edit or a publish, which is made once, however often it has to be sent."""
-        count = _PATHS.get(words[0], 0)
+        count = _EDITS.get(words[0], 0)
         given = [_spelled(word) if 0 < at <= count else word for at, word in enumerate(words)]
         lines = yield from self._asked("once", secrets.token_hex(16), *given)
         return lines[0]
+
+    def _lines(self, words: Sequence[str]) -> _Talk[List[str]]:
+        """The answer to a question. ValueError: it is an edit, which would be sent again without a key."""
+        if words[0] in _EDITS or words[0] in ("publish", "once"):
+            raise ValueError(f"not a question: {words[0]}")
+        return (yield from self._asked(*words))
 
     def _publish(self) -> _Talk[int]:
         said = yield from self._edit(["publish"])
@@ -290,7 +297,7 @@ class Client(_Words):
 
     def lines(self, command: str, *words: str) -> List[str]:
         """The lines of the answer to any other question, as `lines("list", "/")`."""
-        return self._run(self._asked(command, *words))
+        return self._run(self._lines((command, *words)))
 
     def _run(self, talk: _Talk[_T]) -> _T:
         with self._turn:
@@ -403,7 +410,7 @@ class AsyncClient(_Words):
         return await self._run(self._of_node("review", path))
 
     async def lines(self, command: str, *words: str) -> List[str]:
-        return await self._run(self._asked(command, *words))
+        return await self._run(self._lines((command, *words)))
 
     async def _run(self, talk: _Talk[_T]) -> _T:
         async with self._turn:

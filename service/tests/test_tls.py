@@ -2,6 +2,7 @@
 
 import asyncio
 import contextlib
+import random
 import select
 import shutil
 import signal
@@ -58,18 +59,21 @@ class Tls(rig.Case):
         self.ours.sign("web", "/CN=web")
         self.ours.sign("mail", "/CN=mail")
         self.ours.sign("two", "/CN=web/CN=mail")
+        self.ours.sign("watch", "/CN=watch")
         self.others.sign("foreign", "/CN=web")
-        self.port = rig.free_port()
+        self.port, self.http_port = rig.free_port(), rig.free_port()
         self.make()
         self.start(more=self.listen('{"cn:web" = "edit", "cn:watch" = "watch"}'))
 
     def listen(self, allow: str) -> str:
+        """Places for lines and for HTTP, with certificates."""
         files = "".join(f'{name} = "{self.room / file}"\n' for name, file in
                         (("certificate", "server.pem"), ("key", "server.key"), ("clients", "authority.pem")))
-        return f'[[listen]]\ntcp = "127.0.0.1:{self.port}"\nprotocol = "lines"\n{files}allow = {allow}'
+        return "\n".join(f'[[listen]]\ntcp = "127.0.0.1:{port}"\nprotocol = "{protocol}"\n{files}allow = {allow}'
+                         for port, protocol in ((self.port, "lines"), (self.http_port, "http")))
 
-    def client(self, name: str) -> Client:
-        return Client(("127.0.0.1", self.port), self.ours.context(name), rig.PATIENCE)
+    def client(self, name: str | None, timeout: float = rig.PATIENCE) -> Client:
+        return Client(("127.0.0.1", self.port), self.ours.context(name), timeout)
 
     def connected(self, name: str | None) -> ssl.SSLSocket:
         plain = socket.create_connection(("127.0.0.1", self.port), rig.PATIENCE)
@@ -92,10 +96,63 @@ class Tls(rig.Case):
         for name in (None, "mail", "two", "foreign"):
             with self.subTest(name):
                 self.assertEqual(self.said_to(name), b"")
+                with self.client(name, 0.5) as client, self.assertRaises(Unavailable):
+                    client.check("/a b", rig.USER, "FW", ["BU"])
+        with self.client("watch") as client, self.assertRaises(Rejected):
+            client.check("/a b", rig.USER, "FW", ["BU"])
         with socket.create_connection(("127.0.0.1", self.port), rig.PATIENCE) as plain:
             plain.sendall(b"1 tell\n")
             self.assertNotIn(b"told", plain.recv(1000))
         self.assertEqual(self.said("tell"), ["told 1"])
+
+    def test_tasks(self) -> None:
+        """The client for asyncio shows its certificate too, and gets no answer without one."""
+
+        async def length(name: str | None, timeout: float) -> int:
+            where = ("127.0.0.1", self.port)
+            async with AsyncClient(where, self.ours.context(name), timeout) as client:
+                return await client.publish()
+
+        self.assertEqual(asyncio.run(length("web", rig.PATIENCE)), 0)
+        for name in (None, "mail", "foreign"):
+            with self.subTest(name), self.assertRaises(Unavailable):
+                asyncio.run(length(name, 0.5))
+
+    def test_curl(self) -> None:
+        """HTTP with certificates: who has a role gets what that has, and nobody else gets an answer."""
+        if shutil.which("curl") is None:
+            self.skipTest("the command curl is required")
+        for name, target, said in (
+            ("web", "/healthz", "ok\n200"), ("web", "/v1/status", "200"), ("watch", "/readyz", "ready\n200"),
+            ("watch", "/metrics", "200"), ("watch", "/v1/status", '{"fault": "role"}403'),
+            ("mail", "/healthz", None), ("foreign", "/healthz", None), (None, "/healthz", None),
+        ):
+            with self.subTest(name=name, target=target):
+                got = self.curl(target, name)
+                self.assertTrue(got == said or (said is not None and len(said) == 3 and got.endswith(said)), got)
+
+    def curl(self, target: str, name: str | None) -> str | None:
+        """The body and the status, or None without an answer."""
+        files = {"--cert": f"{name}.pem", "--key": f"{name}.key"} if name else {}
+        own = [word for option, file in files.items() for word in (option, str(self.room / file))]
+        command = ["curl", "-s", "--max-time", str(rig.PATIENCE), "-w", "%{http_code}", *own,
+                   "--cacert", str(self.room / "authority.pem"), f"https://127.0.0.1:{self.http_port}{target}"]
+        done = subprocess.run(command, capture_output=True, text=True, check=False)
+        if done.returncode == 0:
+            return done.stdout
+        self.assertEqual(done.stdout, "000")
+        return None
+
+    def test_garbage(self) -> None:
+        """Random bytes, before a handshake and after it: others are answered meanwhile."""
+        chance = random.Random(13)
+        for _ in range(10):
+            with contextlib.suppress(OSError), socket.create_connection(("127.0.0.1", self.port)) as plain:
+                plain.sendall(chance.randbytes(500))
+            with self.connected("web") as asked:
+                asked.sendall(chance.randbytes(500) + b"\n")
+                self.assertEqual(self.said_to("web"), b"1 told 0\n")
+        self.assertEqual(self.said("publish"), ["published 0"])
 
     def test_hang_up_takes_other_certificates(self) -> None:
         self.assertEqual(self.said_to("web"), b"1 told 0\n")
@@ -145,8 +202,32 @@ class Clients(rig.Case):
             for words in (("remove", "/a", "b c"), ("owner", "/d", "BU\npublish"), ("owner", "/d", "")):
                 with self.assertRaises(ValueError):
                     client.edit(*words)
-        with self.assertRaises(ValueError):
-            Client(("127.0.0.1", 1))
+            for words in (("remove", "/d"), ("publish",), ("once", "k", "publish")):
+                with self.assertRaises(ValueError):
+                    client.lines(*words)
+            self.assertFalse(client.check("/", rig.USER, "FW", ["BU"]))
+        for kind in (Client, AsyncClient):
+            with self.assertRaises(ValueError):
+                kind(("127.0.0.1", 1))
+
+    def test_several_services(self) -> None:
+        """Where one has no answer the next one is asked; where none has one, that is said in time."""
+        self.make()
+        self.start()
+        nobody = str(self.room / "nobody")
+        with Client([nobody, str(self.lines)], timeout=rig.PATIENCE) as client:
+            client.edit("addo", "/a", "O:BAG:SYD:")
+            self.assertEqual(client.publish(), 1)
+
+        async def length(*where: str, timeout: float = rig.PATIENCE) -> int:
+            async with AsyncClient(list(where), timeout=timeout) as client:
+                return await client.publish()
+
+        self.assertEqual(asyncio.run(length(nobody, str(self.lines))), 1)
+        with self.assertRaises(Unavailable):
+            asyncio.run(length(nobody, timeout=0.2))
+        with Client([nobody], timeout=0.2) as client, self.assertRaises(Unavailable):
+            client.check("/a", rig.USER, "FR")
 
     def test_kills(self) -> None:
         """Each edit is made once, though the service is killed again and again; answers never go back."""
@@ -179,6 +260,38 @@ class Clients(rig.Case):
         thread.join()
         self.assertEqual(faults, [])
         self.assertEqual(self.said("publish"), ["published 150"])
+
+    def test_an_edit_without_an_answer(self) -> None:
+        """It is sent again with the key that it had, by either client, and a question without one."""
+
+        async def asynchronously(where: str) -> None:
+            async with AsyncClient(where, timeout=rig.PATIENCE) as client:
+                await client.edit("addo", "/a b", "O:BAG:SYD:")
+                self.assertEqual(await client.show("/a b"), None)
+
+        def synchronously(where: str) -> None:
+            with Client(where, timeout=rig.PATIENCE) as client:
+                client.edit("addo", "/a b", "O:BAG:SYD:")
+                self.assertEqual(client.show("/a b"), None)
+
+        asked: list[str] = []
+
+        def answer(question: str) -> list[str] | None:
+            """The connection ends instead of the first answer to each question."""
+            if question == "status":
+                return [f"status {'0' * 32} 1 0 00 0"]
+            asked.append(question)
+            said = "seen 0 nonode" if question.startswith("show") else "ok"
+            return None if asked.count(question) == 1 else [said]
+
+        for call in (synchronously, lambda where: asyncio.run(asynchronously(where))):
+            asked.clear()
+            with rig.Scripted(self.room / "forgetful", answer):
+                call(str(self.room / "forgetful"))
+            first, second, *questions = asked
+            self.assertEqual(first, second)
+            self.assertRegex(first, "^once [0-9a-f]{32} addo /a%20b O:BAG:SYD:$")
+            self.assertEqual(questions, ["show 0 /a%20b"] * 2)
 
     def test_another_store_and_one_behind(self) -> None:
         self.make()
