@@ -82,21 +82,22 @@ def _init(arguments: argparse.Namespace) -> int:
 
 
 def _verify(arguments: argparse.Namespace) -> int:
-    return _told(stores.verified(arguments.where))
+    return _say_state(stores.verified(arguments.where))
 
 
 def _backup(arguments: argparse.Namespace) -> int:
-    return _told(stores.backup(arguments.folder, arguments.file))
+    return _say_state(stores.backup(arguments.folder, arguments.file))
 
 
 def _restore(arguments: argparse.Namespace) -> int:
-    return _told(stores.restore(arguments.file, arguments.folder))
+    return _say_state(stores.restore(arguments.file, arguments.folder))
 
 
 def _seed(arguments: argparse.Namespace) -> int:
-    return _told(seed(read_config(arguments.config)))
+    return _say_state(seed(read_config(arguments.config)))
 
 
-def _told(state: Loaded) -> int:
+def _say_state(state: Loaded) -> int:
+    """Says how far a store goes, and returns the status."""
     print(f"epoch {state.epoch}, line {state.last.number}, published {state.tree.length}")
     return 0

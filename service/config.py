@@ -30,7 +30,7 @@ class Limits:
     #: The edits that one client, and all clients, may have in progress.
     edits_of_client: int = 256
     edits: int = 4_096
-    #: The `list` and `dump` that are answered at once.
+    #: The questions about many nodes, or about all tokens, that are answered at once.
     long_answers: int = 2
     #: After so many lines a new epoch starts.
     lines_in_epoch: int = 100_000
@@ -212,6 +212,8 @@ def _typed(given: dict[str, Any], name: str, kind: type[_T], default: _T | None 
     value = given.get(name, default)
     if type(value) is not kind:
         raise ValueError(f"{name}: a value of the type {kind.__name__} is required")
+    if "\0" in str(value):
+        raise ValueError(f"{name}: a text without NUL is required")
     return value
 
 

@@ -196,8 +196,9 @@ class Costs(rig.Case):
         stop.set()
         thread.join()
         parts = statistics.quantiles(times, n=1000)
-        say(f"a check beside {made[0] / (2 * SECONDS):.0f} edits a second at the root of a full tree: median, 99 of 100, "
-            "most", f"{parts[499] * 1e3:.2f}, {parts[989] * 1e3:.1f}, {max(times) * 1e3:.1f} ms")
+        edits = made[0] / (2 * SECONDS)
+        say(f"a check beside {edits:.0f} edits a second at the root of a full tree: median, 99 of 100, most",
+            f"{parts[499] * 1e3:.2f}, {parts[989] * 1e3:.1f}, {max(times) * 1e3:.1f} ms")
 
     def idle(self) -> None:
         resource.setrlimit(resource.RLIMIT_NOFILE, (4096, resource.getrlimit(resource.RLIMIT_NOFILE)[1]))

@@ -1,4 +1,4 @@
-"""Who can, what a change opens, and what a publish would change: as the pages' tables and the proved program have it."""
+"""Who can, what a change opens, and what a publish would change: as the pages' tables and the program have it."""
 
 import asyncio
 import re
@@ -113,10 +113,6 @@ class Analysis(rig.Case):
         asyncio.run(asked())
 
 
-if __name__ == "__main__":
-    unittest.main()
-
-
 class Failures(unittest.TestCase):
     def test_a_question_that_fails_is_answered(self) -> None:
         """Whatever it raises: the log says so, and the next question has its turn."""
@@ -131,3 +127,13 @@ class Failures(unittest.TestCase):
         answer = asyncio.run(Service.long_answer(service, ["list"], service, service))
         self.assertEqual((answer, service._long_answers), (FAILED, 0))
         self.assertIn("unexpected", warned[0])
+
+    def test_too_many_questions_at_once(self) -> None:
+        """Of those that take long, four times as many as are answered at once: one more is rejected."""
+        service: Any = SimpleNamespace(limits=SimpleNamespace(long_answers=2), _long_answers=8)
+        self.assertEqual(asyncio.run(Service.long_answer(service, ["list"], service, service)), "unavailable busy")
+        self.assertEqual(service._long_answers, 8)
+
+
+if __name__ == "__main__":
+    unittest.main()

@@ -17,6 +17,7 @@ REJECTED = (
     ("[limits]\nconnections = true", "connections: a whole number of at least 1"),
     ("[log]\ndenials = 1", "denials: a value of the type bool"),
     (LISTEN, "each at a place of its own"),
+    ('[leader]\nunix = "a\\u0000b"', "unix: a text without NUL"),
     ('[[listen]]\nunix = "x"\nprotocol = "smtp"', "the protocol 'smtp' is none of lines, http"),
     ('[[listen]]\nunix = "x"\ntcp = "127.0.0.1:1"\nprotocol = "http"', "either 'unix' or 'tcp'"),
     ('[[listen]]\nunix = "x"\nprotocol = "http"', "'allow' names nobody"),

@@ -1,6 +1,7 @@
 """Journals that aren't what was written: a start names what differs, and serves nothing."""
 
 import os
+import queue
 import random
 import shutil
 import sqlite3
@@ -8,7 +9,9 @@ import subprocess
 import threading
 import unittest
 from contextlib import closing
+from dataclasses import replace
 from pathlib import Path
+from unittest import mock
 
 import rig
 
@@ -18,6 +21,7 @@ from edits import edit_of
 from entry import Line
 from errors import Mismatch, ServiceError
 from tree import dumped
+from writer import Shown, Task, Writer
 
 #: The bytes that are flipped in a journal, each by itself.
 FLIPS = 150
@@ -103,6 +107,20 @@ class Journals(rig.Case):
                 self.assert_refused(text)
         self.assert_not_served(text)
 
+    def test_a_snapshot_that_its_lines_do_not_make(self) -> None:
+        """A start takes it, as it was written; verify compares it with the lines since the snapshot before."""
+        self.fill()
+        with stores.opened(self.store) as journal:
+            newer = journal.snapshots()[-1]
+            forged = replace(newer, lines=tuple(line.replace("FR", "FA") for line in newer.lines))
+            with journal._transaction():
+                for table in ("epochs", "snapshot"):
+                    journal._database.execute(f"DELETE FROM {table} WHERE epoch = ?", (newer.epoch,))
+                journal._write_snapshot(forged)
+            loading.load(journal).tree.close()
+        said = rig.run("verify", self.store, status=1).stderr
+        self.assertIn(f"the snapshot of epoch {newer.epoch} isn't what its lines make", said)
+
     def stash(self, where: Path) -> None:
         shutil.copytree(self.store, where)
 
@@ -186,6 +204,35 @@ class Journals(rig.Case):
         os.unlink(self.store / "mark")
         self.assert_not_served("the mark of the journal is missing")
 
+    def test_a_commit_is_flushed(self) -> None:
+        """What is committed survives a loss of power as SQLite has it: in a log, which each commit flushes."""
+        self.make()
+        with stores.opened(self.store) as journal:
+            said = [journal._database.execute(f"PRAGMA {name}").fetchone() for name in ("journal_mode", "synchronous")]
+        self.assertEqual(said, [("wal",), (2,)])
+
+    def test_the_library_s_journal_gets_full(self) -> None:
+        """A new epoch starts however many lines it may have, without a restart; no edit is lost or refused."""
+        self.make()
+        shown: "queue.SimpleQueue[Shown]" = queue.SimpleQueue()
+        warned: list[str] = []
+        with mock.patch("writer.MOST_EDITS", 20), stores.opened(self.store) as journal:
+            writer = Writer(journal, loading.load(journal), lambda tasks, now: shown.put(now), warned.append)
+            writer.start()
+            count, epoch = 0, 1
+            while epoch < 4:
+                for line in (f"addo /n{count} O:BAG:SYD:", "publish"):
+                    edit = None if line == "publish" else edit_of(line.split(" "), writer.shown.view)
+                    writer.put(Task(edit, line, "", "uid:0", lambda task: None))
+                count += 1
+                epoch = shown.get(timeout=rig.PATIENCE).epoch
+            writer.stop()
+        self.assertGreaterEqual(count, 20)
+        self.assertEqual(warned, [])
+        self.start()
+        self.assertEqual(self.said("tell", f"show 0 /n{count - 1}"),
+                         [f"told {count}", f"seen {count} shown O:BAG:SYD:AI(A;ID;FR;;;BU)"])
+
     def test_one_process_alone(self) -> None:
         self.make()
         self.start()
@@ -252,28 +299,15 @@ class Journals(rig.Case):
 
     def fill_disk(self, limits: str = "") -> None:
         """Where the disk is full an edit is answered `unavailable journal`, and reads go on; later edits are taken."""
-        if os.geteuid() != 0:
-            self.skipTest("root is required for a small file system")
-        small = self.room / "small"
-        small.mkdir()
-        if subprocess.run(["mount", "-t", "tmpfs", "-o", "size=1m", "tmpfs", str(small)], check=False).returncode != 0:
-            self.skipTest("no file system can be mounted here")
-        self.addCleanup(subprocess.run, ["umount", "-l", str(small)], check=False)
+        small = self.mount_small()
         self.store = small / "store"
         self.make()
         self.start(limits)
-        accepted, published, answer = 0, 0, "ok"
         with self.connect() as asked:
-            while answer == "ok":
-                answer = asked.ask(f"addo /n{accepted} O:BAG:SYD:(A;;FR;;;{rig.USER}){'(A;;FR;;;BU)' * 100}")
-                accepted += answer == "ok"
-                if answer == "ok" and accepted % 20 == 0:
-                    answer = asked.ask("publish")
-                    if answer == f"published {accepted}":
-                        answer, published = "ok", accepted
-            self.assertEqual(answer, "unavailable journal")
+            accepted, published = self.fill_journal(asked)
             self.assertGreater(published, 20)
-            for at in range(3):
+            self.assertEqual((self.get("/readyz")[0], self.metrics()["sdstored_takes_edits"]), (503, 0))
+            for _ in range(3):
                 # A publish that isn't on disk is shown to nobody.
                 asked.send(f"p addo /p O:BAG:SYD:{'(A;;FR;;;BU)' * 2000}\np publish\np tell\n".encode())
                 said = [asked.read().decode() for _ in range(3)]
@@ -289,10 +323,35 @@ class Journals(rig.Case):
             subprocess.run(["mount", "-o", "remount,size=64m", str(small)], check=True)
             self.assertEqual(asked.ask("addo /after O:BAG:SYD:"), "ok")
             self.assertEqual(asked.ask("publish"), f"published {accepted + 1}")
+            self.assertEqual((self.get("/readyz")[0], self.metrics()["sdstored_takes_edits"]), (200, 1))
         self.kill()
         self.start()
         self.assertEqual(self.said("tell"), [f"told {accepted + 1}"])
         self.stop()
+
+    def mount_small(self) -> Path:
+        """A file system of 1 MiB, until the end of the test."""
+        if os.geteuid() != 0:
+            self.skipTest("root is required for a small file system")
+        small = self.room / "small"
+        small.mkdir()
+        if subprocess.run(["mount", "-t", "tmpfs", "-o", "size=1m", "tmpfs", str(small)], check=False).returncode != 0:
+            self.skipTest("no file system can be mounted here")
+        self.addCleanup(subprocess.run, ["umount", "-l", str(small)], check=False)
+        return small
+
+    def fill_journal(self, asked: rig.Lines) -> tuple[int, int]:
+        """Edits, and publishes now and then, until one isn't taken. Returns how many edits were, and were published."""
+        accepted, published, answer = 0, 0, "ok"
+        while answer == "ok":
+            answer = asked.ask(f"addo /n{accepted} O:BAG:SYD:(A;;FR;;;{rig.USER}){'(A;;FR;;;BU)' * 100}")
+            accepted += answer == "ok"
+            if answer == "ok" and accepted % 20 == 0:
+                answer = asked.ask("publish")
+                if answer == f"published {accepted}":
+                    answer, published = "ok", accepted
+        self.assertEqual(answer, "unavailable journal")
+        return accepted, published
 
 
 if __name__ == "__main__":

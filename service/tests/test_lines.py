@@ -76,8 +76,8 @@ class SameAnswers(rig.Case):
         chance = Chance(54)
         lines = [f"i{at} {chance.line()}\n".encode() for at in range(4000)]
         lines[100:100] = [b"#x\n", b"\n", b"7\n", b"8 \n", b"9 tell\xff\n", b"\xef\xbb\xbf1 tell\n", b" why\n",
-                          b"why list /\n", b"5 find\n", b"6 who /\n", b"1\ttell\n", b"2 tell\r\n", b"open tell\n", b"3  tell\n", b"4 # tell\n",
-                          b"\xc3\xa9 tell\n"]
+                          b"why list /\n", b"5 find\n", b"6 who /\n", b"1\ttell\n", b"2 tell\r\n", b"open tell\n",
+                          b"3  tell\n", b"4 # tell\n", b"\xc3\xa9 tell\n"]
         given = b"".join(lines)
         opening = b"o open 1 O:BAG:SYD:(A;OICI;FR;;;BU)\n"
         command = [rig.SDSTORE, "--percent", "serve", "--ids"]

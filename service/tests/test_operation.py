@@ -1,0 +1,87 @@
+"""What an operator sees: the records of the log, what systemd is sent, and when a service is ready."""
+
+import os
+import signal
+import socket
+import unittest
+from unittest import mock
+
+import rig
+
+WHO = f"uid:{os.getuid()}"
+
+
+class Operation(rig.Case):
+    def records(self, what: str) -> list[dict[str, object]]:
+        """The events of this name, without it and their times."""
+        return [{name: value for name, value in each.items() if name not in ("time", "event")}
+                for each in self.events() if each["event"] == what]
+
+    def test_an_edit_has_a_record_before_its_answer(self) -> None:
+        self.make()
+        self.start()
+        with self.connect() as asked:
+            for at, (line, key, answer, number) in enumerate((
+                ("addo /a O:BAG:SYD:", "", "ok", 1),
+                ("addo /a O:BAG:SYD:", "k", "refused 3 Exists", 0),
+                ("addo /%0A\" O:BAG:SYD:", "k2", "ok", 2),
+                ("publish", "", "published 2", 3),
+                ("publish", "", "published 2", 0),
+            )):
+                self.assertEqual(asked.ask(f"once {key} {line}" if key else line), answer)
+                record = {"who": WHO, "key": key, "line": line, "answer": answer, "number": number}
+                self.assertEqual(self.records("edit")[at:], [record])
+            # What isn't an edit has none, and no check that is denied has one unless that is asked for.
+            self.assertEqual(asked.ask("addo /b X"), "fault sddl 1 Syntax at 0")
+            self.assertEqual(asked.ask(f"check 0 / {rig.USER} FW"), "seen 2 denied 0x120116")
+        self.assertEqual((len(self.records("edit")), self.records("denial")), (5, []))
+
+    def test_denials(self) -> None:
+        self.make()
+        self.start(more="[log]\ndenials = true")
+        asked = [f"check 0 / {rig.USER} FR BU", f"check 0 / {rig.USER} FW BU", f"checks 0 2 / /x {rig.USER} FW",
+                 f"check 0 /x {rig.USER} FW"]
+        answers = ["seen 0 granted 0x120089", "seen 0 denied 0x116", "seen 0 denied 0x120116, nonode", "seen 0 nonode"]
+        self.assertEqual(self.said(*asked), answers)
+        self.assertEqual(self.records("denial"), [
+            {"who": WHO, "asked": asked[at], "answer": answers[at]} for at in (1, 2)])
+
+    def test_what_systemd_is_sent(self) -> None:
+        self.make()
+        with socket.socket(socket.AF_UNIX, socket.SOCK_DGRAM) as systemd:
+            systemd.bind(str(self.room / "notify"))
+            systemd.settimeout(rig.PATIENCE)
+            with mock.patch.dict(os.environ, NOTIFY_SOCKET=str(self.room / "notify")):
+                self.start()
+            self.assertEqual(systemd.recv(100), b"READY=1")
+            self.assertEqual(self.said("tell"), ["told 0"])
+            self.stop()
+            self.assertEqual(systemd.recv(100), b"STOPPING=1")
+
+    def test_statuses(self) -> None:
+        """Invalid arguments, a store that isn't there, and an invalid configuration: nothing is made."""
+        rig.run("frob", status=2)
+        rig.run("verify", status=2)
+        rig.run("init", self.store, "--mapping", "disk", status=2)
+        for words in (("verify", self.room / "none"), ("backup", self.room / "none", self.room / "copy"),
+                      ("restore", self.room / "none", self.store)):
+            with self.subTest(words):
+                self.assertIn("none", rig.run(*words, status=3).stderr)
+        self.assertEqual([each.name for each in self.room.iterdir()], [])
+        self.configure()
+        rig.run("run", self.config, status=3)
+        self.config.write_text("folder = 7")
+        self.assertIn("listen: a value of the type list", rig.run("run", self.config, status=2).stderr)
+
+    def test_interrupts(self) -> None:
+        """SIGINT ends it as SIGTERM does."""
+        self.make()
+        self.start()
+        self.assertEqual(self.said("addo /a O:BAG:SYD:"), ["ok"])
+        self.process.send_signal(signal.SIGINT)
+        self.assertEqual(self.process.wait(rig.PATIENCE), 0)
+        self.assertEqual(rig.run("verify", self.store).stdout, "epoch 1, line 1, published 0\n")
+
+
+if __name__ == "__main__":
+    unittest.main()
