@@ -4,6 +4,7 @@ import hashlib
 import re
 import secrets
 from dataclasses import dataclass
+from typing import NamedTuple
 
 
 def new_store() -> str:
@@ -16,8 +17,7 @@ def is_store(text: str) -> bool:
     return re.fullmatch("[0-9a-f]{32}", text) is not None
 
 
-@dataclass(frozen=True, slots=True)
-class Line:
+class Line(NamedTuple):
     """An accepted edit, or a publish, with its answer."""
 
     epoch: int
@@ -32,12 +32,10 @@ class Line:
 
     def chained(self, store: str, before: bytes) -> bytes:
         """The digest of the chain before the line, and of the line in the store of this id."""
-        fields = (store, self.epoch, self.number, self.time, self.who, self.key, self.line, self.answer)
-        return hashlib.sha256(before + "\n".join(map(str, fields)).encode()).digest()
+        return hashlib.sha256(before + "\n".join(map(str, (store, *self))).encode()).digest()
 
 
-@dataclass(frozen=True, slots=True)
-class Place:
+class Place(NamedTuple):
     """A state of a store: the number of its last line, and the chain up to it. Wherever it is a text it is `NUMBER
     CHAIN`, with the chain in hexadecimal digits."""
 

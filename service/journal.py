@@ -17,6 +17,8 @@ from mark import Mark
 VERSION = 1
 #: A line that isn't needed to make the tree is kept while it is one of the last so many: so long a client's key counts.
 KEPT_LINES = 65_536
+#: The most lines of one commit: SQLite takes 32,766 values.
+MOST_LINES = 1_000
 #: The lines of a snapshot that one row has.
 _LINES_IN_ROW = 256
 DATABASE, MARK = "journal.sqlite", "mark"
@@ -33,6 +35,7 @@ CREATE TABLE lines (number INTEGER PRIMARY KEY, epoch INTEGER NOT NULL, time INT
 CREATE UNIQUE INDEX lines_by_key ON lines (key) WHERE key <> '';
 """
 _LINE = "epoch, number, time, who, key, line, answer"
+_INSERT, _ROW = f"INSERT INTO lines ({_LINE}, chain) VALUES", "(?, ?, ?, ?, ?, ?, ?, ?)"
 
 
 class Journal:
@@ -115,12 +118,11 @@ class Journal:
     # Writes
 
     def append(self, lines: Sequence[tuple[Line, bytes]]) -> None:
-        """Appends lines with their chains by one commit, which is on disk at the return."""
-        rows = [(each.number, each.epoch, each.time, each.who, each.key, each.line, each.answer, chain)
-                for each, chain in lines]
-        with self._transaction():
-            self._database.executemany("INSERT INTO lines VALUES (?, ?, ?, ?, ?, ?, ?, ?)", rows)
-        self._move_mark(Place(rows[-1][0], rows[-1][-1]))
+        """Appends lines with their chains by one statement, and so one commit, which is on disk at the return."""
+        values = [value for line, chain in lines for value in (*line, chain)]
+        self._database.execute(f"{_INSERT} {', '.join([_ROW] * len(lines))}", values)
+        line, chain = lines[-1]
+        self._move_mark(Place(line.number, chain))
 
     def start_epoch(self, snapshot: Snapshot, last: int) -> None:
         """Adds a snapshot by one commit, and drops what neither it nor the one before needs; `last` is the number of

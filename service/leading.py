@@ -9,12 +9,10 @@ from typing import Any
 
 from entry import Line, Place, Snapshot, is_store
 from errors import Fault, Mismatch
-from journal import Journal
+from journal import MOST_LINES, Journal
 from spelling import number_of
 from tree import MAPPINGS
 
-#: The most lines of one answer.
-MOST_LINES = 1_000
 #: The types of what a row of a line has, and the head of a snapshot, and the end of their numbers, which SQLite takes.
 _LINE = [int, int, int, str, str, str, str, str]
 _HEAD = [str, str, int, int, str, int]
@@ -57,7 +55,7 @@ def made_between(file: Path, after: int, last: int) -> Iterator[str]:
 
 def row_of(line: Line, chain: bytes) -> str:
     """A line and its chain."""
-    return json.dumps([line.epoch, line.number, line.time, line.who, line.key, line.line, line.answer, chain.hex()])
+    return json.dumps([*line, chain.hex()])
 
 
 def line_in(row: str) -> tuple[Line, bytes]:

@@ -5,12 +5,13 @@ import secrets
 import time
 from collections.abc import Iterator, Sequence
 from contextlib import contextmanager
+from itertools import islice
 from pathlib import Path
 
 from entry import Line, Place, Snapshot, new_store
 from errors import Fault, Invalid, Mismatch
 from folders import locked, make_folder, sync_folder
-from journal import DATABASE, MARK, Journal, create
+from journal import DATABASE, MARK, MOST_LINES, Journal, create
 from loading import Loaded, verify
 from mark import Mark, create_mark
 from tree import MAPPINGS, built, dumped
@@ -92,14 +93,18 @@ def make(folder: Path, store: str, mapping: str, snapshot: Snapshot, pending: Se
         create(made / DATABASE, store, mapping, snapshot)
         create_mark(made / MARK, store, snapshot.place)
         with opened(made) as journal:
-            chain, lines = snapshot.place.chain, []
-            for each in pending:
-                now = time.time_ns() // 1_000_000
-                line = Line(snapshot.epoch, each.number, now, each.who, each.key, each.line, each.answer)
-                chain = line.chained(store, chain)
-                lines.append((line, chain))
-            if lines:
-                journal.append(lines)
+            lines = _chained(store, snapshot, pending)
+            while batch := list(islice(lines, MOST_LINES)):
+                journal.append(batch)
             journal.close_log()
 
     make_folder(folder, fill)
+
+
+def _chained(store: str, snapshot: Snapshot, pending: Sequence[Line]) -> Iterator[tuple[Line, bytes]]:
+    """The lines, as those of the store after the snapshot."""
+    chain = snapshot.place.chain
+    for each in pending:
+        line = each._replace(epoch=snapshot.epoch, time=time.time_ns() // 1_000_000)
+        chain = line.chained(store, chain)
+        yield line, chain

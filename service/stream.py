@@ -10,8 +10,8 @@ from itertools import islice
 
 from entry import Line, Place, Snapshot
 from errors import Failed, Invalid, Mismatch
-from journal import Journal
-from leading import MOST_LINES, Lines, line_in, row_of, snapshot_in, snapshot_text
+from journal import MOST_LINES, Journal
+from leading import Lines, line_in, row_of, snapshot_in, snapshot_text
 from redis_client import Redis, Reply
 
 #: Appends rows to the last line, or none.

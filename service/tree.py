@@ -23,9 +23,9 @@ class Tree:
 
     def __init__(self, root: Descriptor, mapping: str) -> None:
         self._store = Store(root, MAPPINGS[mapping])
-        self._before = 0
-        #: The published tree.
+        #: The published tree, and the number of published edits.
         self.view = self._store.publish()
+        self.length = len(self.view)
 
     def make(self, edit: Edit) -> str:
         """Makes the edit: `ok`, or why it is refused."""
@@ -34,6 +34,7 @@ class Tree:
     def publish(self) -> View:
         """Publishes all pending edits, and returns the view that was published until now, which the caller closes."""
         old, self.view = self.view, self._store.publish()
+        self.length += len(self.view) - len(old)
         return old
 
     def pending_view(self) -> View:
@@ -41,27 +42,9 @@ class Tree:
         return self._store.publish()
 
     @property
-    def length(self) -> int:
-        """The number of published edits."""
-        return self._before + len(self.view)
-
-    @property
-    def pending_length(self) -> int:
-        """The same with the pending ones."""
-        return self._before + len(self._store)
-
-    @property
-    def has_pending(self) -> bool:
-        return len(self._store) != len(self.view)
-
-    @property
-    def own_length(self) -> int:
-        """The number of edits in the library's journal, of which it takes 1,048,576."""
-        return len(self._store)
-
-    def continue_from(self, length: int) -> None:
-        """Makes the published length this one: what was counted before is counted on."""
-        self._before = length - len(self.view)
+    def pending(self) -> int:
+        """The number of pending edits."""
+        return len(self._store) - len(self.view)
 
     def close(self) -> None:
         self.view.close()
@@ -88,7 +71,7 @@ def built(lines: Sequence[str], mapping: str, length: int | None = None) -> Tree
     else:
         raise Mismatch("the snapshot doesn't end with a line 'publish'")
     if length is not None:
-        tree.continue_from(length)
+        tree.length = length
     return tree
 
 

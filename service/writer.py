@@ -29,7 +29,8 @@ from tree import Tree, built, dumped, first_difference
 
 #: The edits that share one commit at most.
 MOST_AT_ONCE = 512
-#: A library's journal takes 1,048,576 edits; a new epoch starts well before.
+#: A library's journal takes 1,048,576 edits, of which a snapshot has 65,536 at most: a new epoch starts after so many
+#: more.
 MOST_EDITS = 900_000
 UNAVAILABLE, NO_MEMORY, NO_LEADER = "unavailable journal", "unavailable memory", "unavailable replica"
 
@@ -240,7 +241,7 @@ class Writer:
     def _publish(self, task: Task) -> bool:
         """Publishes what is pending; without that nothing changes."""
         tree = self.state.tree
-        has_pending = tree.has_pending
+        has_pending = tree.pending > 0
         if has_pending:
             self._drop(tree.publish())
         task.answer = f"published {tree.length}"
@@ -291,7 +292,8 @@ class Writer:
         try:
             if self.is_lost:
                 raise Fault(UNAVAILABLE)
-            pending = Pending(shown.view.share(), tree.pending_view(), shown.length, tree.pending_length)
+            length = shown.length + tree.pending
+            pending = Pending(shown.view.share(), tree.pending_view(), shown.length, length)
             found.set_result((pending, (shown.place.number, shown.last.number)))
         except (Fault, MemoryError) as error:
             found.set_exception(error)
@@ -333,7 +335,7 @@ class Writer:
     def _make_epoch_if_due(self) -> None:
         """Starts to make one in the background, if there are enough lines and none is being made."""
         state, shown = self.state, self.shown
-        is_long = state.last.number - state.since >= self.lines_in_epoch or state.tree.own_length >= MOST_EDITS
+        is_long = state.last.number - state.since >= min(self.lines_in_epoch, MOST_EDITS)
         is_due = is_long and shown.place.number > state.since and not self.is_lost
         if is_due and self._maker is None:
             arguments = (shown, shown.view.share(), self.journal.mapping)
