@@ -32,7 +32,7 @@ class Limits:
     edits: int = 4_096
     #: The questions about many nodes, or about all tokens, that are answered at once.
     long_answers: int = 2
-    #: After so many lines a new epoch starts.
+    #: After so many lines a new epoch starts, and after 900,000 at the latest.
     lines_in_epoch: int = 100_000
 
 

@@ -15,6 +15,53 @@ from api import ROUTES
 
 API = json.loads((rig.SERVICE / "openapi.json").read_text())
 
+#: A check that is answered, and requests with the status and the fault of each.
+CHECK = {"user": rig.USER, "groups": ["BU"], "checks": [{"path": "/", "mask": "FR"}]}
+FAULTS: tuple[tuple[str, object, int, str], ...] = (
+    ("/v1/check", "{", 400, "json"),
+    ("/v1/check", "[]", 400, "json"),
+    ("/v1/check", '{"user": 1, "user": 2}', 400, "json"),
+    ("/v1/check", "[" * 100000, 400, "json"),
+    ("/v1/check", '{"seen": NaN}', 400, "json"),
+    ("/v1/check", {}, 400, "user"),
+    ("/v1/check", CHECK | {"more": 1}, 400, "'more'"),
+    ("/v1/check", CHECK | {"user": "BU x"}, 400, "user"),
+    ("/v1/check", CHECK | {"user": "QQ"}, 400, "sid"),
+    ("/v1/check", CHECK | {"groups": ["BU="]}, 400, "token"),
+    ("/v1/check", CHECK | {"groups": ["BU\npublish"]}, 400, "groups"),
+    ("/v1/check", CHECK | {"groups": "BU"}, 400, "groups"),
+    ("/v1/check", CHECK | {"checks": [{"path": "a", "mask": "FR"}]}, 400, "path"),
+    ("/v1/check", CHECK | {"checks": [{"path": "/", "mask": "QQ"}]}, 400, "mask"),
+    ("/v1/check", CHECK | {"checks": [{"path": "/\ud800", "mask": "FR"}]}, 400, "utf8"),
+    ("/v1/check", CHECK | {"checks": [{"path": "/a/b/%2F\x00", "mask": "FR"}]}, 400, "path"),
+    ("/v1/check", CHECK | {"checks": [7]}, 400, "checks"),
+    ("/v1/check", CHECK | {"seen": -1}, 400, "seen"),
+    ("/v1/check", CHECK | {"seen": True}, 400, "seen"),
+    ("/v1/check", CHECK | {"seen": 9}, 409, "nonotice"),
+    ("/v1/check", CHECK | {"store": "other"}, 409, "nonotice"),
+    ("/v1/edit", {"edits": [{"edit": "open"}]}, 400, "edit"),
+    ("/v1/edit", {"edits": [{"edit": "remove", "path": "/", "sid": "BU"}]}, 400, "'sid'"),
+    ("/v1/edit", {"edits": [], "publish": 1}, 400, "publish"),
+    ("/v1/check", CHECK | {"store": 7}, 400, "store"),
+    ("/v1/edit", {"edits": [], "key": "a b"}, 409, "key"),
+    ("/v1/edit", {"edits": [], "key": ""}, 409, "key"),
+    ("/v1/publish", {"key": None}, 409, "key"),
+    ("/v1/show", {"path": ""}, 400, "path"),
+    ("/v1/list", {"path": "/none"}, 404, "nonode"),
+    ("/v1/list", {"path": "none"}, 400, "path"),
+    ("/v1/find", {"user": rig.USER, "mask": "FR", "path": "/none"}, 404, "nonode"),
+    ("/v1/find", {"user": rig.USER, "mask": "QQ"}, 400, "mask"),
+    ("/v1/find", {"user": rig.USER, "mask": "FR", "seen": 9}, 409, "nonotice"),
+    ("/v1/who", {"path": "/none"}, 404, "nonode"),
+    ("/v1/who", {"path": "/", "groups": ["BU=restrict"]}, 400, "token"),
+    ("/v1/who", {"path": "/", "user": rig.USER}, 400, "'user'"),
+    ("/v1/compare", {"path": "/none", "descriptor": "D:"}, 404, "nonode"),
+    ("/v1/compare", {"path": "/"}, 400, "descriptor"),
+    ("/v1/compare", {"path": "/", "descriptor": "X"}, 400, "sddl 1 Syntax at 0"),
+    ("/v1/review", {"path": "/none"}, 404, "nonode"),
+    ("/v1/review", {"path": "none"}, 400, "path"),
+)
+
 
 def fits(value: Any, schema: dict[str, Any]) -> bool:
     """Whether the value is one of the schema, by the few words of JSON Schema that openapi.json uses."""
@@ -70,6 +117,20 @@ class Http(rig.Case):
 
     def test_requests(self) -> None:
         self.start()
+        self.edit()
+        self.ask_at_once()
+        self.ask_about_many()
+        self.assertEqual(self.ask("/v1/edit", {"edits": [{"edit": "remove", "path": "/d/é"}]})[1]["seen"], 5)
+        said = self.ask("/v1/review", {"path": "/d"})[1]
+        self.assertEqual((said["seen"], said["pending"], said["changes"]), (5, 6, ["gone /d/%C3%A9"]))
+        self.assertEqual(self.ask("/v1/publish", {})[1]["answers"][0]["answer"], "published 6")
+        self.assertEqual(self.ask("/v1/publish", {})[1]["answers"], [{"answer": "published 6", "line": 0}])
+        status, body = self.curl("/v1/status")
+        schema = API["paths"]["/v1/status"]["get"]["responses"]["200"]["content"]["application/json"]["schema"]
+        self.assertTrue(status == 200 and fits(json.loads(body), schema), body)
+
+    def edit(self) -> None:
+        """Edits with a key: sent again, each has the line that it had."""
         edits = [
             {"edit": "addo", "path": "/d/a b\n", "descriptor": "O:BAG:SYD:(A;;FW;;;BU)"},
             {"edit": "remove", "path": "/none"},
@@ -83,6 +144,8 @@ class Http(rig.Case):
                          (200, ["ok", "refused 4 NoNode", "fault sid", "ok", "ok", "ok", "published 5"]))
         status, said = self.ask("/v1/edit", {"edits": edits, "publish": True, "key": "k"})
         self.assertEqual([each["line"] for each in said["answers"]], [1, 0, 0, 2, 3, 4, 5])
+
+    def ask_at_once(self) -> None:
         checks = [{"path": "/d/é", "mask": "FR"}, {"path": "/", "mask": "FA"}, {"path": "/x", "mask": "FR"},
                   {"path": "/", "mask": "0"}]
         status, said = self.ask("/v1/check", {"user": rig.USER, "groups": ["BU"], "checks": checks, "seen": 5})
@@ -96,6 +159,9 @@ class Http(rig.Case):
         self.assertEqual(self.ask("/v1/show", {"path": "/d/é"})[1]["descriptor"],
                          "O:BAG:SYD:AI(A;;FA;;;BU)(A;ID;FR;;;BU)")
         self.assertEqual(self.ask("/v1/show", {"path": "/x"}), (404, {"fault": "nonode"}))
+
+    def ask_about_many(self) -> None:
+        """Questions about many nodes, or about all tokens."""
         self.assertEqual([each["path"] for each in self.ask("/v1/list", {})[1]["nodes"]], ["/", "/d", "/d/é"])
         kinds = [each["kind"] for each in self.ask("/v1/list", {"path": "/d"})[1]["nodes"]]
         self.assertEqual(kinds, ["container", "object"])
@@ -110,65 +176,13 @@ class Http(rig.Case):
         self.assertEqual(self.ask("/v1/compare", change | {"groups": ["BU=deny"]})[1]["changes"],
                          ["gained 0xd0176 by S-1-5-32-545"])
         self.assertEqual(self.ask("/v1/compare", change | {"descriptor": "O:BAD:(A;;FR;;;BU)"})[1]["changes"], [])
-        self.assertEqual(self.ask("/v1/edit", {"edits": [{"edit": "remove", "path": "/d/é"}]})[1]["seen"], 5)
-        said = self.ask("/v1/review", {"path": "/d"})[1]
-        self.assertEqual((said["seen"], said["pending"], said["changes"]), (5, 6, ["gone /d/%C3%A9"]))
-        self.assertEqual(self.ask("/v1/publish", {})[1]["answers"][0]["answer"], "published 6")
-        self.assertEqual(self.ask("/v1/publish", {})[1]["answers"], [{"answer": "published 6", "line": 0}])
-        status, body = self.curl("/v1/status")
-        schema = API["paths"]["/v1/status"]["get"]["responses"]["200"]["content"]["application/json"]["schema"]
-        self.assertTrue(status == 200 and fits(json.loads(body), schema), body)
 
     def test_faults(self) -> None:
         self.start()
-        check = {"user": rig.USER, "groups": ["BU"], "checks": [{"path": "/", "mask": "FR"}]}
-        for target, given, status, fault in (
-            ("/v1/check", "{", 400, "json"),
-            ("/v1/check", "[]", 400, "json"),
-            ("/v1/check", '{"user": 1, "user": 2}', 400, "json"),
-            ("/v1/check", "[" * 100000, 400, "json"),
-            ("/v1/check", '{"seen": NaN}', 400, "json"),
-            ("/v1/check", {}, 400, "user"),
-            ("/v1/check", check | {"more": 1}, 400, "'more'"),
-            ("/v1/check", check | {"user": "BU x"}, 400, "user"),
-            ("/v1/check", check | {"user": "QQ"}, 400, "sid"),
-            ("/v1/check", check | {"groups": ["BU="]}, 400, "token"),
-            ("/v1/check", check | {"groups": ["BU\npublish"]}, 400, "groups"),
-            ("/v1/check", check | {"groups": "BU"}, 400, "groups"),
-            ("/v1/check", check | {"checks": [{"path": "a", "mask": "FR"}]}, 400, "path"),
-            ("/v1/check", check | {"checks": [{"path": "/", "mask": "QQ"}]}, 400, "mask"),
-            ("/v1/check", check | {"checks": [{"path": "/\ud800", "mask": "FR"}]}, 400, "utf8"),
-            ("/v1/check", check | {"checks": [{"path": "/a/b/%2F\x00", "mask": "FR"}]}, 400, "path"),
-            ("/v1/check", check | {"checks": [7]}, 400, "checks"),
-            ("/v1/check", check | {"seen": -1}, 400, "seen"),
-            ("/v1/check", check | {"seen": True}, 400, "seen"),
-            ("/v1/check", check | {"seen": 9}, 409, "nonotice"),
-            ("/v1/check", check | {"store": "other"}, 409, "nonotice"),
-            ("/v1/edit", {"edits": [{"edit": "open"}]}, 400, "edit"),
-            ("/v1/edit", {"edits": [{"edit": "remove", "path": "/", "sid": "BU"}]}, 400, "'sid'"),
-            ("/v1/edit", {"edits": [], "publish": 1}, 400, "publish"),
-            ("/v1/check", check | {"store": 7}, 400, "store"),
-            ("/v1/edit", {"edits": [], "key": "a b"}, 409, "key"),
-            ("/v1/edit", {"edits": [], "key": ""}, 409, "key"),
-            ("/v1/publish", {"key": None}, 409, "key"),
-            ("/v1/show", {"path": ""}, 400, "path"),
-            ("/v1/list", {"path": "/none"}, 404, "nonode"),
-            ("/v1/list", {"path": "none"}, 400, "path"),
-            ("/v1/find", {"user": rig.USER, "mask": "FR", "path": "/none"}, 404, "nonode"),
-            ("/v1/find", {"user": rig.USER, "mask": "QQ"}, 400, "mask"),
-            ("/v1/find", {"user": rig.USER, "mask": "FR", "seen": 9}, 409, "nonotice"),
-            ("/v1/who", {"path": "/none"}, 404, "nonode"),
-            ("/v1/who", {"path": "/", "groups": ["BU=restrict"]}, 400, "token"),
-            ("/v1/who", {"path": "/", "user": rig.USER}, 400, "'user'"),
-            ("/v1/compare", {"path": "/none", "descriptor": "D:"}, 404, "nonode"),
-            ("/v1/compare", {"path": "/"}, 400, "descriptor"),
-            ("/v1/compare", {"path": "/", "descriptor": "X"}, 400, "sddl 1 Syntax at 0"),
-            ("/v1/review", {"path": "/none"}, 404, "nonode"),
-            ("/v1/review", {"path": "none"}, 400, "path"),
-        ):
+        for target, given, status, fault in FAULTS:
             with self.subTest(given=str(given)[:80]):
                 self.assertEqual(self.ask(target, given), (status, {"fault": fault}))
-        self.assertEqual(self.ask("/v1/check", check, "text/plain"), (415, {"fault": "content-type"}))
+        self.assertEqual(self.ask("/v1/check", CHECK, "text/plain"), (415, {"fault": "content-type"}))
         self.assertEqual(self.curl("/v2"), (404, '{"fault": "path of the request"}'))
         self.assertEqual(self.curl("/v1/check"), (405, '{"fault": "method"}'))
         self.assertEqual(self.said("publish"), ["published 1"])
