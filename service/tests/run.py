@@ -20,7 +20,8 @@ def report(tests: unittest.TestSuite) -> int:
         print(f"{test.id()}: {why}")
     for test, why in result.skipped:
         print(f"skipped: {test.id()}: {why}")
-    failed = len({test.id() for test, _ in result.failures + result.errors})
+    # A failure of a part of a test, by `subTest`, is one of the test.
+    failed = len({getattr(test, "test_case", test).id() for test, _ in result.failures + result.errors})
     passed = result.testsRun - failed - len(result.skipped)
     print(f"{passed} passed, {failed} failed")
     return int(failed > 0 or passed == 0)

@@ -3,6 +3,7 @@
 import os
 import queue
 import random
+import re
 import shutil
 import sqlite3
 import subprocess
@@ -20,11 +21,17 @@ import stores
 from edits import edit_of
 from entry import Line
 from errors import Mismatch, ServiceError
+from journal import Journal
 from tree import dumped
 from writer import Shown, Task, Writer
 
 #: The bytes that are flipped in a journal, each by itself.
 FLIPS = 150
+
+
+def found(part: bytes, whole: bytes) -> list[int]:
+    """Where the part is."""
+    return [each.start() for each in re.finditer(re.escape(part), whole)]
 
 
 class Journals(rig.Case):
@@ -182,6 +189,29 @@ class Journals(rig.Case):
                 named += self._is_named()
         self.assertGreater(named, FLIPS // 4)
 
+    def test_flipped_bits_of_what_counts(self) -> None:
+        """In a database without a log, which has no sums of its own: each part of a line, the index and a snapshot."""
+        self.fill()
+        self.start()
+        self.stop()
+        whole = (self.store / "journal.sqlite").read_bytes()
+        with self.database() as database:
+            who, key, line, answer, chain = database.execute(
+                "SELECT who, key, line, answer, chain FROM lines WHERE key = 'k65'").fetchone()
+            (lines,) = database.execute("SELECT lines FROM snapshot ORDER BY epoch LIMIT 1").fetchone()
+        row = f"{who}{key}{line}{answer}".encode() + chain
+        parts = [0, len(who), len(who + key), len(row) - len(chain) - 1, len(row) - 1]
+        places = [at + part for at in found(row, whole) for part in parts]
+        places += [at for at in found(key.encode(), whole) if at + len(key) not in found(line.encode(), whole)]
+        places += found(lines.encode()[:200], whole)
+        self.assertGreater(len(places), len(parts) + 1)
+        for at in places:
+            with self.subTest(at=at, near=whole[at - 20 : at + 20]):
+                data = bytearray(whole)
+                data[at] ^= 1
+                (self.store / "journal.sqlite").write_bytes(data)
+                self.assertTrue(self._is_named())
+
     def _is_named(self) -> bool:
         """Whether a start ends by the journal. Else it serves exactly what was acknowledged."""
         try:
@@ -201,6 +231,10 @@ class Journals(rig.Case):
         for text, said in ((b"", "it isn't a mark"), (b"x" * 128, "it isn't a mark"), (mark[::-1], "it isn't a mark")):
             (self.store / "mark").write_bytes(text)
             self.assert_refused(said)
+        # That of another history of the store, which is as long.
+        digit = mark.rstrip()[-1:]
+        (self.store / "mark").write_bytes(mark.rstrip()[:-1] + (b"0" if digit != b"0" else b"1"))
+        self.assert_refused("line 79 isn't the one that was acknowledged")
         os.unlink(self.store / "mark")
         self.assert_not_served("the mark of the journal is missing")
 
@@ -218,20 +252,47 @@ class Journals(rig.Case):
         warned: list[str] = []
         with mock.patch("writer.MOST_EDITS", 20), stores.opened(self.store) as journal:
             writer = Writer(journal, loading.load(journal), lambda tasks, now: shown.put(now), warned.append)
-            writer.start()
-            count, epoch = 0, 1
-            while epoch < 4:
-                for line in (f"addo /n{count} O:BAG:SYD:", "publish"):
-                    edit = None if line == "publish" else edit_of(line.split(" "), writer.shown.view)
-                    writer.put(Task(edit, line, "", "uid:0", lambda task: None))
-                count += 1
-                epoch = shown.get(timeout=rig.PATIENCE).epoch
-            writer.stop()
+            count = self.edit_until(writer, shown, 4)
         self.assertGreaterEqual(count, 20)
         self.assertEqual(warned, [])
         self.start()
         self.assertEqual(self.said("tell", f"show 0 /n{count - 1}"),
                          [f"told {count}", f"seen {count} shown O:BAG:SYD:AI(A;ID;FR;;;BU)"])
+
+    def test_an_epoch_whose_commit_fails(self) -> None:
+        """It may be on disk all the same: the journal is read again, and goes on."""
+        self.make()
+        shown: "queue.SimpleQueue[Shown]" = queue.SimpleQueue()
+        warned: list[str] = []
+        begin = Journal.start_epoch
+
+        def fail(*arguments: object) -> None:
+            begin(*arguments)
+            if not warned:
+                raise sqlite3.OperationalError("disk I/O error")
+
+        with mock.patch.object(Journal, "start_epoch", fail), stores.opened(self.store) as journal:
+            writer = Writer(journal, loading.load(journal), lambda tasks, now: shown.put(now), warned.append, 5)
+            count = self.edit_until(writer, shown, 4)
+        self.assertEqual(warned, ["no new epoch: disk I/O error"])
+        said = f"epoch {writer.state.epoch}, line {2 * count}, published {count}\n"
+        self.assertEqual(rig.run("verify", self.store).stdout, said)
+
+    def edit_until(self, writer: Writer, shown: "queue.SimpleQueue[Shown]", epoch: int) -> int:
+        """Starts it, and has edits made, each published, until the epoch is this one. Returns how many."""
+        count, now = 0, 1
+        writer.start()
+        try:
+            while now < epoch:
+                for line in (f"addo /n{count} O:BAG:SYD:", "publish"):
+                    edit = None if line == "publish" else edit_of(line.split(" "), writer.shown.view)
+                    writer.put(Task(edit, line, "", "uid:0", lambda task: None))
+                count += 1
+                now = shown.get(timeout=rig.PATIENCE).epoch
+                self.assertLess(count, 10_000)
+        finally:
+            writer.stop()
+        return count
 
     def test_one_process_alone(self) -> None:
         self.make()
@@ -307,6 +368,9 @@ class Journals(rig.Case):
             accepted, published = self.fill_journal(asked)
             self.assertGreater(published, 20)
             self.assertEqual((self.get("/readyz")[0], self.metrics()["sdstored_takes_edits"]), (503, 0))
+            rig.run("backup", self.store, small / "copy", status=3)
+            rig.run("restore", self.store / "journal.sqlite", small / "other", status=3)
+            self.assertEqual(os.listdir(small), ["store"])
             for _ in range(3):
                 # A publish that isn't on disk is shown to nobody.
                 asked.send(f"p addo /p O:BAG:SYD:{'(A;;FR;;;BU)' * 2000}\np publish\np tell\n".encode())

@@ -132,7 +132,7 @@ class Kills(rig.Case):
             self.assertEqual([each for each in self.events() if each["event"] in ("warning", "error")], [])
         self.start(LIMITS)
         self.settle(clients)
-        self.done["epochs"] = int(self.said("status")[0].split(" ")[2])
+        self.done["new epochs"] = int(self.said("status")[0].split(" ")[2]) - 1
         self.done["answers"] = sum(each.answers for each in clients)
         self.stop()
         rig.run("verify", self.store)
