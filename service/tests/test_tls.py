@@ -96,6 +96,8 @@ class Tls(rig.Case):
         for name in (None, "mail", "two", "foreign"):
             with self.subTest(name):
                 self.assertEqual(self.said_to(name), b"")
+                reason = "no certificate" if name in (None, "foreign") else "not allowed"
+                self.wait_for(lambda: [each.get("reason") for each in self.events()][-1] == reason)
                 with self.client(name, 0.5) as client, self.assertRaises(Unavailable):
                     client.check("/a b", rig.USER, "FW", ["BU"])
         with self.client("watch") as client, self.assertRaises(Rejected):
@@ -322,6 +324,15 @@ class Clients(rig.Case):
             client._socket.sendall(b"left.1 tell\n")
             select.select([client._socket], [], [], rig.PATIENCE)
             self.assertEqual(client.check("/a", rig.USER, "FW", ["BU"]).kind, "granted")
+
+        async def asked() -> None:
+            async with AsyncClient(str(self.lines), timeout=rig.PATIENCE) as client:
+                self.assertEqual(await client.publish(), 1)
+                client._streams[1].write(b"left.1 tell\n")
+                await asyncio.sleep(0.1)
+                self.assertEqual((await client.check("/a", rig.USER, "FW", ["BU"])).kind, "granted")
+
+        asyncio.run(asked())
 
     def test_tasks(self) -> None:
         self.make()
