@@ -13,31 +13,30 @@ use Rattle.sd_script.specs.declared.session.Session.{Session}
 use Rattle.sd_script.specs.declared.session.Session.TheVariants.{Closed, Opened}
 use Rattle.sd_script.specs.declared.view.View.TheVariants.{Dump}
 
--- the lines are answered one after the other, and then this stands
+-- the lines are answered one after the other, and the session is then `new`
 abbrev pub Reaches : Session → List (List ℕ) → Session → Type 0
 Reaches old [] new = new ≡ old
 Reaches old (line ∷ lines) new =
     (printed : List ℕ) × (between : Session) × IsAnswered old line printed between × Reaches between lines new
 
--- a machine as each run of a store has one: readers enough and not too many, an opening that isn't refused, and
--- accepted edits
+-- a machine as each run of a store has one: 1 to 64 readers, an opening that isn't refused, and accepted edits
 pub record IsSound (m : Machine) : Type 0 where
   pub readers : IsReaderCount (length m.floors)
   pub accepted : root_refusal m.opening ≡ None
   pub lawful : IsLawful m.opening m.published
 
--- a store with the same published tree, for as many readers, where nothing waits
+-- a store with the same published tree, for as many readers, without pending edits
 pub record IsSameAgain (m again : Machine) : Type 0 where
   pub mapping : again.opening.mapping ≡ m.opening.mapping
   pub tree : replay again.opening again.published ≡ replay m.opening m.published
   pub nothing_waits : again.pending ≡ []
   pub readers : length again.floors ≡ length m.floors
 
--- no store is open yet, and paths are spelled as where the dump was told
+-- no store is open yet, and paths are spelled as in the dump
 abbrev pub same_manner : PathSpelling → Machine → Manner
 same_manner paths m = record { mapping = m.opening.mapping; paths = paths }
 
--- where what is told isn't the fault
+-- unless the fault is what is printed
 abbrev pub DumpMakesTheTreeAgain : Type 0
 DumpMakesTheTreeAgain =
     (paths : PathSpelling) (m : Machine) (printed : List ℕ) (new : Session) → IsSound m

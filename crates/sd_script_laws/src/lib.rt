@@ -1,5 +1,5 @@
-//! Laws on the output of scripts that stand on laws on trees. A law is a function without a body, whose contract is
-//! what it says; nobody needs to call it.
+//! Laws on the output of scripts, proved by laws on trees. A law is a function with an empty body whose contract is the
+//! law; nobody needs to call it.
 #![tactic(auto)]
 
 mod laws;
