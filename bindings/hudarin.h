@@ -410,6 +410,33 @@ typedef enum hudarin_node_kind {
     HUDARIN_OBJECT = 2
 } hudarin_node_kind;
 
+/* The answer of hudarin_store_review: its other fields are 0 unless the status is HUDARIN_OK or HUDARIN_ROOM. */
+typedef struct hudarin_review {
+    hudarin_written written;
+    uint32_t what;   /* HUDARIN_REVIEW_.. */
+    uint32_t gained; /* the bits that some token gains */
+    uint32_t lost;   /* the bits that some token loses */
+    uint64_t path;   /* the bytes of the node's path, at the front of the buffer */
+    uint64_t before; /* of HUDARIN_REVIEW_MOVED the bytes of the path that follows it, else 0 */
+} hudarin_review;
+
+/* What a publish does to a node. Of HUDARIN_REVIEW_SAME no check is answered otherwise, of any token, unless
+ * HUDARIN_MAXIMUM_ALLOWED is asked for. */
+typedef enum hudarin_review_kind {
+    /* A node is at its path before and after, and no token gains or loses a right. */
+    HUDARIN_REVIEW_SAME = 1,
+    /* A node is at its path before and after, and some token gains or loses a right. */
+    HUDARIN_REVIEW_CHANGED = 2,
+    /* No published node is at its path, or was moved to it. */
+    HUDARIN_REVIEW_NEW = 3,
+    /* No published node is at its path; the one at another path is moved to it. */
+    HUDARIN_REVIEW_MOVED = 4,
+    /* A published node at whose path there is none any more. */
+    HUDARIN_REVIEW_GONE = 5,
+    /* A published node at whose path there is one still, which has a place of its own. */
+    HUDARIN_REVIEW_STANDS = 6
+} hudarin_review_kind;
+
 #define HUDARIN_LEFT_OUT_SACL 0x1u
 /* The resource manager's byte, which no descriptor keeps. */
 #define HUDARIN_LEFT_OUT_MANAGER 0x2u
@@ -772,6 +799,17 @@ HUDARIN_ANSWERS hudarin_written hudarin_store_publish(hudarin_store *store, huda
  * store's root and mapping too. Unless the status is HUDARIN_OK nothing has changed. */
 HUDARIN_ANSWERS hudarin_written hudarin_store_revert(hudarin_store *store, hudarin_view *view)
     HUDARIN_NONNULL(1, 2);
+
+/*
+ * What the next publish changes, for all tokens, at the node of a place: that of the store's tree beside what the last
+ * publish or revert left, or beside the root alone. Places from 0 are those of the nodes of the store's tree in path
+ * order, and after them of the published nodes in path order; HUDARIN_NO_NODE after the last one. The buffer gets the
+ * node's path, of a moved one the path where it was, and the lines of hudarin_compare without groups, but none instead
+ * of "same". They are the lines of `review` in `sdstore script`, without a path at the front of each.
+ */
+HUDARIN_ANSWERS hudarin_review hudarin_store_review(hudarin_store *store, uint64_t place, char *room,
+                                                    size_t room_length)
+    HUDARIN_NONNULL(1);
 
 /* The number of edits in the journal of a store, or of a view: `length`. */
 HUDARIN_ANSWERS hudarin_written hudarin_journal_length(hudarin_kept *store_or_view)

@@ -1,6 +1,6 @@
 """Who may do what with a file, the parts of its descriptor, and what a refusal says."""
 
-from hudarin import DENY_ONLY, Descriptor, Refused, Sid, mask
+from hudarin import DENY_ONLY, Descriptor, Refused, Sid, Store, mask
 
 descriptor = Descriptor.from_sddl("o:bag:syd:(d;;fw;;;s-1-5-21-1-2-3-1001)(a;;fa;;;bu)")
 user = Sid.from_text("S-1-5-21-1-2-3-1001")
@@ -23,6 +23,13 @@ print("GR, without groups:", descriptor.check(user, asked=mask("GR")))
 print("write:", *descriptor.who(0x2))
 for change in descriptor.compare(Descriptor.from_sddl("O:BAG:SYD:(A;;FA;;;BU)")).gained:
     print(change)
+
+# What a publish would change, of the nodes of a tree.
+with Store(Descriptor.from_sddl("O:BAG:SYD:(A;OICI;FR;;;BU)")) as store:
+    store.add_object("/report", Descriptor.from_sddl("O:BAG:SYD:"))
+    store.publish().close()
+    store.set_dacl("/", Descriptor.from_sddl("D:(A;OICI;FA;;;BU)"))
+    print(*store.review(), sep="\n")
 
 # Bytes after a descriptor or a SID are ignored.
 print(bytes(Descriptor(bytes(descriptor) + b"more")) == bytes(descriptor))

@@ -54,6 +54,7 @@ __all__ = [
     "PROCESSES",
     "Part",
     "Refused",
+    "Reviewed",
     "SECURITY",
     "SERVICES",
     "STATUSES",
@@ -143,6 +144,7 @@ _DESCRIPTOR_BYTES = 65688
 _LIST, _ALLOW, _PROTECTED = 3, 1, 0x1000
 _BY_THE_LIST = 2
 _NO_PASS, _NO_ENTRY = 0, 3
+_REVIEWS = {2: "changed", 3: "new", 4: "moved", 5: "gone"}
 _ADD_CONTAINER, _ADD_OBJECT, _SET_OWNER, _SET_GROUP, _SET_DACL, _REMOVE, _PROTECT_KEEPING, _MOVE = range(1, 9)
 
 
@@ -208,6 +210,17 @@ class _Accesses(ctypes.Structure):
 
 class _Comparison(ctypes.Structure):
     _fields_ = [("written", _Written), ("argument", _U32), ("gained", _U32), ("lost", _U32)]
+
+
+class _Review(ctypes.Structure):
+    _fields_ = [
+        ("written", _Written),
+        ("what", _U32),
+        ("gained", _U32),
+        ("lost", _U32),
+        ("path", _U64),
+        ("before", _U64),
+    ]
 
 
 class _Mask(ctypes.Structure):
@@ -291,6 +304,7 @@ def _load() -> ctypes.CDLL:
         "store_judge": ([kept, _U32] + given * 2, _Verdict),
         "store_publish": ([kept, kept], _Written),
         "store_revert": ([kept, kept], _Written),
+        "store_review": ([kept, _U64] + buffer, _Review),
         "view_check": ([kept] + given + [kept, _U32], _ViewVerdict),
         "view_descriptor": ([kept] + given + buffer, _Written),
         "view_own": ([kept] + given + buffer, _NodeAnswer),
@@ -1199,6 +1213,36 @@ class _Edits:
         self._edit(_MOVE, source, _text(target))
 
 
+class Reviewed(NamedTuple):
+    """What a publish does to a node. It prints as the lines of ``review`` in ``sdstore script``."""
+
+    #: "changed", "new", "moved" or "gone".
+    kind: str
+    path: str
+    #: Of a moved node the path where it was, else None.
+    before: Optional[str]
+    #: The bits that some token gains, and those that some token loses.
+    gained: int
+    lost: int
+    #: The lines of ``sdstore compare``, as "gained 0x2 by S-1-5-32-545".
+    changes: Tuple[str, ...]
+
+    def __str__(self) -> str:
+        lines = [f"{self.path} {change}" for change in self.changes]
+        if self.kind == "moved":
+            lines.insert(0, f"moved {self.before} {self.path}")
+        elif self.kind != "changed":
+            lines.insert(0, f"{self.kind} {self.path}")
+        return "\n".join(lines)
+
+
+def _reviewed(written: bytes, answer: Any) -> Reviewed:
+    end = answer.path + answer.before
+    path, before = written[: answer.path].decode(), written[answer.path : end].decode()
+    changes = tuple(written[end:].decode().splitlines())
+    return Reviewed(_REVIEWS[answer.what], path, before or None, answer.gained, answer.lost, changes)
+
+
 class Store(_Held, _Edits):
     """A tree of containers and objects that inherit entries: ``with Store(root) as store: ..``, or until ``close``. No
     view has its edits before the next ``publish``. Threads take turns at it."""
@@ -1241,6 +1285,30 @@ class Store(_Held, _Edits):
         with self._turn:
             _checked(_library.hudarin_store_publish(self._kept, view._kept), argument=self._argument)
         return view
+
+    def review(self) -> Iterator[Reviewed]:
+        """What the next ``publish`` changes, for all tokens, beside the last one, the last ``revert`` or the root
+        alone: each node of the tree that is new, moved or changed, in the order of the paths, and then each that is
+        gone. The next one after an edit is a RuntimeError."""
+        length = len(self)
+        for place in itertools.count():
+            try:
+                written, answer = self._review_at(place)
+            except Refused as refused:
+                if refused.status == STATUSES[_NO_NODE]:
+                    return
+                raise
+            if len(self) != length:
+                raise RuntimeError("the store was edited during its review")
+            if answer.what in _REVIEWS:
+                yield _reviewed(written, answer)
+
+    def _review_at(self, place: int) -> Tuple[bytes, Any]:
+        with self._turn:
+            return _filled(
+                lambda *buffer: _library.hudarin_store_review(self._kept, place, *buffer),
+                argument=lambda _: self._argument,
+            )
 
     def __len__(self) -> int:
         """The number of edits of its tree, pending ones too."""

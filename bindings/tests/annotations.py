@@ -14,6 +14,7 @@ from hudarin import (
     KeptDescriptor,
     Node,
     Refused,
+    Reviewed,
     Sid,
     Store,
     Token,
@@ -53,6 +54,8 @@ with Token(user, [user], restricting=[user]) as token, KeptDescriptor(descriptor
         paths: Iterator[str] = view.paths()
         count: int = len(view) + len(store)
         store.judge.move("/a", "/b")
+        reviewed: Iterator[Reviewed] = store.review()
+        moved: Tuple[Optional[str], ...] = tuple(node.before for node in reviewed)
 
 try:
     mask("")
@@ -73,5 +76,6 @@ copied.owner = user  # type: ignore
 mask(1)  # type: ignore
 store.add_object("/a", "D:")  # type: ignore
 store.revert(token)  # type: ignore
+store.review("/")  # type: ignore
 view.check("/a", user)  # type: ignore
 verdict.missing  # type: ignore

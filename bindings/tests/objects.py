@@ -28,6 +28,7 @@ from hudarin import (  # noqa: E402
     KeptDescriptor,
     Part,
     Refused,
+    Reviewed,
     Sid,
     Store,
     Token,
@@ -293,6 +294,7 @@ def one_exception() -> None:
             ("length", lambda: len(store)),
             ("edit", lambda: store.remove("/x")),
             ("judge", lambda: store.judge.remove("/x")),
+            ("review", lambda: list(store.review())),
         ]
         for name, ask in asks:
             gives(f"{name} of a closed store", closed + ("store",), lambda: refused(ask))
@@ -354,6 +356,26 @@ def analysis() -> None:
     raises("compare with a text", TypeError, lambda: READERS.compare("D:"))  # type: ignore[arg-type]
 
 
+def reviews() -> None:
+    """What a publish would change, as values."""
+    with Store(ROOT) as store:
+        store.add_object("/a", Descriptor.from_sddl("O:BAG:SYD:"))
+        store.publish().close()
+        gives("nothing pending", [], lambda: list(store.review()))
+        store.set_dacl("/", Descriptor.from_sddl("D:(A;OICI;0x3;;;BU)"))
+        store.move("/a", "/b")
+        gained, lost = "gained 0x2 by S-1-5-32-545", "lost 0x120088 by S-1-5-32-545"
+        lines = ["/ " + gained, "/ " + lost, "moved /a /b", "/b " + gained, "/b " + lost, "gone /a"]
+        gives("lines", lines, lambda: "\n".join(map(str, store.review())).split("\n"))
+        moved = Reviewed("moved", "/b", "/a", 0x2, 0x120088, (gained, lost))
+        gives("nodes", [moved, Reviewed("gone", "/a", None, 0, 0, ())], lambda: list(store.review())[1:])
+        walk = store.review()
+        gives("the first node", "/", lambda: next(walk).path)
+        store.add_object("/c", Descriptor.from_sddl("O:BAG:SYD:"))
+        raises("a node after an edit", RuntimeError, lambda: next(walk))
+        gives("one that is new", Reviewed("new", "/c", None, 0, 0, ()), lambda: list(store.review())[2])
+
+
 def _users(rights: str) -> Descriptor:
     return Descriptor.from_sddl(f"O:BAG:SYD:(A;;{rights};;;BU)")
 
@@ -363,7 +385,7 @@ def _user(change: Change) -> Tuple[bool, str]:
 
 
 def main() -> int:
-    for test in (truth, copies, refusals, pool, again, parts, names, one_exception, sacls, analysis):
+    for test in (truth, copies, refusals, pool, again, parts, names, one_exception, sacls, analysis, reviews):
         test()
     gives("all names of the module", [], lambda: [name for name in hudarin.__all__ if not hasattr(hudarin, name)])
     gives("the mapping of files", FILES, lambda: (mask("FR"), mask("FW"), mask("FX"), mask("FA")))

@@ -6,3 +6,4 @@ pub mod SealSteps
 mod Told
 mod Changes
 mod Unasked
+mod Reviewing

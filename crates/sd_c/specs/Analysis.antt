@@ -8,10 +8,10 @@ use Rattle.sd_acl.specs.Descriptor.{DescriptorValue}
 use Rattle.sd_check.specs.Check.{dacl_entries}
 use Rattle.sd_check.specs.declared.token.GroupState.{GroupState}
 use Rattle.sd_analysis.specs.Compare.{AreGains, is_reported}
-use Rattle.sd_analysis.specs.Sufficient.{Parts}
 use Rattle.sd_analysis.specs.Who.{AllBeyond, HasEachOnce, IsMost, IsWho}
 use Rattle.sd_analysis.specs.declared.compare_report.Change.{Change}
 use Rattle.sd_analysis.specs.declared.who_has.Access.{Access}
+use Rattle.sd_review.specs.Parts.{parts_in}
 use Rattle.sd_answer.specs.Compare.{compare_text}
 use Rattle.sd_answer.specs.Who.{who_text}
 use Rattle.sd_answer.specs.declared.answer.Spelling.TheVariants.{Number}
@@ -109,10 +109,6 @@ AnswersWho kept groups states mapping asked old new answer =
     ⊎ ((stop : Stop) × Stops kept groups states mapping stop × (new ≡ old) × (answer ≡ no_accesses (why_not stop)))
 
 -- ---- compare
-
--- a descriptor, as far as a check looks at it
-abbrev pub parts_in : DescriptorValue → Parts
-parts_in d = record { owner = d.owner; dacl = dacl_entries d.dacl }
 
 -- the bits of all changes
 abbrev pub bits_of : List Change → ℕ

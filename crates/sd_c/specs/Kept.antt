@@ -5,6 +5,7 @@ use Rattle.std.specs.Arc.{arc_value}
 use Rattle.sd_acl.specs.Descriptor.{DescriptorValue, descriptor_of}
 use Rattle.sd_check.specs.Token.{TokenValue}
 use Rattle.sd_tree.specs.History.{History, history_of}
+use Rattle.sd_versions.specs.Versions.{VersionsValue}
 use Rattle.sd_wire.specs.Reading.{descriptor_read}
 use Rattle.sd_c.specs.declared.answer.CheckAnswer.{CheckAnswer}
 use Rattle.sd_c.specs.declared.answer.Written.{Written}
@@ -37,8 +38,8 @@ token_in (kinds.Token t) = Ok (arc_value t)
 token_in (kinds.Store s) = Err TokenHandle
 token_in (kinds.View v) = Err TokenHandle
 
--- of a store the tree with all its edits, unpublished ones included
-abbrev pub store_in : Kept → Option History
+-- of a store its published edits and those that are pending
+abbrev pub store_in : Kept → Option VersionsValue
 store_in (kinds.Descriptor d) = None
 store_in (kinds.Token t) = None
 store_in (kinds.Store s) = Some s.value

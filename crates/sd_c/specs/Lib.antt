@@ -6,6 +6,7 @@ pub mod Length
 pub mod Handle
 pub mod NotDone
 pub mod Edits
+pub mod Store
 pub mod Kept
 pub mod Publishing
 pub mod Views
@@ -17,3 +18,4 @@ pub mod Meaning
 pub mod Entries
 pub mod WithoutSacl
 pub mod Analysis
+pub mod Review

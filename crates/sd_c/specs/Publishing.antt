@@ -8,6 +8,7 @@ use Rattle.sd_tree.specs.declared.opening.Opening.{Opening}
 use Rattle.sd_tree.specs.declared.refusal.EditRefusal.{EditRefusal}
 use Rattle.sd_tree.specs.declared.refusal.TreeError.{TreeError}
 use Rattle.sd_tree.specs.declared.refusal.TreeError.TheVariants as errors
+use Rattle.sd_versions.specs.Versions.{VersionsValue, accepted}
 use Rattle.sd_c.specs.declared.answer.CheckAnswer.{CheckAnswer}
 use Rattle.sd_c.specs.declared.answer.Written.{Written}
 use Rattle.sd_c.specs.declared.handle.Handle.{Handle}
@@ -22,6 +23,7 @@ use Rattle.sd_c.specs.Kept.{IsSame, store_in, view_in}
 use Rattle.sd_c.specs.Length.{length_told}
 use Rattle.sd_c.specs.NotDone.{not_done}
 use Rattle.sd_c.specs.Request.{mapping_read}
+use Rattle.sd_c.specs.Store.{all_published, history_in, published_only}
 use Rattle.sd_c.specs.Written.{not_written}
 
 -- the handle has the same content: an edit that isn't made may have made room for itself
@@ -47,7 +49,7 @@ IsOpening root mapping opening =
 abbrev pub IsBegun : List ℕ → Mapping → Kept → Type 0
 IsBegun root mapping kept =
     (opening : Opening) × IsOpening root mapping opening × (root_refusal opening ≡ None)
-    × (store_in kept ≡ Some (record { opening = opening; journal = [] }))
+    × (store_in kept ≡ Some (record { opening = opening; published = []; pending = [] }))
 
 -- why there is none: the first of these that holds
 abbrev pub IsNotBegun : List ℕ → Mapping → NotDone → Type 0
@@ -66,23 +68,23 @@ Begins root mapping old new answer =
 -- ---- edits
 
 -- one more edit
-abbrev pub with_edit : History → Edit → History
-with_edit h edit = record h { journal = h.journal ++ edit ∷ [] }
+abbrev pub with_edit : VersionsValue → Edit → VersionsValue
+with_edit v edit = record v { pending = v.pending ++ edit ∷ [] }
 
--- the edit of the arguments, which nothing refuses, has joined the store's journal
+-- the edit of the arguments, which nothing refuses, is the last of the store's pending ones
 abbrev pub IsEdited : ℕ → List ℕ → List ℕ → Kept → Kept → Type 0
 IsEdited kind path value old new =
-    (h : History) × (edit : Edit) × (store_in old ≡ Some h) × IsEdit kind path value edit
-    × (refusal h.opening h.journal edit ≡ None)
-    × (store_in new ≡ Some (with_edit h edit))
+    (v : VersionsValue) × (edit : Edit) × (store_in old ≡ Some v) × IsEdit kind path value edit
+    × (refusal v.opening (accepted v) edit ≡ None)
+    × (store_in new ≡ Some (with_edit v edit))
 
 -- why it hasn't: no store is kept, an argument is invalid, the tree refuses the edit, or out of memory
 abbrev pub IsNotEdited : ℕ → List ℕ → List ℕ → Kept → NotDone → Type 0
 IsNotEdited kind path value old why =
     ((store_in old ≡ None) × (why ≡ reasons.StoreHandle))
     ⊎ (IsSome (store_in old) × IsNoEdit kind path value why)
-    ⊎ ((h : History) × (edit : Edit) × (store_in old ≡ Some h) × IsEdit kind path value edit
-    × IsTreeReason (refusal h.opening h.journal edit) why)
+    ⊎ ((v : VersionsValue) × (edit : Edit) × (store_in old ≡ Some v) × IsEdit kind path value edit
+    × IsTreeReason (refusal v.opening (accepted v) edit) why)
 
 -- the edit is made, or why not is returned and nothing has changed
 abbrev pub Edits : ℕ → List ℕ → List ℕ → Handle → Handle → CheckAnswer → Type 0
@@ -96,8 +98,8 @@ Edits kind path value old new answer =
 -- nothing refuses the edit of the arguments
 abbrev pub IsAllowed : ℕ → List ℕ → List ℕ → Kept → Type 0
 IsAllowed kind path value store =
-    (h : History) × (edit : Edit) × (store_in store ≡ Some h) × IsEdit kind path value edit
-    × (refusal h.opening h.journal edit ≡ None)
+    (v : VersionsValue) × (edit : Edit) × (store_in store ≡ Some v) × IsEdit kind path value edit
+    × (refusal v.opening (accepted v) edit ≡ None)
 
 -- the edit would be made, or why not is returned
 abbrev pub Judges : ℕ → List ℕ → List ℕ → Handle → CheckAnswer → Type 0
@@ -109,28 +111,28 @@ Judges kind path value store answer =
 
 -- ---- publishing
 
--- the view has the store's tree with all its edits
-abbrev pub IsViewOf : Kept → Kept → ℕ → Type 0
-IsViewOf store view told =
-    (h : History) × (store_in store ≡ Some h) × (view_in view ≡ Some h) × (told ≡ length h.journal)
+-- the view has the store's tree with all its edits, and they are published
+abbrev pub IsViewOf : Kept → Kept → Kept → ℕ → Type 0
+IsViewOf store later view told =
+    (v : VersionsValue) × (store_in store ≡ Some v) × (store_in later ≡ Some (all_published v))
+    × (view_in view ≡ Some (history_in v)) × (told ≡ length (accepted v))
 
--- a view is kept, or out of memory for one, or one of the handles is refused; the store's content stays
+-- a view is kept; or the store's content stays: out of memory for one, or one of the handles is refused
 abbrev pub Publishes : Handle → Handle → Handle → Handle → Written → Type 0
 Publishes store later old new answer =
-    Remains store later
-    × (((told : ℕ) × (store.is_there ≡ 1) × (old.is_there ≡ 0) × (new.is_there ≡ 1)
-    × IsViewOf store.seal.kept new.seal.kept told × (answer ≡ length_told told))
-    ⊎ ((store.is_there ≡ 1) × (old.is_there ≡ 0) × IsSome (store_in store.seal.kept) × (new ≡ old)
+    ((told : ℕ) × (store.is_there ≡ 1) × (later.is_there ≡ 1) × (old.is_there ≡ 0) × (new.is_there ≡ 1)
+    × IsViewOf store.seal.kept later.seal.kept new.seal.kept told × (answer ≡ length_told told))
+    ⊎ ((store.is_there ≡ 1) × (old.is_there ≡ 0) × IsSome (store_in store.seal.kept) × Remains store later × (new ≡ old)
     × (answer ≡ not_written 1 0 0))
-    ⊎ (((store.is_there ≡ 0) ⊎ (old.is_there ≡ 1) ⊎ (store_in store.seal.kept ≡ None)) × (new ≡ old)
-    × (answer ≡ not_written 11 0 0)))
+    ⊎ (((store.is_there ≡ 0) ⊎ (old.is_there ≡ 1) ⊎ (store_in store.seal.kept ≡ None)) × Remains store later
+    × (new ≡ old) × (answer ≡ not_written 11 0 0))
 
 -- ---- going back
 
--- the store has what the view has: of a view of another store the root and the mapping too
+-- the store has what the view has, of a view of another store the root and the mapping too, and nothing is pending
 abbrev pub IsReverted : Kept → Kept → Kept → ℕ → Type 0
 IsReverted old new view told =
-    (h : History) × IsSome (store_in old) × (view_in view ≡ Some h) × (store_in new ≡ Some h)
+    (h : History) × IsSome (store_in old) × (view_in view ≡ Some h) × (store_in new ≡ Some (published_only h))
     × (told ≡ length h.journal)
 
 -- the store's tree is the view's, or its content stays: out of memory, or one of the handles is refused

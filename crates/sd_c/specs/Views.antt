@@ -10,6 +10,7 @@ use Rattle.sd_tree.specs.History.{History}
 use Rattle.sd_tree.specs.Journal.{replay}
 use Rattle.sd_tree.specs.declared.tree.CheckReply.{CheckReply}
 use Rattle.sd_tree.specs.declared.tree.CheckReply.TheVariants.{Verdict, NoNode}
+use Rattle.sd_versions.specs.Versions.{accepted}
 use Rattle.sd_c.specs.declared.answer.CheckAnswer.{CheckAnswer}
 use Rattle.sd_c.specs.declared.answer.Written.{Written}
 use Rattle.sd_c.specs.declared.handle.Handle.{Handle}
@@ -69,7 +70,7 @@ Asks view path token asked told =
 abbrev pub length_in : Kept → Written
 length_in (kinds.Descriptor d) = not_written 11 0 0
 length_in (kinds.Token t) = not_written 11 0 0
-length_in (kinds.Store s) = length_told (length s.value.journal)
+length_in (kinds.Store s) = length_told (length (accepted s.value))
 length_in (kinds.View v) = length_told (length v.journal)
 
 abbrev pub TellsLength : Handle → Written → Type 0

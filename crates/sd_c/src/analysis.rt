@@ -2,11 +2,9 @@
 
 ghost use Rattle.std.specs.Prelude.{◌≡◌, IfErr, IfOk, string_bytes};
 ghost use Rattle.sd_acl.specs.Descriptor.{descriptor_of as descriptor_value};
-ghost use Rattle.sd_analysis.specs.Sufficient.{parts_of};
-ghost use Rattle.sd_check.specs.Check.{dacl_entries, entries_of};
 ghost use Rattle.sd_c.specs.Analysis.{AnswersCompare, AnswersWho, IsCompareOf, IsCompareText, IsWhoOf, IsWhoText};
 ghost use Rattle.sd_c.specs.Analysis.{Stops, bits_of, both_kept, descriptors_in, kept_in, no_accesses, no_comparison};
-ghost use Rattle.sd_c.specs.Analysis.{parts_in, rights_asked, why_not};
+ghost use Rattle.sd_c.specs.Analysis.{rights_asked, why_not};
 ghost use Rattle.sd_c.specs.Kept.{Stays, descriptor_in};
 
 use crate::answer::{CheckAnswer, MEMORY, Written, not_read, not_written, unread, write};
@@ -14,10 +12,11 @@ use crate::handle::{Handle, Kept};
 use crate::mapping::Mapping;
 use crate::request::{groups_of, mapping_of};
 use crate::stop::{NotRead, Stop};
-use sd_acl::{Dacl, Descriptor};
-use sd_analysis::{Base, Change, DescriptorRef, compare, who};
+use sd_acl::Descriptor;
+use sd_analysis::{Base, Change, compare, who};
 use sd_answer::{Spelling, compare_text, who_text};
-use sd_check::{DaclRef, GroupState, MAXIMUM_PLACE};
+use sd_check::{GroupState, MAXIMUM_PLACE};
+use sd_review::{borrowed, looked_at};
 use sd_sid::{GenericMapping, Mask, OBJECT_RIGHTS, Sid};
 use std::alloc::{AllocError, Global};
 
@@ -259,7 +258,7 @@ fn comparison_of(
 }
 
 /// The bits of all changes.
-fn bits_of(changes: &[Change]) -> Mask
+pub(crate) fn bits_of(changes: &[Change]) -> Mask
     ensures { result ≡ bits_of changes.now }
 {
     let mut bits = Mask(0);
@@ -267,24 +266,4 @@ fn bits_of(changes: &[Change]) -> Mask
         bits = bits.union(change.mask);
     }
     bits
-}
-
-/// A descriptor, as far as a check looks at it.
-fn looked_at(descriptor: &Descriptor) -> DescriptorRef<'_>
-    ensures { parts_of result ≡ parts_in (descriptor_value descriptor.now) }
-{
-    DescriptorRef {
-        owner: descriptor.owner,
-        dacl: borrowed(&descriptor.dacl),
-    }
-}
-
-fn borrowed(dacl: &Dacl) -> DaclRef<'_>
-    ensures { entries_of result ≡ dacl_entries dacl.now }
-{
-    match dacl {
-        Dacl::Absent => DaclRef::Absent,
-        Dacl::Null => DaclRef::Null,
-        Dacl::List(list) => DaclRef::List(list.entries()),
-    }
 }

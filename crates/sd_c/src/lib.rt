@@ -28,8 +28,10 @@ mod not_done;
 mod over_bytes;
 mod refusal;
 mod request;
+mod review;
 mod sharing;
 mod stop;
+mod store;
 mod stores;
 mod text;
 mod trim;
@@ -56,7 +58,9 @@ pub use meaning::{faults_have_names, hudarin_fault_name, hudarin_status_text};
 pub use nodes::{NodeAnswer, hudarin_view_node, hudarin_view_own, own_forms_come_back};
 pub use not_done::{NotDone, PathArgument};
 pub use over_bytes::hudarin_check_bytes;
+pub use review::{ReviewAnswer, hudarin_store_review};
 pub use sharing::hudarin_share;
+pub use store::Store;
 pub use stores::{
     hudarin_store_edit, hudarin_store_judge, hudarin_store_open, hudarin_store_publish,
     hudarin_store_revert,

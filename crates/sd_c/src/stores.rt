@@ -5,6 +5,7 @@ ghost use Rattle.sd_tree.specs.History.{history_of};
 ghost use Rattle.sd_c.specs.Kept.{IsSame, Stays, store_in, view_in};
 ghost use Rattle.sd_c.specs.Publishing.{Begins, Edits, IsAllowed, IsBegun, IsEdited, IsNotBegun, IsNotEdited};
 ghost use Rattle.sd_c.specs.Publishing.{IsReverted, IsViewOf, Judges, Publishes, Reverts, tree_reason};
+ghost use Rattle.sd_c.specs.Store.{published_only};
 
 use crate::answer::{CheckAnswer, HANDLE, MEMORY, OK, Written, length_told, not_written, unread};
 use crate::edits::{edit_of, node_of};
@@ -12,7 +13,7 @@ use crate::handle::{Handle, Kept};
 use crate::mapping::Mapping;
 use crate::not_done::{NotDone, not_done};
 use crate::request::mapping_of;
-use sd_snapshot::Snapshots;
+use crate::store::Store;
 use sd_tree::{Tree, TreeError};
 use std::alloc::{AllocError, Global};
 
@@ -55,9 +56,9 @@ fn opened(alloc: Global, root: &[u8], mapping: Mapping) -> Result<Box<Kept>, Not
 }
 
 fn boxed_store(alloc: Global, tree: Tree) -> Result<Box<Kept>, AllocError>
-    ensures { IfOk result (λ kept. store_in kept.value ≡ Some (history_of tree)) }
+    ensures { IfOk result (λ kept. store_in kept.value ≡ Some (published_only (history_of tree))) }
 {
-    let store = Box::new(alloc, Snapshots::of(alloc, tree)?)?;
+    let store = Box::new(alloc, Store::of(alloc, tree)?)?;
     Ok(Box::new(alloc, Kept::Store(store))?)
 }
 
@@ -153,8 +154,8 @@ fn judged(alloc: Global, kept: &Kept, kind: u32, path: &[u8], value: &[u8]) -> R
     }
 }
 
-/// Makes `view` the store's tree with all its edits; `length` is their number. Refused if `store` keeps no store, if
-/// `view` is in use, or out of memory; then both are unchanged.
+/// Makes `view` the store's tree with all its edits, of which none is pending then; `length` is their number. Refused
+/// if `store` keeps no store, if `view` is in use, or out of memory; then both are unchanged.
 #[unsafe(no_mangle)]
 pub extern "C" fn hudarin_store_publish(
     alloc: Global,
@@ -182,25 +183,26 @@ pub extern "C" fn hudarin_store_publish(
     answer
 }
 
-/// A view of the kept store, if there is one, and the length of its journal.
+/// A view of the kept store, if there is one, which is published, and the length of its journal.
 fn published(alloc: Global, kept: &mut Kept) -> Result<Option<(Box<Kept>, u64)>, AllocError>
-    ensures same { IsSame kept.old kept.new }
-    ensures view { IfOk result
-        (λ made. MatchOption made (store_in kept.old ≡ None) (λ x. IsViewOf kept.old x.0.value x.1)) }
-    ensures memory { IfErr result (λ _. IsSome (store_in kept.old)) }
+    ensures { MatchResult result
+        (λ made. MatchOption made ((store_in kept.old ≡ None) × IsSame kept.old kept.new)
+        (λ x. IsViewOf kept.old kept.new x.0.value x.1))
+        (λ _. IsSome (store_in kept.old) × IsSame kept.old kept.new) }
 {
     let Kept::Store(store) = kept else {
         return Ok(None);
     };
     let tree = store.snapshot()?;
     let length = tree.get().len();
-    let view = Box::new(alloc, Kept::View(tree))?;
+    let view = Box::new(alloc, Kept::View(tree.share()?))?;
+    store.publish(tree);
     Ok(Some((view, length)))
 }
 
-/// Makes the store's tree that of the view, with its edits alone; `length` is their number. A view of another store
-/// brings that store's root and mapping too. Refused if `store` keeps no store or `view` no view, or out of memory;
-/// then the store is unchanged.
+/// Makes the store's tree that of the view, with its edits alone, of which none is pending; `length` is their number. A
+/// view of another store brings that store's root and mapping too. Refused if `store` keeps no store or `view` no view,
+/// or out of memory; then the store is unchanged.
 #[unsafe(no_mangle)]
 pub extern "C" fn hudarin_store_revert(
     alloc: Global,
@@ -242,6 +244,6 @@ fn reverted(alloc: Global, first: &mut Kept, second: &Kept) -> Result<Option<u64
         return Ok(None);
     };
     let tree = tree.get();
-    **store = Snapshots::of(alloc, tree.copy()?)?;
+    **store = Store::of(alloc, tree.copy()?)?;
     Ok(Some(tree.len()))
 }

@@ -1,8 +1,8 @@
 //! What a handle keeps.
 
+use crate::store::Store;
 use sd_acl::Descriptor;
 use sd_check::Token;
-use sd_snapshot::Snapshots;
 use sd_tree::{Shared, Tree};
 use std::sync::Arc;
 
@@ -11,6 +11,6 @@ use std::sync::Arc;
 pub enum Kept {
     Descriptor(Arc<Descriptor>),
     Token(Arc<Token>),
-    Store(Box<Snapshots>),
+    Store(Box<Store>),
     View(Shared<Tree>),
 }

@@ -1,5 +1,6 @@
 use Rattle.std.proofs.Common.{rules, inr, sym, subst}
 use Rattle.sd_tree.specs.Journal.{refusal}
+use Rattle.sd_versions.specs.Versions.{accepted}
 use Rattle.sd_c.specs.Publishing.{IsNotEdited}
 use Rattle.sd_c.proofs.Reasons.{told_reason}
 use Rattle.sd_c.proofs.stores.edited.Goals as goal
@@ -10,10 +11,10 @@ returns-in-Ok c = (c.in-Store.store.value, c.in_ok-edit.edit, search rules, sear
 pub returns : goal.returns
 returns c =
     let a = c.args in
-    let h = c.in-Store.store.value in
+    let v = c.in-Store.store.value in
     let edit = c.in_ok-edit.edit in
-    let reason = told_reason c.in-Err.e (refusal h.opening h.journal edit) search rules in (
+    let reason = told_reason c.in-Err.e (refusal v.opening (accepted v) edit) search rules in (
       subst (IsNotEdited a.kind a.path.now a.value.now a.kept.now) (sym c.reason_of.ensures)
-          (inr (inr (h, edit, search rules, search rules, reason))),
+          (inr (inr (v, edit, search rules, search rules, reason))),
       search rules,
     )

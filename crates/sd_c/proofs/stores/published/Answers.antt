@@ -1,5 +1,5 @@
 use Rattle.std.proofs.Common.{rules}
 use Rattle.sd_c.proofs.stores.published.Goals as goal
 
-pub returns-clause-view : goal.returns-clause-view
-returns-clause-view c = (c.in-Store.store.value, search rules, search rules, search rules)
+pub returns : goal.returns
+returns c = (c.in-Store.store.value, search rules, search rules, search rules, search rules)

@@ -1,0 +1,134 @@
+-- What `hudarin_store_review` returns: what a publish would change, one node at a time, for all tokens.
+use Rattle.std.specs.Prelude.{◌≡◌, ◌⊎◌, ℕ, ◌-◌, ◌==◌, ◌&&◌, List, [], ◌++◌, length, Option, Some, None, IsSome}
+use Rattle.std.specs.Prelude.{if◌then◌else◌, is_some, slice_get, string_bytes}
+use Rattle.std.specs.FinMap.{entries}
+use Rattle.sd_sid.specs.Mapping.{MappingValue}
+use Rattle.sd_acl.specs.Descriptor.{DescriptorValue}
+use Rattle.sd_path.specs.Names.{Names}
+use Rattle.sd_path.specs.PathText.{text_of}
+use Rattle.sd_tree.specs.Answers.{descriptor_at, kind_at}
+use Rattle.sd_tree.specs.declared.node.Row.{Row}
+use Rattle.sd_versions.specs.Versions.{VersionsValue}
+use Rattle.sd_analysis.specs.Compare.{AreGains}
+use Rattle.sd_analysis.specs.Sufficient.{Parts}
+use Rattle.sd_analysis.specs.declared.compare_report.Change.{Change}
+use Rattle.sd_review.specs.Parts.{parts_in}
+use Rattle.sd_review.specs.Review.{Trees, former, trees_after}
+use Rattle.sd_review.specs.declared.review.Former.{Former}
+use Rattle.sd_review.specs.declared.review.Former.TheVariants.{Same, Moved, New}
+use Rattle.sd_answer.specs.Compare.{gains_and_losses}
+use Rattle.sd_answer.specs.declared.answer.Spelling.TheVariants.{Number}
+use Rattle.sd_c.specs.declared.handle.Handle.{Handle}
+use Rattle.sd_c.specs.declared.handle.kept.Kept.{Kept}
+use Rattle.sd_c.specs.declared.not_done.NotDone.{NotDone}
+use Rattle.sd_c.specs.declared.not_done.NotDone.TheVariants as reasons
+use Rattle.sd_c.specs.declared.review.Changes.{Changes}
+use Rattle.sd_c.specs.declared.review.NodeReview.{NodeReview}
+use Rattle.sd_c.specs.declared.review.ReviewAnswer.{ReviewAnswer}
+use Rattle.sd_c.specs.Analysis.{bits_of}
+use Rattle.sd_c.specs.Kept.{store_in}
+use Rattle.sd_c.specs.Views.{IsNotFound, not_told}
+use Rattle.sd_c.specs.Written.{Writes}
+
+-- ---- what tokens gain and lose
+
+-- the lines and the bits of what tokens gain and lose where the new descriptor takes the place of the old one; none
+-- where both are the same to a check. The base is empty, so these are all tokens
+abbrev pub AreChanges : MappingValue → Parts → Parts → Changes → Type 0
+AreChanges g old new changes =
+    (gained lost : List Change) × AreGains g [] old new gained × AreGains g [] new old lost
+    × (old ≡ new → (gained ≡ []) × (lost ≡ []))
+    × (string_bytes changes.lines ≡ gains_and_losses Number [] old new gained lost)
+    × (changes.gained ≡ bits_of gained) × (changes.lost ≡ bits_of lost)
+
+abbrev pub AreNone : Changes → Type 0
+AreNone changes = (string_bytes changes.lines ≡ []) × (changes.gained ≡ 0) × (changes.lost ≡ 0)
+
+abbrev pub AreChangesOf : MappingValue → Option DescriptorValue → Option DescriptorValue → Changes → Type 0
+AreChangesOf g (Some old) (Some new) changes = AreChanges g (parts_in old) (parts_in new) changes
+AreChangesOf g None new changes = AreNone changes
+AreChangesOf g (Some old) None changes = AreNone changes
+
+-- of the node at a path, beside the node at a path of the published tree
+abbrev pub AreChangesAt : Trees → Names → Names → Changes → Type 0
+AreChangesAt ts before path changes =
+    AreChangesOf ts.mapping (descriptor_at ts.mapping ts.old before) (descriptor_at ts.mapping ts.new path) changes
+
+-- ---- a node
+
+-- 1 where no token gains or loses a right, else 2
+abbrev pub same_or_changed : Changes → ℕ
+same_or_changed changes = if changes.gained == 0 && changes.lost == 0 then 1 else 2
+
+-- a node of the store's tree: 1 or 2 where a published node is at its path, 4 with the path that it was moved from,
+-- else 3
+abbrev pub IsReviewOf : Trees → Names → Former → NodeReview → Type 0
+IsReviewOf ts path Same r =
+    AreChangesAt ts path path r.changes × (string_bytes r.before ≡ []) × (r.what ≡ same_or_changed r.changes)
+IsReviewOf ts path (Moved before) r =
+    AreChangesAt ts before path r.changes × (string_bytes r.before ≡ text_of before) × (r.what ≡ 4)
+IsReviewOf ts path New r = AreNone r.changes × (string_bytes r.before ≡ []) × (r.what ≡ 3)
+
+abbrev pub IsNodeReview : Trees → Names → NodeReview → Type 0
+IsNodeReview ts path r = (string_bytes r.path ≡ text_of path) × IsReviewOf ts path (former ts path) r
+
+-- a published node: 6 where the store's tree has a node at its path, else 5
+abbrev pub IsPublishedReview : Trees → Names → NodeReview → Type 0
+IsPublishedReview ts path r =
+    (string_bytes r.path ≡ text_of path) × AreNone r.changes × (string_bytes r.before ≡ [])
+    × (r.what ≡ if is_some (kind_at ts.new path) then 6 else 5)
+
+-- ---- the nodes of both trees: those of the store's tree in path order, then the published ones
+
+abbrev pub trees_in : VersionsValue → Trees
+trees_in v = trees_after v.opening v.published v.pending
+
+-- the published node at a place
+abbrev pub published_at : Trees → ℕ → Option (Names × Row)
+published_at ts place = slice_get (entries ts.old) (place - length (entries ts.new))
+
+abbrev pub IsReviewAt : Trees → ℕ → NodeReview → Type 0
+IsReviewAt ts place r =
+    ((node : Names × Row) × (slice_get (entries ts.new) place ≡ Some node) × IsNodeReview ts node.0 r)
+    ⊎ ((node : Names × Row) × (slice_get (entries ts.new) place ≡ None) × (published_at ts place ≡ Some node)
+    × IsPublishedReview ts node.0 r)
+
+-- why there is none: no node is at the place in either, or out of memory where one is
+abbrev pub IsNoReviewAt : Trees → ℕ → NotDone → Type 0
+IsNoReviewAt ts place why =
+    ((slice_get (entries ts.new) place ≡ None) × (published_at ts place ≡ None) × (why ≡ reasons.NoNode))
+    ⊎ ((IsSome (slice_get (entries ts.new) place) ⊎ IsSome (published_at ts place)) × (why ≡ reasons.Memory))
+
+-- ---- the call
+
+abbrev pub IsNotReviewed : Kept → ℕ → NotDone → Type 0
+IsNotReviewed store place why =
+    ((store_in store ≡ None) × (why ≡ reasons.StoreHandle))
+    ⊎ ((v : VersionsValue) × (store_in store ≡ Some v) × IsNoReviewAt (trees_in v) place why)
+
+-- the path, the one before a move, and the lines, one after the other
+abbrev pub text_in : NodeReview → List ℕ
+text_in r = string_bytes r.path ++ string_bytes r.before ++ string_bytes r.changes.lines
+
+-- the review of the place, and its text
+abbrev pub IsReviewed : Kept → ℕ → NodeReview → List ℕ → Type 0
+IsReviewed store place r text =
+    (v : VersionsValue) × (store_in store ≡ Some v) × IsReviewAt (trees_in v) place r × (text ≡ text_in r)
+
+abbrev pub IsTold : NodeReview → ReviewAnswer → Type 0
+IsTold r told =
+    (told.what ≡ r.what) × (told.gained ≡ r.changes.gained) × (told.lost ≡ r.changes.lost)
+    × (told.path ≡ length (string_bytes r.path)) × (told.before ≡ length (string_bytes r.before))
+
+abbrev pub unreviewed : NotDone → ReviewAnswer
+unreviewed why =
+    record { written = not_told why; what = 0; gained = 0; lost = 0; path = 0; before = 0 }
+
+-- a node's review is written, or the buffer is too small for it; or nothing is, for a reason that holds
+abbrev pub Reviews : Handle → ℕ → List ℕ → List ℕ → ReviewAnswer → Type 0
+Reviews store place old new told =
+    ((text : List ℕ) × (r : NodeReview) × (store.is_there ≡ 1) × IsReviewed store.seal.kept place r text
+    × Writes text old new told.written × IsTold r told)
+    ⊎ ((why : NotDone) × (store.is_there ≡ 1) × IsNotReviewed store.seal.kept place why × (new ≡ old)
+    × (told ≡ unreviewed why))
+    ⊎ ((store.is_there ≡ 0) × (new ≡ old) × (told ≡ unreviewed reasons.StoreHandle))

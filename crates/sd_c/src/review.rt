@@ -1,0 +1,304 @@
+//! What a publish would change, one node at a time, for all tokens.
+
+ghost use Rattle.std.specs.Prelude.{◌≡◌, [], IfErr, IfOk, Option, Some, string_bytes};
+ghost use Rattle.std.specs.FinMap.{entries};
+ghost use Rattle.sd_acl.specs.Descriptor.{DescriptorValue};
+ghost use Rattle.sd_path.specs.PathText.{text_of};
+ghost use Rattle.sd_review.specs.Compared.{IsOfBoth};
+ghost use Rattle.sd_review.specs.Review.{trees_of};
+ghost use Rattle.sd_sid.specs.Mapping.{MappingValue};
+ghost use Rattle.sd_c.specs.Kept.{Stays};
+ghost use Rattle.sd_c.specs.Review.{AreChangesAt, AreChangesOf, AreNone, IsNoReviewAt, IsNodeReview, IsNotReviewed};
+ghost use Rattle.sd_c.specs.Review.{IsPublishedReview, IsReviewAt, IsReviewed, IsTold, Reviews, same_or_changed};
+ghost use Rattle.sd_c.specs.Review.{text_in, unreviewed};
+ghost use Rattle.sd_c.specs.Written.{Writes};
+
+use crate::analysis::bits_of;
+use crate::answer::{Written, write};
+use crate::handle::{Handle, Kept};
+use crate::not_done::NotDone;
+use crate::views::not_told;
+use sd_path::Path;
+use sd_review::{Compared, Former, Review};
+use sd_sid::Mask;
+use std::alloc::{AllocError, Global};
+
+/// The numbers by which an answer says what happened to a node.
+const SAME: u32 = 1;
+
+const CHANGED: u32 = 2;
+
+const NEW: u32 = 3;
+
+const MOVED: u32 = 4;
+
+const GONE: u32 = 5;
+
+const STANDS: u32 = 6;
+
+/// The answer of `hudarin_store_review`.
+#[repr(C)]
+#[derive(Clone, Copy, Debug, PartialEq, Eq)]
+pub struct ReviewAnswer {
+    pub written: Written,
+    /// What happened to the node; 0 without one.
+    pub what: u32,
+    /// The bits that some token gains.
+    pub gained: u32,
+    /// The bits that some token loses.
+    pub lost: u32,
+    /// The number of bytes of the node's path, at the front of what is written.
+    pub path: u64,
+    /// The number of bytes after it that are the path from which the node was moved.
+    pub before: u64,
+}
+
+/// What happened to a node.
+#[derive(Drop)]
+pub(crate) struct NodeReview {
+    path: String,
+    before: String,
+    what: u32,
+    changes: Changes,
+}
+
+/// What tokens gain and lose: the lines of `compare`, and the bits.
+#[derive(Drop)]
+pub(crate) struct Changes {
+    lines: String,
+    gained: Mask,
+    lost: Mask,
+}
+
+/// Writes what a publish would change, for all tokens ([MS-DTYP] 2.5.3.2), at the node of a place into the buffer: its
+/// path, the path from which a moved one was moved, and the lines of `compare` without `same`. The places are first
+/// those of the store's tree in path order, then those of the tree as it was last published. Refused if the handle
+/// keeps no store, after the last place, or out of memory; then, and if the buffer is too small, nothing is written.
+#[unsafe(no_mangle)]
+pub extern "C" fn hudarin_store_review(
+    alloc: Global,
+    store: &mut Handle,
+    place: u64,
+    room: &mut [u8],
+) -> ReviewAnswer
+    ensures answer { Reviews store.old place room.old room.new result }
+    ensures store { Stays store.old store.new }
+{
+    let Some(kept) = store.take(alloc) else {
+        return unreviewed(NotDone::StoreHandle);
+    };
+    let answer = match reviewed(alloc, &kept, place) {
+        Ok((review, text)) => told(&review, text.as_bytes(), room),
+        Err(why) => unreviewed(why),
+    };
+    store.put(kept);
+    answer
+}
+
+fn told(review: &NodeReview, text: &[u8], room: &mut [u8]) -> ReviewAnswer
+    ensures written { Writes text.now room.old room.new result.written }
+    ensures told { IsTold review.now result }
+{
+    ReviewAnswer {
+        written: write(text, room),
+        what: review.what,
+        gained: review.changes.gained.bits(),
+        lost: review.changes.lost.bits(),
+        path: review.path.len() as u64,
+        before: review.before.len() as u64,
+    }
+}
+
+fn unreviewed(why: NotDone) -> ReviewAnswer
+    ensures { result ≡ unreviewed why }
+{
+    ReviewAnswer {
+        written: not_told(why),
+        what: 0,
+        gained: 0,
+        lost: 0,
+        path: 0,
+        before: 0,
+    }
+}
+
+/// The review of a place, and its text.
+fn reviewed(alloc: Global, kept: &Kept, place: u64) -> Result<(NodeReview, String), NotDone>
+    ensures ok { IfOk result (λ made. IsReviewed kept.now place made.0 (string_bytes made.1)) }
+    ensures err { IfErr result (λ why. IsNotReviewed kept.now place why) }
+{
+    let Kept::Store(store) = kept else {
+        return Err(NotDone::StoreHandle);
+    };
+    let made = review_at(alloc, &store.review(), place)?;
+    Ok(made)
+}
+
+fn review_at(
+    alloc: Global,
+    review: &Review<'_>,
+    place: u64,
+) -> Result<(NodeReview, String), NotDone>
+    ensures ok { IfOk result (λ made. IsReviewAt (trees_of review.now) place made.0
+        × (string_bytes made.1 ≡ text_in made.0)) }
+    ensures err { IfErr result (λ why. IsNoReviewAt (trees_of review.now) place why) }
+{
+    let place = place as usize;
+    if let Some(node) = review.new.node(place) {
+        let made = node_review(alloc, review, node.path)?;
+        return Ok(with_text(alloc, made)?);
+    }
+    let index = place.saturating_sub(review.new.node_count());
+    match review.old.node(index) {
+        Some(node) => {
+            let made = published_review(alloc, review, node.path)?;
+            Ok(with_text(alloc, made)?)
+        }
+        None => Err(NotDone::NoNode),
+    }
+}
+
+/// The review, and its text.
+fn with_text(alloc: Global, review: NodeReview) -> Result<(NodeReview, String), AllocError>
+    ensures same { IfOk result (λ made. made.0 ≡ review) }
+    ensures text { IfOk result (λ made. string_bytes made.1 ≡ text_in review) }
+{
+    let text = review_text(alloc, &review)?;
+    Ok((review, text))
+}
+
+fn review_text(alloc: Global, review: &NodeReview) -> Result<String, AllocError>
+    ensures { IfOk result (λ text. string_bytes text ≡ text_in review.now) }
+{
+    let (path, before) = (review.path.as_str(), review.before.as_str());
+    let lines = review.changes.lines.as_str();
+    let text = format!(in alloc; "{path}{before}{lines}")?;
+    Ok(text)
+}
+
+/// That of a node of the store's tree.
+fn node_review(alloc: Global, review: &Review<'_>, path: &Path) -> Result<NodeReview, AllocError>
+    ensures { IfOk result (λ made. IsNodeReview (trees_of review.now) path.now made) }
+{
+    match review.former(alloc, path)? {
+        Former::Same => same_review(alloc, review, path),
+        Former::Moved(before) => moved_review(alloc, review, &before, path),
+        Former::New => without_changes(alloc, NEW, path),
+    }
+}
+
+fn same_review(alloc: Global, review: &Review<'_>, path: &Path) -> Result<NodeReview, AllocError>
+    ensures path { IfOk result (λ made. string_bytes made.path ≡ text_of path.now) }
+    ensures before { IfOk result (λ made. string_bytes made.before ≡ []) }
+    ensures changes { IfOk result (λ made. AreChangesAt (trees_of review.now) path.now path.now made.changes) }
+    ensures what { IfOk result (λ made. made.what ≡ same_or_changed made.changes) }
+{
+    let changes = changes_at(alloc, review, path, path)?;
+    let what = same_or_changed(&changes);
+    Ok(NodeReview {
+        path: format!(in alloc; "{path}")?,
+        before: String::new(alloc),
+        what,
+        changes,
+    })
+}
+
+fn same_or_changed(changes: &Changes) -> u32
+    ensures { result ≡ same_or_changed changes.now }
+{
+    if changes.gained.bits() == 0 && changes.lost.bits() == 0 {
+        SAME
+    } else {
+        CHANGED
+    }
+}
+
+fn moved_review(
+    alloc: Global,
+    review: &Review<'_>,
+    before: &Path,
+    path: &Path,
+) -> Result<NodeReview, AllocError>
+    ensures path { IfOk result (λ made. string_bytes made.path ≡ text_of path.now) }
+    ensures before { IfOk result (λ made. string_bytes made.before ≡ text_of before.now) }
+    ensures changes { IfOk result (λ made. AreChangesAt (trees_of review.now) before.now path.now made.changes) }
+    ensures what { IfOk result (λ made. made.what ≡ 4) }
+{
+    let changes = changes_at(alloc, review, before, path)?;
+    Ok(NodeReview {
+        path: format!(in alloc; "{path}")?,
+        before: format!(in alloc; "{before}")?,
+        what: MOVED,
+        changes,
+    })
+}
+
+/// That of a node of the published tree.
+fn published_review(
+    alloc: Global,
+    review: &Review<'_>,
+    path: &Path,
+) -> Result<NodeReview, AllocError>
+    ensures { IfOk result (λ made. IsPublishedReview (trees_of review.now) path.now made) }
+{
+    if review.new.lookup(path).is_some() {
+        return without_changes(alloc, STANDS, path);
+    }
+    without_changes(alloc, GONE, path)
+}
+
+/// That of a node of which nothing is compared.
+fn without_changes(alloc: Global, what: u32, path: &Path) -> Result<NodeReview, AllocError>
+    ensures path { IfOk result (λ made. string_bytes made.path ≡ text_of path.now) }
+    ensures before { IfOk result (λ made. string_bytes made.before ≡ []) }
+    ensures changes { IfOk result (λ made. AreNone made.changes) }
+    ensures what { IfOk result (λ made. made.what ≡ what) }
+{
+    Ok(NodeReview {
+        path: format!(in alloc; "{path}")?,
+        before: String::new(alloc),
+        what,
+        changes: no_changes(alloc),
+    })
+}
+
+fn no_changes(alloc: Global) -> Changes
+    ensures { AreNone result }
+{
+    Changes {
+        lines: String::new(alloc),
+        gained: Mask(0),
+        lost: Mask(0),
+    }
+}
+
+/// What changes at the node of a path beside the one of a path of the published tree.
+fn changes_at(
+    alloc: Global,
+    review: &Review<'_>,
+    before: &Path,
+    path: &Path,
+) -> Result<Changes, AllocError>
+    ensures { IfOk result (λ changes. AreChangesAt (trees_of review.now) before.now path.now changes) }
+{
+    let mut last = None;
+    review.compare(alloc, &mut last, before, path)?;
+    match &last {
+        Some(compared) => changes_of(alloc, compared),
+        None => Ok(no_changes(alloc)),
+    }
+}
+
+fn changes_of(alloc: Global, compared: &Compared) -> Result<Changes, AllocError>
+    ensures { (g : MappingValue) (x y : Option DescriptorValue) → IsOfBoth g x y (Some compared.now)
+        → IfOk result (AreChangesOf g x y) }
+{
+    let lines = compared.lines(alloc, "")?;
+    let gained = bits_of(&compared.comparison.gained);
+    let lost = bits_of(&compared.comparison.lost);
+    Ok(Changes {
+        lines,
+        gained,
+        lost,
+    })
+}

@@ -1,0 +1,4 @@
+mod NoGains
+pub mod OneStore
+mod Origins
+pub mod RightOnes

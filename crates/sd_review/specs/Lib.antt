@@ -1,0 +1,5 @@
+pub mod Compared
+pub mod Lines
+pub mod Origin
+pub mod Parts
+pub mod Review

@@ -1,0 +1,140 @@
+//! What tokens gain and lose by a change of a descriptor.
+ghost use Rattle.std.specs.Prelude.{◌≡◌, [], IfOk, OnOk, Some, string_bytes, true};
+ghost use Rattle.std.specs.Option.{ForSome};
+ghost use Rattle.sd_acl.specs.Descriptor.{descriptor_of};
+ghost use Rattle.sd_analysis.specs.Compare.{AreGains};
+ghost use Rattle.sd_analysis.specs.Sufficient.{parts_of};
+ghost use Rattle.sd_check.specs.Check.{dacl_entries, entries_of};
+ghost use Rattle.sd_answer.specs.Compare.{gains_and_losses};
+ghost use Rattle.sd_answer.specs.declared.answer.Spelling.TheVariants.{Number};
+ghost use Rattle.sd_review.specs.Compared.{HasParts, IsOf, IsOfBoth, IsRight};
+ghost use Rattle.sd_review.specs.Lines.{lines};
+ghost use Rattle.sd_review.specs.Parts.{parts_in};
+
+use crate::alike::is_alike;
+use crate::compared::Compared;
+use sd_acl::{Dacl, Descriptor};
+use sd_analysis::{Base, Comparison, DescriptorRef, compare};
+use sd_answer::{Spelling, gains_and_losses};
+use sd_check::DaclRef;
+use sd_sid::GenericMapping;
+use std::alloc::{AllocError, Global};
+
+/// Leaves the comparison of these descriptors in `last`: nodes that share their lists before and after follow one
+/// another, so the last one often serves again.
+pub(crate) fn compare_next(
+    alloc: Global,
+    last: &mut Option<Compared>,
+    mapping: &GenericMapping,
+    before: Descriptor,
+    after: Descriptor,
+) -> Result<(), AllocError>
+    requires { ForSome last.old (IsRight mapping.now) }
+    ensures { OnOk result (IsOfBoth mapping.now (Some (descriptor_of before)) (Some (descriptor_of after)) last.new) }
+{
+    if !is_of(last, &before, &after) {
+        *last = Some(compared(alloc, mapping, before, after)?);
+    }
+    Ok(())
+}
+
+/// Whether the comparison is of descriptors that are the same to a check.
+fn is_of(last: &Option<Compared>, before: &Descriptor, after: &Descriptor) -> bool
+    ensures { result ≡ true → HasParts (parts_in (descriptor_of before.now)) (parts_in (descriptor_of after.now))
+        last.now }
+{
+    match last {
+        Some(compared) => is_alike(&compared.before, before) && is_alike(&compared.after, after),
+        None => false,
+    }
+}
+
+/// The comparison of these descriptors.
+fn compared(
+    alloc: Global,
+    mapping: &GenericMapping,
+    before: Descriptor,
+    after: Descriptor,
+) -> Result<Compared, AllocError>
+    ensures { IfOk result (IsOf mapping.now (parts_in (descriptor_of before)) (parts_in (descriptor_of after))) }
+{
+    let comparison = comparison_of(alloc, mapping, &before, &after)?;
+    Ok(Compared {
+        before,
+        after,
+        comparison,
+    })
+}
+
+/// What all tokens gain and lose: nothing where no check can tell the descriptors apart, and then they aren't compared.
+fn comparison_of(
+    alloc: Global,
+    mapping: &GenericMapping,
+    before: &Descriptor,
+    after: &Descriptor,
+) -> Result<Comparison, AllocError>
+    ensures gained { IfOk result (λ c. AreGains mapping.now [] (parts_in (descriptor_of before.now))
+        (parts_in (descriptor_of after.now)) c.gained.items) }
+    ensures lost { IfOk result (λ c. AreGains mapping.now [] (parts_in (descriptor_of after.now))
+        (parts_in (descriptor_of before.now)) c.lost.items) }
+    ensures same { IfOk result (λ c. parts_in (descriptor_of before.now) ≡ parts_in (descriptor_of after.now)
+        → (c.gained.items ≡ []) × (c.lost.items ≡ [])) }
+{
+    if is_alike(before, after) {
+        return Ok(Comparison {
+            gained: Vec::new(alloc),
+            lost: Vec::new(alloc),
+        });
+    }
+    let base = Base { groups: &[] };
+    let old = looked_at(before);
+    let new = looked_at(after);
+    compare(alloc, &old, &new, mapping, &base)
+}
+
+impl Compared {
+    /// The lines of `compare` ([MS-DTYP] 2.5.3.2), each after a head: none where no token gains or loses a right. Fails
+    /// only out of memory.
+    pub fn lines(&self, alloc: Global, head: &str) -> Result<String, AllocError>
+        ensures { IfOk result (λ text. string_bytes text ≡ lines head.now self.now) }
+    {
+        let old = looked_at(&self.before);
+        let new = looked_at(&self.after);
+        let text = lines_between(alloc, head, &old, &new, &self.comparison)?;
+        Ok(text)
+    }
+}
+
+fn lines_between<'x>(
+    alloc: Global,
+    head: &str,
+    old: &'x DescriptorRef<'x>,
+    new: &'x DescriptorRef<'x>,
+    comparison: &Comparison,
+) -> Result<String, AllocError>
+    ensures { IfOk result (λ text. string_bytes text ≡ gains_and_losses Number head.now (parts_of old.now)
+        (parts_of new.now) comparison.now.gained.items comparison.now.lost.items) }
+{
+    gains_and_losses(alloc, Spelling::Number, head, old, new, comparison)
+}
+
+/// A descriptor, as far as a check looks at it ([MS-DTYP] 2.5.3.2): its owner and its DACL.
+pub fn looked_at(descriptor: &Descriptor) -> DescriptorRef<'_>
+    ensures { parts_of result ≡ parts_in (descriptor_of descriptor.now) }
+{
+    DescriptorRef {
+        owner: descriptor.owner,
+        dacl: borrowed(&descriptor.dacl),
+    }
+}
+
+/// The DACL ([MS-DTYP] 2.4.5), borrowed for an analysis.
+pub fn borrowed(dacl: &Dacl) -> DaclRef<'_>
+    ensures { entries_of result ≡ dacl_entries dacl.now }
+{
+    match dacl {
+        Dacl::Absent => DaclRef::Absent,
+        Dacl::Null => DaclRef::Null,
+        Dacl::List(list) => DaclRef::List(list.entries()),
+    }
+}

@@ -1,0 +1,32 @@
+//! What the pending edits of a store change, node by node, for all tokens.
+//!
+//! A node of the tree with all edits is compared with the one at its path in the published tree, or with the one that
+//! the edits moved there. Scripts and the library for C return the same of each node.
+//!
+//! ```text
+//! let review = Review::of(published, draft);
+//! let mut last = None;
+//! match review.former(alloc, &path)? {
+//!     Former::Same => review.compare(alloc, &mut last, &path, &path)?,
+//!     Former::Moved(before) => review.compare(alloc, &mut last, &before, &path)?,
+//!     Former::New => ..,
+//! }
+//! if let Some(compared) = &last {
+//!     // compared.comparison has the rights that some token gains, and those that some token loses
+//!     print(compared.lines(alloc, "/a ")?); // /a gained 0x2 by S-1-5-32-545
+//! }
+//! ```
+#![tactic(auto)]
+
+mod alike;
+mod compared;
+mod comparing;
+mod origin;
+mod pending;
+mod review;
+
+pub use alike::same_entries;
+pub use compared::Compared;
+pub use comparing::{borrowed, looked_at};
+pub use pending::Review;
+pub use review::Former;
