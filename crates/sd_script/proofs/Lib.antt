@@ -6,7 +6,6 @@ pub mod DeletedAsChecked
 pub mod Dumping
 pub mod Found
 pub mod Granted
-mod JournalEdits
 pub mod NoId
 pub mod OneOutput
 pub mod OneReading

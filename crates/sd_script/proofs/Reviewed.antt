@@ -1,27 +1,20 @@
--- The lines of a review, and where a node was, one step after the other.
-use Rattle.std.proofs.Common.{◌≡◌, ℕ, zero, suc, ◌+◌, ◌-◌, ◌<◌, ◌≤◌, true, List, [], ◌∷◌, ◌++◌, length, get_or, take, drop, Option, Some, None, refl, sym, ◌∙◌, ap, subst, append_assoc, append-nil, arith}
-use Rattle.std.specs.Prelude.{codes, option_and_then}
+-- The lines of a review, one step after the other.
+use Rattle.std.proofs.Common.{◌≡◌, ℕ, zero, suc, ◌+◌, ◌<◌, ◌≤◌, List, [], ◌∷◌, ◌++◌, length, drop, Option, Some, None, refl, sym, ◌∙◌, ap, subst, append_assoc, append-nil, arith}
+use Rattle.std.specs.Prelude.{codes}
 use Rattle.std.proofs.Math.ListN.{drop_of_length-le}
-use Rattle.std.proofs.Math.Seq.{drop-append_seam}
-use Rattle.std.proofs.lemmas.List.Elements.{All-nil}
 use Rattle.sd_sid.specs.Mapping.{MappingValue}
-use Rattle.sd_sid.specs.Mask.{holds}
-use Rattle.sd_sid.specs.Sid.{SidValue}
-use Rattle.sd_acl.specs.Descriptor.{DescriptorValue}
-use Rattle.sd_check.specs.Check.{is_granted}
-use Rattle.sd_check.specs.declared.token.GroupState.{GroupState}
+use Rattle.sd_acl.specs.Descriptor.{DescriptorValue, descriptor_of}
 use Rattle.sd_tree.specs.Names.{Names}
-use Rattle.sd_tree.specs.Journal.{replay}
 use Rattle.sd_tree.specs.declared.edit.Edit.{Edit}
-use Rattle.sd_tree.specs.declared.opening.Opening.{Opening}
 use Rattle.sd_desk.specs.Machine.{Machine, accepted}
-use Rattle.sd_analysis.specs.Compare.{AreGains, HasABit}
-use Rattle.sd_analysis.specs.Sufficient.{Parts, gains, token_of}
-use Rattle.sd_analysis.specs.declared.compare_report.Change.{Change}
-use Rattle.sd_answer.specs.Compare.{gains_and_losses}
-use Rattle.sd_answer.specs.declared.answer.Spelling.TheVariants.{Number}
-use Rattle.sd_answer.proofs.NoLines.{nothing_printed}
-use Rattle.sd_script.specs.Review.{ArePrinted, IsChangeOf, IsChangeText, IsPrintedAt, IsReview, IsReviewOf, Trees, has_no_words, origin, parts_in, place_before, reviewed_line, stands_in, trees_in}
+use Rattle.sd_analysis.specs.Sufficient.{Parts}
+use Rattle.sd_review.specs.Compared.{IsOfBoth, IsRight}
+use Rattle.sd_review.specs.Lines.{lines}
+use Rattle.sd_review.specs.Parts.{parts_in}
+use Rattle.sd_review.specs.Review.{Trees, stands_in}
+use Rattle.sd_review.specs.declared.compared.Compared.{Compared}
+use Rattle.sd_review.proofs.RightOnes.{right_one}
+use Rattle.sd_script.specs.Review.{ArePrinted, IsChangeOf, IsChangeText, IsPrintedAt, IsReview, IsReviewOf, has_no_words, reviewed_line, trees_in}
 use Rattle.sd_script.specs.declared.paths.PathSpelling.{PathSpelling}
 
 -- ---- what is printed of each
@@ -48,81 +41,25 @@ pub printed_all : {A : Type 0} (P : A → List ℕ → Type 0) (xs : List A) (i 
 printed_all P xs i text before past =
     subst (ArePrinted P xs) (append-nil text) (before [] (subst (λ left. ArePrinted P left []) (sym (drop_of_length-le xs past)) refl))
 
--- ---- where a node was
-
-and_then_some : (x : Option Names) → option_and_then (origin []) x ≡ x
-and_then_some None = refl
-and_then_some (Some path) = refl
-
-and_then_each : (e : Edit) (f : Names → Option Names) (x : Option Names)
-    → option_and_then (place_before e) (option_and_then f x) ≡ option_and_then (λ p. option_and_then (place_before e) (f p)) x
-and_then_each e f None = refl
-and_then_each e f (Some path) = refl
-
--- before all edits to a place it was where it was before those before it
-origin_to : (edits : List Edit) (k : ℕ) (e : Edit) (path : Names) → k < length edits → get_or edits k e ≡ e
-    → origin (take (suc k) edits) path ≡ option_and_then (origin (take k edits)) (place_before e path)
-origin_to [] k e path low there = absurd (omega (arith, low))
-origin_to (first ∷ edits) zero e path low there =
-    ap (λ x. place_before x path) there ∙ sym (and_then_some (place_before e path))
-origin_to (first ∷ edits) (suc k) e path low there =
-    ap (option_and_then (place_before first)) (origin_to edits k e path (omega (arith, low)) there)
-    ∙ and_then_each first (origin (take k edits)) (place_before e path)
-
--- the same, as a walk from the last edit on has it
-pub origin_step : (edits : List Edit) (i : ℕ) (e : Edit) (place path : Names) (before : Option Names) → origin (take i edits) place ≡ origin edits path
-    → 0 < i → i ≤ length edits → get_or edits (i - 1) e ≡ e → before ≡ place_before e place
-    → option_and_then (origin (take (i - 1) edits)) before ≡ origin edits path
-origin_step edits zero e place path before so_far low high there is = absurd (omega (arith, low))
-origin_step edits (suc k) e place path before so_far low high there is =
-    let less : suc k - 1 ≡ k = omega arith in
-    subst (λ n. option_and_then (origin (take n edits)) before ≡ origin edits path) (sym less)
-    (ap (option_and_then (origin (take k edits))) is
-    ∙ sym (origin_to edits k e place (omega (arith, high)) (subst (λ n. get_or edits n e ≡ e) less there)) ∙ so_far)
-
 -- ---- what two descriptors change
 
-no_gains : (g : MappingValue) (old new : Parts) → old ≡ new → AreGains g [] old new []
-no_gains g old new same = record {
-  complete = λ t b base no granted. subst (λ (p : Parts). is_granted p.owner p.dacl g t b ≡ true) (sym same) granted;
-  shown = All-nil (λ (c : Change). (b : ℕ) → holds c.mask b ≡ true → gains g old new (token_of [] c.witness) b ≡ true);
-  some = All-nil (λ (c : Change). HasABit c.mask);
-}
-
--- a descriptor beside one with the same owner and entries: nothing
-pub no_change : (g : MappingValue) (head : List ℕ) (old new : Parts) (text : List ℕ) → old ≡ new → text ≡ [] → IsChangeText g head old new text
-no_change g head old new text same none =
-    ([], [], no_gains g old new same, no_gains g new old (sym same), none ∙ sym (nothing_printed Number head old new))
-
--- what is compared are these descriptors, with the empty base
-pub change_lines : (g : MappingValue) (head : List ℕ) (old new p q : Parts) (base : List (SidValue × GroupState)) (gained lost : List Change)
-    (text : List ℕ) → base ≡ [] → p ≡ old → q ≡ new → AreGains g base p q gained → AreGains g base q p lost
-    → text ≡ gains_and_losses Number head p q gained lost → IsChangeText g head old new text
-change_lines g head old new p q base gained lost text empty is_old is_new gains losses is =
-    subst (λ x. IsChangeText g head old x text) is_new (subst (λ x. IsChangeText g head x q text) is_old
-    (gained, lost, subst (λ b. AreGains g b p q gained) empty gains, subst (λ b. AreGains g b q p lost) empty losses, is))
+-- the lines of what was compared
+pub change_lines : (g : MappingValue) (c : Compared) (head word : List ℕ) (text : List ℕ) → IsRight g c → head ≡ word ++ codes " "
+    → text ≡ lines head c
+    → IsChangeText g (word ++ codes " ") (parts_in (descriptor_of c.before)) (parts_in (descriptor_of c.after)) text
+change_lines g c head word text right is_head is =
+    (c.comparison.gained.items, c.comparison.lost.items, right.2, right.3, is ∙ ap (λ (h : List ℕ). lines h c) is_head)
 
 -- of two nodes that are there
-pub compared_lines : (g h : MappingValue) (head word : List ℕ) (a b : DescriptorValue) (x y : Option DescriptorValue) (text : List ℕ) → h ≡ g
-    → head ≡ word ++ codes " " → Some a ≡ x → Some b ≡ y → IsChangeText h head (parts_in a) (parts_in b) text
-    → IsChangeOf g (word ++ codes " ") x y text
-compared_lines g h head word a b x y text is_g is_head is_x is_y is =
-    subst (λ v. IsChangeOf g (word ++ codes " ") x v text) is_y (subst (λ u. IsChangeOf g (word ++ codes " ") u (Some b) text) is_x
-    (subst (λ k. IsChangeText k (word ++ codes " ") (parts_in a) (parts_in b) text) is_g
-    (subst (λ k. IsChangeText h k (parts_in a) (parts_in b) text) is_head is)))
+pub compared_lines : (g : MappingValue) (head : List ℕ) (x y : Option DescriptorValue) (c : Compared) (text : List ℕ) → IsOfBoth g x y (Some c)
+    → (IsRight g c → IsChangeText g head (parts_in (descriptor_of c.before)) (parts_in (descriptor_of c.after)) text) → IsChangeOf g head x y text
+compared_lines g head None y c text of is = absurd (cc (of))
+compared_lines g head (Some a) None c text of is = absurd (cc (of))
+compared_lines g head (Some a) (Some b) c text of is =
+    subst (λ (x : Parts). IsChangeText g head (parts_in a) x text) of.1 (subst (λ (x : Parts). IsChangeText g head x (parts_in (descriptor_of c.after)) text) of.0
+    (is (right_one g (parts_in a) (parts_in b) c of)))
 
 -- ---- the trees of a store
-
-abbrev trees : Opening → List Edit → Opening → List Edit → List Edit → Trees
-trees a xs b ys zs = record { mapping = a.mapping; old = replay a xs; new = replay b ys; pending = zs }
-
-pub same_trees : (m : Machine) (a b : Opening) (xs ys zs : List Edit) → a ≡ m.opening → xs ≡ m.published → b ≡ m.opening → ys ≡ accepted m
-    → zs ≡ drop (length xs) ys → trees a xs b ys zs ≡ trees_in m
-same_trees m a b xs ys zs is_a is_xs is_b is_ys is =
-    let left : zs ≡ m.pending =
-    is ∙ ap (λ n. drop (length n) ys) is_xs ∙ ap (drop (length m.published)) is_ys ∙ drop-append_seam m.published m.pending in
-    ap (λ o. trees o xs b ys zs) is_a ∙ ap (λ es. trees m.opening es b ys zs) is_xs ∙ ap (λ o. trees m.opening m.published o ys zs) is_b
-    ∙ ap (λ es. trees m.opening m.published m.opening es zs) is_ys ∙ ap (trees m.opening m.published m.opening (accepted m)) left
 
 -- a review of these trees is that of the store
 pub review_of : (paths : PathSpelling) (m : Machine) (ts : Trees) (xs ys : List Edit) (top : Names) (text : List ℕ) → ts ≡ trees_in m

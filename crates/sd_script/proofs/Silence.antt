@@ -30,9 +30,12 @@ use Rattle.sd_answer.specs.declared.answer.Spelling.TheVariants.{Number}
 use Rattle.sd_answer.proofs.NoLines.{ended, no_gain_no_loss, parts_empty}
 use Rattle.sd_script.specs.Laws.{SilentNodeIsUnchanged, SilentReviewChangesNothing}
 use Rattle.sd_script.specs.Paths.{path_word}
-use Rattle.sd_script.specs.Review.{ArePrinted, IsChangeOf, IsCompared, IsNodeReview, IsNodeText, IsReviewOf, Trees, former, former_by_edits, gone_line, has_no_words, origin, parts_in, reviewed_line, stands_in, trees_in}
+use Rattle.sd_review.specs.Parts.{parts_in}
+use Rattle.sd_review.specs.Origin.{origin}
+use Rattle.sd_review.specs.Review.{Trees, former, former_by_edits, stands_in}
+use Rattle.sd_review.specs.declared.review.Former.TheVariants.{Same, Moved, New}
+use Rattle.sd_script.specs.Review.{ArePrinted, IsChangeOf, IsCompared, IsNodeReview, IsNodeText, IsReviewOf, gone_line, has_no_words, reviewed_line, trees_in}
 use Rattle.sd_script.specs.declared.paths.PathSpelling.{PathSpelling}
-use Rattle.sd_script.specs.declared.review.Former.TheVariants.{Same, Moved, New}
 
 -- ---- verdicts
 

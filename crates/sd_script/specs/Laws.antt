@@ -14,8 +14,9 @@ use Rattle.sd_answer.specs.Answer.{line, mask_digits}
 use Rattle.sd_script.specs.Command.{line_asks}
 use Rattle.sd_script.specs.Deletion.{delete_right}
 use Rattle.sd_script.specs.Output.{IsAnswered, IsDone, Prints}
+use Rattle.sd_review.specs.Review.{Trees}
 use Rattle.sd_script.specs.Reply.{seen_line}
-use Rattle.sd_script.specs.Review.{IsNodeReview, IsReview, Trees, reviewed_line}
+use Rattle.sd_script.specs.Review.{IsNodeReview, IsReview, reviewed_line}
 use Rattle.sd_script.specs.declared.asked.Asked.{Asked}
 use Rattle.sd_script.specs.declared.asked.Asked.TheVariants.{Opening, Asking, Explaining, Finding, Deleting, Viewing}
 use Rattle.sd_script.specs.declared.asked.Asked.TheVariants.{Importing}

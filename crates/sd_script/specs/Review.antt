@@ -1,98 +1,33 @@
 -- What `review` prints: what the pending edits change, node by node, for all tokens.
-use Rattle.std.specs.Prelude.{◌≡◌, ℕ, Bool, true, false, ◌||◌, nat_le, List, [], ◌∷◌, ◌++◌, length, MatchBool}
-use Rattle.std.specs.Prelude.{if◌then◌else◌, Option, Some, None, is_some, option_and_then, slice_get, codes}
+use Rattle.std.specs.Prelude.{◌≡◌, ℕ, Bool, true, false, ◌||◌, List, [], ◌∷◌, ◌++◌, length, MatchBool}
+use Rattle.std.specs.Prelude.{if◌then◌else◌, Option, Some, None, is_some, slice_get, codes}
 use Rattle.std.specs.Fmt.{decimal}
 use Rattle.std.specs.FinMap.{entries}
 use Rattle.std.specs.List.{flat_map}
-use Rattle.std.specs.Ordering.{eq_by_cmp}
 use Rattle.sd_sid.specs.Mapping.{MappingValue}
 use Rattle.sd_acl.specs.Descriptor.{DescriptorValue}
-use Rattle.sd_check.specs.Check.{dacl_entries}
 use Rattle.sd_tree.specs.Answers.{descriptor_at, kind_at}
-use Rattle.sd_tree.specs.Journal.{replay}
-use Rattle.sd_tree.specs.Names.{Names, is_within, moved_path, names_cmp}
-use Rattle.sd_tree.specs.Plain.{PlainTree}
-use Rattle.sd_tree.specs.declared.edit.Edit.{Edit}
-use Rattle.sd_tree.specs.declared.edit.Edit.TheVariants.{AddContainer, AddObject, Move}
+use Rattle.sd_tree.specs.Names.{Names, is_within}
 use Rattle.sd_tree.specs.declared.node.Row.{Row}
 use Rattle.sd_desk.specs.Machine.{Machine, accepted}
 use Rattle.sd_analysis.specs.Compare.{AreGains}
 use Rattle.sd_analysis.specs.Sufficient.{Parts}
 use Rattle.sd_analysis.specs.declared.compare_report.Change.{Change}
+use Rattle.sd_review.specs.Parts.{parts_in}
+use Rattle.sd_review.specs.Review.{Trees, former, stands_in, trees_after}
+use Rattle.sd_review.specs.declared.review.Former.{Former}
+use Rattle.sd_review.specs.declared.review.Former.TheVariants.{Same, Moved, New}
 use Rattle.sd_answer.specs.Answer.{line, fault_line}
 use Rattle.sd_answer.specs.Compare.{gains_and_losses}
 use Rattle.sd_answer.specs.declared.answer.Spelling.TheVariants.{Number}
 use Rattle.sd_script.specs.Listing.{lacks_words}
 use Rattle.sd_script.specs.Paths.{path_word}
 use Rattle.sd_script.specs.declared.paths.PathSpelling.{PathSpelling}
-use Rattle.sd_script.specs.declared.review.Former.{Former}
-use Rattle.sd_script.specs.declared.review.Former.TheVariants.{Same, Moved, New}
-use Rattle.sd_script.specs.declared.pending.Review.{Review}
-
--- ---- where a node was
-
--- at most 128 names are a path
-abbrev pub path_or_none : Names → Option Names
-path_or_none path = if nat_le (length path) 128 then Some path else None
-
-abbrev pub unless_same : Names → Names → Option Names
-unless_same added path = if eq_by_cmp names_cmp path added then None else Some path
-
--- where the node that stands at a path after an edit stood before it: nowhere, if the edit added it
-abbrev pub place_before : Edit → Names → Option Names
-place_before (AddContainer added owner group dacl) path = unless_same added path
-place_before (AddObject added owner group dacl) path = unless_same added path
-place_before (Move source target) path =
-    if is_within target path then path_or_none (moved_path target source path) else Some path
-place_before edit path = Some path
-
--- before several edits, one after the other
-abbrev pub origin : List Edit → Names → Option Names
-origin [] path = Some path
-origin (edit ∷ edits) path = option_and_then (place_before edit) (origin edits path)
-
--- ---- the two trees
-
--- the published tree, the one with all pending edits, and these edits
-pub record Trees : Type 0 where
-  pub mapping : MappingValue
-  pub old : PlainTree
-  pub new : PlainTree
-  pub pending : List Edit
 
 abbrev pub trees_in : Machine → Trees
-trees_in m = record {
-  mapping = m.opening.mapping;
-  old = replay m.opening m.published;
-  new = replay m.opening (accepted m);
-  pending = m.pending;
-}
-
-abbrev pub trees_of : Review → Trees
-trees_of r = record {
-  mapping = r.old.now.opening.mapping;
-  old = replay r.old.now.opening r.old.now.journal;
-  new = replay r.new.now.opening r.new.now.journal;
-  pending = r.pending.now;
-}
-
--- a node stands at the path in one of the two trees
-abbrev pub stands_in : Trees → Names → Bool
-stands_in ts path = is_some (kind_at ts.old path) || is_some (kind_at ts.new path)
-
--- what stood for a node of the new tree in the old one: the node at its own path, if one was there; else the node
--- that the edits moved to it, if that was there
-abbrev pub former_by_edits : PlainTree → Option Names → Former
-former_by_edits old None = New
-former_by_edits old (Some path) = if is_some (kind_at old path) then Moved path else New
-
-abbrev pub former : Trees → Names → Former
-former ts path = if is_some (kind_at ts.old path) then Same else former_by_edits ts.old (origin ts.pending path)
+trees_in m = trees_after m.opening m.published m.pending
 
 -- ---- the lines
-
-abbrev pub parts_in : DescriptorValue → Parts
-parts_in d = record { owner = d.owner; dacl = dacl_entries d.dacl }
 
 -- what tokens gain and lose if the new descriptor takes the place of the old one: the lines of `compare`, each after a
 -- head. The base is empty, so these are all tokens

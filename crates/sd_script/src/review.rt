@@ -1,32 +1,27 @@
 //! What the pending edits change, node by node, for all tokens.
-ghost use Rattle.std.specs.Prelude.{◌≡◌, ◌<◌, ◌≤◌, IfOk, Some, drop, length, option_map, slice_get, string_bytes};
+ghost use Rattle.std.specs.Prelude.{◌≡◌, ◌<◌, [], ◌++◌, IfOk, OnOk, Some, codes, length, option_map, slice_get};
+ghost use Rattle.std.specs.Prelude.{string_bytes, true};
 ghost use Rattle.std.specs.FinMap.{entries};
 ghost use Rattle.std.specs.List.{flat_map};
+ghost use Rattle.std.specs.Option.{ForSome};
+ghost use Rattle.sd_sid.specs.Mapping.{MappingValue};
+ghost use Rattle.sd_acl.specs.Descriptor.{descriptor_of};
 ghost use Rattle.sd_tree.specs.Listing.{listed};
-ghost use Rattle.sd_script.specs.Review.{ArePrinted, IsCompared, IsNodeReview, IsNodeText, IsPrintedAt, IsReview};
-ghost use Rattle.sd_script.specs.Review.{IsReviewOf, former, gone_line, has_no_words, moved_line, new_line};
-ghost use Rattle.sd_script.specs.Review.{reviewed_line, stands_in, trees_of};
+ghost use Rattle.sd_review.specs.Compared.{IsRight};
+ghost use Rattle.sd_review.specs.Parts.{parts_in};
+ghost use Rattle.sd_review.specs.Review.{former, stands_in, trees_of};
+ghost use Rattle.sd_script.specs.Paths.{path_word};
+ghost use Rattle.sd_script.specs.Review.{ArePrinted, IsChangeText, IsCompared, IsNodeReview, IsNodeText, IsPrintedAt};
+ghost use Rattle.sd_script.specs.Review.{IsReview, IsReviewOf, gone_line, has_no_words, moved_line, new_line};
+ghost use Rattle.sd_script.specs.Review.{reviewed_line};
 
-use crate::compared::change_text;
 use crate::listing::lacks_words;
-use crate::origin::origin;
 use crate::paths::{PathSpelling, path_word};
-use crate::pending::Review;
 use sd_answer::fault_line;
 use sd_desk::Desk;
-use sd_tree::{Edit, Journal, NodeRef, Path, Shared, Tree};
+use sd_review::{Compared, Former, Review};
+use sd_tree::{NodeRef, Path};
 use std::alloc::{AllocError, Global};
-
-/// What stood for a node of the new tree in the old one.
-#[derive(Drop)]
-pub(crate) enum Former {
-    /// The node at its path.
-    Same,
-    /// The node at this path, which was moved to its path.
-    Moved(Path),
-    /// None: it was added.
-    New,
-}
 
 /// The lines of the nodes at and below a path that the pending edits change ([MS-DTYP] 2.5.3.2), and the line of the
 /// two journals' lengths; `nonode` if no node stands at the path in either tree, and `fault name` if a name can't be
@@ -41,42 +36,12 @@ pub(crate) fn review_text(
 {
     let old = desk.published();
     let new = desk.draft();
-    let pending = pending_edits(alloc, old, new)?;
-    let review = Review {
+    let review = ReviewText {
         paths,
-        old,
-        new,
-        pending: &pending,
+        review: Review::of(old, new),
     };
     let text = review.text(alloc, top)?;
     Ok(text)
-}
-
-/// The edits by which the new tree goes on from the old one.
-fn pending_edits(alloc: Global, old: &Tree, new: &Tree) -> Result<Vec<Shared<Edit>>, AllocError>
-    requires { length old.now.journal ≤ length new.now.journal }
-    ensures { IfOk result (λ edits. edits.items ≡ drop (length old.now.journal) new.now.journal) }
-{
-    edits_from(alloc, &new.journal(), old.len() as usize)
-}
-
-/// The edits of a journal from a place on.
-fn edits_from(
-    alloc: Global,
-    journal: &Journal<'_>,
-    from: usize,
-) -> Result<Vec<Shared<Edit>>, AllocError>
-    requires few { length journal.now ≤ 1048576 }
-    requires start { from ≤ length journal.now }
-    ensures { IfOk result (λ edits. edits.items ≡ drop from journal.now) }
-{
-    let mut edits = Vec::new(alloc);
-    let mut at = from;
-    while let Some(edit) = journal.get(at) {
-        edits.push(edit.share()?)?;
-        at += 1;
-    }
-    Ok(edits)
 }
 
 /// The line of the lengths of the journals that were compared.
@@ -87,15 +52,22 @@ fn reviewed_line(alloc: Global, old: u64, new: u64) -> Result<String, AllocError
     Ok(text)
 }
 
-impl Review<'_> {
+/// A review whose lines spell paths so.
+#[derive(Drop)]
+pub(crate) struct ReviewText<'a> {
+    paths: PathSpelling,
+    review: Review<'a>,
+}
+
+impl ReviewText<'_> {
     /// The lines, and the last one.
     fn text(&self, alloc: Global, top: &Path) -> Result<String, AllocError>
-        ensures { IfOk result (λ text. IsReviewOf self.now.paths (trees_of self.now) top.now
-            (reviewed_line (length self.now.old.now.journal) (length self.now.new.now.journal))
-            (stands_in (trees_of self.now) top.now) (has_no_words self.now.paths (trees_of self.now))
+        ensures { IfOk result (λ text. IsReviewOf self.now.paths (trees_of self.now.review) top.now
+            (reviewed_line (length self.now.review.old.now.journal) (length self.now.review.new.now.journal))
+            (stands_in (trees_of self.now.review) top.now) (has_no_words self.now.paths (trees_of self.now.review))
             (string_bytes text)) }
     {
-        if !self.has(top) {
+        if !self.review.has(top) {
             return String::from_str(alloc, "nonode\n");
         }
         if self.lacks_words(alloc)? {
@@ -103,68 +75,77 @@ impl Review<'_> {
         }
         let changes = self.changes(alloc, top)?;
         let gone = self.gone(alloc, top)?;
-        let last = reviewed_line(alloc, self.old.len(), self.new.len())?;
+        let last = reviewed_line(alloc, self.review.old.len(), self.review.new.len())?;
         let (changes, gone, last) = (changes.as_str(), gone.as_str(), last.as_str());
         let text = format!(in alloc; "{changes}{gone}{last}")?;
         Ok(text)
     }
 
-    /// Whether a node stands at the path in one of the trees.
-    fn has(&self, path: &Path) -> bool
-        ensures { result ≡ stands_in (trees_of self.now) path.now }
-    {
-        self.old.lookup(path).is_some() || self.new.lookup(path).is_some()
-    }
-
     /// Whether the path of some node can't be told.
     fn lacks_words(&self, alloc: Global) -> Result<bool, AllocError>
-        ensures { IfOk result (λ lacks. lacks ≡ has_no_words self.now.paths (trees_of self.now)) }
+        ensures { IfOk result (λ lacks. lacks ≡ has_no_words self.now.paths (trees_of self.now.review)) }
     {
         let root = Path::root(alloc);
-        if lacks_words(alloc, self.paths, self.old, &root)? {
+        if lacks_words(alloc, self.paths, self.review.old, &root)? {
             return Ok(true);
         }
-        lacks_words(alloc, self.paths, self.new, &root)
+        lacks_words(alloc, self.paths, self.review.new, &root)
     }
 
     /// The lines of the nodes of the new tree.
     fn changes(&self, alloc: Global, top: &Path) -> Result<String, AllocError>
-        ensures { IfOk result (λ text. ArePrinted (IsNodeReview self.now.paths (trees_of self.now) top.now)
-            (entries (trees_of self.now).new) (string_bytes text)) }
+        ensures { IfOk result (λ text. ArePrinted (IsNodeReview self.now.paths (trees_of self.now.review) top.now)
+            (entries (trees_of self.now.review).new) (string_bytes text)) }
     {
         let mut text = String::new(alloc);
-        for index in 0..self.new.node_count() {
-            let lines = self.changes_at(alloc, top, index)?;
+        let mut last = None;
+        for index in 0..self.review.new.node_count() {
+            let lines = self.changes_at(alloc, &mut last, top, index)?;
             text.push_str(&lines)?;
         }
         Ok(text)
     }
 
     /// Those of the node of a place.
-    fn changes_at(&self, alloc: Global, top: &Path, index: usize) -> Result<String, AllocError>
-        ensures { IfOk result (λ text. IsPrintedAt (IsNodeReview self.now.paths (trees_of self.now) top.now)
-            (entries (trees_of self.now).new) index (string_bytes text)) }
+    fn changes_at(
+        &self,
+        alloc: Global,
+        last: &mut Option<Compared>,
+        top: &Path,
+        index: usize,
+    ) -> Result<String, AllocError>
+        requires { ForSome last.old (IsRight self.now.review.old.now.opening.mapping) }
+        ensures text { IfOk result (λ text. IsPrintedAt (IsNodeReview self.now.paths (trees_of self.now.review) top.now)
+            (entries (trees_of self.now.review).new) index (string_bytes text)) }
+        ensures right { OnOk result (ForSome last.new (IsRight self.now.review.old.now.opening.mapping)) }
     {
-        let Some(node) = self.new.node(index) else {
+        let Some(node) = self.review.new.node(index) else {
             return Ok(String::new(alloc));
         };
         if !node.path.as_path_ref().is_within(&top.as_path_ref()) {
             return Ok(String::new(alloc));
         }
-        let text = self.node_text(alloc, node.path)?;
+        let text = self.node_text(alloc, last, node.path)?;
         Ok(text)
     }
 
     /// Those of the node of a path.
-    fn node_text(&self, alloc: Global, path: &Path) -> Result<String, AllocError>
-        ensures { IfOk result (λ text. IsNodeText self.now.paths (trees_of self.now) path.now
-            (former (trees_of self.now) path.now) (string_bytes text)) }
+    fn node_text(
+        &self,
+        alloc: Global,
+        last: &mut Option<Compared>,
+        path: &Path,
+    ) -> Result<String, AllocError>
+        requires { ForSome last.old (IsRight self.now.review.old.now.opening.mapping) }
+        ensures text { IfOk result (λ text. IsNodeText self.now.paths (trees_of self.now.review) path.now
+            (former (trees_of self.now.review) path.now) (string_bytes text)) }
+        ensures right { OnOk result (ForSome last.new (IsRight self.now.review.old.now.opening.mapping)) }
     {
-        match self.former(alloc, path)? {
-            Former::Same => self.compared(alloc, path, path),
+        match self.review.former(alloc, path)? {
+            Former::Same => self.compared(alloc, last, path, path),
             Former::Moved(before) => {
                 let mut text = moved_line(alloc, self.paths, &before, path)?;
-                let changes = self.compared(alloc, &before, path)?;
+                let changes = self.compared(alloc, last, &before, path)?;
                 text.push_str(&changes)?;
                 Ok(text)
             }
@@ -172,42 +153,37 @@ impl Review<'_> {
         }
     }
 
-    fn former(&self, alloc: Global, path: &Path) -> Result<Former, AllocError>
-        ensures { IfOk result (λ found. found ≡ former (trees_of self.now) path.now) }
-    {
-        if self.old.lookup(path).is_some() {
-            return Ok(Former::Same);
-        }
-        match origin(alloc, self.pending, path)? {
-            Some(before) if self.old.lookup(&before).is_some() => Ok(Former::Moved(before)),
-            _ => Ok(Former::New),
-        }
-    }
-
     /// What the node of a path changes beside the one of a path of the old tree.
-    fn compared(&self, alloc: Global, before: &Path, path: &Path) -> Result<String, AllocError>
-        ensures { IfOk result (λ text. IsCompared self.now.paths (trees_of self.now) before.now path.now
+    fn compared(
+        &self,
+        alloc: Global,
+        last: &mut Option<Compared>,
+        before: &Path,
+        path: &Path,
+    ) -> Result<String, AllocError>
+        requires { ForSome last.old (IsRight self.now.review.old.now.opening.mapping) }
+        ensures text { IfOk result (λ text. IsCompared self.now.paths (trees_of self.now.review) before.now path.now
             (string_bytes text)) }
+        ensures right { OnOk result (ForSome last.new (IsRight self.now.review.old.now.opening.mapping)) }
     {
-        let old = self.old.descriptor(before)?;
-        let new = self.new.descriptor(path)?;
-        let (Some(old), Some(new)) = (old, new) else {
-            return Ok(String::new(alloc));
-        };
-        let word = path_word(alloc, self.paths, path)?;
-        let word = word.as_str();
-        let head = format!(in alloc; "{word} ")?;
-        let text = change_text(alloc, self.old.mapping(), head.as_str(), &old, &new)?;
-        Ok(text)
+        self.review.compare(alloc, last, before, path)?;
+        match &*last {
+            Some(compared) => {
+                let text = change_text(alloc, self.paths, path, compared)?;
+                Ok(text)
+            }
+            None => Ok(String::new(alloc)),
+        }
     }
 
     /// The lines of the nodes of the old tree at whose paths none stands in the new one.
     fn gone(&self, alloc: Global, top: &Path) -> Result<String, AllocError>
         ensures { IfOk result (λ text. string_bytes text
-            ≡ flat_map (gone_line self.now.paths (trees_of self.now) top.now) (entries (trees_of self.now).old)) }
+            ≡ flat_map (gone_line self.now.paths (trees_of self.now.review) top.now)
+            (entries (trees_of self.now.review).old)) }
     {
         let mut text = String::new(alloc);
-        for index in 0..self.old.node_count() {
+        for index in 0..self.review.old.node_count() {
             let line = self.gone_at(alloc, top, index)?;
             text.push_str(&line)?;
         }
@@ -216,12 +192,12 @@ impl Review<'_> {
 
     /// That of the node of a place.
     fn gone_at(&self, alloc: Global, top: &Path, index: usize) -> Result<String, AllocError>
-        requires { index < length (entries (trees_of self.now).old) }
+        requires { index < length (entries (trees_of self.now.review).old) }
         ensures { IfOk result (λ text. Some (string_bytes text) ≡ option_map
-            (gone_line self.now.paths (trees_of self.now) top.now)
-            (slice_get (entries (trees_of self.now).old) index)) }
+            (gone_line self.now.paths (trees_of self.now.review) top.now)
+            (slice_get (entries (trees_of self.now.review).old) index)) }
     {
-        match self.old.node(index) {
+        match self.review.old.node(index) {
             Some(node) => self.gone_line(alloc, top, &node),
             None => unreachable!(),
         }
@@ -229,12 +205,12 @@ impl Review<'_> {
 
     fn gone_line(&self, alloc: Global, top: &Path, node: &NodeRef<'_>) -> Result<String, AllocError>
         ensures { IfOk result (λ text. string_bytes text
-            ≡ gone_line self.now.paths (trees_of self.now) top.now (listed node.now)) }
+            ≡ gone_line self.now.paths (trees_of self.now.review) top.now (listed node.now)) }
     {
         if !node.path.as_path_ref().is_within(&top.as_path_ref()) {
             return Ok(String::new(alloc));
         }
-        if self.new.lookup(node.path).is_some() {
+        if self.review.new.lookup(node.path).is_some() {
             return Ok(String::new(alloc));
         }
         let path = path_word(alloc, self.paths, node.path)?;
@@ -242,6 +218,25 @@ impl Review<'_> {
         let text = format!(in alloc; "gone {path}\n")?;
         Ok(text)
     }
+}
+
+/// The lines of what tokens gain and lose at the node of a path: none where nothing changes.
+fn change_text(
+    alloc: Global,
+    paths: PathSpelling,
+    path: &Path,
+    compared: &Compared,
+) -> Result<String, AllocError>
+    ensures { (g : MappingValue) → IsRight g compared.now
+        → IfOk result (λ text. IsChangeText g (path_word paths path.now ++ codes " ")
+        (parts_in (descriptor_of compared.now.before)) (parts_in (descriptor_of compared.now.after))
+        (string_bytes text)) }
+{
+    let word = path_word(alloc, paths, path)?;
+    let word = word.as_str();
+    let head = format!(in alloc; "{word} ")?;
+    let text = compared.lines(alloc, head.as_str())?;
+    Ok(text)
 }
 
 fn new_line(alloc: Global, paths: PathSpelling, path: &Path) -> Result<String, AllocError>

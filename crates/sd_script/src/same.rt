@@ -8,8 +8,8 @@ ghost use Rattle.sd_script.specs.declared.asked.Asked.TheVariants.{Asking};
 ghost use Rattle.sd_desk.specs.declared.request.Request.TheVariants.{Publish};
 
 use crate::asked::Asked;
-use sd_acl::Ace;
 use sd_desk::Request;
+use sd_review::same_entries;
 use sd_sid::Sid;
 use sd_tree::{Edit, NodeDacl, NodeKind, NodeRef, Path, RootSpec};
 
@@ -100,29 +100,4 @@ fn same_dacl(one: &NodeDacl, other: &NodeDacl) -> bool
         ) => *protected == *too && same_entries(entries.as_slice(), others.as_slice()),
         _ => false,
     }
-}
-
-/// Whether both lists are one, entry by entry.
-pub(crate) fn same_entries(one: &[Ace], other: &[Ace]) -> bool
-    ensures { Decides result (one.now ≡ other.now) }
-{
-    if one.len() != other.len() {
-        return false;
-    }
-    for (i, entry) in one.iter().enumerate() {
-        if !same_entry(entry, &other[i]) {
-            return false;
-        }
-    }
-    true
-}
-
-/// Whether both are one. (`==` of entries tells contracts nothing of the SIDs' values.)
-fn same_entry(one: &Ace, other: &Ace) -> bool
-    ensures { Decides result (one.now ≡ other.now) }
-{
-    one.kind == other.kind
-        && one.flags == other.flags
-        && one.mask == other.mask
-        && one.sid.is(&other.sid)
 }

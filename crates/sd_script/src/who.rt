@@ -1,16 +1,16 @@
 //! Who is granted which rights by a node of the published tree.
 ghost use Rattle.std.specs.Prelude.{◌≡◌, IfOk, Some, string_bytes};
 ghost use Rattle.sd_acl.specs.Descriptor.{descriptor_of};
-ghost use Rattle.sd_check.specs.Check.{dacl_entries, entries_of};
 ghost use Rattle.sd_tree.specs.Answers.{descriptor_at};
 ghost use Rattle.sd_tree.specs.Journal.{replay};
 ghost use Rattle.sd_script.specs.Who.{IsWhoText, or_empty, rights_asked};
 
 use crate::view::Groups;
-use sd_acl::{Dacl, Descriptor};
+use sd_acl::Descriptor;
 use sd_analysis::{Base, who};
 use sd_answer::{Spelling, who_text};
-use sd_check::{DaclRef, MAXIMUM_PLACE};
+use sd_check::MAXIMUM_PLACE;
+use sd_review::borrowed;
 use sd_sid::{GenericMapping, Mask, OBJECT_RIGHTS};
 use sd_tree::{Path, Tree};
 use std::alloc::{AllocError, Global};
@@ -50,7 +50,7 @@ fn descriptor_who_text(
     let base = Base {
         groups: groups.as_slice(),
     };
-    let dacl = lent(&descriptor.dacl);
+    let dacl = borrowed(&descriptor.dacl);
     let rights = rights_asked(mapping, asked);
     let accesses = who(alloc, descriptor.owner, dacl, mapping, &base, rights)?;
     let text = who_text(alloc, Spelling::Number, &accesses)?;
@@ -77,16 +77,5 @@ fn rights_asked(mapping: &GenericMapping, asked: Mask) -> Mask
         OBJECT_RIGHTS
     } else {
         mapping.map(asked)
-    }
-}
-
-/// The DACL, borrowed for an analysis.
-pub(crate) fn lent(dacl: &Dacl) -> DaclRef<'_>
-    ensures { entries_of result ≡ dacl_entries dacl.now }
-{
-    match dacl {
-        Dacl::Absent => DaclRef::Absent,
-        Dacl::Null => DaclRef::Null,
-        Dacl::List(list) => DaclRef::List(list.entries()),
     }
 }

@@ -11,6 +11,6 @@ pub returns : goal.returns
 returns c =
     let said = c.in_ok-accesses.ensures in
     granted_lines c.args.mapping.now (descriptor_of c.args.descriptor.now) c.args.asked c.args.groups.now
-    (entries_of c.lent-dacl.result) c.as_slice.result.now c.rights_asked-rights.result c.in_ok-accesses.accesses.items (string_bytes c.in_ok-lines.lines)
-    c.lent-dacl.ensures c.as_slice.ensures c.rights_asked-rights.ensures said.exact said.most said.each said.beyond
+    (entries_of c.borrowed-dacl.result) c.as_slice.result.now c.rights_asked-rights.result c.in_ok-accesses.accesses.items (string_bytes c.in_ok-lines.lines)
+    c.borrowed-dacl.ensures c.as_slice.ensures c.rights_asked-rights.ensures said.exact said.most said.each said.beyond
     (c.in_ok-lines.ensures ∙ ap or_empty (c.in_ok-text.ensures ∙ ap (who_text Number) c.deref.ensures.value))

@@ -1,0 +1,14 @@
+-- The lines so far, and those of the nodes that are left; the last comparison.
+use Rattle.std.proofs.Common.{string_bytes}
+use Rattle.std.specs.FinMap.{entries}
+use Rattle.std.specs.Option.{ForSome}
+use Rattle.sd_script.specs.Review.{IsNodeReview}
+use Rattle.sd_review.specs.Compared.{IsRight}
+use Rattle.sd_review.specs.Review.{trees_of}
+use Rattle.sd_script.proofs.Reviewed.{ArePrintedTo}
+use Rattle.sd_script.proofs.review.ReviewText.changes.Given as goal
+
+abbrev pub invariant-loop-index : goal.invariant-loop-index
+invariant-loop-index l =
+    ArePrintedTo (IsNodeReview l.self.paths (trees_of l.self.review) l.top) (entries (trees_of l.self.review).new) l.index (string_bytes l.text)
+    × ForSome l.last (IsRight l.self.review.old.now.opening.mapping)
