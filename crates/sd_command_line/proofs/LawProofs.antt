@@ -10,9 +10,9 @@ use Rattle.sd_usage.specs.declared.row.CommandName.TheVariants as names
 use Rattle.sd_usage.specs.declared.row.Command.{Command}
 use Rattle.sd_usage.specs.declared.row.Question.{Question}
 use Rattle.sd_usage.specs.declared.row.Question.TheVariants as questions
-use Rattle.sd_command_line.specs.CommandLine.{AskedValue, InvocationValue, RequestValue, Ask, Audit, Each, Help, Script, Serve, Version, after_flag, after_options, arguments_in, asked_by, command_in, each_in, ending_of, has_flag, line_request_by, request_by, request_on, with_options, workers_of}
-use Rattle.sd_command_line.specs.Laws.{is_shown, shows, EachAsksTheCommand, HelpStandsAlone, DashesKeepTexts, DashesKeepTextsOfWhy, OptionsKeepTexts}
-use Rattle.sd_command_line.specs.Options.{OptionsValue, no_options, options_in, suits}
+use Rattle.sd_command_line.specs.CommandLine.{AskedValue, InvocationValue, RequestValue, Ask, AskInput, Audit, Each, Help, Script, Serve, Version, after_flag, after_options, arguments_in, asked_by, command_in, each_in, ending_of, has_flag, input_request, line_request, request_after, request_by, request_on, with_options, workers_of}
+use Rattle.sd_command_line.specs.Laws.{is_shown, shows, EachAsksTheCommand, InputAsksTheCommand, HelpStandsAlone, DashesKeepTexts, DashesKeepTextsOfWhy, OptionsKeepTexts}
+use Rattle.sd_command_line.specs.Options.{OptionsValue, is_from_input, no_options, options_in, suits}
 
 abbrev some_shown : Option AskedValue → Bool
 some_shown None = false
@@ -27,20 +27,22 @@ tested_runs : (test : Bool) (asked : Option AskedValue) → (some_shown asked �
 tested_runs true asked none h = none h
 tested_runs false asked none h = cc
 
--- a command for each line is neither help nor the version
-line_request_runs : (name : CommandName) (command : Command) (ending : Ending) (arguments : List (Bor (List ℕ)))
-    → some_shown (line_request_by name command ending arguments) ≡ true → ⊥
-line_request_runs (names.Ask question) command ending arguments h =
-    tested_runs (takes_count command (length arguments + 1)) _ (λ shown. cc (shown)) h
-line_request_runs names.Script command ending arguments h = cc
-line_request_runs names.Serve command ending arguments h = cc
-line_request_runs names.Audit command ending arguments h = cc
-line_request_runs names.Each command ending arguments h = cc
+-- what is asked of a text is neither help nor the version
+request_runs_so : (Invoked : RequestValue → InvocationValue) (command : Command) (request : Option RequestValue)
+    → ((given : RequestValue) → is_shown (Invoked given) ≡ true → ⊥)
+    → some_shown (option_map (λ (given : RequestValue). asks command (Invoked given)) request) ≡ true → ⊥
+request_runs_so Invoked command None runs h = cc
+request_runs_so Invoked command (Some request) runs h = runs request h
+
+input_runs : (command : Command) (arguments : List (Bor (List ℕ))) → some_shown (input_request command arguments) ≡ true → ⊥
+input_runs command arguments h =
+    request_runs_so AskInput command (request_after command.name command arguments) (λ given shown. cc (shown)) h
 
 named_line_runs : (found : Option Command) (ending : Ending) (arguments : List (Bor (List ℕ)))
-    → some_shown (option_and_then (λ (c : Command). line_request_by c.name c ending arguments) found) ≡ true → ⊥
+    → some_shown (option_and_then (λ (c : Command). line_request c ending arguments) found) ≡ true → ⊥
 named_line_runs None ending arguments h = cc
-named_line_runs (Some command) ending arguments h = line_request_runs command.name command ending arguments h
+named_line_runs (Some command) ending arguments h =
+    request_runs_so (Each ending) command (request_after command.name command arguments) (λ given shown. cc (shown)) h
 
 each_runs : (ending : Ending) (words : List (Bor (List ℕ))) → some_shown (each_in ending words) ≡ true → ⊥
 each_runs ending [] h = cc
@@ -69,15 +71,20 @@ request_on_runs command flagged arguments h =
     tested_runs (takes_count command (length arguments)) (request_by command.name command flagged arguments)
     (request_runs command.name command flagged arguments) h
 
-named_runs : (found : Option Command) (words : List (Bor (List ℕ)))
-    → some_shown (option_and_then (λ (c : Command). asked_by c words) found) ≡ true → ⊥
-named_runs None words h = cc
-named_runs (Some command) words h =
+asked_by_runs : (from_input : Bool) (command : Command) (words : List (Bor (List ℕ)))
+    → some_shown (asked_by from_input command words) ≡ true → ⊥
+asked_by_runs true command words h = input_runs command (arguments_in (after_flag command words)) h
+asked_by_runs false command words h =
     request_on_runs command (has_flag command words) (arguments_in (after_flag command words)) h
 
-command_runs : (words : List (Bor (List ℕ))) → some_shown (command_in words) ≡ true → ⊥
-command_runs [] h = cc
-command_runs (word ∷ words) h = named_runs (command_named word.now) words h
+named_runs : (from_input : Bool) (found : Option Command) (words : List (Bor (List ℕ)))
+    → some_shown (option_and_then (λ (c : Command). asked_by from_input c words) found) ≡ true → ⊥
+named_runs from_input None words h = cc
+named_runs from_input (Some command) words h = asked_by_runs from_input command words h
+
+command_runs : (from_input : Bool) (words : List (Bor (List ℕ))) → some_shown (command_in from_input words) ≡ true → ⊥
+command_runs from_input [] h = cc
+command_runs from_input (word ∷ words) h = named_runs from_input (command_named word.now) words h
 
 -- nor is what follows options
 shown_or_not : (asked : Option AskedValue) (options : OptionsValue)
@@ -90,7 +97,8 @@ shown_or_not (Some asked) options none h = by_test (suits asked.command options)
 
 options_run : (read : Option (OptionsValue × List (Bor (List ℕ)))) → shows (option_and_then after_options read) ≡ true → ⊥
 options_run None h = cc
-options_run (Some (options, words)) h = shown_or_not (command_in words) options (command_runs words) h
+options_run (Some (options, words)) h =
+    shown_or_not (command_in (is_from_input options) words) options (command_runs (is_from_input options) words) h
 
 pub help_stands_alone : HelpStandsAlone
 help_stands_alone [] h = omega arith
@@ -104,7 +112,8 @@ help_stands_alone (name ∷ word ∷ next ∷ other ∷ words) h =
 
 -- a first `--` is dropped
 after_dashes : (command : Command) (dashes : Bor (List ℕ)) (rest : List (Bor (List ℕ)))
-    → is_flag command dashes.now ≡ false → dashes.now ≡ codes "--" → asked_by command (dashes ∷ rest) ≡ request_on command false rest
+    → is_flag command dashes.now ≡ false → dashes.now ≡ codes "--"
+    → asked_by false command (dashes ∷ rest) ≡ request_on command false rest
 after_dashes command dashes rest plain dash = rw (plain, dash) refl
 
 -- as many arguments as a command takes
@@ -134,11 +143,11 @@ keeps : (question : Question) (command : Command) (options : OptionsValue) (foun
     → found ≡ Some command → command.name ≡ names.Ask question → is_flag command dashes.now ≡ false
     → count_of command.arguments ≡ 3 → is_some command.repeated ≡ true → suits command options ≡ true
     → dashes.now ≡ codes "--"
-    → option_and_then (with_options options) (option_and_then (λ (c : Command). asked_by c (dashes ∷ sddl ∷ user ∷ mask ∷ words)) found)
+    → option_and_then (with_options options) (option_and_then (λ (c : Command). asked_by false c (dashes ∷ sddl ∷ user ∷ mask ∷ words)) found)
     ≡ Some (record { options = options; invocation = Ask sddl.now (record { question = question; arguments = user ∷ mask ∷ words }) })
 keeps question command options found dashes sddl user mask words is named plain count more fits dash =
     ap (option_and_then (with_options options))
-    (ap (option_and_then (λ (c : Command). asked_by c (dashes ∷ sddl ∷ user ∷ mask ∷ words))) is
+    (ap (option_and_then (λ (c : Command). asked_by false c (dashes ∷ sddl ∷ user ∷ mask ∷ words))) is
     ∙ after_dashes command dashes (sddl ∷ user ∷ mask ∷ words) plain dash
     ∙ taken command (sddl ∷ user ∷ mask ∷ words) (three_or_more command sddl user mask words count more)
     ∙ asked_of_three question command sddl (user ∷ mask ∷ words) named)
@@ -160,52 +169,65 @@ options_keep_texts name option domain sid word dashes sddl user mask words names
     rw (names, in_domain, why, why) (keeps questions.Why _ (record no_options { names = Some []; domain = Some sid.now })
     (command_named (codes "why")) dashes sddl user mask words refl refl refl refl refl refl dash)
 
--- ---- lines
+-- ---- what is asked of a text
 
--- what is asked of a line, the command asks with the line before its arguments
--- what is asked of each line, where that is asked for
-abbrev line_of : RequestValue → InvocationValue → RequestValue
-line_of other (Ask text request) = other
-line_of other Script = other
-line_of other (Serve has_ids) = other
-line_of other (Audit workers) = other
-line_of other (Each ending request) = request
-line_of other (Help command) = other
-line_of other Version = other
+-- what is asked of a text, where that is asked for
+abbrev request_in : RequestValue → InvocationValue → RequestValue
+request_in other (Ask text request) = other
+request_in other (AskInput request) = request
+request_in other Script = other
+request_in other (Serve has_ids) = other
+request_in other (Audit workers) = other
+request_in other (Each ending request) = request
+request_in other (Help command) = other
+request_in other Version = other
 
-abbrev asked_line : RequestValue → Option AskedValue → RequestValue
-asked_line other None = other
-asked_line other (Some asked) = line_of other asked.invocation
+abbrev request_of_asked : RequestValue → Option AskedValue → RequestValue
+request_of_asked other None = other
+request_of_asked other (Some asked) = request_in other asked.invocation
 
-same_request : (command : Command) (ending : Ending) (line : List ℕ) (given request : RequestValue)
-    → Some (asks command (Each ending given)) ≡ Some (asks command (Each ending request))
-    → Some (asks command (Ask line given)) ≡ Some (asks command (Ask line request))
-same_request command ending line given request is =
-    let same : given ≡ request = ap (asked_line given) is in
-    ap (λ (r : RequestValue). Some (asks command (Ask line r))) same
+-- a command that asks this of a text which the arguments follow asks the same with the text before them
+by_test : (test : Bool) (command : Command) (text : List ℕ) (given request : RequestValue)
+    → (if test then Some given else None) ≡ Some request
+    → (if test then Some (asks command (Ask text given)) else None) ≡ Some (asks command (Ask text request))
+by_test true command text given request is = cc
+by_test false command text given request is = cc
 
-asks_it : (test : Bool) (command : Command) (ending : Ending) (line : List ℕ) (given request : RequestValue)
-    → (if test then Some (asks command (Each ending given)) else None) ≡ Some (asks command (Each ending request))
-    → (if test then Some (asks command (Ask line given)) else None) ≡ Some (asks command (Ask line request))
-asks_it true command ending line given request is = same_request command ending line given request is
-asks_it false command ending line given request is = cc
-
-by_command : (name : CommandName) (command : Command) (ending : Ending) (flagged : Bool) (line : Bor (List ℕ))
+by_command : (name : CommandName) (command : Command) (flagged : Bool) (text : Bor (List ℕ))
     (arguments : List (Bor (List ℕ))) (request : RequestValue)
-    → line_request_by name command ending arguments ≡ Some (asks command (Each ending request))
-    → (if takes_count command (length (line ∷ arguments)) then request_by name command flagged (line ∷ arguments) else None)
-    ≡ Some (asks command (Ask line.now request))
-by_command (names.Ask question) command ending flagged line arguments request is =
+    → request_after name command arguments ≡ Some request
+    → (if takes_count command (length (text ∷ arguments)) then request_by name command flagged (text ∷ arguments) else None)
+    ≡ Some (asks command (Ask text.now request))
+by_command (names.Ask question) command flagged text arguments request is =
     let more : length arguments + 1 ≡ suc (length arguments) = omega arith in
-    subst (λ n. (if takes_count command n then request_by (names.Ask question) command flagged (line ∷ arguments) else None)
-    ≡ Some (asks command (Ask line.now request))) more
-    (asks_it (takes_count command (length arguments + 1)) command ending line.now
+    subst (λ n. (if takes_count command n then request_by (names.Ask question) command flagged (text ∷ arguments) else None)
+    ≡ Some (asks command (Ask text.now request))) more
+    (by_test (takes_count command (length arguments + 1)) command text.now
     (record { question = question; arguments = arguments }) request is)
-by_command names.Script command ending flagged line arguments request is = cc
-by_command names.Serve command ending flagged line arguments request is = cc
-by_command names.Audit command ending flagged line arguments request is = cc
-by_command names.Each command ending flagged line arguments request is = cc
+by_command names.Script command flagged text arguments request is = cc
+by_command names.Serve command flagged text arguments request is = cc
+by_command names.Audit command flagged text arguments request is = cc
+by_command names.Each command flagged text arguments request is = cc
+
+-- what is asked of each line, and of the input
+each_request : (command : Command) (ending : Ending) (given : Option RequestValue) (request : RequestValue)
+    → option_map (λ (r : RequestValue). asks command (Each ending r)) given ≡ Some (asks command (Each ending request))
+    → given ≡ Some request
+each_request command ending None request is = cc
+each_request command ending (Some given) request is = ap Some (ap (request_of_asked given) is)
 
 pub each_asks_the_command : EachAsksTheCommand
 each_asks_the_command command ending flagged line arguments request is =
-    by_command command.name command ending flagged line arguments request is
+    by_command command.name command flagged line arguments request
+    (each_request command ending (request_after command.name command arguments) request is)
+
+input_request_is : (command : Command) (given : Option RequestValue) (request : RequestValue)
+    → option_map (λ (r : RequestValue). asks command (AskInput r)) given ≡ Some (asks command (AskInput request))
+    → given ≡ Some request
+input_request_is command None request is = cc
+input_request_is command (Some given) request is = ap Some (ap (request_of_asked given) is)
+
+pub input_asks_the_command : InputAsksTheCommand
+input_asks_the_command command flagged text arguments request is =
+    by_command command.name command flagged text arguments request
+    (input_request_is command (request_after command.name command arguments) request is)

@@ -1,6 +1,6 @@
 -- What is told of a failure.
 use Rattle.std.proofs.Common.{◌≡◌, ℕ, Bool, true, List, [], ◌++◌, ◌+◌, ◌∙◌, length, Option, Some, Result, Ok, Err, ap, subst, inl, inr, refl, arith}
-use Rattle.std.specs.Prelude.{◌||◌, ◌⊎◌, IfErr}
+use Rattle.std.specs.Prelude.{◌||◌, ◌⊎◌, IfErr, IfSome}
 use Rattle.std.proofs.lemmas.List.{length-append}
 use Rattle.std.specs.Io.KnownBytes.{Appends, Keeps}
 use Rattle.std.specs.Borrow.{Bor}
@@ -15,8 +15,8 @@ use Rattle.sd_script_audit.specs.Audit.{PrintsAuditAndCounts}
 use Rattle.sd_script.specs.Ids.{PrintsAndCountsIn, PrintsIn}
 use Rattle.sd_script.specs.declared.ids.TheConstants.{LINES}
 use Rattle.sd_commands.specs.Answer.{AnswerValue}
-use Rattle.sd_command_line.specs.Answer.{Answers, IsBadValue}
-use Rattle.sd_command_line.specs.CommandLine.{CommandLineValue, InvocationValue, IsAudit, Ask, Script, Serve, Audit, Each, Help, Version, reading, runs_script}
+use Rattle.sd_command_line.specs.Answer.{Answers, AnswersInput, IsBadValue}
+use Rattle.sd_command_line.specs.CommandLine.{CommandLineValue, InvocationValue, RequestValue, IsAudit, Ask, AskInput, Script, Serve, Audit, Each, Help, Version, reading, runs_script}
 use Rattle.sd_command_line.specs.Options.{AreSettings, HasBadValue, OptionsValue, is_strict}
 use Rattle.sd_commands.specs.declared.answer.Outcome.{Outcome}
 use Rattle.sd_command_line.specs.declared.options.BadValue.{BadValue}
@@ -149,6 +149,17 @@ pub print_fails : {T : Type 0} (r : Result T Failure) (line : CommandLineValue) 
 print_fails (Ok x) line input left old new answer answers fails = tt
 print_fails (Err failure) line input left old new answer answers fails = rw (fails.0) (inl (print_leaves line input old new answer answers fails.1))
 
+-- an input that is answered, or whose command has an invalid option
+pub input_answers : (input : Option (List ℕ)) (options : OptionsValue) (request : RequestValue) (settings : Settings) (text bytes : List ℕ)
+    (answer : AnswerValue) → AreSettings options settings → IfSome input (λ known. text ≡ known) → bytes ≡ text
+    → AnswersInput settings request bytes answer → Answers input (record { options = options; invocation = AskInput request }) answer
+input_answers input options request settings text bytes answer said known same is =
+    inl (settings, said, (text, known, subst (λ read. AnswersInput settings request read answer) same is))
+
+pub bad_input : (input : Option (List ℕ)) (options : OptionsValue) (request : RequestValue) (bad : BadValue) (answer : AnswerValue)
+    → HasBadValue options bad → IsBadValue bad answer → Answers input (record { options = options; invocation = AskInput request }) answer
+bad_input input options request bad answer has is = inr (bad, has, is)
+
 -- a script whose mapping isn't read
 pub bad_answers : (input : Option (List ℕ)) (options : OptionsValue) (invocation : InvocationValue) (bad : BadValue) (answer : AnswerValue)
     → runs_script invocation ≡ true → HasBadValue options bad → IsBadValue bad answer
@@ -157,6 +168,7 @@ bad_answers input options Script bad answer runs has is = inr (bad, has, is)
 bad_answers input options (Serve has_ids) bad answer runs has is = inr (bad, has, is)
 bad_answers input options (Audit workers) bad answer runs has is = inr (bad, has, is)
 bad_answers input options (Ask text request) bad answer runs has is = absurd (cc (runs))
+bad_answers input options (AskInput request) bad answer runs has is = absurd (cc (runs))
 bad_answers input options (Each ending request) bad answer runs has is = absurd (cc (runs))
 bad_answers input options (Help command) bad answer runs has is = absurd (cc (runs))
 bad_answers input options Version bad answer runs has is = absurd (cc (runs))

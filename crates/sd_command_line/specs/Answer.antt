@@ -1,6 +1,6 @@
 -- What the program prints for a command line, and whether it did what was asked for.
 use Rattle.std.specs.Prelude.{◌≡◌, ◌⊎◌, ℕ, Bool, true, false, MatchBool, List, [], ◌++◌, Option, Some, None, IfSome}
-use Rattle.std.specs.Prelude.{codes}
+use Rattle.std.specs.Prelude.{MatchOption, codes}
 use Rattle.std.specs.Io.KnownBytes.{Appends}
 use Rattle.std.specs.Str.{IsUtf8}
 use Rattle.sd_answer.specs.Answer.{line, fault_line}
@@ -11,15 +11,18 @@ use Rattle.sd_script.specs.declared.tally.Tally.{Tally}
 use Rattle.sd_script_audit.specs.Audit.{PrintsAuditAndCounts}
 use Rattle.sd_script.specs.Ids.{PrintsAndCountsIn}
 use Rattle.sd_lines.specs.Answers.{PrintsAndLeaves}
+use Rattle.sd_lines.specs.Lines.{unmarked}
 use Rattle.sd_lines.specs.declared.ending.Ending.{Ending}
 use Rattle.sd_lines.specs.declared.form.Form.{Form as LineForm}
 use Rattle.sd_command_line.specs.Scripts.{IsToldOfScript, manner_of, script_outcome}
 use Rattle.sd_usage.specs.declared.row.Question.{Question}
 use Rattle.sd_usage.specs.declared.row.Question.TheVariants as questions
-use Rattle.sd_command_line.specs.CommandLine.{CommandLineValue, InvocationValue, Ask, Script as AsksScript}
+use Rattle.sd_command_line.specs.CommandLine.{CommandLineValue, InvocationValue, Ask, AskInput, Script as AsksScript}
 use Rattle.sd_command_line.specs.CommandLine.{Serve as AsksServe, Audit as AsksAudit, Each as AsksEach, Help, Version}
 use Rattle.sd_command_line.specs.CommandLine.{RequestValue}
-use Rattle.sd_command_line.specs.Each.{is_blank, outcome_of_lines, told_of_lines, with_line}
+use Rattle.sd_command_line.specs.Each.{outcome_of_lines, told_of_lines, with_line}
+use Rattle.sd_command_line.specs.Input.{is_blank, marked_utf16, utf16_text, without_end}
+use Rattle.sd_command_line.specs.declared.input.ByteOrder.{ByteOrder}
 use Rattle.sd_command_line.specs.declared.each.Progress.{Progress}
 use Rattle.sd_command_line.specs.declared.each.Progress.TheVariants.{NoLine}
 use Rattle.sd_command_line.specs.Options.{OptionsValue, AreSettings, HasBadValue, is_strict}
@@ -43,6 +46,7 @@ AnswersUnder settings
     (Ask text request) answer = AnswersQuestion settings request.question text request.arguments answer
 AnswersUnder settings (Help command) answer = (answer.told ≡ []) × (answer.outcome ≡ Done)
 AnswersUnder settings Version answer = IsDone version_lines answer
+AnswersUnder settings (AskInput request) answer = ⊥
 AnswersUnder settings AsksScript answer = ⊥
 AnswersUnder settings (AsksServe has_ids) answer = ⊥
 AnswersUnder settings (AsksAudit workers) answer = ⊥
@@ -64,6 +68,41 @@ AnswersWith options Answers answer =
 
 abbrev pub AnswersArguments : OptionsValue → InvocationValue → AnswerValue → Type 0
 AnswersArguments options invocation answer = AnswersWith options (λ settings. AnswersUnder settings invocation) answer
+
+-- ---- the text that an input is
+
+-- the input is no text that a command answers
+abbrev pub IsInputFault : List ℕ → List ℕ → AnswerValue → Type 0
+IsInputFault name reason answer = IsFault (fault_line name) (told_line (codes "standard input") reason) answer
+
+-- the command's answer, but a blank text is a fault
+abbrev pub AnswersFilled : Settings → RequestValue → List ℕ → AnswerValue → Type 0
+AnswersFilled settings request text answer = MatchBool (is_blank text)
+    (IsInputFault (codes "blank") (codes "blank") answer)
+    (AnswersQuestion settings request.question text request.arguments answer)
+
+-- the same of bytes that are a text in UTF-8, or aren't
+abbrev pub AnswersUtf8 : Settings → RequestValue → List ℕ → AnswerValue → Type 0
+AnswersUtf8 settings request bytes answer =
+    (IsUtf8 bytes × AnswersFilled settings request bytes answer)
+    ⊎ ((IsUtf8 bytes → ⊥) × IsInputFault (codes "utf8") (codes "not UTF-8") answer)
+
+-- the same of bytes that are a text in UTF-16, or aren't
+abbrev pub AnswersUtf16 : Settings → RequestValue → ByteOrder × List ℕ → AnswerValue → Type 0
+AnswersUtf16 settings request (order, bytes) answer = MatchOption (utf16_text order bytes)
+    (IsInputFault (codes "utf16") (codes "not UTF-16") answer)
+    (λ text. AnswersUtf8 settings request (without_end text) answer)
+
+-- the answer to an input, by its byte order mark
+abbrev pub AnswersInput : Settings → RequestValue → List ℕ → AnswerValue → Type 0
+AnswersInput settings request input answer = MatchOption (marked_utf16 input)
+    (AnswersUtf8 settings request (without_end (unmarked input)) answer)
+    (λ marked. AnswersUtf16 settings request marked answer)
+
+-- the same of the input that a reader gives, which is its bytes where they are known
+abbrev pub AnswersGiven : Option (List ℕ) → RequestValue → Settings → AnswerValue → Type 0
+AnswersGiven input request settings answer =
+    (text : List ℕ) × IfSome input (λ bytes. text ≡ bytes) × AnswersInput settings request text answer
 
 -- ---- scripts
 
@@ -133,6 +172,7 @@ pub record AppendsEach (options : OptionsValue) (ending : Ending) (request : Req
 
 -- what is printed for a command line, with this input where it is known, and what came of it
 abbrev pub AnswersInvocation : Option (List ℕ) → OptionsValue → InvocationValue → AnswerValue → Type 0
+AnswersInvocation input options (AskInput request) answer = AnswersWith options (AnswersGiven input request) answer
 AnswersInvocation input options AsksScript answer = AnswersWith options
     (AnswersScript PrintsAndCounts input options) answer
 AnswersInvocation input options (AsksServe has_ids) answer =

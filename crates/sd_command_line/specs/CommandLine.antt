@@ -17,7 +17,7 @@ use Rattle.sd_command_line.specs.declared.command_line.CommandLine.{CommandLine}
 use Rattle.sd_command_line.specs.declared.command_line.Request.{Request}
 use Rattle.sd_command_line.specs.declared.command_line.Invocation.{Invocation}
 use Rattle.sd_command_line.specs.declared.command_line.Invocation.TheVariants as invocations
-use Rattle.sd_command_line.specs.Options.{OptionsValue, no_options, options_in, options_of, suits}
+use Rattle.sd_command_line.specs.Options.{OptionsValue, is_from_input, no_options, options_in, options_of, suits}
 
 -- a command that answers a text, with its arguments after that
 pub record RequestValue : Type 0 where
@@ -30,6 +30,7 @@ request_of request = record { question = request.question; arguments = request.a
 -- what is asked for: the answer to a text, or to an input; help on a command or on the program; or the version
 pub data InvocationValue : Type 0 where
   Ask : List ℕ → RequestValue → InvocationValue
+  AskInput : RequestValue → InvocationValue
   Script : InvocationValue
   Serve : Bool → InvocationValue
   Audit : ℕ → InvocationValue
@@ -39,6 +40,7 @@ pub data InvocationValue : Type 0 where
 
 abbrev pub invocation_of : Invocation → InvocationValue
 invocation_of (invocations.Ask text request) = Ask text.now (request_of request)
+invocation_of (invocations.AskInput request) = AskInput (request_of request)
 invocation_of invocations.Script = Script
 invocation_of (invocations.Serve has_ids) = Serve has_ids
 invocation_of (invocations.Audit workers) = Audit workers
@@ -107,19 +109,24 @@ ending_of is_zero = if is_zero then Zero else Feed
 
 -- ---- the command
 
--- what is asked of each line: a command that answers a text, with as many arguments as it takes after that
-abbrev pub line_request_by : CommandName → Command → Ending → List (Bor (List ℕ)) → Option AskedValue
-line_request_by (names.Ask question) command ending arguments =
-    if takes_count command (length arguments + 1)
-    then Some (record {
-      command = command;
-      invocation = Each ending (record { question = question; arguments = arguments });
-    })
+-- what a command asks of a text that these arguments follow: one that answers a text, with as many as it takes
+abbrev pub request_after : CommandName → Command → List (Bor (List ℕ)) → Option RequestValue
+request_after (names.Ask question) command arguments =
+    if takes_count command (length arguments + 1) then Some (record { question = question; arguments = arguments })
     else None
-line_request_by name command ending arguments = None
+request_after name command arguments = None
 
+-- what is asked of each line
 abbrev pub line_request : Command → Ending → List (Bor (List ℕ)) → Option AskedValue
-line_request command ending arguments = line_request_by command.name command ending arguments
+line_request command ending arguments =
+    option_map (λ request. record { command = command; invocation = Each ending request })
+    (request_after command.name command arguments)
+
+-- what is asked of the text that the input is
+abbrev pub input_request : Command → List (Bor (List ℕ)) → Option AskedValue
+input_request command arguments =
+    option_map (λ request. record { command = command; invocation = AskInput request })
+    (request_after command.name command arguments)
 
 abbrev pub each_in : Ending → List (Bor (List ℕ)) → Option AskedValue
 each_in ending [] = None
@@ -144,14 +151,17 @@ abbrev pub request_on : Command → Bool → List (Bor (List ℕ)) → Option As
 request_on command flagged arguments =
     if takes_count command (length arguments) then request_by command.name command flagged arguments else None
 
--- what a command asks for with what follows it
-abbrev pub asked_by : Command → List (Bor (List ℕ)) → Option AskedValue
-asked_by command words = request_on command (has_flag command words) (arguments_in (after_flag command words))
+-- what a command asks for with what follows it, where the input is its first argument or isn't
+abbrev pub asked_by : Bool → Command → List (Bor (List ℕ)) → Option AskedValue
+asked_by from_input command words =
+    if from_input then input_request command (arguments_in (after_flag command words))
+    else request_on command (has_flag command words) (arguments_in (after_flag command words))
 
 -- the command that the arguments begin with, and what it asks for
-abbrev pub command_in : List (Bor (List ℕ)) → Option AskedValue
-command_in [] = None
-command_in (word ∷ words) = option_and_then (λ command. asked_by command words) (command_named word.now)
+abbrev pub command_in : Bool → List (Bor (List ℕ)) → Option AskedValue
+command_in from_input [] = None
+command_in from_input (word ∷ words) =
+    option_and_then (λ command. asked_by from_input command words) (command_named word.now)
 
 -- the same, where the options may go before it
 abbrev pub with_options : OptionsValue → AskedValue → Option CommandLineValue
@@ -159,7 +169,7 @@ with_options options asked =
     if suits asked.command options then Some (record { options = options; invocation = asked.invocation }) else None
 
 abbrev pub after_options : OptionsValue × List (Bor (List ℕ)) → Option CommandLineValue
-after_options (options, words) = option_and_then (with_options options) (command_in words)
+after_options (options, words) = option_and_then (with_options options) (command_in (is_from_input options) words)
 
 abbrev pub run_by : List (Bor (List ℕ)) → Option CommandLineValue
 run_by words = option_and_then after_options (options_in no_options words)
@@ -215,11 +225,12 @@ runs_script (Serve has_ids) = true
 runs_script (Audit workers) = true
 runs_script invocation = false
 
--- whether what is asked for is answered from the input: a script, or a question of each line
+-- whether what is asked for is answered from the input: a script, or a question of it or of each line
 abbrev pub is_script : InvocationValue → Bool
 is_script Script = true
 is_script (Serve has_ids) = true
 is_script (Audit workers) = true
+is_script (AskInput request) = true
 is_script (Each ending request) = true
 is_script (Ask text request) = false
 is_script (Help command) = false

@@ -1,19 +1,10 @@
--- What comes of the lines of `each`: which are blank, and how all were answered.
-use Rattle.std.specs.Prelude.{ℕ, Bool, ◌==◌, ◌||◌, if◌then◌else◌, List, [], codes}
-use Rattle.std.specs.List.{list_all}
+-- What comes of the lines of `each`: how all were answered.
+use Rattle.std.specs.Prelude.{ℕ, Bool, if◌then◌else◌, List, [], codes}
 use Rattle.sd_commands.specs.Told.{told_line}
 use Rattle.sd_commands.specs.declared.answer.Outcome.{Outcome}
 use Rattle.sd_commands.specs.declared.answer.Outcome.TheVariants.{Done, Refused}
 use Rattle.sd_command_line.specs.declared.each.Progress.{Progress}
 use Rattle.sd_command_line.specs.declared.each.Progress.TheVariants.{NoLine, AllDone, AnyRefused}
-
--- a tab, the end of a line or a space
-abbrev pub is_white : ℕ → Bool
-is_white b = b == 9 || b == 10 || b == 13 || b == 32
-
--- nothing else is in the line
-abbrev pub is_blank : List ℕ → Bool
-is_blank text = list_all is_white text
 
 -- how the lines were answered, with one more that was refused or wasn't
 abbrev pub with_line : Progress → Bool → Progress

@@ -8,8 +8,9 @@ use Rattle.sd_lines.specs.declared.ending.Ending.{Ending}
 use Rattle.sd_usage.specs.declared.row.Command.{Command}
 use Rattle.sd_usage.specs.declared.row.Question.TheVariants as questions
 use Rattle.sd_usage.specs.declared.table.TheConstants.{COMMANDS, OPTIONS}
-use Rattle.sd_command_line.specs.CommandLine.{InvocationValue, Ask, Script, Serve, Audit, Each, Help, Version}
-use Rattle.sd_command_line.specs.CommandLine.{CommandLineValue, RequestValue, line_request, reading, request_on}
+use Rattle.sd_command_line.specs.CommandLine.{InvocationValue, Ask, AskInput, Script, Serve, Audit, Each, Help}
+use Rattle.sd_command_line.specs.CommandLine.{Version, CommandLineValue, RequestValue, input_request, line_request}
+use Rattle.sd_command_line.specs.CommandLine.{reading, request_on}
 use Rattle.sd_command_line.specs.Options.{no_options}
 
 -- no text is there twice
@@ -29,6 +30,7 @@ abbrev pub is_shown : InvocationValue → Bool
 is_shown (Help command) = true
 is_shown Version = true
 is_shown (Ask text request) = false
+is_shown (AskInput request) = false
 is_shown Script = false
 is_shown (Serve has_ids) = false
 is_shown (Audit workers) = false
@@ -74,3 +76,11 @@ EachAsksTheCommand = (command : Command) (ending : Ending) (is_flagged : Bool) (
     → line_request command ending arguments ≡ Some (record { command = command; invocation = Each ending request })
     → request_on command is_flagged (line ∷ arguments)
     ≡ Some (record { command = command; invocation = Ask line.now request })
+
+-- what is asked of the input is what the command asks with the input's text as its first argument
+abbrev pub InputAsksTheCommand : Type 0
+InputAsksTheCommand = (command : Command) (is_flagged : Bool) (text : Bor (List ℕ)) (arguments : List (Bor (List ℕ)))
+    (request : RequestValue)
+    → input_request command arguments ≡ Some (record { command = command; invocation = AskInput request })
+    → request_on command is_flagged (text ∷ arguments)
+    ≡ Some (record { command = command; invocation = Ask text.now request })

@@ -15,7 +15,7 @@ use Rattle.sd_answer.specs.declared.answer.Spelling.TheVariants.{Number, Names a
 use Rattle.sd_usage.specs.Table.{option_named, takes_option}
 use Rattle.sd_usage.specs.declared.row.Command.{Command}
 use Rattle.sd_usage.specs.declared.row.OptionName.{OptionName}
-use Rattle.sd_usage.specs.declared.row.OptionName.TheVariants.{Names, WithoutSacl, RequireDacl, Base64, Loose}
+use Rattle.sd_usage.specs.declared.row.OptionName.TheVariants.{Stdin, Names, WithoutSacl, RequireDacl, Base64, Loose}
 use Rattle.sd_usage.specs.declared.row.OptionName.TheVariants.{Percent, Strict, Domain, Mapping}
 use Rattle.sd_usage.specs.declared.row.ProgramOption.{ProgramOption}
 use Rattle.sd_usage.specs.declared.table.TheConstants.{OPTIONS}
@@ -29,6 +29,7 @@ use Rattle.sd_commands.specs.declared.settings.Settings.{Settings}
 
 -- the options of a command line: the values of those that are given, empty for one without a value
 pub record OptionsValue : Type 0 where
+  pub stdin : Option (List ℕ)
   pub names : Option (List ℕ)
   pub without_sacl : Option (List ℕ)
   pub require_dacl : Option (List ℕ)
@@ -41,6 +42,7 @@ pub record OptionsValue : Type 0 where
 
 abbrev pub options_of : Options → OptionsValue
 options_of options = record {
+  stdin = option_map (λ text. text.now) options.stdin;
   names = option_map (λ text. text.now) options.names;
   without_sacl = option_map (λ text. text.now) options.without_sacl;
   require_dacl = option_map (λ text. text.now) options.require_dacl;
@@ -54,6 +56,7 @@ options_of options = record {
 
 abbrev pub no_options : OptionsValue
 no_options = record {
+  stdin = None;
   names = None;
   without_sacl = None;
   require_dacl = None;
@@ -67,6 +70,7 @@ no_options = record {
 
 -- the value of an option, where it is given
 abbrev pub given : OptionsValue → OptionName → Option (List ℕ)
+given options Stdin = options.stdin
 given options Names = options.names
 given options WithoutSacl = options.without_sacl
 given options RequireDacl = options.require_dacl
@@ -81,6 +85,7 @@ abbrev pub has : OptionsValue → OptionName → Bool
 has options option = is_some (given options option)
 
 abbrev pub with_value : OptionsValue → OptionName → List ℕ → OptionsValue
+with_value options Stdin value = record options { stdin = Some value }
 with_value options Names value = record options { names = Some value }
 with_value options WithoutSacl value = record options { without_sacl = Some value }
 with_value options RequireDacl value = record options { require_dacl = Some value }
@@ -143,6 +148,10 @@ byte_form_of options = if is_some options.base64 then forms.Base64 else if is_so
 -- how the paths of a script are spelled
 abbrev pub paths_of : OptionsValue → PathSpelling
 paths_of options = if is_some options.percent then paths.Percent else paths.Plain
+
+-- whether the input takes the place of the first argument
+abbrev pub is_from_input : OptionsValue → Bool
+is_from_input options = is_some options.stdin
 
 -- whether a script's fault or refusal is told by the status
 abbrev pub is_strict : OptionsValue → Bool

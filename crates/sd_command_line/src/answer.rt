@@ -36,7 +36,8 @@ fn answer_under(
         Invocation::Ask { text, request } => {
             answer_question(alloc, settings, request.question, text, request.arguments)
         }
-        Invocation::Script
+        Invocation::AskInput { .. }
+        | Invocation::Script
         | Invocation::Serve { .. }
         | Invocation::Audit { .. }
         | Invocation::Each { .. } => unreachable!(),

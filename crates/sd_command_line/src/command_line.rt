@@ -2,8 +2,9 @@
 ghost use Rattle.std.specs.Prelude.{◌≡◌, option_map};
 ghost use Rattle.sd_command_line.specs.CommandLine.{after_flag, arguments_in, asked_by, asked_of, command_help};
 ghost use Rattle.sd_command_line.specs.CommandLine.{command_in, command_line_of, count_of, each_in, ending_of};
-ghost use Rattle.sd_command_line.specs.CommandLine.{has_flag, help_on, invocation_of, is_help_flag, line_request};
-ghost use Rattle.sd_command_line.specs.CommandLine.{reading, request_by, request_on, run_by, shown_by, workers_of};
+ghost use Rattle.sd_command_line.specs.CommandLine.{has_flag, help_on, input_request, invocation_of, is_help_flag};
+ghost use Rattle.sd_command_line.specs.CommandLine.{is_script, line_request, reading, request_after, request_by};
+ghost use Rattle.sd_command_line.specs.CommandLine.{request_of, request_on, run_by, shown_by, workers_of};
 
 use crate::options::{Options, options_in};
 use sd_lines::Ending;
@@ -22,6 +23,10 @@ pub(crate) enum Invocation<'a> {
     /// The answer to a text.
     Ask {
         text: &'a str,
+        request: Request<'a>,
+    },
+    /// The answer to the text that standard input is.
+    AskInput {
         request: Request<'a>,
     },
     /// The output of the script on standard input.
@@ -45,6 +50,22 @@ pub(crate) enum Invocation<'a> {
     },
     /// The version of the program.
     Version,
+}
+
+impl Invocation<'_> {
+    /// Whether it is answered from the input.
+    pub(crate) fn is_from_input(self) -> bool
+        ensures { result ≡ is_script (invocation_of self.entry) }
+    {
+        match self {
+            Invocation::AskInput { .. }
+            | Invocation::Script
+            | Invocation::Serve { .. }
+            | Invocation::Audit { .. }
+            | Invocation::Each { .. } => true,
+            Invocation::Ask { .. } | Invocation::Help { .. } | Invocation::Version => false,
+        }
+    }
 }
 
 /// A command that answers a text, with its arguments after that.
@@ -98,7 +119,7 @@ fn run_by<'a>(words: &'a [&'a str]) -> Option<CommandLine<'a>>
     let Asked {
         command,
         invocation,
-    } = command_in(words)?;
+    } = command_in(options.is_from_input(), words)?;
     if !options.suit(command) {
         return None;
     }
@@ -109,28 +130,30 @@ fn run_by<'a>(words: &'a [&'a str]) -> Option<CommandLine<'a>>
 }
 
 /// The command that the arguments begin with, and what it asks for.
-fn command_in<'a>(words: &'a [&'a str]) -> Option<Asked<'a>>
-    ensures { option_map asked_of result ≡ command_in words.entry.now }
+fn command_in<'a>(from_input: bool, words: &'a [&'a str]) -> Option<Asked<'a>>
+    ensures { option_map asked_of result ≡ command_in from_input words.entry.now }
 {
     match words {
         [] => None,
         [word, words @ ..] => match command_named(word) {
-            Some(command) => asked_by(command, words),
+            Some(command) => asked_by(from_input, command, words),
             None => None,
         },
     }
 }
 
-/// What a command asks for with what follows it: its own option first, then a first `--`, then its arguments.
-fn asked_by<'a>(command: Command, words: &'a [&'a str]) -> Option<Asked<'a>>
-    ensures { option_map asked_of result ≡ asked_by command words.entry.now }
+/// What a command asks for with what follows it: its own option first, then a first `--`, then its arguments, of which
+/// the input can be the first.
+fn asked_by<'a>(from_input: bool, command: Command, words: &'a [&'a str]) -> Option<Asked<'a>>
+    ensures { option_map asked_of result ≡ asked_by from_input command words.entry.now }
 {
     let is_flagged = has_flag(command, words);
-    request_on(
-        command,
-        is_flagged,
-        arguments_in(after_flag(command, words)),
-    )
+    let arguments = arguments_in(after_flag(command, words));
+    if from_input {
+        input_request(command, arguments)
+    } else {
+        request_on(command, is_flagged, arguments)
+    }
 }
 
 /// What a command asks for with these arguments.
@@ -193,9 +216,31 @@ fn each_in<'a>(ending: Ending, words: &'a [&'a str]) -> Option<Asked<'a>>
     }
 }
 
-/// What a command asks of each line, with these arguments beside it.
+/// What a command asks of each line, with these arguments after it.
 fn line_request<'a>(command: Command, ending: Ending, arguments: &'a [&'a str]) -> Option<Asked<'a>>
     ensures { option_map asked_of result ≡ line_request command ending arguments.entry.now }
+{
+    let request = request_after(command, arguments)?;
+    Some(Asked {
+        command,
+        invocation: Invocation::Each { ending, request },
+    })
+}
+
+/// What a command asks of the text that the input is, with these arguments after it.
+fn input_request<'a>(command: Command, arguments: &'a [&'a str]) -> Option<Asked<'a>>
+    ensures { option_map asked_of result ≡ input_request command arguments.entry.now }
+{
+    let request = request_after(command, arguments)?;
+    Some(Asked {
+        command,
+        invocation: Invocation::AskInput { request },
+    })
+}
+
+/// What a command that answers a text asks of one that these arguments follow.
+fn request_after<'a>(command: Command, arguments: &'a [&'a str]) -> Option<Request<'a>>
+    ensures { option_map request_of result ≡ request_after command.name command arguments.entry.now }
 {
     let CommandName::Ask(question) = command.name else {
         return None;
@@ -203,13 +248,9 @@ fn line_request<'a>(command: Command, ending: Ending, arguments: &'a [&'a str]) 
     if !command.takes_count(arguments.len() + 1) {
         return None;
     }
-    let request = Request {
+    Some(Request {
         question,
         arguments,
-    };
-    Some(Asked {
-        command,
-        invocation: Invocation::Each { ending, request },
     })
 }
 

@@ -8,13 +8,13 @@ ghost use Rattle.sd_commands.specs.Answer.{answer_of, is_refusal};
 ghost use Rattle.sd_command_line.specs.Answer.{AnswersNext, AnswersText, AnswersTold, AppendsEach, after_answer};
 ghost use Rattle.sd_command_line.specs.Answer.{form_of};
 ghost use Rattle.sd_command_line.specs.CommandLine.{request_of};
-ghost use Rattle.sd_command_line.specs.Each.{is_blank, is_white, no_line_note, outcome_of_lines, told_of_lines};
-ghost use Rattle.sd_command_line.specs.Each.{with_line};
+ghost use Rattle.sd_command_line.specs.Each.{no_line_note, outcome_of_lines, told_of_lines, with_line};
 ghost use Rattle.sd_command_line.specs.Options.{options_of};
 ghost use Rattle.sd_command_line.specs.declared.each.Progress.TheVariants.{NoLine};
 
 use crate::answer::answer_to;
 use crate::command_line::{CommandLine, Invocation, Request};
+use crate::input::is_blank;
 use crate::options::Options;
 use sd_commands::{Answer, Outcome, fault, told_line};
 use sd_lines::{Answers, Ending, Form, answer_lines};
@@ -147,19 +147,6 @@ fn after_answer(question: Question) -> &'static str
         Question::Why | Question::Who | Question::Compare | Question::Lint => "\n",
         _ => "",
     }
-}
-
-/// Whether the line has nothing but white space.
-fn is_blank(line: &[u8]) -> bool
-    ensures { result ≡ is_blank line.now }
-{
-    line.iter().all(|byte| is_white(*byte))
-}
-
-fn is_white(byte: u8) -> bool
-    ensures { result ≡ is_white byte }
-{
-    matches!(byte, b'\t' | b'\n' | b'\r' | b' ')
 }
 
 /// The lines of an input, of which one that is too long is answered too.

@@ -1,7 +1,8 @@
 //! What follows from the table of commands and from the parser of a command line. Each law is the contract of a
 //! function that does nothing.
 ghost use Rattle.sd_command_line.specs.Laws.{CommandsAreDistinct, DashesKeepTexts, DashesKeepTextsOfWhy};
-ghost use Rattle.sd_command_line.specs.Laws.{EachAsksTheCommand, HelpStandsAlone, OptionsAreDistinct, OptionsKeepTexts};
+ghost use Rattle.sd_command_line.specs.Laws.{EachAsksTheCommand, HelpStandsAlone, InputAsksTheCommand};
+ghost use Rattle.sd_command_line.specs.Laws.{OptionsAreDistinct, OptionsKeepTexts};
 
 /// No two commands have one name, and no two options: a text names at most one row of the table.
 pub fn names_are_distinct()
@@ -21,7 +22,9 @@ pub fn dashes_keep_texts()
     ensures with_options { OptionsKeepTexts }
 {}
 
-/// What `each` asks of a line is what the command asks with the line as its first argument.
+/// What `each` asks of a line, and `--stdin` of the input, is what the command asks with that text as its first
+/// argument.
 pub fn each_asks_the_command()
-    ensures { EachAsksTheCommand }
+    ensures each { EachAsksTheCommand }
+    ensures input { InputAsksTheCommand }
 {}

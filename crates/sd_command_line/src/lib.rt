@@ -15,6 +15,7 @@ mod answer;
 mod command_line;
 mod each;
 mod failure;
+mod input;
 mod laws;
 mod options;
 mod perform;
@@ -23,7 +24,7 @@ mod scripts;
 mod version;
 
 pub use laws::{dashes_keep_texts, each_asks_the_command, help_stands_alone, names_are_distinct};
-pub use program::drive;
+pub use program::{drive, reads_input};
 pub use sd_script::{Manner, PathSpelling, Tally, run};
 pub use sd_script_audit::run_audit;
 pub use sd_sid::GenericMapping;

@@ -7,8 +7,9 @@ ghost use Rattle.sd_text.specs.Grammar.{Spells};
 ghost use Rattle.sd_text.specs.Sid.{sid_text};
 ghost use Rattle.sd_command_line.specs.Scripts.{manner_of};
 ghost use Rattle.sd_command_line.specs.Options.{AreSettings, GivesDomain, HasBadValue, IsNoDomain, byte_form_of, given};
-ghost use Rattle.sd_command_line.specs.Options.{has, is_strict, is_misplaced, no_options, options_in, options_of};
-ghost use Rattle.sd_command_line.specs.Options.{parted, paths_of, spelling_of, suits, with_option, with_value};
+ghost use Rattle.sd_command_line.specs.Options.{has, is_from_input, is_misplaced, is_strict, no_options, options_in};
+ghost use Rattle.sd_command_line.specs.Options.{options_of, parted, paths_of, spelling_of, suits, with_option};
+ghost use Rattle.sd_command_line.specs.Options.{with_value};
 
 use sd_answer::Spelling;
 use sd_commands::{ByteForm, Settings, kind_given, mapping_given};
@@ -29,6 +30,7 @@ pub(crate) enum BadValue<'a> {
 /// empty for one without a value.
 #[derive(Clone, Copy, Debug)]
 pub(crate) struct Options<'a> {
+    stdin: Option<&'a str>,
     names: Option<&'a str>,
     without_sacl: Option<&'a str>,
     require_dacl: Option<&'a str>,
@@ -46,6 +48,7 @@ impl<'a> Options<'a> {
         ensures { options_of result ≡ no_options }
     {
         Options {
+            stdin: None,
             names: None,
             without_sacl: None,
             require_dacl: None,
@@ -63,6 +66,7 @@ impl<'a> Options<'a> {
         ensures { option_map (λ text. text.now) result ≡ given (options_of self.entry) option }
     {
         match option {
+            OptionName::Stdin => self.stdin,
             OptionName::Names => self.names,
             OptionName::WithoutSacl => self.without_sacl,
             OptionName::RequireDacl => self.require_dacl,
@@ -90,6 +94,10 @@ impl<'a> Options<'a> {
     {
         let value = Some(value);
         match option {
+            OptionName::Stdin => Options {
+                stdin: value,
+                ..self
+            },
             OptionName::Names => Options {
                 names: value,
                 ..self
@@ -176,6 +184,13 @@ impl<'a> Options<'a> {
             mapping: settings.mapping,
             paths: self.paths(),
         }
+    }
+
+    /// Whether the input takes the place of the first argument.
+    pub(crate) fn is_from_input(self) -> bool
+        ensures { result ≡ is_from_input (options_of self.entry) }
+    {
+        self.has(OptionName::Stdin)
     }
 
     /// Whether a script's fault or refusal is told by the status.

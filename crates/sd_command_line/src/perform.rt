@@ -4,8 +4,8 @@ ghost use Rattle.std.specs.Io.KnownBytes.{Appends};
 ghost use Rattle.sd_stream.specs.Watched.{has_failed, inner_of};
 ghost use Rattle.sd_stream.specs.Whole.{AppendsBeginning, ReadsPart, is_read_error, is_write_error};
 ghost use Rattle.sd_commands.specs.Answer.{answer_of, outcome_status};
-ghost use Rattle.sd_command_line.specs.CommandLine.{Audit, Each, command_line_of, invocation_of, is_script, request_of};
-ghost use Rattle.sd_command_line.specs.CommandLine.{runs_script};
+ghost use Rattle.sd_command_line.specs.CommandLine.{AskInput, Audit, Each, command_line_of, invocation_of, is_script};
+ghost use Rattle.sd_command_line.specs.CommandLine.{request_of, runs_script};
 ghost use Rattle.sd_command_line.specs.Options.{AreSettings, is_strict, options_of};
 ghost use Rattle.sd_command_line.specs.Output.{AppendsAnswerTo, LeavesAfter, LeavesAfterFailure, blames_reader};
 ghost use Rattle.sd_command_line.specs.Output.{blames_writer};
@@ -15,6 +15,7 @@ use crate::answer::{answer_to, bad_value};
 use crate::command_line::{CommandLine, Invocation, Request};
 use crate::each::{LineQuestion, answer_each, no_line_note};
 use crate::failure::Failure;
+use crate::input::answer_input;
 use crate::options::Options;
 use crate::scripts::{script_outcome, told_of_script};
 use sd_commands::{Answer, Outcome, Settings};
@@ -22,7 +23,7 @@ use sd_lines::Ending;
 use sd_script::{Tally, run, serve};
 use sd_script_audit::run_audit;
 use sd_store::OpenGate;
-use sd_stream::{RunError, Watched, write_whole};
+use sd_stream::{RunError, Watched, read_whole, write_whole};
 use std::alloc::Global;
 use std::io::{Read, Write};
 use std::sync::Wait;
@@ -58,6 +59,9 @@ pub(crate) fn perform<T: Threads + Wait + Sync, R: Read, W: Write>(
     ensures unused { is_script (invocation_of line.entry.invocation) ≡ false → reader.new ≡ reader.old }
 {
     match line.invocation {
+        Invocation::AskInput { request } => {
+            perform_input(alloc, line.options, request, reader, writer)
+        }
         Invocation::Script | Invocation::Serve { .. } | Invocation::Audit { .. } => {
             perform_script(rt, alloc, line, reader, writer)
         }
@@ -65,6 +69,42 @@ pub(crate) fn perform<T: Threads + Wait + Sync, R: Read, W: Write>(
             perform_each(alloc, line.options, ending, request, reader, writer)
         }
         _ => print(answer_to(alloc, line)?, writer),
+    }
+}
+
+/// Answers the text that the input is.
+fn perform_input<R: Read, W: Write>(
+    alloc: Global,
+    options: Options<'_>,
+    request: Request<'_>,
+    reader: &mut Watched<R>,
+    writer: &mut Watched<W>,
+) -> Result<Ended, Failure>
+    ensures ok { IfOk result
+        (λ ended. AppendsAnswerTo
+        (record { options = options_of options.entry; invocation = AskInput (request_of request.entry) })
+        (R.remaining (inner_of reader.old))
+        (W.contents (inner_of writer.old)) (W.contents (inner_of writer.new)) (string_bytes ended.told)
+        (outcome_status ended.outcome)) }
+    ensures err { IfErr result
+        (LeavesAfterFailure (record {
+          options = options_of options.entry;
+          invocation = AskInput (request_of request.entry);
+        })
+        (R.remaining (inner_of reader.old)) (R.remaining (inner_of reader.new))
+        (W.contents (inner_of writer.old)) (W.contents (inner_of writer.new))) }
+    ensures read { has_failed reader.new ≡ (has_failed reader.old || blames_reader result) }
+    ensures write { has_failed writer.new ≡ (has_failed writer.old || blames_writer result) }
+    ensures too_long { result ≡ Err (Failure.Run RunError.TooLong)
+        → ReadsPart (R.remaining (inner_of reader.old)) (R.remaining (inner_of reader.new)) RunError.TooLong }
+    ensures thread { result ≢ Err (Failure.Run RunError.Thread) }
+{
+    match options.settings() {
+        Ok(settings) => {
+            let input = read_whole(alloc, reader)?;
+            print(answer_input(alloc, settings, request, &input)?, writer)
+        }
+        Err(bad) => print(bad_value(alloc, bad)?, writer),
     }
 }
 

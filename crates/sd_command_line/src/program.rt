@@ -21,8 +21,8 @@ use std::sync::Wait;
 use std::thread::Threads;
 
 /// Does what the program does with these words, of which the first is its name, and with these
-/// streams, and answers the status with which it ends. Only `script`, `serve`, `audit` and `each` use
-/// `reader`, and only `audit` starts threads and waits for them.
+/// streams, and answers the status with which it ends. Only `script`, `serve`, `audit`, `each` and a command after
+/// `--stdin` use `reader`, and only `audit` starts threads and waits for them.
 ///
 /// - 0: the text was printed, or the right granted, or the script carried out to its end. Help and
 ///   the version are such texts.
@@ -74,6 +74,16 @@ pub fn drive<T: Threads + Wait + Sync, R: Read, W: Write, E: Write>(
             tell(errors, failure.text());
             failure.status()
         }
+    }
+}
+
+/// Whether what these words ask for, of which the first is the program's name, is answered from the input.
+pub fn reads_input(words: &[&str]) -> bool
+    ensures { result ≡ asks_input words.now }
+{
+    match read_command_line(words) {
+        Some(line) => line.invocation.is_from_input(),
+        None => false,
     }
 }
 

@@ -8,7 +8,7 @@ use Rattle.sd_usage.specs.declared.row.Flag.{Flag}
 use Rattle.sd_usage.specs.declared.row.Flag.TheVariants.{Ids, Zero}
 use Rattle.sd_usage.specs.declared.row.OptionName.{OptionName}
 use Rattle.sd_usage.specs.declared.row.OptionName.TheVariants.{Base64, Domain, Loose, Mapping}
-use Rattle.sd_usage.specs.declared.row.OptionName.TheVariants.{Names, Percent, RequireDacl, Strict, WithoutSacl}
+use Rattle.sd_usage.specs.declared.row.OptionName.TheVariants.{Names, Percent, RequireDacl, Stdin, Strict, WithoutSacl}
 use Rattle.sd_usage.specs.declared.row.ProgramOption.{ProgramOption}
 use Rattle.sd_usage.specs.declared.table.TheConstants.{COMMANDS, OPTIONS}
 
@@ -38,6 +38,7 @@ takes_count command count =
 
 -- the option may go before it
 abbrev pub takes_option : Command → OptionName → Bool
+takes_option command Stdin = command.options.stdin
 takes_option command Names = command.options.names
 takes_option command WithoutSacl = command.options.without_sacl
 takes_option command RequireDacl = command.options.require_dacl

@@ -23,8 +23,8 @@ pub(crate) fn notes_of(command: CommandName) -> &'static str {
 }
 
 pub(crate) const NOTES: &str = "\
-Options go before the command, and before 'each' those of its command. 'sdstore help COMMAND' has
-the help on a command.
+Options go before the command, and before 'each' those of its command except '--stdin'.
+'sdstore help COMMAND' has the help on a command.
 
 Statuses:
   0  the text was printed, the rights were granted, or the script was carried out to its end

@@ -55,6 +55,8 @@ pub enum Question {
 /// An option before a command.
 #[derive(Clone, Copy, PartialEq, Eq)]
 pub enum OptionName {
+    /// `--stdin`.
+    Stdin,
     /// `--names`.
     Names,
     /// `--without-sacl`.
@@ -137,6 +139,7 @@ pub enum Argument {
 /// Options before a command.
 #[derive(Clone, Copy)]
 pub struct OptionSet {
+    pub stdin: bool,
     pub names: bool,
     pub without_sacl: bool,
     pub require_dacl: bool,
@@ -219,6 +222,7 @@ impl Command {
         ensures { result ≡ takes_option self option }
     {
         match option {
+            OptionName::Stdin => self.options.stdin,
             OptionName::Names => self.options.names,
             OptionName::WithoutSacl => self.options.without_sacl,
             OptionName::RequireDacl => self.options.require_dacl,

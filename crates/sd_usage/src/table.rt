@@ -6,6 +6,7 @@ use crate::row::{
 };
 
 const NO_OPTIONS: OptionSet = OptionSet {
+    stdin: false,
     names: false,
     without_sacl: false,
     require_dacl: false,
@@ -19,6 +20,7 @@ const NO_OPTIONS: OptionSet = OptionSet {
 
 // Of commands that parse a descriptor's text.
 const TEXT_OPTIONS: OptionSet = OptionSet {
+    stdin: true,
     without_sacl: true,
     require_dacl: true,
     domain: true,
@@ -32,6 +34,7 @@ const MAPPED_TEXT_OPTIONS: OptionSet = OptionSet {
 };
 
 const BYTES_OPTIONS: OptionSet = OptionSet {
+    stdin: true,
     without_sacl: true,
     require_dacl: true,
     base64: true,
@@ -235,6 +238,17 @@ printf 'open 1 O:BAG:SYD:\\naddo /a O:BAG:SYD:(A;;FR;;;WD)\\npublish\\ncheck 0 /
 
 /// The options before a command, in the order in which help lists them.
 pub const OPTIONS: &[OptionRow] = &[
+    (
+        "--stdin",
+        ProgramOption {
+            name: OptionName::Stdin,
+            value: None,
+            excludes: None,
+        },
+        "\
+standard input takes the place of the first argument: in UTF-8, or in UTF-16 after a byte order
+mark, and without a line end at its end",
+    ),
     (
         "--names",
         ProgramOption {

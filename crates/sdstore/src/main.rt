@@ -3,14 +3,14 @@
 
 mod terminal;
 
-use sd_command_line::{Watched, drive};
+use sd_command_line::{Watched, drive, reads_input};
 use std::env::Env;
 use std::io::{ErrorKind, IsTerminal, Read, Write};
 use std::process::ExitCode;
 use std::sync::Wait;
 use std::thread::Threads;
 use std::{env, io};
-use terminal::{Coloured, reads_lines, shows_colours};
+use terminal::{Coloured, shows_colours};
 
 fn main(rt: HostRuntime) -> ExitCode {
     match run(&rt, rt.stdin(), rt.stdout(), &mut rt.stderr()) {
@@ -37,7 +37,7 @@ where
     let alloc = rt.alloc();
     let texts: Vec<String> = env::args(rt)?.collect(alloc)?;
     let words: Vec<&str> = texts.iter().map(|text| text.as_str()).collect(alloc)?;
-    if input.is_terminal() && reads_lines(words.as_slice()) {
+    if input.is_terminal() && reads_input(words.as_slice()) {
         // Where nobody can be told, nobody is.
         let _ = errors.write_all(b"sdstore: reads the standard input, up to its end\n");
     }

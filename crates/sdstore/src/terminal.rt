@@ -1,5 +1,4 @@
-//! What a terminal changes: a line that tells that the input is read from it, and verdicts in
-//! colour. Where a stream is none, nothing changes.
+//! What a terminal changes in the output: verdicts in colour. Where it is none, nothing changes.
 ghost use Rattle.std.specs.Prelude.{◌≤◌, length};
 
 use std::env::{Env, VarError};
@@ -9,15 +8,6 @@ use std::{env, io};
 const GRANTED: &[u8] = b"granted 0x";
 
 const DENIED: &[u8] = b"denied 0x";
-
-/// Whether these words, of which the first is the program's name, are a command that reads the
-/// standard input as it comes.
-pub(crate) fn reads_lines(words: &[&str]) -> bool {
-    matches!(
-        words,
-        [_, "script" | "serve"] | [_, "script" | "serve", "--"]
-    )
-}
 
 /// Whether the output shows colours: a terminal's does, unless the variable `NO_COLOR` is there, whatever
 /// it holds.

@@ -1,6 +1,6 @@
 -- A line that isn't blank is answered by the command.
 use Rattle.std.proofs.Common.{◌≡◌, ◌∙◌, None, ap, false, sym}
-use Rattle.sd_command_line.specs.Each.{is_blank}
+use Rattle.sd_command_line.specs.Input.{is_blank}
 use Rattle.sd_command_line.proofs.each.LineQuestion.answer_text.Goals as goal
 
 pub returns : goal.returns
