@@ -14,4 +14,4 @@ answered input options (AskInput request) answer h is = cc
 answered input options Script answer h is = cc
 answered input options (Serve has_ids) answer h is = cc
 answered input options (Audit workers) answer h is = cc
-answered input options (Each ending request) answer h is = cc
+answered input options (Each lines request) answer h is = cc

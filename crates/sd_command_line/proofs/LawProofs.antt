@@ -1,17 +1,20 @@
 -- The proofs of the laws.
-use Rattle.std.proofs.Common.{◌≡◌, ◌∙◌, ◌+◌, ℕ, suc, List, [], ◌∷◌, length, Bool, true, false, Option, Some, None, ap, codes, refl, subst, arith}
+use Rattle.std.proofs.Common.{◌≡◌, ◌∙◌, ◌+◌, ℕ, suc, List, [], ◌∷◌, length, Bool, true, false, Option, Some, None, ap, codes, refl, subst, sym, arith}
 use Rattle.std.proofs.lemmas.Bool.{le-leb}
 use Rattle.std.specs.Prelude.{is_some, option_map, option_and_then, if◌then◌else◌}
 use Rattle.std.specs.Borrow.{Bor}
-use Rattle.sd_lines.specs.declared.ending.Ending.{Ending}
-use Rattle.sd_usage.specs.Table.{command_named, count_of, is_flag, option_named, takes_count}
+use Rattle.sd_usage.specs.Table.{command_named, count_of, flag_named, option_named, takes_count}
 use Rattle.sd_usage.specs.declared.row.CommandName.{CommandName}
 use Rattle.sd_usage.specs.declared.row.CommandName.TheVariants as names
 use Rattle.sd_usage.specs.declared.row.Command.{Command}
+use Rattle.sd_usage.specs.declared.row.Flag.{Flag}
 use Rattle.sd_usage.specs.declared.row.Question.{Question}
 use Rattle.sd_usage.specs.declared.row.Question.TheVariants as questions
-use Rattle.sd_command_line.specs.CommandLine.{AskedValue, InvocationValue, RequestValue, Ask, AskInput, Audit, Each, Help, Script, Serve, Version, after_flag, after_options, arguments_in, asked_by, command_in, each_in, ending_of, has_flag, input_request, line_request, request_after, request_by, request_on, with_options, workers_of}
+use Rattle.sd_command_line.specs.CommandLine.{AskedValue, InvocationValue, RequestValue, Ask, AskInput, Audit, Each, Help, Script, Serve, Version, after_options, arguments_in, asked_by, asked_with, command_in, each_in, input_request, line_request, request_after, request_by, request_on, with_options, workers_of}
 use Rattle.sd_command_line.specs.Laws.{is_shown, shows, EachAsksTheCommand, InputAsksTheCommand, HelpStandsAlone, DashesKeepTexts, DashesKeepTextsOfWhy, OptionsKeepTexts}
+use Rattle.sd_command_line.specs.Flags.{flags_in, is_given, lines_by, no_flags, with_flag}
+use Rattle.sd_command_line.specs.declared.flags.GivenFlags.{GivenFlags}
+use Rattle.sd_command_line.specs.declared.flags.Lines.{Lines}
 use Rattle.sd_command_line.specs.Options.{OptionsValue, is_from_input, no_options, options_in, suits}
 
 abbrev some_shown : Option AskedValue → Bool
@@ -38,15 +41,15 @@ input_runs : (command : Command) (arguments : List (Bor (List ℕ))) → some_sh
 input_runs command arguments h =
     request_runs_so AskInput command (request_after command.name command arguments) (λ given shown. cc (shown)) h
 
-named_line_runs : (found : Option Command) (ending : Ending) (arguments : List (Bor (List ℕ)))
-    → some_shown (option_and_then (λ (c : Command). line_request c ending arguments) found) ≡ true → ⊥
-named_line_runs None ending arguments h = cc
-named_line_runs (Some command) ending arguments h =
-    request_runs_so (Each ending) command (request_after command.name command arguments) (λ given shown. cc (shown)) h
+named_line_runs : (found : Option Command) (lines : Lines) (arguments : List (Bor (List ℕ)))
+    → some_shown (option_and_then (λ (c : Command). line_request c lines arguments) found) ≡ true → ⊥
+named_line_runs None lines arguments h = cc
+named_line_runs (Some command) lines arguments h =
+    request_runs_so (Each lines) command (request_after command.name command arguments) (λ given shown. cc (shown)) h
 
-each_runs : (ending : Ending) (words : List (Bor (List ℕ))) → some_shown (each_in ending words) ≡ true → ⊥
-each_runs ending [] h = cc
-each_runs ending (word ∷ words) h = named_line_runs (command_named word.now) ending (arguments_in words) h
+each_runs : (lines : Lines) (words : List (Bor (List ℕ))) → some_shown (each_in lines words) ≡ true → ⊥
+each_runs lines [] h = cc
+each_runs lines (word ∷ words) h = named_line_runs (command_named word.now) lines (arguments_in words) h
 
 -- nor is an audit, whatever its number
 audit_runs : (command : Command) (workers : Option ℕ)
@@ -55,27 +58,30 @@ audit_runs command (Some n) h = cc
 audit_runs command None h = cc
 
 -- nor another command
-request_runs : (name : CommandName) (command : Command) (flagged : Bool) (arguments : List (Bor (List ℕ)))
-    → some_shown (request_by name command flagged arguments) ≡ true → ⊥
-request_runs (names.Ask question) command flagged [] h = cc
-request_runs (names.Ask question) command flagged (text ∷ arguments) h = cc
-request_runs names.Script command flagged arguments h = cc
-request_runs names.Serve command flagged arguments h = cc
-request_runs names.Audit command flagged [] h = cc
-request_runs names.Audit command flagged (workers ∷ arguments) h = audit_runs command (workers_of workers.now) h
-request_runs names.Each command flagged arguments h = each_runs (ending_of flagged) arguments h
+request_runs : (name : CommandName) (command : Command) (given : GivenFlags) (arguments : List (Bor (List ℕ)))
+    → some_shown (request_by name command given arguments) ≡ true → ⊥
+request_runs (names.Ask question) command given [] h = cc
+request_runs (names.Ask question) command given (text ∷ arguments) h = cc
+request_runs names.Script command given arguments h = cc
+request_runs names.Serve command given arguments h = cc
+request_runs names.Audit command given [] h = cc
+request_runs names.Audit command given (workers ∷ arguments) h = audit_runs command (workers_of workers.now) h
+request_runs names.Each command given arguments h = each_runs (lines_by given) arguments h
 
-request_on_runs : (command : Command) (flagged : Bool) (arguments : List (Bor (List ℕ)))
-    → some_shown (request_on command flagged arguments) ≡ true → ⊥
-request_on_runs command flagged arguments h =
-    tested_runs (takes_count command (length arguments)) (request_by command.name command flagged arguments)
-    (request_runs command.name command flagged arguments) h
+request_on_runs : (command : Command) (given : GivenFlags) (arguments : List (Bor (List ℕ)))
+    → some_shown (request_on command given arguments) ≡ true → ⊥
+request_on_runs command given arguments h =
+    tested_runs (takes_count command (length arguments)) (request_by command.name command given arguments)
+    (request_runs command.name command given arguments) h
+
+asked_with_runs : (from_input : Bool) (command : Command) (read : GivenFlags × List (Bor (List ℕ)))
+    → some_shown (asked_with from_input command read) ≡ true → ⊥
+asked_with_runs true command (given, words) h = input_runs command (arguments_in words) h
+asked_with_runs false command (given, words) h = request_on_runs command given (arguments_in words) h
 
 asked_by_runs : (from_input : Bool) (command : Command) (words : List (Bor (List ℕ)))
     → some_shown (asked_by from_input command words) ≡ true → ⊥
-asked_by_runs true command words h = input_runs command (arguments_in (after_flag command words)) h
-asked_by_runs false command words h =
-    request_on_runs command (has_flag command words) (arguments_in (after_flag command words)) h
+asked_by_runs from_input command words h = asked_with_runs from_input command (flags_in command no_flags words) h
 
 named_runs : (from_input : Bool) (found : Option Command) (words : List (Bor (List ℕ)))
     → some_shown (option_and_then (λ (c : Command). asked_by from_input c words) found) ≡ true → ⊥
@@ -112,13 +118,19 @@ help_stands_alone (name ∷ word ∷ next ∷ other ∷ words) h =
 
 -- a first `--` is dropped
 after_dashes : (command : Command) (dashes : Bor (List ℕ)) (rest : List (Bor (List ℕ)))
-    → is_flag command dashes.now ≡ false → dashes.now ≡ codes "--"
-    → asked_by false command (dashes ∷ rest) ≡ request_on command false rest
-after_dashes command dashes rest plain dash = rw (plain, dash) refl
+    → flag_named command dashes.now ≡ None → dashes.now ≡ codes "--"
+    → asked_by false command (dashes ∷ rest) ≡ request_on command no_flags rest
+after_dashes command dashes rest plain dash =
+    subst (λ (found : Option Flag). asked_with false command
+    (elim found [
+      | Some flag ↦ if is_given no_flags flag then (no_flags, dashes ∷ rest)
+          else flags_in command (with_flag no_flags flag) rest
+      | None ↦ (no_flags, dashes ∷ rest)
+    ]) ≡ request_on command no_flags rest) (sym plain) (rw dash refl)
 
 -- as many arguments as a command takes
 taken : (command : Command) (rest : List (Bor (List ℕ)))
-    → takes_count command (length rest) ≡ true → request_on command false rest ≡ request_by command.name command false rest
+    → takes_count command (length rest) ≡ true → request_on command no_flags rest ≡ request_by command.name command no_flags rest
 taken command rest takes = rw takes refl
 
 three_or_more : (command : Command) (sddl user mask : Bor (List ℕ)) (words : List (Bor (List ℕ)))
@@ -129,7 +141,7 @@ three_or_more command sddl user mask words count more =
 
 asked_of_three : (question : Question) (command : Command) (sddl : Bor (List ℕ)) (arguments : List (Bor (List ℕ)))
     → command.name ≡ names.Ask question
-    → request_by command.name command false (sddl ∷ arguments)
+    → request_by command.name command no_flags (sddl ∷ arguments)
     ≡ Some (asks command (Ask sddl.now (record { question = question; arguments = arguments })))
 asked_of_three question command sddl arguments named = rw named refl
 
@@ -140,7 +152,7 @@ goes_before command options invocation fits = rw fits refl
 -- a command with a descriptor, a user, a mask and words, after options that it takes
 keeps : (question : Question) (command : Command) (options : OptionsValue) (found : Option Command)
     (dashes sddl user mask : Bor (List ℕ)) (words : List (Bor (List ℕ)))
-    → found ≡ Some command → command.name ≡ names.Ask question → is_flag command dashes.now ≡ false
+    → found ≡ Some command → command.name ≡ names.Ask question → flag_named command dashes.now ≡ None
     → count_of command.arguments ≡ 3 → is_some command.repeated ≡ true → suits command options ≡ true
     → dashes.now ≡ codes "--"
     → option_and_then (with_options options) (option_and_then (λ (c : Command). asked_by false c (dashes ∷ sddl ∷ user ∷ mask ∷ words)) found)
@@ -178,7 +190,7 @@ request_in other (AskInput request) = request
 request_in other Script = other
 request_in other (Serve has_ids) = other
 request_in other (Audit workers) = other
-request_in other (Each ending request) = request
+request_in other (Each lines request) = request
 request_in other (Help command) = other
 request_in other Version = other
 
@@ -193,33 +205,33 @@ by_test : (test : Bool) (command : Command) (text : List ℕ) (given request : R
 by_test true command text given request is = cc
 by_test false command text given request is = cc
 
-by_command : (name : CommandName) (command : Command) (flagged : Bool) (text : Bor (List ℕ))
+by_command : (name : CommandName) (command : Command) (given : GivenFlags) (text : Bor (List ℕ))
     (arguments : List (Bor (List ℕ))) (request : RequestValue)
     → request_after name command arguments ≡ Some request
-    → (if takes_count command (length (text ∷ arguments)) then request_by name command flagged (text ∷ arguments) else None)
+    → (if takes_count command (length (text ∷ arguments)) then request_by name command given (text ∷ arguments) else None)
     ≡ Some (asks command (Ask text.now request))
-by_command (names.Ask question) command flagged text arguments request is =
+by_command (names.Ask question) command given text arguments request is =
     let more : length arguments + 1 ≡ suc (length arguments) = omega arith in
-    subst (λ n. (if takes_count command n then request_by (names.Ask question) command flagged (text ∷ arguments) else None)
+    subst (λ n. (if takes_count command n then request_by (names.Ask question) command given (text ∷ arguments) else None)
     ≡ Some (asks command (Ask text.now request))) more
     (by_test (takes_count command (length arguments + 1)) command text.now
     (record { question = question; arguments = arguments }) request is)
-by_command names.Script command flagged text arguments request is = cc
-by_command names.Serve command flagged text arguments request is = cc
-by_command names.Audit command flagged text arguments request is = cc
-by_command names.Each command flagged text arguments request is = cc
+by_command names.Script command given text arguments request is = cc
+by_command names.Serve command given text arguments request is = cc
+by_command names.Audit command given text arguments request is = cc
+by_command names.Each command given text arguments request is = cc
 
 -- what is asked of each line, and of the input
-each_request : (command : Command) (ending : Ending) (given : Option RequestValue) (request : RequestValue)
-    → option_map (λ (r : RequestValue). asks command (Each ending r)) given ≡ Some (asks command (Each ending request))
+each_request : (command : Command) (lines : Lines) (given : Option RequestValue) (request : RequestValue)
+    → option_map (λ (r : RequestValue). asks command (Each lines r)) given ≡ Some (asks command (Each lines request))
     → given ≡ Some request
-each_request command ending None request is = cc
-each_request command ending (Some given) request is = ap Some (ap (request_of_asked given) is)
+each_request command lines None request is = cc
+each_request command lines (Some given) request is = ap Some (ap (request_of_asked given) is)
 
 pub each_asks_the_command : EachAsksTheCommand
-each_asks_the_command command ending flagged line arguments request is =
-    by_command command.name command flagged line arguments request
-    (each_request command ending (request_after command.name command arguments) request is)
+each_asks_the_command command lines given line arguments request is =
+    by_command command.name command given line arguments request
+    (each_request command lines (request_after command.name command arguments) request is)
 
 input_request_is : (command : Command) (given : Option RequestValue) (request : RequestValue)
     → option_map (λ (r : RequestValue). asks command (AskInput r)) given ≡ Some (asks command (AskInput request))
@@ -228,6 +240,6 @@ input_request_is command None request is = cc
 input_request_is command (Some given) request is = ap Some (ap (request_of_asked given) is)
 
 pub input_asks_the_command : InputAsksTheCommand
-input_asks_the_command command flagged text arguments request is =
-    by_command command.name command flagged text arguments request
+input_asks_the_command command given text arguments request is =
+    by_command command.name command given text arguments request
     (input_request_is command (request_after command.name command arguments) request is)

@@ -169,7 +169,7 @@ bad_answers input options (Serve has_ids) bad answer runs has is = inr (bad, has
 bad_answers input options (Audit workers) bad answer runs has is = inr (bad, has, is)
 bad_answers input options (Ask text request) bad answer runs has is = absurd (cc (runs))
 bad_answers input options (AskInput request) bad answer runs has is = absurd (cc (runs))
-bad_answers input options (Each ending request) bad answer runs has is = absurd (cc (runs))
+bad_answers input options (Each lines request) bad answer runs has is = absurd (cc (runs))
 bad_answers input options (Help command) bad answer runs has is = absurd (cc (runs))
 bad_answers input options Version bad answer runs has is = absurd (cc (runs))
 

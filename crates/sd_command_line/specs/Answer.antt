@@ -9,7 +9,7 @@ use Rattle.sd_lines.specs.Output.{IsOutput}
 use Rattle.sd_script.specs.declared.manner.Manner.{Manner}
 use Rattle.sd_script.specs.declared.tally.Tally.{Tally}
 use Rattle.sd_script_audit.specs.Audit.{PrintsAuditAndCounts}
-use Rattle.sd_script.specs.Ids.{PrintsAndCountsIn}
+use Rattle.sd_script.specs.Ids.{PrintsAndCountsIn, tagged}
 use Rattle.sd_lines.specs.Answers.{PrintsAndLeaves}
 use Rattle.sd_lines.specs.Lines.{unmarked}
 use Rattle.sd_lines.specs.declared.ending.Ending.{Ending}
@@ -20,8 +20,9 @@ use Rattle.sd_usage.specs.declared.row.Question.TheVariants as questions
 use Rattle.sd_command_line.specs.CommandLine.{CommandLineValue, InvocationValue, Ask, AskInput, Script as AsksScript}
 use Rattle.sd_command_line.specs.CommandLine.{Serve as AsksServe, Audit as AsksAudit, Each as AsksEach, Help, Version}
 use Rattle.sd_command_line.specs.CommandLine.{RequestValue}
-use Rattle.sd_command_line.specs.Each.{outcome_of_lines, told_of_lines, with_line}
+use Rattle.sd_command_line.specs.Each.{after_key, has_key, key_of, outcome_of_lines, told_of_lines, with_line}
 use Rattle.sd_command_line.specs.Input.{is_blank, marked_utf16, utf16_text, without_end}
+use Rattle.sd_command_line.specs.declared.flags.Lines.{Lines}
 use Rattle.sd_command_line.specs.declared.input.ByteOrder.{ByteOrder}
 use Rattle.sd_command_line.specs.declared.each.Progress.{Progress}
 use Rattle.sd_command_line.specs.declared.each.Progress.TheVariants.{NoLine}
@@ -50,7 +51,7 @@ AnswersUnder settings (AskInput request) answer = ⊥
 AnswersUnder settings AsksScript answer = ⊥
 AnswersUnder settings (AsksServe has_ids) answer = ⊥
 AnswersUnder settings (AsksAudit workers) answer = ⊥
-AnswersUnder settings (AsksEach ending request) answer = ⊥
+AnswersUnder settings (AsksEach lines request) answer = ⊥
 
 -- the value of an option isn't read
 abbrev pub IsBadValue : BadValue → AnswerValue → Type 0
@@ -143,27 +144,51 @@ AnswersLine options request told printed is_refused =
     (answer : AnswerValue) × AnswersTold options request told answer
     × (printed ≡ answer.printed ++ after_answer request.question) × (is_refused ≡ is_refusal answer.outcome)
 
+-- a line without a key is a fault
+abbrev pub IsKeyFault : RequestValue → List ℕ → Bool → Type 0
+IsKeyFault request printed is_refused =
+    (printed ≡ fault_line (codes "key") ++ after_answer request.question) × (is_refused ≡ true)
+
+-- the same of a line that is a key, a tab and a text: each line of the text's answer begins with the key and the tab
+abbrev pub AnswersKeyAndText : OptionsValue → RequestValue → List ℕ → List ℕ → Bool → Type 0
+AnswersKeyAndText options request line printed is_refused =
+    (answer : List ℕ) × AnswersLine options request (Some (after_key line)) answer is_refused
+    × (printed ≡ tagged (key_of line) true answer)
+
+abbrev pub AnswersKeyed : OptionsValue → RequestValue → Option (List ℕ) → List ℕ → Bool → Type 0
+AnswersKeyed options request None printed is_refused = AnswersLine options request None printed is_refused
+AnswersKeyed options request (Some line) printed is_refused = MatchBool (has_key line)
+    (AnswersKeyAndText options request line printed is_refused)
+    (IsKeyFault request printed is_refused)
+
+abbrev pub AnswersLineIn : Bool → OptionsValue → RequestValue → Option (List ℕ) → List ℕ → Bool → Type 0
+AnswersLineIn has_keys options request told printed is_refused = MatchBool has_keys
+    (AnswersKeyed options request told printed is_refused)
+    (AnswersLine options request told printed is_refused)
+
 -- the same, and how the lines up to this one were answered
-abbrev pub AnswersNext : OptionsValue → RequestValue → Progress → Option (List ℕ) → List ℕ → Progress → Type 0
-AnswersNext options request before told printed after =
-    (is_refused : Bool) × AnswersLine options request told printed is_refused × (after ≡ with_line before is_refused)
+abbrev pub AnswersNext : Bool → OptionsValue → RequestValue → Progress → Option (List ℕ) → List ℕ → Progress → Type 0
+AnswersNext has_keys options request before told printed after =
+    (is_refused : Bool) × AnswersLineIn has_keys options request told printed is_refused
+    × (after ≡ with_line before is_refused)
 
 -- the lines of an input, of which one that is too long is answered too
 abbrev pub form_of : Ending → LineForm
 form_of ending = record { ending = ending; skips_mark = true; stops_at_long = false; line_by_line = false }
 
 -- the lines' answers, one after the other; refused where one is or where there is none
-abbrev pub AnswersEach : OptionsValue → Ending → RequestValue → Option (List ℕ) → AnswerValue → Type 0
-AnswersEach options ending request input answer =
+abbrev pub AnswersEach : OptionsValue → Lines → RequestValue → Option (List ℕ) → AnswerValue → Type 0
+AnswersEach options lines request input answer =
     (text : List ℕ) × (progress : Progress) × IfSome input (λ bytes. text ≡ bytes)
-    × PrintsAndLeaves (form_of ending) (AnswersNext options request) NoLine text answer.printed progress
+    × PrintsAndLeaves (form_of lines.ending) (AnswersNext lines.has_keys options request) NoLine text answer.printed
+    progress
     × (answer.told ≡ told_of_lines progress) × (answer.outcome ≡ outcome_of_lines progress)
 
 -- known bytes grow by them
-pub record AppendsEach (options : OptionsValue) (ending : Ending) (request : RequestValue)
+pub record AppendsEach (options : OptionsValue) (lines : Lines) (request : RequestValue)
     (input old new : Option (List ℕ)) (progress : Progress) : Type 0 where
   pub printed : List ℕ
-  pub answers : AnswersEach options ending request input (record {
+  pub answers : AnswersEach options lines request input (record {
     printed = printed;
     told = told_of_lines progress;
     outcome = outcome_of_lines progress;
@@ -179,7 +204,7 @@ AnswersInvocation input options (AsksServe has_ids) answer =
     AnswersWith options (AnswersScript (PrintsAndCountsIn has_ids) input options) answer
 AnswersInvocation input options (AsksAudit workers) answer =
     AnswersWith options (AnswersScript (λ manner. PrintsAuditAndCounts manner workers) input options) answer
-AnswersInvocation input options (AsksEach ending request) answer = AnswersEach options ending request input answer
+AnswersInvocation input options (AsksEach lines request) answer = AnswersEach options lines request input answer
 AnswersInvocation input options invocation answer = AnswersArguments options invocation answer
 
 abbrev pub Answers : Option (List ℕ) → CommandLineValue → AnswerValue → Type 0

@@ -5,9 +5,7 @@ use Rattle.std.specs.Prelude.{if◌then◌else◌, Option, Some, None, option_ma
 use Rattle.std.specs.Option.{option_map_or}
 use Rattle.std.specs.Borrow.{Bor}
 use Rattle.std.specs.Char.{is_ascii_digit}
-use Rattle.sd_lines.specs.declared.ending.Ending.{Ending}
-use Rattle.sd_lines.specs.declared.ending.Ending.TheVariants.{Feed, Zero}
-use Rattle.sd_usage.specs.Table.{command_named, is_flag, takes_count}
+use Rattle.sd_usage.specs.Table.{command_named, takes_count}
 use Rattle.sd_usage.specs.declared.row.Command.{Command}
 use Rattle.sd_usage.specs.declared.row.CommandName.{CommandName}
 use Rattle.sd_usage.specs.declared.row.CommandName.TheVariants as names
@@ -17,6 +15,9 @@ use Rattle.sd_command_line.specs.declared.command_line.CommandLine.{CommandLine}
 use Rattle.sd_command_line.specs.declared.command_line.Request.{Request}
 use Rattle.sd_command_line.specs.declared.command_line.Invocation.{Invocation}
 use Rattle.sd_command_line.specs.declared.command_line.Invocation.TheVariants as invocations
+use Rattle.sd_command_line.specs.Flags.{flags_in, lines_by, no_flags}
+use Rattle.sd_command_line.specs.declared.flags.GivenFlags.{GivenFlags}
+use Rattle.sd_command_line.specs.declared.flags.Lines.{Lines}
 use Rattle.sd_command_line.specs.Options.{OptionsValue, is_from_input, no_options, options_in, options_of, suits}
 
 -- a command that answers a text, with its arguments after that
@@ -34,7 +35,7 @@ pub data InvocationValue : Type 0 where
   Script : InvocationValue
   Serve : Bool → InvocationValue
   Audit : ℕ → InvocationValue
-  Each : Ending → RequestValue → InvocationValue
+  Each : Lines → RequestValue → InvocationValue
   Help : Option CommandName → InvocationValue
   Version : InvocationValue
 
@@ -44,7 +45,7 @@ invocation_of (invocations.AskInput request) = AskInput (request_of request)
 invocation_of invocations.Script = Script
 invocation_of (invocations.Serve has_ids) = Serve has_ids
 invocation_of (invocations.Audit workers) = Audit workers
-invocation_of (invocations.Each ending request) = Each ending (request_of request)
+invocation_of (invocations.Each lines request) = Each lines (request_of request)
 invocation_of (invocations.Help command) = Help command
 invocation_of invocations.Version = Version
 
@@ -75,15 +76,7 @@ is_version_flag word = bytes_eq word (codes "-V") || bytes_eq word (codes "--ver
 
 -- ---- what follows a command
 
-abbrev pub has_flag : Command → List (Bor (List ℕ)) → Bool
-has_flag command [] = false
-has_flag command (word ∷ words) = is_flag command word.now
-
-abbrev pub after_flag : Command → List (Bor (List ℕ)) → List (Bor (List ℕ))
-after_flag command [] = []
-after_flag command (word ∷ words) = if is_flag command word.now then words else word ∷ words
-
--- the arguments after a command and its own option: each as it stands, but for a first `--`
+-- the arguments after a command and its own options: each as it stands, but for a first `--`
 abbrev pub arguments_in : List (Bor (List ℕ)) → List (Bor (List ℕ))
 arguments_in [] = []
 arguments_in (word ∷ words) = if bytes_eq word.now (codes "--") then words else word ∷ words
@@ -103,10 +96,6 @@ workers_of (ones ∷ []) = count_of 48 ones
 workers_of (tens ∷ ones ∷ []) = count_of tens ones
 workers_of (a ∷ b ∷ c ∷ rest) = None
 
--- how lines end
-abbrev pub ending_of : Bool → Ending
-ending_of is_zero = if is_zero then Zero else Feed
-
 -- ---- the command
 
 -- what a command asks of a text that these arguments follow: one that answers a text, with as many as it takes
@@ -117,9 +106,9 @@ request_after (names.Ask question) command arguments =
 request_after name command arguments = None
 
 -- what is asked of each line
-abbrev pub line_request : Command → Ending → List (Bor (List ℕ)) → Option AskedValue
-line_request command ending arguments =
-    option_map (λ request. record { command = command; invocation = Each ending request })
+abbrev pub line_request : Command → Lines → List (Bor (List ℕ)) → Option AskedValue
+line_request command lines arguments =
+    option_map (λ request. record { command = command; invocation = Each lines request })
     (request_after command.name command arguments)
 
 -- what is asked of the text that the input is
@@ -128,34 +117,36 @@ input_request command arguments =
     option_map (λ request. record { command = command; invocation = AskInput request })
     (request_after command.name command arguments)
 
-abbrev pub each_in : Ending → List (Bor (List ℕ)) → Option AskedValue
-each_in ending [] = None
-each_in ending (word ∷ words) = option_and_then (λ command. line_request command ending (arguments_in words))
+abbrev pub each_in : Lines → List (Bor (List ℕ)) → Option AskedValue
+each_in lines [] = None
+each_in lines (word ∷ words) = option_and_then (λ command. line_request command lines (arguments_in words))
     (command_named word.now)
 
--- what a command asks for, with its own option or without, and with these arguments, as many as it takes
-abbrev pub request_by : CommandName → Command → Bool → List (Bor (List ℕ)) → Option AskedValue
-request_by (names.Ask question) command flagged (text ∷ arguments) =
+-- what a command asks for, with these own options and with these arguments, as many as it takes
+abbrev pub request_by : CommandName → Command → GivenFlags → List (Bor (List ℕ)) → Option AskedValue
+request_by (names.Ask question) command given (text ∷ arguments) =
     Some (record {
       command = command;
       invocation = Ask text.now (record { question = question; arguments = arguments });
     })
-request_by names.Script command flagged arguments = Some (record { command = command; invocation = Script })
-request_by names.Serve command flagged arguments = Some (record { command = command; invocation = Serve flagged })
-request_by names.Audit command flagged (workers ∷ arguments) =
+request_by names.Script command given arguments = Some (record { command = command; invocation = Script })
+request_by names.Serve command given arguments = Some (record { command = command; invocation = Serve given.ids })
+request_by names.Audit command given (workers ∷ arguments) =
     option_map (λ n. record { command = command; invocation = Audit n }) (workers_of workers.now)
-request_by names.Each command flagged arguments = each_in (ending_of flagged) arguments
-request_by name command flagged arguments = None
+request_by names.Each command given arguments = each_in (lines_by given) arguments
+request_by name command given arguments = None
 
-abbrev pub request_on : Command → Bool → List (Bor (List ℕ)) → Option AskedValue
-request_on command flagged arguments =
-    if takes_count command (length arguments) then request_by command.name command flagged arguments else None
+abbrev pub request_on : Command → GivenFlags → List (Bor (List ℕ)) → Option AskedValue
+request_on command given arguments =
+    if takes_count command (length arguments) then request_by command.name command given arguments else None
 
--- what a command asks for with what follows it, where the input is its first argument or isn't
+-- what a command asks for with what follows its own options, where the input is its first argument or isn't
+abbrev pub asked_with : Bool → Command → GivenFlags × List (Bor (List ℕ)) → Option AskedValue
+asked_with from_input command (given, words) =
+    if from_input then input_request command (arguments_in words) else request_on command given (arguments_in words)
+
 abbrev pub asked_by : Bool → Command → List (Bor (List ℕ)) → Option AskedValue
-asked_by from_input command words =
-    if from_input then input_request command (arguments_in (after_flag command words))
-    else request_on command (has_flag command words) (arguments_in (after_flag command words))
+asked_by from_input command words = asked_with from_input command (flags_in command no_flags words)
 
 -- the command that the arguments begin with, and what it asks for
 abbrev pub command_in : Bool → List (Bor (List ℕ)) → Option AskedValue
@@ -231,7 +222,7 @@ is_script Script = true
 is_script (Serve has_ids) = true
 is_script (Audit workers) = true
 is_script (AskInput request) = true
-is_script (Each ending request) = true
+is_script (Each lines request) = true
 is_script (Ask text request) = false
 is_script (Help command) = false
 is_script Version = false

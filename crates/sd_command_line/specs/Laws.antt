@@ -4,7 +4,6 @@ use Rattle.std.specs.Prelude.{codes, bytes_eq}
 use Rattle.std.specs.List.{list_any}
 use Rattle.std.specs.Option.{option_map_or}
 use Rattle.std.specs.Borrow.{Bor}
-use Rattle.sd_lines.specs.declared.ending.Ending.{Ending}
 use Rattle.sd_usage.specs.declared.row.Command.{Command}
 use Rattle.sd_usage.specs.declared.row.Question.TheVariants as questions
 use Rattle.sd_usage.specs.declared.table.TheConstants.{COMMANDS, OPTIONS}
@@ -12,6 +11,8 @@ use Rattle.sd_command_line.specs.CommandLine.{InvocationValue, Ask, AskInput, Sc
 use Rattle.sd_command_line.specs.CommandLine.{Version, CommandLineValue, RequestValue, input_request, line_request}
 use Rattle.sd_command_line.specs.CommandLine.{reading, request_on}
 use Rattle.sd_command_line.specs.Options.{no_options}
+use Rattle.sd_command_line.specs.declared.flags.GivenFlags.{GivenFlags}
+use Rattle.sd_command_line.specs.declared.flags.Lines.{Lines}
 
 -- no text is there twice
 abbrev pub are_distinct : List (List ℕ) → Bool
@@ -34,7 +35,7 @@ is_shown (AskInput request) = false
 is_shown Script = false
 is_shown (Serve has_ids) = false
 is_shown (Audit workers) = false
-is_shown (Each ending request) = false
+is_shown (Each lines request) = false
 
 abbrev pub shows : Option CommandLineValue → Bool
 shows read = option_map_or (λ line. is_shown line.invocation) read false
@@ -71,16 +72,16 @@ OptionsKeepTexts = (name option domain sid word dashes sddl user mask : Bor (Lis
 
 -- what is asked of each line is what the command asks with the line as its first argument
 abbrev pub EachAsksTheCommand : Type 0
-EachAsksTheCommand = (command : Command) (ending : Ending) (is_flagged : Bool) (line : Bor (List ℕ))
+EachAsksTheCommand = (command : Command) (lines : Lines) (given : GivenFlags) (line : Bor (List ℕ))
     (arguments : List (Bor (List ℕ))) (request : RequestValue)
-    → line_request command ending arguments ≡ Some (record { command = command; invocation = Each ending request })
-    → request_on command is_flagged (line ∷ arguments)
+    → line_request command lines arguments ≡ Some (record { command = command; invocation = Each lines request })
+    → request_on command given (line ∷ arguments)
     ≡ Some (record { command = command; invocation = Ask line.now request })
 
 -- what is asked of the input is what the command asks with the input's text as its first argument
 abbrev pub InputAsksTheCommand : Type 0
-InputAsksTheCommand = (command : Command) (is_flagged : Bool) (text : Bor (List ℕ)) (arguments : List (Bor (List ℕ)))
+InputAsksTheCommand = (command : Command) (given : GivenFlags) (text : Bor (List ℕ)) (arguments : List (Bor (List ℕ)))
     (request : RequestValue)
     → input_request command arguments ≡ Some (record { command = command; invocation = AskInput request })
-    → request_on command is_flagged (text ∷ arguments)
+    → request_on command given (text ∷ arguments)
     ≡ Some (record { command = command; invocation = Ask text.now request })

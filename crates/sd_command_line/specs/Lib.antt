@@ -1,6 +1,7 @@
 pub mod Answer
 pub mod CommandLine
 pub mod Each
+pub mod Flags
 pub mod Input
 pub mod Laws
 pub mod Options

@@ -10,7 +10,7 @@ use Rattle.sd_script.specs.Ids.{PrintsIn}
 use Rattle.sd_script.specs.declared.ids.TheConstants.{LINES}
 use Rattle.sd_lines.specs.Answers.{Prints}
 use Rattle.sd_lines.specs.Output.{LeavesAnswers}
-use Rattle.sd_lines.specs.declared.ending.Ending.{Ending}
+use Rattle.sd_command_line.specs.declared.flags.Lines.{Lines}
 use Rattle.sd_command_line.specs.Answer.{Answers, AnswersNext, form_of}
 use Rattle.sd_commands.specs.Answer.{AnswerValue, outcome_status}
 use Rattle.sd_command_line.specs.CommandLine.{CommandLineValue, RequestValue, Each, Serve, reading, IsAudit, IsUnread}
@@ -58,11 +58,11 @@ pub record LeavesServed (line : CommandLineValue) (input left old new : Option (
 
 -- the answers to the lines of an input, as far as it came
 pub record LeavesEach (line : CommandLineValue) (input left old new : Option (List ℕ)) (error : RunError) : Type 0 where
-  pub ending : Ending
+  pub lines : Lines
   pub request : RequestValue
-  pub asked : line.invocation ≡ Each ending request
-  pub answers : LeavesAnswers (form_of ending) (Prints (form_of ending) (AnswersNext line.options request) NoLine)
-      input left old new error
+  pub asked : line.invocation ≡ Each lines request
+  pub answers : LeavesAnswers (form_of lines.ending)
+      (Prints (form_of lines.ending) (AnswersNext lines.has_keys line.options request) NoLine) input left old new error
 
 -- what was answered line by line until then
 abbrev pub LeavesLinesOf : CommandLineValue → Option (List ℕ) → Option (List ℕ) → Option (List ℕ) → Option (List ℕ)

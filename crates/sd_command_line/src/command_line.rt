@@ -1,14 +1,14 @@
 //! The parser of a command line: what its arguments ask for, by the table of commands and options.
 ghost use Rattle.std.specs.Prelude.{◌≡◌, option_map};
-ghost use Rattle.sd_command_line.specs.CommandLine.{after_flag, arguments_in, asked_by, asked_of, command_help};
-ghost use Rattle.sd_command_line.specs.CommandLine.{command_in, command_line_of, count_of, each_in, ending_of};
-ghost use Rattle.sd_command_line.specs.CommandLine.{has_flag, help_on, input_request, invocation_of, is_help_flag};
-ghost use Rattle.sd_command_line.specs.CommandLine.{is_script, line_request, reading, request_after, request_by};
-ghost use Rattle.sd_command_line.specs.CommandLine.{request_of, request_on, run_by, shown_by, workers_of};
+ghost use Rattle.sd_command_line.specs.CommandLine.{arguments_in, asked_by, asked_of, command_help, command_in};
+ghost use Rattle.sd_command_line.specs.CommandLine.{command_line_of, count_of, each_in, help_on, input_request};
+ghost use Rattle.sd_command_line.specs.CommandLine.{invocation_of, is_help_flag, is_script, line_request, reading};
+ghost use Rattle.sd_command_line.specs.CommandLine.{request_after, request_by, request_of, request_on, run_by};
+ghost use Rattle.sd_command_line.specs.CommandLine.{shown_by, workers_of};
 
+use crate::flags::{GivenFlags, Lines, flags_in};
 use crate::options::{Options, options_in};
-use sd_lines::Ending;
-use sd_usage::{Command, CommandName, Question, command_named};
+use sd_usage::{Command, CommandName, Flag, Question, command_named};
 
 /// What a command line asks for, and with which options.
 #[derive(Clone, Copy, Debug)]
@@ -21,33 +21,19 @@ pub(crate) struct CommandLine<'a> {
 #[derive(Clone, Copy, Debug)]
 pub(crate) enum Invocation<'a> {
     /// The answer to a text.
-    Ask {
-        text: &'a str,
-        request: Request<'a>,
-    },
+    Ask { text: &'a str, request: Request<'a> },
     /// The answer to the text that standard input is.
-    AskInput {
-        request: Request<'a>,
-    },
+    AskInput { request: Request<'a> },
     /// The output of the script on standard input.
     Script,
     /// The same, line by line, where lines may have ids.
-    Serve {
-        has_ids: bool,
-    },
+    Serve { has_ids: bool },
     /// The output of its audit by so many workers.
-    Audit {
-        workers: u64,
-    },
+    Audit { workers: u64 },
     /// The answer to each line of standard input.
-    Each {
-        ending: Ending,
-        request: Request<'a>,
-    },
+    Each { lines: Lines, request: Request<'a> },
     /// The help on a command, or on the program.
-    Help {
-        command: Option<CommandName>,
-    },
+    Help { command: Option<CommandName> },
     /// The version of the program.
     Version,
 }
@@ -142,33 +128,41 @@ fn command_in<'a>(from_input: bool, words: &'a [&'a str]) -> Option<Asked<'a>>
     }
 }
 
-/// What a command asks for with what follows it: its own option first, then a first `--`, then its arguments, of which
+/// What a command asks for with what follows it: its own options first, then a first `--`, then its arguments, of which
 /// the input can be the first.
 fn asked_by<'a>(from_input: bool, command: Command, words: &'a [&'a str]) -> Option<Asked<'a>>
     ensures { option_map asked_of result ≡ asked_by from_input command words.entry.now }
 {
-    let is_flagged = has_flag(command, words);
-    let arguments = arguments_in(after_flag(command, words));
+    let (given, words) = flags_in(command, GivenFlags::none(), words);
+    let arguments = arguments_in(words);
     if from_input {
         input_request(command, arguments)
     } else {
-        request_on(command, is_flagged, arguments)
+        request_on(command, given, arguments)
     }
 }
 
 /// What a command asks for with these arguments.
-fn request_on<'a>(command: Command, is_flagged: bool, arguments: &'a [&'a str]) -> Option<Asked<'a>>
-    ensures { option_map asked_of result ≡ request_on command is_flagged arguments.entry.now }
+fn request_on<'a>(
+    command: Command,
+    given: GivenFlags,
+    arguments: &'a [&'a str],
+) -> Option<Asked<'a>>
+    ensures { option_map asked_of result ≡ request_on command given arguments.entry.now }
 {
     if !command.takes_count(arguments.len()) {
         return None;
     }
-    request_by(command, is_flagged, arguments)
+    request_by(command, given, arguments)
 }
 
 /// The same of as many arguments as it takes.
-fn request_by<'a>(command: Command, is_flagged: bool, arguments: &'a [&'a str]) -> Option<Asked<'a>>
-    ensures { option_map asked_of result ≡ request_by command.name command is_flagged arguments.entry.now }
+fn request_by<'a>(
+    command: Command,
+    given: GivenFlags,
+    arguments: &'a [&'a str],
+) -> Option<Asked<'a>>
+    ensures { option_map asked_of result ≡ request_by command.name command given arguments.entry.now }
 {
     match (command.name, arguments) {
         (CommandName::Ask(question), [text, arguments @ ..]) => Some(Asked {
@@ -188,7 +182,7 @@ fn request_by<'a>(command: Command, is_flagged: bool, arguments: &'a [&'a str]) 
         (CommandName::Serve, _) => Some(Asked {
             command,
             invocation: Invocation::Serve {
-                has_ids: is_flagged,
+                has_ids: given.has(Flag::Ids),
             },
         }),
         (CommandName::Audit, [workers, ..]) => match workers_in(workers) {
@@ -198,32 +192,32 @@ fn request_by<'a>(command: Command, is_flagged: bool, arguments: &'a [&'a str]) 
             }),
             None => None,
         },
-        (CommandName::Each, words) => each_in(ending_of(is_flagged), words),
+        (CommandName::Each, words) => each_in(given.lines(), words),
         _ => None,
     }
 }
 
 /// The command for each line, and its arguments without the line.
-fn each_in<'a>(ending: Ending, words: &'a [&'a str]) -> Option<Asked<'a>>
-    ensures { option_map asked_of result ≡ each_in ending words.entry.now }
+fn each_in<'a>(lines: Lines, words: &'a [&'a str]) -> Option<Asked<'a>>
+    ensures { option_map asked_of result ≡ each_in lines words.entry.now }
 {
     match words {
         [] => None,
         [word, words @ ..] => match command_named(word) {
-            Some(command) => line_request(command, ending, arguments_in(words)),
+            Some(command) => line_request(command, lines, arguments_in(words)),
             None => None,
         },
     }
 }
 
 /// What a command asks of each line, with these arguments after it.
-fn line_request<'a>(command: Command, ending: Ending, arguments: &'a [&'a str]) -> Option<Asked<'a>>
-    ensures { option_map asked_of result ≡ line_request command ending arguments.entry.now }
+fn line_request<'a>(command: Command, lines: Lines, arguments: &'a [&'a str]) -> Option<Asked<'a>>
+    ensures { option_map asked_of result ≡ line_request command lines arguments.entry.now }
 {
     let request = request_after(command, arguments)?;
     Some(Asked {
         command,
-        invocation: Invocation::Each { ending, request },
+        invocation: Invocation::Each { lines, request },
     })
 }
 
@@ -254,12 +248,6 @@ fn request_after<'a>(command: Command, arguments: &'a [&'a str]) -> Option<Reque
     })
 }
 
-fn ending_of(is_zero: bool) -> Ending
-    ensures { result ≡ ending_of is_zero }
-{
-    if is_zero { Ending::Zero } else { Ending::Feed }
-}
-
 /// The help that a text after `help` asks for: on the command that it names, or, as `help` itself, on the program.
 fn help_on<'a>(word: &str) -> Option<Invocation<'a>>
     ensures { option_map invocation_of result ≡ help_on word.now }
@@ -286,24 +274,6 @@ fn is_help_flag(word: &str) -> bool
     ensures { result ≡ is_help_flag word.now }
 {
     word == "-h" || word == "--help"
-}
-
-fn has_flag(command: Command, words: &[&str]) -> bool
-    ensures { result ≡ has_flag command words.now }
-{
-    match words {
-        [] => false,
-        [word, ..] => command.is_flag(word),
-    }
-}
-
-fn after_flag<'a>(command: Command, words: &'a [&'a str]) -> &'a [&'a str]
-    ensures { result.now ≡ after_flag command words.entry.now }
-{
-    match words {
-        [word, rest @ ..] if command.is_flag(word) => rest,
-        _ => words,
-    }
 }
 
 /// The arguments after a command, without a first `--`: a way to say that what follows is no flag.

@@ -1,14 +1,17 @@
 //! The answers of one command to each line of an input.
-ghost use Rattle.std.specs.Prelude.{◌≡◌, ◌||◌, IfErr, IfOk, option_map, string_bytes};
+ghost use Rattle.std.specs.Prelude.{◌≡◌, ◌≤◌, ◌||◌, ◌++◌, true, false, IfErr, IfNone, IfOk, IfSome, length};
+ghost use Rattle.std.specs.Prelude.{option_map, string_bytes};
 ghost use Rattle.sd_lines.specs.Answers.{Prints};
 ghost use Rattle.sd_lines.specs.Output.{LeavesAnswers};
+ghost use Rattle.sd_script.specs.Ids.{tagged};
 ghost use Rattle.sd_stream.specs.Watched.{has_failed, inner_of};
 ghost use Rattle.sd_stream.specs.Whole.{is_read_error, is_write_error};
 ghost use Rattle.sd_commands.specs.Answer.{answer_of, is_refusal};
-ghost use Rattle.sd_command_line.specs.Answer.{AnswersNext, AnswersText, AnswersTold, AppendsEach, after_answer};
-ghost use Rattle.sd_command_line.specs.Answer.{form_of};
+ghost use Rattle.sd_command_line.specs.Answer.{AnswersKeyed, AnswersLine, AnswersNext, AnswersText, AnswersTold};
+ghost use Rattle.sd_command_line.specs.Answer.{AppendsEach, after_answer, form_of};
 ghost use Rattle.sd_command_line.specs.CommandLine.{request_of};
-ghost use Rattle.sd_command_line.specs.Each.{no_line_note, outcome_of_lines, told_of_lines, with_line};
+ghost use Rattle.sd_command_line.specs.Each.{after_key, has_feed, has_key, key_len, key_of, no_line_note};
+ghost use Rattle.sd_command_line.specs.Each.{outcome_of_lines, told_of_lines, with_line};
 ghost use Rattle.sd_command_line.specs.Options.{options_of};
 ghost use Rattle.sd_command_line.specs.declared.each.Progress.TheVariants.{NoLine};
 
@@ -74,9 +77,18 @@ pub(crate) fn no_line_note(alloc: Global) -> Result<String, AllocError>
     told_line(alloc, "standard input", "no line")
 }
 
+/// What is printed of a line, and what came of it.
+#[derive(Drop)]
+struct Answered {
+    printed: Vec<u8>,
+    outcome: Outcome,
+}
+
 /// A command with its arguments, under its options, that is asked of each line.
 #[derive(Clone, Copy, Debug)]
 pub(crate) struct LineQuestion<'a> {
+    /// Whether each line begins with a key and a tab.
+    pub(crate) has_keys: bool,
     pub(crate) options: Options<'a>,
     pub(crate) request: Request<'a>,
 }
@@ -84,7 +96,8 @@ pub(crate) struct LineQuestion<'a> {
 impl Answers for LineQuestion<'_> {
     type State = Progress;
 
-    ghost answers = { λ question before told printed after. AnswersNext (options_of question.options)
+    ghost answers = { λ question before told printed after. AnswersNext question.has_keys
+        (options_of question.options)
         (request_of question.request)
         before told printed after };
 
@@ -95,15 +108,60 @@ impl Answers for LineQuestion<'_> {
         line: Option<&[u8]>,
         text: &mut Vec<u8>,
     ) -> Result<(), AllocError> {
-        let answer = self.answer_told(alloc, line)?;
-        text.extend_from_slice(answer.text.as_bytes())?;
-        text.extend_from_slice(after_answer(self.request.question).as_bytes())?;
-        *progress = progress.with_line(answer.outcome);
+        let answered = if self.has_keys {
+            self.answer_keyed(alloc, line)?
+        } else {
+            self.answer_line(alloc, line)?
+        };
+        text.extend_from_slice(&answered.printed)?;
+        *progress = progress.with_line(answered.outcome);
         Ok(())
     }
 }
 
 impl LineQuestion<'_> {
+    /// The answer to a line that is a key, a tab and a text: the text's, each line of which begins with the key and the
+    /// tab. A line without a key is a fault.
+    fn answer_keyed(&self, alloc: Global, line: Option<&[u8]>) -> Result<Answered, AllocError>
+        ensures { IfOk result (λ answered. AnswersKeyed (options_of self.now.options) (request_of self.now.request)
+            (option_map (λ bytes. bytes.now) line.entry) answered.printed.items (is_refusal answered.outcome)) }
+    {
+        let Some(bytes) = line else {
+            return self.answer_line(alloc, None);
+        };
+        let Some((key, text)) = parted(bytes) else {
+            return self.ended(alloc, fault(alloc, "key", String::new(alloc))?);
+        };
+        let answered = self.answer_line(alloc, Some(text))?;
+        Ok(Answered {
+            printed: tagged(alloc, key, &answered.printed)?,
+            outcome: answered.outcome,
+        })
+    }
+
+    /// The answer to a line, and what follows it.
+    fn answer_line(&self, alloc: Global, line: Option<&[u8]>) -> Result<Answered, AllocError>
+        ensures { IfOk result (λ answered. AnswersLine (options_of self.now.options) (request_of self.now.request)
+            (option_map (λ bytes. bytes.now) line.entry) answered.printed.items (is_refusal answered.outcome)) }
+    {
+        self.ended(alloc, self.answer_told(alloc, line)?)
+    }
+
+    /// An answer, and what follows it.
+    fn ended(&self, alloc: Global, answer: Answer) -> Result<Answered, AllocError>
+        ensures { IfOk result (λ ended. (ended.printed.items
+            ≡ (answer_of answer).printed ++ after_answer self.now.request.question)
+            × (ended.outcome ≡ answer.outcome)) }
+    {
+        let mut printed = Vec::new(alloc);
+        printed.extend_from_slice(answer.text.as_bytes())?;
+        printed.extend_from_slice(after_answer(self.request.question).as_bytes())?;
+        Ok(Answered {
+            printed,
+            outcome: answer.outcome,
+        })
+    }
+
     /// The answer to a line, of which there is no text where it is too long.
     fn answer_told(&self, alloc: Global, line: Option<&[u8]>) -> Result<Answer, AllocError>
         ensures { IfOk result (λ answer. AnswersTold (options_of self.now.options) (request_of self.now.request)
@@ -139,6 +197,53 @@ impl LineQuestion<'_> {
     }
 }
 
+/// The key of a line with the tab after it, and the text after that. `None`: no tab is there, or a line feed before it.
+fn parted(line: &[u8]) -> Option<(&[u8], &[u8])>
+    ensures some { IfSome result (λ parts. (has_key line.now ≡ true) × (parts.0.now ≡ key_of line.now)
+        × (parts.1.now ≡ after_key line.now)) }
+    ensures none { IfNone result (has_key line.now ≡ false) }
+{
+    let len = key_len(line);
+    if len < line.len() && !has_feed(&line[..len]) {
+        Some((&line[..len + 1], &line[len + 1..]))
+    } else {
+        None
+    }
+}
+
+/// How many bytes are before the first tab, or all if there is none.
+fn key_len(line: &[u8]) -> usize
+    ensures len { result ≡ key_len line.now }
+    ensures within { result ≤ length line.now }
+{
+    match line.iter().position(|byte| *byte == b'\t') {
+        Some(place) => place,
+        None => line.len(),
+    }
+}
+
+fn has_feed(key: &[u8]) -> bool
+    ensures { result ≡ has_feed key.now }
+{
+    key.iter().any(|byte| *byte == b'\n')
+}
+
+/// A text, each line of which begins with the tag.
+fn tagged(alloc: Global, tag: &[u8], text: &[u8]) -> Result<Vec<u8>, AllocError>
+    ensures { IfOk result (λ lines. lines.items ≡ tagged tag.now true text.now) }
+{
+    let mut lines = Vec::new(alloc);
+    let mut begins = true;
+    for byte in text {
+        if begins {
+            lines.extend_from_slice(tag)?;
+        }
+        lines.push(*byte)?;
+        begins = *byte == b'\n';
+    }
+    Ok(lines)
+}
+
 /// What follows each answer: an empty line, where an answer may have several lines.
 fn after_answer(question: Question) -> &'static str
     ensures { result.now ≡ after_answer question }
@@ -169,12 +274,15 @@ pub(crate) fn answer_each<R: Read, W: Write>(
     reader: &mut Watched<R>,
     writer: &mut Watched<W>,
 ) -> Result<Progress, RunError>
-    ensures ok { IfOk result (AppendsEach (options_of question.entry.options) ending (request_of question.entry.request)
+    ensures ok { IfOk result (AppendsEach (options_of question.entry.options)
+        (record { ending = ending; has_keys = question.entry.has_keys })
+        (request_of question.entry.request)
         (R.remaining (inner_of reader.old))
         (W.contents (inner_of writer.old)) (W.contents (inner_of writer.new))) }
     ensures err { IfErr result (LeavesAnswers (form_of ending)
         (Prints (form_of ending)
-        (AnswersNext (options_of question.entry.options) (request_of question.entry.request)) NoLine)
+        (AnswersNext question.entry.has_keys (options_of question.entry.options)
+        (request_of question.entry.request)) NoLine)
         (R.remaining (inner_of reader.old)) (R.remaining (inner_of reader.new))
         (W.contents (inner_of writer.old)) (W.contents (inner_of writer.new))) }
     ensures read { has_failed reader.new ≡ (has_failed reader.old || is_read_error result) }

@@ -15,6 +15,7 @@ mod answer;
 mod command_line;
 mod each;
 mod failure;
+mod flags;
 mod input;
 mod laws;
 mod options;

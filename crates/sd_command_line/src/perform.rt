@@ -15,11 +15,11 @@ use crate::answer::{answer_to, bad_value};
 use crate::command_line::{CommandLine, Invocation, Request};
 use crate::each::{LineQuestion, answer_each, no_line_note};
 use crate::failure::Failure;
+use crate::flags::Lines;
 use crate::input::answer_input;
 use crate::options::Options;
 use crate::scripts::{script_outcome, told_of_script};
 use sd_commands::{Answer, Outcome, Settings};
-use sd_lines::Ending;
 use sd_script::{Tally, run, serve};
 use sd_script_audit::run_audit;
 use sd_store::OpenGate;
@@ -65,8 +65,8 @@ pub(crate) fn perform<T: Threads + Wait + Sync, R: Read, W: Write>(
         Invocation::Script | Invocation::Serve { .. } | Invocation::Audit { .. } => {
             perform_script(rt, alloc, line, reader, writer)
         }
-        Invocation::Each { ending, request } => {
-            perform_each(alloc, line.options, ending, request, reader, writer)
+        Invocation::Each { lines, request } => {
+            perform_each(alloc, line.options, lines, request, reader, writer)
         }
         _ => print(answer_to(alloc, line)?, writer),
     }
@@ -184,21 +184,21 @@ fn run_under<T: Threads + Wait + Sync, R: Read, W: Write>(
 fn perform_each<R: Read, W: Write>(
     alloc: Global,
     options: Options<'_>,
-    ending: Ending,
+    lines: Lines,
     request: Request<'_>,
     reader: &mut Watched<R>,
     writer: &mut Watched<W>,
 ) -> Result<Ended, Failure>
     ensures ok { IfOk result
         (λ ended. AppendsAnswerTo
-        (record { options = options_of options.entry; invocation = Each ending (request_of request.entry) })
+        (record { options = options_of options.entry; invocation = Each lines (request_of request.entry) })
         (R.remaining (inner_of reader.old))
         (W.contents (inner_of writer.old)) (W.contents (inner_of writer.new)) (string_bytes ended.told)
         (outcome_status ended.outcome)) }
     ensures err { IfErr result
         (LeavesAfterFailure (record {
           options = options_of options.entry;
-          invocation = Each ending (request_of request.entry);
+          invocation = Each lines (request_of request.entry);
         })
         (R.remaining (inner_of reader.old)) (R.remaining (inner_of reader.new))
         (W.contents (inner_of writer.old)) (W.contents (inner_of writer.new))) }
@@ -208,8 +208,12 @@ fn perform_each<R: Read, W: Write>(
     ensures thread { result ≢ Err (Failure.Run RunError.Thread) }
 {
     let note = no_line_note(alloc)?;
-    let question = LineQuestion { options, request };
-    let progress = answer_each(alloc, question, ending, reader, writer)?;
+    let question = LineQuestion {
+        has_keys: lines.has_keys,
+        options,
+        request,
+    };
+    let progress = answer_each(alloc, question, lines.ending, reader, writer)?;
     Ok(Ended {
         told: progress.told(alloc, note),
         outcome: progress.outcome(),

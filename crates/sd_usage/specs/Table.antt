@@ -1,11 +1,13 @@
 -- What the table of commands and options says: which row a text names, and what a command takes.
-use Rattle.std.specs.Prelude.{ℕ, Bool, false, ◌==◌, ◌||◌, ◌&&◌, nat_le, if◌then◌else◌, List, [], ◌∷◌}
+use Rattle.std.specs.Prelude.{ℕ, Bool, ◌==◌, ◌||◌, ◌&&◌, nat_le, if◌then◌else◌, List, [], ◌∷◌}
 use Rattle.std.specs.Prelude.{Option, Some, None, is_some, codes, bytes_eq}
 use Rattle.sd_usage.specs.declared.row.Arguments.{Arguments}
 use Rattle.sd_usage.specs.declared.row.Arguments.TheVariants as arguments
 use Rattle.sd_usage.specs.declared.row.Command.{Command}
 use Rattle.sd_usage.specs.declared.row.Flag.{Flag}
-use Rattle.sd_usage.specs.declared.row.Flag.TheVariants.{Ids, Zero}
+use Rattle.sd_usage.specs.declared.row.Flag.TheVariants.{Ids, Key, Zero}
+use Rattle.sd_usage.specs.declared.row.Flags.{Flags}
+use Rattle.sd_usage.specs.declared.row.Flags.TheVariants as flags
 use Rattle.sd_usage.specs.declared.row.OptionName.{OptionName}
 use Rattle.sd_usage.specs.declared.row.OptionName.TheVariants.{Base64, Domain, Loose, Mapping}
 use Rattle.sd_usage.specs.declared.row.OptionName.TheVariants.{Names, Percent, RequireDacl, Stdin, Strict, WithoutSacl}
@@ -52,11 +54,15 @@ takes_option command Mapping = command.options.mapping
 abbrev pub flag_name : Flag → List ℕ
 flag_name Ids = codes "--ids"
 flag_name Zero = codes "-0"
+flag_name Key = codes "--key"
 
--- the text is the command's own option
-abbrev pub is_flag_of : Option Flag → List ℕ → Bool
-is_flag_of None text = false
-is_flag_of (Some flag) text = bytes_eq (flag_name flag) text
+-- the command's own option that the text names
+abbrev pub flag_in : Flags → List ℕ → Option Flag
+flag_in flags.Nothing text = None
+flag_in (flags.One flag) text = if bytes_eq (flag_name flag) text then Some flag else None
+flag_in (flags.Two first second) text =
+    if bytes_eq (flag_name first) text then Some first
+    else (if bytes_eq (flag_name second) text then Some second else None)
 
-abbrev pub is_flag : Command → List ℕ → Bool
-is_flag command text = is_flag_of command.flag text
+abbrev pub flag_named : Command → List ℕ → Option Flag
+flag_named command text = flag_in command.flags text

@@ -3,7 +3,7 @@
 use crate::notes::NOTES;
 use crate::row::{Argument, CommandRow, Flag, OptionRow, Value};
 use crate::table::{command_rows, option_rows};
-use crate::texts::{CommandTexts, argument_name, flag_help, option_help, required};
+use crate::texts::{CommandTexts, argument_name, flag_help, option_help, own_options, required};
 use clap::{Arg, ArgAction, Command};
 use std::alloc::{AllocError, Global};
 
@@ -63,9 +63,9 @@ pub(crate) fn described<'a>(
         .override_usage(texts.usage.as_str())
         .after_help(texts.notes.as_str())
         .next_line_help(has_words);
-    if let Some(flag) = row.1.flag {
-        let (name, help) = (flag.name(), flag_help(flag));
-        described = described.arg(own_option(alloc, flag, name, help))?;
+    for flag in &own_options(alloc, row.1.flags)? {
+        let (name, help) = (flag.name(), flag_help(*flag));
+        described = described.arg(own_option(alloc, *flag, name, help))?;
     }
     for argument in &required(alloc, row.1.arguments)? {
         let (name, help) = (argument_name(*argument), texts.help(*argument));
@@ -89,6 +89,7 @@ fn own_option<'a>(alloc: Global, flag: Flag, name: &'a str, help: &'a str) -> Ar
     match flag {
         Flag::Ids => option.long("ids"),
         Flag::Zero => option.short('0'),
+        Flag::Key => option.long("key"),
     }
 }
 

@@ -19,8 +19,8 @@ mod texts;
 mod usage;
 
 pub use row::{
-    Argument, Arguments, Command, CommandName, CommandRow, Flag, OptionName, OptionRow, OptionSet,
-    ProgramOption, Question, Value, command_named, option_named,
+    Argument, Arguments, Command, CommandName, CommandRow, Flag, Flags, OptionName, OptionRow,
+    OptionSet, ProgramOption, Question, Value, command_named, option_named,
 };
 pub use table::{COMMANDS, OPTIONS};
 pub use usage::{help, refusal};

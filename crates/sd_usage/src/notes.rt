@@ -251,8 +251,13 @@ zero byte. The last line may lack its end. A byte order mark before the first li
 blank line is answered by 'fault blank', one of more than 16777216 bytes by 'fault long', and one
 that isn't UTF-8 by 'fault utf8'.
 
-'-0' goes between 'each' and COMMAND, all other options before 'each'. After COMMAND everything is
-an argument, except a first '--', which is dropped.
+With '--key' a line is a key, a tab and the argument, and each line of its answer begins with the key
+and a tab, so that answers can be joined with what their lines came from:
+  /a<TAB>D:(A;;FR;;;WD)                /a<TAB>granted 0x120089
+A key is any text without a tab and a line feed. A line without one is answered by 'fault key'.
+
+'-0' and '--key' go between 'each' and COMMAND, all other options before 'each'. After COMMAND
+everything is an argument, except a first '--', which is dropped.
 
 Statuses:
   0  each line was answered with status 0

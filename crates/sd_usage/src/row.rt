@@ -1,7 +1,7 @@
 //! What the rows of the table of commands and options are made of, and what a row says. Definitions can't name a
 //! constant whose structs hold references, so a row is a tuple: of texts, and of a struct without any.
 ghost use Rattle.std.specs.Prelude.{◌≡◌, bytes_eq};
-ghost use Rattle.sd_usage.specs.Table.{command_named, count_of, first_of, flag_name, is_flag, option_named};
+ghost use Rattle.sd_usage.specs.Table.{command_named, count_of, first_of, flag_name, flag_named, option_named};
 ghost use Rattle.sd_usage.specs.Table.{takes_count, takes_option};
 
 use crate::table::{COMMANDS, OPTIONS};
@@ -81,14 +81,22 @@ pub enum OptionName {
 #[derive(Clone, Copy)]
 pub struct Command {
     pub name: CommandName,
-    /// Its own option, which goes after it.
-    pub flag: Option<Flag>,
+    /// Its own options, which go after it.
+    pub flags: Flags,
     /// The arguments that it requires.
     pub arguments: Arguments,
     /// What any number of further arguments are, if it takes them.
     pub repeated: Option<Argument>,
     /// The options that may go before it.
     pub options: OptionSet,
+}
+
+/// The own options of a command.
+#[derive(Clone, Copy)]
+pub enum Flags {
+    Nothing,
+    One(Flag),
+    Two(Flag, Flag),
 }
 
 /// A command's own option.
@@ -98,6 +106,8 @@ pub enum Flag {
     Ids,
     /// `-0`.
     Zero,
+    /// `--key`.
+    Key,
 }
 
 /// The arguments that a command requires.
@@ -235,13 +245,14 @@ impl Command {
         }
     }
 
-    /// Whether the text is its own option.
-    pub fn is_flag(self, text: &str) -> bool
-        ensures { result ≡ is_flag self text.now }
+    /// Its own option that the text names.
+    pub fn flag_named(self, text: &str) -> Option<Flag>
+        ensures { result ≡ flag_named self text.now }
     {
-        match self.flag {
-            Some(flag) => flag.name() == text,
-            None => false,
+        match self.flags {
+            Flags::One(flag) | Flags::Two(flag, _) if flag.name() == text => Some(flag),
+            Flags::Two(_, flag) if flag.name() == text => Some(flag),
+            _ => None,
         }
     }
 }
@@ -254,6 +265,7 @@ impl Flag {
         match self {
             Flag::Ids => "--ids",
             Flag::Zero => "-0",
+            Flag::Key => "--key",
         }
     }
 }

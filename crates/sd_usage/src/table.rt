@@ -1,8 +1,8 @@
 //! The table of commands and options. Nothing else says which arguments are a command line.
 
 use crate::row::{
-    Argument, Arguments, Command, CommandName, CommandRow, Flag, OptionName, OptionRow, OptionSet,
-    ProgramOption, Question, Value,
+    Argument, Arguments, Command, CommandName, CommandRow, Flag, Flags, OptionName, OptionRow,
+    OptionSet, ProgramOption, Question, Value,
 };
 
 const NO_OPTIONS: OptionSet = OptionSet {
@@ -55,7 +55,7 @@ pub const COMMANDS: &[CommandRow] = &[
         "verdict",
         Command {
             name: CommandName::Ask(Question::Verdict),
-            flag: None,
+            flags: Flags::Nothing,
             arguments: Arguments::Three(Argument::Descriptor, Argument::User, Argument::Mask),
             repeated: Some(Argument::Word),
             options: MAPPED_TEXT_OPTIONS,
@@ -68,7 +68,7 @@ sdstore verdict 'D:(D;;0x2;;;S-1-5-21-1-2-3-1001)(A;;0x1f01ff;;;S-1-5-21-1-2-3-1
         "why",
         Command {
             name: CommandName::Ask(Question::Why),
-            flag: None,
+            flags: Flags::Nothing,
             arguments: Arguments::Three(Argument::Descriptor, Argument::User, Argument::Mask),
             repeated: Some(Argument::Word),
             options: OptionSet {
@@ -83,7 +83,7 @@ sdstore verdict 'D:(D;;0x2;;;S-1-5-21-1-2-3-1001)(A;;0x1f01ff;;;S-1-5-21-1-2-3-1
         "who",
         Command {
             name: CommandName::Ask(Question::Who),
-            flag: None,
+            flags: Flags::Nothing,
             arguments: Arguments::Two(Argument::Descriptor, Argument::Mask),
             repeated: Some(Argument::Group),
             options: OptionSet {
@@ -98,7 +98,7 @@ sdstore verdict 'D:(D;;0x2;;;S-1-5-21-1-2-3-1001)(A;;0x1f01ff;;;S-1-5-21-1-2-3-1
         "compare",
         Command {
             name: CommandName::Ask(Question::Compare),
-            flag: None,
+            flags: Flags::Nothing,
             arguments: Arguments::Two(Argument::Old, Argument::New),
             repeated: Some(Argument::Group),
             options: OptionSet {
@@ -113,7 +113,7 @@ sdstore verdict 'D:(D;;0x2;;;S-1-5-21-1-2-3-1001)(A;;0x1f01ff;;;S-1-5-21-1-2-3-1
         "lint",
         Command {
             name: CommandName::Ask(Question::Lint),
-            flag: None,
+            flags: Flags::Nothing,
             arguments: Arguments::One(Argument::Descriptor),
             repeated: Some(Argument::Group),
             options: MAPPED_TEXT_OPTIONS,
@@ -125,7 +125,7 @@ sdstore verdict 'D:(D;;0x2;;;S-1-5-21-1-2-3-1001)(A;;0x1f01ff;;;S-1-5-21-1-2-3-1
         "print",
         Command {
             name: CommandName::Ask(Question::Print),
-            flag: None,
+            flags: Flags::Nothing,
             arguments: Arguments::One(Argument::Descriptor),
             repeated: None,
             options: TEXT_OPTIONS,
@@ -137,7 +137,7 @@ sdstore verdict 'D:(D;;0x2;;;S-1-5-21-1-2-3-1001)(A;;0x1f01ff;;;S-1-5-21-1-2-3-1
         "sort",
         Command {
             name: CommandName::Ask(Question::Sort),
-            flag: None,
+            flags: Flags::Nothing,
             arguments: Arguments::One(Argument::Descriptor),
             repeated: None,
             options: TEXT_OPTIONS,
@@ -149,7 +149,7 @@ sdstore verdict 'D:(D;;0x2;;;S-1-5-21-1-2-3-1001)(A;;0x1f01ff;;;S-1-5-21-1-2-3-1
         "tobin",
         Command {
             name: CommandName::Ask(Question::ToBinary),
-            flag: None,
+            flags: Flags::Nothing,
             arguments: Arguments::One(Argument::Descriptor),
             repeated: None,
             options: TEXT_OPTIONS,
@@ -161,7 +161,7 @@ sdstore verdict 'D:(D;;0x2;;;S-1-5-21-1-2-3-1001)(A;;0x1f01ff;;;S-1-5-21-1-2-3-1
         "frombin",
         Command {
             name: CommandName::Ask(Question::FromBinary),
-            flag: None,
+            flags: Flags::Nothing,
             arguments: Arguments::One(Argument::Bytes),
             repeated: None,
             options: BYTES_OPTIONS,
@@ -173,7 +173,7 @@ sdstore verdict 'D:(D;;0x2;;;S-1-5-21-1-2-3-1001)(A;;0x1f01ff;;;S-1-5-21-1-2-3-1
         "rights",
         Command {
             name: CommandName::Ask(Question::Rights),
-            flag: None,
+            flags: Flags::Nothing,
             arguments: Arguments::One(Argument::Mask),
             repeated: None,
             options: OptionSet {
@@ -188,7 +188,7 @@ sdstore verdict 'D:(D;;0x2;;;S-1-5-21-1-2-3-1001)(A;;0x1f01ff;;;S-1-5-21-1-2-3-1
         "script",
         Command {
             name: CommandName::Script,
-            flag: None,
+            flags: Flags::Nothing,
             arguments: Arguments::Nothing,
             repeated: None,
             options: SCRIPT_OPTIONS,
@@ -201,7 +201,7 @@ printf 'open 1 O:BAG:SYD:\\naddo /a O:BAG:SYD:(A;;FR;;;WD)\\npublish\\ncheck 0 /
         "serve",
         Command {
             name: CommandName::Serve,
-            flag: Some(Flag::Ids),
+            flags: Flags::One(Flag::Ids),
             arguments: Arguments::Nothing,
             repeated: None,
             options: SCRIPT_OPTIONS,
@@ -214,7 +214,7 @@ printf 'open 1 O:BAG:SYD:\\naddo /a O:BAG:SYD:(A;;FR;;;WD)\\npublish\\ncheck 0 /
         "audit",
         Command {
             name: CommandName::Audit,
-            flag: None,
+            flags: Flags::Nothing,
             arguments: Arguments::One(Argument::Workers),
             repeated: None,
             options: SCRIPT_OPTIONS,
@@ -226,7 +226,7 @@ printf 'open 1 O:BAG:SYD:\\naddo /a O:BAG:SYD:(A;;FR;;;WD)\\npublish\\ncheck 0 /
         "each",
         Command {
             name: CommandName::Each,
-            flag: Some(Flag::Zero),
+            flags: Flags::Two(Flag::Zero, Flag::Key),
             arguments: Arguments::One(Argument::Command),
             repeated: Some(Argument::CommandArgument),
             options: NO_OPTIONS,

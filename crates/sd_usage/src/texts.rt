@@ -1,7 +1,9 @@
 //! Texts that follow from the table: lists of names, usage lines, and the help on arguments and options.
 
 use crate::notes::notes_of;
-use crate::row::{Argument, Arguments, CommandName, CommandRow, Flag, OptionName, OptionRow};
+use crate::row::{
+    Argument, Arguments, CommandName, CommandRow, Flag, Flags, OptionName, OptionRow,
+};
 use crate::table::command_rows;
 use std::alloc::{AllocError, Global};
 
@@ -94,11 +96,22 @@ pub(crate) fn required(alloc: Global, arguments: Arguments) -> Result<Vec<Argume
     Ok(required)
 }
 
+/// A command's own options, in order.
+pub(crate) fn own_options(alloc: Global, flags: Flags) -> Result<Vec<Flag>, AllocError> {
+    let options = match flags {
+        Flags::Nothing => Vec::new(alloc),
+        Flags::One(flag) => Vec::from_array(alloc, [flag])?,
+        Flags::Two(first, second) => Vec::from_array(alloc, [first, second])?,
+    };
+    Ok(options)
+}
+
 /// What a command's own option does.
 pub(crate) fn flag_help(flag: Flag) -> &'static str {
     match flag {
         Flag::Ids => "Each line begins with an id, and so does each line of its answer",
         Flag::Zero => "Lines end with zero bytes",
+        Flag::Key => "Each line begins with a key and a tab, and so does each line of its answer",
     }
 }
 
@@ -106,7 +119,7 @@ pub(crate) fn flag_help(flag: Flag) -> &'static str {
 fn usage(alloc: Global, row: &CommandRow) -> Result<String, AllocError> {
     let mut text = String::from_str(alloc, "sdstore [OPTIONS] ")?;
     text.push_str(row.0)?;
-    if let Some(flag) = row.1.flag {
+    for flag in &own_options(alloc, row.1.flags)? {
         push_between(&mut text, " [", flag.name(), "]")?;
     }
     // A first `--` may go before the arguments, and of `each` before those of its command.

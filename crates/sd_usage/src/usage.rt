@@ -120,7 +120,7 @@ fn question_reason(alloc: Global) -> Result<String, AllocError> {
     let commands = listed(alloc, &line_commands(alloc)?, "'")?;
     let commands = commands.as_str();
     format!(in alloc;
-        "after 'each' go an optional '-0', the command {commands}, and all its arguments except the descriptor"
+        "after 'each' go an optional '-0' or '--key', the command {commands}, and its arguments except the descriptor"
     )
 }
 

@@ -1,0 +1,41 @@
+-- A command's own options, which stand between it and its arguments.
+use Rattle.std.specs.Prelude.{ℕ, Bool, true, false, if◌then◌else◌, List, [], ◌∷◌, Some, None}
+use Rattle.std.specs.Borrow.{Bor}
+use Rattle.sd_lines.specs.declared.ending.Ending.TheVariants as endings
+use Rattle.sd_usage.specs.Table.{flag_named}
+use Rattle.sd_usage.specs.declared.row.Command.{Command}
+use Rattle.sd_usage.specs.declared.row.Flag.{Flag}
+use Rattle.sd_usage.specs.declared.row.Flag.TheVariants.{Ids, Key, Zero}
+use Rattle.sd_command_line.specs.declared.flags.GivenFlags.{GivenFlags}
+use Rattle.sd_command_line.specs.declared.flags.Lines.{Lines}
+
+abbrev pub no_flags : GivenFlags
+no_flags = record { ids = false; zero = false; key = false }
+
+abbrev pub is_given : GivenFlags → Flag → Bool
+is_given given Ids = given.ids
+is_given given Zero = given.zero
+is_given given Key = given.key
+
+abbrev pub with_flag : GivenFlags → Flag → GivenFlags
+with_flag given Ids = record given { ids = true }
+with_flag given Zero = record given { zero = true }
+with_flag given Key = record given { key = true }
+
+-- those that its arguments begin with, each once, in any order, beside those that are given already, and the arguments
+-- after them
+abbrev pub flags_in : Command → GivenFlags → List (Bor (List ℕ)) → GivenFlags × List (Bor (List ℕ))
+flags_in command given [] = (given, [])
+flags_in command given (word ∷ words) =
+    elim (flag_named command word.now) [
+      | Some flag ↦ if is_given given flag then (given, word ∷ words)
+          else flags_in command (with_flag given flag) words
+      | None ↦ (given, word ∷ words)
+    ]
+
+abbrev pub with_words : GivenFlags × Bor (List (Bor (List ℕ))) → GivenFlags × List (Bor (List ℕ))
+with_words (given, words) = (given, words.now)
+
+-- what the lines of `each` are
+abbrev pub lines_by : GivenFlags → Lines
+lines_by given = record { ending = if given.zero then endings.Zero else endings.Feed; has_keys = given.key }

@@ -1,0 +1,88 @@
+//! A command's own options, which stand between it and its arguments.
+ghost use Rattle.std.specs.Prelude.{◌≡◌};
+ghost use Rattle.sd_command_line.specs.Flags.{flags_in, is_given, lines_by, no_flags, with_flag, with_words};
+
+use sd_lines::Ending;
+use sd_usage::{Command, Flag};
+
+/// Which of its own options a command is given.
+#[derive(Clone, Copy, Debug)]
+pub(crate) struct GivenFlags {
+    ids: bool,
+    zero: bool,
+    key: bool,
+}
+
+impl GivenFlags {
+    /// None of them.
+    pub(crate) fn none() -> GivenFlags
+        ensures { result ≡ no_flags }
+    {
+        GivenFlags {
+            ids: false,
+            zero: false,
+            key: false,
+        }
+    }
+
+    pub(crate) fn has(self, flag: Flag) -> bool
+        ensures { result ≡ is_given self flag }
+    {
+        match flag {
+            Flag::Ids => self.ids,
+            Flag::Zero => self.zero,
+            Flag::Key => self.key,
+        }
+    }
+
+    /// These, and this one.
+    fn with_flag(self, flag: Flag) -> GivenFlags
+        ensures { result ≡ with_flag self flag }
+    {
+        match flag {
+            Flag::Ids => GivenFlags { ids: true, ..self },
+            Flag::Zero => GivenFlags { zero: true, ..self },
+            Flag::Key => GivenFlags { key: true, ..self },
+        }
+    }
+
+    /// What the lines of `each` are.
+    pub(crate) fn lines(self) -> Lines
+        ensures { result ≡ lines_by self }
+    {
+        Lines {
+            ending: if self.zero {
+                Ending::Zero
+            } else {
+                Ending::Feed
+            },
+            has_keys: self.key,
+        }
+    }
+}
+
+/// What the lines of `each` are.
+#[derive(Clone, Copy, Debug)]
+pub(crate) struct Lines {
+    pub(crate) ending: Ending,
+    /// Whether each begins with a key and a tab.
+    pub(crate) has_keys: bool,
+}
+
+/// The command's own options that the arguments begin with, each once, beside those that are given, and the arguments
+/// after them.
+pub(crate) fn flags_in<'a>(
+    command: Command,
+    given: GivenFlags,
+    words: &'a [&'a str],
+) -> (GivenFlags, &'a [&'a str])
+    ensures { with_words result ≡ flags_in command given words.entry.now }
+{
+    let [word, after @ ..] = words else {
+        return (given, words);
+    };
+    match command.flag_named(word) {
+        Some(flag) if !given.has(flag) => flags_in(command, given.with_flag(flag), after),
+        _ => (given, words),
+    }
+}
