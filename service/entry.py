@@ -3,7 +3,7 @@
 import hashlib
 import re
 import secrets
-from dataclasses import dataclass
+from dataclasses import dataclass, field
 from typing import NamedTuple
 
 
@@ -50,6 +50,14 @@ class Place(NamedTuple):
 
     def __str__(self) -> str:
         return f"{self.number} {self.chain.hex()}"
+
+
+@dataclass(slots=True)
+class Batch:
+    """The lines of one commit, with their chains, and by their keys."""
+
+    lines: list[tuple[Line, bytes]] = field(default_factory=list)
+    by_key: dict[str, Line] = field(default_factory=dict)
 
 
 @dataclass(frozen=True, slots=True)

@@ -124,6 +124,11 @@ class Journal:
         line, chain = lines[-1]
         self._move_mark(Place(line.number, chain))
 
+    def require_room(self) -> None:
+        """Commits a row as it is: sqlite3.Error where nothing can be written."""
+        with self._transaction():
+            self._database.execute("UPDATE store SET number = number")
+
     def start_epoch(self, snapshot: Snapshot, last: int) -> None:
         """Adds a snapshot by one commit, and drops what neither it nor the one before needs; `last` is the number of
         the last line."""

@@ -19,7 +19,7 @@ from hudarin import View
 
 from analysis import Pending
 from edits import Edit
-from entry import Line, Place, Snapshot
+from entry import Batch, Line, Place, Snapshot
 from errors import Fault, Mismatch, ServiceError
 from journal import Journal
 from leading import Lines
@@ -32,6 +32,8 @@ MOST_AT_ONCE = 512
 #: A library's journal takes 1,048,576 edits, of which a snapshot has 65,536 at most: a new epoch starts after so many
 #: more.
 MOST_EDITS = 900_000
+#: After a failed commit the journal is tried again by the next edit, or after so many seconds without one.
+RETRY_SECONDS = 5.0
 UNAVAILABLE, NO_MEMORY, NO_LEADER = "unavailable journal", "unavailable memory", "unavailable replica"
 
 
@@ -64,14 +66,6 @@ class Shown:
     takes_edits: bool
     #: No answer is given after that, by the monotonic clock: a replica knows no more of its source.
     fresh_until: float
-
-
-@dataclass(slots=True)
-class Batch:
-    """The lines of one commit, with their chains, and by their keys."""
-
-    lines: list[tuple[Line, bytes]] = field(default_factory=list)
-    by_key: dict[str, Line] = field(default_factory=dict)
 
 
 #: What is pending, and the numbers of the published line and of the last one.
@@ -186,7 +180,10 @@ class Writer:
     def _take(self) -> tuple[list[Task], Callable[[], None] | None, bool]:
         """Waits for a task, and takes those that wait with it, up to other work or the end."""
         tasks: list[Task] = []
-        item = self.waiting.get()
+        try:
+            item = self.waiting.get(timeout=RETRY_SECONDS if self._may_try_again() else None)
+        except queue.Empty:
+            return tasks, self._try_again, False
         while isinstance(item, Task):
             tasks.append(item)
             if len(tasks) == MOST_AT_ONCE:
@@ -279,6 +276,20 @@ class Writer:
         state = load(self.journal)
         self._go_on_in(state)
         self.is_lost = False
+
+    def _may_try_again(self) -> bool:
+        """Whether a failed commit is all that edits wait for. A service that leads by a lease asks whether it leads."""
+        return self.is_lost and self.failure is None and self.stream is None
+
+    def _try_again(self) -> None:
+        """Takes edits again, if the journal is the store's and something can be written to it."""
+        try:
+            self._reload()
+            self.journal.require_room()
+        except (sqlite3.Error, OSError, ServiceError, MemoryError) as error:
+            self.is_lost = True
+            self.warn(f"the journal still takes no edits: {error}")
+        self._answer([])
 
     def _go_on_in(self, state: Loaded) -> None:
         old, self.state = self.state.tree, state

@@ -385,6 +385,9 @@ class Journals(rig.Case):
             self.assertEqual(asked.ask(f"show 0 /n{published}"), f"seen {published} nonode")
             self.assertEqual(asked.ask(f"check 0 /n3 {rig.USER} FR"), f"seen {published} granted 0x120089")
             subprocess.run(["mount", "-o", "remount,size=64m", str(small)], check=True)
+            if limits:
+                # Without an edit too.
+                self.wait_for(lambda: self.get("/readyz")[0] == 200)
             self.assertEqual(asked.ask("addo /after O:BAG:SYD:"), "ok")
             self.assertEqual(asked.ask("publish"), f"published {accepted + 1}")
             self.assertEqual((self.get("/readyz")[0], self.metrics()["sdstored_takes_edits"]), (200, 1))
