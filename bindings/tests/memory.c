@@ -1,49 +1,9 @@
 /*
  * Memory that runs out at each request of each call in turn, once alone and once with all that come after it, and memory that
- * comes back. Linked with -Wl,--wrap=malloc,--wrap=realloc,--wrap=free, so that the library's requests come here.
+ * comes back.
  */
 #include "tally.h"
-
-void *__real_malloc(size_t);
-void *__real_realloc(void *, size_t);
-void __real_free(void *);
-void *__wrap_malloc(size_t);
-void *__wrap_realloc(void *, size_t);
-void __wrap_free(void *);
-
-/* How many requests are granted before one is refused, whether all after it are, and how many blocks are taken. */
-static long granted = -1, taken, refusals;
-static int lasts, was_refused;
-
-static int refuses(void)
-{
-    if (granted < 0 || granted-- > 0) {
-        return 0;
-    }
-    granted = lasts ? 0 : -1;
-    was_refused = 1;
-    return 1;
-}
-
-void *__wrap_malloc(size_t size)
-{
-    void *block = refuses() ? NULL : __real_malloc(size);
-    taken += block != NULL;
-    return block;
-}
-
-void *__wrap_realloc(void *block, size_t size)
-{
-    void *larger = refuses() ? NULL : __real_realloc(block, size);
-    taken += block == NULL && larger != NULL;
-    return larger;
-}
-
-void __wrap_free(void *block)
-{
-    taken -= block != NULL;
-    __real_free(block);
-}
+#include "refusing.h"
 
 /* The last five keep something or check. */
 enum call {
@@ -265,16 +225,15 @@ static void runs_out(const row *row, int is_lasting, const outcome *due)
 {
     static outcome got, again;
     const loan before = lent;
-    long at, wanting = 0, blocks = taken;
+    long at, seen, wanting = 0, blocks = taken;
     int done = 0;
     for (at = 0; !done && at < 1000; at++) {
         granted = at;
         lasts = is_lasting;
-        was_refused = 0;
+        seen = refusals;
         made(row, &got);
-        done = !was_refused;
-        refusals += was_refused;
-        if (was_refused && got.status == HUDARIN_MEMORY) {
+        done = refusals == seen;
+        if (!done && got.status == HUDARIN_MEMORY) {
             wanting++;
             HOLDS(left_alone(&got) && taken == blocks);
         } else {
@@ -307,10 +266,10 @@ static void takes_none(void)
 {
     static unsigned char bytes[HUDARIN_DESCRIPTOR_BYTES];
     size_t length = (size_t)hudarin_sddl_to_bytes(CHECKED, sizeof CHECKED - 1, bytes, sizeof bytes).length;
+    long seen = refusals;
     int turn;
     granted = 0;
     lasts = 1;
-    was_refused = 0;
     for (turn = 0; turn < 100; turn++) {
         hudarin_verdict verdict = hudarin_check_kept(&descriptor, &token, files, 0x80000000u);
         HOLDS(verdict.status == HUDARIN_OK && verdict.kind == HUDARIN_DENIED && verdict.mask == 1);
@@ -323,7 +282,7 @@ static void takes_none(void)
         HOLDS(hudarin_status_text(HUDARIN_MEMORY, (char *)bytes + length, 13).length == 13);
         HOLDS(hudarin_fault_name(HUDARIN_SID, HUDARIN_SID_SHORT, (char *)bytes + length, 5).length == 5);
     }
-    HOLDS(!was_refused);
+    HOLDS(refusals == seen);
     granted = -1;
 }
 

@@ -1,47 +1,10 @@
 /*
  * What a publish would change, a node at a time, beside the lines of `sdstore script` for the same edits, which
  * tests/scripts/reviews.rows has; each buffer too small, a handle that keeps nothing, and each request for memory
- * refused. Linked with -Wl,--wrap=malloc,--wrap=realloc,--wrap=free.
+ * refused.
  */
 #include "edits.h"
-
-void *__real_malloc(size_t);
-void *__real_realloc(void *, size_t);
-void __real_free(void *);
-void *__wrap_malloc(size_t);
-void *__wrap_realloc(void *, size_t);
-void __wrap_free(void *);
-
-/* How many requests are granted before one is refused, and how many blocks are taken. */
-static long granted = -1, taken, refusals;
-
-static int refuses(void)
-{
-    int is_refused = granted == 0;
-    granted -= granted >= 0;
-    refusals += is_refused;
-    return is_refused;
-}
-
-void *__wrap_malloc(size_t size)
-{
-    void *block = refuses() ? NULL : __real_malloc(size);
-    taken += block != NULL;
-    return block;
-}
-
-void *__wrap_realloc(void *block, size_t size)
-{
-    void *larger = refuses() ? NULL : __real_realloc(block, size);
-    taken += block == NULL && larger != NULL;
-    return larger;
-}
-
-void __wrap_free(void *block)
-{
-    taken -= block != NULL;
-    __real_free(block);
-}
+#include "refusing.h"
 
 /* A line of a script: an edit, a publish (0), or the lines of a review up to its last one. */
 typedef struct step {

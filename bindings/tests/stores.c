@@ -1,46 +1,9 @@
 /*
  * Stores and views: each refusal by its number, each of which leaves all as it was; handles of other kinds; and each request for
- * memory refused in turn. Linked with -Wl,--wrap=malloc,--wrap=realloc,--wrap=free, so that the library's requests come here.
+ * memory refused in turn.
  */
 #include "edits.h"
-
-void *__real_malloc(size_t);
-void *__real_realloc(void *, size_t);
-void __real_free(void *);
-void *__wrap_malloc(size_t);
-void *__wrap_realloc(void *, size_t);
-void __wrap_free(void *);
-
-/* How many requests are granted before one is refused, and how many blocks are taken. */
-static long granted = -1, taken, refusals;
-
-static int refuses(void)
-{
-    int is_refused = granted == 0;
-    granted -= granted >= 0;
-    refusals += is_refused;
-    return is_refused;
-}
-
-void *__wrap_malloc(size_t size)
-{
-    void *block = refuses() ? NULL : __real_malloc(size);
-    taken += block != NULL;
-    return block;
-}
-
-void *__wrap_realloc(void *block, size_t size)
-{
-    void *larger = refuses() ? NULL : __real_realloc(block, size);
-    taken += block == NULL && larger != NULL;
-    return larger;
-}
-
-void __wrap_free(void *block)
-{
-    taken -= block != NULL;
-    __real_free(block);
-}
+#include "refusing.h"
 
 static const unsigned char user[] = { 1, 5, 0, 0, 0, 0, 0, 5, 21, 0, 0, 0, 1, 0, 0, 0, 2, 0, 0, 0, 3, 0, 0, 0, 0xe9, 3, 0, 0 };
 
