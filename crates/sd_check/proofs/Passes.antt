@@ -1,11 +1,12 @@
 -- What a pass comes to with one more entry, bit by bit.
-use Rattle.std.proofs.Common.{◌≡◌, ℕ, ◌<◌, ◌++◌, Bool, true, false, not, ◌&&◌, ◌||◌, ◌==◌, cond, List, [], ◌∷◌, Option, Some, None, refl, sym, ◌∙◌, ap, arith, subst, append-nil, append_assoc, eqb-true}
+use Rattle.std.proofs.Common.{◌≡◌, ℕ, ◌<◌, ◌≤◌, ◌-◌, ◌++◌, length, map, take, drop, get_or, Bool, true, false, not, ◌&&◌, ◌||◌, ◌==◌, cond, List, [], ◌∷◌, Option, Some, None, refl, sym, ◌∙◌, ap, arith, subst, append-nil, append_assoc, eqb-true}
 use Rattle.std.specs.Option.{option_or, is_none}
 use Rattle.sd_check.proofs.Words.{or-false, bit_at-zero, holds, mask_of, MappingValue, mapped, SidValue, same_sid, owner_rights, holds_when, mask_of-alike, is_allow, is_inherit_only, applies, applies_again, applies_in, decides, first, is_allowed_by, is_limit, is_restricting_subject, limits_owner, stands_for_subject, subject, TokenValue, is_restricting, stands_for, Pass, First, Second, Ace, AceKind, IsTally, part_of}
 use Rattle.std.proofs.lemmas.List.Folds.{find-append, list_any-append}
 use Rattle.sd_check.specs.declared.tally.Settled.{Settled}
 use Rattle.sd_check.specs.declared.tally.Tally.{Tally}
-use Rattle.sd_check.specs.Fold.{Asking, IsPass, IsSettled}
+use Rattle.std.proofs.lemmas.List.{take_all}
+use Rattle.sd_check.specs.Fold.{Asking, IsPass, IsSettled, TakesOn}
 use Rattle.sd_check.proofs.Answered.{stands}
 
 -- ---- a bit
@@ -139,8 +140,24 @@ passes_grant first again free bits owners one two r is_one is_two is =
 
 -- ---- both passes
 
-pub tally_joined : (both : Bool) (q : Asking) (seen front back : List Ace) (t : Tally) → IsTally both q ((seen ++ front) ++ back) t → IsTally both q (seen ++ (front ++ back)) t
-tally_joined both q seen front back t is = subst (λ es. IsTally both q es t) (append_assoc seen front back) is
+-- ---- entries that take one tally to another
+
+-- a list that was taken apart
+apart : {A : Type 0} (x : A) (xs : List A) (d : A) → 1 ≤ length xs → x ≡ get_or xs 0 d → xs ≡ x ∷ take (length xs - 1) (drop 1 xs)
+apart x [] d some is = absurd (omega (arith, some))
+apart x (y ∷ ys) d some is =
+    let size : length ys ≡ length (y ∷ ys) - 1 = omega arith in
+    ap (λ t. y ∷ t) (sym (take_all (length ys) ys (omega arith))) ∙ ap (λ t. t ∷ take (length ys) ys) (sym is) ∙ ap (λ n. x ∷ take n ys) size
+
+pub takes_next : {A : Type 0} (ace : A → Ace) (both : Bool) (q : Asking) (x : A) (xs : List A) (d : A) (t u w : Tally) → 1 ≤ length xs → x ≡ get_or xs 0 d
+    → TakesOn both q (ace x ∷ []) t u → TakesOn both q (map ace (take (length xs - 1) (drop 1 xs))) u w → TakesOn both q (map ace xs) t w
+takes_next ace both q x xs d t u w some is one others seen comes =
+    subst (λ es. IsTally both q (seen ++ map ace es) w) (sym (apart x xs d some is))
+    (subst (λ es. IsTally both q es w) (append_assoc seen (ace x ∷ []) (map ace (take (length xs - 1) (drop 1 xs)))) (others (seen ++ ace x ∷ []) (one seen comes)))
+
+pub takes_none : {A : Type 0} (ace : A → Ace) (both : Bool) (q : Asking) (xs : List A) (t : Tally) → length xs < 1 → TakesOn both q (map ace xs) t t
+takes_none ace both q [] t none seen comes = subst (λ es. IsTally both q es t) (sym (append-nil seen)) comes
+takes_none ace both q (x ∷ xs) t none seen comes = absurd (omega (arith, none))
 
 pub tally_over : (both : Bool) (q : Asking) (seen es : List Ace) (t : Tally) → IsSettled t.first t.kept → (both ≡ true → IsSettled t.second t.kept)
     → IsTally both q seen t → IsTally both q (seen ++ es) t

@@ -1,5 +1,5 @@
 -- The check as a fold over entries: what those so far have come to, bit by bit, in the words of the verdict.
-use Rattle.std.specs.Prelude.{◌≡◌, ℕ, ◌<◌, Bool, true, false, not, ◌&&◌, ◌||◌, cond, List, Option, Some}
+use Rattle.std.specs.Prelude.{◌≡◌, ℕ, ◌<◌, Bool, true, false, not, ◌&&◌, ◌||◌, ◌++◌, cond, List, Option, Some}
 use Rattle.std.specs.Option.{option_map, is_none}
 use Rattle.sd_sid.specs.Mask.{holds, mask_of}
 use Rattle.sd_sid.specs.Mapping.{MappingValue, mapped}
@@ -67,6 +67,10 @@ pub record IsTally (both : Bool) (q : Asking) (es : List Ace) (tally : Tally) : 
   pub second : both ≡ true
       → IsPass q.mapping (applies_again q.token q.owner) (rights_in (wanted_bits q.mapping q.asked))
       (owners_in q.token q.owner (wanted_bits q.mapping q.asked)) es tally.second tally.kept
+
+-- with these entries one tally comes to the other, whichever entries it stands for
+abbrev pub TakesOn : Bool → Asking → List Ace → Tally → Tally → Type 0
+TakesOn both q es tally to = (seen : List Ace) → IsTally both q seen tally → IsTally both q (seen ++ es) to
 
 -- an entry further on can tell the pass nothing: no bit is undecided, nor any that the owner keeps and isn't allowed
 abbrev pub IsSettled : Settled → ℕ → Type 0

@@ -1,13 +1,13 @@
 //! The check: a fold over the entries of a list, wherever they are stored.
 
-ghost use Rattle.std.specs.Prelude.{◌≡◌, ◌==◌, ◌<◌, ◌^◌, ◌∷◌, [], ◌++◌, ◌&&◌, ◌||◌, not, false, true, map, Bool, List};
-ghost use Rattle.std.specs.Prelude.{Option, Some, None};
+ghost use Rattle.std.specs.Prelude.{◌≡◌, ◌==◌, ◌<◌, ◌≤◌, ◌^◌, ◌∷◌, length, [], ◌++◌, ◌&&◌, ◌||◌, not, false, true, map};
+ghost use Rattle.std.specs.Prelude.{Bool, List, Option, Some, None};
 ghost use Rattle.sd_sid.specs.Mask.{holds, mask_of};
 ghost use Rattle.sd_acl.specs.declared.ace.Ace.{Ace};
 ghost use Rattle.sd_check.specs.Check.{is_given, is_granted, is_implied, is_listed, is_owner, limits_owner, most_of};
 ghost use Rattle.sd_check.specs.Check.{verdict};
 ghost use Rattle.sd_check.specs.Check as rules;
-ghost use Rattle.sd_check.specs.Fold.{asking, IsTally, wanted_bits};
+ghost use Rattle.sd_check.specs.Fold.{asking, IsTally, TakesOn, wanted_bits};
 ghost use Rattle.sd_check.specs.Token.{is_restricted};
 ghost use Rattle.sd_check.specs.declared.tally.Tally.{Tally};
 
@@ -35,9 +35,14 @@ impl<O: Trustee> Question<'_, O> {
     {
         let wanted = self.wanted_bits();
         let rights = wanted.common(OBJECT_RIGHTS);
+        let first = Settled {
+            undecided: rights,
+            allowed: Mask(0),
+        };
+        let second = first;
         Tally {
-            first: Settled::nothing_of(rights),
-            second: Settled::nothing_of(rights),
+            first,
+            second,
             kept: self.owners_rights(wanted),
         }
     }
@@ -59,22 +64,26 @@ impl<O: Trustee> Question<'_, O> {
     /// Whether one look shows that the entry changes nothing, as most entries of a long list do.
     #[inline(always)]
     fn is_silent<E: Entry>(&self, entry: &E) -> bool
-        ensures { result ≡ true → (both : Bool) (seen : List Ace) (tally : Tally)
-            → IsTally both (asking O.sid self.now) seen tally
-            → IsTally both (asking O.sid self.now) (seen ++ E.ace entry.now ∷ []) tally }
+        ensures { result ≡ true → (both : Bool) (tally : Tally)
+            → TakesOn both (asking O.sid self.now) (E.ace entry.now ∷ []) tally tally }
     {
         !self.token.may_matter(entry.trustee())
     }
 
-    /// What the entries so far come to with this one: it decides what was undecided of its mask, in each pass.
+    /// What the entries so far come to with this one: it decides what was undecided of its mask, in each pass. Of those
+    /// at the place of a SID of the token most are for another, and change nothing.
     #[inline(always)]
     fn deciding<const BOTH: bool, E: Entry>(&self, tally: Tally, entry: &E) -> Tally
-        ensures { (seen : List Ace) → IsTally BOTH (asking O.sid self.now) seen tally
-            → IsTally BOTH (asking O.sid self.now) (seen ++ E.ace entry.now ∷ []) result }
+        ensures { TakesOn BOTH (asking O.sid self.now) (E.ace entry.now ∷ []) tally result }
     {
+        let mask = self.mask(entry);
+        let limits = limits_owner(entry);
+        if !BOTH && mask.is_empty() && !limits {
+            return tally;
+        }
         let kind = entry.kind();
-        let first = tally.first.after(kind, self.mask(entry));
-        let kept = tally.kept.when(!limits_owner(entry));
+        let first = tally.first.after(kind, mask);
+        let kept = tally.kept.when(!limits);
         let second = if BOTH {
             tally.second.after(kind, self.mask_again(entry))
         } else {
@@ -87,24 +96,39 @@ impl<O: Trustee> Question<'_, O> {
         }
     }
 
+    /// The entries from the first on that may change something.
+    #[inline(always)]
+    fn from_next<'e, E: Entry>(&self, entries: &'e [E]) -> &'e [E]
+        ensures same { let q = asking O.sid self.now in (both : Bool) (tally to : Tally)
+            → TakesOn both q (map E.ace result.now) tally to → TakesOn both q (map E.ace entries.now) tally to }
+        ensures few { length result.now ≤ length entries.now }
+    {
+        let mut rest = entries;
+        'silent: while let [entry, behind @ ..] = rest {
+            if !self.is_silent(entry) {
+                return rest;
+            }
+            rest = behind;
+        }
+        rest
+    }
+
     /// What the entries so far come to with these. It ends as soon as what comes after can change nothing.
     #[inline(always)]
     fn over<const BOTH: bool, E: Entry>(&self, before: Tally, entries: &[E]) -> Tally
-        ensures { (seen : List Ace) → IsTally BOTH (asking O.sid self.now) seen before
-            → IsTally BOTH (asking O.sid self.now) (seen ++ map E.ace entries.now) result }
+        ensures { TakesOn BOTH (asking O.sid self.now) (map E.ace entries.now) before result }
     {
         if before.is_over::<BOTH>() {
             return before;
         }
         let mut tally = before;
-        for entry in entries {
-            if self.is_silent(entry) {
-                continue;
-            }
+        let mut rest = self.from_next(entries);
+        'each: while let [entry, behind @ ..] = rest {
             tally = self.deciding::<BOTH, E>(tally, entry);
             if tally.is_over::<BOTH>() {
                 return tally;
             }
+            rest = self.from_next(behind);
         }
         tally
     }
@@ -159,9 +183,9 @@ impl<O: Trustee> Question<'_, O> {
             || is_implied (is_owner q.token q.owner && not (limits_owner (Some seen))) false false b))
             32 }
     {
-        let first = tally.first.granted(tally.kept);
+        let first = tally.first.allowed.union(tally.kept);
         if BOTH {
-            first.common(tally.second.granted(tally.kept))
+            first.common(tally.second.allowed.union(tally.kept))
         } else {
             first
         }
@@ -174,23 +198,13 @@ impl<O: Trustee> Question<'_, O> {
             result ≡ verdict q.owner (Some (map E.ace front.now ++ map E.ace back.now)) q.mapping q.token q.asked }
     {
         if self.token.is_restricted() {
-            self.judge_by::<true, E>(front, back)
-        } else {
-            self.judge_by::<false, E>(front, back)
+            return self.judge_any::<true, E>(front, back);
         }
-    }
-
-    // (a request for rights alone has a copy of the loop in which little is left to do)
-    #[inline(always)]
-    fn judge_by<const BOTH: bool, E: Entry>(&self, front: &[E], back: &[E]) -> Verdict
-        requires { BOTH ≡ is_restricted self.now.token.now }
-        ensures { let q = asking O.sid self.now in
-            result ≡ verdict q.owner (Some (map E.ace front.now ++ map E.ace back.now)) q.mapping q.token q.asked }
-    {
+        // (a request for rights alone has a copy of the loop in which little is left to do)
         if self.is_plain() {
-            return self.judge_each::<BOTH, E>(front, back);
+            return self.judge_each::<false, E>(front, back);
         }
-        self.judge_any::<BOTH, E>(front, back)
+        self.judge_any::<false, E>(front, back)
     }
 
     #[inline(never)]

@@ -121,6 +121,7 @@ impl Index {
     }
 
     /// Whether the user has the SID, or a group that counts for an entry of the kind.
+    #[inline(always)]
     pub(crate) fn stands_for(
         &self,
         user: &Sid,
@@ -138,7 +139,7 @@ impl Index {
             }
             link = self.nexts[link - 1] as usize;
         }
-        link == 1 && user.is(sid) || a_group_stands_for(beyond_chains(groups), kind, sid)
+        link == 1 && user.is(sid) || one_beyond_chains(groups, kind, sid)
     }
 }
 
@@ -160,39 +161,17 @@ pub(crate) fn last_sub(sid: &Sid) -> u32
     subs[subs.len() - 1]
 }
 
-/// The groups that no chain leads to.
+/// Whether one of the groups that no chain leads to has the SID, and counts for an entry of the kind.
 #[inline(always)]
-fn beyond_chains(groups: &[(Sid, GroupState)]) -> &[(Sid, GroupState)]
-    ensures { result.now ≡ drop 254 groups.now }
+fn one_beyond_chains(groups: &[(Sid, GroupState)], kind: AceKind, sid: &Sid) -> bool
+    ensures { result ≡ a_group_stands_for (drop 254 groups.now) kind sid.now }
 {
-    if groups.len() <= MAX_CHAINED {
-        &[]
-    } else {
-        &groups[MAX_CHAINED..]
-    }
+    groups.len() > MAX_CHAINED && a_group_stands_for(&groups[MAX_CHAINED..], kind, sid)
 }
 
-/// Whether one of the groups has the SID, and counts for an entry of the kind. Four groups at a turn halve what the
-/// turns cost.
+/// Whether one of the groups has the SID, and counts for an entry of the kind.
+#[inline(never)]
 fn a_group_stands_for(groups: &[(Sid, GroupState)], kind: AceKind, sid: &Sid) -> bool
-    ensures { result ≡ a_group_stands_for groups.now kind sid.now }
-{
-    let mut rest = groups;
-    'fours: while let [first, second, third, fourth, behind @ ..] = rest {
-        if stands_for(first, kind, sid)
-            || stands_for(second, kind, sid)
-            || stands_for(third, kind, sid)
-            || stands_for(fourth, kind, sid)
-        {
-            return true;
-        }
-        rest = behind;
-    }
-    one_stands_for(rest, kind, sid)
-}
-
-/// The same, with one group at a turn.
-fn one_stands_for(groups: &[(Sid, GroupState)], kind: AceKind, sid: &Sid) -> bool
     ensures { result ≡ a_group_stands_for groups.now kind sid.now }
 {
     groups.iter().any(|place| stands_for(place, kind, sid))

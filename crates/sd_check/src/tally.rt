@@ -25,17 +25,6 @@ pub struct Tally {
 }
 
 impl Settled {
-    /// Nothing is settled of these bits.
-    #[inline(always)]
-    pub(crate) fn nothing_of(bits: Mask) -> Settled
-        ensures { (result.undecided ≡ bits) × (result.allowed ≡ 0) }
-    {
-        Settled {
-            undecided: bits,
-            allowed: Mask(0),
-        }
-    }
-
     /// Whether an entry further on can change nothing: no bit is undecided, nor any that the owner keeps and isn't
     /// allowed.
     #[inline]
@@ -43,14 +32,6 @@ impl Settled {
         ensures { result ≡ true → IsSettled self.now kept }
     {
         self.undecided.union(kept.minus(self.allowed)).is_empty()
-    }
-
-    /// With what is allowed, what the owner keeps.
-    #[inline]
-    pub(crate) fn granted(&self, kept: Mask) -> Mask
-        ensures { result ≡ mask_of (λ b. holds self.now.allowed b || holds kept b) 32 }
-    {
-        self.allowed.union(kept)
     }
 
     /// What is settled after an entry of the kind that takes part with the mask: it decides what was undecided of it.

@@ -162,8 +162,7 @@ impl Token {
     }
 
     /// Whether the user has the SID, or a group that counts for an entry of the kind.
-    // Most entries have no link at their place, and the chains stay out of the walk.
-    #[inline(never)]
+    #[inline(always)]
     pub(crate) fn has(&self, kind: AceKind, sid: &Sid) -> bool
         ensures { result ≡ stands_for self.now kind sid.now }
     {

@@ -1,5 +1,5 @@
 -- A walk along the chain of the SID's place meets the user and each group that has the SID.
-use Rattle.std.proofs.Common.{◌≡◌, ℕ, suc, ◌-◌, ◌<◌, ◌≤◌, ◌&&◌, ◌||◌, true, false, List, length, get_or, inl, inr, sym, ◌∙◌, ap, subst, arith}
+use Rattle.std.proofs.Common.{◌≡◌, ℕ, suc, ◌-◌, ◌<◌, ◌≤◌, ◌&&◌, ◌||◌, true, false, length, get_or, inl, inr, sym, ◌∙◌, ap, subst, arith}
 use Rattle.sd_check.proofs.Words.{and_parts, or_right, SidValue, same_sid, same_sid-true, counts, a_group_stands_for, GroupState}
 use Rattle.std.proofs.lemmas.Bool.{false_from_ne_true}
 use Rattle.std.proofs.lemmas.List.{get_or_default}
@@ -85,7 +85,7 @@ returns-else-is c =
           let end : link ≡ 0 = omega (arith, last, w.if-link-eq1.false) in
           none_at_end nexts (subst (λ n. OnChain nexts n 0) end (c.loop-link.invariant.2 same)))
     ] in
-    let of_others : a_group_stands_for groups c.args.kind sid ≡ c.a_group_stands_for.result =
+    let of_others : a_group_stands_for groups c.args.kind sid ≡ c.one_beyond_chains.result =
     none_of_first test 254 groups (λ k d low few yes. user_is_last nexts c.requires.goes_back link k last (c.loop-link.invariant.3 k d low few yes))
-    ∙ ap (λ (others : List (SidValue × GroupState)). a_group_stands_for others c.args.kind sid) (sym c.beyond_chains.ensures) ∙ sym c.a_group_stands_for.ensures in
+    ∙ sym c.one_beyond_chains.ensures in
     sym (ap (λ t. t || a_group_stands_for groups c.args.kind sid) not_user ∙ of_others)

@@ -1,5 +1,5 @@
 -- Before any entry nothing is settled.
-use Rattle.std.proofs.Common.{◌∙◌, ap}
+use Rattle.std.proofs.Common.{refl, ◌∙◌, ap}
 use Rattle.sd_check.proofs.Words.{applies, applies_again, asking, owners_in, rights_in, wanted_bits}
 use Rattle.sd_check.proofs.Passes.{pass_begins}
 use Rattle.sd_check.proofs.question.Question.begin.Goals as goal
@@ -11,8 +11,6 @@ returns g c = λ both.
     let rights = c.common-rights.ensures ∙ ap rights_in c.wanted_bits-wanted.ensures in
     let kept = c.owners_rights.ensures ∙ ap (owners_in q.token q.owner) c.wanted_bits-wanted.ensures in
     record {
-      first = pass_begins q.mapping (applies q.token q.owner) (rights_in bits) (owners_in q.token q.owner bits) c.nothing_of.result c.owners_rights.result
-          (c.nothing_of.ensures.0 ∙ rights) c.nothing_of.ensures.1 kept;
-      second = λ yes. pass_begins q.mapping (applies_again q.token q.owner) (rights_in bits) (owners_in q.token q.owner bits) c.nothing_of-2.result c.owners_rights.result
-          (c.nothing_of-2.ensures.0 ∙ rights) c.nothing_of-2.ensures.1 kept;
+      first = pass_begins q.mapping (applies q.token q.owner) (rights_in bits) (owners_in q.token q.owner bits) _ c.owners_rights.result rights refl kept;
+      second = λ yes. pass_begins q.mapping (applies_again q.token q.owner) (rights_in bits) (owners_in q.token q.owner bits) _ c.owners_rights.result rights refl kept;
     }

@@ -6,7 +6,7 @@ use Rattle.sd_check.proofs.Passes.{pass_silent, none_in, limits_nobody}
 use Rattle.sd_check.proofs.question.Question.is_silent.Goals as goal
 
 pub returns : goal.returns
-returns g c = λ silent both seen tally comes.
+returns g c = λ silent both tally seen comes.
     let q = asking g.O.Trustee.sid c.args.self.now in
     let entry = g.E.Entry.ace c.args.entry.now in
     let out = c.may_matter.ensures in

@@ -1,10 +1,13 @@
--- The entries so far come to this tally.
-use Rattle.std.proofs.Common.{List, ◌++◌, take, map, not, nat_eq}
-use Rattle.sd_check.proofs.Words.{Ace, asking, IsTally}
+-- What the rest makes of this tally, all entries make of the first.
+use Rattle.std.proofs.Common.{length, map, not, nat_eq}
+use Rattle.sd_check.specs.Fold.{asking, TakesOn}
+use Rattle.sd_check.specs.declared.tally.Tally.{Tally}
 use Rattle.sd_check.proofs.question.Question.over.Given as goal
 
-abbrev pub invariant-loop-entry : goal.invariant-loop-entry
-invariant-loop-entry g l =
+abbrev pub invariant-each : goal.invariant-each
+invariant-each g l =
     let both = not (nat_eq (denote.Param.value_of (denote.Param.number g.row.BOTH)) 0) in
-    let q = asking g.O.Trustee.sid l.self in
-    (seen : List Ace) → IsTally both q seen l.fn.before → IsTally both q (seen ++ map g.E.Entry.ace (take l.entry-index l.entries)) l.tally
+    (to : Tally) → TakesOn both (asking g.O.Trustee.sid l.self) (map g.E.Entry.ace l.rest) l.tally to → TakesOn both (asking g.O.Trustee.sid l.self) (map g.E.Entry.ace l.entries) l.fn.before to
+
+abbrev pub decreases-each : goal.decreases-each
+decreases-each g l = length l.rest
