@@ -5,4 +5,5 @@ pub mod Searched
 pub mod Shifts
 pub mod Starts
 pub mod Walks
+pub mod WriteRuns
 pub mod Written

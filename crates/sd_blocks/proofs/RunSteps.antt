@@ -3,7 +3,7 @@ use Rattle.std.proofs.Common.{◌≡◌, ℕ, ◌+◌, ◌-◌, ◌<◌, ◌≤�
 use Rattle.std.specs.List.{insert, remove}
 use Rattle.std.proofs.lemmas.List.{take-append-drop, take_at, drop_at, drop-drop, get_or-drop, get_or-append_right, length-take, length-drop, take_more}
 use Rattle.std.proofs.lemmas.List.Edits.{remove-append_right}
-use Rattle.sd_blocks.specs.Runs.{run_at, without_run, with_run, replaced}
+use Rattle.sd_blocks.specs.Runs.{run_at, without_run, with_run}
 
 module _ {T : Type 0} where
   front_length : (n : ℕ) (xs : List T) → n ≤ length xs → length (take n xs) ≡ n
@@ -60,13 +60,3 @@ module _ {T : Type 0} where
 
   pub put_step : (at : ℕ) (run left xs xs' all : List T) (item : T) → at ≤ length xs → run ≡ left ++ item ∷ [] → xs' ≡ insert xs at item → with_run at run xs ≡ all → with_run at left xs' ≡ all
   put_step at run left xs xs' all item h is put whole = ap (λ l. with_run at left l) put ∙ sym (put_more at run left xs item h is) ∙ whole
-
-  pub put_none : (at : ℕ) (xs : List T) → with_run at [] xs ≡ xs
-  put_none at xs = take-append-drop at xs
-
-  -- a run in place of one that was removed
-  pub replaced_is : (from count : ℕ) (ys xs : List T) → from + count ≤ length xs → with_run from ys (without_run from count xs) ≡ replaced from count ys xs
-  replaced_is from count ys xs h =
-      let front = front_length from xs (omega arith) in
-      ap (λ l. l ++ (ys ++ drop from (without_run from count xs))) (take_at (take from xs) (drop (from + count) xs) from front)
-      ∙ ap (λ l. take from xs ++ (ys ++ l)) (drop_at (take from xs) (drop (from + count) xs) from front)

@@ -1,5 +1,5 @@
 -- What a change of one block does to the list.
-use Rattle.std.proofs.Common.{◌≡◌, ℕ, zero, suc, ◌+◌, ◌-◌, ◌<◌, List, [], ◌∷◌, ◌++◌, length, get_or, take, drop, refl, arith, ap, sym, ◌∙◌, length-append, append_assoc, Result, Ok, Err, OnOk, IfOk}
+use Rattle.std.proofs.Common.{◌≡◌, ℕ, zero, suc, ◌+◌, ◌-◌, ◌<◌, List, [], ◌∷◌, ◌++◌, length, get_or, take, drop, refl, arith, ap, sym, ◌∙◌, length-append, append_assoc, Result, Ok, Err, OnOk}
 use Rattle.std.proofs.Math.ListN.{set}
 use Rattle.std.proofs.lemmas.List.{set-append_left, set-append_right}
 use Rattle.std.proofs.lemmas.List.Concat.{get_or-flat_map}
@@ -77,12 +77,6 @@ kept_starts {T} bs len at k b b' s lens found is start same =
     let e0 : b.0 ≡ (get_or bs k b).0 = ap (λ (y : ℕ × List T). y.0) is in
     let e1 : b.1 ≡ (get_or bs k b).1 = ap (λ (y : ℕ × List T). y.1) is in
     (starts_set 0 bs k b b' s found.inside (start ∙ e0) (same ∙ ap length e1), lens ∙ sym (joined_same_length bs k b b' found.inside (same ∙ ap length e1)))
-
--- the element of a block that is lent is the list's at its place
-pub lent_value : {T M E : Type 0} (now : M → T) (r : Result M E) (bs : List (ℕ × List T)) (at k : ℕ) (b : ℕ × List T) (start : ℕ) → IsBlockOf bs at k → at < length (joined bs) → b ≡ get_or bs k b → start ≡ b.0
-    → IfOk r (λ m. now m ≡ get_or b.1 (at - start) (now m)) → IfOk r (λ m. now m ≡ get_or (joined bs) at (now m))
-lent_value now (Ok m) bs at k b start found in_list is starts here = get_joined bs at k b start (now m) found in_list is starts here
-lent_value now (Err _) bs at k b start found in_list is starts here = tt
 
 -- a term of a function and a value, where these are replaced by equal ones
 pub both : {W A C : Type 0} (f : (W → A) → A → C) (F G : W → A) (v w : A) → ((x : W) → F x ≡ G x) → v ≡ w → f F v ≡ f G w

@@ -17,13 +17,9 @@ without_run from count xs = take from xs ++ drop (from + count) xs
 abbrev pub with_run : {T : Type 0} → ℕ → List T → List T → List T
 with_run at ys xs = take at xs ++ (ys ++ drop at xs)
 
--- the list with another run in place of one
-abbrev pub replaced : {T : Type 0} → ℕ → ℕ → List T → List T → List T
-replaced from count ys xs = take from xs ++ (ys ++ drop (from + count) xs)
-
--- the list with a run moved before a position, which is counted among the other elements
-abbrev pub moved : {T : Type 0} → ℕ → ℕ → ℕ → List T → List T
-moved from count to xs = with_run to (run_at from count xs) (without_run from count xs)
+-- the list with a run in place of as many elements
+abbrev pub written : {T : Type 0} → ℕ → List T → List T → List T
+written at ys xs = take at xs ++ (ys ++ drop (at + length ys) xs)
 
 -- two runs in place of one
 pub record AreParts {T : Type 0} (whole low high : List T) : Type 0 where

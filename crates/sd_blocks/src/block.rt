@@ -4,7 +4,7 @@ ghost use Rattle.std.specs.Prelude.{◌≡◌, ◌+◌, ◌-◌, ◌^◌, ◌<�
 ghost use Rattle.std.specs.Prelude.{slice_set, slice_index_or};
 ghost use Rattle.std.specs.List.{insert, remove};
 ghost use Rattle.std.specs.List.Sorted.{IsSearchInRange, IsBinarySearchResult};
-ghost use Rattle.sd_blocks.specs.Runs.{IsRunAt};
+ghost use Rattle.sd_blocks.specs.Runs.{IsRunAt, written};
 ghost use Rattle.sd_blocks.specs.Stored.{AreHalves, lowered};
 
 use crate::run::Run;
@@ -118,6 +118,21 @@ impl<T, R: Run<T>> Block<T, R> {
         ensures refused { OnErr result (self.new.1 ≡ self.old.1) }
     {
         self.run.set(alloc, at, item)
+    }
+
+    /// Writes elements from a position on. After an error some are written.
+    pub(crate) fn write(
+        &mut self,
+        alloc: Global,
+        at: usize,
+        items: Vec<T>,
+    ) -> Result<(), AllocError>
+        requires { at + length items.items ≤ length self.old.1 }
+        ensures start { self.new.0 ≡ self.old.0 }
+        ensures len { length self.new.1 ≡ length self.old.1 }
+        ensures done { OnOk result (self.new.1 ≡ written at items.items self.old.1) }
+    {
+        self.run.write(alloc, at, items)
     }
 
     /// Inserts an element before a position.

@@ -1,7 +1,8 @@
 //! A run in one vector.
 
-ghost use Rattle.std.specs.Prelude.{◌≡◌, [], ◌∷◌, IfOk};
+ghost use Rattle.std.specs.Prelude.{◌≡◌, ◌+◌, ◌≤◌, [], ◌∷◌, length, IfOk, OnOk};
 ghost use Rattle.std.specs.Arc.{arc_value};
+ghost use Rattle.sd_blocks.specs.Runs.{written};
 
 use crate::run::Run;
 use crate::search::{Sought, search_items};
@@ -69,6 +70,25 @@ impl<T: TryCopy> Run<T> for Leaf<T> {
         }
     }
 
+    fn write(&mut self, alloc: Global, at: usize, items: Vec<T>) -> Result<(), AllocError>
+        requires { at + length items.items ≤ length self.old }
+        ensures len { length self.new ≡ length self.old }
+        ensures done { OnOk result (self.new ≡ written at items.items self.old) }
+    {
+        if items.len() == self.items.len() {
+            self.items = Arc::new(alloc, items)?;
+            return Ok(());
+        }
+        own(alloc, &mut self.items)?;
+        match Arc::get_mut(&mut self.items) {
+            Some(old) => {
+                put_over(old, at, items);
+                Ok(())
+            }
+            None => Err(AllocError),
+        }
+    }
+
     fn insert(&mut self, alloc: Global, at: usize, item: T) -> Result<(), AllocError> {
         own(alloc, &mut self.items)?;
         match Arc::get_mut(&mut self.items) {
@@ -105,6 +125,15 @@ fn make_leaf<T: Drop>(alloc: Global, items: Vec<T>) -> Result<Leaf<T>, AllocErro
 {
     let items = Arc::new(alloc, items)?;
     Ok(Leaf { items })
+}
+
+/// Puts elements from a position on in place of as many.
+fn put_over<T: Drop>(old: &mut Vec<T>, at: usize, mut items: Vec<T>)
+    requires { at + length items.items ≤ length old.old.items }
+    ensures { old.new.items ≡ written at items.items old.old.items }
+{
+    let end = at + items.len();
+    old[at..end].swap_with_slice(items.as_mut_slice());
 }
 
 /// Replaces the vector by a copy where another list shares it.

@@ -22,8 +22,8 @@ const MAX_BLOCKS: usize = 128;
 /// A list in blocks, each a run. Contracts see the list of its elements.
 #[derive(Drop)]
 pub struct Level<T, R: Run<T>> {
-    blocks: Vec<Block<T, R>>,
-    len: usize,
+    pub(crate) blocks: Vec<Block<T, R>>,
+    pub(crate) len: usize,
 }
 
 impl<T, R: Run<T>> Model for Level<T, R> {

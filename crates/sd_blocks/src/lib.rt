@@ -28,6 +28,7 @@ mod search;
 mod search_blocks;
 mod shift;
 mod try_copy;
+mod write;
 
 pub use laws::snapshot_stays;
 pub use leaf::Leaf;

@@ -1,7 +1,8 @@
 //! A run that is a list in blocks.
 
-ghost use Rattle.std.specs.Prelude.{◌≡◌, IfOk};
+ghost use Rattle.std.specs.Prelude.{◌≡◌, ◌+◌, ◌≤◌, length, IfOk, OnOk};
 ghost use Rattle.std.specs.Arc.{arc_value};
+ghost use Rattle.sd_blocks.specs.Runs.{written};
 
 use crate::level::Level;
 use crate::run::Run;
@@ -60,6 +61,18 @@ impl<T: Drop, R: Run<T>> Run<T> for Nested<T, R> {
         own(alloc, &mut self.list)?;
         match Arc::get_mut(&mut self.list) {
             Some(list) => list.set(alloc, at, item),
+            None => Err(AllocError),
+        }
+    }
+
+    fn write(&mut self, alloc: Global, at: usize, items: Vec<T>) -> Result<(), AllocError>
+        requires { at + length items.items ≤ length self.old }
+        ensures len { length self.new ≡ length self.old }
+        ensures done { OnOk result (self.new ≡ written at items.items self.old) }
+    {
+        own(alloc, &mut self.list)?;
+        match Arc::get_mut(&mut self.list) {
+            Some(list) => list.write(alloc, at, items),
             None => Err(AllocError),
         }
     }

@@ -1,10 +1,10 @@
 //! What a list consists of.
 
-ghost use Rattle.std.specs.Prelude.{◌≡◌, ◌<◌, ◌≤◌, [], ◌∷◌, length, IfOk, IfSome, OnOk, OnErr, slice_set};
+ghost use Rattle.std.specs.Prelude.{◌≡◌, ◌+◌, ◌<◌, ◌≤◌, [], ◌∷◌, length, IfOk, IfSome, OnOk, OnErr, slice_set};
 ghost use Rattle.std.specs.Prelude.{slice_index_or};
 ghost use Rattle.std.specs.List.{insert, remove};
 ghost use Rattle.std.specs.List.Sorted.{IsSearchInRange, IsBinarySearchResult};
-ghost use Rattle.sd_blocks.specs.Runs.{IsRunAt, AreParts};
+ghost use Rattle.sd_blocks.specs.Runs.{IsRunAt, AreParts, written};
 
 use crate::search::Sought;
 use std::alloc::{AllocError, Global};
@@ -49,6 +49,12 @@ pub trait Run<T>: Sized + Drop {
         ensures len { length (elements self.new) ≡ length (elements self.old) }
         ensures done { OnOk result (elements self.new ≡ slice_set (elements self.old) at item) }
         ensures refused { OnErr result (elements self.new ≡ elements self.old) };
+
+    /// Writes elements from a position on. After an error some are written.
+    fn write(&mut self, alloc: Global, at: usize, items: Vec<T>) -> Result<(), AllocError>
+        requires { at + length items.items ≤ length (elements self.old) }
+        ensures len { length (elements self.new) ≡ length (elements self.old) }
+        ensures done { OnOk result (elements self.new ≡ written at items.items (elements self.old)) };
 
     /// Inserts an element before a position.
     fn insert(&mut self, alloc: Global, at: usize, item: T) -> Result<(), AllocError>

@@ -1,7 +1,7 @@
-//! Runs of a list that are removed, inserted, replaced and moved.
+//! Runs of a list that are removed, inserted and written.
 
 ghost use Rattle.std.specs.Prelude.{◌≡◌, ◌+◌, ◌≤◌, length, IfOk, OnOk, OnErr};
-ghost use Rattle.sd_blocks.specs.Runs.{run_at, without_run, with_run, replaced, moved};
+ghost use Rattle.sd_blocks.specs.Runs.{run_at, without_run, with_run, written};
 
 use crate::level::Level;
 use crate::run::Run;
@@ -39,43 +39,15 @@ impl<T: Drop, R: Run<T>> Level<T, R> {
         Ok(())
     }
 
-    /// Replaces so many elements from a position on by others. It fails only when memory is out, and then the list is
-    /// as it was.
-    pub fn replace_run(
-        &mut self,
-        alloc: Global,
-        from: usize,
-        count: usize,
-        run: Vec<T>,
-    ) -> Result<(), AllocError>
-        requires { from + count ≤ length self.old }
-        ensures done { OnOk result (self.new ≡ replaced from count run.items self.old) }
+    /// Writes elements from a position on, block by block. It fails only when memory is out, and then the list is as it
+    /// was.
+    pub fn write_run(&mut self, alloc: Global, at: usize, run: Vec<T>) -> Result<(), AllocError>
+        requires { at + length run.items ≤ length self.old }
+        ensures done { OnOk result (self.new ≡ written at run.items self.old) }
         ensures refused { OnErr result (self.new ≡ self.old) }
     {
         let mut changed = self.copy(alloc)?;
-        let _removed = changed.take_run(alloc, from, count)?;
-        changed.put_run(alloc, from, run)?;
-        *self = changed;
-        Ok(())
-    }
-
-    /// Moves so many elements from a position on before another position, which is counted among the other elements.
-    /// It fails only when memory is out, and then the list is as it was.
-    pub fn move_run(
-        &mut self,
-        alloc: Global,
-        from: usize,
-        count: usize,
-        to: usize,
-    ) -> Result<(), AllocError>
-        requires run { from + count ≤ length self.old }
-        requires place { to + count ≤ length self.old }
-        ensures done { OnOk result (self.new ≡ moved from count to self.old) }
-        ensures refused { OnErr result (self.new ≡ self.old) }
-    {
-        let mut changed = self.copy(alloc)?;
-        let run = changed.take_run(alloc, from, count)?;
-        changed.put_run(alloc, to, run)?;
+        changed.write(alloc, at, run)?;
         *self = changed;
         Ok(())
     }

@@ -216,32 +216,17 @@ fn insert_run(alloc: Global, list: &mut Blocks<u64>, at: usize, run: Vec<u64>) -
     list.insert_run(alloc, at, run).is_ok()
 }
 
-/// Replaces a run. Whether the list has it.
-fn replace_run(
-    alloc: Global,
-    list: &mut Blocks<u64>,
-    from: usize,
-    count: usize,
-    run: Vec<u64>,
-) -> bool {
+/// Writes a run. Whether the list has as many elements from the position on.
+fn write_run(alloc: Global, list: &mut Blocks<u64>, at: usize, run: Vec<u64>) -> bool {
     let len = list.len();
-    if from > len || count > len - from {
+    if at > len || run.len() > len - at {
         return false;
     }
-    list.replace_run(alloc, from, count, run).is_ok()
-}
-
-/// Moves a run. Whether the list has it, and the position.
-fn move_run(alloc: Global, list: &mut Blocks<u64>, from: usize, count: usize, to: usize) -> bool {
-    let len = list.len();
-    if count > len || from > len - count || to > len - count {
-        return false;
-    }
-    list.move_run(alloc, from, count, to).is_ok()
+    list.write_run(alloc, at, run).is_ok()
 }
 
 #[test]
-fn runs_are_removed_inserted_replaced_and_moved(rt: HostRuntime) {
+fn runs_are_removed_inserted_and_written(rt: HostRuntime) {
     let alloc = rt.alloc();
     let mut list = list_of(alloc, &[0, 1, 2, 3, 4, 5, 6, 7]).expect(&rt, "memory");
     let run = remove_run(alloc, &mut list, 2, 3).expect(&rt, "a run");
@@ -249,13 +234,9 @@ fn runs_are_removed_inserted_replaced_and_moved(rt: HostRuntime) {
     assert!(rt; is_same(&list, &[0, 1, 5, 6, 7]));
     assert!(rt; insert_run(alloc, &mut list, 4, run));
     assert!(rt; is_same(&list, &[0, 1, 5, 6, 2, 3, 4, 7]));
-    assert!(rt; move_run(alloc, &mut list, 4, 3, 1));
-    assert!(rt; is_same(&list, &[0, 2, 3, 4, 1, 5, 6, 7]));
-    assert!(rt; move_run(alloc, &mut list, 1, 3, 5));
-    assert!(rt; is_same(&list, &[0, 1, 5, 6, 7, 2, 3, 4]));
     let run = vec![in alloc; 8, 9].expect(&rt, "memory");
-    assert!(rt; replace_run(alloc, &mut list, 0, 4, run));
-    assert!(rt; is_same(&list, &[8, 9, 7, 2, 3, 4]));
+    assert!(rt; write_run(alloc, &mut list, 3, run));
+    assert!(rt; is_same(&list, &[0, 1, 5, 8, 9, 3, 4, 7]));
 }
 
 /// A list may be read by several threads, and dropped by any.
