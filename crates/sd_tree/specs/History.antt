@@ -1,5 +1,5 @@
 -- What a tree is to those that keep several: how it began, and the edits that it accepted since.
-use Rattle.std.specs.Prelude.{◌≡◌, ◌≤◌, List, length, take}
+use Rattle.std.specs.Prelude.{List}
 use Rattle.sd_tree.specs.Journal.{TreeValue}
 use Rattle.sd_tree.specs.declared.edit.Edit.{Edit}
 use Rattle.sd_tree.specs.declared.opening.Opening.{Opening}
@@ -10,9 +10,3 @@ pub record History : Type 0 where
 
 abbrev pub history_of : TreeValue → History
 history_of t = record { opening = t.opening; journal = t.journal }
-
--- the tree is what the other one was earlier
-abbrev pub IsBefore : TreeValue → TreeValue → Type 0
-IsBefore tree later =
-    (tree.opening ≡ later.opening) × (length tree.journal ≤ length later.journal)
-    × (tree.journal ≡ take (length tree.journal) later.journal)

@@ -46,16 +46,6 @@ impl<T: Drop> Shared<T> {
         }
     }
 
-    /// The value, of its last holder; of another one the same comes back.
-    pub fn try_unwrap(self) -> Result<T, Shared<T>>
-        ensures { MatchResult result (λ value. value ≡ self) (λ back. back ≡ self) }
-    {
-        match Arc::try_unwrap(self.value) {
-            Ok(value) => Ok(value),
-            Err(value) => Err(Shared { value }),
-        }
-    }
-
     /// The same value, for one holder more. `AllocError` only where its count of holders is full.
     pub fn share(&self) -> Result<Shared<T>, AllocError>
         ensures { IfOk result (λ shared. shared ≡ self.now) }

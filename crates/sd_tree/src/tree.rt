@@ -4,7 +4,6 @@ ghost use Rattle.std.specs.Prelude.{◌≡◌, ◌≤◌, [], ◌∷◌, ◌++�
 ghost use Rattle.std.specs.Prelude.{MatchResult, option_map};
 ghost use Rattle.sd_acl.specs.Descriptor.{descriptor_of};
 ghost use Rattle.sd_tree.specs.Answers.{answer, kind_at, descriptor_at, IsError};
-ghost use Rattle.sd_tree.specs.History.{history_of, IsBefore};
 ghost use Rattle.sd_tree.specs.Journal.{opening_of, root_row, replay, refusal, root_refusal, IsLawful};
 ghost use Rattle.sd_tree.specs.Plain.{row_at};
 ghost use Rattle.sd_tree.specs.Plans.{IsPlanned};
@@ -206,18 +205,6 @@ impl Tree {
             journal,
             nodes,
         })
-    }
-
-    /// This tree, which is what another one was earlier, gets the edits that it lacks: it becomes a copy of that one.
-    /// After an `AllocError` it is as it was.
-    pub fn catch_up(&mut self, ahead: &Tree) -> Result<(), AllocError>
-        requires before { IsBefore self.old ahead.now }
-        ensures before { IsBefore self.new ahead.now }
-        ensures caught_up { OnOk result (history_of self.new ≡ history_of ahead.now) }
-        ensures refused { OnErr result (history_of self.new ≡ history_of self.old) }
-    {
-        *self = ahead.copy()?;
-        Ok(())
     }
 
     /// The edit joins the journal, and its plan is carried out. Room in the journal is made first: after an error the
