@@ -22,3 +22,4 @@ pub use error::PathError;
 pub use lent::PathRef;
 pub use name::Name;
 pub use path::Path;
+pub use read::MAX_NAMES;

@@ -10,7 +10,7 @@ use crate::path::Path;
 use std::alloc::{AllocError, Global};
 
 /// The most names of a path.
-pub(crate) const MAX_NAMES: u8 = 128;
+pub const MAX_NAMES: u8 = 128;
 
 /// The most bytes of a name.
 pub(crate) const MAX_NAME_BYTES: usize = 255;
