@@ -31,6 +31,8 @@ each verdict SY 0x1 BU +take
 each -0 frombin
 --names each why SY 0x1
 --without-sacl print D:
+--aliases print D:
+--aliases --domain S-1-5-21-1-2-3 verdict D: SY 0x1
 --without-sacl frombin --base64
 --base64 --without-sacl frombin AA==
 --mapping key verdict D: SY 0x1
@@ -162,6 +164,7 @@ serve --ids --ids
 each
 each -0
 --without-sacl --without-sacl print D:
+--aliases --aliases print D:
 --base64 --base64 frombin 00
 --mapping key --mapping key lint D:
 --mapping lint D:
@@ -258,6 +261,8 @@ MISPLACED_OPTIONS = r"""
 --percent print D:
 --strict each print
 --without-sacl script
+--aliases script
+--aliases frombin 00
 --loose script
 --base64 tobin D:
 --mapping key print D:

@@ -27,7 +27,7 @@ apart xs ys a b us vs long differ same =
 -- no SID begins with a plus
 no_plus : (rest : List ℕ) (s : SidValue) → Spells sid_text (43 ∷ rest) s → ⊥
 unfolding sid_grammar domain_alias no_alias aliases
-no_plus rest s spelled = ⊎_elim (λ x. cc (x.0)) (λ x. ⊎_elim (λ y. cc (y)) (λ y. ⊎_elim (λ z. z.1) (λ z. ⊎_elim (λ u. u.1) (λ u. u.1) z.1) y.1) x.1) spelled.2
+no_plus rest s spelled = ⊎_elim (λ x. cc (x.0)) (λ x. ⊎_elim (λ y. cc (y)) (λ y. ⊎_elim (λ w. cc (w)) (λ w. ⊎_elim (λ z. z.1) (λ z. ⊎_elim (λ u. u.1) (λ u. u.1) z.1) w.1) y.1) x.1) spelled.2
 
 -- a text with the ending of a restricting SID has no other
 not_denied : (text front other : List ℕ) → text ≡ front ++ codes "=restrict" → text ≡ other ++ codes "=deny" → ⊥

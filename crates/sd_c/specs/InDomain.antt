@@ -1,12 +1,14 @@
 -- The answers of the calls that parse the aliases of a domain's accounts and groups ([MS-DTYP] 2.4.2.4).
-use Rattle.std.specs.Prelude.{◌≡◌, ◌⊎◌, ℕ, List, Option, Some, Ok, Err}
+use Rattle.std.specs.Prelude.{◌≡◌, ◌⊎◌, ℕ, List, Some, Ok, Err}
 use Rattle.sd_sid.specs.Sid.{SidValue}
 use Rattle.sd_sid.specs.SidBytes.{sid_reading, bytes_of_sid}
 use Rattle.sd_acl.specs.Descriptor.{DescriptorValue}
+use Rattle.sd_text.specs.Alias.{in_domain}
 use Rattle.sd_text.specs.Domain.{domain_sid}
 use Rattle.sd_text.specs.Grammar.{Grammar, Spells}
 use Rattle.sd_text.specs.Sddl.{sddl_in}
 use Rattle.sd_text.specs.Sid.{sid_text_in}
+use Rattle.sd_text.specs.declared.alias.Aliases.{Aliases}
 use Rattle.sd_text.specs.declared.domain.Domain.{Domain}
 use Rattle.sd_wire.specs.Writing.{wire_of}
 use Rattle.sd_c.specs.declared.refusal.Refusal.{Refusal}
@@ -32,19 +34,19 @@ RefusesDomain bytes (Sid fault) = sid_reading bytes ≡ Err fault
 RefusesDomain bytes NoDomain = IsOfNoDomain bytes
 
 -- the domain's bytes are refused, or the text that is parsed in it
-abbrev pub RefusesIn : {A : Type 0} → (Option Domain → Grammar A) → List ℕ → List ℕ → Refusal → Type 0
+abbrev pub RefusesIn : {A : Type 0} → (Aliases → Grammar A) → List ℕ → List ℕ → Refusal → Type 0
 RefusesIn grammar bytes text why =
     RefusesDomain bytes why
-    ⊎ ((domain : Domain) × IsDomainOf bytes domain × RefusesText (grammar (Some domain)) text why)
+    ⊎ ((domain : Domain) × IsDomainOf bytes domain × RefusesText (grammar (in_domain (Some domain))) text why)
 
 -- the self-relative form of the descriptor that the text spells in the domain
 abbrev pub IsFormOfIn : List ℕ → List ℕ → List ℕ → Type 0
 IsFormOfIn bytes text form =
-    (domain : Domain) × (d : DescriptorValue) × IsDomainOf bytes domain × Spells (sddl_in (Some domain)) text d
+    (domain : Domain) × (d : DescriptorValue) × IsDomainOf bytes domain × Spells (sddl_in (in_domain (Some domain))) text d
     × (form ≡ wire_of d)
 
 -- the bytes of the SID that the text spells in it
 abbrev pub IsSidOfIn : List ℕ → List ℕ → List ℕ → Type 0
 IsSidOfIn bytes text form =
-    (domain : Domain) × (s : SidValue) × IsDomainOf bytes domain × Spells (sid_text_in (Some domain)) text s
+    (domain : Domain) × (s : SidValue) × IsDomainOf bytes domain × Spells (sid_text_in (in_domain (Some domain))) text s
     × (form ≡ bytes_of_sid s)

@@ -2,6 +2,7 @@
 
 ghost use Rattle.std.specs.Prelude.{◌≡◌, IfOk, IfErr, string_bytes};
 ghost use Rattle.sd_acl.specs.Descriptor.{descriptor_of as value_of};
+ghost use Rattle.sd_text.specs.Alias.{in_domain};
 ghost use Rattle.sd_text.specs.Grammar.{Spells};
 ghost use Rattle.sd_text.specs.Rights.{mask_text};
 ghost use Rattle.sd_text.specs.Sddl.{sddl, sddl_in};
@@ -14,7 +15,8 @@ use crate::refusal::Refusal;
 use sd_acl::Descriptor;
 use sd_sid::{Mask, Sid, sid_bytes};
 use sd_text::{
-    Domain, TextError, print_mask_names, print_sddl, read_mask, read_sddl_in, read_sid_text_in,
+    Aliases, Domain, TextError, print_mask_names, print_sddl, read_mask, read_sddl_in,
+    read_sid_text_in,
 };
 use sd_wire::write_descriptor;
 use std::alloc::{AllocError, Global};
@@ -107,11 +109,11 @@ pub(crate) fn descriptor_of(
     domain: Option<Domain>,
     text: &[u8],
 ) -> Result<Descriptor, Refusal>
-    ensures ok { IfOk result (λ d. Spells (sddl_in domain) text.now (value_of d)) }
-    ensures err { IfErr result (λ why. RefusesText (sddl_in domain) text.now why) }
+    ensures ok { IfOk result (λ d. Spells (sddl_in (in_domain domain)) text.now (value_of d)) }
+    ensures err { IfErr result (λ why. RefusesText (sddl_in (in_domain domain)) text.now why) }
 {
     match utf8_of(text) {
-        Ok(text) => match read_sddl_in(alloc, domain, text) {
+        Ok(text) => match read_sddl_in(alloc, Aliases::in_domain(domain), text) {
             Ok(descriptor) => Ok(descriptor),
             Err(e) => Err(refusal_of(e)),
         },
@@ -121,11 +123,11 @@ pub(crate) fn descriptor_of(
 
 /// The SID that the text spells, in the domain if one is given.
 pub(crate) fn sid_of(domain: Option<Domain>, text: &[u8]) -> Result<Sid, Refusal>
-    ensures ok { IfOk result (λ sid. Spells (sid_text_in domain) text.now sid) }
-    ensures err { IfErr result (λ why. RefusesText (sid_text_in domain) text.now why) }
+    ensures ok { IfOk result (λ sid. Spells (sid_text_in (in_domain domain)) text.now sid) }
+    ensures err { IfErr result (λ why. RefusesText (sid_text_in (in_domain domain)) text.now why) }
 {
     match utf8_of(text) {
-        Ok(text) => match read_sid_text_in(domain, text) {
+        Ok(text) => match read_sid_text_in(Aliases::in_domain(domain), text) {
             Ok(sid) => Ok(sid),
             Err(e) => Err(refusal_of(e)),
         },

@@ -2,6 +2,7 @@
 
 ghost use Rattle.std.specs.Prelude.{◌<◌, IfErr, IfOk, length};
 ghost use Rattle.sd_acl.specs.Descriptor.{descriptor_of as value_of};
+ghost use Rattle.sd_text.specs.Alias.{in_domain};
 ghost use Rattle.sd_text.specs.Grammar.{Spells};
 ghost use Rattle.sd_text.specs.Sacl.{sddl_without_sacl};
 ghost use Rattle.sd_c.specs.InDomain.{RefusesDomain};
@@ -13,7 +14,7 @@ use crate::in_domain::domain_of;
 use crate::refusal::Refusal;
 use crate::text::{refusal_of, utf8_of};
 use crate::trim::Trimmed;
-use sd_text::{Domain, WithoutSacl, read_sddl_without_sacl};
+use sd_text::{Aliases, Domain, WithoutSacl, read_sddl_without_sacl};
 use sd_wire::write_descriptor;
 use std::alloc::Global;
 
@@ -67,11 +68,12 @@ fn domain_argument(bytes: &[u8]) -> Result<Option<Domain>, Refusal>
 
 /// The descriptor that the text spells, without its SACL.
 fn parsed(alloc: Global, domain: Option<Domain>, text: &[u8]) -> Result<WithoutSacl, Refusal>
-    ensures ok { IfOk result (λ r. Spells (sddl_without_sacl domain) text.now (value_of r.descriptor, r.left_out)) }
-    ensures err { IfErr result (λ why. RefusesText (sddl_without_sacl domain) text.now why) }
+    ensures ok { IfOk result (λ r. Spells (sddl_without_sacl (in_domain domain)) text.now
+        (value_of r.descriptor, r.left_out)) }
+    ensures err { IfErr result (λ why. RefusesText (sddl_without_sacl (in_domain domain)) text.now why) }
 {
     match utf8_of(text) {
-        Ok(text) => match read_sddl_without_sacl(alloc, domain, text) {
+        Ok(text) => match read_sddl_without_sacl(alloc, Aliases::in_domain(domain), text) {
             Ok(parsed) => Ok(parsed),
             Err(e) => Err(refusal_of(e)),
         },

@@ -27,6 +27,7 @@ use Rattle.sd_command_line.specs.declared.input.ByteOrder.{ByteOrder}
 use Rattle.sd_command_line.specs.declared.each.Progress.{Progress}
 use Rattle.sd_command_line.specs.declared.each.Progress.TheVariants.{NoLine}
 use Rattle.sd_command_line.specs.Options.{OptionsValue, AreSettings, HasBadValue, is_strict}
+use Rattle.sd_text.specs.Alias.{in_domain}
 use Rattle.sd_commands.specs.Answer.{AnswerValue, AnswersQuestion, IsDone, IsFault, is_refusal}
 use Rattle.sd_commands.specs.Told.{told_line, IsSidReason}
 use Rattle.sd_commands.specs.declared.answer.Outcome.TheVariants.{Done}
@@ -56,7 +57,7 @@ AnswersUnder settings (AsksEach lines request) answer = ⊥
 -- the value of an option isn't read
 abbrev pub IsBadValue : BadValue → AnswerValue → Type 0
 IsBadValue (NoDomain text) answer =
-    (reason : List ℕ) × IsSidReason None (codes "no domain") text.now reason
+    (reason : List ℕ) × IsSidReason (in_domain None) (codes "no domain") text.now reason
     × IsFault (fault_line (codes "domain")) (told_line (codes "--domain") reason) answer
 IsBadValue NoMapping answer = IsFault (fault_line (codes "mapping"))
     (told_line (codes "--mapping") (codes "no such mapping")) answer

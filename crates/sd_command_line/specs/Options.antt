@@ -16,7 +16,7 @@ use Rattle.sd_usage.specs.Table.{option_named, takes_option}
 use Rattle.sd_usage.specs.declared.row.Command.{Command}
 use Rattle.sd_usage.specs.declared.row.OptionName.{OptionName}
 use Rattle.sd_usage.specs.declared.row.OptionName.TheVariants.{Stdin, Names, WithoutSacl, RequireDacl, Base64, Loose}
-use Rattle.sd_usage.specs.declared.row.OptionName.TheVariants.{Percent, Strict, Domain, Mapping}
+use Rattle.sd_usage.specs.declared.row.OptionName.TheVariants.{Percent, Strict, Domain, Aliases, Mapping}
 use Rattle.sd_usage.specs.declared.row.ProgramOption.{ProgramOption}
 use Rattle.sd_usage.specs.declared.table.TheConstants.{OPTIONS}
 use Rattle.sd_commands.specs.Mapping.{GivesMapping, GivesNoMapping, kind_given}
@@ -38,6 +38,7 @@ pub record OptionsValue : Type 0 where
   pub percent : Option (List ℕ)
   pub strict : Option (List ℕ)
   pub domain : Option (List ℕ)
+  pub aliases : Option (List ℕ)
   pub mapping : Option (List ℕ)
 
 abbrev pub options_of : Options → OptionsValue
@@ -51,6 +52,7 @@ options_of options = record {
   percent = option_map (λ text. text.now) options.percent;
   strict = option_map (λ text. text.now) options.strict;
   domain = option_map (λ text. text.now) options.domain;
+  aliases = option_map (λ text. text.now) options.aliases;
   mapping = option_map (λ text. text.now) options.mapping;
 }
 
@@ -65,6 +67,7 @@ no_options = record {
   percent = None;
   strict = None;
   domain = None;
+  aliases = None;
   mapping = None;
 }
 
@@ -79,6 +82,7 @@ given options Loose = options.loose
 given options Percent = options.percent
 given options Strict = options.strict
 given options Domain = options.domain
+given options Aliases = options.aliases
 given options Mapping = options.mapping
 
 abbrev pub has : OptionsValue → OptionName → Bool
@@ -94,6 +98,7 @@ with_value options Loose value = record options { loose = Some value }
 with_value options Percent value = record options { percent = Some value }
 with_value options Strict value = record options { strict = Some value }
 with_value options Domain value = record options { domain = Some value }
+with_value options Aliases value = record options { aliases = Some value }
 with_value options Mapping value = record options { mapping = Some value }
 
 -- one more option, where it isn't one of these already
@@ -171,7 +176,8 @@ IsNoDomain text = (domain : DomainValue) → Spells sid_text text (domain_sid do
 -- what the options say of a descriptor
 pub record AreSettings (options : OptionsValue) (settings : Settings) : Type 0 where
   pub spelling : settings.spelling ≡ spelling_of options
-  pub domain : GivesDomain options.domain settings.domain
+  pub domain : GivesDomain options.domain settings.aliases.domain
+  pub later : settings.aliases.later ≡ is_some options.aliases
   pub mapping : GivesMapping options.mapping settings.mapping
   pub kind : settings.kind ≡ kind_given options.mapping
   pub without_sacl : settings.without_sacl ≡ is_some options.without_sacl

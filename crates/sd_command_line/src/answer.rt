@@ -8,6 +8,7 @@ use crate::command_line::{CommandLine, Invocation};
 use crate::options::BadValue;
 use crate::version::version_text;
 use sd_commands::{Answer, Settings, answer_question, fault, sid_reason, told_line};
+use sd_text::Aliases;
 use sd_usage::help;
 use std::alloc::{AllocError, Global};
 
@@ -52,7 +53,7 @@ pub(crate) fn bad_value(alloc: Global, bad: BadValue<'_>) -> Result<Answer, Allo
 {
     match bad {
         BadValue::NoDomain(text) => {
-            let reason = sid_reason(alloc, None, "no domain", text)?;
+            let reason = sid_reason(alloc, Aliases::in_domain(None), "no domain", text)?;
             fault(
                 alloc,
                 "domain",

@@ -14,7 +14,7 @@ ghost use Rattle.sd_command_line.specs.Options.{with_value};
 use sd_answer::Spelling;
 use sd_commands::{ByteForm, Settings, kind_given, mapping_given};
 use sd_script::{Manner, PathSpelling};
-use sd_text::{Domain, read_sid_text};
+use sd_text::{Aliases, Domain, read_sid_text};
 use sd_usage::{Command, OPTIONS, OptionName, OptionRow, ProgramOption, option_named};
 
 /// The value of an option that isn't read.
@@ -39,6 +39,7 @@ pub(crate) struct Options<'a> {
     percent: Option<&'a str>,
     strict: Option<&'a str>,
     domain: Option<&'a str>,
+    aliases: Option<&'a str>,
     mapping: Option<&'a str>,
 }
 
@@ -57,6 +58,7 @@ impl<'a> Options<'a> {
             percent: None,
             strict: None,
             domain: None,
+            aliases: None,
             mapping: None,
         }
     }
@@ -75,6 +77,7 @@ impl<'a> Options<'a> {
             OptionName::Percent => self.percent,
             OptionName::Strict => self.strict,
             OptionName::Domain => self.domain,
+            OptionName::Aliases => self.aliases,
             OptionName::Mapping => self.mapping,
         }
     }
@@ -130,6 +133,10 @@ impl<'a> Options<'a> {
                 domain: value,
                 ..self
             },
+            OptionName::Aliases => Options {
+                aliases: value,
+                ..self
+            },
             OptionName::Mapping => Options {
                 mapping: value,
                 ..self
@@ -167,7 +174,10 @@ impl<'a> Options<'a> {
         };
         Ok(Settings {
             spelling: self.spelling(),
-            domain,
+            aliases: Aliases {
+                domain,
+                later: self.has(OptionName::Aliases),
+            },
             mapping,
             kind: kind_given(self.mapping),
             without_sacl: self.has(OptionName::WithoutSacl),

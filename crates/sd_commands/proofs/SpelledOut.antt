@@ -8,53 +8,43 @@ use Rattle.std.proofs.lemmas.List.{take_more}
 use Rattle.std.proofs.lemmas.List.Sums.{position_or_len_is}
 use Rattle.std.proofs.lemmas.Str.Pattern.{find_char}
 use Rattle.sd_answer.specs.Word.{IsFirstNoGroup, IsFirstNoWord, texts}
-use Rattle.sd_text.specs.declared.domain.Domain.{Domain}
+use Rattle.sd_text.specs.declared.alias.Aliases.{Aliases}
 use Rattle.sd_commands.specs.Told.{word_at}
 use Rattle.sd_commands.specs.Words.{AreSpelledOut, IsSpelledOut, sid_length}
 
 -- one word more
-AreSpelledOut-push : {A : Type 0} (bytes : A → List ℕ) (domain : Domain) (front : List (Bor (List ℕ))) (fulls : List A) (word : Bor (List ℕ)) (full : A)
-    → AreSpelledOut domain (texts front) (map bytes fulls) → IsSpelledOut domain word.now (bytes full)
-    → AreSpelledOut domain (texts (front ++ word ∷ [])) (map bytes (fulls ++ full ∷ []))
-AreSpelledOut-push bytes domain [] [] word full are is = (is, tt)
-AreSpelledOut-push bytes domain [] (f ∷ fulls) word full are is = absurd are
-AreSpelledOut-push bytes domain (w ∷ front) [] word full are is = absurd are
-AreSpelledOut-push bytes domain (w ∷ front) (f ∷ fulls) word full are is = (are.0, AreSpelledOut-push bytes domain front fulls word full are.1 is)
+AreSpelledOut-push : {A : Type 0} (bytes : A → List ℕ) (known : Aliases) (front : List (Bor (List ℕ))) (fulls : List A) (word : Bor (List ℕ)) (full : A)
+    → AreSpelledOut known (texts front) (map bytes fulls) → IsSpelledOut known word.now (bytes full)
+    → AreSpelledOut known (texts (front ++ word ∷ [])) (map bytes (fulls ++ full ∷ []))
+AreSpelledOut-push bytes known [] [] word full are is = (is, tt)
+AreSpelledOut-push bytes known [] (f ∷ fulls) word full are is = absurd are
+AreSpelledOut-push bytes known (w ∷ front) [] word full are is = absurd are
+AreSpelledOut-push bytes known (w ∷ front) (f ∷ fulls) word full are is = (are.0, AreSpelledOut-push bytes known front fulls word full are.1 is)
 
-pub AreSpelledOut-more : {A : Type 0} (bytes : A → List ℕ) (domain : Domain) (lent : List (Bor (List ℕ))) (i : ℕ) (d : Bor (List ℕ)) (fulls new : List A) (full : A)
-    → i < length lent → AreSpelledOut domain (texts (take i lent)) (map bytes fulls) → IsSpelledOut domain (get_or lent i d).now (bytes full)
-    → new ≡ fulls ++ full ∷ [] → AreSpelledOut domain (texts (take (i + 1) lent)) (map bytes new)
-AreSpelledOut-more bytes domain lent i d fulls new full low are is more =
-    rw (more, take_more lent i d low) (AreSpelledOut-push bytes domain (take i lent) fulls (get_or lent i d) full are is)
+pub AreSpelledOut-more : {A : Type 0} (bytes : A → List ℕ) (known : Aliases) (lent : List (Bor (List ℕ))) (i : ℕ) (d : Bor (List ℕ)) (fulls new : List A) (full : A)
+    → i < length lent → AreSpelledOut known (texts (take i lent)) (map bytes fulls) → IsSpelledOut known (get_or lent i d).now (bytes full)
+    → new ≡ fulls ++ full ∷ [] → AreSpelledOut known (texts (take (i + 1) lent)) (map bytes new)
+AreSpelledOut-more bytes known lent i d fulls new full low are is more =
+    rw (more, take_more lent i d low) (AreSpelledOut-push bytes known (take i lent) fulls (get_or lent i d) full are is)
 
 -- the first word that is none is one of them
-pub first_within : (lent : List (Bor (List ℕ))) (place : ℕ) → IsFirstNoWord (texts lent) place → place < length lent
-first_within [] place first = absurd first
-first_within (w ∷ lent) zero first = omega arith
-first_within (w ∷ lent) (suc place) first = let low = first_within lent place first.1 in omega (arith, low)
-
-pub spelled_within : (domain : Domain) (lent : List (Bor (List ℕ))) (fulls : List (List ℕ)) (place : ℕ)
-    → AreSpelledOut domain (texts lent) fulls → IsFirstNoWord fulls place → place < length lent
-spelled_within domain [] [] place are first = absurd first
-spelled_within domain [] (f ∷ fulls) place are first = absurd are
-spelled_within domain (w ∷ lent) [] place are first = absurd are
-spelled_within domain (w ∷ lent) (f ∷ fulls) zero are first = omega arith
-spelled_within domain (w ∷ lent) (f ∷ fulls) (suc place) are first = let low = spelled_within domain lent fulls place are.1 first.1 in omega (arith, low)
+pub spelled_within : (known : Aliases) (lent : List (Bor (List ℕ))) (fulls : List (List ℕ)) (place : ℕ)
+    → AreSpelledOut known (texts lent) fulls → IsFirstNoWord fulls place → place < length lent
+spelled_within known [] [] place are first = absurd first
+spelled_within known [] (f ∷ fulls) place are first = absurd are
+spelled_within known (w ∷ lent) [] place are first = absurd are
+spelled_within known (w ∷ lent) (f ∷ fulls) zero are first = omega arith
+spelled_within known (w ∷ lent) (f ∷ fulls) (suc place) are first = let low = spelled_within known lent fulls place are.1 first.1 in omega (arith, low)
 
 -- the same of groups
-pub first_group_within : (lent : List (Bor (List ℕ))) (place : ℕ) → IsFirstNoGroup (texts lent) place → place < length lent
-first_group_within [] place first = absurd first
-first_group_within (w ∷ lent) zero first = omega arith
-first_group_within (w ∷ lent) (suc place) first = let low = first_group_within lent place first.1 in omega (arith, low)
-
-pub spelled_group_within : (domain : Domain) (lent : List (Bor (List ℕ))) (fulls : List (List ℕ)) (place : ℕ)
-    → AreSpelledOut domain (texts lent) fulls → IsFirstNoGroup fulls place → place < length lent
-spelled_group_within domain [] [] place are first = absurd first
-spelled_group_within domain [] (f ∷ fulls) place are first = absurd are
-spelled_group_within domain (w ∷ lent) [] place are first = absurd are
-spelled_group_within domain (w ∷ lent) (f ∷ fulls) zero are first = omega arith
-spelled_group_within domain (w ∷ lent) (f ∷ fulls) (suc place) are first =
-    let low = spelled_group_within domain lent fulls place are.1 first.1 in omega (arith, low)
+pub spelled_group_within : (known : Aliases) (lent : List (Bor (List ℕ))) (fulls : List (List ℕ)) (place : ℕ)
+    → AreSpelledOut known (texts lent) fulls → IsFirstNoGroup fulls place → place < length lent
+spelled_group_within known [] [] place are first = absurd first
+spelled_group_within known [] (f ∷ fulls) place are first = absurd are
+spelled_group_within known (w ∷ lent) [] place are first = absurd are
+spelled_group_within known (w ∷ lent) (f ∷ fulls) zero are first = omega arith
+spelled_group_within known (w ∷ lent) (f ∷ fulls) (suc place) are first =
+    let low = spelled_group_within known lent fulls place are.1 first.1 in omega (arith, low)
 
 -- the word at a place, as it stands among those that are lent
 pub word_is : (lent : List (Bor (List ℕ))) (place : ℕ) (d : Bor (List ℕ)) → place < length lent → (get_or lent place d).now ≡ word_at (texts lent) place

@@ -113,14 +113,14 @@ argument arguments place = option_map_or (λ text. text.now) (slice_get argument
 -- the text is this descriptor's; whether the section of a SACL was left out
 abbrev pub IsRead : Settings → List ℕ → DescriptorValue → Bool → Type 0
 IsRead settings written d left_out = MatchBool settings.without_sacl
-    (Spells (sddl_without_sacl settings.domain) written (d, left_out))
-    (Spells (sddl_in settings.domain) written d × (left_out ≡ false))
+    (Spells (sddl_without_sacl settings.aliases) written (d, left_out))
+    (Spells (sddl_in settings.aliases) written d × (left_out ≡ false))
 
 -- the first fault of the text
 abbrev pub IsUnreadAt : Settings → List ℕ → TextFault → ℕ → Type 0
 IsUnreadAt settings written fault place = MatchBool settings.without_sacl
-    (HasFault (sddl_without_sacl settings.domain) written fault place)
-    (HasFault (sddl_in settings.domain) written fault place)
+    (HasFault (sddl_without_sacl settings.aliases) written fault place)
+    (HasFault (sddl_in settings.aliases) written fault place)
 
 abbrev pub IsUnread : Settings → List ℕ → TextError → Type 0
 IsUnread settings written (Fault fault place) = IsUnreadAt settings written fault place
@@ -190,14 +190,14 @@ IsVerdict settings form d token asked answer =
 -- the first of the words that is none, and why
 abbrev pub IsWordFault : Settings → List (List ℕ) → AnswerValue → Type 0
 IsWordFault settings words answer =
-    (place : ℕ) × IsFirstNoWordIn settings.domain words place
-    × (reason : List ℕ) × IsWordReason settings.domain (word_at words place) reason
+    (place : ℕ) × IsFirstNoWordIn settings.aliases words place
+    × (reason : List ℕ) × IsWordReason settings.aliases (word_at words place) reason
     × IsFault (fault_line (codes "token")) (told_line (word_argument place (word_at words place)) reason) answer
 
 -- the words make a token, for which this is the verdict; or one of them is no word
 abbrev pub AnswersWords : Settings → Form → DescriptorValue → SidValue → ℕ → List (Bor (List ℕ)) → AnswerValue → Type 0
 AnswersWords settings form d user asked words answer =
-    ((token : TokenValue) × IsTokenIn settings.domain user (texts words) token
+    ((token : TokenValue) × IsTokenIn settings.aliases user (texts words) token
     × IsVerdict settings form d token asked answer)
     ⊎ IsWordFault settings (texts words) answer
 
@@ -210,9 +210,9 @@ AnswersMask settings form d user mask words answer =
 abbrev pub AnswersUser : Settings → Form → List ℕ → List ℕ → List (Bor (List ℕ)) → DescriptorValue → AnswerValue
     → Type 0
 AnswersUser settings form user mask words d answer =
-    ((sid : SidValue) × Spells (sid_text_in settings.domain) user sid
+    ((sid : SidValue) × Spells (sid_text_in settings.aliases) user sid
     × AnswersMask settings form d sid mask words answer)
-    ⊎ IsTextFault (sid_text_in settings.domain) user (fault_line (codes "sid")) (codes "USER") answer
+    ⊎ IsTextFault (sid_text_in settings.aliases) user (fault_line (codes "sid")) (codes "USER") answer
 
 abbrev pub AnswersVerdictOf : Settings → Form → List ℕ → List ℕ → List ℕ → List (Bor (List ℕ)) → AnswerValue → Type 0
 AnswersVerdictOf settings form written user mask words answer = AnswersOfText settings written
@@ -273,15 +273,15 @@ AnswersFromBinary settings written answer = AnswersDecoded settings (bytes_read 
 -- the first of the words that is no group, and why
 abbrev pub IsGroupFault : Settings → List (Bor (List ℕ)) → AnswerValue → Type 0
 IsGroupFault settings words answer =
-    (place : ℕ) × IsFirstNoGroupIn settings.domain (texts words) place
-    × (reason : List ℕ) × IsStateReason settings.domain (argument words place) reason
+    (place : ℕ) × IsFirstNoGroupIn settings.aliases (texts words) place
+    × (reason : List ℕ) × IsStateReason settings.aliases (argument words place) reason
     × IsFault (fault_line (codes "token")) (told_line (word_argument place (argument words place)) reason) answer
 
 -- the words are a base, of which this is answered; or one of them is no group
 abbrev pub AnswersOfBase : Settings → List (Bor (List ℕ)) → (List (SidValue × GroupState) → AnswerValue → Type 0)
     → AnswerValue → Type 0
 AnswersOfBase settings words Answers answer =
-    ((base : List (SidValue × GroupState)) × IsBaseIn settings.domain (texts words) base × Answers base answer)
+    ((base : List (SidValue × GroupState)) × IsBaseIn settings.aliases (texts words) base × Answers base answer)
     ⊎ IsGroupFault settings words answer
 
 -- whom the rights are granted to is printed

@@ -9,7 +9,7 @@ use Rattle.sd_sid.specs.Sid.{SidValue}
 use Rattle.sd_text.specs.Fault.{number_of, name_of}
 use Rattle.sd_text.specs.Grammar.{Spells, HasFault}
 use Rattle.sd_text.specs.Sid.{sid_text_in}
-use Rattle.sd_text.specs.declared.domain.Domain.{Domain}
+use Rattle.sd_text.specs.declared.alias.Aliases.{Aliases}
 use Rattle.sd_text.specs.declared.fault.TextFault.{TextFault}
 use Rattle.sd_wire.specs.Fault.{wire_fault_number, wire_fault_name}
 use Rattle.sd_wire.specs.declared.fault.WireFault.{WireFault}
@@ -54,20 +54,20 @@ begins_by_plus [] = false
 begins_by_plus (b ∷ bs) = b == 43
 
 -- why a text isn't what it should be: the first fault of its SID, or where it is one, that it isn't a fit one
-abbrev pub IsSidReason : Option Domain → List ℕ → List ℕ → List ℕ → Type 0
-IsSidReason domain unfit text reason =
-    ((sid : SidValue) × Spells (sid_text_in domain) text sid × (reason ≡ unfit))
-    ⊎ ((fault : TextFault) × (place : ℕ) × HasFault (sid_text_in domain) text fault place
+abbrev pub IsSidReason : Aliases → List ℕ → List ℕ → List ℕ → Type 0
+IsSidReason known unfit text reason =
+    ((sid : SidValue) × Spells (sid_text_in known) text sid × (reason ≡ unfit))
+    ⊎ ((fault : TextFault) × (place : ℕ) × HasFault (sid_text_in known) text fault place
     × (reason ≡ fault_text fault place))
 
 -- why a text is no SID with a state
-abbrev pub IsStateReason : Option Domain → List ℕ → List ℕ → Type 0
-IsStateReason domain word reason = IsSidReason domain (codes "no such state") (take (sid_length word) word) reason
+abbrev pub IsStateReason : Aliases → List ℕ → List ℕ → Type 0
+IsStateReason known word reason = IsSidReason known (codes "no such state") (take (sid_length word) word) reason
 
 -- why a text is no word
-abbrev pub IsWordReason : Option Domain → List ℕ → List ℕ → Type 0
-IsWordReason domain word reason = MatchBool (begins_by_plus word) (reason ≡ codes "no such privilege")
-    (IsStateReason domain word reason)
+abbrev pub IsWordReason : Aliases → List ℕ → List ℕ → Type 0
+IsWordReason known word reason = MatchBool (begins_by_plus word) (reason ≡ codes "no such privilege")
+    (IsStateReason known word reason)
 
 -- the word at a place
 abbrev pub word_at : List (List ℕ) → ℕ → List ℕ

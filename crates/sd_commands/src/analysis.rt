@@ -87,7 +87,7 @@ fn who_with_base(
         (λ answer. AnswersOfBase settings words.now (PrintsWho settings asked (descriptor_of descriptor.now))
         (answer_of answer)) }
 {
-    match base_in(alloc, settings.domain, words) {
+    match base_in(alloc, settings.aliases, words) {
         Ok(groups) => who_lines(alloc, settings, descriptor, asked, &groups),
         Err(TokenError::NoWord { place }) => group_fault(alloc, settings, words, place),
         Err(TokenError::Memory) => Err(AllocError),
@@ -129,13 +129,13 @@ pub(crate) fn group_fault(
     words: &[&str],
     place: usize,
 ) -> Result<Answer, AllocError>
-    requires first { IsFirstNoGroupIn settings.domain (texts words.now) place }
+    requires first { IsFirstNoGroupIn settings.aliases (texts words.now) place }
     requires within { place < length words.now }
     ensures { IfOk result (λ answer. IsGroupFault settings words.now (answer_of answer)) }
 {
     let word = argument(words, place);
     let argument = word_argument(alloc, place, word)?;
-    let reason = state_reason(alloc, settings.domain, word)?;
+    let reason = state_reason(alloc, settings.aliases, word)?;
     fault(
         alloc,
         "token",
@@ -202,7 +202,7 @@ fn compare_with_base(
     ensures { IfOk result (λ answer. AnswersOfBase settings words.now
         (PrintsComparison settings (descriptor_of old.now) (descriptor_of new.now)) (answer_of answer)) }
 {
-    match base_in(alloc, settings.domain, words) {
+    match base_in(alloc, settings.aliases, words) {
         Ok(groups) => compare_lines(alloc, settings, old, new, &groups),
         Err(TokenError::NoWord { place }) => group_fault(alloc, settings, words, place),
         Err(TokenError::Memory) => Err(AllocError),

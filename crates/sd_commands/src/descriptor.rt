@@ -50,9 +50,9 @@ fn read_text(alloc: Global, settings: Settings, sddl: &str) -> Result<WithoutSac
     ensures unread { IfErr result (IsUnread settings sddl.now) }
 {
     if settings.without_sacl {
-        return read_sddl_without_sacl(alloc, settings.domain, sddl);
+        return read_sddl_without_sacl(alloc, settings.aliases, sddl);
     }
-    match read_sddl_in(alloc, settings.domain, sddl) {
+    match read_sddl_in(alloc, settings.aliases, sddl) {
         Ok(descriptor) => Ok(WithoutSacl {
             descriptor,
             left_out: false,

@@ -42,7 +42,7 @@ fn lint_with_base(
     ensures { IfOk result (λ answer. AnswersOfBase settings words.now
         (PrintsFindings settings (descriptor_of descriptor.now)) (answer_of answer)) }
 {
-    match base_in(alloc, settings.domain, words) {
+    match base_in(alloc, settings.aliases, words) {
         Ok(groups) => lint_lines(alloc, settings, descriptor, &groups),
         Err(TokenError::NoWord { place }) => group_fault(alloc, settings, words, place),
         Err(TokenError::Memory) => Err(AllocError),

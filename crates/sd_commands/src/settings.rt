@@ -3,7 +3,7 @@
 use crate::mapping::ObjectKind;
 use sd_answer::Spelling;
 use sd_sid::GenericMapping;
-use sd_text::Domain;
+use sd_text::Aliases;
 
 /// How the bytes of a descriptor are spelled.
 #[derive(Clone, Copy, Debug, PartialEq, Eq)]
@@ -21,8 +21,8 @@ pub enum ByteForm {
 pub struct Settings {
     /// How masks are told.
     pub spelling: Spelling,
-    /// Whose the aliases of domains are.
-    pub domain: Option<Domain>,
+    /// Which aliases of SIDs a text may have.
+    pub aliases: Aliases,
     /// What the generic rights stand for ([MS-DTYP] 2.4.3).
     pub mapping: GenericMapping,
     /// The kind of object whose rights are named, if any.

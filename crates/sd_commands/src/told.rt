@@ -5,7 +5,7 @@ ghost use Rattle.sd_commands.specs.Told.{sacl_note, told_line, word_argument};
 
 use crate::shown::shown_word;
 use crate::words::sid_length;
-use sd_text::{Domain, TextError, TextFault, read_sid_text_in};
+use sd_text::{Aliases, TextError, TextFault, read_sid_text_in};
 use std::alloc::{AllocError, Global};
 
 /// The line that tells what is wrong with an argument, as `sdstore: MASK: 1 Syntax at 2`. The only error is out of
@@ -55,13 +55,13 @@ pub(crate) fn sacl_note(alloc: Global, argument: &str, left_out: bool) -> Result
 /// isn't a fit one. The only error is out of memory.
 pub fn sid_reason(
     alloc: Global,
-    domain: Option<Domain>,
+    known: Aliases,
     unfit: &str,
     text: &str,
 ) -> Result<String, AllocError>
-    ensures { IfOk result (λ reason. IsSidReason domain unfit.now text.now (string_bytes reason)) }
+    ensures { IfOk result (λ reason. IsSidReason known unfit.now text.now (string_bytes reason)) }
 {
-    match read_sid_text_in(domain, text) {
+    match read_sid_text_in(known, text) {
         Ok(_) => String::from_str(alloc, unfit),
         Err(TextError::Fault { fault, place }) => fault_text(alloc, fault, place),
         Err(TextError::Memory) => Err(AllocError),
@@ -69,29 +69,21 @@ pub fn sid_reason(
 }
 
 /// Why a text is no word.
-pub(crate) fn word_reason(
-    alloc: Global,
-    domain: Option<Domain>,
-    word: &str,
-) -> Result<String, AllocError>
-    ensures { IfOk result (λ reason. IsWordReason domain word.now (string_bytes reason)) }
+pub(crate) fn word_reason(alloc: Global, known: Aliases, word: &str) -> Result<String, AllocError>
+    ensures { IfOk result (λ reason. IsWordReason known word.now (string_bytes reason)) }
 {
     if begins_by_plus(word) {
         return String::from_str(alloc, "no such privilege");
     }
-    state_reason(alloc, domain, word)
+    state_reason(alloc, known, word)
 }
 
 /// Why a text is no SID with a state.
-pub(crate) fn state_reason(
-    alloc: Global,
-    domain: Option<Domain>,
-    word: &str,
-) -> Result<String, AllocError>
-    ensures { IfOk result (λ reason. IsStateReason domain word.now (string_bytes reason)) }
+pub(crate) fn state_reason(alloc: Global, known: Aliases, word: &str) -> Result<String, AllocError>
+    ensures { IfOk result (λ reason. IsStateReason known word.now (string_bytes reason)) }
 {
     let (sid, _) = word.split_at(sid_length(word));
-    sid_reason(alloc, domain, "no such state", sid)
+    sid_reason(alloc, known, "no such state", sid)
 }
 
 fn begins_by_plus(word: &str) -> bool

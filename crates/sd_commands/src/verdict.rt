@@ -78,7 +78,7 @@ fn verdict_for_user(
         (λ answer. AnswersUser settings form user.now mask.now words.now (descriptor_of descriptor.now)
         (answer_of answer)) }
 {
-    match read_sid_text_in(settings.domain, user) {
+    match read_sid_text_in(settings.aliases, user) {
         Ok(user) => verdict_on_mask(alloc, settings, form, descriptor, user, mask, words),
         Err(TextError::Fault { fault, place }) => text_fault(alloc, "sid", "USER", fault, place),
         Err(TextError::Memory) => Err(AllocError),
@@ -116,7 +116,7 @@ fn verdict_with_words(
     ensures { IfOk result (λ answer. AnswersWords settings form (descriptor_of descriptor.now) user asked words.now
         (answer_of answer)) }
 {
-    match token_in(alloc, settings.domain, user, words) {
+    match token_in(alloc, settings.aliases, user, words) {
         Ok(token) => {
             let verdict = check(descriptor, &settings.mapping, &token, asked);
             Ok(Answer {
@@ -137,13 +137,13 @@ fn word_fault(
     words: &[&str],
     place: usize,
 ) -> Result<Answer, AllocError>
-    requires first { IsFirstNoWordIn settings.domain (texts words.now) place }
+    requires first { IsFirstNoWordIn settings.aliases (texts words.now) place }
     requires within { place < length words.now }
     ensures { IfOk result (λ answer. IsWordFault settings (texts words.now) (answer_of answer)) }
 {
     let word = words[place];
     let argument = word_argument(alloc, place, word)?;
-    let reason = word_reason(alloc, settings.domain, word)?;
+    let reason = word_reason(alloc, settings.aliases, word)?;
     fault(
         alloc,
         "token",

@@ -1,4 +1,4 @@
-//! The words that make a token where a domain is given.
+//! The words that make a token.
 ghost use Rattle.std.specs.Prelude.{◌≡◌, ◌<◌, ◌≤◌, ℕ, Err, IfOk, drop, length, map, string_bytes};
 ghost use Rattle.std.specs.Str.{IsCharBoundary};
 ghost use Rattle.sd_answer.specs.Word.{texts};
@@ -9,7 +9,7 @@ ghost use Rattle.sd_commands.specs.Words.{AreSpelledOut, IsFirstNoWordIn, IsSpel
 use sd_answer::{TokenError, read_base, read_token};
 use sd_check::{GroupState, Token};
 use sd_sid::Sid;
-use sd_text::{Domain, print_sid, read_sid_text_in};
+use sd_text::{Aliases, print_sid, read_sid_text_in};
 use std::alloc::{AllocError, Global};
 
 /// The argument at the place, empty where there is none.
@@ -33,61 +33,55 @@ pub(crate) fn arguments_from<'a>(arguments: &'a [&'a str], place: usize) -> &'a 
     }
 }
 
-/// The token of a user and of these words, in which the aliases of domains are those of the one that is given.
+/// The token of a user and of these words, which may have these aliases.
 pub(crate) fn token_in(
     alloc: Global,
-    domain: Option<Domain>,
+    known: Aliases,
     user: Sid,
     words: &[&str],
 ) -> Result<Token, TokenError>
-    ensures token { IfOk result (IsTokenIn domain user (texts words.now)) }
+    ensures token { IfOk result (IsTokenIn known user (texts words.now)) }
     ensures no_word { (place : ℕ) → result ≡ Err (TokenError.NoWord place)
-        → IsFirstNoWordIn domain (texts words.now) place }
+        → IsFirstNoWordIn known (texts words.now) place }
     ensures within { (place : ℕ) → result ≡ Err (TokenError.NoWord place) → place < length words.now }
 {
-    let Some(domain) = domain else {
-        return read_token(alloc, user, words);
-    };
-    let fulls = spelled_out(alloc, domain, words)?;
+    let fulls = spelled_out(alloc, known, words)?;
     let lent = lent_texts(alloc, &fulls)?;
     read_token(alloc, user, &lent)
 }
 
-/// The base that these words are, in which the aliases of domains are those of the one that is given.
+/// The base that these words are, which may have these aliases.
 pub(crate) fn base_in(
     alloc: Global,
-    domain: Option<Domain>,
+    known: Aliases,
     words: &[&str],
 ) -> Result<Vec<(Sid, GroupState)>, TokenError>
-    ensures base { IfOk result (λ base. IsBaseIn domain (texts words.now) base.items) }
+    ensures base { IfOk result (λ base. IsBaseIn known (texts words.now) base.items) }
     ensures no_group { (place : ℕ) → result ≡ Err (TokenError.NoWord place)
-        → IsFirstNoGroupIn domain (texts words.now) place }
+        → IsFirstNoGroupIn known (texts words.now) place }
     ensures within { (place : ℕ) → result ≡ Err (TokenError.NoWord place) → place < length words.now }
 {
-    let Some(domain) = domain else {
-        return read_base(alloc, words);
-    };
-    let fulls = spelled_out(alloc, domain, words)?;
+    let fulls = spelled_out(alloc, known, words)?;
     let lent = lent_texts(alloc, &fulls)?;
     read_base(alloc, &lent)
 }
 
 /// The words, each with its SID as it is printed.
-fn spelled_out(alloc: Global, domain: Domain, words: &[&str]) -> Result<Vec<String>, AllocError>
-    ensures { IfOk result (λ fulls. AreSpelledOut domain (texts words.now) (map string_bytes fulls.items)) }
+fn spelled_out(alloc: Global, known: Aliases, words: &[&str]) -> Result<Vec<String>, AllocError>
+    ensures { IfOk result (λ fulls. AreSpelledOut known (texts words.now) (map string_bytes fulls.items)) }
 {
     let mut fulls = Vec::new(alloc);
     for word in words {
-        fulls.push(spelled_out_word(alloc, domain, word)?)?;
+        fulls.push(spelled_out_word(alloc, known, word)?)?;
     }
     Ok(fulls)
 }
 
-fn spelled_out_word(alloc: Global, domain: Domain, word: &str) -> Result<String, AllocError>
-    ensures { IfOk result (λ full. IsSpelledOut domain word.now (string_bytes full)) }
+fn spelled_out_word(alloc: Global, known: Aliases, word: &str) -> Result<String, AllocError>
+    ensures { IfOk result (λ full. IsSpelledOut known word.now (string_bytes full)) }
 {
     let (sid, ending) = word.split_at(sid_length(word));
-    match read_sid_text_in(Some(domain), sid) {
+    match read_sid_text_in(known, sid) {
         Ok(sid) => {
             let mut full = print_sid(alloc, &sid)?;
             full.push_str(ending)?;

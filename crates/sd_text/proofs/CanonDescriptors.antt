@@ -12,7 +12,7 @@ use Rattle.sd_text.specs.declared.descriptor.DaclWord.{DaclWord}
 use Rattle.sd_text.specs.declared.descriptor.DaclWord.TheVariants.{Protected, AutoReq, AutoInherited, NoAccessControl}
 use Rattle.sd_text.specs.declared.descriptor.DaclWords.{DaclWords}
 use Rattle.sd_text.specs.declared.descriptor.DaclPart.{DaclPart}
-use Rattle.sd_text.specs.declared.domain.Domain.{Domain}
+use Rattle.sd_text.specs.declared.alias.Aliases.{Aliases}
 use Rattle.sd_text.specs.Grammar.{begins, named}
 use Rattle.sd_text.specs.Finding.{find}
 use Rattle.sd_text.specs.Rights.{mask_text, rights}
@@ -32,9 +32,9 @@ at_end = record { no_digit = refl; no_dash = refl }
 -- ---- SIDs and masks by themselves
 
 pub sids_come_back : SidsComeBack
-sids_come_back domain s is =
-    let read : find (sid domain) (sid_canon s) ≡ Ok (s, []) = rw append-nil at (sid_read domain s [] is at_end) in
-    find_spells (sid_text_in domain) (sid_canon s) s [] (rw read refl)
+sids_come_back known s is =
+    let read : find (sid known) (sid_canon s) ≡ Ok (s, []) = rw append-nil at (sid_read known s [] is at_end) in
+    find_spells (sid_text_in known) (sid_canon s) s [] (rw read refl)
 
 pub masks_come_back : MasksComeBack
 masks_come_back mask lt =
@@ -124,11 +124,11 @@ keeps Absent p r i without = let f = all_false p r i (without refl) in record { 
 keeps Null p r i without = record { list = refl; protected = refl; auto_req = refl; auto_inherited = refl }
 keeps (Entries es) p r i without = record { list = refl; protected = refl; auto_req = refl; auto_inherited = refl }
 
-dacl_read : (domain : Option Domain) (dacl : Dacl) (p r i : Bool) → IsDacl dacl → HaveNamedFlags dacl → find (dacl_section domain) (dacl_canon (letters_of p r i) dacl) ≡ Ok (part_of dacl p r i, [])
+dacl_read : (known : Aliases) (dacl : Dacl) (p r i : Bool) → IsDacl dacl → HaveNamedFlags dacl → find (dacl_section known) (dacl_canon (letters_of p r i) dacl) ≡ Ok (part_of dacl p r i, [])
 unfolding part_of letters_of dacl_section dacl_behind words_text
-dacl_read domain Absent p r i is named_only = refl
-dacl_read domain Null p r i is named_only = rw (regroup (where_set p (codes "P")) (where_set r (codes "AR")) (where_set i (codes "AI")) (codes "NO_ACCESS_CONTROL"), null_read p r i) refl
-dacl_read domain (Entries es) p r i is named_only = rw (regroup (where_set p (codes "P")) (where_set r (codes "AR")) (where_set i (codes "AI")) (flat_map entry_canon es), list_read p r i es, entries_read domain es is.each named_only is.fit) refl
+dacl_read known Absent p r i is named_only = refl
+dacl_read known Null p r i is named_only = rw (regroup (where_set p (codes "P")) (where_set r (codes "AR")) (where_set i (codes "AI")) (codes "NO_ACCESS_CONTROL"), null_read p r i) refl
+dacl_read known (Entries es) p r i is named_only = rw (regroup (where_set p (codes "P")) (where_set r (codes "AR")) (where_set i (codes "AI")) (flat_map entry_canon es), list_read p r i es, entries_read known es is.each named_only is.fit) refl
 
 -- ---- sections
 
@@ -141,26 +141,26 @@ after_owner : (g : Option SidValue) (letters : List ℕ) (dacl : Dacl) → Stops
 after_owner None letters dacl = let h = after_group letters dacl in (h.0, h.2)
 after_owner (Some s) letters dacl = (record { no_digit = refl; no_dash = refl }, refl)
 
-owner_read : (domain : Option Domain) (o : Option SidValue) (rest : List ℕ) → IfSome o IsSid → Stops rest → begins rest (codes "O:") ≡ false → find (sid_section domain (codes "O:")) (section_canon (codes "O:") o ++ rest) ≡ Ok (o, rest)
+owner_read : (known : Aliases) (o : Option SidValue) (rest : List ℕ) → IfSome o IsSid → Stops rest → begins rest (codes "O:") ≡ false → find (sid_section known (codes "O:")) (section_canon (codes "O:") o ++ rest) ≡ Ok (o, rest)
 unfolding sid_section
-owner_read domain None rest is stops other = rw other refl
-owner_read domain (Some s) rest is stops other = rw (sid_read domain s rest is stops) refl
+owner_read known None rest is stops other = rw other refl
+owner_read known (Some s) rest is stops other = rw (sid_read known s rest is stops) refl
 
-group_read : (domain : Option Domain) (g : Option SidValue) (rest : List ℕ) → IfSome g IsSid → Stops rest → begins rest (codes "G:") ≡ false → find (sid_section domain (codes "G:")) (section_canon (codes "G:") g ++ rest) ≡ Ok (g, rest)
+group_read : (known : Aliases) (g : Option SidValue) (rest : List ℕ) → IfSome g IsSid → Stops rest → begins rest (codes "G:") ≡ false → find (sid_section known (codes "G:")) (section_canon (codes "G:") g ++ rest) ≡ Ok (g, rest)
 unfolding sid_section
-group_read domain None rest is stops other = rw other refl
-group_read domain (Some s) rest is stops other = rw (sid_read domain s rest is stops) refl
+group_read known None rest is stops other = rw other refl
+group_read known (Some s) rest is stops other = rw (sid_read known s rest is stops) refl
 
-sections_read : (domain : Option Domain) (d : DescriptorValue) → IsDescriptor d → HaveNamedFlags d.dacl → find (sections domain) (canon d) ≡ Ok (d, [])
+sections_read : (known : Aliases) (d : DescriptorValue) → IsDescriptor d → HaveNamedFlags d.dacl → find (sections known) (canon d) ≡ Ok (d, [])
 unfolding sections parts canon no_sacl letters_of words_canon
-sections_read domain d is named_only =
+sections_read known d is named_only =
     let tail = dacl_canon (words_canon d) d.dacl in
     let behind_group = after_group (words_canon d) d.dacl in
     let behind_owner = after_owner d.group (words_canon d) d.dacl in
     let part = part_of d.dacl d.protected d.auto_req d.auto_inherited in
     let kept : Keeps part d.dacl d.protected d.auto_req d.auto_inherited = keeps d.dacl d.protected d.auto_req d.auto_inherited is.without_a_dacl in
-    rw (append_assoc (section_canon (codes "O:") d.owner) (section_canon (codes "G:") d.group) tail, owner_read domain d.owner (section_canon (codes "G:") d.group ++ tail) is.owner behind_owner.0 behind_owner.1, group_read domain d.group tail is.group behind_group.0 behind_group.1, dacl_read domain d.dacl d.protected d.auto_req d.auto_inherited is.dacl named_only)
+    rw (append_assoc (section_canon (codes "O:") d.owner) (section_canon (codes "G:") d.group) tail, owner_read known d.owner (section_canon (codes "G:") d.group ++ tail) is.owner behind_owner.0 behind_owner.1, group_read known d.group tail is.group behind_group.0 behind_group.1, dacl_read known d.dacl d.protected d.auto_req d.auto_inherited is.dacl named_only)
     (rw (kept.list, kept.protected, kept.auto_req, kept.auto_inherited) refl)
 
 pub descriptors_come_back : DescriptorsComeBack
-descriptors_come_back domain d is named_only = find_spells (sddl_in domain) (canon d) d [] (rw (sections_read domain d is named_only) refl)
+descriptors_come_back known d is named_only = find_spells (sddl_in known) (canon d) d [] (rw (sections_read known d is named_only) refl)

@@ -12,7 +12,7 @@ use Rattle.sd_acl.specs.declared.ace.AceKind.{AceKind}
 use Rattle.sd_acl.specs.declared.ace.AceKind.TheVariants.{Allow, Deny}
 use Rattle.sd_text.specs.Finding.{find}
 use Rattle.sd_text.specs.Entry.{kind, guid, entry, entry_end, entries}
-use Rattle.sd_text.specs.declared.domain.Domain.{Domain}
+use Rattle.sd_text.specs.declared.alias.Aliases.{Aliases}
 use Rattle.sd_text.specs.Canon.{kind_canon, flags_canon, rights_canon, sid_canon, entry_canon}
 use Rattle.sd_text.proofs.Entries.{EntriesReach, entries_start, entries_more, entries_end}
 use Rattle.sd_text.proofs.CanonSids.{Stops, sid_read}
@@ -45,28 +45,28 @@ guid_read rest = refl
 stops : (rest : List ℕ) → Stops (41 ∷ rest)
 stops rest = record { no_digit = refl; no_dash = refl }
 
-entry_read : (domain : Option Domain) (size : ℕ) (e : Ace) (rest : List ℕ) → IsAce e → HasNamedFlags e → size + ace_size e ≤ 65535 → find (entry domain size) (body e rest) ≡ Ok (e, rest)
+entry_read : (known : Aliases) (size : ℕ) (e : Ace) (rest : List ℕ) → IsAce e → HasNamedFlags e → size + ace_size e ≤ 65535 → find (entry known size) (body e rest) ≡ Ok (e, rest)
 unfolding entry body
-entry_read domain size e rest is named_only fits =
+entry_read known size e rest is named_only fits =
     let trustee = sid_canon e.sid ++ 41 ∷ rest in
     let mask = rights_canon e.mask ++ (59 ∷ 59 ∷ 59 ∷ trustee) in
     let flags = flags_canon e.flags.0 ++ (59 ∷ mask) in
-    rw (kind_read e.kind flags, flags_read e.flags.0 (59 ∷ mask) is.flags named_only refl, rights_read e.mask (59 ∷ 59 ∷ 59 ∷ trustee) is.mask refl refl, guid_read (59 ∷ trustee), guid_read trustee, sid_read domain e.sid (41 ∷ rest) is.sid (stops rest)) (end_read size e rest fits)
+    rw (kind_read e.kind flags, flags_read e.flags.0 (59 ∷ mask) is.flags named_only refl, rights_read e.mask (59 ∷ 59 ∷ 59 ∷ trustee) is.mask refl refl, guid_read (59 ∷ trustee), guid_read trustee, sid_read known e.sid (41 ∷ rest) is.sid (stops rest)) (end_read size e rest fits)
 
-entries_again : (domain : Option Domain) (es done : List Ace) (start rest : List ℕ) → AllByRecursion IsAce es → AllByRecursion HasNamedFlags es → acl_size_of (done ++ es) ≤ 65535 → EntriesReach (entry domain) start done (flat_map entry_canon es ++ rest) → EntriesReach (entry domain) start (done ++ es) rest
-entries_again domain [] done start rest each named_only fits reached = rw (append-nil done) reached
-entries_again domain (e ∷ es) done start rest each named_only fits reached =
+entries_again : (known : Aliases) (es done : List Ace) (start rest : List ℕ) → AllByRecursion IsAce es → AllByRecursion HasNamedFlags es → acl_size_of (done ++ es) ≤ 65535 → EntriesReach (entry known) start done (flat_map entry_canon es ++ rest) → EntriesReach (entry known) start (done ++ es) rest
+entries_again known [] done start rest each named_only fits reached = rw (append-nil done) reached
+entries_again known (e ∷ es) done start rest each named_only fits reached =
     let after = flat_map entry_canon es ++ rest in
-    let here : EntriesReach (entry domain) start done (40 ∷ body e after) = subst (λ text. EntriesReach (entry domain) start done text) (append_assoc (entry_canon e) (flat_map entry_canon es) rest ∙ entry_text e after) reached in
+    let here : EntriesReach (entry known) start done (40 ∷ body e after) = subst (λ text. EntriesReach (entry known) start done text) (append_assoc (entry_canon e) (flat_map entry_canon es) rest ∙ entry_text e after) reached in
     let parts = sum_by-append ace_size done (e ∷ es) in
     let first = sum_by-cons ace_size e es in
-    let one = entry_read domain (acl_size_of done) e after each.0 named_only.0 (omega arith) in
-    let more = entries_more (entry domain) start done (40 ∷ body e after) e after here refl one in
-    rw (sym (append_assoc done (e ∷ []) es)) (entries_again domain es (done ++ e ∷ []) start rest each.1 named_only.1 (rw append_assoc fits) more)
+    let one = entry_read known (acl_size_of done) e after each.0 named_only.0 (omega arith) in
+    let more = entries_more (entry known) start done (40 ∷ body e after) e after here refl one in
+    rw (sym (append_assoc done (e ∷ []) es)) (entries_again known es (done ++ e ∷ []) start rest each.1 named_only.1 (rw append_assoc fits) more)
 
-pub entries_read : (domain : Option Domain) (es : List Ace) → AllByRecursion IsAce es → AllByRecursion HasNamedFlags es → acl_size_of es ≤ 65535 → find (entries domain) (flat_map entry_canon es) ≡ Ok (es, [])
+pub entries_read : (known : Aliases) (es : List Ace) → AllByRecursion IsAce es → AllByRecursion HasNamedFlags es → acl_size_of es ≤ 65535 → find (entries known) (flat_map entry_canon es) ≡ Ok (es, [])
 unfolding entries
-entries_read domain es each named_only fits =
+entries_read known es each named_only fits =
     let start = flat_map entry_canon es in
-    let first : EntriesReach (entry domain) start [] (start ++ []) = rw (append-nil start) (entries_start (entry domain) start) in
-    entries_end (entry domain) start es [] (entries_again domain es [] start [] each named_only fits first) refl
+    let first : EntriesReach (entry known) start [] (start ++ []) = rw (append-nil start) (entries_start (entry known) start) in
+    entries_end (entry known) start es [] (entries_again known es [] start [] each named_only fits first) refl

@@ -17,7 +17,7 @@ use Rattle.sd_text.specs.Grammar.{Name, number, begins, begins_digit, named}
 use Rattle.sd_text.specs.Finding.{find}
 use Rattle.sd_text.specs.Alias.{aliases, alias_in}
 use Rattle.sd_text.specs.Sid.{sub, subs_of, authority, sid}
-use Rattle.sd_text.specs.declared.domain.Domain.{Domain}
+use Rattle.sd_text.specs.declared.alias.Aliases.{Aliases}
 use Rattle.sd_text.specs.Canon.{hex, authority_canon, sub_canon, full_canon, sid_canon}
 use Rattle.sd_text.proofs.Parts.{went}
 use Rattle.sd_text.proofs.Engine.{spells_find}
@@ -104,9 +104,9 @@ authority_read n tail lt =
 
 -- ---- SIDs
 
-full_read : (domain : Option Domain) (auth n : ℕ) (subs rest : List ℕ) → auth < 2 ^ 48 → length (n ∷ subs) ≤ 15 → All (λ m. m < 2 ^ 32) (n ∷ subs) → Stops rest → find (sid domain) (full_canon (record { authority = auth; subs = n ∷ subs }) ++ rest) ≡ Ok (record { authority = auth; subs = n ∷ subs }, rest)
+full_read : (known : Aliases) (auth n : ℕ) (subs rest : List ℕ) → auth < 2 ^ 48 → length (n ∷ subs) ≤ 15 → All (λ m. m < 2 ^ 32) (n ∷ subs) → Stops rest → find (sid known) (full_canon (record { authority = auth; subs = n ∷ subs }) ++ rest) ≡ Ok (record { authority = auth; subs = n ∷ subs }, rest)
 unfolding sid full_canon
-full_read domain auth n subs rest lt few words stops =
+full_read known auth n subs rest lt few words stops =
     let regroup = append_assoc (authority_canon auth) (flat_map sub_canon (n ∷ subs)) rest in
     let tail = decimal n ++ flat_map sub_canon subs ++ rest in
     rw (regroup, authority_read auth tail lt) (sid_subs_read auth n subs rest few words stops)
@@ -118,21 +118,21 @@ alias_rows : AllByRecursion AliasReads aliases
 unfolding aliases AliasReads
 alias_rows = search rules
 
-alias_read : (domain : Option Domain) (s : SidValue) (letters rest : List ℕ) → alias_in aliases s ≡ Some letters → find (sid domain) (letters ++ rest) ≡ Ok (s, rest)
+alias_read : (known : Aliases) (s : SidValue) (letters rest : List ℕ) → alias_in aliases s ≡ Some letters → find (sid known) (letters ++ rest) ≡ Ok (s, rest)
 unfolding sid AliasReads
-alias_read domain s letters rest e =
+alias_read known s letters rest e =
     let row = alias_row AliasReads aliases s letters alias_rows e in
     let reads = row.1 rest in
     rw (sym row.2, reads.0, reads.1, row.3) refl
 
-pub sid_read : (domain : Option Domain) (s : SidValue) (rest : List ℕ) → IsSid s → Stops rest → find (sid domain) (sid_canon s ++ rest) ≡ Ok (s, rest)
+pub sid_read : (known : Aliases) (s : SidValue) (rest : List ℕ) → IsSid s → Stops rest → find (sid known) (sid_canon s ++ rest) ≡ Ok (s, rest)
 unfolding sid_canon
-sid_read domain s rest is stops = by_alias (alias_in aliases s) refl
+sid_read known s rest is stops = by_alias (alias_in aliases s) refl
   where
-    in_full : (auth : ℕ) (subs : List ℕ) → IsSid (record { authority = auth; subs = subs }) → find (sid domain) (full_canon (record { authority = auth; subs = subs }) ++ rest) ≡ Ok (record { authority = auth; subs = subs }, rest)
+    in_full : (auth : ℕ) (subs : List ℕ) → IsSid (record { authority = auth; subs = subs }) → find (sid known) (full_canon (record { authority = auth; subs = subs }) ++ rest) ≡ Ok (record { authority = auth; subs = subs }, rest)
     in_full auth [] h = absurd (let some = h.some in omega arith)
-    in_full auth (n ∷ subs) h = full_read domain auth n subs rest h.authority h.few h.words stops
+    in_full auth (n ∷ subs) h = full_read known auth n subs rest h.authority h.few h.words stops
 
-    by_alias : (found : Option (List ℕ)) → alias_in aliases s ≡ found → find (sid domain) (unwrap_or found (full_canon s) ++ rest) ≡ Ok (s, rest)
+    by_alias : (found : Option (List ℕ)) → alias_in aliases s ≡ found → find (sid known) (unwrap_or found (full_canon s) ++ rest) ≡ Ok (s, rest)
     by_alias None e = in_full s.authority s.subs is
-    by_alias (Some letters) e = alias_read domain s letters rest e
+    by_alias (Some letters) e = alias_read known s letters rest e

@@ -10,13 +10,14 @@ use Rattle.sd_acl.specs.Descriptor.{DescriptorValue}
 use Rattle.sd_acl.specs.declared.ace.Ace.{Ace}
 use Rattle.sd_acl.specs.declared.ace.AceKind.{AceKind}
 use Rattle.sd_acl.specs.declared.ace.AceKind.TheVariants.{Allow, Deny}
+use Rattle.sd_text.specs.declared.alias.Aliases.{Aliases}
 use Rattle.sd_text.specs.declared.domain.Domain.{Domain}
 use Rattle.sd_text.specs.declared.descriptor.DaclWords.{DaclWords}
 use Rattle.sd_text.specs.declared.fault.TextFault.TheVariants.{Syntax, AclTooLarge}
 use Rattle.sd_text.specs.Grammar.{Grammar, Name, value, refused, and_then, word, number, one_of, many, begins, begins_digit, named, spells}
 use Rattle.sd_text.specs.Alias.{aliases}
 use Rattle.sd_text.specs.Rights.{bits_of, right_names, mask_number, rights}
-use Rattle.sd_text.specs.Sid.{dash, sub, subs_of, authority, begins_letter, no_alias, domain_alias, sid}
+use Rattle.sd_text.specs.Sid.{dash, sub, subs_of, authority, begins_letter, no_alias, domain_alias, other_alias, sid}
 use Rattle.sd_text.specs.Entry.{opening, flag_names, is_type, kind, guid, entry_end, entry, entries}
 use Rattle.sd_text.specs.Sddl.{sid_section, dacl_words, with_word, no_words, words, dacl_behind, dacl_section, no_sacl, parts, sections}
 use Rattle.sd_text.specs.Sacl.{sacl_section, all_sections}
@@ -30,10 +31,10 @@ never_no_alias : (text : List ℕ) (s : SidValue) (behind : List ℕ) → spells
 unfolding no_alias
 never_no_alias text s behind x = elim x [ inl h ↦ h.1 | inr h ↦ h.1 ]
 
-cuts_domain_alias : (domain : Option Domain) → Cuts (domain_alias domain)
+cuts_domain_alias : (names : List (Name ℕ)) (domain : Option Domain) → Cuts (domain_alias names domain)
 unfolding domain_alias
-cuts_domain_alias None = cuts_refused _ (λ text s behind x. elim x [ inl h ↦ h.1 | inr h ↦ never_no_alias text s behind h.1 ])
-cuts_domain_alias (Some domain) = cuts_one_of _ no_alias (cuts_refused no_alias never_no_alias)
+cuts_domain_alias names None = cuts_refused _ (λ text s behind x. elim x [ inl h ↦ h.1 | inr h ↦ never_no_alias text s behind h.1 ])
+cuts_domain_alias names (Some domain) = cuts_one_of _ no_alias (cuts_refused no_alias never_no_alias)
 
 cuts_authority : Cuts authority
 unfolding authority
@@ -63,11 +64,11 @@ cuts_subs_of authority =
     (let lt = takes_dash (λ before u. sub (length before)) (text ++ tail) xs (behind ++ tail) e s in omega (arith, length-append text tail, length-append behind tail))))
     (λ subs. cuts_value _)
 
-cuts_sid : (domain : Option Domain) → Cuts (sid domain)
+cuts_sid : (known : Aliases) → Cuts (sid known)
 unfolding sid
-cuts_sid domain =
-    cuts_headed_word (codes "S-1-") _ (one_of aliases (domain_alias domain)) (λ u. cuts_then authority subs_of cuts_authority cuts_subs_of)
-    (cuts_one_of aliases (domain_alias domain) (cuts_domain_alias domain))
+cuts_sid known =
+    cuts_headed_word (codes "S-1-") _ (one_of aliases (other_alias known)) (λ u. cuts_then authority subs_of cuts_authority cuts_subs_of)
+    (cuts_one_of aliases (other_alias known) (cuts_one_of _ _ (cuts_domain_alias _ known.domain)))
 
 -- ---- masks and flags
 
@@ -162,51 +163,51 @@ cuts_entry_end size e =
     (λ text tail none. and_less (begins text (codes ")")) (begins (text ++ tail) (codes ")")) (nat_lt 65535 (size + ace_size e)) (begins_less text tail (codes ")")) none)
     (λ text tail a behind some s. absurd s)
 
-cuts_entry : (domain : Option Domain) (size : ℕ) → Cuts (entry domain size)
+cuts_entry : (known : Aliases) (size : ℕ) → Cuts (entry known size)
 unfolding entry
-cuts_entry domain size =
+cuts_entry known size =
     cuts_then _ _ cuts_kind (λ allows. cuts_then _ _ (cuts_word (codes ";")) (λ u. cuts_then _ _ (cuts_bits flag_names) (λ flags. cuts_then _ _ (cuts_word (codes ";")) (λ v.
     cuts_then _ _ cuts_rights (λ mask. cuts_then _ _ (cuts_word (codes ";")) (λ w. cuts_then _ _ cuts_guid (λ object. cuts_then _ _ cuts_guid (λ inherit.
-    cuts_then _ _ (cuts_sid domain) (λ trustee. cuts_entry_end size _)))))))))
+    cuts_then _ _ (cuts_sid known) (λ trustee. cuts_entry_end size _)))))))))
 
-cuts_entries : (domain : Option Domain) → Cuts (entries domain)
+cuts_entries : (known : Aliases) → Cuts (entries known)
 unfolding entries
-cuts_entries domain = cuts_many opening (λ before u. entry domain (acl_size_of before)) (λ before u. cuts_entry domain (acl_size_of before))
+cuts_entries known = cuts_many opening (λ before u. entry known (acl_size_of before)) (λ before u. cuts_entry known (acl_size_of before))
 
 -- ---- sections
 
-cuts_sid_section : (domain : Option Domain) (head : List ℕ) → Cuts (sid_section domain head)
+cuts_sid_section : (known : Aliases) (head : List ℕ) → Cuts (sid_section known head)
 unfolding sid_section
-cuts_sid_section domain head = cuts_headed_word head _ (value None) (λ u. cuts_then _ _ (cuts_sid domain) (λ trustee. cuts_value (Some trustee))) (cuts_value None)
+cuts_sid_section known head = cuts_headed_word head _ (value None) (λ u. cuts_then _ _ (cuts_sid known) (λ trustee. cuts_value (Some trustee))) (cuts_value None)
 
-cuts_dacl_behind : (domain : Option Domain) (found : DaclWords) → Cuts (dacl_behind domain found)
+cuts_dacl_behind : (known : Aliases) (found : DaclWords) → Cuts (dacl_behind known found)
 unfolding dacl_behind
-cuts_dacl_behind domain found = cuts_if found.no_access_control _ _ (cuts_value _) (cuts_then _ _ (cuts_entries domain) (λ list. cuts_value _))
+cuts_dacl_behind known found = cuts_if found.no_access_control _ _ (cuts_value _) (cuts_then _ _ (cuts_entries known) (λ list. cuts_value _))
 
 cuts_words : Cuts words
 unfolding words
 cuts_words = cuts_run dacl_words with_word no_words
 
-cuts_dacl_section : (domain : Option Domain) → Cuts (dacl_section domain)
+cuts_dacl_section : (known : Aliases) → Cuts (dacl_section known)
 unfolding dacl_section
-cuts_dacl_section domain = cuts_headed_word (codes "D:") _ _ (λ u. cuts_then words (dacl_behind domain) cuts_words (cuts_dacl_behind domain)) (cuts_value _)
+cuts_dacl_section known = cuts_headed_word (codes "D:") _ _ (λ u. cuts_then words (dacl_behind known) cuts_words (cuts_dacl_behind known)) (cuts_value _)
 
-cuts_parts : (domain : Option Domain) → Cuts (parts domain)
+cuts_parts : (known : Aliases) → Cuts (parts known)
 unfolding parts
-cuts_parts domain =
-    cuts_then _ _ (cuts_sid_section domain (codes "O:")) (λ owner. cuts_then _ _ (cuts_sid_section domain (codes "G:")) (λ group.
-    cuts_then _ _ (cuts_dacl_section domain) (λ part. cuts_value _)))
+cuts_parts known =
+    cuts_then _ _ (cuts_sid_section known (codes "O:")) (λ owner. cuts_then _ _ (cuts_sid_section known (codes "G:")) (λ group.
+    cuts_then _ _ (cuts_dacl_section known) (λ part. cuts_value _)))
 
 -- the text before a SACL that is left out
 pub cut_at_sacl : EndsWithItsSacl
 unfolding sections no_sacl sacl_section all_sections
-cut_at_sacl domain text d x =
+cut_at_sacl known text d x =
     let s = x.2 in
     let same = x.3.3.0 ∙ s.3.3.0 in
     elim s.3.2 [
       | inl h ↦
-          let front = suffix (parts domain) text s.0 s.1 s.2 in
-          let cut = cut_at (parts domain) (cuts_parts domain) text front.0 s.1 s.0 s.1 [] front.1 refl s.2 in (
+          let front = suffix (parts known) text s.0 s.1 s.2 in
+          let cut = cut_at (parts known) (cuts_parts known) text front.0 s.1 s.0 s.1 [] front.1 refl s.2 in (
             front.0,
             s.1,
             front.1,

@@ -12,7 +12,7 @@ pub mod CutSddl
 pub mod Placed
 pub mod Tables
 pub mod MaskNames
-pub mod Aliases
+pub mod AliasTables
 pub mod Rooms
 pub mod Printing
 pub mod Lengths

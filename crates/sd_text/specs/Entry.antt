@@ -1,11 +1,11 @@
 -- Entries ([MS-DTYP] 2.5.1.1, ace).
 use Rattle.std.specs.Prelude.{ℕ, ◌+◌, Bool, true, false, nat_lt, ◌==◌, ◌&&◌, not, List, [], ◌∷◌, length, drop, map}
-use Rattle.std.specs.Prelude.{Option, codes}
+use Rattle.std.specs.Prelude.{codes}
 use Rattle.sd_acl.specs.Ace.{ace_size, acl_size_of, named_flags}
 use Rattle.sd_acl.specs.declared.ace.Ace.{Ace}
 use Rattle.sd_acl.specs.declared.ace.AceKind.{AceKind}
 use Rattle.sd_acl.specs.declared.ace.AceKind.TheVariants.{Allow, Deny}
-use Rattle.sd_text.specs.declared.domain.Domain.{Domain}
+use Rattle.sd_text.specs.declared.alias.Aliases.{Aliases}
 use Rattle.sd_text.specs.declared.fault.TextFault.TheVariants.{Syntax, EntryKind, ObjectGuid, AclTooLarge}
 use Rattle.sd_text.specs.Grammar.{Grammar, Name, value, refused, choose, word, many, begins, ◌>>=◌}
 use Rattle.sd_text.specs.Rights.{bits, bits_of, rights}
@@ -41,8 +41,8 @@ entry_end size entry = choose (λ text. begins text (codes ")") && nat_lt 65535 
     (word (codes ")") >>= λ u. value entry)
 
 -- an entry after its `(`, when the list before it has a size of so many bytes
-unfoldable pub entry : Option Domain → ℕ → Grammar Ace
-entry domain size = do
+unfoldable pub entry : Aliases → ℕ → Grammar Ace
+entry known size = do
   allows ← kind
   u ← word (codes ";")
   flags ← bits_of flag_names
@@ -51,7 +51,7 @@ entry domain size = do
   w ← word (codes ";")
   object ← guid
   inherit ← guid
-  trustee ← sid domain
+  trustee ← sid known
   entry_end size (record { kind = allows; flags = record { 0 = flags }; mask = mask; sid = trustee })
 
 -- there is an entry
@@ -64,5 +64,5 @@ abbrev pub entries_of : (ℕ → Grammar Ace) → Grammar (List Ace)
 entries_of entry = many opening (λ before u. entry (acl_size_of before))
 
 -- the entries of a DACL
-unfoldable pub entries : Option Domain → Grammar (List Ace)
-entries domain = entries_of (entry domain)
+unfoldable pub entries : Aliases → Grammar (List Ace)
+entries known = entries_of (entry known)

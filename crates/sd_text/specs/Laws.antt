@@ -1,5 +1,5 @@
 -- Laws of all texts.
-use Rattle.std.specs.Prelude.{◌≡◌, ℕ, ◌^◌, ◌<◌, ◌⊎◌, List, ◌++◌, Option, true, false, codes}
+use Rattle.std.specs.Prelude.{◌≡◌, ℕ, ◌^◌, ◌<◌, ◌⊎◌, List, ◌++◌, true, false, codes}
 use Rattle.sd_sid.specs.Sid.{SidValue, IsSid}
 use Rattle.sd_acl.specs.Descriptor.{DescriptorValue, IsDescriptor, HaveNamedFlags}
 use Rattle.sd_text.specs.Canon.{sid_canon, rights_canon, canon}
@@ -7,7 +7,7 @@ use Rattle.sd_text.specs.Rights.{mask_text}
 use Rattle.sd_text.specs.Sacl.{sddl_without_sacl}
 use Rattle.sd_text.specs.Sddl.{sddl_in}
 use Rattle.sd_text.specs.Sid.{sid_text_in}
-use Rattle.sd_text.specs.declared.domain.Domain.{Domain}
+use Rattle.sd_text.specs.declared.alias.Aliases.{Aliases}
 use Rattle.sd_text.specs.declared.fault.TextFault.{TextFault}
 use Rattle.sd_text.specs.Grammar.{Grammar, begins, Spells, HasFault}
 
@@ -30,14 +30,14 @@ abbrev pub HasOneFault : {A : Type 0} → Grammar A → Type 0
 HasOneFault grammar = (text : List ℕ) (f g : TextFault) (p q : ℕ) → HasFault grammar text f p
     → HasFault grammar text g q → (f ≡ g) × (p ≡ q)
 
--- the printed text of a descriptor spells it, with any domain or none
+-- the printed text of a descriptor spells it, whichever aliases a text may have
 abbrev pub DescriptorsComeBack : Type 0
-DescriptorsComeBack = (domain : Option Domain) (d : DescriptorValue) → IsDescriptor d → HaveNamedFlags d.dacl
-    → Spells (sddl_in domain) (canon d) d
+DescriptorsComeBack = (known : Aliases) (d : DescriptorValue) → IsDescriptor d → HaveNamedFlags d.dacl
+    → Spells (sddl_in known) (canon d) d
 
 -- the printed text of a SID spells it
 abbrev pub SidsComeBack : Type 0
-SidsComeBack = (domain : Option Domain) (sid : SidValue) → IsSid sid → Spells (sid_text_in domain) (sid_canon sid) sid
+SidsComeBack = (known : Aliases) (sid : SidValue) → IsSid sid → Spells (sid_text_in known) (sid_canon sid) sid
 
 -- the printed text of a mask spells it
 abbrev pub MasksComeBack : Type 0
@@ -45,12 +45,12 @@ MasksComeBack = (mask : ℕ) → mask < 2 ^ 32 → Spells mask_text (rights_cano
 
 -- a text without a SACL's section spells the same descriptor where one may be left out
 abbrev pub AreReadAlike : Type 0
-AreReadAlike = (domain : Option Domain) (text : List ℕ) (d : DescriptorValue) → Spells (sddl_in domain) text d
-    → Spells (sddl_without_sacl domain) text (d, false)
+AreReadAlike = (known : Aliases) (text : List ℕ) (d : DescriptorValue) → Spells (sddl_in known) text d
+    → Spells (sddl_without_sacl known) text (d, false)
 
 -- a text whose SACL is left out is the text of the same descriptor, and then the section of that SACL
 abbrev pub EndsWithItsSacl : Type 0
 EndsWithItsSacl =
-    (domain : Option Domain) (text : List ℕ) (d : DescriptorValue) → Spells (sddl_without_sacl domain) text (d, true)
+    (known : Aliases) (text : List ℕ) (d : DescriptorValue) → Spells (sddl_without_sacl known) text (d, true)
     → (before : List ℕ) × (section : List ℕ) × (text ≡ before ++ section) × (begins section (codes "S:") ≡ true)
-    × Spells (sddl_in domain) before d
+    × Spells (sddl_in known) before d

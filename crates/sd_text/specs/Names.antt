@@ -2,7 +2,7 @@
 use Rattle.std.specs.Prelude.{ℕ, List, [], ◌∷◌, map}
 use Rattle.sd_sid.specs.Sid.{SidValue}
 use Rattle.sd_text.specs.declared.alias.WellKnown.{WellKnown}
-use Rattle.sd_text.specs.declared.alias.WellKnown.TheVariants.{One, Builtin, AllPackages}
+use Rattle.sd_text.specs.declared.alias.WellKnown.TheVariants.{One, Builtin, AllPackages, Drivers}
 use Rattle.sd_text.specs.Grammar.{Name}
 use Rattle.std.specs.Borrow.{Bor}
 
@@ -27,3 +27,4 @@ abbrev pub well_known : WellKnown → SidValue
 well_known (One authority sub) = record { authority = authority; subs = sub ∷ [] }
 well_known (Builtin account) = record { authority = 5; subs = 32 ∷ account ∷ [] }
 well_known AllPackages = record { authority = 15; subs = 2 ∷ 1 ∷ [] }
+well_known Drivers = record { authority = 5; subs = 84 ∷ 0 ∷ 0 ∷ 0 ∷ 0 ∷ 0 ∷ [] }

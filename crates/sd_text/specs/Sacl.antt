@@ -1,7 +1,7 @@
 -- The section of a SACL, which is parsed and left out ([MS-DTYP] 2.5.1.1, sacl): audit entries and mandatory labels.
-use Rattle.std.specs.Prelude.{ℕ, Bool, true, false, ◌&&◌, not, List, [], ◌∷◌, drop, Option, codes}
+use Rattle.std.specs.Prelude.{ℕ, Bool, true, false, ◌&&◌, not, List, [], ◌∷◌, drop, codes}
 use Rattle.sd_acl.specs.Descriptor.{DescriptorValue}
-use Rattle.sd_text.specs.declared.domain.Domain.{Domain}
+use Rattle.sd_text.specs.declared.alias.Aliases.{Aliases}
 use Rattle.sd_text.specs.declared.descriptor.DaclWords.{DaclWords}
 use Rattle.sd_text.specs.declared.sacl.SaclKind.{SaclKind}
 use Rattle.sd_text.specs.declared.sacl.SaclKind.TheVariants.{Audit, Label}
@@ -41,17 +41,17 @@ abbrev pub levels : List (Name (Unit {0}))
 levels = level (codes "LW") ∷ level (codes "ME") ∷ level (codes "MP") ∷ level (codes "HI") ∷ level (codes "SI") ∷ []
 
 -- a SID that is left out
-unfoldable pub passed_sid : Option Domain → Grammar (Unit {0})
-passed_sid domain = sid domain >>= λ trustee. value tt
+unfoldable pub passed_sid : Aliases → Grammar (Unit {0})
+passed_sid known = sid known >>= λ trustee. value tt
 
 -- the SID of an entry
-unfoldable pub sacl_trustee : Option Domain → SaclKind → Grammar (Unit {0})
-sacl_trustee domain Audit = passed_sid domain
-sacl_trustee domain Label = one_of levels (passed_sid domain)
+unfoldable pub sacl_trustee : Aliases → SaclKind → Grammar (Unit {0})
+sacl_trustee known Audit = passed_sid known
+sacl_trustee known Label = one_of levels (passed_sid known)
 
 -- an entry after its `(`
-unfoldable pub sacl_entry : Option Domain → Grammar (Unit {0})
-sacl_entry domain = do
+unfoldable pub sacl_entry : Aliases → Grammar (Unit {0})
+sacl_entry known = do
   kind ← sacl_kind
   u ← word (codes ";")
   flags ← bits_of flag_names
@@ -60,29 +60,29 @@ sacl_entry domain = do
   w ← word (codes ";")
   object ← guid
   inherit ← guid
-  trustee ← sacl_trustee domain kind
+  trustee ← sacl_trustee known kind
   word (codes ")")
 
 -- any number of them
-unfoldable pub sacl_entries : Option Domain → Grammar (Unit {0})
-sacl_entries domain = many opening (λ before u. sacl_entry domain) >>= λ entries. value tt
+unfoldable pub sacl_entries : Aliases → Grammar (Unit {0})
+sacl_entries known = many opening (λ before u. sacl_entry known) >>= λ entries. value tt
 
 -- after the keywords the entries, unless there is no access control
-unfoldable pub sacl_behind : Option Domain → DaclWords → Grammar (Unit {0})
-sacl_behind domain found = choose (λ text. found.no_access_control) (value tt) (sacl_entries domain)
+unfoldable pub sacl_behind : Aliases → DaclWords → Grammar (Unit {0})
+sacl_behind known found = choose (λ text. found.no_access_control) (value tt) (sacl_entries known)
 
 -- whether the section is there
-unfoldable pub sacl_section : Option Domain → Grammar Bool
-sacl_section domain = choose (λ text. begins text (codes "S:"))
-    (word (codes "S:") >>= λ u. words >>= λ found. sacl_behind domain found >>= λ v. value true) (value false)
+unfoldable pub sacl_section : Aliases → Grammar Bool
+sacl_section known = choose (λ text. begins text (codes "S:"))
+    (word (codes "S:") >>= λ u. words >>= λ found. sacl_behind known found >>= λ v. value true) (value false)
 
 -- the sections of a descriptor, and whether a SACL's was left out
-unfoldable pub all_sections : Option Domain → Grammar (DescriptorValue × Bool)
-all_sections domain = do
-  descriptor ← parts domain
-  left_out ← sacl_section domain
+unfoldable pub all_sections : Aliases → Grammar (DescriptorValue × Bool)
+all_sections known = do
+  descriptor ← parts known
+  left_out ← sacl_section known
   value (descriptor, left_out)
 
 -- the text of a descriptor, perhaps with a SACL's section, which is left out
-abbrev pub sddl_without_sacl : Option Domain → Grammar (DescriptorValue × Bool)
-sddl_without_sacl domain = whole (all_sections domain)
+abbrev pub sddl_without_sacl : Aliases → Grammar (DescriptorValue × Bool)
+sddl_without_sacl known = whole (all_sections known)

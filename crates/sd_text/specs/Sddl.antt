@@ -8,16 +8,17 @@ use Rattle.sd_text.specs.declared.descriptor.DaclWord.{DaclWord}
 use Rattle.sd_text.specs.declared.descriptor.DaclWord.TheVariants.{Protected, AutoReq, AutoInherited, NoAccessControl}
 use Rattle.sd_text.specs.declared.descriptor.DaclWords.{DaclWords}
 use Rattle.sd_text.specs.declared.descriptor.DaclPart.{DaclPart}
-use Rattle.sd_text.specs.declared.domain.Domain.{Domain}
+use Rattle.sd_text.specs.declared.alias.Aliases.{Aliases}
 use Rattle.sd_text.specs.declared.fault.TextFault.TheVariants.{HasSacl}
 use Rattle.sd_text.specs.Grammar.{Grammar, Name, value, refused, choose, word, run, begins, whole, ◌>>=◌}
+use Rattle.sd_text.specs.Alias.{in_domain}
 use Rattle.sd_text.specs.Sid.{sid}
 use Rattle.sd_text.specs.Entry.{has_one, entries}
 
 -- a section of one SID, if its head is there
-unfoldable pub sid_section : Option Domain → List ℕ → Grammar (Option SidValue)
-sid_section domain head = choose (λ text. begins text head)
-    (word head >>= λ u. sid domain >>= λ trustee. value (Some trustee)) (value None)
+unfoldable pub sid_section : Aliases → List ℕ → Grammar (Option SidValue)
+sid_section known head = choose (λ text. begins text head)
+    (word head >>= λ u. sid known >>= λ trustee. value (Some trustee)) (value None)
 
 -- a keyword for this
 abbrev pub dacl_word : List ℕ → DaclWord → Name DaclWord
@@ -44,14 +45,14 @@ unfoldable pub words : Grammar DaclWords
 words = run dacl_words with_word no_words
 
 -- after the keywords a list, unless there is no access control
-unfoldable pub dacl_behind : Option Domain → DaclWords → Grammar DaclPart
-dacl_behind domain found = choose (λ text. found.no_access_control) (value (record { dacl = Null; words = found }))
-    (entries domain >>= λ list. value (record { dacl = Entries list; words = found }))
+unfoldable pub dacl_behind : Aliases → DaclWords → Grammar DaclPart
+dacl_behind known found = choose (λ text. found.no_access_control) (value (record { dacl = Null; words = found }))
+    (entries known >>= λ list. value (record { dacl = Entries list; words = found }))
 
 -- the section of the DACL, if its head is there
-unfoldable pub dacl_section : Option Domain → Grammar DaclPart
-dacl_section domain = choose (λ text. begins text (codes "D:"))
-    (word (codes "D:") >>= λ u. words >>= λ found. dacl_behind domain found)
+unfoldable pub dacl_section : Aliases → Grammar DaclPart
+dacl_section known = choose (λ text. begins text (codes "D:"))
+    (word (codes "D:") >>= λ u. words >>= λ found. dacl_behind known found)
     (value (record { dacl = Absent; words = no_words }))
 
 -- no section of a SACL is there
@@ -65,11 +66,11 @@ has_entry Null = false
 has_entry (Entries es) = has_one es
 
 -- the sections of the owner, the group and the DACL
-unfoldable pub parts : Option Domain → Grammar DescriptorValue
-parts domain = do
-  owner ← sid_section domain (codes "O:")
-  group ← sid_section domain (codes "G:")
-  part ← dacl_section domain
+unfoldable pub parts : Aliases → Grammar DescriptorValue
+parts known = do
+  owner ← sid_section known (codes "O:")
+  group ← sid_section known (codes "G:")
+  part ← dacl_section known
   value (record {
     owner = owner;
     group = group;
@@ -80,16 +81,16 @@ parts domain = do
   })
 
 -- the sections of a descriptor
-unfoldable pub sections : Option Domain → Grammar DescriptorValue
-sections domain = do
-  descriptor ← parts domain
+unfoldable pub sections : Aliases → Grammar DescriptorValue
+sections known = do
+  descriptor ← parts known
   u ← no_sacl
   value descriptor
 
--- the text of a descriptor, with the domain that aliases refer to
-abbrev pub sddl_in : Option Domain → Grammar DescriptorValue
-sddl_in domain = whole (sections domain)
+-- the text of a descriptor, with the aliases that it may have
+abbrev pub sddl_in : Aliases → Grammar DescriptorValue
+sddl_in known = whole (sections known)
 
--- the text of a descriptor, without a domain
+-- the text of a descriptor, without a domain or the aliases of newer versions
 abbrev pub sddl : Grammar DescriptorValue
-sddl = sddl_in None
+sddl = sddl_in (in_domain None)

@@ -6,8 +6,9 @@ use Rattle.sd_sid.specs.Sid.{SidValue}
 use Rattle.sd_text.specs.declared.fault.TextFault.TheVariants.{Syntax, Range, UnknownAlias, DomainAlias}
 use Rattle.sd_text.specs.Grammar.{Grammar, Name, value, refused, choose, word, number, one_of, many, begins}
 use Rattle.sd_text.specs.Grammar.{begins_digit, named, whole, ◌>>=◌}
+use Rattle.sd_text.specs.declared.alias.Aliases.{Aliases}
 use Rattle.sd_text.specs.declared.domain.Domain.{Domain}
-use Rattle.sd_text.specs.Alias.{aliases, domain_aliases}
+use Rattle.sd_text.specs.Alias.{aliases, later_aliases, domain_aliases, in_domain}
 use Rattle.sd_text.specs.Domain.{account_sid}
 use Rattle.sd_text.specs.Names.{renamed}
 
@@ -39,20 +40,24 @@ begins_letter (c ∷ text) = is_ascii_alphabetic c
 unfoldable pub no_alias : Grammar SidValue
 no_alias = choose (λ text. begins_letter text && begins_letter (drop 1 text)) (refused UnknownAlias) (refused Syntax)
 
--- an alias of the domain, a fault without one
-unfoldable pub domain_alias : Option Domain → Grammar SidValue
-domain_alias None = choose (λ text. is_some (named domain_aliases text)) (refused DomainAlias) no_alias
-domain_alias (Some domain) = one_of (renamed (account_sid domain) domain_aliases) no_alias
+-- an alias of the table that stands for a SID of the domain, a fault without one
+unfoldable pub domain_alias : List (Name ℕ) → Option Domain → Grammar SidValue
+domain_alias names None = choose (λ text. is_some (named names text)) (refused DomainAlias) no_alias
+domain_alias names (Some domain) = one_of (renamed (account_sid domain) names) no_alias
+
+-- an alias of a newer version of Windows, where the text may have those, or one of the domain
+abbrev pub other_alias : Aliases → Grammar SidValue
+other_alias known = one_of (later_aliases known.later) (domain_alias (domain_aliases known.later) known.domain)
 
 -- a SID, in full or by its alias
-unfoldable pub sid : Option Domain → Grammar SidValue
-sid domain = choose (λ text. begins text (codes "S-1-"))
-    (word (codes "S-1-") >>= λ u. authority >>= λ number. subs_of number) (one_of aliases (domain_alias domain))
+unfoldable pub sid : Aliases → Grammar SidValue
+sid known = choose (λ text. begins text (codes "S-1-"))
+    (word (codes "S-1-") >>= λ u. authority >>= λ number. subs_of number) (one_of aliases (other_alias known))
 
--- the text of a SID, with the domain that aliases refer to
-abbrev pub sid_text_in : Option Domain → Grammar SidValue
-sid_text_in domain = whole (sid domain)
+-- the text of a SID, with the aliases that it may have
+abbrev pub sid_text_in : Aliases → Grammar SidValue
+sid_text_in known = whole (sid known)
 
--- the text of a SID, without a domain
+-- the text of a SID, without a domain or the aliases of newer versions
 abbrev pub sid_text : Grammar SidValue
-sid_text = sid_text_in None
+sid_text = sid_text_in (in_domain None)

@@ -1,9 +1,9 @@
 //! The aliases of SIDs: [MS-DTYP] 2.5.1.1, sid-token.
 
 ghost use Rattle.std.specs.Prelude.{◌≡◌, ◌<◌, ◌≤◌, ◌^◌, true, Err, length, option_map};
-ghost use Rattle.sd_text.specs.Sid.{no_alias, domain_alias};
+ghost use Rattle.sd_text.specs.Sid.{no_alias, domain_alias, other_alias};
 ghost use Rattle.sd_sid.specs.Sid.{same_sid};
-ghost use Rattle.sd_text.specs.Alias.{aliases, domain_aliases, alias_in};
+ghost use Rattle.sd_text.specs.Alias.{aliases, alias_in, domain_aliases, in_domain, later_aliases};
 ghost use Rattle.sd_text.specs.Names.{rows, renamed, well_known};
 ghost use Rattle.sd_text.specs.Places.{are_placed, sids_are_placed};
 ghost use Rattle.sd_text.specs.Grammar.{one_of};
@@ -15,6 +15,27 @@ use crate::fault::TextFault;
 use crate::places::{ALIAS_PLACES, Places, SID_PLACES, SidPlaces, sid_slot};
 use sd_sid::Sid;
 
+/// Which aliases of SIDs a text may have, beside those that always stand for one SID ([MS-DTYP] 2.5.1.1, sid-token).
+#[derive(Clone, Copy, Debug)]
+pub struct Aliases {
+    /// The domain to which aliases of accounts and groups refer. Without one these are faults.
+    pub domain: Option<Domain>,
+    /// Whether those of newer versions of Windows are aliases too.
+    pub later: bool,
+}
+
+impl Aliases {
+    /// Those of this domain, if there is one, and none of newer versions.
+    pub fn in_domain(domain: Option<Domain>) -> Aliases
+        ensures { result ≡ in_domain domain }
+    {
+        Aliases {
+            domain,
+            later: false,
+        }
+    }
+}
+
 /// A well-known SID ([MS-DTYP] 2.4.2.4).
 #[derive(Clone, Copy)]
 pub(crate) enum WellKnown {
@@ -24,6 +45,8 @@ pub(crate) enum WellKnown {
     Builtin(u32),
     /// S-1-15-2-1, all application packages.
     AllPackages,
+    /// S-1-5-84-0-0-0-0-0, drivers in user mode.
+    Drivers,
 }
 
 /// The alias of the SID, if it has one ([MS-DTYP] 2.5.1.1, sid-token). Allocates nothing.
@@ -60,6 +83,7 @@ impl WellKnown {
                 && subs == [sub].as_slice(),
             WellKnown::Builtin(account) => authority == 5 && subs == [32, account].as_slice(),
             WellKnown::AllPackages => authority == 15 && subs == [2, 1].as_slice(),
+            WellKnown::Drivers => authority == 5 && subs == [84, 0, 0, 0, 0, 0].as_slice(),
         }
     }
 
@@ -70,6 +94,7 @@ impl WellKnown {
             WellKnown::One(authority, sub) => made(u64::from(authority), &[sub]),
             WellKnown::Builtin(account) => made(5, &[32, account]),
             WellKnown::AllPackages => made(15, &[2, 1]),
+            WellKnown::Drivers => made(5, &[84, 0, 0, 0, 0, 0]),
         }
     }
 }
@@ -145,8 +170,27 @@ fn alias_places() -> &'static Places
     &ALIAS_PLACES
 }
 
-/// The aliases of a domain's accounts and groups, and their relative identifiers ([MS-DTYP] 2.4.2.4).
-static DOMAIN_ALIASES: [(&str, u32); 12] = [
+/// The aliases of newer versions of Windows that always stand for one SID.
+static LATER_ALIASES: [(&str, WellKnown); 7] = [
+    ("RA", WellKnown::Builtin(575)),
+    ("ES", WellKnown::Builtin(576)),
+    ("MS", WellKnown::Builtin(577)),
+    ("HA", WellKnown::Builtin(578)),
+    ("AA", WellKnown::Builtin(579)),
+    ("RM", WellKnown::Builtin(580)),
+    ("UD", WellKnown::Drivers),
+];
+
+/// Those of them that a text may have.
+fn later_aliases(later: bool) -> &'static [(&'static str, WellKnown)]
+    ensures { renamed well_known (rows result.now) ≡ later_aliases later }
+{
+    if later { &LATER_ALIASES } else { &[] }
+}
+
+/// The aliases of a domain's accounts and groups, and their relative identifiers ([MS-DTYP] 2.4.2.4): twelve, and then
+/// those of newer versions of Windows.
+static DOMAIN_ALIASES: [(&str, u32); 16] = [
     ("DA", 512),
     ("DU", 513),
     ("DG", 514),
@@ -159,32 +203,52 @@ static DOMAIN_ALIASES: [(&str, u32); 12] = [
     ("PA", 520),
     ("LA", 500),
     ("LG", 501),
+    ("RO", 498),
+    ("CN", 522),
+    ("AP", 525),
+    ("KA", 526),
 ];
 
-fn domain_aliases() -> &'static [(&'static str, u32)]
-    ensures { rows result.now ≡ domain_aliases }
+/// Those of them that a text may have.
+fn domain_aliases(later: bool) -> &'static [(&'static str, u32)]
+    ensures { rows result.now ≡ domain_aliases later }
 {
-    &DOMAIN_ALIASES
+    if later { &DOMAIN_ALIASES } else { &DOMAIN_ALIASES[..12] }
 }
 
 impl Cursor<'_> {
-    /// An alias of the table or of the domain, or the fault here.
-    pub(crate) fn alias(&mut self, domain: Option<Domain>) -> Result<Sid, TextFault>
+    /// An alias that the text may have, or the fault here.
+    pub(crate) fn alias(&mut self, known: Aliases) -> Result<Sid, TextFault>
         ensures { Gives (λ sid. sid) result self.new.rest.now
-            (find (one_of aliases (domain_alias domain)) self.old.rest.now) }
+            (find (one_of aliases (other_alias known)) self.old.rest.now) }
     {
         match self.name_of_two(known_aliases(), alias_places()) {
-            Some(known) => Ok(known.sid()),
-            None => self.domain_alias(domain),
+            Some(alias) => Ok(alias.sid()),
+            None => self.other_alias(known),
+        }
+    }
+
+    /// One that isn't in the first table, or the fault here.
+    fn other_alias(&mut self, known: Aliases) -> Result<Sid, TextFault>
+        ensures { Gives (λ sid. sid) result self.new.rest.now (find (other_alias known) self.old.rest.now) }
+    {
+        match self.name(later_aliases(known.later)) {
+            Some(alias) => Ok(alias.sid()),
+            None => self.domain_alias(domain_aliases(known.later), known.domain),
         }
     }
 
     /// An alias of the domain, or the fault here: without a domain none has a SID.
-    fn domain_alias(&mut self, domain: Option<Domain>) -> Result<Sid, TextFault>
-        ensures { Gives (λ sid. sid) result self.new.rest.now (find (domain_alias domain) self.old.rest.now) }
+    fn domain_alias(
+        &mut self,
+        names: &[(&str, u32)],
+        domain: Option<Domain>,
+    ) -> Result<Sid, TextFault>
+        ensures { Gives (λ sid. sid) result self.new.rest.now
+            (find (domain_alias (rows names.now) domain) self.old.rest.now) }
     {
         let mut ahead = Cursor { rest: self.rest };
-        match (ahead.name(domain_aliases()), domain) {
+        match (ahead.name(names), domain) {
             (Some(relative), Some(domain)) => {
                 self.rest = ahead.rest;
                 Ok(domain.account(relative))

@@ -10,7 +10,7 @@ ghost use Rattle.sd_text.specs.Sddl.{sections, sddl, sddl_in};
 ghost use Rattle.sd_text.specs.Finding.{Gives, GivesUnlessMemory, find};
 
 use crate::cursor::Cursor;
-use crate::domain::Domain;
+use crate::alias::Aliases;
 use crate::fault::{TextError, TextFault};
 use sd_acl::{Dacl, Descriptor};
 use sd_sid::Sid;
@@ -56,23 +56,23 @@ pub fn read_sddl(alloc: Global, text: &str) -> Result<Descriptor, TextError>
     ensures spelled { (d : DescriptorValue) → Spells sddl text.now d → IfErr result (λ e. e ≡ TextError.Memory) }
     ensures memory { IsErrOf result TextError.Memory → SpellsOne (λ d. has_entry d.dacl) sddl text.now }
 {
-    read_sddl_in(alloc, None, text)
+    read_sddl_in(alloc, Aliases::in_domain(None), text)
 }
 
-/// The same, with the domain that aliases of a domain's accounts and groups refer to.
+/// The same, with the aliases that the text may have.
 pub fn read_sddl_in(
     alloc: Global,
-    domain: Option<Domain>,
+    known: Aliases,
     text: &str,
 ) -> Result<Descriptor, TextError>
-    ensures value { IfOk result (λ d. Spells (sddl_in domain) text.now (descriptor_of d)) }
-    ensures fault { IfErr result (λ e. StandsIn (sddl_in domain) text.now e) }
-    ensures spelled { (d : DescriptorValue) → Spells (sddl_in domain) text.now d
+    ensures value { IfOk result (λ d. Spells (sddl_in known) text.now (descriptor_of d)) }
+    ensures fault { IfErr result (λ e. StandsIn (sddl_in known) text.now e) }
+    ensures spelled { (d : DescriptorValue) → Spells (sddl_in known) text.now d
         → IfErr result (λ e. e ≡ TextError.Memory) }
-    ensures memory { IsErrOf result TextError.Memory → SpellsOne (λ d. has_entry d.dacl) (sddl_in domain) text.now }
+    ensures memory { IsErrOf result TextError.Memory → SpellsOne (λ d. has_entry d.dacl) (sddl_in known) text.now }
 {
     let mut cursor = Cursor::new(text);
-    match cursor.descriptor(alloc, domain) {
+    match cursor.descriptor(alloc, known) {
         Ok(descriptor) => descriptor.ok_or(TextError::Memory),
         Err(fault) => Err(TextError::Fault {
             fault,
@@ -112,12 +112,12 @@ impl Cursor<'_> {
     fn descriptor(
         &mut self,
         alloc: Global,
-        domain: Option<Domain>,
+        known: Aliases,
     ) -> Result<Option<Descriptor>, TextFault>
         ensures { GivesUnlessMemory descriptor_of (λ d. has_entry d.dacl) result self.new.rest.now
-            (find (sddl_in domain) self.old.rest.now) }
+            (find (sddl_in known) self.old.rest.now) }
     {
-        let descriptor = self.sections(alloc, domain)?;
+        let descriptor = self.sections(alloc, known)?;
         self.end()?;
         Ok(descriptor)
     }
@@ -127,12 +127,12 @@ impl Cursor<'_> {
     fn sections(
         &mut self,
         alloc: Global,
-        domain: Option<Domain>,
+        known: Aliases,
     ) -> Result<Option<Descriptor>, TextFault>
         ensures { GivesUnlessMemory descriptor_of (λ d. has_entry d.dacl) result self.new.rest.now
-            (find (sections domain) self.old.rest.now) }
+            (find (sections known) self.old.rest.now) }
     {
-        let descriptor = self.parts(alloc, domain)?;
+        let descriptor = self.parts(alloc, known)?;
         self.no_sacl()?;
         Ok(descriptor)
     }
@@ -142,14 +142,14 @@ impl Cursor<'_> {
     pub(crate) fn parts(
         &mut self,
         alloc: Global,
-        domain: Option<Domain>,
+        known: Aliases,
     ) -> Result<Option<Descriptor>, TextFault>
         ensures { GivesUnlessMemory descriptor_of (λ d. has_entry d.dacl) result self.new.rest.now
-            (find (parts domain) self.old.rest.now) }
+            (find (parts known) self.old.rest.now) }
     {
-        let owner = self.sid_section(domain, b"O:")?;
-        let group = self.sid_section(domain, b"G:")?;
-        let Some(DaclPart { dacl, words }) = self.dacl_section(alloc, domain)? else {
+        let owner = self.sid_section(known, b"O:")?;
+        let group = self.sid_section(known, b"G:")?;
+        let Some(DaclPart { dacl, words }) = self.dacl_section(alloc, known)? else {
             return Ok(None);
         };
         Ok(Some(Descriptor {
@@ -165,11 +165,11 @@ impl Cursor<'_> {
     /// A section of one SID, if its head is here.
     #[tactic(auto, unfolding(crate::specs::Sddl::sid_section))]
     #[inline(always)]
-    fn sid_section(&mut self, domain: Option<Domain>, head: &[u8]) -> Result<Option<Sid>, TextFault>
-        ensures { Gives (λ sid. sid) result self.new.rest.now (find (sid_section domain head.now) self.old.rest.now) }
+    fn sid_section(&mut self, known: Aliases, head: &[u8]) -> Result<Option<Sid>, TextFault>
+        ensures { Gives (λ sid. sid) result self.new.rest.now (find (sid_section known head.now) self.old.rest.now) }
     {
         if self.eat(head) {
-            Ok(Some(self.sid(domain)?))
+            Ok(Some(self.sid(known)?))
         } else {
             Ok(None)
         }
@@ -180,10 +180,10 @@ impl Cursor<'_> {
     fn dacl_section(
         &mut self,
         alloc: Global,
-        domain: Option<Domain>,
+        known: Aliases,
     ) -> Result<Option<DaclPart>, TextFault>
         ensures section { GivesUnlessMemory (λ part. part) (λ part. has_entry part.dacl) result self.new.rest.now
-            (find (dacl_section domain) self.old.rest.now) }
+            (find (dacl_section known) self.old.rest.now) }
         ensures absent { IfOk result (λ found. IfSome found (λ part. IsAbsent part.dacl → part.words ≡ no_words)) }
     {
         if !self.eat(b"D:") {
@@ -199,7 +199,7 @@ impl Cursor<'_> {
                 words,
             }));
         }
-        let Some(entries) = self.entries(alloc, domain)? else {
+        let Some(entries) = self.entries(alloc, known)? else {
             return Ok(None);
         };
         Ok(Some(DaclPart {

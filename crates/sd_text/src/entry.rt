@@ -8,7 +8,7 @@ ghost use Rattle.sd_text.specs.Names.{rows};
 ghost use Rattle.sd_text.specs.Finding.{Gives, GivesUnlessMemory, find};
 
 use crate::cursor::Cursor;
-use crate::domain::Domain;
+use crate::alias::Aliases;
 use crate::fault::TextFault;
 use crate::places::FLAG_PLACES;
 use bitflags::Flags;
@@ -28,16 +28,16 @@ impl Cursor<'_> {
     pub(crate) fn entries(
         &mut self,
         alloc: Global,
-        domain: Option<Domain>,
+        known: Aliases,
     ) -> Result<Option<AceList>, TextFault>
         ensures { GivesUnlessMemory (λ entries. entries) has_one result self.new.rest.now
-            (find (entries domain) self.old.rest.now) }
+            (find (entries known) self.old.rest.now) }
     {
         let mut entries = Vec::new(alloc);
         let mut size = ACL_HEADER_BYTES;
         let mut stored = true;
         'entries: while self.eat(b"(") {
-            let entry = self.entry(domain, size)?;
+            let entry = self.entry(known, size)?;
             size += entry.size();
             stored = stored && entries.push(entry).is_ok();
         }
@@ -50,9 +50,9 @@ impl Cursor<'_> {
 
     /// An entry after its `(`. The list before it has this size in bytes.
     #[tactic(auto, unfolding(crate::specs::Entry::entry))]
-    fn entry(&mut self, domain: Option<Domain>, size: u64) -> Result<Ace, TextFault>
+    fn entry(&mut self, known: Aliases, size: u64) -> Result<Ace, TextFault>
         requires { size ≤ 65535 }
-        ensures entry { Gives (λ entry. entry) result self.new.rest.now (find (entry domain size) self.old.rest.now) }
+        ensures entry { Gives (λ entry. entry) result self.new.rest.now (find (entry known size) self.old.rest.now) }
         ensures fits { IfOk result (λ entry. size + ace_size entry ≤ 65535) }
     {
         let kind = self.kind()?;
@@ -63,7 +63,7 @@ impl Cursor<'_> {
         self.word(b";")?;
         self.guid()?;
         self.guid()?;
-        let sid = self.sid(domain)?;
+        let sid = self.sid(known)?;
         self.entry_end(
             size,
             Ace {

@@ -27,7 +27,7 @@ mod rights;
 mod sacl;
 mod sid;
 
-pub use alias::alias_of;
+pub use alias::{Aliases, alias_of};
 pub use descriptor::{read_sddl, read_sddl_in};
 pub use domain::Domain;
 pub use fault::{TextError, TextFault};

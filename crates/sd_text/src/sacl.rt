@@ -10,7 +10,7 @@ ghost use Rattle.sd_text.specs.Sacl.{passed_sid, is_sacl_type, all_sections, sdd
 ghost use Rattle.sd_text.specs.Finding.{Gives, GivesUnlessMemory, find};
 
 use crate::cursor::Cursor;
-use crate::domain::Domain;
+use crate::alias::Aliases;
 use crate::fault::{TextError, TextFault};
 use crate::places::LABEL_PLACES;
 use sd_acl::Descriptor;
@@ -42,19 +42,19 @@ pub struct WithoutSacl {
 /// only for a valid text, never in place of a fault of the SACL.
 pub fn read_sddl_without_sacl(
     alloc: Global,
-    domain: Option<Domain>,
+    known: Aliases,
     text: &str,
 ) -> Result<WithoutSacl, TextError>
-    ensures value { IfOk result (λ r. Spells (sddl_without_sacl domain) text.now
+    ensures value { IfOk result (λ r. Spells (sddl_without_sacl known) text.now
         (descriptor_of r.descriptor, r.left_out)) }
-    ensures fault { IfErr result (λ e. StandsIn (sddl_without_sacl domain) text.now e) }
-    ensures spelled { (d : DescriptorValue) (left_out : Bool) → Spells (sddl_without_sacl domain) text.now (d, left_out)
+    ensures fault { IfErr result (λ e. StandsIn (sddl_without_sacl known) text.now e) }
+    ensures spelled { (d : DescriptorValue) (left_out : Bool) → Spells (sddl_without_sacl known) text.now (d, left_out)
         → IfErr result (λ e. e ≡ TextError.Memory) }
     ensures memory { IsErrOf result TextError.Memory
-        → SpellsOne (λ found. has_entry found.0.dacl) (sddl_without_sacl domain) text.now }
+        → SpellsOne (λ found. has_entry found.0.dacl) (sddl_without_sacl known) text.now }
 {
     let mut cursor = Cursor::new(text);
-    match cursor.without_sacl(alloc, domain) {
+    match cursor.without_sacl(alloc, known) {
         Ok(read) => read.ok_or(TextError::Memory),
         Err(fault) => Err(TextError::Fault {
             fault,
@@ -68,12 +68,12 @@ impl Cursor<'_> {
     fn without_sacl(
         &mut self,
         alloc: Global,
-        domain: Option<Domain>,
+        known: Aliases,
     ) -> Result<Option<WithoutSacl>, TextFault>
         ensures { GivesUnlessMemory (λ r. (descriptor_of r.descriptor, r.left_out)) (λ found. has_entry found.0.dacl)
-            result self.new.rest.now (find (sddl_without_sacl domain) self.old.rest.now) }
+            result self.new.rest.now (find (sddl_without_sacl known) self.old.rest.now) }
     {
-        let read = self.all_sections(alloc, domain)?;
+        let read = self.all_sections(alloc, known)?;
         self.end()?;
         Ok(read)
     }
@@ -83,13 +83,13 @@ impl Cursor<'_> {
     fn all_sections(
         &mut self,
         alloc: Global,
-        domain: Option<Domain>,
+        known: Aliases,
     ) -> Result<Option<WithoutSacl>, TextFault>
         ensures { GivesUnlessMemory (λ r. (descriptor_of r.descriptor, r.left_out)) (λ found. has_entry found.0.dacl)
-            result self.new.rest.now (find (all_sections domain) self.old.rest.now) }
+            result self.new.rest.now (find (all_sections known) self.old.rest.now) }
     {
-        let parts = self.parts(alloc, domain)?;
-        let left_out = self.sacl_section(domain)?;
+        let parts = self.parts(alloc, known)?;
+        let left_out = self.sacl_section(known)?;
         let Some(descriptor) = parts else {
             return Ok(None);
         };
@@ -101,8 +101,8 @@ impl Cursor<'_> {
 
     /// Consumes the section of a SACL. Returns false if there is none.
     #[tactic(auto, unfolding(crate::specs::Sacl::sacl_section, crate::specs::Sacl::sacl_behind))]
-    pub(crate) fn sacl_section(&mut self, domain: Option<Domain>) -> Result<bool, TextFault>
-        ensures { Gives (λ stands. stands) result self.new.rest.now (find (sacl_section domain) self.old.rest.now) }
+    pub(crate) fn sacl_section(&mut self, known: Aliases) -> Result<bool, TextFault>
+        ensures { Gives (λ stands. stands) result self.new.rest.now (find (sacl_section known) self.old.rest.now) }
     {
         if !self.eat(b"S:") {
             return Ok(false);
@@ -111,24 +111,24 @@ impl Cursor<'_> {
         if words.no_access_control {
             return Ok(true);
         }
-        self.sacl_entries(domain)?;
+        self.sacl_entries(known)?;
         Ok(true)
     }
 
     /// Any number of entries.
-    fn sacl_entries(&mut self, domain: Option<Domain>) -> Result<(), TextFault>
-        ensures { Gives (λ _. tt) result self.new.rest.now (find (sacl_entries domain) self.old.rest.now) }
+    fn sacl_entries(&mut self, known: Aliases) -> Result<(), TextFault>
+        ensures { Gives (λ _. tt) result self.new.rest.now (find (sacl_entries known) self.old.rest.now) }
     {
         'entries: while self.eat(b"(") {
-            self.sacl_entry(domain)?;
+            self.sacl_entry(known)?;
         }
         Ok(())
     }
 
     /// An entry after its `(`.
     #[tactic(auto, unfolding(crate::specs::Sacl::sacl_entry))]
-    fn sacl_entry(&mut self, domain: Option<Domain>) -> Result<(), TextFault>
-        ensures { Gives (λ _. tt) result self.new.rest.now (find (sacl_entry domain) self.old.rest.now) }
+    fn sacl_entry(&mut self, known: Aliases) -> Result<(), TextFault>
+        ensures { Gives (λ _. tt) result self.new.rest.now (find (sacl_entry known) self.old.rest.now) }
     {
         let kind = self.sacl_kind()?;
         self.word(b";")?;
@@ -138,7 +138,7 @@ impl Cursor<'_> {
         self.word(b";")?;
         self.guid()?;
         self.guid()?;
-        self.sacl_trustee(domain, kind)?;
+        self.sacl_trustee(known, kind)?;
         self.word(b")")
     }
 
@@ -186,24 +186,24 @@ impl Cursor<'_> {
 
     /// The SID of an entry: a label's has aliases of its own.
     #[tactic(auto, unfolding(crate::specs::Sacl::sacl_trustee))]
-    fn sacl_trustee(&mut self, domain: Option<Domain>, kind: SaclKind) -> Result<(), TextFault>
-        ensures { Gives (λ _. tt) result self.new.rest.now (find (sacl_trustee domain kind) self.old.rest.now) }
+    fn sacl_trustee(&mut self, known: Aliases, kind: SaclKind) -> Result<(), TextFault>
+        ensures { Gives (λ _. tt) result self.new.rest.now (find (sacl_trustee known kind) self.old.rest.now) }
     {
         match kind {
-            SaclKind::Audit => self.passed_sid(domain),
+            SaclKind::Audit => self.passed_sid(known),
             SaclKind::Label => match self.name(&LEVELS) {
                 Some(()) => Ok(()),
-                None => self.passed_sid(domain),
+                None => self.passed_sid(known),
             },
         }
     }
 
     /// A SID that is left out.
     #[tactic(auto, unfolding(crate::specs::Sacl::passed_sid))]
-    fn passed_sid(&mut self, domain: Option<Domain>) -> Result<(), TextFault>
-        ensures { Gives (λ _. tt) result self.new.rest.now (find (passed_sid domain) self.old.rest.now) }
+    fn passed_sid(&mut self, known: Aliases) -> Result<(), TextFault>
+        ensures { Gives (λ _. tt) result self.new.rest.now (find (passed_sid known) self.old.rest.now) }
     {
-        let _sid = self.sid(domain)?;
+        let _sid = self.sid(known)?;
         Ok(())
     }
 }

@@ -9,7 +9,7 @@ ghost use Rattle.sd_text.specs.Finding.{Gives, find};
 
 use crate::alias::made;
 use crate::cursor::Cursor;
-use crate::domain::Domain;
+use crate::alias::Aliases;
 use crate::fault::{TextError, TextFault};
 use sd_sid::{AUTHORITY_LIMIT, MAX_SUBS, Sid};
 
@@ -24,18 +24,18 @@ pub fn read_sid_text(text: &str) -> Result<Sid, TextError>
     ensures spelled { (sid : SidValue) → Spells sid_text text.now sid → result ≡ Ok sid }
     ensures no_memory { ¬ IsErrOf result TextError.Memory }
 {
-    read_sid_text_in(None, text)
+    read_sid_text_in(Aliases::in_domain(None), text)
 }
 
-/// The same, with the domain that aliases of a domain's accounts and groups refer to.
-pub fn read_sid_text_in(domain: Option<Domain>, text: &str) -> Result<Sid, TextError>
-    ensures value { IfOk result (λ sid. Spells (sid_text_in domain) text.now sid) }
-    ensures fault { IfErr result (λ e. StandsIn (sid_text_in domain) text.now e) }
-    ensures spelled { (sid : SidValue) → Spells (sid_text_in domain) text.now sid → result ≡ Ok sid }
+/// The same, with the aliases that the text may have.
+pub fn read_sid_text_in(known: Aliases, text: &str) -> Result<Sid, TextError>
+    ensures value { IfOk result (λ sid. Spells (sid_text_in known) text.now sid) }
+    ensures fault { IfErr result (λ e. StandsIn (sid_text_in known) text.now e) }
+    ensures spelled { (sid : SidValue) → Spells (sid_text_in known) text.now sid → result ≡ Ok sid }
     ensures no_memory { ¬ IsErrOf result TextError.Memory }
 {
     let mut cursor = Cursor::new(text);
-    match cursor.sid_text(domain) {
+    match cursor.sid_text(known) {
         Ok(sid) => Ok(sid),
         Err(fault) => Err(TextError::Fault {
             fault,
@@ -45,21 +45,21 @@ pub fn read_sid_text_in(domain: Option<Domain>, text: &str) -> Result<Sid, TextE
 }
 
 impl Cursor<'_> {
-    fn sid_text(&mut self, domain: Option<Domain>) -> Result<Sid, TextFault>
-        ensures { Gives (λ sid. sid) result self.new.rest.now (find (sid_text_in domain) self.old.rest.now) }
+    fn sid_text(&mut self, known: Aliases) -> Result<Sid, TextFault>
+        ensures { Gives (λ sid. sid) result self.new.rest.now (find (sid_text_in known) self.old.rest.now) }
     {
-        let sid = self.sid(domain)?;
+        let sid = self.sid(known)?;
         self.end()?;
         Ok(sid)
     }
 
     /// A SID, in full or by its alias.
     #[tactic(auto, unfolding(crate::specs::Sid::sid))]
-    pub(crate) fn sid(&mut self, domain: Option<Domain>) -> Result<Sid, TextFault>
-        ensures { Gives (λ sid. sid) result self.new.rest.now (find (sid domain) self.old.rest.now) }
+    pub(crate) fn sid(&mut self, known: Aliases) -> Result<Sid, TextFault>
+        ensures { Gives (λ sid. sid) result self.new.rest.now (find (sid known) self.old.rest.now) }
     {
         if !self.eat(b"S-1-") {
-            return self.alias(domain);
+            return self.alias(known);
         }
         // (only for speed a cursor of its own: no other function gets it, so it stays in registers)
         let mut ahead = Cursor { rest: self.rest };

@@ -73,6 +73,8 @@ pub enum OptionName {
     Strict,
     /// `--domain`.
     Domain,
+    /// `--aliases`.
+    Aliases,
     /// `--mapping`.
     Mapping,
 }
@@ -158,6 +160,7 @@ pub struct OptionSet {
     pub percent: bool,
     pub strict: bool,
     pub domain: bool,
+    pub aliases: bool,
     pub mapping: bool,
 }
 
@@ -241,6 +244,7 @@ impl Command {
             OptionName::Percent => self.options.percent,
             OptionName::Strict => self.options.strict,
             OptionName::Domain => self.options.domain,
+            OptionName::Aliases => self.options.aliases,
             OptionName::Mapping => self.options.mapping,
         }
     }

@@ -15,6 +15,7 @@ const NO_OPTIONS: OptionSet = OptionSet {
     percent: false,
     strict: false,
     domain: false,
+    aliases: false,
     mapping: false,
 };
 
@@ -24,6 +25,7 @@ const TEXT_OPTIONS: OptionSet = OptionSet {
     without_sacl: true,
     require_dacl: true,
     domain: true,
+    aliases: true,
     ..NO_OPTIONS
 };
 
@@ -266,8 +268,7 @@ mark, and without a line end at its end",
             excludes: None,
         },
         "\
-drops a section S: of audit and label entries, or the SACL in bytes, and reports it on standard
-error",
+drops a section S:, whatever its entries, or the SACL in bytes, and reports it on standard error",
     ),
     (
         "--require-dacl",
@@ -295,8 +296,9 @@ error",
             excludes: Some(OptionName::Base64),
         },
         "\
-the bytes are in hexadecimal, in parts that tabs, spaces, commas, backslashes and line ends
-separate, each with or without '0x'",
+the bytes are as other tools write them: in hexadecimal, in parts that tabs, spaces, commas,
+backslashes and line ends separate, each with or without '0x'; or a whole value of a .reg file, of
+LDIF, or of getfattr, also Samba's security.NTACL",
     ),
     (
         "--percent",
@@ -330,6 +332,17 @@ error reports the first line of each kind",
         "\
 the aliases of a domain's accounts and groups, as DA, are SIDs of the domain with this SID:
 S-1-5-21 and three numbers, as S-1-5-21-1-2-3",
+    ),
+    (
+        "--aliases",
+        ProgramOption {
+            name: OptionName::Aliases,
+            value: None,
+            excludes: None,
+        },
+        "\
+the aliases of newer versions of Windows are aliases too: AA, ES, HA, MS, RA, RM and UD, and of a
+domain AP, CN, KA and RO",
     ),
     (
         "--mapping",

@@ -5,4 +5,4 @@ use Rattle.sd_commands.specs.Words.{AreSpelledOut}
 use Rattle.sd_commands.proofs.words.spelled_out.Given as goal
 
 abbrev pub invariant-loop-word : goal.invariant-loop-word
-invariant-loop-word l = AreSpelledOut l.domain (texts (take l.word-index l.words)) (map string_bytes l.fulls.items)
+invariant-loop-word l = AreSpelledOut l.known (texts (take l.word-index l.words)) (map string_bytes l.fulls.items)

@@ -10,7 +10,7 @@ use Rattle.sd_commands.proofs.words.spelled_out_word.Goals as goal
 pub returns-in-Err : goal.returns-in-Err
 returns-in-Err c =
     let word = c.args.word.now in
-    let grammar = sid_text_in (Some c.args.domain) in
+    let grammar = sid_text_in c.args.known in
     let same : c.split_at.result.0.now ≡ take (sid_length word) word = c.split_at.ensures.front ∙ ap (λ n. take n word) c.sid_length.ensures.length in
     IfOk-weaker c.from_str.result _ _ (λ full is. inr (
       λ sid spelled. not_spelled grammar c.split_at.result.0.now c.in-Err.field-0 c.in-Err.ensures.fault (λ memory. c.in-Err.ensures.no_memory (ap Err memory)) sid

@@ -1,27 +1,21 @@
--- The words are read as they stand, or as they are spelled out.
-use Rattle.std.proofs.Common.{◌≡◌, ◌∙◌, ap, map, refl, string_bytes, subst}
+-- The words are read as they are spelled out.
+use Rattle.std.proofs.Common.{◌≡◌, ◌∙◌, ap, map, string_bytes, subst}
 use Rattle.sd_answer.specs.Word.{IsFirstNoWord, texts}
-use Rattle.sd_commands.proofs.SpelledOut.{first_within, spelled_within}
+use Rattle.sd_commands.proofs.SpelledOut.{spelled_within}
 use Rattle.sd_commands.proofs.words.token_in.Goals as goal
-
-pub returns-in_default-clause-no_word : goal.returns-in_default-clause-no_word
-returns-in_default-clause-no_word c = λ place failed. (texts c.args.words.now, rw (c.in_default.is) refl, c.read_token.ensures.first place failed)
-
-pub returns-in_default-clause-within : goal.returns-in_default-clause-within
-returns-in_default-clause-within c = λ place failed. first_within c.args.words.now place (c.read_token.ensures.first place failed)
 
 pub returns-clause-no_word : goal.returns-clause-no_word
 returns-clause-no_word c = λ place failed.
     let same : texts c.deref-2.result.now ≡ map string_bytes c.in_ok-fulls.fulls.items =
     ap texts c.deref-2.ensures.value ∙ c.in_ok-lent.ensures ∙ ap (map string_bytes) c.deref.ensures.value in (
       map string_bytes c.in_ok-fulls.fulls.items,
-      rw (c.in-Some.is) c.in_ok-fulls.ensures,
-      subst (λ fulls. IsFirstNoWord fulls place) same (c.read_token-2.ensures.first place failed),
+      c.in_ok-fulls.ensures,
+      subst (λ fulls. IsFirstNoWord fulls place) same (c.read_token.ensures.first place failed),
     )
 
 pub returns-clause-within : goal.returns-clause-within
 returns-clause-within c = λ place failed.
     let same : texts c.deref-2.result.now ≡ map string_bytes c.in_ok-fulls.fulls.items =
     ap texts c.deref-2.ensures.value ∙ c.in_ok-lent.ensures ∙ ap (map string_bytes) c.deref.ensures.value in
-    spelled_within c.in-Some.domain c.args.words.now _ place c.in_ok-fulls.ensures
-    (subst (λ fulls. IsFirstNoWord fulls place) same (c.read_token-2.ensures.first place failed))
+    spelled_within c.args.known c.args.words.now _ place c.in_ok-fulls.ensures
+    (subst (λ fulls. IsFirstNoWord fulls place) same (c.read_token.ensures.first place failed))

@@ -6,4 +6,4 @@ use Rattle.sd_text.proofs.Engine.{no_fault}
 use Rattle.sd_text.proofs.laws.texts_never_have_both.Goals as goal
 
 pub returns : goal.returns
-returns c = record { without_sacl = λ domain. no_fault (sddl_without_sacl domain); descriptors = λ domain. no_fault (sddl_in domain); sids = λ domain. no_fault (sid_text_in domain); masks = no_fault mask_text }
+returns c = record { without_sacl = λ known. no_fault (sddl_without_sacl known); descriptors = λ known. no_fault (sddl_in known); sids = λ known. no_fault (sid_text_in known); masks = no_fault mask_text }

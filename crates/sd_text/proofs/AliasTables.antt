@@ -6,7 +6,7 @@ use Rattle.sd_text.specs.declared.domain.Domain.{Domain}
 use Rattle.sd_text.specs.declared.fault.TextFault.TheVariants.{DomainAlias}
 use Rattle.sd_text.specs.Grammar.{Grammar, Name, named, one_of}
 use Rattle.sd_text.specs.Finding.{find}
-use Rattle.sd_text.specs.Alias.{aliases, domain_aliases}
+use Rattle.sd_text.specs.Alias.{aliases}
 use Rattle.sd_text.specs.Domain.{account_sid}
 use Rattle.sd_text.specs.Names.{renamed, well_known}
 use Rattle.sd_text.specs.Sid.{no_alias, domain_alias}
@@ -21,7 +21,7 @@ one_found f names other text a rest e = rw (named_some f names text a rest e) re
 other_found : {A B : Type 0} (f : A → B) (names : List (Name A)) (other : Grammar B) (text : List ℕ) → named names text ≡ None → find (one_of (renamed f names) other) text ≡ find other text
 other_found f names other text e = rw (named_no f names text e) refl
 
-module _ (names : List (Name WellKnown)) (same : renamed well_known names ≡ aliases) (other : Grammar SidValue) where
+module _ (names : List (Name WellKnown)) (aliases : List (Name SidValue)) (same : renamed well_known names ≡ aliases) (other : Grammar SidValue) where
   pub alias_found : (text : List ℕ) (known : WellKnown) (rest : List ℕ) → named names text ≡ Some (known, rest) → find (one_of aliases other) text ≡ Ok (well_known known, rest)
   alias_found text known rest e = subst (λ table. find (one_of table other) text ≡ Ok (well_known known, rest)) same (one_found well_known names other text known rest e)
 
@@ -29,20 +29,20 @@ module _ (names : List (Name WellKnown)) (same : renamed well_known names ≡ al
   no_alias_found text e = subst (λ table. find (one_of table other) text ≡ find other text) same (other_found well_known names other text e)
 
 -- an alias of the domain's
-pub account_found : (domain : Domain) (text : List ℕ) (relative : ℕ) (rest : List ℕ) → named domain_aliases text ≡ Some (relative, rest) → find (domain_alias (Some domain)) text ≡ Ok (account_sid domain relative, rest)
+pub account_found : (names : List (Name ℕ)) (domain : Domain) (text : List ℕ) (relative : ℕ) (rest : List ℕ) → named names text ≡ Some (relative, rest) → find (domain_alias names (Some domain)) text ≡ Ok (account_sid domain relative, rest)
 unfolding domain_alias
-account_found domain text relative rest e = one_found (account_sid domain) domain_aliases no_alias text relative rest e
+account_found names domain text relative rest e = one_found (account_sid domain) names no_alias text relative rest e
 
 -- one for which no domain is given
-pub needs_a_domain : (text : List ℕ) (relative : ℕ) (rest : List ℕ) → named domain_aliases text ≡ Some (relative, rest) → find (domain_alias None) text ≡ Err (DomainAlias, text)
+pub needs_a_domain : (names : List (Name ℕ)) (text : List ℕ) (relative : ℕ) (rest : List ℕ) → named names text ≡ Some (relative, rest) → find (domain_alias names None) text ≡ Err (DomainAlias, text)
 unfolding domain_alias
-needs_a_domain text relative rest e = rw e refl
+needs_a_domain names text relative rest e = rw e refl
 
 -- none of them
-pub no_account_found : (domain : Option Domain) (text : List ℕ) → named domain_aliases text ≡ None → find (domain_alias domain) text ≡ find no_alias text
+pub no_account_found : (names : List (Name ℕ)) (domain : Option Domain) (text : List ℕ) → named names text ≡ None → find (domain_alias names domain) text ≡ find no_alias text
 unfolding domain_alias
-no_account_found None text e = rw e refl
-no_account_found (Some domain) text e = other_found (account_sid domain) domain_aliases no_alias text e
+no_account_found names None text e = rw e refl
+no_account_found names (Some domain) text e = other_found (account_sid domain) names no_alias text e
 
 -- the places of the aliases are those of the code's rows
 pub known_placed : (places : List ℕ) (names : List (Name WellKnown)) → renamed well_known names ≡ aliases → are_placed places 0 aliases ≡ true → are_placed places 0 names ≡ true
