@@ -1,7 +1,7 @@
 -- Reading the entries of a SACL.
-use Rattle.std.proofs.Common.{◌≡◌, ℕ, true, false, ◌<◌, List, [], ◌∷◌, ◌++◌, length, drop, Ok, Err, refl, arith, ap, ◌∙◌, inl, inr}
+use Rattle.std.proofs.Common.{◌≡◌, ℕ, zero, suc, ◌+◌, ◌<◌, ◌≤◌, true, false, List, [], ◌∷◌, ◌++◌, length, drop, get_or, Some, None, Ok, Err, refl, sym, arith, add-one, ap, ◌∙◌, inl, inr}
 use Rattle.std.specs.Prelude.{codes}
-use Rattle.sd_text.specs.declared.alias.Aliases.{Aliases}
+use Rattle.std.proofs.lemmas.List.{drop_all}
 use Rattle.sd_text.specs.declared.fault.TextFault.{TextFault}
 use Rattle.sd_text.specs.Grammar.{begins}
 use Rattle.sd_text.specs.Finding.{find}
@@ -9,42 +9,83 @@ use Rattle.sd_text.specs.Entry.{opening}
 use Rattle.sd_acl.specs.Descriptor.{DescriptorValue}
 use Rattle.sd_text.specs.Laws.{AreReadAlike}
 use Rattle.sd_text.specs.Sddl.{sections, no_sacl}
-use Rattle.sd_text.specs.Sacl.{sacl_entry, sacl_entries, sacl_section, all_sections}
+use Rattle.sd_text.specs.declared.sacl.Within.{Within}
+use Rattle.sd_text.specs.Sacl.{after_byte, all_sections, at_start, entry_len, one_more, sacl_entries, sacl_entry, sacl_section}
 use Rattle.sd_text.proofs.Parts.{begins_takes}
 use Rattle.sd_text.proofs.Engine.{shorter}
 use Rattle.sd_text.proofs.Loops.{Reaches, reaches_start, reaches_more, reaches_end, reaches_fault}
 
 -- entries have been read, and this is behind them
-pub record SaclReaches (known : Aliases) (start rest : List ℕ) : Type 0 where
+pub record SaclReaches (start rest : List ℕ) : Type 0 where
   pub entries : List (Unit {0})
-  pub reached : Reaches opening (λ before u. sacl_entry known) start entries rest
+  pub reached : Reaches opening (λ before u. sacl_entry) start entries rest
 
-module _ (known : Aliases) (start : List ℕ) where
-  pub sacl_start : SaclReaches known start start
-  sacl_start = record { entries = []; reached = reaches_start opening (λ before u. sacl_entry known) start }
+module _ (start : List ℕ) where
+  pub sacl_start : SaclReaches start start
+  sacl_start = record { entries = []; reached = reaches_start opening (λ before u. sacl_entry) start }
 
-  pub sacl_more : (rest after : List ℕ) → SaclReaches known start rest → begins rest (codes "(") ≡ true → find (sacl_entry known) (drop 1 rest) ≡ Ok (tt, after) → SaclReaches known start after
+  pub sacl_more : (rest after : List ℕ) → SaclReaches start rest → begins rest (codes "(") ≡ true → find sacl_entry (drop 1 rest) ≡ Ok (tt, after) → SaclReaches start after
   sacl_more rest after so_far stands one = record {
     entries = so_far.entries ++ tt ∷ [];
-    reached = reaches_more opening (λ before u. sacl_entry known) start so_far.entries rest tt (drop 1 rest) tt after so_far.reached (rw stands refl) one;
+    reached = reaches_more opening (λ before u. sacl_entry) start so_far.entries rest tt (drop 1 rest) tt after so_far.reached (rw stands refl) one;
   }
 
-  pub sacl_end : (rest : List ℕ) → SaclReaches known start rest → begins rest (codes "(") ≡ false → find (sacl_entries known) start ≡ Ok (tt, rest)
+  pub sacl_end : (rest : List ℕ) → SaclReaches start rest → begins rest (codes "(") ≡ false → find sacl_entries start ≡ Ok (tt, rest)
   unfolding sacl_entries
-  sacl_end rest so_far ends = rw (reaches_end opening (λ before u. sacl_entry known) start so_far.entries rest so_far.reached (rw ends refl)) refl
+  sacl_end rest so_far ends = rw (reaches_end opening (λ before u. sacl_entry) start so_far.entries rest so_far.reached (rw ends refl)) refl
 
-  pub sacl_fault : (rest : List ℕ) (d : TextFault × List ℕ) → SaclReaches known start rest → begins rest (codes "(") ≡ true → find (sacl_entry known) (drop 1 rest) ≡ Err d → find (sacl_entries known) start ≡ Err d
+  pub sacl_fault : (rest : List ℕ) (d : TextFault × List ℕ) → SaclReaches start rest → begins rest (codes "(") ≡ true → find sacl_entry (drop 1 rest) ≡ Err d → find sacl_entries start ≡ Err d
   unfolding sacl_entries
-  sacl_fault rest d so_far stands fails = rw (reaches_fault opening (λ before u. sacl_entry known) start so_far.entries rest tt (drop 1 rest) d so_far.reached (rw stands refl) fails) refl
+  sacl_fault rest d so_far stands fails = rw (reaches_fault opening (λ before u. sacl_entry) start so_far.entries rest tt (drop 1 rest) d so_far.reached (rw stands refl) fails) refl
 
 -- what an entry takes off the text
-pub sacl_takes : (known : Aliases) (rest after : List ℕ) → begins rest (codes "(") ≡ true → find (sacl_entry known) (drop 1 rest) ≡ Ok (tt, after) → length after < length rest
-sacl_takes known rest after stands one =
+pub sacl_takes : (rest after : List ℕ) → begins rest (codes "(") ≡ true → find sacl_entry (drop 1 rest) ≡ Ok (tt, after) → length after < length rest
+sacl_takes rest after stands one =
     let opens = begins_takes rest (codes "(") stands in
-    let no_longer = shorter (sacl_entry known) (drop 1 rest) tt after one in
+    let no_longer = shorter sacl_entry (drop 1 rest) tt after one in
     omega arith
 
--- a text without the section is read alike
+-- ---- where an entry ends
+
+-- so many bytes further, where there is an end
+abbrev pub further : ℕ → ℕ → ℕ
+further i zero = zero
+further i (suc n) = i + suc n
+
+further_one : (i n : ℕ) → further i (one_more n) ≡ further (i + 1) n
+further_one i zero = refl
+further_one i (suc n) = omega arith
+
+-- the bytes up to here don't end it
+pub record NoEndYet (text : List ℕ) (i : ℕ) (within : Within) : Type 0 where
+  pub depth : within.depth ≤ i
+  pub len : entry_len at_start text ≡ further i (entry_len within (drop i text))
+
+byte_on : (text : List ℕ) (i d : ℕ) (within next : Within) → i < length text → after_byte within (get_or text i d) ≡ Some next → entry_len within (drop i text) ≡ one_more (entry_len next (drop (i + 1) text))
+byte_on [] i d within next lt e = absurd (omega arith)
+byte_on (byte ∷ text) zero d within next lt e = rw e refl
+byte_on (byte ∷ text) (suc i) d within next lt e = rw add-one (let h = byte_on text i d within next (omega arith) e in rw add-one at h)
+
+byte_ends : (text : List ℕ) (i d : ℕ) (within : Within) → i < length text → after_byte within (get_or text i d) ≡ None → entry_len within (drop i text) ≡ 1
+byte_ends [] i d within lt e = absurd (omega arith)
+byte_ends (byte ∷ text) zero d within lt e = rw e refl
+byte_ends (byte ∷ text) (suc i) d within lt e = byte_ends text i d within (omega arith) e
+
+pub no_end_more : (text : List ℕ) (i d : ℕ) (within next : Within) → NoEndYet text i within → i < length text → after_byte within (get_or text i d) ≡ Some next → next.depth ≤ within.depth + 1 → NoEndYet text (i + 1) next
+no_end_more text i d within next so_far lt e le = record {
+  depth = let low = so_far.depth in omega arith;
+  len = so_far.len ∙ ap (further i) (byte_on text i d within next lt e) ∙ further_one i (entry_len next (drop (i + 1) text));
+}
+
+pub end_here : (text : List ℕ) (i d : ℕ) (within : Within) → NoEndYet text i within → i < length text → after_byte within (get_or text i d) ≡ None → i + 1 ≡ entry_len at_start text
+end_here text i d within so_far lt e = sym (so_far.len ∙ ap (further i) (byte_ends text i d within lt e))
+
+pub no_end : (text : List ℕ) (i : ℕ) (within : Within) → NoEndYet text i within → length text ≤ i → 0 ≡ entry_len at_start text
+no_end text i within so_far le = sym (so_far.len ∙ ap (λ (rest : List ℕ). further i (entry_len within rest)) (drop_all i text le))
+
+-- ---- a text without the section
+
+-- it is read alike
 pub read_alike : AreReadAlike
 unfolding sections no_sacl sacl_section all_sections
 read_alike known text d x =

@@ -3,7 +3,7 @@ use Rattle.std.proofs.Common.{◌≡◌, ℕ, zero, suc, ◌+◌, ◌<◌, ◌�
 use Rattle.std.specs.Char.{eq_ignore_ascii_case}
 use Rattle.std.proofs.lemmas.Bool.{and_parts}
 use Rattle.std.proofs.lemmas.List.{append-nil, append_cancel_right, length-append, length-drop, take-append-drop}
-use Rattle.sd_text.specs.Grammar.{Grammar, Name, value, refused, choose, and_then, word, number, one_of, many, run, begins, begins_digit, named, Items, spells}
+use Rattle.sd_text.specs.Grammar.{Grammar, Name, value, refused, choose, and_then, word, number, through, one_of, many, run, begins, begins_digit, named, Items, spells}
 use Rattle.sd_text.proofs.Parts.{went, chosen, found_name, name_is, begins_takes}
 
 -- ---- what follows a part is a suffix of the text
@@ -43,6 +43,7 @@ suffix (and_then p next) text a behind s = both text s.1 behind (suffix p text s
 suffix (word letters) text a behind s = dropped (length letters) text behind s.1
 suffix (number head radix limit) text n behind s =
     (take head text ++ s.0, sym (take-append-drop head text) ∙ ap (λ m. take head text ++ m) s.1.parts ∙ sym (append_assoc (take head text) s.0 behind))
+suffix (through len) text a behind s = dropped (len text) text behind s.1
 suffix (one_of names p) text a behind s = elim s [ inl h ↦ named_suffix names text a behind h | inr h ↦ suffix p text a behind h.1 ]
 suffix (many names item) text xs behind s = items_suffix names (λ before b. spells (item before b)) (λ before b. suffix (item before b)) [] text xs behind s.0
 

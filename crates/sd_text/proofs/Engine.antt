@@ -8,7 +8,7 @@ use Rattle.std.proofs.lemmas.List.{append-nil, length-drop}
 use Rattle.sd_text.specs.declared.fault.TextFault.{TextFault}
 use Rattle.sd_text.specs.declared.fault.TextFault.TheVariants.{Syntax, Range}
 use Rattle.sd_text.specs.declared.fault.TextError.TheVariants.{Memory}
-use Rattle.sd_text.specs.Grammar.{Grammar, Name, value, refused, choose, and_then, word, number, one_of, many, begins, begins_digit, named, Items, spells, faults, Spells, SpellsOne, HasFault, end, whole, ◌>>=◌}
+use Rattle.sd_text.specs.Grammar.{Grammar, Name, value, refused, choose, and_then, word, number, through, one_of, many, begins, begins_digit, named, Items, spells, faults, Spells, SpellsOne, HasFault, end, whole, ◌>>=◌}
 use Rattle.sd_text.specs.Finding.{Found, GivesUnlessMemory, digits_len, find_number, find_items, find}
 use Rattle.sd_text.proofs.Parts.{chosen, part_ok, part_err, name_gave, found, found_is, stopped, stopped_is, named_takes, named_none}
 use Rattle.sd_text.proofs.Runs.{run_of, run_digits, run_behind, run_begins}
@@ -145,6 +145,11 @@ shorter (word letters) text a behind e =
 shorter (number head radix limit) text a behind e =
     let p = number_ok radix limit (digits_len radix (drop head text)) (drop head text) text a behind e in
     rw (sym p.3) (omega (arith, length-drop (digits_len radix (drop head text)) (drop head text), length-drop head text))
+shorter (through len) text a behind e =
+    elim (chosen (len text == 0) _ _ _ e) [
+      | inl h ↦ absurd (let no : stopped {A = Unit {0}} Syntax [] ≡ Ok (a, behind) = h.1 in cc)
+      | inr h ↦ rw (sym (found_is tt a (drop (len text) text) behind h.1).1) (length-drop-le (len text) text)
+    ]
 shorter (one_of names p) text a behind e =
     elim (name_gave (named names text) _ _ _ e) [
       | inl h ↦ shorter p text a behind h.1
@@ -172,6 +177,11 @@ fault_within (number head radix limit) text f there e =
       | inl h ↦ rw h.1 (length-drop-le head text)
       | inr h ↦ rw h.1 (omega arith)
     ]
+fault_within (through len) text f there e =
+    elim (chosen (len text == 0) _ _ _ e) [
+      | inl h ↦ rw (sym (stopped_is {A = Unit {0}} Syntax f [] there h.1).1) (omega arith)
+      | inr h ↦ absurd (let no : found tt (drop (len text) text) ≡ Err (f, there) = h.1 in cc)
+    ]
 fault_within (one_of names p) text f there e =
     elim (name_gave (named names text) _ _ _ e) [
       | inl h ↦ fault_within p text f there h.1
@@ -196,6 +206,11 @@ find_spells (number head radix limit) text n behind e =
     let run = drop head text in
     let p = number_ok radix limit (digits_len radix run) run text n behind e in
     (take (digits_len radix run) run, rw (sym p.3) (run_of radix run p.0), sym p.2, rw (sym p.2) p.1)
+find_spells (through len) text a behind e =
+    elim (chosen (len text == 0) _ _ _ e) [
+      | inl h ↦ absurd (let no : stopped {A = Unit {0}} Syntax [] ≡ Ok (a, behind) = h.1 in cc)
+      | inr h ↦ (h.0, sym (found_is tt a (drop (len text) text) behind h.1).1)
+    ]
 find_spells (one_of names p) text a behind e =
     elim (name_gave (named names text) _ _ _ e) [
       | inl h ↦ inr (h.0, find_spells p text a behind h.1)
@@ -216,6 +231,7 @@ spells_find (number head radix limit) text n behind s =
     let run = drop head text in
     let digits = run_digits radix run s.0 behind s.1 in
     rw (run_begins radix run s.0 behind s.1, digits, run_behind radix run s.0 behind s.1, sym s.2, lt-ltb n limit s.3) refl
+spells_find (through len) text a behind s = rw (s.0, s.1) refl
 spells_find (one_of names p) text a behind s = elim s [ inl h ↦ rw h refl | inr h ↦ rw h.0 (spells_find p text a behind h.1) ]
 spells_find (many names item) text xs behind s =
     items_found names (λ before b. find (item before b)) (λ before b. spells (item before b)) (λ before b. spells_find (item before b)) (λ before b. shorter (item before b)) (length text) [] text xs behind (omega arith) s.0 (Ok (xs, behind))
@@ -241,6 +257,11 @@ find_faults (number head radix limit) text f there e =
     elim (number_err radix limit (digits_len radix run) run text f there e) [
       | inl h ↦ inl (h.0, h.1, rw h.1 h.2)
       | inr h ↦ inr (h.0, h.1, take (digits_len radix run) run, drop (digits_len radix run) run, run_of radix run h.2, h.3)
+    ]
+find_faults (through len) text f there e =
+    elim (chosen (len text == 0) _ _ _ e) [
+      | inl h ↦ let p = stopped_is {A = Unit {0}} Syntax f [] there h.1 in (h.0, sym p.0, sym p.1)
+      | inr h ↦ absurd (let no : found tt (drop (len text) text) ≡ Err (f, there) = h.1 in cc)
     ]
 find_faults (one_of names p) text f there e =
     elim (name_gave (named names text) _ _ _ e) [
@@ -268,6 +289,7 @@ faults_find (number head radix limit) text f there s =
       | inl h ↦ let none : begins_digit radix run ≡ false = rw h.1 at h.2 in rw (none, h.0, h.1) refl
       | inr h ↦ rw (run_begins radix run h.2 h.3 h.4, run_digits radix run h.2 h.3 h.4, le-ltb (digits_value radix h.2) limit h.5, h.0, h.1) refl
     ]
+faults_find (through len) text f there s = rw (s.0, s.1, s.2) refl
 faults_find (one_of names p) text f there s = rw s.0 (faults_find p text f there s.1)
 faults_find (many names item) text f there s =
     items_found names (λ before b. find (item before b)) (λ before b. spells (item before b)) (λ before b. spells_find (item before b)) (λ before b. shorter (item before b)) (length text) [] text s.0 s.1 (omega arith) s.4 (Err (f, there))

@@ -1,86 +1,88 @@
--- The section of a SACL, which is parsed and left out ([MS-DTYP] 2.5.1.1, sacl): audit entries and mandatory labels.
-use Rattle.std.specs.Prelude.{ℕ, Bool, true, false, ◌&&◌, not, List, [], ◌∷◌, drop, codes}
+-- The section of a SACL, which is left out ([MS-DTYP] 2.5.1.1, sacl): entries of any type of a SACL. Of each only its
+-- type and where it ends are looked at.
+use Rattle.std.specs.Prelude.{ℕ, zero, suc, ◌-◌, ◌==◌, Bool, true, false, not, List, [], ◌∷◌, drop, Option, Some, None, codes}
+use Rattle.std.specs.Prelude.{if◌then◌else◌}
+use Rattle.std.specs.Option.{option_map_or}
 use Rattle.sd_acl.specs.Descriptor.{DescriptorValue}
 use Rattle.sd_text.specs.declared.alias.Aliases.{Aliases}
 use Rattle.sd_text.specs.declared.descriptor.DaclWords.{DaclWords}
-use Rattle.sd_text.specs.declared.sacl.SaclKind.{SaclKind}
-use Rattle.sd_text.specs.declared.sacl.SaclKind.TheVariants.{Audit, Label}
+use Rattle.sd_text.specs.declared.sacl.Within.{Within}
 use Rattle.sd_text.specs.declared.fault.TextFault.TheVariants.{Syntax, EntryKind}
-use Rattle.sd_text.specs.Grammar.{Grammar, Name, value, refused, choose, word, one_of, many, begins, begins_digit}
-use Rattle.sd_text.specs.Grammar.{whole, ◌>>=◌}
-use Rattle.sd_text.specs.Sid.{begins_letter, sid}
-use Rattle.sd_text.specs.Rights.{bits, bits_of, mask_number, rights}
-use Rattle.sd_text.specs.Entry.{opening, flag_names, guid}
+use Rattle.sd_text.specs.Grammar.{Grammar, Name, value, refused, choose, word, through, one_of, many, begins, whole}
+use Rattle.sd_text.specs.Grammar.{◌>>=◌}
+use Rattle.sd_text.specs.Sid.{begins_letter}
+use Rattle.sd_text.specs.Entry.{opening}
 use Rattle.sd_text.specs.Sddl.{words, parts}
 
--- the text begins with this type of two letters, and no other letter follows
-abbrev pub is_sacl_type : List ℕ → List ℕ → Bool
-is_sacl_type letters text = begins text letters && not (begins_letter (drop 2 text))
+-- a type of an entry
+abbrev pub sacl_type : List ℕ → Name (Unit {0})
+sacl_type letters = record { letters = letters; stands_for = tt }
 
--- the type of an entry: an audit, or a mandatory label
-unfoldable pub sacl_kind : Grammar SaclKind
-sacl_kind = choose (is_sacl_type (codes "AU")) (word (codes "AU") >>= λ u. value Audit)
-    (choose (is_sacl_type (codes "ML")) (word (codes "ML") >>= λ u. value Label)
-    (choose begins_letter (refused EntryKind) (refused Syntax)))
+-- audits and alarms, of objects and with conditions too; a mandatory label, an attribute of the resource, a scoped
+-- policy, a level of trust and an access filter
+abbrev pub sacl_types : List (Name (Unit {0}))
+sacl_types =
+    sacl_type (codes "AU") ∷ sacl_type (codes "AL") ∷ sacl_type (codes "OU") ∷ sacl_type (codes "OL")
+    ∷ sacl_type (codes "XU") ∷ sacl_type (codes "ML") ∷ sacl_type (codes "RA") ∷ sacl_type (codes "SP")
+    ∷ sacl_type (codes "TL") ∷ sacl_type (codes "FL") ∷ []
 
--- the names of what a label denies to those below it
-abbrev pub label_rights : List (Name ℕ)
-label_rights = bits (codes "NW") 0x1 ∷ bits (codes "NR") 0x2 ∷ bits (codes "NX") 0x4 ∷ []
+-- no type of a SACL is there
+unfoldable pub no_sacl_type : Grammar (Unit {0})
+no_sacl_type = choose begins_letter (refused EntryKind) (refused Syntax)
 
--- the rights field
-unfoldable pub sacl_rights : SaclKind → Grammar ℕ
-sacl_rights Audit = rights
-sacl_rights Label = choose (begins_digit 10) mask_number (bits_of label_rights)
+-- the type of an entry, after which no other letter follows
+unfoldable pub sacl_kind : Grammar (Unit {0})
+sacl_kind = choose (λ text. begins_letter (drop 2 text)) no_sacl_type (one_of sacl_types no_sacl_type)
 
--- an alias of a level of integrity
-abbrev pub level : List ℕ → Name (Unit {0})
-level letters = record { letters = letters; stands_for = tt }
+-- where an entry begins
+abbrev pub at_start : Within
+at_start = record { quoted = false; depth = 0 }
 
--- all of them
-abbrev pub levels : List (Name (Unit {0}))
-levels = level (codes "LW") ∷ level (codes "ME") ∷ level (codes "MP") ∷ level (codes "HI") ∷ level (codes "SI") ∷ []
+-- where it goes on after this byte, or that the byte ends it: a `)`, unless it is in quotes or has a `(` of its own
+abbrev pub after_byte : Within → ℕ → Option Within
+after_byte within byte =
+    if byte == 34 then Some (record within { quoted = not within.quoted })
+    else if within.quoted then Some within
+    else if byte == 40 then Some (record within { depth = suc within.depth })
+    else if not (byte == 41) then Some within
+    else if within.depth == 0 then None
+    else Some (record within { depth = within.depth - 1 })
 
--- a SID that is left out
-unfoldable pub passed_sid : Aliases → Grammar (Unit {0})
-passed_sid known = sid known >>= λ trustee. value tt
+-- one byte more, where there is an end
+abbrev pub one_more : ℕ → ℕ
+one_more zero = zero
+one_more (suc n) = suc (suc n)
 
--- the SID of an entry
-unfoldable pub sacl_trustee : Aliases → SaclKind → Grammar (Unit {0})
-sacl_trustee known Audit = passed_sid known
-sacl_trustee known Label = one_of levels (passed_sid known)
+-- how many bytes are left of an entry, 0 if the text ends in it
+abbrev pub entry_len : Within → List ℕ → ℕ
+entry_len within [] = 0
+entry_len within (byte ∷ text) = option_map_or (λ next. one_more (entry_len next text)) (after_byte within byte) 1
 
 -- an entry after its `(`
-unfoldable pub sacl_entry : Aliases → Grammar (Unit {0})
-sacl_entry known = do
-  kind ← sacl_kind
-  u ← word (codes ";")
-  flags ← bits_of flag_names
+unfoldable pub sacl_entry : Grammar (Unit {0})
+sacl_entry = do
+  u ← sacl_kind
   v ← word (codes ";")
-  mask ← sacl_rights kind
-  w ← word (codes ";")
-  object ← guid
-  inherit ← guid
-  trustee ← sacl_trustee known kind
-  word (codes ")")
+  through (entry_len at_start)
 
 -- any number of them
-unfoldable pub sacl_entries : Aliases → Grammar (Unit {0})
-sacl_entries known = many opening (λ before u. sacl_entry known) >>= λ entries. value tt
+unfoldable pub sacl_entries : Grammar (Unit {0})
+sacl_entries = many opening (λ before u. sacl_entry) >>= λ entries. value tt
 
 -- after the keywords the entries, unless there is no access control
-unfoldable pub sacl_behind : Aliases → DaclWords → Grammar (Unit {0})
-sacl_behind known found = choose (λ text. found.no_access_control) (value tt) (sacl_entries known)
+unfoldable pub sacl_behind : DaclWords → Grammar (Unit {0})
+sacl_behind found = choose (λ text. found.no_access_control) (value tt) sacl_entries
 
 -- whether the section is there
-unfoldable pub sacl_section : Aliases → Grammar Bool
-sacl_section known = choose (λ text. begins text (codes "S:"))
-    (word (codes "S:") >>= λ u. words >>= λ found. sacl_behind known found >>= λ v. value true) (value false)
+unfoldable pub sacl_section : Grammar Bool
+sacl_section = choose (λ text. begins text (codes "S:"))
+    (word (codes "S:") >>= λ u. words >>= λ found. sacl_behind found >>= λ v. value true) (value false)
 
 -- the sections of a descriptor, and whether a SACL's was left out
 unfoldable pub all_sections : Aliases → Grammar (DescriptorValue × Bool)
 all_sections known = do
   descriptor ← parts known
-  left_out ← sacl_section known
+  left_out ← sacl_section
   value (descriptor, left_out)
 
 -- the text of a descriptor, perhaps with a SACL's section, which is left out

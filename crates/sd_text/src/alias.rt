@@ -213,7 +213,11 @@ static DOMAIN_ALIASES: [(&str, u32); 16] = [
 fn domain_aliases(later: bool) -> &'static [(&'static str, u32)]
     ensures { rows result.now ≡ domain_aliases later }
 {
-    if later { &DOMAIN_ALIASES } else { &DOMAIN_ALIASES[..12] }
+    if later {
+        &DOMAIN_ALIASES
+    } else {
+        &DOMAIN_ALIASES[..12]
+    }
 }
 
 impl Cursor<'_> {

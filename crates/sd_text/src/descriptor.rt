@@ -9,8 +9,8 @@ ghost use Rattle.sd_text.specs.Sddl.{sid_section, words, no_words, with_word, da
 ghost use Rattle.sd_text.specs.Sddl.{sections, sddl, sddl_in};
 ghost use Rattle.sd_text.specs.Finding.{Gives, GivesUnlessMemory, find};
 
-use crate::cursor::Cursor;
 use crate::alias::Aliases;
+use crate::cursor::Cursor;
 use crate::fault::{TextError, TextFault};
 use sd_acl::{Dacl, Descriptor};
 use sd_sid::Sid;
@@ -60,11 +60,7 @@ pub fn read_sddl(alloc: Global, text: &str) -> Result<Descriptor, TextError>
 }
 
 /// The same, with the aliases that the text may have.
-pub fn read_sddl_in(
-    alloc: Global,
-    known: Aliases,
-    text: &str,
-) -> Result<Descriptor, TextError>
+pub fn read_sddl_in(alloc: Global, known: Aliases, text: &str) -> Result<Descriptor, TextError>
     ensures value { IfOk result (λ d. Spells (sddl_in known) text.now (descriptor_of d)) }
     ensures fault { IfErr result (λ e. StandsIn (sddl_in known) text.now e) }
     ensures spelled { (d : DescriptorValue) → Spells (sddl_in known) text.now d
@@ -109,11 +105,7 @@ impl DaclWords {
 
 impl Cursor<'_> {
     /// The whole text, or None if an allocation failed.
-    fn descriptor(
-        &mut self,
-        alloc: Global,
-        known: Aliases,
-    ) -> Result<Option<Descriptor>, TextFault>
+    fn descriptor(&mut self, alloc: Global, known: Aliases) -> Result<Option<Descriptor>, TextFault>
         ensures { GivesUnlessMemory descriptor_of (λ d. has_entry d.dacl) result self.new.rest.now
             (find (sddl_in known) self.old.rest.now) }
     {
@@ -124,11 +116,7 @@ impl Cursor<'_> {
 
     /// The sections of a descriptor, each of which may be left out.
     #[tactic(auto, unfolding(crate::specs::Sddl::sections))]
-    fn sections(
-        &mut self,
-        alloc: Global,
-        known: Aliases,
-    ) -> Result<Option<Descriptor>, TextFault>
+    fn sections(&mut self, alloc: Global, known: Aliases) -> Result<Option<Descriptor>, TextFault>
         ensures { GivesUnlessMemory descriptor_of (λ d. has_entry d.dacl) result self.new.rest.now
             (find (sections known) self.old.rest.now) }
     {
@@ -177,11 +165,7 @@ impl Cursor<'_> {
 
     /// The section of the DACL, if its head is here, or None if an allocation failed.
     #[tactic(auto, unfolding(crate::specs::Sddl::dacl_section, crate::specs::Sddl::dacl_behind))]
-    fn dacl_section(
-        &mut self,
-        alloc: Global,
-        known: Aliases,
-    ) -> Result<Option<DaclPart>, TextFault>
+    fn dacl_section(&mut self, alloc: Global, known: Aliases) -> Result<Option<DaclPart>, TextFault>
         ensures section { GivesUnlessMemory (λ part. part) (λ part. has_entry part.dacl) result self.new.rest.now
             (find (dacl_section known) self.old.rest.now) }
         ensures absent { IfOk result (λ found. IfSome found (λ part. IsAbsent part.dacl → part.words ≡ no_words)) }

@@ -7,8 +7,8 @@ ghost use Rattle.sd_text.specs.Rights.{bits_of};
 ghost use Rattle.sd_text.specs.Names.{rows};
 ghost use Rattle.sd_text.specs.Finding.{Gives, GivesUnlessMemory, find};
 
-use crate::cursor::Cursor;
 use crate::alias::Aliases;
+use crate::cursor::Cursor;
 use crate::fault::TextFault;
 use crate::places::FLAG_PLACES;
 use bitflags::Flags;

@@ -1,34 +1,88 @@
-//! The section of a SACL, which is parsed and left out: [MS-DTYP] 2.5.1.1, sacl.
+//! The section of a SACL, which is left out: [MS-DTYP] 2.5.1.1, sacl.
 
-ghost use Rattle.std.specs.Prelude.{◌≡◌, Bool, IfOk, IfErr, IsErrOf};
+ghost use Rattle.std.specs.Prelude.{◌≡◌, ◌≤◌, ◌^◌, ◌<◌, ◌+◌, Bool, Err, IfOk, IfErr, IfSome, IsErrOf, length};
 ghost use Rattle.sd_acl.specs.Descriptor.{DescriptorValue, descriptor_of};
-ghost use Rattle.sd_text.specs.Grammar.{Spells, SpellsOne};
+ghost use Rattle.sd_text.specs.Grammar.{Spells, SpellsOne, through};
 ghost use Rattle.sd_text.specs.Fault.{StandsIn};
 ghost use Rattle.sd_text.specs.Sddl.{has_entry};
-ghost use Rattle.sd_text.specs.Sacl.{sacl_section, sacl_entries, sacl_entry, sacl_kind, sacl_rights, sacl_trustee};
-ghost use Rattle.sd_text.specs.Sacl.{passed_sid, is_sacl_type, all_sections, sddl_without_sacl};
+ghost use Rattle.sd_text.specs.Sacl.{after_byte, all_sections, at_start, entry_len, no_sacl_type, sacl_entries};
+ghost use Rattle.sd_text.specs.Sacl.{sacl_entry, sacl_kind, sacl_section, sacl_types, sddl_without_sacl};
+ghost use Rattle.sd_text.specs.Names.{rows};
 ghost use Rattle.sd_text.specs.Finding.{Gives, GivesUnlessMemory, find};
 
-use crate::cursor::Cursor;
 use crate::alias::Aliases;
+use crate::cursor::Cursor;
 use crate::fault::{TextError, TextFault};
-use crate::places::LABEL_PLACES;
 use sd_acl::Descriptor;
-use sd_sid::Mask;
 use std::alloc::Global;
 
-/// The type of an entry of a SACL.
+/// The types of entries of a SACL: audits and alarms, of objects and with conditions too; a mandatory label, an
+/// attribute of the resource, a scoped policy, a level of trust and an access filter ([MS-DTYP] 2.5.1.1, sacl-ace).
+static SACL_TYPES: [(&str, ()); 10] = [
+    ("AU", ()),
+    ("AL", ()),
+    ("OU", ()),
+    ("OL", ()),
+    ("XU", ()),
+    ("ML", ()),
+    ("RA", ()),
+    ("SP", ()),
+    ("TL", ()),
+    ("FL", ()),
+];
+
+/// A place in an entry of a SACL.
 #[derive(Clone, Copy)]
-pub(crate) enum SaclKind {
-    Audit,
-    Label,
+pub(crate) struct Within {
+    /// Whether the place is in quotes.
+    pub(crate) quoted: bool,
+    /// How many parentheses of a condition are open there.
+    pub(crate) depth: u64,
 }
 
-/// The names of what a mandatory label denies to those below it ([MS-DTYP] 2.4.4.13).
-static LABEL_RIGHTS: [(&str, u32); 3] = [("NW", 0x1), ("NR", 0x2), ("NX", 0x4)];
+impl Within {
+    /// The place after this byte. `None`: the byte ends the entry.
+    fn after(self, byte: u8) -> Option<Within>
+        requires { self.depth < 2 ^ 63 }
+        ensures next { result ≡ after_byte self byte }
+        ensures within { IfSome result (λ next. next.depth ≤ self.depth + 1) }
+    {
+        if byte == b'"' {
+            return Some(Within {
+                quoted: !self.quoted,
+                ..self
+            });
+        }
+        if self.quoted {
+            return Some(self);
+        }
+        let depth = match byte {
+            b'(' => self.depth + 1,
+            b')' if self.depth == 0 => return None,
+            b')' => self.depth - 1,
+            _ => self.depth,
+        };
+        Some(Within { depth, ..self })
+    }
+}
 
-/// The aliases of levels of integrity, S-1-16 and one more sub-authority ([MS-DTYP] 2.4.2.4).
-static LEVELS: [(&str, ()); 5] = [("LW", ()), ("ME", ()), ("MP", ()), ("HI", ()), ("SI", ())];
+/// How many bytes are left of an entry that begins here. 0: the text ends in it.
+fn entry_len(text: &[u8]) -> usize
+    ensures len { result ≡ entry_len at_start text.now }
+    ensures within { result ≤ length text.now }
+{
+    let mut within = Within {
+        quoted: false,
+        depth: 0,
+    };
+    for (i, byte) in text.iter().enumerate() {
+        match within.after(*byte) {
+            Some(next) => within = next,
+            None => return i + 1,
+        }
+    }
+    0
+}
 
 /// A parsed descriptor, and whether its text had the section of a SACL, which was left out.
 #[derive(Drop)]
@@ -38,8 +92,8 @@ pub struct WithoutSacl {
 }
 
 /// Parses the text of a descriptor as `read_sddl_in`, but accepts the section of a SACL at its end ([MS-DTYP] 2.5.1.1,
-/// sacl): audit entries and mandatory labels, or none. The section is parsed, left out, and reported. `Memory` comes
-/// only for a valid text, never in place of a fault of the SACL.
+/// sacl), which is left out, and reported. Of its entries only the type, and where each ends, is looked at. `Memory`
+/// comes only for a valid text, never in place of a fault of the SACL.
 pub fn read_sddl_without_sacl(
     alloc: Global,
     known: Aliases,
@@ -89,7 +143,7 @@ impl Cursor<'_> {
             result self.new.rest.now (find (all_sections known) self.old.rest.now) }
     {
         let parts = self.parts(alloc, known)?;
-        let left_out = self.sacl_section(known)?;
+        let left_out = self.sacl_section()?;
         let Some(descriptor) = parts else {
             return Ok(None);
         };
@@ -101,8 +155,8 @@ impl Cursor<'_> {
 
     /// Consumes the section of a SACL. Returns false if there is none.
     #[tactic(auto, unfolding(crate::specs::Sacl::sacl_section, crate::specs::Sacl::sacl_behind))]
-    pub(crate) fn sacl_section(&mut self, known: Aliases) -> Result<bool, TextFault>
-        ensures { Gives (λ stands. stands) result self.new.rest.now (find (sacl_section known) self.old.rest.now) }
+    pub(crate) fn sacl_section(&mut self) -> Result<bool, TextFault>
+        ensures { Gives (λ stands. stands) result self.new.rest.now (find sacl_section self.old.rest.now) }
     {
         if !self.eat(b"S:") {
             return Ok(false);
@@ -111,99 +165,67 @@ impl Cursor<'_> {
         if words.no_access_control {
             return Ok(true);
         }
-        self.sacl_entries(known)?;
+        self.sacl_entries()?;
         Ok(true)
     }
 
     /// Any number of entries.
-    fn sacl_entries(&mut self, known: Aliases) -> Result<(), TextFault>
-        ensures { Gives (λ _. tt) result self.new.rest.now (find (sacl_entries known) self.old.rest.now) }
+    fn sacl_entries(&mut self) -> Result<(), TextFault>
+        ensures { Gives (λ _. tt) result self.new.rest.now (find sacl_entries self.old.rest.now) }
     {
         'entries: while self.eat(b"(") {
-            self.sacl_entry(known)?;
+            self.sacl_entry()?;
         }
         Ok(())
     }
 
     /// An entry after its `(`.
     #[tactic(auto, unfolding(crate::specs::Sacl::sacl_entry))]
-    fn sacl_entry(&mut self, known: Aliases) -> Result<(), TextFault>
-        ensures { Gives (λ _. tt) result self.new.rest.now (find (sacl_entry known) self.old.rest.now) }
+    fn sacl_entry(&mut self) -> Result<(), TextFault>
+        ensures { Gives (λ _. tt) result self.new.rest.now (find sacl_entry self.old.rest.now) }
     {
-        let kind = self.sacl_kind()?;
+        self.sacl_kind()?;
         self.word(b";")?;
-        let _flags = self.flags();
-        self.word(b";")?;
-        let _mask = self.sacl_rights(kind)?;
-        self.word(b";")?;
-        self.guid()?;
-        self.guid()?;
-        self.sacl_trustee(known, kind)?;
-        self.word(b")")
+        self.entry_rest()
     }
 
     /// The type of an entry: all letters here.
     #[tactic(auto, unfolding(crate::specs::Sacl::sacl_kind))]
-    fn sacl_kind(&mut self) -> Result<SaclKind, TextFault>
-        ensures { Gives (λ kind. kind) result self.new.rest.now (find sacl_kind self.old.rest.now) }
+    fn sacl_kind(&mut self) -> Result<(), TextFault>
+        ensures { Gives (λ _. tt) result self.new.rest.now (find sacl_kind self.old.rest.now) }
     {
-        if self.is_sacl_type(b"AU") {
-            self.word(b"AU")?;
-            Ok(SaclKind::Audit)
-        } else if self.is_sacl_type(b"ML") {
-            self.word(b"ML")?;
-            Ok(SaclKind::Label)
-        } else if self.letter_at(0) {
-            Err(TextFault::EntryKind)
+        if self.letter_at(2) {
+            return Err(self.no_sacl_type());
+        }
+        match self.name(&SACL_TYPES) {
+            Some(()) => Ok(()),
+            None => Err(self.no_sacl_type()),
+        }
+    }
+
+    /// The fault where there is no type of a SACL.
+    #[tactic(auto, unfolding(crate::specs::Sacl::no_sacl_type))]
+    fn no_sacl_type(&self) -> TextFault
+        ensures { find no_sacl_type self.now.rest.now ≡ Err (result, self.now.rest.now) }
+    {
+        if self.letter_at(0) {
+            TextFault::EntryKind
         } else {
-            Err(TextFault::Syntax)
+            TextFault::Syntax
         }
     }
 
-    /// Whether these two letters are here, and no other follows them.
-    fn is_sacl_type(&self, letters: &[u8]) -> bool
-        ensures { result ≡ is_sacl_type letters.now self.now.rest.now }
+    /// All that is left of an entry.
+    fn entry_rest(&mut self) -> Result<(), TextFault>
+        ensures { Gives (λ _. tt) result self.new.rest.now (find (through (entry_len at_start)) self.old.rest.now) }
     {
-        self.begins(letters) && !self.letter_at(2)
-    }
-
-    /// The rights field: a label has names of its own.
-    #[tactic(auto, unfolding(crate::specs::Sacl::sacl_rights))]
-    fn sacl_rights(&mut self, kind: SaclKind) -> Result<Mask, TextFault>
-        ensures { Gives (λ mask. mask) result self.new.rest.now (find (sacl_rights kind) self.old.rest.now) }
-    {
-        match kind {
-            SaclKind::Audit => self.rights(),
-            SaclKind::Label => {
-                if self.begins_digit(10) {
-                    self.mask_number()
-                } else {
-                    Ok(Mask(self.bits_of(&LABEL_RIGHTS, &LABEL_PLACES)))
-                }
-            }
+        let len = entry_len(self.rest);
+        if len == 0 {
+            self.rest = &[];
+            return Err(TextFault::Syntax);
         }
-    }
-
-    /// The SID of an entry: a label's has aliases of its own.
-    #[tactic(auto, unfolding(crate::specs::Sacl::sacl_trustee))]
-    fn sacl_trustee(&mut self, known: Aliases, kind: SaclKind) -> Result<(), TextFault>
-        ensures { Gives (λ _. tt) result self.new.rest.now (find (sacl_trustee known kind) self.old.rest.now) }
-    {
-        match kind {
-            SaclKind::Audit => self.passed_sid(known),
-            SaclKind::Label => match self.name(&LEVELS) {
-                Some(()) => Ok(()),
-                None => self.passed_sid(known),
-            },
-        }
-    }
-
-    /// A SID that is left out.
-    #[tactic(auto, unfolding(crate::specs::Sacl::passed_sid))]
-    fn passed_sid(&mut self, known: Aliases) -> Result<(), TextFault>
-        ensures { Gives (λ _. tt) result self.new.rest.now (find (passed_sid known) self.old.rest.now) }
-    {
-        let _sid = self.sid(known)?;
+        let (_, behind) = self.rest.split_at(len);
+        self.rest = behind;
         Ok(())
     }
 }

@@ -7,9 +7,8 @@ ghost use Rattle.sd_text.specs.Fault.{StandsIn};
 ghost use Rattle.sd_text.specs.Sid.{sid_text, sid_text_in, sid, authority, sub, subs_of};
 ghost use Rattle.sd_text.specs.Finding.{Gives, find};
 
-use crate::alias::made;
+use crate::alias::{Aliases, made};
 use crate::cursor::Cursor;
-use crate::alias::Aliases;
 use crate::fault::{TextError, TextFault};
 use sd_sid::{AUTHORITY_LIMIT, MAX_SUBS, Sid};
 
