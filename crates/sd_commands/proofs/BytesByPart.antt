@@ -57,32 +57,32 @@ parts_last xs end place at high =
 -- ---- part by part
 
 -- one more part is read
-pub part_joins : (text rest behind part bytes more grown : List ℕ)
-    → parts_read 0 (slice_split is_between text) ≡ joined (Ok bytes) (parts_read (length text - length rest) (slice_split is_between rest))
+pub part_joins : (total : Result (List ℕ) (List ℕ)) (text rest behind part bytes more grown : List ℕ)
+    → total ≡ joined (Ok bytes) (parts_read (length text - length rest) (slice_split is_between rest))
     → length rest ≤ length text → length behind < length rest
     → parts_read (length text - length rest) (slice_split is_between rest) ≡ joined (part_read (length text - length rest) part)
     (parts_read (((length text - length rest) + length rest) - length behind) (slice_split is_between behind))
     → part_read (length text - length rest) part ≡ Ok more → grown ≡ bytes ++ more
-    → parts_read 0 (slice_split is_between text) ≡ joined (Ok grown) (parts_read (length text - length behind) (slice_split is_between behind))
-part_joins text rest behind part bytes more grown so_far within less cut read longer =
+    → total ≡ joined (Ok grown) (parts_read (length text - length behind) (slice_split is_between behind))
+part_joins total text rest behind part bytes more grown so_far within less cut read longer =
     let number : ((length text - length rest) + length rest) - length behind ≡ length text - length behind = omega (arith, within, less) in
     so_far ∙ ap (joined (Ok bytes)) (cut ∙ ap (λ r. joined r (parts_read (((length text - length rest) + length rest) - length behind) (slice_split is_between behind))) read
     ∙ ap (λ n. joined (Ok more) (parts_read n (slice_split is_between behind))) number)
     ∙ joined_both bytes more _ ∙ ap (λ xs. joined (Ok xs) (parts_read (length text - length behind) (slice_split is_between behind))) (sym longer)
 
 -- a part isn't read
-pub part_fails : (text rest behind part bytes reason : List ℕ)
-    → parts_read 0 (slice_split is_between text) ≡ joined (Ok bytes) (parts_read (length text - length rest) (slice_split is_between rest))
+pub part_fails : (total : Result (List ℕ) (List ℕ)) (text rest behind part bytes reason : List ℕ)
+    → total ≡ joined (Ok bytes) (parts_read (length text - length rest) (slice_split is_between rest))
     → parts_read (length text - length rest) (slice_split is_between rest) ≡ joined (part_read (length text - length rest) part)
     (parts_read (((length text - length rest) + length rest) - length behind) (slice_split is_between behind))
-    → part_read (length text - length rest) part ≡ Err reason → parts_read 0 (slice_split is_between text) ≡ Err reason
-part_fails text rest behind part bytes reason so_far cut fails =
+    → part_read (length text - length rest) part ≡ Err reason → total ≡ Err reason
+part_fails total text rest behind part bytes reason so_far cut fails =
     so_far ∙ ap (joined (Ok bytes)) (cut ∙ ap (λ r. joined r (parts_read (((length text - length rest) + length rest) - length behind) (slice_split is_between behind))) fails)
 
 -- nothing is left
-pub all_joined : (text rest bytes : List ℕ)
-    → parts_read 0 (slice_split is_between text) ≡ joined (Ok bytes) (parts_read (length text - length rest) (slice_split is_between rest))
-    → length rest ≡ 0 → parts_read 0 (slice_split is_between text) ≡ Ok bytes
+pub all_joined : (total : Result (List ℕ) (List ℕ)) (text rest bytes : List ℕ)
+    → total ≡ joined (Ok bytes) (parts_read (length text - length rest) (slice_split is_between rest))
+    → length rest ≡ 0 → total ≡ Ok bytes
 unfolding parts_read decode_pairs
-all_joined text [] bytes so_far none = so_far ∙ ap Ok (append-nil bytes)
-all_joined text (x ∷ rest) bytes so_far none = absurd (omega (arith, none))
+all_joined total text [] bytes so_far none = so_far ∙ ap Ok (append-nil bytes)
+all_joined total text (x ∷ rest) bytes so_far none = absurd (omega (arith, none))

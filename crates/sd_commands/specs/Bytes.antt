@@ -1,6 +1,6 @@
 -- Bytes as a text spells them, and a SACL in them that is passed over.
 use Rattle.std.specs.Prelude.{◌≡◌, ℕ, ◌+◌, ◌==◌, ◌&&◌, ◌||◌, nat_le, not, Bool, List, [], ◌∷◌, ◌++◌, length}
-use Rattle.std.specs.Prelude.{string_bytes, slice_index, slice_set, bit_and, Result, Ok, Err, if◌then◌else◌, codes}
+use Rattle.std.specs.Prelude.{drop, filter, Option, Some, None, string_bytes, slice_index, slice_set, bit_and, Result, Ok, Err, if◌then◌else◌, codes}
 use Rattle.std.specs.Fmt.{decimal}
 use Rattle.std.specs.List.{slice_split}
 use Rattle.base64.specs.Engines.{standard}
@@ -12,6 +12,9 @@ use Rattle.hex.specs.Hex as hex
 use Rattle.hex.specs.declared.FromHexError.{FromHexError}
 use Rattle.hex.specs.declared.FromHexError.TheVariants.{InvalidHexCharacter, OddLength, InvalidStringLength}
 use Rattle.hex.specs.declared.FromHexError.TheVariants.{OutOfMemory}
+use Rattle.sd_commands.specs.Value.{descriptor_in, value_in}
+use Rattle.sd_commands.specs.declared.value.Value.{Value}
+use Rattle.sd_commands.specs.declared.value.Value.TheVariants as values
 use Rattle.sd_commands.specs.declared.bytes.BytesError.{BytesError}
 use Rattle.sd_commands.specs.declared.bytes.BytesError.TheVariants.{NoBytes, Memory}
 use Rattle.sd_commands.specs.declared.settings.ByteForm.{ByteForm}
@@ -34,7 +37,10 @@ abbrev pub reasoned : {E : Type 0} → (E → List ℕ) → Result (List ℕ) E 
 reasoned reason (Ok bytes) = Ok bytes
 reasoned reason (Err e) = Err (reason e)
 
--- ---- hexadecimal with signs between bytes
+-- ---- values as other tools write them
+
+abbrev pub no_bytes : ℕ → List ℕ
+no_bytes place = codes "no bytes at " ++ decimal place
 
 -- what may stand between two bytes: a tab, the end of a line, a space, a comma or a backslash
 abbrev pub is_between : ℕ → Bool
@@ -48,7 +54,7 @@ digits_of (a ∷ b ∷ digits) = if a == 48 && (b == 120 || b == 88) then digits
 
 -- the bytes of the part that begins at this byte of the text, or that it spells none
 abbrev pub part_read : ℕ → List ℕ → Result (List ℕ) (List ℕ)
-part_read place part = reasoned (λ error. codes "no bytes at " ++ decimal place) (hex.decode_of (digits_of part))
+part_read place part = reasoned (λ error. no_bytes place) (hex.decode_of (digits_of part))
 
 abbrev pub joined : Result (List ℕ) (List ℕ) → Result (List ℕ) (List ℕ) → Result (List ℕ) (List ℕ)
 joined (Ok bytes) (Ok more) = Ok (bytes ++ more)
@@ -61,17 +67,38 @@ unfoldable pub parts_read : ℕ → List (List ℕ) → Result (List ℕ) (List 
 parts_read place [] = Ok []
 parts_read place (part ∷ parts) = joined (part_read place part) (parts_read (place + length part + 1) parts)
 
+-- the end of a line, a tab or a space
+abbrev pub is_blank_byte : ℕ → Bool
+is_blank_byte b = b == 9 || b == 10 || b == 13 || b == 32
+
+-- the bytes of a value, or the place of what spells none
+abbrev pub value_read : List ℕ → Option Value → Result (List ℕ) (List ℕ)
+value_read text None = Err (no_bytes 0)
+value_read text (Some (values.Hex place)) = parts_read place (slice_split is_between (drop place text))
+value_read text (Some (values.Base64 place)) =
+    reasoned (λ error. no_bytes place) (base64.decode_of standard (filter (λ b. not (is_blank_byte b)) (drop place text)))
+
+-- the descriptor in them
+abbrev pub held : Result (List ℕ) (List ℕ) → Result (List ℕ) (List ℕ)
+held (Ok bytes) = Ok (descriptor_in bytes)
+held (Err reason) = Err reason
+
 -- ---- by form
 
 -- the bytes that the text spells, or why it spells none
 abbrev pub bytes_read : ByteForm → List ℕ → Result (List ℕ) (List ℕ)
 bytes_read Hex text = reasoned (hex_reason text) (hex.decode_of text)
-bytes_read Loose text = parts_read 0 (slice_split is_between text)
+bytes_read Loose text = held (value_read text (value_in text))
 bytes_read Base64 text = reasoned (base64_reason text) (base64.decode_of standard text)
 
 abbrev pub IsBytesError : ByteForm → List ℕ → BytesError → Type 0
 IsBytesError form text (NoBytes reason) = bytes_read form text ≡ Err (string_bytes reason)
 IsBytesError form text Memory = Unit {0}
+
+-- the same of a value's
+abbrev pub IsValueError : Result (List ℕ) (List ℕ) → BytesError → Type 0
+IsValueError read (NoBytes reason) = read ≡ Err (string_bytes reason)
+IsValueError read Memory = Unit {0}
 
 abbrev pub IsPartError : ℕ → List ℕ → BytesError → Type 0
 IsPartError place part (NoBytes reason) = part_read place part ≡ Err (string_bytes reason)

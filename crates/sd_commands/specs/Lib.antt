@@ -7,3 +7,4 @@ pub mod Rights
 pub mod Sort
 pub mod Told
 pub mod Words
+pub mod Value

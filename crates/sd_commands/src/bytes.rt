@@ -1,12 +1,13 @@
 //! Bytes as a text spells them, and a SACL in them that is passed over.
 ghost use Rattle.std.specs.Prelude.{◌≡◌, Err, IfErr, IfOk, Ok, string_bytes};
 ghost use Rattle.sd_commands.specs.declared.bytes.BytesError.TheVariants.{Memory};
-ghost use Rattle.sd_commands.specs.declared.settings.ByteForm.TheVariants.{Hex, Base64};
+ghost use Rattle.sd_commands.specs.declared.settings.ByteForm.TheVariants.{Hex, Loose, Base64};
 ghost use Rattle.sd_commands.specs.Bytes.{IsBytesError, base64_reason, bytes_read, form_name, has_sacl, hex_reason};
 ghost use Rattle.sd_commands.specs.Bytes.{without_sacl};
 
 use crate::loose::loose_bytes;
 use crate::settings::ByteForm;
+use crate::value::descriptor_in;
 use base64::engine::general_purpose::STANDARD;
 use base64::{DecodeAllocError, DecodeError};
 use hex::FromHexError;
@@ -56,9 +57,18 @@ pub(crate) fn read_bytes(alloc: Global, form: ByteForm, text: &str) -> Result<Ve
 {
     match form {
         ByteForm::Hex => hex_bytes(alloc, text),
-        ByteForm::Loose => loose_bytes(alloc, text.as_bytes()),
+        ByteForm::Loose => held_bytes(alloc, text.as_bytes()),
         ByteForm::Base64 => base64_bytes(alloc, text),
     }
+}
+
+/// The bytes of a descriptor in the value that the text has.
+fn held_bytes(alloc: Global, text: &[u8]) -> Result<Vec<u8>, BytesError>
+    ensures ok { IfOk result (λ bytes. bytes_read Loose text.now ≡ Ok bytes.items) }
+    ensures err { IfErr result (IsBytesError Loose text.now) }
+{
+    let bytes = loose_bytes(alloc, text)?;
+    Ok(descriptor_in(alloc, bytes)?)
 }
 
 fn hex_bytes(alloc: Global, text: &str) -> Result<Vec<u8>, BytesError>

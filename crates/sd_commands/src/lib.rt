@@ -27,6 +27,7 @@ mod shown;
 mod sort;
 mod told;
 mod verdict;
+mod value;
 mod words;
 
 pub use answer::{Answer, Outcome, answer_question, fault};

@@ -1,21 +1,82 @@
-//! Hexadecimal as other tools write it: with `0x`, spaces, commas, backslashes and line ends between bytes.
-ghost use Rattle.std.specs.Prelude.{◌≡◌, ◌<◌, ◌≤◌, ◌+◌, ◌-◌, ℕ, Ok, IfErr, IfOk, length};
+//! Bytes as other tools write them: a value of one of their files, or hexadecimal with `0x`, spaces, commas,
+//! backslashes and line ends between bytes.
+ghost use Rattle.std.specs.Prelude.{◌≡◌, ◌<◌, ◌≤◌, ◌+◌, ◌-◌, ℕ, Ok, Err, Some, IfErr, IfOk, filter, length, not};
 ghost use Rattle.std.specs.List.{position_or_len, slice_split};
-ghost use Rattle.sd_commands.specs.declared.settings.ByteForm.TheVariants.{Loose};
-ghost use Rattle.sd_commands.specs.Bytes.{IsBytesError, IsPartError, bytes_read, digits_of, is_between, joined};
-ghost use Rattle.sd_commands.specs.Bytes.{part_read, parts_read};
+ghost use Rattle.sd_commands.specs.Bytes.{IsPartError, IsValueError, digits_of, is_between, is_blank_byte, joined};
+ghost use Rattle.sd_commands.specs.Bytes.{no_bytes, part_read, parts_read, value_read};
+ghost use Rattle.sd_commands.specs.Value.{value_in};
+ghost use Rattle.sd_commands.specs.declared.value.Value.TheVariants as values;
 
 use crate::bytes::BytesError;
+use crate::value::{Value, value_in};
+use base64::DecodeAllocError;
+use base64::engine::general_purpose::STANDARD;
 use hex::FromHexError;
-use std::alloc::Global;
+use std::alloc::{AllocError, Global};
 
-/// The bytes that the text spells in hexadecimal, with signs between them.
+/// The bytes of the value that the text has.
 pub(crate) fn loose_bytes(alloc: Global, text: &[u8]) -> Result<Vec<u8>, BytesError>
-    ensures ok { IfOk result (λ bytes. bytes_read Loose text.now ≡ Ok bytes.items) }
-    ensures err { IfErr result (IsBytesError Loose text.now) }
+    ensures ok { IfOk result (λ bytes. value_read text.now (value_in text.now) ≡ Ok bytes.items) }
+    ensures err { IfErr result (IsValueError (value_read text.now (value_in text.now))) }
+{
+    match value_in(text) {
+        Some(Value::Hex(place)) => hex_value(alloc, text, place),
+        Some(Value::Base64(place)) => base64_value(alloc, text, place),
+        None => Err(no_bytes(alloc, 0)),
+    }
+}
+
+/// That no bytes are spelled at this place.
+fn no_bytes(alloc: Global, place: usize) -> BytesError
+    ensures { IsValueError (Err (no_bytes place)) result }
+{
+    match format!(in alloc; "no bytes at {place}") {
+        Ok(reason) => BytesError::NoBytes(reason),
+        Err(_) => BytesError::Memory,
+    }
+}
+
+/// The bytes that the text spells in base64 from this place on, where ends of lines, tabs and spaces don't count.
+fn base64_value(alloc: Global, text: &[u8], place: usize) -> Result<Vec<u8>, BytesError>
+    requires { place ≤ length text.now }
+    ensures ok { IfOk result (λ bytes. value_read text.now (Some (values.Base64 place)) ≡ Ok bytes.items) }
+    ensures err { IfErr result (IsValueError (value_read text.now (Some (values.Base64 place)))) }
+{
+    let digits = filled(alloc, &text[place..])?;
+    match STANDARD.decode(alloc, digits.as_slice()) {
+        Ok(bytes) => Ok(bytes),
+        Err(DecodeAllocError::OutOfMemory) => Err(BytesError::Memory),
+        Err(DecodeAllocError::DecodeError(_)) => Err(no_bytes(alloc, place)),
+    }
+}
+
+/// The text without ends of lines, tabs and spaces.
+fn filled(alloc: Global, text: &[u8]) -> Result<Vec<u8>, AllocError>
+    ensures { IfOk result (λ digits. digits.items ≡ filter (λ b. not (is_blank_byte b)) text.now) }
+{
+    let mut digits = Vec::new(alloc);
+    for byte in text {
+        if !is_blank_byte(*byte) {
+            digits.push(*byte)?;
+        }
+    }
+    Ok(digits)
+}
+
+fn is_blank_byte(b: u8) -> bool
+    ensures { result ≡ is_blank_byte b }
+{
+    matches!(b, b'\t' | b'\n' | b'\r' | b' ')
+}
+
+/// The bytes that the text spells in hexadecimal from this place on, with signs between them.
+fn hex_value(alloc: Global, text: &[u8], place: usize) -> Result<Vec<u8>, BytesError>
+    requires { place ≤ length text.now }
+    ensures ok { IfOk result (λ bytes. value_read text.now (Some (values.Hex place)) ≡ Ok bytes.items) }
+    ensures err { IfErr result (IsValueError (value_read text.now (Some (values.Hex place)))) }
 {
     let mut bytes = Vec::new(alloc);
-    let mut rest = text;
+    let mut rest = &text[place..];
     while !rest.is_empty() {
         let (part, behind) = first_part(rest);
         let more = part_bytes(alloc, text.len() - rest.len(), part)?;
