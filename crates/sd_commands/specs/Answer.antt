@@ -40,7 +40,8 @@ use Rattle.sd_usage.specs.declared.row.Question.TheVariants as questions
 use Rattle.sd_commands.specs.MissingDacl.{missing_dacl}
 use Rattle.sd_commands.specs.Rights.{rights_line}
 use Rattle.sd_commands.specs.Sort.{move_notes, sorted_descriptor}
-use Rattle.sd_commands.specs.Told.{fault_text, sacl_note, told_line, wire_fault_text, word_argument, word_at}
+use Rattle.sd_commands.specs.Told.{fault_text, sacl_note, sddl_fault_text, told_line, told_wire_fault}
+use Rattle.sd_commands.specs.Told.{wire_fault_text, word_argument, word_at}
 use Rattle.sd_commands.specs.Told.{IsStateReason, IsWordReason}
 use Rattle.sd_commands.specs.Words.{IsTokenIn, IsFirstNoWordIn}
 use Rattle.sd_commands.specs.declared.answer.Answer.{Answer}
@@ -130,7 +131,7 @@ IsUnread settings written Memory = Unit {0}
 abbrev pub AnswersSddlFault : List ℕ → Settings → List ℕ → AnswerValue → Type 0
 AnswersSddlFault argument settings written answer =
     (fault : TextFault) × (place : ℕ) × IsUnreadAt settings written fault place
-    × IsFault (sddl_fault_line fault place) (told_line argument (fault_text fault place)) answer
+    × IsFault (sddl_fault_line fault place) (told_line argument (sddl_fault_text written fault place)) answer
 
 -- what is answered otherwise, and where a SACL was left out, that is told first
 abbrev pub Noting : List ℕ → Bool → (AnswerValue → Type 0) → AnswerValue → Type 0
@@ -248,16 +249,19 @@ AnswersFit None d answer = IsDone (line (canon d)) answer
 AnswersFit (Some missing) d answer = IsMissingDacl (codes "BYTES") missing answer
 
 -- the same of what bytes hold, or their fault
-abbrev pub AnswersRead : Settings → Result DescriptorValue WireFault → AnswerValue → Type 0
-AnswersRead settings (Ok d) answer = AnswersFit (missing_dacl settings.require_dacl d.dacl) d answer
-AnswersRead settings (Err fault) answer = IsFault (wire_fault_line fault)
-    (told_line (codes "BYTES") (wire_fault_text fault)) answer
+abbrev pub AnswersRead : Settings → List ℕ → Result DescriptorValue WireFault → AnswerValue → Type 0
+AnswersRead settings bytes (Ok d) answer = AnswersFit (missing_dacl settings.require_dacl d.dacl) d answer
+AnswersRead settings bytes (Err fault) answer = IsFault (wire_fault_line fault)
+    (told_line (codes "BYTES") (told_wire_fault bytes fault)) answer
+
+abbrev pub AnswersHeld : Settings → List ℕ → AnswerValue → Type 0
+AnswersHeld settings bytes answer = AnswersRead settings bytes (descriptor_read bytes) answer
 
 -- the same of bytes in which a SACL is passed over, where that is asked for
 abbrev pub AnswersBytes : Settings → List ℕ → AnswerValue → Type 0
 AnswersBytes settings bytes answer = MatchBool settings.without_sacl
-    (Noting (codes "BYTES") (has_sacl bytes) (AnswersRead settings (descriptor_read (without_sacl bytes))) answer)
-    (AnswersRead settings (descriptor_read bytes) answer)
+    (Noting (codes "BYTES") (has_sacl bytes) (AnswersHeld settings (without_sacl bytes)) answer)
+    (AnswersHeld settings bytes answer)
 
 -- the same of the bytes that a text spells, or that it spells none
 abbrev pub AnswersDecoded : Settings → Result (List ℕ) (List ℕ) → AnswerValue → Type 0

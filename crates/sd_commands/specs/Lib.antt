@@ -1,10 +1,11 @@
 pub mod Answer
 pub mod Analysis
 pub mod Bytes
+pub mod Kinds
 pub mod Mapping
 pub mod MissingDacl
 pub mod Rights
 pub mod Sort
 pub mod Told
-pub mod Words
 pub mod Value
+pub mod Words

@@ -14,6 +14,7 @@ use Rattle.sd_text.specs.declared.fault.TextFault.{TextFault}
 use Rattle.sd_wire.specs.Fault.{wire_fault_number, wire_fault_name}
 use Rattle.sd_wire.specs.declared.fault.WireFault.{WireFault}
 use Rattle.sd_answer.specs.Answer.{line}
+use Rattle.sd_commands.specs.Kinds.{kind_note, wire_kind_note}
 use Rattle.sd_commands.specs.Words.{sid_length}
 
 -- what is wrong with an argument
@@ -24,9 +25,17 @@ told_line argument what = line (codes "sdstore: " ++ argument ++ codes ": " ++ w
 abbrev pub fault_text : TextFault → ℕ → List ℕ
 fault_text fault place = decimal (number_of fault) ++ codes " " ++ name_of fault ++ codes " at " ++ decimal place
 
+-- the same of a descriptor's text, and which kind an entry is that isn't taken
+abbrev pub sddl_fault_text : List ℕ → TextFault → ℕ → List ℕ
+sddl_fault_text text fault place = fault_text fault place ++ kind_note text fault place
+
 -- the first test that bytes don't pass
 abbrev pub wire_fault_text : WireFault → List ℕ
 wire_fault_text fault = decimal (wire_fault_number fault) ++ codes " " ++ wire_fault_name fault
+
+-- the same, and which entry and which kind it is that isn't taken
+abbrev pub told_wire_fault : List ℕ → WireFault → List ℕ
+told_wire_fault bytes fault = wire_fault_text fault ++ wire_kind_note bytes fault
 
 -- a SACL was in the argument, and was left out
 abbrev pub sacl_note : List ℕ → Bool → List ℕ

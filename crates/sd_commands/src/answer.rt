@@ -2,7 +2,7 @@
 ghost use Rattle.std.specs.Prelude.{◌≡◌, IfOk, string_bytes};
 ghost use Rattle.sd_answer.specs.Answer.{fault_line, sddl_fault_line};
 ghost use Rattle.sd_commands.specs.Answer.{AnswersQuestion, IsDone, IsFault, answer_of, is_refusal, outcome_status};
-ghost use Rattle.sd_commands.specs.Told.{fault_text, told_line};
+ghost use Rattle.sd_commands.specs.Told.{fault_text, sddl_fault_text, told_line};
 
 use crate::analysis::{answer_compare, answer_who};
 use crate::convert::{answer_from_binary, answer_print, answer_to_binary};
@@ -10,7 +10,7 @@ use crate::lint::answer_lint;
 use crate::rights::answer_rights;
 use crate::settings::Settings;
 use crate::sort::answer_sort;
-use crate::told::told_fault;
+use crate::told::{sddl_fault_text, told_fault, told_line};
 use crate::verdict::{Form, answer_verdict};
 use sd_answer::{fault_line, sddl_fault_line};
 use sd_text::TextFault;
@@ -123,16 +123,18 @@ pub(crate) fn text_fault(
 pub(crate) fn sddl_fault(
     alloc: Global,
     argument: &str,
+    sddl: &str,
     fault: TextFault,
     place: u64,
 ) -> Result<Answer, AllocError>
     ensures { IfOk result
-        (λ answer. IsFault (sddl_fault_line fault place) (told_line argument.now (fault_text fault place))
+        (λ answer. IsFault (sddl_fault_line fault place) (told_line argument.now (sddl_fault_text sddl.now fault place))
         (answer_of answer)) }
 {
+    let what = sddl_fault_text(alloc, sddl, fault, place)?;
     Ok(Answer {
         text: sddl_fault_line(alloc, fault, place)?,
-        told: told_fault(alloc, argument, fault, place)?,
+        told: told_line(alloc, argument, what.as_str())?,
         outcome: Outcome::Refused,
     })
 }

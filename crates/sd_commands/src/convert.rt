@@ -1,16 +1,16 @@
 //! The answers to `print`, `tobin` and `frombin`: a descriptor in another form.
 ghost use Rattle.std.specs.Prelude.{◌≡◌, ◌++◌, IfOk, codes, string_bytes};
 ghost use Rattle.sd_acl.specs.Descriptor.{descriptor_of};
-ghost use Rattle.sd_wire.specs.Reading.{descriptor_read};
 ghost use Rattle.sd_answer.specs.Answer.{line};
-ghost use Rattle.sd_commands.specs.Told.{told_line, wire_fault_text};
+ghost use Rattle.sd_commands.specs.Told.{told_line, told_wire_fault, wire_fault_text};
 ghost use Rattle.sd_commands.specs.Answer.{AnswersPrint, AnswersToBinary, AnswersFromBinary, AnswersBytes, AnswersFit};
-ghost use Rattle.sd_commands.specs.Answer.{AnswersRead, IsDone, IsFault, answer_of, wire_fault_line};
+ghost use Rattle.sd_commands.specs.Answer.{AnswersHeld, IsDone, IsFault, answer_of, wire_fault_line};
 ghost use Rattle.sd_commands.specs.MissingDacl.{missing_dacl};
 
 use crate::answer::{Answer, Outcome, fault};
 use crate::bytes::{BytesError, leave_out_sacl, read_bytes};
 use crate::descriptor::{Given, noting, read_argument};
+use crate::kinds::wire_kind_note;
 use crate::missing_dacl::{missing_dacl, missing_dacl_fault};
 use crate::settings::Settings;
 use crate::told::told_line;
@@ -85,11 +85,11 @@ fn answer_bytes(alloc: Global, settings: Settings, mut bytes: Vec<u8>) -> Result
 
 /// The canonical text of what the bytes hold.
 fn answer_held(alloc: Global, settings: Settings, bytes: &[u8]) -> Result<Answer, AllocError>
-    ensures { IfOk result (λ answer. AnswersRead settings (descriptor_read bytes.now) (answer_of answer)) }
+    ensures { IfOk result (λ answer. AnswersHeld settings bytes.now (answer_of answer)) }
 {
     match read_descriptor(alloc, bytes) {
         Ok(descriptor) => answer_fit(alloc, settings, &descriptor),
-        Err(WireError::Fault(fault)) => wire_fault(alloc, fault),
+        Err(WireError::Fault(fault)) => wire_fault(alloc, bytes, fault),
         Err(WireError::Memory) => Err(AllocError),
     }
 }
@@ -119,15 +119,18 @@ fn printed(alloc: Global, mut text: String) -> Result<Answer, AllocError>
 }
 
 /// The answer to bytes that hold no descriptor.
-fn wire_fault(alloc: Global, fault: WireFault) -> Result<Answer, AllocError>
-    ensures { IfOk result (λ answer. IsFault (wire_fault_line fault) (told_line (codes "BYTES") (wire_fault_text fault))
+fn wire_fault(alloc: Global, bytes: &[u8], fault: WireFault) -> Result<Answer, AllocError>
+    ensures { IfOk result
+        (λ answer. IsFault (wire_fault_line fault) (told_line (codes "BYTES") (told_wire_fault bytes.now fault))
         (answer_of answer)) }
 {
-    let what = wire_fault_text(alloc, fault)?;
-    let what = what.as_str();
+    let mut what = wire_fault_text(alloc, fault)?;
+    let text = wire_fault_line(alloc, what.as_str())?;
+    let note = wire_kind_note(alloc, bytes, fault)?;
+    what.push_str(note.as_str())?;
     Ok(Answer {
-        text: wire_fault_line(alloc, what)?,
-        told: told_line(alloc, "BYTES", what)?,
+        text,
+        told: told_line(alloc, "BYTES", what.as_str())?,
         outcome: Outcome::Refused,
     })
 }

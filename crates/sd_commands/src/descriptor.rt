@@ -30,7 +30,7 @@ pub(crate) fn read_argument(
     let read = match read_text(alloc, settings, sddl) {
         Ok(read) => read,
         Err(TextError::Fault { fault, place }) => {
-            return Ok(Given::Refused(sddl_fault(alloc, argument, fault, place)?));
+            return Ok(Given::Refused(sddl_fault(alloc, argument, sddl, fault, place)?));
         }
         Err(TextError::Memory) => return Err(AllocError),
     };

@@ -16,6 +16,7 @@ mod answer;
 mod bytes;
 mod convert;
 mod descriptor;
+mod kinds;
 mod laws;
 mod lint;
 mod loose;
@@ -26,8 +27,8 @@ mod settings;
 mod shown;
 mod sort;
 mod told;
-mod verdict;
 mod value;
+mod verdict;
 mod words;
 
 pub use answer::{Answer, Outcome, answer_question, fault};

@@ -1,8 +1,9 @@
 //! What standard error is told beside an answer: which argument isn't read, and why; or that a SACL is left out.
 ghost use Rattle.std.specs.Prelude.{◌≡◌, ◌<◌, ◌^◌, IfOk, string_bytes};
 ghost use Rattle.sd_commands.specs.Told.{IsSidReason, IsStateReason, IsWordReason, begins_by_plus, fault_text};
-ghost use Rattle.sd_commands.specs.Told.{sacl_note, told_line, word_argument};
+ghost use Rattle.sd_commands.specs.Told.{sacl_note, sddl_fault_text, told_line, word_argument};
 
+use crate::kinds::kind_note;
 use crate::shown::shown_word;
 use crate::words::sid_length;
 use sd_text::{Aliases, TextError, TextFault, read_sid_text_in};
@@ -37,6 +38,21 @@ fn fault_text(alloc: Global, fault: TextFault, place: u64) -> Result<String, All
     let number = fault.number();
     let name = fault.name();
     let text = format!(in alloc; "{number} {name} at {place}")?;
+    Ok(text)
+}
+
+/// The same of a descriptor's text, and which kind an entry is that isn't taken.
+pub(crate) fn sddl_fault_text(
+    alloc: Global,
+    sddl: &str,
+    fault: TextFault,
+    place: u64,
+) -> Result<String, AllocError>
+    ensures { IfOk result (λ text. string_bytes text ≡ sddl_fault_text sddl.now fault place) }
+{
+    let mut text = fault_text(alloc, fault, place)?;
+    let note = kind_note(alloc, sddl, fault, place)?;
+    text.push_str(note.as_str())?;
     Ok(text)
 }
 

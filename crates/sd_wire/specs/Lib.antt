@@ -5,3 +5,4 @@ pub mod Standing
 pub mod Memory
 pub mod Parts
 pub mod Laws
+pub mod Odd

@@ -16,6 +16,7 @@ mod header;
 mod laws;
 mod list;
 mod number;
+mod odd;
 mod parts;
 mod trustee;
 
@@ -26,4 +27,5 @@ pub use laws::{
     descriptors_come_back, none_is_held_beside_a_fault, one_is_held, readings_are_held,
     what_is_held_is_read,
 };
+pub use odd::odd_entry;
 pub use parts::{DaclPlace, EntryPlaces, Parts, read_parts};
