@@ -42,7 +42,8 @@ RefusesIn grammar bytes text why =
 -- the self-relative form of the descriptor that the text spells in the domain
 abbrev pub IsFormOfIn : List ℕ → List ℕ → List ℕ → Type 0
 IsFormOfIn bytes text form =
-    (domain : Domain) × (d : DescriptorValue) × IsDomainOf bytes domain × Spells (sddl_in (in_domain (Some domain))) text d
+    (domain : Domain) × (d : DescriptorValue) × IsDomainOf bytes domain
+    × Spells (sddl_in (in_domain (Some domain))) text d
     × (form ≡ wire_of d)
 
 -- the bytes of the SID that the text spells in it

@@ -26,7 +26,8 @@ IsFormWithoutSacl bytes text form left_out =
 abbrev pub RefusesWithoutSacl : List ℕ → List ℕ → Refusal → Type 0
 RefusesWithoutSacl bytes text why =
     ((0 < length bytes) × RefusesDomain bytes why)
-    ⊎ ((domain : Option Domain) × IsDomainArgument bytes domain × RefusesText (sddl_without_sacl (in_domain domain)) text why)
+    ⊎ ((domain : Option Domain) × IsDomainArgument bytes domain
+    × RefusesText (sddl_without_sacl (in_domain domain)) text why)
 
 -- the form is written and what it leaves out returned, or the call refuses for a reason that holds, and writes nothing
 abbrev pub TrimsText : List ℕ → List ℕ → List ℕ → List ℕ → Trimmed → Type 0

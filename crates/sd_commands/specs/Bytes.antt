@@ -1,6 +1,7 @@
 -- Bytes as a text spells them, and a SACL in them that is passed over.
 use Rattle.std.specs.Prelude.{◌≡◌, ℕ, ◌+◌, ◌==◌, ◌&&◌, ◌||◌, nat_le, not, Bool, List, [], ◌∷◌, ◌++◌, length}
-use Rattle.std.specs.Prelude.{drop, filter, Option, Some, None, string_bytes, slice_index, slice_set, bit_and, Result, Ok, Err, if◌then◌else◌, codes}
+use Rattle.std.specs.Prelude.{drop, filter, Option, Some, None, string_bytes, slice_index, slice_set, bit_and, Result}
+use Rattle.std.specs.Prelude.{Ok, Err, if◌then◌else◌, codes}
 use Rattle.std.specs.Fmt.{decimal}
 use Rattle.std.specs.List.{slice_split}
 use Rattle.base64.specs.Engines.{standard}
@@ -76,7 +77,8 @@ abbrev pub value_read : List ℕ → Option Value → Result (List ℕ) (List �
 value_read text None = Err (no_bytes 0)
 value_read text (Some (values.Hex place)) = parts_read place (slice_split is_between (drop place text))
 value_read text (Some (values.Base64 place)) =
-    reasoned (λ error. no_bytes place) (base64.decode_of standard (filter (λ b. not (is_blank_byte b)) (drop place text)))
+    reasoned (λ error. no_bytes place)
+    (base64.decode_of standard (filter (λ b. not (is_blank_byte b)) (drop place text)))
 
 -- the descriptor in them
 abbrev pub held : Result (List ℕ) (List ℕ) → Result (List ℕ) (List ℕ)

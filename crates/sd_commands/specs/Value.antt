@@ -19,7 +19,8 @@ first byte text = position_or_len (λ b. b == byte) text
 abbrev pub head_len : List ℕ → Option ℕ
 head_len text =
     if begins_by text (codes "hex:") then Some 4
-    else if begins_by text (codes "hex(") && begins_by (drop (first 41 text) text) (codes "):") then Some (first 41 text + 2)
+    else if begins_by text (codes "hex(") && begins_by (drop (first 41 text) text) (codes "):")
+    then Some (first 41 text + 2)
     else None
 
 -- the value that begins at this byte, behind a name and its `=`: `hex:` and the like of a .reg file, `0s` of getfattr

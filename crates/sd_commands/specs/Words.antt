@@ -34,4 +34,5 @@ IsTokenIn known user words token = (fulls : List (List ℕ)) × AreSpelledOut kn
 
 -- the word at the place is the first that is no word
 abbrev pub IsFirstNoWordIn : Aliases → List (List ℕ) → ℕ → Type 0
-IsFirstNoWordIn known words place = (fulls : List (List ℕ)) × AreSpelledOut known words fulls × IsFirstNoWord fulls place
+IsFirstNoWordIn known words place =
+    (fulls : List (List ℕ)) × AreSpelledOut known words fulls × IsFirstNoWord fulls place

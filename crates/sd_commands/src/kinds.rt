@@ -1,5 +1,5 @@
 //! The kinds of entries that no list here has, by their names: [MS-DTYP] 2.4.4.1 and 2.5.1.1.
-ghost use Rattle.std.specs.Prelude.{◌≡◌, IfOk, map, string_bytes};
+ghost use Rattle.std.specs.Prelude.{◌≡◌, IfOk, Some, map, string_bytes};
 ghost use Rattle.sd_commands.specs.Kinds.{entry_note, kind_at, kind_by_letters, kind_by_number, kind_note, kind_row};
 ghost use Rattle.sd_commands.specs.Kinds.{kinds, wire_kind_note};
 
@@ -77,12 +77,24 @@ pub(crate) fn wire_kind_note(
 fn entry_note(alloc: Global, entry: Option<(usize, u8)>) -> Result<String, AllocError>
     ensures { IfOk result (λ note. string_bytes note ≡ entry_note entry) }
 {
-    let Some((number, kind)) = entry else {
-        return Ok(String::new(alloc));
-    };
-    let kind = kind_by_number(kinds(), kind);
+    match entry {
+        Some((number, kind)) => numbered_note(alloc, number, kind),
+        None => Ok(String::new(alloc)),
+    }
+}
+
+fn numbered_note(alloc: Global, number: usize, kind: u8) -> Result<String, AllocError>
+    ensures { IfOk result (λ note. string_bytes note ≡ entry_note (Some (number, kind))) }
+{
+    let kind = numbered_kind(kind);
     let note = format!(in alloc; " (entry {number}: {kind})")?;
     Ok(note)
+}
+
+fn numbered_kind(kind: u8) -> &'static str
+    ensures { result.now ≡ kind_by_number kinds kind }
+{
+    kind_by_number(kinds(), kind)
 }
 
 /// Which kind an entry is whose type, two letters of either case, begins a text.

@@ -1,11 +1,13 @@
 -- What a grammar finds in a text: the results of private parsers. Public calls speak of Spells and HasFault alone.
-use Rattle.std.specs.Prelude.{◌<◌, ◌≤◌, ◌≡◌, ℕ, zero, suc, ◌==◌, nat_lt, Bool, true, not, List, [], ◌∷◌, ◌++◌, length, drop}
+use Rattle.std.specs.Prelude.{◌<◌, ◌≤◌, ◌≡◌, ℕ, zero, suc, ◌==◌, nat_lt, Bool, true, not, List, [], ◌∷◌, ◌++◌, length}
+use Rattle.std.specs.Prelude.{drop}
 use Rattle.std.specs.Prelude.{take, Option, Some, None, Result, Ok, Err, IsOkAnd, if◌then◌else◌}
 use Rattle.std.specs.Char.{digit_value}
 use Rattle.std.specs.Str.Parse.{digits_value}
 use Rattle.sd_text.specs.declared.fault.TextFault.{TextFault}
 use Rattle.sd_text.specs.declared.fault.TextFault.TheVariants.{Syntax, Range}
-use Rattle.sd_text.specs.Grammar.{Grammar, Name, value, refused, choose, and_then, word, number, through, one_of, many, begins}
+use Rattle.sd_text.specs.Grammar.{Grammar, Name, value, refused, choose, and_then, word, number, through, one_of}
+use Rattle.sd_text.specs.Grammar.{many, begins}
 use Rattle.sd_text.specs.Grammar.{begins_digit, named}
 
 -- a value and the text after it, or a fault and the text from there on

@@ -1,6 +1,7 @@
 -- The section of a SACL, which is left out ([MS-DTYP] 2.5.1.1, sacl): entries of any type of a SACL. Of each only its
 -- type and where it ends are looked at.
-use Rattle.std.specs.Prelude.{ℕ, zero, suc, ◌-◌, ◌==◌, Bool, true, false, not, List, [], ◌∷◌, drop, Option, Some, None, codes}
+use Rattle.std.specs.Prelude.{ℕ, zero, suc, ◌-◌, ◌==◌, Bool, true, false, not, List, [], ◌∷◌, drop, Option, Some}
+use Rattle.std.specs.Prelude.{None, codes}
 use Rattle.std.specs.Prelude.{if◌then◌else◌}
 use Rattle.std.specs.Option.{option_map_or}
 use Rattle.sd_acl.specs.Descriptor.{DescriptorValue}
