@@ -1,4 +1,4 @@
--- A line whose first word is no id is no command.
+-- A line whose first word is no id is no command, nor is one that expects an answer.
 use Rattle.std.proofs.Common.{◌≡◌, ◌≤◌, ℕ, Bool, true, false, List, [], ◌∷◌, length, Option, Some, None, Ok, ap, arith, inl, inr, refl, sym, ◌∙◌}
 use Rattle.std.specs.Prelude.{◌++◌, ◌==◌, MatchBool, bytes_eq, codes, if◌then◌else◌, is_some, nat_lt, option_map, take}
 use Rattle.std.specs.List.{list_any}
@@ -8,9 +8,11 @@ use Rattle.std.proofs.lemmas.List.Splits.{slice_split_first, slice_split_none}
 use Rattle.std.proofs.lemmas.List.Sums.{fails_before_first}
 use Rattle.std.proofs.lemmas.Slice.Eq.{bytes_eq-Decides}
 use Rattle.sd_script.specs.Command.{beside, command_named, command_of, is_empty, line_asks, names}
+use Rattle.sd_script.specs.Expect.{expect_line, expects, is_met, last_after}
 use Rattle.sd_script.specs.Lines.{is_silent, word_len, words_of}
 use Rattle.sd_script.specs.Output.{IsAnswered, IsTold, closing_of, is_open, manner_of}
 use Rattle.sd_script.specs.declared.asked.Asked.{Asked}
+use Rattle.sd_script.specs.declared.carried.Carried.{Carried}
 use Rattle.sd_script.specs.declared.paths.PathSpelling.{PathSpelling}
 use Rattle.sd_script.specs.declared.session.Session.{Session}
 use Rattle.sd_script.specs.Ids.{NoCommandWithoutAnId, asked_of, is_id}
@@ -67,28 +69,45 @@ nothing_then : {A B : Type 0} → (named : Option A) (next : A → B) → (is_so
 nothing_then (Some x) next isnt = absurd (isnt refl)
 nothing_then None next isnt = refl
 
-no_name : (words : List (List ℕ)) (word : List ℕ) → is_id word ≡ false → command_of (word ∷ words) ≡ None
-no_name words word none =
-    neither (list_any is_empty (word ∷ words)) _
-    (nothing_then (command_named word) _ (λ named. cc (name_is_id word named, none)))
+-- the first word isn't the name of a command
+abbrev NamesNothing : List ℕ → Type 0
+NamesNothing line = is_some (command_named (take (word_len line) line)) ≡ true → ⊥
 
-no_command : (line : List ℕ) → is_id (take (word_len line) line) ≡ false → command_of (words_of line) ≡ None
+no_command : (line : List ℕ) → NamesNothing line → command_of (words_of line) ≡ None
 no_command line none =
     let first = first_word line in
-    rw (first.1) (no_name first.0 (take (word_len line) line) none)
+    let word = take (word_len line) line in
+    rw (first.1) (neither (list_any is_empty (word ∷ first.0)) _ (nothing_then (command_named word) _ none))
 
 -- so it asks for nothing
 asks_nothing : (paths : PathSpelling) (is_open : Bool) (line : List ℕ) (asked : Asked)
-    → is_id (take (word_len line) line) ≡ false → line_asks paths is_open line (Ok asked) → ⊥
+    → NamesNothing line → line_asks paths is_open line (Ok asked) → ⊥
 asks_nothing paths is_open line asked none (inl (utf8, asks)) = absurd (cc (rw (no_command line none) at asks))
 asks_nothing paths is_open line asked none (inr (other, is)) = absurd (cc is)
+
+-- ---- a line that expects an answer
+
+expects_no_command : (line : List ℕ) → expects line ≡ true → NamesNothing line
+expects_no_command line is named =
+    let same : take (word_len line) line ≡ codes "expect" = (bytes_eq-Decides (take (word_len line) line) (codes "expect")).0 is in
+    cc (rw same at named)
+
+pub asks_and_expects_nothing : (paths : PathSpelling) (is_open : Bool) (line : List ℕ) (asked : Asked)
+    → line_asks paths is_open line (Ok asked) → expects line ≡ false
+asks_and_expects_nothing paths is_open line asked asks = by_test (expects line) refl where
+  by_test : (test : Bool) → expects line ≡ test → test ≡ false
+  by_test true is = absurd (asks_nothing paths is_open line asked (expects_no_command line is) asks)
+  by_test false is = refl
+
+-- ---- a line whose first word is no id
 
 unchanged : (old new : Session) (line answer : List ℕ)
     → is_id (take (word_len line) line) ≡ false → IsAnswered old line answer new → new ≡ old
 unchanged old new line answer none answered = by_test (is_silent line) answered where
   by_told : (told : List ℕ) → IsTold old line told new → new ≡ old
   by_told told (inl (asked, asks, done)) =
-      absurd (asks_nothing (manner_of old).paths (is_open old) line asked none asks)
+      absurd (asks_nothing (manner_of old).paths (is_open old) line asked
+      (λ named. cc (name_is_id (take (word_len line) line) named, none)) asks)
   by_told told (inr (fault, asks, is, same)) = same
 
   by_test : (test : Bool) → MatchBool test ((answer ≡ []) × (new ≡ old))
@@ -96,7 +115,15 @@ unchanged old new line answer none answered = by_test (is_silent line) answered 
   by_test true said = said.1
   by_test false said = by_told said.0 said.1
 
+unchanged_after : (test : Bool) (old new : Carried) (line answer : List ℕ) → is_id (take (word_len line) line) ≡ false
+    → MatchBool test
+    ((answer ≡ expect_line (is_met old.last line)) × (new.session ≡ old.session) × (new.last ≡ old.last))
+    (IsAnswered old.session line answer new.session × (new.last ≡ last_after line answer old.last))
+    → new.session ≡ old.session
+unchanged_after true old new line answer none met = met.1
+unchanged_after false old new line answer none answered = unchanged old.session new.session line answer none answered.0
+
 pub no_command_without_an_id : NoCommandWithoutAnId
 no_command_without_an_id old new line printed none next =
     let whole : asked_of line ≡ line = rw none refl in
-    unchanged old.session new.session line next.0 none (rw whole at next.1.answered)
+    unchanged_after (expects line) old new line next.0 none (rw whole at next.1.answered)

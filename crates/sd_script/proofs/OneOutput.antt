@@ -28,13 +28,14 @@ use Rattle.sd_desk.specs.declared.start.StartError.TheVariants as starts
 use Rattle.sd_answer.specs.Answer.{line}
 use Rattle.sd_script.specs.Deletion.{delete_right, deletion_line, deletion_reply, parent_grants}
 use Rattle.sd_script.specs.Dump.{IsDump}
+use Rattle.sd_script.specs.Expect.{expect_line, expects, is_met, last_after}
 use Rattle.sd_script.specs.Fault.{line_of_fault}
 use Rattle.sd_script.specs.Find.{found_in, found_reply}
 use Rattle.sd_script.specs.Laws.{AsksNoAnalysis, HasOneAnswer, HasOneOutput, is_analysis}
 use Rattle.sd_script.specs.Lines.{is_silent}
 use Rattle.sd_script.specs.Importing.{IsImported, imported_line}
 use Rattle.sd_lines.specs.Answers.{AreAnswered}
-use Rattle.sd_script.specs.Output.{is_open, manner_of, IsOpened, IsDone, IsTold, IsNext, begun, closing_of}
+use Rattle.sd_script.specs.Output.{is_open, manner_of, IsOpened, IsAnswered, IsDone, IsTold, IsNext, begun, closing_of}
 use Rattle.sd_script.specs.Reply.{check_line, counted_line, refused_line, reply_line, seen_line, shown_line, start_error_line}
 use Rattle.sd_script.specs.declared.asked.Asked.{Asked}
 use Rattle.sd_script.specs.declared.asked.Asked.TheVariants.{Opening, Asking, Explaining, Finding, Deleting, Viewing, Importing}
@@ -316,15 +317,29 @@ by_silence false old text p q x y one other =
 pub has_one_answer : HasOneAnswer
 has_one_answer old line one other new next x y = by_silence (is_silent line) old line one other new next x y
 
+-- a line that may expect an answer
+after-one : (test : Bool) (old : Carried) (text p q : List ℕ) (x y : Carried) → AsksNoAnalysis text
+    → MatchBool test ((p ≡ expect_line (is_met old.last text)) × (x.session ≡ old.session) × (x.last ≡ old.last))
+    (IsAnswered old.session text p x.session × (x.last ≡ last_after text p old.last))
+    → MatchBool test ((q ≡ expect_line (is_met old.last text)) × (y.session ≡ old.session) × (y.last ≡ old.last))
+    (IsAnswered old.session text q y.session × (y.last ≡ last_after text q old.last))
+    → (p ≡ q) × (x.session ≡ y.session) × (x.last ≡ y.last)
+after-one true old text p q x y plain one other = (one.0 ∙ sym other.0, one.1 ∙ sym other.1, one.2 ∙ sym other.2)
+after-one false old text p q x y plain one other =
+    let same = has_one_answer old.session text p q x.session y.session one.0 other.0 in
+    (same.0 plain, same.1, one.1 ∙ ap (λ answer. last_after text answer old.last) (same.0 plain) ∙ sym other.1)
+
 -- and counted
-both_same : (x y : Carried) → x.session ≡ y.session → x.tally ≡ y.tally → x ≡ y
-both_same x y session tally =
-    subst (λ u. x ≡ record { session = y.session; tally = u }) tally (subst (λ u. x ≡ record { session = u; tally = x.tally }) session refl)
+all_same : (x y : Carried) → x.session ≡ y.session → x.last ≡ y.last → x.tally ≡ y.tally → x ≡ y
+all_same x y session last tally =
+    subst (λ u. x ≡ record { session = y.session; last = y.last; tally = u }) tally
+    (subst (λ (u : Option (List ℕ)). x ≡ record { session = y.session; last = u; tally = x.tally }) last
+    (subst (λ u. x ≡ record { session = u; last = x.last; tally = x.tally }) session refl))
 
 next-one : (old : Carried) (text p q : List ℕ) (x y : Carried) → AsksNoAnalysis text → IsNext old text p x → IsNext old text q y → (p ≡ q) × (x ≡ y)
 next-one old text p q x y plain one other =
-    let same = has_one_answer old.session text p q x.session y.session one.answered other.answered in
-    (same.0 plain, both_same x y same.1 (one.counted ∙ ap (λ answer. tallied text answer old.tally) (same.0 plain) ∙ sym other.counted))
+    let same = after-one (expects text) old text p q x y plain one.answered other.answered in
+    (same.0, all_same x y same.1 same.2 (one.counted ∙ ap (λ answer. tallied text answer old.tally) same.0 ∙ sym other.counted))
 
 all-one : (old : Carried) (texts : List (List ℕ)) (p q : List ℕ) (x y : Carried) → All AsksNoAnalysis texts → AreAnswered IsNext old texts p x → AreAnswered IsNext old texts q y → p ≡ q
 all-one old [] p q x y plain one other = one.0 ∙ sym other.0

@@ -1,9 +1,10 @@
 -- Lines with ids: a line is an id and what it asks, and each line of its answer begins with the id.
-use Rattle.std.specs.Prelude.{◌≡◌, ℕ, ◌+◌, Bool, true, false, not, ◌&&◌, ◌==◌, List, [], ◌∷◌, ◌++◌, length, take, drop}
-use Rattle.std.specs.Prelude.{min, if◌then◌else◌}
+use Rattle.std.specs.Prelude.{◌≡◌, ℕ, Bool, true, false, not, ◌&&◌, ◌==◌, List, [], ◌∷◌, ◌++◌, take, drop}
+use Rattle.std.specs.Prelude.{if◌then◌else◌}
 use Rattle.std.specs.Char.{is_ascii_graphic}
 use Rattle.std.specs.List.{list_all}
 use Rattle.std.specs.Str.Lines.{lines}
+use Rattle.sd_script.specs.Expect.{head_len}
 use Rattle.sd_script.specs.Lines.{is_silent, word_len}
 use Rattle.sd_lines.specs.Answers.{AreAnswered}
 use Rattle.sd_script.specs.Output.{IsNext, begun}
@@ -19,7 +20,7 @@ is_id word = not (is_silent word) && list_all is_ascii_graphic word
 
 -- the bytes of a line's id and of the space after it; none where the first word is no id
 abbrev pub tag_len : List ℕ → ℕ
-tag_len line = if is_id (take (word_len line) line) then min (length line) (word_len line + 1) else 0
+tag_len line = if is_id (take (word_len line) line) then head_len line else 0
 
 -- what each line of the answer begins with, and what is answered
 abbrev pub tag_of : List ℕ → List ℕ

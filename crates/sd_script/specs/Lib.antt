@@ -1,6 +1,7 @@
 pub mod Argument
 pub mod Command
 pub mod Fault
+pub mod Expect
 pub mod Laws
 pub mod Lines
 pub mod Find

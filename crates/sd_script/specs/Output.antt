@@ -1,6 +1,6 @@
 -- The output of a script.
-use Rattle.std.specs.Prelude.{◌≡◌, ◌⊎◌, ℕ, Bool, true, false, List, [], ◌∷◌, ◌++◌, Some, None, Ok, Err, MatchBool}
-use Rattle.std.specs.Prelude.{if◌then◌else◌, codes}
+use Rattle.std.specs.Prelude.{◌≡◌, ◌⊎◌, ℕ, Bool, true, false, List, [], ◌∷◌, ◌++◌, Option, Some, None, Ok, Err}
+use Rattle.std.specs.Prelude.{MatchBool, if◌then◌else◌, codes}
 use Rattle.std.specs.Str.Lines.{lines}
 use Rattle.sd_tree.specs.Journal.{opening_of, root_refusal}
 use Rattle.sd_tree.specs.declared.opening.RootSpec.{RootSpec}
@@ -12,6 +12,7 @@ use Rattle.sd_desk.specs.declared.start.StartError.{StartError}
 use Rattle.sd_lines.specs.Answers.{AreAnswered}
 use Rattle.sd_script.specs.Command.{line_asks}
 use Rattle.sd_script.specs.Deletion.{delete_right, deletion_reply, parent_grants}
+use Rattle.sd_script.specs.Expect.{expect_line, expects, is_met, last_after}
 use Rattle.sd_script.specs.Fault.{Reading, line_of_fault}
 use Rattle.sd_script.specs.Find.{found_reply}
 use Rattle.sd_script.specs.Importing.{IsImported}
@@ -96,11 +97,17 @@ IsAnswered old line printed new = MatchBool (is_silent line)
 
 -- before the first line none is open
 abbrev pub begun : Manner → Carried
-begun manner = record { session = Closed manner; tally = no_lines }
+begun manner = record { session = Closed manner; last = None; tally = no_lines }
+
+-- a line that expects an answer changes nothing. Any other is answered, and what it is answered by is then the last
+abbrev pub IsAnsweredAfter : Session → Option (List ℕ) → List ℕ → List ℕ → Session → Option (List ℕ) → Type 0
+IsAnsweredAfter old before line printed new last = MatchBool (expects line)
+    ((printed ≡ expect_line (is_met before line)) × (new ≡ old) × (last ≡ before))
+    (IsAnswered old line printed new × (last ≡ last_after line printed before))
 
 -- a line is answered, and counted
 pub record IsNext (old : Carried) (line printed : List ℕ) (new : Carried) : Type 0 where
-  pub answered : IsAnswered old.session line printed new.session
+  pub answered : IsAnsweredAfter old.session old.last line printed new.session new.last
   pub counted : new.tally ≡ tallied line printed old.tally
 
 -- what is asked is done, whatever is told of it. No line asks to open a store where one is open
@@ -126,9 +133,10 @@ IsMade old asked new = ⊥
 abbrev pub IsUntold : Session → List ℕ → Session → Type 0
 IsUntold old line new = (new ≡ old) ⊎ ((asked : Asked) × line_asks_in old line (Ok asked) × IsMade old asked new)
 
--- and it isn't counted
+-- and it isn't counted, and has no answer that could be expected
 abbrev pub IsUnanswered : Carried → List ℕ → Carried → Type 0
-IsUnanswered old line new = (new.tally ≡ old.tally) × IsUntold old.session line new.session
+IsUnanswered old line new =
+    (new.tally ≡ old.tally) × (new.last ≡ old.last) × IsUntold old.session line new.session
 
 -- the whole output of a script that is carried out in this manner, and what is counted of it
 abbrev pub PrintsAndCounts : Manner → List ℕ → List ℕ → Tally → Type 0

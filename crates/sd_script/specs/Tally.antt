@@ -4,6 +4,7 @@ use Rattle.std.specs.Prelude.{None, if◌then◌else◌, codes, bytes_eq}
 use Rattle.std.specs.List.{starts_with}
 use Rattle.std.specs.Option.{option_or}
 use Rattle.sd_answer.specs.Answer.{line}
+use Rattle.sd_script.specs.Expect.{expects}
 use Rattle.sd_script.specs.declared.tally.Tally.{Tally}
 
 abbrev pub no_lines : Tally
@@ -12,6 +13,9 @@ no_lines = record {
   first_fault = None;
   first_difference = None;
   first_reordered = None;
+  expected = 0;
+  unmet = 0;
+  first_unmet = None;
   begins_with_mark = false;
 }
 
@@ -32,9 +36,20 @@ tells_order answer =
 abbrev pub has_mark : List ℕ → Bool
 has_mark text = starts_with nat_eq text (0xEF ∷ 0xBB ∷ 0xBF ∷ [])
 
--- the next line's number, as far as 64 bits count
+-- the line expects an answer, and isn't answered by it
+abbrev pub is_unmet : List ℕ → List ℕ → Bool
+is_unmet text answer = expects text && tells_fault answer
+
+-- one more, as far as 64 bits count
+abbrev pub one_more : ℕ → ℕ
+one_more n = min (n + 1) (2 ^ 64 - 1)
+
+abbrev pub one_more_where : Bool → ℕ → ℕ
+one_more_where holds n = if holds then one_more n else n
+
+-- the next line's number
 abbrev pub next_number : Tally → ℕ
-next_number t = min (t.lines + 1) (2 ^ 64 - 1)
+next_number t = one_more t.lines
 
 -- the line where this holds of it, if none was before it
 abbrev pub first_of : Option ℕ → Bool → ℕ → Option ℕ
@@ -47,5 +62,8 @@ tallied text answer t = record {
   first_fault = first_of t.first_fault (tells_fault answer) (next_number t);
   first_difference = first_of t.first_difference (tells_difference answer) (next_number t);
   first_reordered = first_of t.first_reordered (tells_order answer) (next_number t);
+  expected = one_more_where (expects text) t.expected;
+  unmet = one_more_where (is_unmet text answer) t.unmet;
+  first_unmet = first_of t.first_unmet (is_unmet text answer) (next_number t);
   begins_with_mark = t.begins_with_mark || (t.lines == 0 && has_mark text);
 }

@@ -2,6 +2,7 @@
 ghost use Rattle.std.specs.Prelude.{◌≡◌};
 ghost use Rattle.sd_script.specs.Output.{begun};
 
+use crate::expect::LastAnswer;
 use crate::manner::Manner;
 use crate::session::Session;
 use crate::tally::Tally;
@@ -11,6 +12,8 @@ use crate::tally::Tally;
 pub struct Carried {
     /// What stands between two of its lines.
     pub session: Session,
+    /// The last answer, which a line may expect.
+    pub last: LastAnswer,
     /// What is counted of the lines before.
     pub tally: Tally,
 }
@@ -22,6 +25,7 @@ impl Carried {
     {
         Carried {
             session: Session::Closed(*manner),
+            last: LastAnswer::none(),
             tally: Tally::of_no_lines(),
         }
     }

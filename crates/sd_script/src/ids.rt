@@ -4,7 +4,7 @@ ghost use Rattle.std.specs.Prelude.{◌≡◌, ◌≤◌, true, length, IfOk, If
 ghost use Rattle.sd_script.specs.Ids.{IsNextIn, asked_of, is_id, tag_len, tag_of, tagged};
 
 use crate::carried::Carried;
-use crate::lines::{is_silent, word_len};
+use crate::lines::{head_len, is_silent, word_len};
 use crate::script::answer_line;
 use sd_lines::{Answers, Ending, Form};
 use std::alloc::{AllocError, Global};
@@ -78,9 +78,8 @@ fn tag_len(line: &[u8]) -> usize
     ensures len { result ≡ tag_len line.now }
     ensures within { result ≤ length line.now }
 {
-    let len = word_len(line);
-    if is_id(&line[..len]) {
-        line.len().min(len + 1)
+    if is_id(&line[..word_len(line)]) {
+        head_len(line)
     } else {
         0
     }
@@ -94,7 +93,7 @@ fn is_id(word: &[u8]) -> bool
 }
 
 /// A text, each line of which begins with the tag. The only error is out of memory.
-fn tagged(alloc: Global, tag: &[u8], text: &[u8]) -> Result<Vec<u8>, AllocError>
+pub fn tagged(alloc: Global, tag: &[u8], text: &[u8]) -> Result<Vec<u8>, AllocError>
     ensures { IfOk result (λ lines. lines.items ≡ tagged tag.now true text.now) }
 {
     let mut lines = Vec::new(alloc);

@@ -22,6 +22,7 @@ mod command;
 mod deletion;
 mod dump;
 mod edits;
+mod expect;
 mod fault;
 mod find;
 mod ids;
@@ -44,8 +45,9 @@ mod who;
 
 pub use asked::Asked;
 pub use carried::Carried;
+pub use expect::{LastAnswer, expects};
 pub use fault::{LineFault, Stop, line_of_fault};
-pub use ids::LINES;
+pub use ids::{LINES, tagged};
 pub use importing::import_line;
 pub use laws::{
     deletes_as_checked, lines_have_one_answer, no_command_without_an_id,

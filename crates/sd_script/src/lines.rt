@@ -1,5 +1,7 @@
 //! Lines that ask for nothing, and the words of a line.
-ghost use Rattle.std.specs.Prelude.{◌≡◌, ◌≤◌, length, IfOk};
+ghost use Rattle.std.specs.Prelude.{◌≡◌, ◌≤◌, ◌==◌, length, IfOk};
+ghost use Rattle.std.specs.List.{position_or_len};
+ghost use Rattle.sd_script.specs.Expect.{head_len};
 ghost use Rattle.sd_script.specs.Lines.{is_silent, wants_lines, word_len, words_of};
 ghost use Rattle.sd_answer.specs.Word.{texts};
 
@@ -33,9 +35,25 @@ pub(crate) fn word_len(line: &[u8]) -> usize
     ensures len { result ≡ word_len line.now }
     ensures within { result ≤ length line.now }
 {
-    match line.iter().position(|b| *b == b' ') {
+    len_before(b' ', line)
+}
+
+/// The bytes of the first word and of the space after it.
+pub(crate) fn head_len(line: &[u8]) -> usize
+    ensures len { result ≡ head_len line.now }
+    ensures within { result ≤ length line.now }
+{
+    line.len().min(word_len(line) + 1)
+}
+
+/// The bytes before the first one with this value, or all if there is none.
+pub(crate) fn len_before(end: u8, bytes: &[u8]) -> usize
+    ensures len { result ≡ position_or_len (λ b. b == end) bytes.now }
+    ensures within { result ≤ length bytes.now }
+{
+    match bytes.iter().position(|b| *b == end) {
         Some(len) => len,
-        None => line.len(),
+        None => bytes.len(),
     }
 }
 

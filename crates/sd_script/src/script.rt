@@ -1,13 +1,15 @@
 //! The whole output of a script.
 ghost use Rattle.std.specs.Prelude.{◌≡◌, ◌⊎◌, true, IfOk, OnErr, string_bytes};
-ghost use Rattle.sd_script.specs.Output.{IsAnswered, IsDone, IsMade, IsNext, IsTold, IsUnanswered, IsUntold};
-ghost use Rattle.sd_script.specs.Output.{PrintsAndCounts, is_open};
+ghost use Rattle.sd_script.specs.Expect.{last_after};
+ghost use Rattle.sd_script.specs.Output.{IsAnswered, IsAnsweredAfter, IsDone, IsMade, IsNext, IsTold, IsUnanswered};
+ghost use Rattle.sd_script.specs.Output.{IsUntold, PrintsAndCounts, is_open};
 ghost use Rattle.sd_script.specs.declared.asked.Asked.TheVariants.{Asking, Deleting, Explaining, Finding, Importing};
 ghost use Rattle.sd_script.specs.declared.asked.Asked.TheVariants.{Opening, Viewing};
 
 use crate::asked::Asked;
 use crate::carried::Carried;
 use crate::deletion::{DELETE, deletion_reply, parent_grants};
+use crate::expect::{LastAnswer, expect_line, expects};
 use crate::fault::{Stop, line_of_fault};
 use crate::find::found_reply;
 use crate::ids::{LINES, Script};
@@ -46,21 +48,46 @@ pub fn script_output(
 }
 
 /// What a line, without its end, is answered by: a line, or several, an empty one the last, or nothing where it is
-/// empty or begins with `#`. The line is counted. The only error is out of memory: then nothing has changed, or what
-/// the line asks for is done, without an answer.
+/// empty or begins with `#`. A line that expects an answer is answered by `ok`, or by `fault expect` if the first line
+/// of the last answer is another. The line is counted. The only error is out of memory: then nothing has changed, or
+/// what the line asks for is done, without an answer.
 pub fn answer_line(alloc: Global, carried: &mut Carried, line: &[u8]) -> Result<String, AllocError>
     ensures answered { IfOk result (λ text. IsNext carried.old line.now (string_bytes text) carried.new) }
     ensures failed { OnErr result (IsUnanswered carried.old line.now carried.new) }
 {
-    let answer = answer_in(alloc, &mut carried.session, line)?;
+    let answer = answer_after(alloc, &mut carried.session, &mut carried.last, line)?;
     carried.tally = carried.tally.with(line, answer.as_bytes());
     Ok(answer)
 }
 
-/// What a line is answered by where this stands.
-fn answer_in(alloc: Global, session: &mut Session, line: &[u8]) -> Result<String, AllocError>
+/// What a line is answered by where this stands, and this is the last answer.
+fn answer_after(
+    alloc: Global,
+    session: &mut Session,
+    last: &mut LastAnswer,
+    line: &[u8],
+) -> Result<String, AllocError>
+    ensures answered { IfOk result
+        (λ text. IsAnsweredAfter session.old last.old line.now (string_bytes text) session.new last.new) }
+    ensures failed { OnErr result ((last.new ≡ last.old) × IsUntold session.old line.now session.new) }
+{
+    if expects(line) {
+        String::from_str(alloc, expect_line(last.meets(line)))
+    } else {
+        answer_in(alloc, session, last, line)
+    }
+}
+
+/// What a line that expects nothing is answered by where this stands. Its answer is then the last.
+fn answer_in(
+    alloc: Global,
+    session: &mut Session,
+    last: &mut LastAnswer,
+    line: &[u8],
+) -> Result<String, AllocError>
     ensures answered { IfOk result (λ text. IsAnswered session.old line.now (string_bytes text) session.new) }
-    ensures failed { OnErr result (IsUntold session.old line.now session.new) }
+    ensures last { IfOk result (λ text. last.new ≡ last_after line.now (string_bytes text) last.old) }
+    ensures failed { OnErr result ((last.new ≡ last.old) × IsUntold session.old line.now session.new) }
 {
     if is_silent(line) {
         return Ok(String::new(alloc));
@@ -69,6 +96,7 @@ fn answer_in(alloc: Global, session: &mut Session, line: &[u8]) -> Result<String
     if wants_lines(line) {
         text.push_str("\n")?;
     }
+    *last = LastAnswer::of(alloc, text.as_bytes())?;
     Ok(text)
 }
 

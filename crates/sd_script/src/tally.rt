@@ -1,7 +1,9 @@
 //! What is counted of a script's lines, beside what they are answered by.
 ghost use Rattle.std.specs.Prelude.{◌≡◌};
-ghost use Rattle.sd_script.specs.Tally.{first_of, has_mark, no_lines, tallied, tells_difference, tells_fault};
-ghost use Rattle.sd_script.specs.Tally.{tells_order};
+ghost use Rattle.sd_script.specs.Tally.{first_of, has_mark, is_unmet, no_lines, one_more_where, tallied};
+ghost use Rattle.sd_script.specs.Tally.{tells_difference, tells_fault, tells_order};
+
+use crate::expect::expects;
 
 /// What is told of a script beside its output. Lines are counted from 1, as far as 64 bits count.
 #[derive(Clone, Copy, Debug, PartialEq, Eq)]
@@ -14,6 +16,12 @@ pub struct Tally {
     pub first_difference: Option<u64>,
     /// The first line by which a node was imported whose own entries were put in another order.
     pub first_reordered: Option<u64>,
+    /// How many lines expected an answer.
+    pub expected: u64,
+    /// How many of these weren't met.
+    pub unmet: u64,
+    /// The first of these.
+    pub first_unmet: Option<u64>,
     /// Whether the first line begins with UTF-8's byte order mark.
     pub begins_with_mark: bool,
 }
@@ -28,6 +36,9 @@ impl Tally {
             first_fault: None,
             first_difference: None,
             first_reordered: None,
+            expected: 0,
+            unmet: 0,
+            first_unmet: None,
             begins_with_mark: false,
         }
     }
@@ -37,13 +48,28 @@ impl Tally {
         ensures { result ≡ tallied line.now answer.now self }
     {
         let number = self.lines.saturating_add(1);
+        let is_unmet = is_unmet(line, answer);
         Tally {
             lines: number,
             first_fault: first_of(self.first_fault, tells_fault(answer), number),
             first_difference: first_of(self.first_difference, tells_difference(answer), number),
             first_reordered: first_of(self.first_reordered, tells_order(answer), number),
+            expected: one_more_where(expects(line), self.expected),
+            unmet: one_more_where(is_unmet, self.unmet),
+            first_unmet: first_of(self.first_unmet, is_unmet, number),
             begins_with_mark: self.begins_with_mark || (self.lines == 0 && has_mark(line)),
         }
+    }
+}
+
+/// One more where this holds, as far as 64 bits count.
+fn one_more_where(holds: bool, count: u64) -> u64
+    ensures { result ≡ one_more_where holds count }
+{
+    if holds {
+        count.saturating_add(1)
+    } else {
+        count
     }
 }
 
@@ -62,6 +88,13 @@ fn tells_fault(answer: &[u8]) -> bool
     ensures { result ≡ tells_fault answer.now }
 {
     answer.starts_with(b"fault ") || answer.starts_with(b"refused ")
+}
+
+/// Whether the line expects an answer, and isn't answered by it.
+fn is_unmet(line: &[u8], answer: &[u8]) -> bool
+    ensures { result ≡ is_unmet line.now answer.now }
+{
+    expects(line) && tells_fault(answer)
 }
 
 /// Whether the answer tells that an imported node inherits otherwise than it did.

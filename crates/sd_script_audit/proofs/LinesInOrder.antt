@@ -19,7 +19,7 @@ use Rattle.sd_store.specs.Sights.{StoreState}
 use Rattle.sd_store.specs.declared.query.Query.{Query}
 use Rattle.sd_script.specs.Importing.{IsImported}
 use Rattle.sd_script.specs.Lines.{is_silent}
-use Rattle.sd_script.specs.Output.{line_asks_in}
+use Rattle.sd_script.specs.Output.{is_open, line_asks_in, manner_of}
 use Rattle.sd_script.specs.Reply.{start_error_line}
 use Rattle.sd_script.specs.Tally.{tallied}
 use Rattle.sd_script.specs.declared.asked.Asked.{Asked}
@@ -31,12 +31,14 @@ use Rattle.sd_script.specs.declared.tally.Tally.{Tally}
 use Rattle.sd_script_audit.specs.Audit.{Audited, Progress, IsDoneInAudit, IsAnsweredInAudit, IsNextInAudit, AreAnsweredInAudit, unopened}
 use Rattle.sd_script_audit.specs.Parts.{IsOpenedAndAudited, OpensStore, machine_of}
 use Rattle.sd_script_audit.specs.declared.counted.Counted.{Counted}
+use Rattle.sd_script.proofs.NoId.{asks_and_expects_nothing}
 
 -- a line is answered as what it asks for is
 pub done_answers : {X E : Type 0} (bytes : X → List ℕ) (r : Result X E) (workers : ℕ) (old new : Progress) (line : List ℕ) (asked : Asked)
     → is_silent line ≡ false → line_asks_in old.store line (Ok asked)
     → IfOk r (λ text. IsDoneInAudit workers old asked (bytes text) new) → IfOk r (λ text. IsAnsweredInAudit workers old line (bytes text) new)
-done_answers bytes (Ok text) workers old new line asked loud asks done = rw loud (inl (asked, asks, done))
+done_answers bytes (Ok text) workers old new line asked loud asks done =
+    rw (loud, asks_and_expects_nothing (manner_of old.store).paths (is_open old.store) line asked asks) (inl (asked, asks, done))
 done_answers bytes (Err e) workers old new line asked loud asks done = tt
 
 -- an import is done as it is told
@@ -75,7 +77,8 @@ module _ (whole : List ℕ → Tally → Type 0) (manner : Manner) (workers : �
       → IsOpenedAndAudited manner workers root line after true now new → whole new.printed.items new.tally
   opened_whole rest after line root old now new so_far cut opens same held =
       let opened : Progress = record { store = Opened manner.paths held.1; queries = [] } in
-      let is : IsAnsweredInAudit workers (unopened manner) line held.0 opened = rw (opens.0) (inl (Opens opens.1.0 root, opens.1.1, (held.3, refl))) in
+      let none = asks_and_expects_nothing manner.paths false line (Opens opens.1.0 root) opens.1.1 in
+      let is : IsAnsweredInAudit workers (unopened manner) line held.0 opened = rw (opens.0, none) (inl (Opens opens.1.0 root, opens.1.1, (held.3, refl))) in
       let between : Audited = record { progress = opened; tally = tallied line held.0 now.tally } in
       let next : IsNextInAudit workers (before_opening manner old.tally) line held.0 between = record {
         answered = is;
@@ -90,9 +93,10 @@ module _ (whole : List ℕ → Tally → Type 0) (manner : Manner) (workers : �
       → IsOpenedAndAudited manner workers root line after false now new
       → (back : List ℕ) (tally : Tally) → AreAnsweredInAudit workers (before_opening manner new.tally) (lines after) back tally → whole (new.printed.items ++ back) tally
   opened_refused rest after line root old now new so_far cut opens same held =
+      let none = asks_and_expects_nothing manner.paths false line (Opens opens.1.0 root) opens.1.1 in
       more_answered rest after line (before_opening manner old.tally) (before_opening manner new.tally) old.printed.items held.0 new.printed.items so_far cut
       (record {
-        answered = rw (opens.0) (inl (Opens opens.1.0 root, opens.1.1, (held.1, refl)));
+        answered = rw (opens.0, none) (inl (Opens opens.1.0 root, opens.1.1, (held.1, refl)));
         counted = held.2 ∙ ap (λ (c : Counted). tallied line held.0 c.tally) same;
       })
       (held.3 ∙ ap (λ (c : Counted). c.printed.items ++ held.0) same)

@@ -19,6 +19,7 @@ use Rattle.sd_desk.specs.declared.start.StartError.{StartError}
 use Rattle.sd_desk.specs.declared.start.StartError.TheVariants as starts
 use Rattle.sd_store.specs.declared.query.Query.{Query}
 use Rattle.sd_script.specs.Command.{line_asks}
+use Rattle.sd_script.specs.Expect.{expects}
 use Rattle.sd_script.specs.Fault.{line_of_fault}
 use Rattle.sd_script.specs.Importing.{IsImported}
 use Rattle.sd_script.specs.Lines.{is_silent}
@@ -34,7 +35,7 @@ use Rattle.sd_script.specs.declared.tally.Tally.{Tally}
 use Rattle.sd_script.proofs.OneOutput.{no_error, edited, imported-one, outcome, one_step}
 use Rattle.sd_script.proofs.OneReading.{line-one}
 use Rattle.sd_script.proofs.Timely.{line_opens}
-use Rattle.sd_script_audit.specs.Audit.{Audited, Progress, IsDoneInAudit, IsAnsweredInAudit, AreAnsweredInAudit, IsEnd, answer_line, begun, last_publish, unopened}
+use Rattle.sd_script_audit.specs.Audit.{IsForScripts, Audited, Progress, IsDoneInAudit, IsAnsweredInAudit, AreAnsweredInAudit, IsEnd, answer_line, begun, last_publish, unopened}
 use Rattle.sd_script_audit.specs.Laws.{DifferInOpening, WorkersShowInTheOpening}
 
 -- ---- machines that differ in their readers alone
@@ -163,7 +164,7 @@ module _ (a b : Progress) (alike : AreAlike a b) where
 
 -- ---- lines
 
--- a line that isn't silent is answered
+-- a line that isn't silent, and expects nothing, is answered
 abbrev Loud : ℕ → Progress → List ℕ → List ℕ → Progress → Type 0
 Loud n a text p c =
     ((asked : Asked) × line_asks_in a.store text (Ok asked) × IsDoneInAudit n a asked p c)
@@ -202,10 +203,17 @@ module _ (n m : ℕ) (text : List ℕ) where
       let fault : one.0 ≡ other.0 = cc (same) in
       stay_alike a b alike (line_of_fault other.0) p q c d (one.2 ∙ ap line_of_fault fault, one.3) (other.2, other.3)
 
+  by_expectation : (expectation : Bool) (a b : Progress) (p q : List ℕ) (c d : Progress) → AreAlike a b
+      → MatchBool expectation (IsForScripts a p c) (Loud n a text p c) → MatchBool expectation (IsForScripts b q d) (Loud m b text q d)
+      → (p ≡ q) × AreAlike c d
+  by_expectation true a b p q c d alike one other = stay_alike a b alike _ p q c d one other
+  by_expectation false a b p q c d alike one other = loud_alike a b p q c d alike one other
+
   by_silence : (silent : Bool) (a b : Progress) (p q : List ℕ) (c d : Progress) → AreAlike a b
-      → MatchBool silent ((p ≡ []) × (c ≡ a)) (Loud n a text p c) → MatchBool silent ((q ≡ []) × (d ≡ b)) (Loud m b text q d) → (p ≡ q) × AreAlike c d
+      → MatchBool silent ((p ≡ []) × (c ≡ a)) (MatchBool (expects text) (IsForScripts a p c) (Loud n a text p c))
+      → MatchBool silent ((q ≡ []) × (d ≡ b)) (MatchBool (expects text) (IsForScripts b q d) (Loud m b text q d)) → (p ≡ q) × AreAlike c d
   by_silence true a b p q c d alike one other = stay_alike a b alike [] p q c d one other
-  by_silence false a b p q c d alike one other = loud_alike a b p q c d alike one other
+  by_silence false a b p q c d alike one other = by_expectation (expects text) a b p q c d alike one other
 
 abbrev end_of : Machine → List Query → List ℕ
 end_of x queries =
@@ -299,10 +307,18 @@ module _ (manner : Manner) (n m : ℕ) (some : IsReaderCount n) (others : IsRead
         let fault : one.0 ≡ other.0 = cc (same) in
         inl (one.2 ∙ ap line_of_fault fault ∙ sym other.2, one.3, other.3)
 
-    unopened_by_silence : (silent : Bool) (p q : List ℕ) (c d : Progress) → MatchBool silent ((p ≡ []) × (c ≡ unopened manner)) (Loud n (unopened manner) text p c)
-        → MatchBool silent ((q ≡ []) × (d ≡ unopened manner)) (Loud m (unopened manner) text q d) → Opened p q c d
+    unopened_by_expectation : (expectation : Bool) (p q : List ℕ) (c d : Progress)
+        → MatchBool expectation (IsForScripts (unopened manner) p c) (Loud n (unopened manner) text p c)
+        → MatchBool expectation (IsForScripts (unopened manner) q d) (Loud m (unopened manner) text q d) → Opened p q c d
+    unopened_by_expectation true p q c d one other = inl (one.0 ∙ sym other.0, one.1, other.1)
+    unopened_by_expectation false p q c d one other = loud_unopened p q c d one other
+
+    unopened_by_silence : (silent : Bool) (p q : List ℕ) (c d : Progress)
+        → MatchBool silent ((p ≡ []) × (c ≡ unopened manner)) (MatchBool (expects text) (IsForScripts (unopened manner) p c) (Loud n (unopened manner) text p c))
+        → MatchBool silent ((q ≡ []) × (d ≡ unopened manner)) (MatchBool (expects text) (IsForScripts (unopened manner) q d) (Loud m (unopened manner) text q d))
+        → Opened p q c d
     unopened_by_silence true p q c d one other = inl (one.0 ∙ sym other.0, one.1, other.1)
-    unopened_by_silence false p q c d one other = loud_unopened p q c d one other
+    unopened_by_silence false p q c d one other = unopened_by_expectation (expects text) p q c d one other
 
   -- a line in front of two outputs
   after_line : (first p q xs ys : List ℕ) → p ≡ first ++ xs → q ≡ first ++ ys → DifferInOpening n m xs ys → DifferInOpening n m p q

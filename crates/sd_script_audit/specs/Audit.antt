@@ -10,6 +10,7 @@ use Rattle.sd_desk.specs.declared.request.Request.TheVariants.{Check, Tell, Lear
 use Rattle.sd_store.specs.Audits.{reply_by}
 use Rattle.sd_store.specs.declared.query.Query.{Query}
 use Rattle.sd_answer.specs.Answer.{fault_line}
+use Rattle.sd_script.specs.Expect.{expects}
 use Rattle.sd_script.specs.Fault.{line_of_fault}
 use Rattle.sd_script.specs.Lines.{is_silent}
 use Rattle.sd_script.specs.Output.{IsDone, IsOpened, line_asks_in, manner_of}
@@ -58,12 +59,13 @@ IsDoneInAudit workers old (Deleting reader path token) printed new = IsForScript
 IsDoneInAudit workers old (Viewing view) printed new = IsForScripts old printed new
 IsDoneInAudit workers old asked printed new = IsDone old.store asked printed new.store × (new.queries ≡ old.queries)
 
--- a line is answered: by nothing, by what it asks for, or by its fault
+-- a line is answered: by nothing, by what it asks for, or by its fault. An answer is expected by scripts alone
 abbrev pub IsAnsweredInAudit : ℕ → Progress → List ℕ → List ℕ → Progress → Type 0
-IsAnsweredInAudit workers old line printed new = MatchBool (is_silent line)
-    ((printed ≡ []) × (new ≡ old))
+IsAnsweredInAudit workers old line printed new =
+    MatchBool (is_silent line) ((printed ≡ []) × (new ≡ old)) (MatchBool (expects line)
+    (IsForScripts old printed new)
     (((asked : Asked) × line_asks_in old.store line (Ok asked) × IsDoneInAudit workers old asked printed new)
-    ⊎ ((fault : LineFault) × line_asks_in old.store line (Err fault) × (printed ≡ line_of_fault fault) × (new ≡ old)))
+    ⊎ ((fault : LineFault) × line_asks_in old.store line (Err fault) × (printed ≡ line_of_fault fault) × (new ≡ old))))
 
 -- what a last publish prints, where edits wait
 abbrev pub last_publish : List Edit → ℕ → List ℕ

@@ -9,13 +9,13 @@ ghost use Rattle.std.specs.Str.Lines.{lines};
 
 use crate::answers::publish_and_answer;
 use crate::counted::Counted;
-use crate::queries::collect_queries;
+use crate::queries::{collect_queries, only_in_scripts};
 use sd_desk::StartError;
 use sd_history::Opened;
 use sd_lines::{Ending, first_line};
 use sd_script::{
-    Asked, Manner, PathSpelling, Stop, Tally, counted_line, is_silent, line_of_fault, read_line,
-    start_error_line,
+    Asked, Manner, PathSpelling, Stop, Tally, counted_line, expects, is_silent, line_of_fault,
+    read_line, start_error_line,
 };
 use sd_store::{Checker, Gate, Naming, StoreWriter, start};
 use sd_stream::RunError;
@@ -81,6 +81,11 @@ fn opened_root(
 {
     if is_silent(line) {
         counted.answer(line, b"".as_slice())?;
+        return Ok(None);
+    }
+    if expects(line) {
+        let answer = only_in_scripts(alloc)?;
+        counted.answer(line, answer.as_bytes())?;
         return Ok(None);
     }
     match read_line(alloc, manner.paths, false, line) {

@@ -17,7 +17,8 @@ use sd_answer::fault_line;
 use sd_desk::{Reply, Request};
 use sd_lines::{Ending, first_line};
 use sd_script::{
-    Asked, PathSpelling, Stop, import_line, is_silent, line_of_fault, read_line, reply_line,
+    Asked, PathSpelling, Stop, expects, import_line, is_silent, line_of_fault, read_line,
+    reply_line,
 };
 use sd_store::{EditError, Naming, PublishError, Query, StoreWriter};
 use sd_tree::{Edit, Entries, Path};
@@ -67,6 +68,9 @@ fn answer_line<J: Naming, T: Wait>(
 {
     if is_silent(line) {
         return Ok(String::new(alloc));
+    }
+    if expects(line) {
+        return only_in_scripts(alloc);
     }
     match read_line(alloc, paths, true, line) {
         Ok(Asked::Asking(request)) => answer_request(rt, alloc, writer, queries, request),
@@ -129,7 +133,7 @@ fn import<J: Naming>(
 }
 
 /// What is told of a command that only a script carries out.
-fn only_in_scripts(alloc: Global) -> Result<String, AllocError>
+pub(crate) fn only_in_scripts(alloc: Global) -> Result<String, AllocError>
     ensures { IfOk result (λ text. string_bytes text ≡ fault_line_of (codes "audit")) }
 {
     fault_line(alloc, "audit")

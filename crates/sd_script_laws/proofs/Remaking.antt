@@ -30,6 +30,7 @@ use Rattle.sd_script.specs.declared.manner.Manner.{Manner}
 use Rattle.sd_script.specs.declared.paths.PathSpelling.{PathSpelling}
 use Rattle.sd_script.specs.declared.session.Session.{Session}
 use Rattle.sd_script.specs.declared.session.Session.TheVariants.{Closed, Opened}
+use Rattle.sd_script.proofs.NoId.{asks_and_expects_nothing}
 use Rattle.sd_script.proofs.OneOutput.{has_one_answer}
 use Rattle.sd_script.proofs.Timely.{line_opens}
 use Rattle.sd_script_laws.specs.Laws.{Reaches, same_manner, IsSound, IsSameAgain, DumpMakesTheTreeAgain}
@@ -48,7 +49,13 @@ answers old new text told asked is done =
 -- and the rest of the lines behind it
 goes_on : (old between new : Session) (text told : List ℕ) (texts : List (List ℕ)) (asked : Asked) → IsAskedBy (manner_of old).paths (is_open old) text asked → IsDone old asked told between
     → Reaches between texts new → Reaches old (text ∷ texts) new
-goes_on old between new text told texts asked is done rest = (told ++ closing_of text, between, answers old between text told asked is done, rest)
+goes_on old between new text told texts asked is done rest = (
+  told ++ closing_of text,
+  between,
+  asks_and_expects_nothing (manner_of old).paths (is_open old) text asked is.1,
+  answers old between text told asked is done,
+  rest,
+)
 
 -- ---- the additions
 
@@ -126,8 +133,8 @@ lines_reach manner n row nodes (text ∷ texts) count fits lawful are =
 one_end : (old : Session) (texts : List (List ℕ)) (one other : Session) → Reaches old texts one → Reaches old texts other → one ≡ other
 one_end old [] one other first second = first ∙ sym second
 one_end old (text ∷ texts) one other first second =
-    let same = has_one_answer old text first.0 second.0 first.1 second.1 first.2 second.2 in
-    one_end second.1 texts one other (subst (λ between. Reaches between texts one) same.1 first.3) second.3
+    let same = has_one_answer old text first.0 second.0 first.1 second.1 first.3 second.3 in
+    one_end second.1 texts one other (subst (λ between. Reaches between texts one) same.1 first.4) second.4
 
 -- ---- the law
 

@@ -1,10 +1,11 @@
 -- What a dump is for: as a script it makes the published tree again.
-use Rattle.std.specs.Prelude.{◌≡◌, ◌≢◌, ℕ, List, [], ◌∷◌, length, None, codes}
+use Rattle.std.specs.Prelude.{◌≡◌, ◌≢◌, ℕ, false, List, [], ◌∷◌, length, None, codes}
 use Rattle.std.specs.Str.Lines.{lines}
 use Rattle.sd_tree.specs.Journal.{replay, root_refusal, IsLawful}
 use Rattle.sd_desk.specs.Machine.{Machine}
 use Rattle.sd_desk.specs.Starts.{IsReaderCount}
 use Rattle.sd_answer.specs.Answer.{fault_line}
+use Rattle.sd_script.specs.Expect.{expects}
 use Rattle.sd_script.specs.Output.{IsAnswered, IsDone}
 use Rattle.sd_script.specs.declared.asked.Asked.TheVariants.{Viewing}
 use Rattle.sd_script.specs.declared.manner.Manner.{Manner}
@@ -13,11 +14,12 @@ use Rattle.sd_script.specs.declared.session.Session.{Session}
 use Rattle.sd_script.specs.declared.session.Session.TheVariants.{Closed, Opened}
 use Rattle.sd_script.specs.declared.view.View.TheVariants.{Dump}
 
--- the lines are answered one after the other, and the session is then `new`
+-- the lines, which expect no answer, are answered one after the other, and the session is then `new`
 abbrev pub Reaches : Session → List (List ℕ) → Session → Type 0
 Reaches old [] new = new ≡ old
 Reaches old (line ∷ lines) new =
-    (printed : List ℕ) × (between : Session) × IsAnswered old line printed between × Reaches between lines new
+    (printed : List ℕ) × (between : Session) × (expects line ≡ false) × IsAnswered old line printed between
+    × Reaches between lines new
 
 -- a machine as each run of a store has one: 1 to 64 readers, an opening that isn't refused, and accepted edits
 pub record IsSound (m : Machine) : Type 0 where
