@@ -3,7 +3,6 @@ ghost use Rattle.std.specs.Prelude.{◌≡◌, ◌≤◌, ◌||◌, ◌++◌, tr
 ghost use Rattle.std.specs.Prelude.{option_map, string_bytes};
 ghost use Rattle.sd_lines.specs.Answers.{Prints};
 ghost use Rattle.sd_lines.specs.Output.{LeavesAnswers};
-ghost use Rattle.sd_script.specs.Ids.{tagged};
 ghost use Rattle.sd_stream.specs.Watched.{has_failed, inner_of};
 ghost use Rattle.sd_stream.specs.Whole.{is_read_error, is_write_error};
 ghost use Rattle.sd_commands.specs.Answer.{answer_of, is_refusal};
@@ -21,6 +20,7 @@ use crate::input::is_blank;
 use crate::options::Options;
 use sd_commands::{Answer, Outcome, fault, told_line};
 use sd_lines::{Answers, Ending, Form, answer_lines};
+use sd_script::tagged;
 use sd_stream::{RunError, Watched};
 use sd_usage::Question;
 use std::alloc::{AllocError, Global};
@@ -226,22 +226,6 @@ fn has_feed(key: &[u8]) -> bool
     ensures { result ≡ has_feed key.now }
 {
     key.iter().any(|byte| *byte == b'\n')
-}
-
-/// A text, each line of which begins with the tag.
-fn tagged(alloc: Global, tag: &[u8], text: &[u8]) -> Result<Vec<u8>, AllocError>
-    ensures { IfOk result (λ lines. lines.items ≡ tagged tag.now true text.now) }
-{
-    let mut lines = Vec::new(alloc);
-    let mut begins = true;
-    for byte in text {
-        if begins {
-            lines.extend_from_slice(tag)?;
-        }
-        lines.push(*byte)?;
-        begins = *byte == b'\n';
-    }
-    Ok(lines)
 }
 
 /// What follows each answer: an empty line, where an answer may have several lines.
