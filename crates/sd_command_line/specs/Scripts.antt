@@ -1,5 +1,5 @@
 -- What comes of a script beside its output: what standard error is told, and whether it did what was asked for.
-use Rattle.std.specs.Prelude.{◌≡◌, ◌⊎◌, ℕ, Bool, ◌&&◌, ◌||◌, is_some, List, [], ◌++◌, Option, Some, None}
+use Rattle.std.specs.Prelude.{◌≡◌, ◌⊎◌, ℕ, ◌==◌, Bool, ◌&&◌, ◌||◌, is_some, List, [], ◌++◌, Option, Some, None}
 use Rattle.std.specs.Prelude.{if◌then◌else◌, codes}
 use Rattle.std.specs.Fmt.{decimal}
 use Rattle.sd_script.specs.declared.manner.Manner.{Manner}
@@ -26,12 +26,20 @@ mark_note begins = if begins then told_line (codes "line 1") (codes "it begins w
 abbrev pub first_fault_under : Bool → Tally → Option ℕ
 first_fault_under strict tally = if strict then tally.first_fault else None
 
+-- how many answers were expected, how many weren't given, and the first line that expected one of these
+abbrev pub expect_note : (expected unmet : ℕ) → Option ℕ → List ℕ
+expect_note expected unmet None =
+    if expected == 0 then [] else told_line (codes "expect") (decimal expected ++ codes " expected, all met")
+expect_note expected unmet (Some number) = told_line (codes "expect") (decimal expected ++ codes " expected, "
+    ++ decimal unmet ++ codes " not met, the first in line " ++ decimal number)
+
 abbrev pub script_notes : Bool → Tally → List ℕ
 script_notes strict tally =
     mark_note tally.begins_with_mark
     ++ line_note (codes "the node inherits otherwise than its descriptor says") tally.first_difference
     ++ line_note (codes "the node's own entries are in canonical order now") tally.first_reordered
     ++ line_note (codes "a fault or a refusal") (first_fault_under strict tally)
+    ++ expect_note tally.expected tally.unmet tally.first_unmet
 
 -- nothing is told where memory for it was refused
 abbrev pub IsToldOfScript : Bool → Tally → List ℕ → Type 0
@@ -43,4 +51,4 @@ has_failed tally =
     is_some tally.first_fault || is_some tally.first_difference || is_some tally.first_reordered
 
 abbrev pub script_outcome : Bool → Tally → Outcome
-script_outcome strict tally = if strict && has_failed tally then Refused else Done
+script_outcome strict tally = if is_some tally.first_unmet || (strict && has_failed tally) then Refused else Done

@@ -1,15 +1,17 @@
 //! What comes of a script beside its output.
-ghost use Rattle.std.specs.Prelude.{◌≡◌, IfOk, string_bytes};
-ghost use Rattle.sd_command_line.specs.Scripts.{IsToldOfScript, first_fault_under, has_failed, line_note, mark_note};
-ghost use Rattle.sd_command_line.specs.Scripts.{script_notes, script_outcome};
+ghost use Rattle.std.specs.Prelude.{◌≡◌, ◌++◌, IfOk, codes, string_bytes};
+ghost use Rattle.std.specs.Fmt.{decimal};
+ghost use Rattle.sd_command_line.specs.Scripts.{IsToldOfScript, expect_note, first_fault_under, has_failed, line_note};
+ghost use Rattle.sd_command_line.specs.Scripts.{mark_note, script_notes, script_outcome};
 
 use sd_commands::{Outcome, told_line};
 use sd_script::Tally;
 use std::alloc::{AllocError, Global};
 
 /// What standard error says of a script: the byte order mark that it begins with; the first line whose node inherits
-/// otherwise than it did, and the first whose node's own entries were put in order; and where that is asked for, the
-/// first fault or refusal. Nothing, if out of memory for it: the output stands by then.
+/// otherwise than it did, and the first whose node's own entries were put in order; where that is asked for, the first
+/// fault or refusal; and how many answers were expected, and weren't given. Nothing, if out of memory for it: the
+/// output stands by then.
 pub(crate) fn told_of_script(alloc: Global, strict: bool, tally: &Tally) -> String
     ensures { IsToldOfScript strict tally.now (string_bytes result) }
 {
@@ -19,11 +21,12 @@ pub(crate) fn told_of_script(alloc: Global, strict: bool, tally: &Tally) -> Stri
     }
 }
 
-/// Whether the script did what was asked for.
+/// Whether the script did what was asked for: each answer that it expected was given, and where that is asked for no
+/// line had a fault, was refused or imported another node.
 pub(crate) fn script_outcome(strict: bool, tally: &Tally) -> Outcome
     ensures { result ≡ script_outcome strict tally.now }
 {
-    if strict && has_failed(tally) {
+    if tally.first_unmet.is_some() || (strict && has_failed(tally)) {
         Outcome::Refused
     } else {
         Outcome::Done
@@ -49,7 +52,8 @@ fn script_notes(alloc: Global, strict: bool, tally: &Tally) -> Result<String, Al
     let order = line_note(alloc, what, tally.first_reordered)?;
     let fault = first_fault_under(strict, tally);
     let fault = line_note(alloc, "a fault or a refusal", fault)?;
-    let text = format!(in alloc; "{mark}{difference}{order}{fault}")?;
+    let expectations = expect_note(alloc, tally.expected, tally.unmet, tally.first_unmet)?;
+    let text = format!(in alloc; "{mark}{difference}{order}{fault}{expectations}")?;
     Ok(text)
 }
 
@@ -71,6 +75,36 @@ fn line_note(alloc: Global, what: &str, line: Option<u64>) -> Result<String, All
             told_line(alloc, argument.as_str(), what)
         }
     }
+}
+
+/// How many answers were expected, how many weren't given, and the first line that expected one of these.
+fn expect_note(
+    alloc: Global,
+    expected: u64,
+    unmet: u64,
+    first: Option<u64>,
+) -> Result<String, AllocError>
+    ensures { IfOk result (λ text. string_bytes text ≡ expect_note expected unmet first) }
+{
+    match first {
+        None if expected == 0 => Ok(String::new(alloc)),
+        None => {
+            let what = format!(in alloc; "{expected} expected, all met")?;
+            told_line(alloc, "expect", what.as_str())
+        }
+        Some(line) => {
+            let what = unmet_text(alloc, expected, unmet, line)?;
+            told_line(alloc, "expect", what.as_str())
+        }
+    }
+}
+
+fn unmet_text(alloc: Global, expected: u64, unmet: u64, line: u64) -> Result<String, AllocError>
+    ensures { IfOk result (λ text. string_bytes text ≡ decimal expected ++ codes " expected, " ++ decimal unmet
+        ++ codes " not met, the first in line " ++ decimal line) }
+{
+    let text = format!(in alloc; "{expected} expected, {unmet} not met, the first in line {line}")?;
+    Ok(text)
 }
 
 fn mark_note(alloc: Global, begins: bool) -> Result<String, AllocError>
