@@ -1,7 +1,8 @@
 -- The proofs of the laws.
-use Rattle.std.proofs.Common.{◌≡◌, ◌∙◌, ◌+◌, ℕ, suc, List, [], ◌∷◌, length, Bool, true, false, Option, Some, None, ap, codes, refl, subst, sym, arith}
+use Rattle.std.proofs.Common.{◌≡◌, ◌∙◌, ◌+◌, ℕ, suc, List, [], ◌∷◌, length, Bool, true, false, Option, Some, None, Result, Ok, Err, ap, codes, refl, subst, sym, arith}
 use Rattle.std.proofs.lemmas.Bool.{le-leb}
-use Rattle.std.specs.Prelude.{is_some, option_map, option_and_then, if◌then◌else◌}
+use Rattle.std.specs.Prelude.{is_some, if◌then◌else◌, ok_or}
+use Rattle.std.specs.Result.{result_ok}
 use Rattle.std.specs.Borrow.{Bor}
 use Rattle.sd_usage.specs.Table.{command_named, count_of, flag_named, option_named, takes_count}
 use Rattle.sd_usage.specs.declared.row.CommandName.{CommandName}
@@ -10,101 +11,104 @@ use Rattle.sd_usage.specs.declared.row.Command.{Command}
 use Rattle.sd_usage.specs.declared.row.Flag.{Flag}
 use Rattle.sd_usage.specs.declared.row.Question.{Question}
 use Rattle.sd_usage.specs.declared.row.Question.TheVariants as questions
-use Rattle.sd_command_line.specs.CommandLine.{AskedValue, InvocationValue, RequestValue, Ask, AskInput, Audit, Each, Help, Script, Serve, Version, after_options, arguments_in, asked_by, asked_with, command_in, each_in, input_request, line_request, request_after, request_by, request_on, with_options, workers_of}
+use Rattle.sd_command_line.specs.CommandLine.{AskedValue, CommandLineValue, InvocationValue, RequestValue, Ask, AskInput, Audit, Each, Help, Script, Serve, Version, after_options, arguments_in, asked_by, asked_with, command_in, each_in, input_request, line_request, miscounted, no_command, reading, request_after, request_by, request_on, with_options, workers_of}
 use Rattle.sd_command_line.specs.Laws.{is_shown, shows, EachAsksTheCommand, InputAsksTheCommand, HelpStandsAlone, DashesKeepTexts, DashesKeepTextsOfWhy, OptionsKeepTexts}
 use Rattle.sd_command_line.specs.Flags.{flags_in, is_given, lines_by, no_flags, with_flag}
+use Rattle.sd_command_line.specs.Mistake.{map_read, then_read}
 use Rattle.sd_command_line.specs.declared.flags.GivenFlags.{GivenFlags}
 use Rattle.sd_command_line.specs.declared.flags.Lines.{Lines}
-use Rattle.sd_command_line.specs.Options.{OptionsValue, is_from_input, no_options, options_in, suits}
+use Rattle.sd_command_line.specs.declared.mistake.Mistake.{Mistake}
+use Rattle.sd_command_line.specs.Options.{OptionsValue, is_from_input, misplaced_in, no_options, options_in}
 
-abbrev some_shown : Option AskedValue → Bool
-some_shown None = false
-some_shown (Some asked) = is_shown asked.invocation
+abbrev some_shown : Result AskedValue Mistake → Bool
+some_shown (Err mistake) = false
+some_shown (Ok asked) = is_shown asked.invocation
 
-abbrev asks : Command → InvocationValue → AskedValue
-asks command invocation = record { command = command; invocation = invocation }
+abbrev line_shown : Result CommandLineValue Mistake → Bool
+line_shown read = shows (result_ok read)
+
+abbrev asks : Command → ℕ → InvocationValue → AskedValue
+asks command named invocation = record { command = command; named = named; invocation = invocation }
 
 -- where a test decides whether something is asked for, it is no help if that isn't
-tested_runs : (test : Bool) (asked : Option AskedValue) → (some_shown asked ≡ true → ⊥)
-    → some_shown (if test then asked else None) ≡ true → ⊥
-tested_runs true asked none h = none h
-tested_runs false asked none h = cc
+tested_runs : (test : Bool) (asked : Result AskedValue Mistake) (mistake : Mistake) → (some_shown asked ≡ true → ⊥)
+    → some_shown (if test then asked else Err mistake) ≡ true → ⊥
+tested_runs true asked mistake none h = none h
+tested_runs false asked mistake none h = cc
 
 -- what is asked of a text is neither help nor the version
-request_runs_so : (Invoked : RequestValue → InvocationValue) (command : Command) (request : Option RequestValue)
+request_runs_so : (Invoked : RequestValue → InvocationValue) (command : Command) (named : ℕ) (request : Result RequestValue Mistake)
     → ((given : RequestValue) → is_shown (Invoked given) ≡ true → ⊥)
-    → some_shown (option_map (λ (given : RequestValue). asks command (Invoked given)) request) ≡ true → ⊥
-request_runs_so Invoked command None runs h = cc
-request_runs_so Invoked command (Some request) runs h = runs request h
+    → some_shown (map_read (λ (given : RequestValue). asks command named (Invoked given)) request) ≡ true → ⊥
+request_runs_so Invoked command named (Err mistake) runs h = cc
+request_runs_so Invoked command named (Ok request) runs h = runs request h
 
-input_runs : (command : Command) (arguments : List (Bor (List ℕ))) → some_shown (input_request command arguments) ≡ true → ⊥
-input_runs command arguments h =
-    request_runs_so AskInput command (request_after command.name command arguments) (λ given shown. cc (shown)) h
+input_runs : (command : Command) (named : ℕ) (arguments : List (Bor (List ℕ))) → some_shown (input_request command named arguments) ≡ true → ⊥
+input_runs command named arguments h =
+    request_runs_so AskInput command named (request_after command.name command named arguments) (λ given shown. cc (shown)) h
 
-named_line_runs : (found : Option Command) (lines : Lines) (arguments : List (Bor (List ℕ)))
-    → some_shown (option_and_then (λ (c : Command). line_request c lines arguments) found) ≡ true → ⊥
-named_line_runs None lines arguments h = cc
-named_line_runs (Some command) lines arguments h =
-    request_runs_so (Each lines) command (request_after command.name command arguments) (λ given shown. cc (shown)) h
+line_runs : (command : Command) (named : ℕ) (lines : Lines) (arguments : List (Bor (List ℕ))) → some_shown (line_request command named lines arguments) ≡ true → ⊥
+line_runs command named lines arguments h =
+    request_runs_so (Each lines) command named (request_after command.name command named arguments) (λ given shown. cc (shown)) h
+
+-- nor is what a command asks for that is named, where it isn't
+named_runs : (found : Option Command) (mistake : Mistake) (asked : Command → Result AskedValue Mistake)
+    → ((command : Command) → some_shown (asked command) ≡ true → ⊥)
+    → some_shown (then_read asked (ok_or found mistake)) ≡ true → ⊥
+named_runs None mistake asked runs h = cc
+named_runs (Some command) mistake asked runs h = runs command h
 
 each_runs : (lines : Lines) (words : List (Bor (List ℕ))) → some_shown (each_in lines words) ≡ true → ⊥
 each_runs lines [] h = cc
-each_runs lines (word ∷ words) h = named_line_runs (command_named word.now) lines (arguments_in words) h
+each_runs lines (word ∷ words) h = named_runs (command_named word.now) _ _ (λ command. line_runs command (length (word ∷ words)) lines (arguments_in words)) h
 
 -- nor is an audit, whatever its number
-audit_runs : (command : Command) (workers : Option ℕ)
-    → some_shown (option_map (λ n. record { command = command; invocation = Audit n }) workers) ≡ true → ⊥
-audit_runs command (Some n) h = cc
-audit_runs command None h = cc
+audit_runs : (command : Command) (named : ℕ) (workers : Option ℕ) (mistake : Mistake)
+    → some_shown (map_read (λ n. asks command named (Audit n)) (ok_or workers mistake)) ≡ true → ⊥
+audit_runs command named (Some n) mistake h = cc
+audit_runs command named None mistake h = cc
 
 -- nor another command
-request_runs : (name : CommandName) (command : Command) (given : GivenFlags) (arguments : List (Bor (List ℕ)))
-    → some_shown (request_by name command given arguments) ≡ true → ⊥
-request_runs (names.Ask question) command given [] h = cc
-request_runs (names.Ask question) command given (text ∷ arguments) h = cc
-request_runs names.Script command given arguments h = cc
-request_runs names.Serve command given arguments h = cc
-request_runs names.Audit command given [] h = cc
-request_runs names.Audit command given (workers ∷ arguments) h = audit_runs command (workers_of workers.now) h
-request_runs names.Each command given arguments h = each_runs (lines_by given) arguments h
+request_runs : (name : CommandName) (command : Command) (named : ℕ) (given : GivenFlags) (arguments : List (Bor (List ℕ)))
+    → some_shown (request_by name command named given arguments) ≡ true → ⊥
+request_runs (names.Ask question) command named given [] h = cc
+request_runs (names.Ask question) command named given (text ∷ arguments) h = cc
+request_runs names.Script command named given arguments h = cc
+request_runs names.Serve command named given arguments h = cc
+request_runs names.Audit command named given [] h = cc
+request_runs names.Audit command named given (workers ∷ arguments) h = audit_runs command named (workers_of workers.now) _ h
+request_runs names.Each command named given arguments h = each_runs (lines_by given) arguments h
 
-request_on_runs : (command : Command) (given : GivenFlags) (arguments : List (Bor (List ℕ)))
-    → some_shown (request_on command given arguments) ≡ true → ⊥
-request_on_runs command given arguments h =
-    tested_runs (takes_count command (length arguments)) (request_by command.name command given arguments)
-    (request_runs command.name command given arguments) h
-
-asked_with_runs : (from_input : Bool) (command : Command) (read : GivenFlags × List (Bor (List ℕ)))
-    → some_shown (asked_with from_input command read) ≡ true → ⊥
-asked_with_runs true command (given, words) h = input_runs command (arguments_in words) h
-asked_with_runs false command (given, words) h = request_on_runs command given (arguments_in words) h
-
-asked_by_runs : (from_input : Bool) (command : Command) (words : List (Bor (List ℕ)))
-    → some_shown (asked_by from_input command words) ≡ true → ⊥
-asked_by_runs from_input command words h = asked_with_runs from_input command (flags_in command no_flags words) h
-
-named_runs : (from_input : Bool) (found : Option Command) (words : List (Bor (List ℕ)))
-    → some_shown (option_and_then (λ (c : Command). asked_by from_input c words) found) ≡ true → ⊥
-named_runs from_input None words h = cc
-named_runs from_input (Some command) words h = asked_by_runs from_input command words h
+asked_with_runs : (from_input : Bool) (command : Command) (named : ℕ) (read : GivenFlags × List (Bor (List ℕ)))
+    → some_shown (asked_with from_input command named read) ≡ true → ⊥
+asked_with_runs true command named (given, words) h = input_runs command named (arguments_in words) h
+asked_with_runs false command named (given, words) h =
+    tested_runs (takes_count command (length (arguments_in words))) (request_by command.name command named given (arguments_in words)) _
+    (request_runs command.name command named given (arguments_in words)) h
 
 command_runs : (from_input : Bool) (words : List (Bor (List ℕ))) → some_shown (command_in from_input words) ≡ true → ⊥
 command_runs from_input [] h = cc
-command_runs from_input (word ∷ words) h = named_runs from_input (command_named word.now) words h
+command_runs from_input (word ∷ words) h =
+    named_runs (command_named word.now) _ _ (λ command. asked_with_runs from_input command (length (word ∷ words)) (flags_in command no_flags words)) h
 
 -- nor is what follows options
-shown_or_not : (asked : Option AskedValue) (options : OptionsValue)
-    → (some_shown asked ≡ true → ⊥) → shows (option_and_then (with_options options) asked) ≡ true → ⊥
-shown_or_not None options none h = cc
-shown_or_not (Some asked) options none h = by_test (suits asked.command options) h where
-  by_test : (test : Bool) → shows (if test then Some (record { options = options; invocation = asked.invocation }) else None) ≡ true → ⊥
-  by_test true h = none h
-  by_test false h = cc
+shown_or_not : (asked : Result AskedValue Mistake) (options : OptionsValue) (words : List (Bor (List ℕ)))
+    → (some_shown asked ≡ true → ⊥) → line_shown (then_read (with_options options words) asked) ≡ true → ⊥
+shown_or_not (Err mistake) options words none h = cc
+shown_or_not (Ok asked) options words none h = by_test (misplaced_in asked.command asked.named options words) h where
+  by_test : (test : Option Mistake)
+      → line_shown (elim test [
+        | Some mistake ↦ Err mistake
+        | None ↦ Ok (record { options = options; invocation = asked.invocation })
+      ]) ≡ true → ⊥
+  by_test None h = none h
+  by_test (Some mistake) h = cc
 
-options_run : (read : Option (OptionsValue × List (Bor (List ℕ)))) → shows (option_and_then after_options read) ≡ true → ⊥
-options_run None h = cc
-options_run (Some (options, words)) h =
-    shown_or_not (command_in (is_from_input options) words) options (command_runs (is_from_input options) words) h
+options_run : (words : List (Bor (List ℕ))) (read : Result (OptionsValue × List (Bor (List ℕ))) Mistake)
+    → line_shown (then_read (after_options words) read) ≡ true → ⊥
+options_run words (Err mistake) h = cc
+options_run words (Ok (options, rest)) h =
+    shown_or_not (command_in (is_from_input options) rest) options words (command_runs (is_from_input options) rest) h
 
 pub help_stands_alone : HelpStandsAlone
 help_stands_alone [] h = omega arith
@@ -112,26 +116,27 @@ help_stands_alone (name ∷ []) h = omega arith
 help_stands_alone (name ∷ word ∷ []) h = omega arith
 help_stands_alone (name ∷ word ∷ next ∷ []) h = omega arith
 help_stands_alone (name ∷ word ∷ next ∷ other ∷ words) h =
-    absurd (options_run (options_in no_options (word ∷ next ∷ other ∷ words)) h)
+    absurd (options_run (word ∷ next ∷ other ∷ words) (options_in no_options (word ∷ next ∷ other ∷ words)) h)
 
 -- ---- texts after dashes
 
 -- a first `--` is dropped
-after_dashes : (command : Command) (dashes : Bor (List ℕ)) (rest : List (Bor (List ℕ)))
+after_dashes : (command : Command) (named : ℕ) (dashes : Bor (List ℕ)) (rest : List (Bor (List ℕ)))
     → flag_named command dashes.now ≡ None → dashes.now ≡ codes "--"
-    → asked_by false command (dashes ∷ rest) ≡ request_on command no_flags rest
-after_dashes command dashes rest plain dash =
-    subst (λ (found : Option Flag). asked_with false command
+    → asked_by false command named (dashes ∷ rest) ≡ request_on command named no_flags rest
+after_dashes command named dashes rest plain dash =
+    subst (λ (found : Option Flag). asked_with false command named
     (elim found [
       | Some flag ↦ if is_given no_flags flag then (no_flags, dashes ∷ rest)
           else flags_in command (with_flag no_flags flag) rest
       | None ↦ (no_flags, dashes ∷ rest)
-    ]) ≡ request_on command no_flags rest) (sym plain) (rw dash refl)
+    ]) ≡ request_on command named no_flags rest) (sym plain) (rw dash refl)
 
 -- as many arguments as a command takes
-taken : (command : Command) (rest : List (Bor (List ℕ)))
-    → takes_count command (length rest) ≡ true → request_on command no_flags rest ≡ request_by command.name command no_flags rest
-taken command rest takes = rw takes refl
+taken : (command : Command) (named : ℕ) (rest : List (Bor (List ℕ)))
+    → takes_count command (length rest) ≡ true
+    → request_on command named no_flags rest ≡ request_by command.name command named no_flags rest
+taken command named rest takes = rw takes refl
 
 three_or_more : (command : Command) (sddl user mask : Bor (List ℕ)) (words : List (Bor (List ℕ)))
     → count_of command.arguments ≡ 3 → is_some command.repeated ≡ true
@@ -139,47 +144,71 @@ three_or_more : (command : Command) (sddl user mask : Bor (List ℕ)) (words : L
 three_or_more command sddl user mask words count more =
     rw (count, more, le-leb 3 (length (sddl ∷ user ∷ mask ∷ words)) (omega arith)) refl
 
-asked_of_three : (question : Question) (command : Command) (sddl : Bor (List ℕ)) (arguments : List (Bor (List ℕ)))
+asked_of_three : (question : Question) (command : Command) (named : ℕ) (sddl : Bor (List ℕ)) (arguments : List (Bor (List ℕ)))
     → command.name ≡ names.Ask question
-    → request_by command.name command no_flags (sddl ∷ arguments)
-    ≡ Some (asks command (Ask sddl.now (record { question = question; arguments = arguments })))
-asked_of_three question command sddl arguments named = rw named refl
+    → request_by command.name command named no_flags (sddl ∷ arguments)
+    ≡ Ok (asks command named (Ask sddl.now (record { question = question; arguments = arguments })))
+asked_of_three question command named sddl arguments is = rw is refl
 
-goes_before : (command : Command) (options : OptionsValue) (invocation : InvocationValue) → suits command options ≡ true
-    → with_options options (asks command invocation) ≡ Some (record { options = options; invocation = invocation })
-goes_before command options invocation fits = rw fits refl
+goes_before : (command : Command) (named : ℕ) (options : OptionsValue) (all : List (Bor (List ℕ))) (invocation : InvocationValue)
+    → misplaced_in command named options all ≡ None
+    → with_options options all (asks command named invocation) ≡ Ok (record { options = options; invocation = invocation })
+goes_before command named options all invocation fits =
+    subst (λ (found : Option Mistake). ◌≡◌ {A = Result CommandLineValue Mistake} (elim found [
+      | Some wrong ↦ Err wrong
+      | None ↦ Ok (record { options = options; invocation = invocation })
+    ]) (Ok (record { options = options; invocation = invocation }))) (sym fits) refl
 
 -- a command with a descriptor, a user, a mask and words, after options that it takes
-keeps : (question : Question) (command : Command) (options : OptionsValue) (found : Option Command)
-    (dashes sddl user mask : Bor (List ℕ)) (words : List (Bor (List ℕ)))
+keeps : (question : Question) (command : Command) (options : OptionsValue) (found : Option Command) (mistake : Mistake)
+    (all : List (Bor (List ℕ))) (named : ℕ) (dashes sddl user mask : Bor (List ℕ)) (words : List (Bor (List ℕ)))
     → found ≡ Some command → command.name ≡ names.Ask question → flag_named command dashes.now ≡ None
-    → count_of command.arguments ≡ 3 → is_some command.repeated ≡ true → suits command options ≡ true
+    → count_of command.arguments ≡ 3 → is_some command.repeated ≡ true → misplaced_in command named options all ≡ None
     → dashes.now ≡ codes "--"
-    → option_and_then (with_options options) (option_and_then (λ (c : Command). asked_by false c (dashes ∷ sddl ∷ user ∷ mask ∷ words)) found)
+    → result_ok (then_read (with_options options all) (then_read (λ (c : Command). asked_by false c named (dashes ∷ sddl ∷ user ∷ mask ∷ words)) (ok_or found mistake)))
     ≡ Some (record { options = options; invocation = Ask sddl.now (record { question = question; arguments = user ∷ mask ∷ words }) })
-keeps question command options found dashes sddl user mask words is named plain count more fits dash =
-    ap (option_and_then (with_options options))
-    (ap (option_and_then (λ (c : Command). asked_by false c (dashes ∷ sddl ∷ user ∷ mask ∷ words))) is
-    ∙ after_dashes command dashes (sddl ∷ user ∷ mask ∷ words) plain dash
-    ∙ taken command (sddl ∷ user ∷ mask ∷ words) (three_or_more command sddl user mask words count more)
-    ∙ asked_of_three question command sddl (user ∷ mask ∷ words) named)
-    ∙ goes_before command options (Ask sddl.now (record { question = question; arguments = user ∷ mask ∷ words })) fits
+keeps question command options found mistake all named dashes sddl user mask words is asked plain count more fits dash =
+    ap result_ok (ap (then_read (with_options options all))
+    (ap (λ (f : Option Command). then_read (λ (c : Command). asked_by false c named (dashes ∷ sddl ∷ user ∷ mask ∷ words)) (ok_or f mistake)) is
+    ∙ after_dashes command named dashes (sddl ∷ user ∷ mask ∷ words) plain dash
+    ∙ taken command named (sddl ∷ user ∷ mask ∷ words) (three_or_more command sddl user mask words count more)
+    ∙ asked_of_three question command named sddl (user ∷ mask ∷ words) asked)
+    ∙ goes_before command named options all (Ask sddl.now (record { question = question; arguments = user ∷ mask ∷ words })) fits)
+
+-- what holds of a word with this text holds of each that has it
+of_text : (Holds : Bor (List ℕ) → Type 0) (word : Bor (List ℕ)) (text : List ℕ) → word.now ≡ text → Holds (record word { now = text }) → Holds word
+of_text Holds word text is holds = subst (λ now. Holds (record word { now = now })) (sym is) holds
+
+abbrev Reads : Question → OptionsValue → List ℕ → List (Bor (List ℕ)) → List (Bor (List ℕ)) → Type 0
+Reads question options text arguments all =
+    reading all ≡ Some (record { options = options; invocation = Ask text (record { question = question; arguments = arguments }) })
 
 pub dashes_keep_texts : DashesKeepTexts
-unfolding command_named option_named suits
+unfolding command_named option_named
 dashes_keep_texts name word dashes sddl user mask words verdict dash =
-    rw verdict (keeps questions.Verdict _ no_options (command_named (codes "verdict")) dashes sddl user mask words refl refl refl refl refl refl dash)
+    of_text (λ w. Reads questions.Verdict no_options sddl.now (user ∷ mask ∷ words) (name ∷ w ∷ dashes ∷ sddl ∷ user ∷ mask ∷ words)) word (codes "verdict") verdict
+    (keeps questions.Verdict _ no_options (command_named (codes "verdict")) (no_command []) (record word { now = codes "verdict" } ∷ dashes ∷ sddl ∷ user ∷ mask ∷ words) _
+    dashes sddl user mask words refl refl refl refl refl refl dash)
 
 pub dashes_keep_texts_of_why : DashesKeepTextsOfWhy
-unfolding command_named option_named suits
+unfolding command_named option_named
 dashes_keep_texts_of_why name word dashes sddl user mask words why dash =
-    rw why (keeps questions.Why _ no_options (command_named (codes "why")) dashes sddl user mask words refl refl refl refl refl refl dash)
+    of_text (λ w. Reads questions.Why no_options sddl.now (user ∷ mask ∷ words) (name ∷ w ∷ dashes ∷ sddl ∷ user ∷ mask ∷ words)) word (codes "why") why
+    (keeps questions.Why _ no_options (command_named (codes "why")) (no_command []) (record word { now = codes "why" } ∷ dashes ∷ sddl ∷ user ∷ mask ∷ words) _
+    dashes sddl user mask words refl refl refl refl refl refl dash)
 
 pub options_keep_texts : OptionsKeepTexts
-unfolding command_named option_named suits
+unfolding command_named option_named
 options_keep_texts name option domain sid word dashes sddl user mask words names in_domain why dash =
-    rw (names, in_domain, why, why) (keeps questions.Why _ (record no_options { names = Some []; domain = Some sid.now })
-    (command_named (codes "why")) dashes sddl user mask words refl refl refl refl refl refl dash)
+    let options = record no_options { names = Some []; domain = Some sid.now } in
+    let Goal = Reads questions.Why options sddl.now (user ∷ mask ∷ words) in
+    let rest = dashes ∷ sddl ∷ user ∷ mask ∷ words in
+    of_text (λ o. Goal (name ∷ o ∷ domain ∷ sid ∷ word ∷ rest)) option (codes "--names") names
+    (of_text (λ d. Goal (name ∷ record option { now = codes "--names" } ∷ d ∷ sid ∷ word ∷ rest)) domain (codes "--domain") in_domain
+    (of_text (λ w. Goal (name ∷ record option { now = codes "--names" } ∷ record domain { now = codes "--domain" } ∷ sid ∷ w ∷ rest)) word (codes "why") why
+    (keeps questions.Why _ options (command_named (codes "why")) (no_command [])
+    (record option { now = codes "--names" } ∷ record domain { now = codes "--domain" } ∷ sid ∷ record word { now = codes "why" } ∷ rest) _
+    dashes sddl user mask words refl refl refl refl refl refl dash)))
 
 -- ---- what is asked of a text
 
@@ -194,52 +223,54 @@ request_in other (Each lines request) = request
 request_in other (Help command) = other
 request_in other Version = other
 
-abbrev request_of_asked : RequestValue → Option AskedValue → RequestValue
-request_of_asked other None = other
-request_of_asked other (Some asked) = request_in other asked.invocation
+abbrev request_of_asked : RequestValue → Result AskedValue Mistake → RequestValue
+request_of_asked other (Err mistake) = other
+request_of_asked other (Ok asked) = request_in other asked.invocation
 
 -- a command that asks this of a text which the arguments follow asks the same with the text before them
-by_test : (test : Bool) (command : Command) (text : List ℕ) (given request : RequestValue)
-    → (if test then Some given else None) ≡ Some request
-    → (if test then Some (asks command (Ask text given)) else None) ≡ Some (asks command (Ask text request))
-by_test true command text given request is = cc
-by_test false command text given request is = cc
+by_test : (test : Bool) (command : Command) (named : ℕ) (text : List ℕ) (given request : RequestValue) (mistake : Mistake)
+    → (if test then Ok given else Err mistake) ≡ Ok request
+    → (if test then Ok (asks command named (Ask text given)) else Err mistake) ≡ Ok (asks command named (Ask text request))
+by_test true command named text given request mistake is = cc
+by_test false command named text given request mistake is = cc
 
-by_command : (name : CommandName) (command : Command) (given : GivenFlags) (text : Bor (List ℕ))
+by_command : (name : CommandName) (command : Command) (named : ℕ) (given : GivenFlags) (text : Bor (List ℕ))
     (arguments : List (Bor (List ℕ))) (request : RequestValue)
-    → request_after name command arguments ≡ Some request
-    → (if takes_count command (length (text ∷ arguments)) then request_by name command given (text ∷ arguments) else None)
-    ≡ Some (asks command (Ask text.now request))
-by_command (names.Ask question) command given text arguments request is =
-    let more : length arguments + 1 ≡ suc (length arguments) = omega arith in
-    subst (λ n. (if takes_count command n then request_by (names.Ask question) command given (text ∷ arguments) else None)
-    ≡ Some (asks command (Ask text.now request))) more
-    (by_test (takes_count command (length arguments + 1)) command text.now
-    (record { question = question; arguments = arguments }) request is)
-by_command names.Script command given text arguments request is = cc
-by_command names.Serve command given text arguments request is = cc
-by_command names.Audit command given text arguments request is = cc
-by_command names.Each command given text arguments request is = cc
+    → request_after name command named arguments ≡ Ok request
+    → (if takes_count command (length (text ∷ arguments)) then request_by name command named given (text ∷ arguments)
+    else Err (miscounted command named (length (text ∷ arguments))))
+    ≡ Ok (asks command named (Ask text.now request))
+by_command (names.Ask question) command named given text arguments request is =
+    let more : 1 + length arguments ≡ suc (length arguments) = omega arith in
+    subst (λ n. (if takes_count command n then request_by (names.Ask question) command named given (text ∷ arguments)
+      else Err (miscounted command named n))
+    ≡ Ok (asks command named (Ask text.now request))) more
+    (by_test (takes_count command (1 + length arguments)) command named text.now
+    (record { question = question; arguments = arguments }) request _ is)
+by_command names.Script command named given text arguments request is = cc
+by_command names.Serve command named given text arguments request is = cc
+by_command names.Audit command named given text arguments request is = cc
+by_command names.Each command named given text arguments request is = cc
 
 -- what is asked of each line, and of the input
-each_request : (command : Command) (lines : Lines) (given : Option RequestValue) (request : RequestValue)
-    → option_map (λ (r : RequestValue). asks command (Each lines r)) given ≡ Some (asks command (Each lines request))
-    → given ≡ Some request
-each_request command lines None request is = cc
-each_request command lines (Some given) request is = ap Some (ap (request_of_asked given) is)
+each_request : (command : Command) (named : ℕ) (lines : Lines) (given : Result RequestValue Mistake) (request : RequestValue)
+    → map_read (λ (r : RequestValue). asks command named (Each lines r)) given ≡ Ok (asks command named (Each lines request))
+    → given ≡ Ok request
+each_request command named lines (Err mistake) request is = cc
+each_request command named lines (Ok given) request is = ap Ok (ap (request_of_asked given) is)
 
 pub each_asks_the_command : EachAsksTheCommand
-each_asks_the_command command lines given line arguments request is =
-    by_command command.name command given line arguments request
-    (each_request command lines (request_after command.name command arguments) request is)
+each_asks_the_command command named lines given line arguments request is =
+    by_command command.name command named given line arguments request
+    (each_request command named lines (request_after command.name command named arguments) request is)
 
-input_request_is : (command : Command) (given : Option RequestValue) (request : RequestValue)
-    → option_map (λ (r : RequestValue). asks command (AskInput r)) given ≡ Some (asks command (AskInput request))
-    → given ≡ Some request
-input_request_is command None request is = cc
-input_request_is command (Some given) request is = ap Some (ap (request_of_asked given) is)
+input_request_is : (command : Command) (named : ℕ) (given : Result RequestValue Mistake) (request : RequestValue)
+    → map_read (λ (r : RequestValue). asks command named (AskInput r)) given ≡ Ok (asks command named (AskInput request))
+    → given ≡ Ok request
+input_request_is command named (Err mistake) request is = cc
+input_request_is command named (Ok given) request is = ap Ok (ap (request_of_asked given) is)
 
 pub input_asks_the_command : InputAsksTheCommand
-input_asks_the_command command given text arguments request is =
-    by_command command.name command given text arguments request
-    (input_request_is command (request_after command.name command arguments) request is)
+input_asks_the_command command named given text arguments request is =
+    by_command command.name command named given text arguments request
+    (input_request_is command named (request_after command.name command named arguments) request is)

@@ -16,7 +16,9 @@ use Rattle.sd_script.specs.Ids.{PrintsAndCountsIn, PrintsIn}
 use Rattle.sd_script.specs.declared.ids.TheConstants.{LINES}
 use Rattle.sd_commands.specs.Answer.{AnswerValue}
 use Rattle.sd_command_line.specs.Answer.{Answers, AnswersInput, IsBadValue}
-use Rattle.sd_command_line.specs.CommandLine.{CommandLineValue, InvocationValue, RequestValue, IsAudit, Ask, AskInput, Script, Serve, Audit, Each, Help, Version, reading, runs_script}
+use Rattle.sd_command_line.specs.CommandLine.{CommandLineValue, InvocationValue, RequestValue, IsAudit, Ask, AskInput, Script, Serve, Audit, Each, Help, Version, mistake_in, reading, runs_script}
+use Rattle.sd_command_line.specs.Mistake.{message}
+use Rattle.sd_command_line.specs.declared.mistake.Mistake.{Mistake}
 use Rattle.sd_command_line.specs.Options.{AreSettings, HasBadValue, OptionsValue, is_strict}
 use Rattle.sd_commands.specs.declared.answer.Outcome.{Outcome}
 use Rattle.sd_command_line.specs.declared.options.BadValue.{BadValue}
@@ -71,6 +73,15 @@ pub failure_left : (failure : Failure) (words : List (Bor (List ℕ))) (input le
 failure_left (Unread reason) words input left old new leaves = inl leaves.1
 failure_left (Run error) words input left old new (inl kept) = inl kept
 failure_left (Run error) words input left old new (inr leaves) = answer_left words input left old new leaves.0 error leaves.1 leaves.2
+
+-- the failure with status 2 is the message of a mistake, and a beginning of it was written
+pub mistaken : (failure : Failure) (status : ℕ) (words : List (Bor (List ℕ))) (input left old new errors grown : Option (List ℕ)) (text : List ℕ)
+    → LeavesAtFailure words input left old new failure → status ≡ failure_status failure → text ≡ failure_text failure
+    → AppendsBeginning errors grown text → status ≡ 2
+    → (mistake : Mistake) × (mistake_in words ≡ Some mistake) × AppendsBeginning errors grown (message words mistake)
+mistaken (Unread reason) status words input left old new errors grown text leaves is line begun ended =
+    let said = leaves.2 in (said.0, said.1, rw (← said.2, ← line) begun)
+mistaken (Run error) status words input left old new errors grown text leaves is line begun ended = absurd (omega arith)
 
 -- what a command line's failure leaves, the words' does
 pub words_leave : (words : List (Bor (List ℕ))) (input left old new : Option (List ℕ)) (line : CommandLineValue) (failure : Failure)

@@ -1,11 +1,14 @@
 -- The one parser of a command line, by the table of commands and options: which arguments run a command, with which
--- options, and which ask for help or for the version. Any other arguments are rejected.
-use Rattle.std.specs.Prelude.{◌≡◌, ℕ, List, [], ◌∷◌, ◌+◌, ◌-◌, ◌*◌, length, nat_le, Bool, true, false, ◌||◌, ◌&&◌}
-use Rattle.std.specs.Prelude.{if◌then◌else◌, Option, Some, None, option_map, option_and_then, codes, bytes_eq}
+-- options, and which ask for help or for the version. Any other arguments are rejected for their first mistake.
+use Rattle.std.specs.Prelude.{◌≡◌, ℕ, List, [], ◌∷◌, ◌+◌, ◌-◌, ◌*◌, ◌==◌, length, nat_le, Bool, true, false, not}
+use Rattle.std.specs.Prelude.{◌||◌, ◌&&◌}
+use Rattle.std.specs.Prelude.{if◌then◌else◌, is_some, Option, Some, None, option_map, ok_or, codes, bytes_eq}
+use Rattle.std.specs.Prelude.{Result, Ok, Err}
+use Rattle.std.specs.Result.{result_err, result_ok}
 use Rattle.std.specs.Option.{option_map_or}
 use Rattle.std.specs.Borrow.{Bor}
 use Rattle.std.specs.Char.{is_ascii_digit}
-use Rattle.sd_usage.specs.Table.{command_named, takes_count}
+use Rattle.sd_usage.specs.Table.{argument_at, command_named, count_of as required_count, takes_count}
 use Rattle.sd_usage.specs.declared.row.Command.{Command}
 use Rattle.sd_usage.specs.declared.row.CommandName.{CommandName}
 use Rattle.sd_usage.specs.declared.row.CommandName.TheVariants as names
@@ -18,7 +21,10 @@ use Rattle.sd_command_line.specs.declared.command_line.Invocation.TheVariants as
 use Rattle.sd_command_line.specs.Flags.{flags_in, lines_by, no_flags}
 use Rattle.sd_command_line.specs.declared.flags.GivenFlags.{GivenFlags}
 use Rattle.sd_command_line.specs.declared.flags.Lines.{Lines}
-use Rattle.sd_command_line.specs.Options.{OptionsValue, is_from_input, no_options, options_in, options_of, suits}
+use Rattle.sd_command_line.specs.Mistake.{map_read, mistake, then_read}
+use Rattle.sd_command_line.specs.declared.mistake.Mistake.{Mistake}
+use Rattle.sd_command_line.specs.declared.mistake.Wrong.TheVariants as wrongs
+use Rattle.sd_command_line.specs.Options.{OptionsValue, is_from_input, misplaced_in, no_options, options_in, options_of}
 
 -- a command that answers a text, with its arguments after that
 pub record RequestValue : Type 0 where
@@ -57,21 +63,26 @@ pub record CommandLineValue : Type 0 where
 abbrev pub command_line_of : CommandLine → CommandLineValue
 command_line_of line = record { options = options_of line.options; invocation = invocation_of line.invocation }
 
--- what is asked for, and the command: of `each` the one for its lines
+-- what is asked for, and the command, with how many arguments from it on: of `each` the one for its lines
 pub record AskedValue : Type 0 where
   pub command : Command
+  pub named : ℕ
   pub invocation : InvocationValue
 
 abbrev pub asked_of : Asked → AskedValue
-asked_of asked = record { command = asked.command; invocation = invocation_of asked.invocation }
+asked_of asked = record { command = asked.command; named = asked.named; invocation = invocation_of asked.invocation }
 
 abbrev pub is_help_flag : List ℕ → Bool
 is_help_flag word = bytes_eq word (codes "-h") || bytes_eq word (codes "--help")
 
-abbrev is_help : List ℕ → Bool
+abbrev pub is_help : List ℕ → Bool
 is_help word = bytes_eq word (codes "help")
 
-abbrev is_version_flag : List ℕ → Bool
+abbrev pub begins_with_hyphen : List ℕ → Bool
+begins_with_hyphen [] = false
+begins_with_hyphen (b ∷ bs) = b == 45
+
+abbrev pub is_version_flag : List ℕ → Bool
 is_version_flag word = bytes_eq word (codes "-V") || bytes_eq word (codes "--version")
 
 -- ---- what follows a command
@@ -96,74 +107,108 @@ workers_of (ones ∷ []) = count_of 48 ones
 workers_of (tens ∷ ones ∷ []) = count_of tens ones
 workers_of (a ∷ b ∷ c ∷ rest) = None
 
--- ---- the command
+-- ---- the command, with how many arguments there are from it on
+
+-- it takes another number of arguments than this: one that it requires is missing, or one is too many
+abbrev pub miscounted : Command → ℕ → ℕ → Mistake
+miscounted command named count =
+    elim (argument_at command.arguments count) [
+      | Some argument ↦ mistake 0 named (wrongs.MissingArgument argument command)
+      | None ↦ mistake (count - required_count command.arguments) named (wrongs.SurplusArgument command)
+    ]
 
 -- what a command asks of a text that these arguments follow: one that answers a text, with as many as it takes
-abbrev pub request_after : CommandName → Command → List (Bor (List ℕ)) → Option RequestValue
-request_after (names.Ask question) command arguments =
-    if takes_count command (length arguments + 1) then Some (record { question = question; arguments = arguments })
-    else None
-request_after name command arguments = None
+abbrev pub request_after : CommandName → Command → ℕ → List (Bor (List ℕ)) → Result RequestValue Mistake
+request_after (names.Ask question) command named arguments =
+    if takes_count command (1 + length arguments) then Ok (record { question = question; arguments = arguments })
+    else Err (miscounted command named (1 + length arguments))
+request_after name command named arguments = Err (mistake named named wrongs.NoText)
 
 -- what is asked of each line
-abbrev pub line_request : Command → Lines → List (Bor (List ℕ)) → Option AskedValue
-line_request command lines arguments =
-    option_map (λ request. record { command = command; invocation = Each lines request })
-    (request_after command.name command arguments)
+abbrev pub line_request : Command → ℕ → Lines → List (Bor (List ℕ)) → Result AskedValue Mistake
+line_request command named lines arguments =
+    map_read (λ request. record { command = command; named = named; invocation = Each lines request })
+    (request_after command.name command named arguments)
 
 -- what is asked of the text that the input is
-abbrev pub input_request : Command → List (Bor (List ℕ)) → Option AskedValue
-input_request command arguments =
-    option_map (λ request. record { command = command; invocation = AskInput request })
-    (request_after command.name command arguments)
+abbrev pub input_request : Command → ℕ → List (Bor (List ℕ)) → Result AskedValue Mistake
+input_request command named arguments =
+    map_read (λ request. record { command = command; named = named; invocation = AskInput request })
+    (request_after command.name command named arguments)
 
-abbrev pub each_in : Lines → List (Bor (List ℕ)) → Option AskedValue
-each_in lines [] = None
-each_in lines (word ∷ words) = option_and_then (λ command. line_request command lines (arguments_in words))
-    (command_named word.now)
+-- the one argument after `help` names no command
+abbrev pub is_unknown : List (Bor (List ℕ)) → Bool
+is_unknown (word ∷ []) = not (is_some (command_named word.now) || is_help word.now)
+is_unknown words = false
+
+-- what begins with no command: after `help`, help or the version among other arguments, an option, or another text
+abbrev pub no_command : List (Bor (List ℕ)) → Mistake
+no_command [] = mistake 0 0 wrongs.NoCommand
+no_command (word ∷ words) =
+    if is_help word.now && is_unknown words then mistake (length words) 0 wrongs.UnknownCommand
+    else mistake (length (word ∷ words)) 0
+    (if is_help word.now || is_help_flag word.now || is_version_flag word.now then wrongs.NotAlone
+    else (if begins_with_hyphen word.now then wrongs.UnknownOption else wrongs.UnknownCommand))
+
+abbrev pub each_in : Lines → List (Bor (List ℕ)) → Result AskedValue Mistake
+each_in lines [] = Err (no_command [])
+each_in lines (word ∷ words) =
+    then_read (λ command. line_request command (length (word ∷ words)) lines (arguments_in words))
+    (ok_or (command_named word.now) (no_command (word ∷ words)))
 
 -- what a command asks for, with these own options and with these arguments, as many as it takes
-abbrev pub request_by : CommandName → Command → GivenFlags → List (Bor (List ℕ)) → Option AskedValue
-request_by (names.Ask question) command given (text ∷ arguments) =
-    Some (record {
+abbrev pub request_by : CommandName → Command → ℕ → GivenFlags → List (Bor (List ℕ)) → Result AskedValue Mistake
+request_by (names.Ask question) command named given (text ∷ arguments) =
+    Ok (record {
       command = command;
+      named = named;
       invocation = Ask text.now (record { question = question; arguments = arguments });
     })
-request_by names.Script command given arguments = Some (record { command = command; invocation = Script })
-request_by names.Serve command given arguments = Some (record { command = command; invocation = Serve given.ids })
-request_by names.Audit command given (workers ∷ arguments) =
-    option_map (λ n. record { command = command; invocation = Audit n }) (workers_of workers.now)
-request_by names.Each command given arguments = each_in (lines_by given) arguments
-request_by name command given arguments = None
+request_by names.Script command named given arguments =
+    Ok (record { command = command; named = named; invocation = Script })
+request_by names.Serve command named given arguments =
+    Ok (record { command = command; named = named; invocation = Serve given.ids })
+request_by names.Audit command named given (workers ∷ arguments) =
+    map_read (λ n. record { command = command; named = named; invocation = Audit n })
+    (ok_or (workers_of workers.now)
+    (mistake (length (workers ∷ arguments)) named (wrongs.NoWorkers command)))
+request_by names.Each command named given arguments = each_in (lines_by given) arguments
+request_by name command named given arguments = Err (miscounted command named (length arguments))
 
-abbrev pub request_on : Command → GivenFlags → List (Bor (List ℕ)) → Option AskedValue
-request_on command given arguments =
-    if takes_count command (length arguments) then request_by command.name command given arguments else None
+abbrev pub request_on : Command → ℕ → GivenFlags → List (Bor (List ℕ)) → Result AskedValue Mistake
+request_on command named given arguments =
+    if takes_count command (length arguments) then request_by command.name command named given arguments
+    else Err (miscounted command named (length arguments))
 
 -- what a command asks for with what follows its own options, where the input is its first argument or isn't
-abbrev pub asked_with : Bool → Command → GivenFlags × List (Bor (List ℕ)) → Option AskedValue
-asked_with from_input command (given, words) =
-    if from_input then input_request command (arguments_in words) else request_on command given (arguments_in words)
+abbrev pub asked_with : Bool → Command → ℕ → GivenFlags × List (Bor (List ℕ)) → Result AskedValue Mistake
+asked_with from_input command named (given, words) =
+    if from_input then input_request command named (arguments_in words)
+    else request_on command named given (arguments_in words)
 
-abbrev pub asked_by : Bool → Command → List (Bor (List ℕ)) → Option AskedValue
-asked_by from_input command words = asked_with from_input command (flags_in command no_flags words)
+abbrev pub asked_by : Bool → Command → ℕ → List (Bor (List ℕ)) → Result AskedValue Mistake
+asked_by from_input command named words = asked_with from_input command named (flags_in command no_flags words)
 
 -- the command that the arguments begin with, and what it asks for
-abbrev pub command_in : Bool → List (Bor (List ℕ)) → Option AskedValue
-command_in from_input [] = None
+abbrev pub command_in : Bool → List (Bor (List ℕ)) → Result AskedValue Mistake
+command_in from_input [] = Err (no_command [])
 command_in from_input (word ∷ words) =
-    option_and_then (λ command. asked_by from_input command words) (command_named word.now)
+    then_read (λ command. asked_by from_input command (length (word ∷ words)) words)
+    (ok_or (command_named word.now) (no_command (word ∷ words)))
 
--- the same, where the options may go before it
-abbrev pub with_options : OptionsValue → AskedValue → Option CommandLineValue
-with_options options asked =
-    if suits asked.command options then Some (record { options = options; invocation = asked.invocation }) else None
+-- the same, where each option before it may go there
+abbrev pub with_options : OptionsValue → List (Bor (List ℕ)) → AskedValue → Result CommandLineValue Mistake
+with_options options words asked =
+    elim (misplaced_in asked.command asked.named options words) [
+      | Some wrong ↦ Err wrong
+      | None ↦ Ok (record { options = options; invocation = asked.invocation })
+    ]
 
-abbrev pub after_options : OptionsValue × List (Bor (List ℕ)) → Option CommandLineValue
-after_options (options, words) = option_and_then (with_options options) (command_in (is_from_input options) words)
+abbrev pub after_options : List (Bor (List ℕ)) → OptionsValue × List (Bor (List ℕ)) → Result CommandLineValue Mistake
+after_options all (options, words) = then_read (with_options options all) (command_in (is_from_input options) words)
 
-abbrev pub run_by : List (Bor (List ℕ)) → Option CommandLineValue
-run_by words = option_and_then after_options (options_in no_options words)
+abbrev pub run_by : List (Bor (List ℕ)) → Result CommandLineValue Mistake
+run_by words = then_read (after_options words) (options_in no_options words)
 
 -- ---- help and the version
 
@@ -192,18 +237,25 @@ shown_by (word ∷ next ∷ other ∷ words) = None
 -- ---- the command line
 
 -- what the arguments after the program's name ask for
-abbrev after_name : List (Bor (List ℕ)) → Option CommandLineValue
+abbrev after_name : List (Bor (List ℕ)) → Result CommandLineValue Mistake
 after_name words =
     elim (shown_by words) [
-      | Some shown ↦ Some
-          (record { options = no_options; invocation = shown })
+      | Some shown ↦ Ok (record { options = no_options; invocation = shown })
       | None ↦ run_by words
     ]
 
--- what the arguments ask for, of which the first is the program's name
+-- what the arguments ask for, of which the first is the program's name, or their first mistake
+abbrev pub parsed : List (Bor (List ℕ)) → Result CommandLineValue Mistake
+parsed [] = Err (no_command [])
+parsed (name ∷ words) = after_name words
+
+-- what they ask for, where they are a command line
 abbrev pub reading : List (Bor (List ℕ)) → Option CommandLineValue
-reading [] = None
-reading (name ∷ words) = after_name words
+reading words = result_ok (parsed words)
+
+-- what is wrong with them, where they are none
+abbrev pub mistake_in : List (Bor (List ℕ)) → Option Mistake
+mistake_in words = result_err (parsed words)
 
 -- the arguments aren't a command line
 abbrev pub IsUnread : List (Bor (List ℕ)) → Type 0

@@ -1,6 +1,6 @@
 -- What follows from the table of commands and from the parser of a command line.
 use Rattle.std.specs.Prelude.{◌≡◌, ℕ, ◌≤◌, List, [], ◌∷◌, length, map, Bool, true, false, not, ◌&&◌, Option, Some}
-use Rattle.std.specs.Prelude.{codes, bytes_eq}
+use Rattle.std.specs.Prelude.{Ok, codes, bytes_eq}
 use Rattle.std.specs.List.{list_any}
 use Rattle.std.specs.Option.{option_map_or}
 use Rattle.std.specs.Borrow.{Bor}
@@ -72,16 +72,18 @@ OptionsKeepTexts = (name option domain sid word dashes sddl user mask : Bor (Lis
 
 -- what is asked of each line is what the command asks with the line as its first argument
 abbrev pub EachAsksTheCommand : Type 0
-EachAsksTheCommand = (command : Command) (lines : Lines) (given : GivenFlags) (line : Bor (List ℕ))
+EachAsksTheCommand = (command : Command) (named : ℕ) (lines : Lines) (given : GivenFlags) (line : Bor (List ℕ))
     (arguments : List (Bor (List ℕ))) (request : RequestValue)
-    → line_request command lines arguments ≡ Some (record { command = command; invocation = Each lines request })
-    → request_on command given (line ∷ arguments)
-    ≡ Some (record { command = command; invocation = Ask line.now request })
+    → line_request command named lines arguments
+    ≡ Ok (record { command = command; named = named; invocation = Each lines request })
+    → request_on command named given (line ∷ arguments)
+    ≡ Ok (record { command = command; named = named; invocation = Ask line.now request })
 
 -- what is asked of the input is what the command asks with the input's text as its first argument
 abbrev pub InputAsksTheCommand : Type 0
-InputAsksTheCommand = (command : Command) (given : GivenFlags) (text : Bor (List ℕ)) (arguments : List (Bor (List ℕ)))
-    (request : RequestValue)
-    → input_request command arguments ≡ Some (record { command = command; invocation = AskInput request })
-    → request_on command given (text ∷ arguments)
-    ≡ Some (record { command = command; invocation = Ask text.now request })
+InputAsksTheCommand = (command : Command) (named : ℕ) (given : GivenFlags) (text : Bor (List ℕ))
+    (arguments : List (Bor (List ℕ))) (request : RequestValue)
+    → input_request command named arguments
+    ≡ Ok (record { command = command; named = named; invocation = AskInput request })
+    → request_on command named given (text ∷ arguments)
+    ≡ Ok (record { command = command; named = named; invocation = Ask text.now request })

@@ -4,6 +4,7 @@ pub mod Each
 pub mod Flags
 pub mod Input
 pub mod Laws
+pub mod Mistake
 pub mod Options
 pub mod Output
 pub mod Status

@@ -1,7 +1,6 @@
 -- The options of a command line: what may stand between the program's name and the command, and what they say.
-use Rattle.std.specs.Prelude.{◌≡◌, ℕ, List, [], ◌∷◌, Bool, false, not, ◌&&◌, ◌||◌, ⊤, is_some, if◌then◌else◌, Option}
-use Rattle.std.specs.Prelude.{Some, None, option_map, option_and_then}
-use Rattle.std.specs.List.{list_any}
+use Rattle.std.specs.Prelude.{◌≡◌, ℕ, List, [], ◌∷◌, length, Bool, true, false, not, ⊤, is_some, if◌then◌else◌}
+use Rattle.std.specs.Prelude.{Option, Some, None, option_map, Result, Ok, Err}
 use Rattle.std.specs.Option.{option_map_or}
 use Rattle.std.specs.Borrow.{Bor}
 use Rattle.sd_text.specs.Domain.{domain_sid}
@@ -18,10 +17,14 @@ use Rattle.sd_usage.specs.declared.row.OptionName.{OptionName}
 use Rattle.sd_usage.specs.declared.row.OptionName.TheVariants.{Stdin, Names, WithoutSacl, RequireDacl, Base64, Loose}
 use Rattle.sd_usage.specs.declared.row.OptionName.TheVariants.{Percent, Strict, Domain, Aliases, Mapping}
 use Rattle.sd_usage.specs.declared.row.ProgramOption.{ProgramOption}
-use Rattle.sd_usage.specs.declared.table.TheConstants.{OPTIONS}
 use Rattle.sd_commands.specs.Mapping.{GivesMapping, GivesNoMapping, kind_given}
 use Rattle.sd_commands.specs.declared.settings.ByteForm.{ByteForm}
 use Rattle.sd_commands.specs.declared.settings.ByteForm.TheVariants as forms
+use Rattle.sd_command_line.specs.Mistake.{mistake, then_read}
+use Rattle.sd_command_line.specs.declared.mistake.Mistake.{Mistake}
+use Rattle.sd_command_line.specs.declared.mistake.Wrong.{Wrong}
+use Rattle.sd_command_line.specs.declared.mistake.Wrong.TheVariants.{ExcludedOption, MisplacedOption, NoValue}
+use Rattle.sd_command_line.specs.declared.mistake.Wrong.TheVariants.{RepeatedOption}
 use Rattle.sd_command_line.specs.declared.options.BadValue.{BadValue}
 use Rattle.sd_command_line.specs.declared.options.BadValue.TheVariants.{NoDomain, NoMapping}
 use Rattle.sd_command_line.specs.declared.options.Options.{Options}
@@ -101,39 +104,53 @@ with_value options Domain value = record options { domain = Some value }
 with_value options Aliases value = record options { aliases = Some value }
 with_value options Mapping value = record options { mapping = Some value }
 
--- one more option, where it isn't one of these already
-abbrev pub with_option : OptionsValue → OptionName → List ℕ → Option OptionsValue
-with_option options option value = if has options option then None else Some (with_value options option value)
+-- one more option, from which on there are so many arguments, where it isn't one of these already
+abbrev pub with_option : OptionsValue → ℕ → OptionName → List ℕ → Result OptionsValue Mistake
+with_option options left option value =
+    if has options option then Err (mistake left 0 RepeatedOption) else Ok (with_value options option value)
 
--- the options that the arguments begin with, each at most once, and the arguments after them; of an option that waits
--- for its value the first argument is that
-abbrev pub options_from : Option ProgramOption → OptionsValue → List (Bor (List ℕ))
-    → Option (OptionsValue × List (Bor (List ℕ)))
-options_from None options [] = Some (options, [])
-options_from (Some option) options [] = None
+-- the options that the arguments begin with, each at most once, and the arguments after them; where an option is before
+-- them, with how many arguments there are from it on, its value is the first
+abbrev pub options_from : Option (ProgramOption × ℕ) → OptionsValue → List (Bor (List ℕ))
+    → Result (OptionsValue × List (Bor (List ℕ))) Mistake
+options_from None options [] = Ok (options, [])
+options_from (Some (option, left)) options [] = Err (mistake left 0 NoValue)
 options_from None options (word ∷ words) =
     elim (option_named word.now) [
-      | Some option ↦ if is_some option.value then options_from (Some option) options words
-          else option_and_then (λ more. options_from None more words) (with_option options option.name [])
-      | None ↦ Some (options, word ∷ words)
+      | Some option ↦ if is_some option.value then options_from (Some (option, length (word ∷ words))) options words
+          else then_read (λ more. options_from None more words)
+          (with_option options (length (word ∷ words)) option.name [])
+      | None ↦ Ok (options, word ∷ words)
     ]
-options_from (Some option) options (value ∷ words) =
-    option_and_then (λ more. options_from None more words) (with_option options option.name value.now)
+options_from (Some (option, left)) options (value ∷ words) =
+    then_read (λ more. options_from None more words) (with_option options left option.name value.now)
 
-abbrev pub options_in : OptionsValue → List (Bor (List ℕ)) → Option (OptionsValue × List (Bor (List ℕ)))
+abbrev pub options_in : OptionsValue → List (Bor (List ℕ)) → Result (OptionsValue × List (Bor (List ℕ))) Mistake
 options_in options words = options_from None options words
 
 -- ---- before which commands they go
 
--- the option is given, and the command doesn't take it, or one that it excludes is given too
-abbrev pub is_misplaced : Command → OptionsValue → ProgramOption → Bool
-is_misplaced command options option =
-    has options option.name
-    && (not (takes_option command option.name) || option_map_or (has options) option.excludes false)
+-- the option may go before the command, and beside the others; or why not
+abbrev pub wrong_option : Command → OptionsValue → ProgramOption → Option Wrong
+wrong_option command options option =
+    if not (takes_option command option.name) then Some (MisplacedOption option.name)
+    else (if option_map_or (has options) option.excludes false then Some ExcludedOption else None)
 
--- each of the options may go before the command, and beside the others
-unfoldable pub suits : Command → OptionsValue → Bool
-suits command options = not (list_any (λ row. is_misplaced command options row.1) OPTIONS.now)
+-- the first of the options that the arguments begin with for which that isn't so: an option's value is none
+abbrev pub misplaced_from : Bool → Command → ℕ → OptionsValue → List (Bor (List ℕ)) → Option Mistake
+misplaced_from is_value command named options [] = None
+misplaced_from true command named options (value ∷ words) = misplaced_from false command named options words
+misplaced_from false command named options (word ∷ words) =
+    elim (option_named word.now) [
+      | None ↦ None
+      | Some option ↦ elim (wrong_option command options option) [
+        | Some wrong ↦ Some (mistake (length (word ∷ words)) named wrong)
+        | None ↦ misplaced_from (is_some option.value) command named options words
+      ]
+    ]
+
+abbrev pub misplaced_in : Command → ℕ → OptionsValue → List (Bor (List ℕ)) → Option Mistake
+misplaced_in command named options words = misplaced_from false command named options words
 
 -- options beside words that are lent
 abbrev pub parted : Options × Bor (List (Bor (List ℕ))) → OptionsValue × List (Bor (List ℕ))

@@ -14,6 +14,9 @@ use Rattle.sd_command_line.specs.declared.flags.Lines.{Lines}
 use Rattle.sd_command_line.specs.Answer.{Answers, AnswersNext, form_of}
 use Rattle.sd_commands.specs.Answer.{AnswerValue, outcome_status}
 use Rattle.sd_command_line.specs.CommandLine.{CommandLineValue, RequestValue, Each, Serve, reading, IsAudit, IsUnread}
+use Rattle.sd_command_line.specs.CommandLine.{mistake_in}
+use Rattle.sd_command_line.specs.Mistake.{message}
+use Rattle.sd_command_line.specs.declared.mistake.Mistake.{Mistake}
 use Rattle.sd_command_line.specs.Options.{AreSettings}
 use Rattle.sd_command_line.specs.declared.each.Progress.TheVariants.{NoLine}
 use Rattle.sd_command_line.specs.Scripts.{manner_of}
@@ -98,10 +101,15 @@ abbrev pub LeavesByLine : List (Bor (List ℕ)) → Option (List ℕ) → Option
     → RunError → Type 0
 LeavesByLine words input left old new error = OfReading words (λ line. LeavesLinesOf line input left old new error)
 
+-- the text says what is wrong with the words
+abbrev pub IsReason : List (Bor (List ℕ)) → List ℕ → Type 0
+IsReason words text = (mistake : Mistake) × (mistake_in words ≡ Some mistake) × (text ≡ message words mistake)
+
 -- what stands where there is no answer, or not the whole of it
 abbrev pub LeavesAtFailure : List (Bor (List ℕ)) → Option (List ℕ) → Option (List ℕ) → Option (List ℕ) → Option (List ℕ)
     → Failure → Type 0
-LeavesAtFailure words input left old new (Unread reason) = IsUnread words × Keeps old new
+LeavesAtFailure words input left old new (Unread reason) =
+    IsUnread words × Keeps old new × IsReason words (string_bytes reason)
 LeavesAtFailure words input left old new (Run error) = Keeps old new
     ⊎ OfReading words (λ line. LeavesAfter line input left old new error)
 

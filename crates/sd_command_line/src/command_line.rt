@@ -2,12 +2,16 @@
 ghost use Rattle.std.specs.Prelude.{◌≡◌, option_map};
 ghost use Rattle.sd_command_line.specs.CommandLine.{arguments_in, asked_by, asked_of, command_help, command_in};
 ghost use Rattle.sd_command_line.specs.CommandLine.{command_line_of, count_of, each_in, help_on, input_request};
-ghost use Rattle.sd_command_line.specs.CommandLine.{invocation_of, is_help_flag, is_script, line_request, reading};
+ghost use Rattle.sd_command_line.specs.CommandLine.{invocation_of, is_script, line_request, miscounted, parsed};
 ghost use Rattle.sd_command_line.specs.CommandLine.{request_after, request_by, request_of, request_on, run_by};
-ghost use Rattle.sd_command_line.specs.CommandLine.{shown_by, workers_of};
+ghost use Rattle.sd_command_line.specs.CommandLine.{shown_by, with_options, workers_of};
+ghost use Rattle.sd_command_line.specs.Mistake.{map_read};
+ghost use Rattle.sd_command_line.specs.Options.{options_of};
 
 use crate::flags::{GivenFlags, Lines, flags_in};
-use crate::options::{Options, options_in};
+use crate::mistake::{Mistake, Wrong};
+use crate::options::{Options, misplaced_in, options_in};
+use crate::words::{is_help, is_help_flag, is_version_flag, no_command};
 use sd_usage::{Command, CommandName, Flag, Question, command_named};
 
 /// What a command line asks for, and with which options.
@@ -65,17 +69,19 @@ pub(crate) struct Request<'a> {
 #[derive(Clone, Copy)]
 struct Asked<'a> {
     command: Command,
+    /// How many arguments there are from the command on.
+    named: usize,
     invocation: Invocation<'a>,
 }
 
-/// What the arguments ask for, of which the first is the program's name. `None`: they aren't a command line.
-pub(crate) fn read_command_line<'a>(words: &'a [&'a str]) -> Option<CommandLine<'a>>
-    ensures { option_map command_line_of result ≡ reading words.entry.now }
+/// What the arguments ask for, of which the first is the program's name, or the first mistake in them.
+pub(crate) fn read_command_line<'a>(words: &'a [&'a str]) -> Result<CommandLine<'a>, Mistake>
+    ensures { map_read command_line_of result ≡ parsed words.entry.now }
 {
     match words {
-        [] => None,
+        [] => Err(no_command(words)),
         [_, words @ ..] => match shown_by(words) {
-            Some(invocation) => Some(CommandLine {
+            Some(invocation) => Ok(CommandLine {
                 options: Options::none(),
                 invocation,
             }),
@@ -89,84 +95,118 @@ fn shown_by<'a>(words: &[&str]) -> Option<Invocation<'a>>
     ensures { option_map invocation_of result ≡ shown_by words.now }
 {
     match words {
-        [word] if is_help_flag(word) || *word == "help" => Some(Invocation::Help { command: None }),
-        [word] if *word == "-V" || *word == "--version" => Some(Invocation::Version),
-        [word, next] if *word == "help" => help_on(next),
+        [word] if is_help_flag(word) || is_help(word) => Some(Invocation::Help { command: None }),
+        [word] if is_version_flag(word) => Some(Invocation::Version),
+        [word, next] if is_help(word) => help_on(next),
         [word, flag] if is_help_flag(flag) => help_on_command(word),
         _ => None,
     }
 }
 
 /// A command after options that it takes.
-fn run_by<'a>(words: &'a [&'a str]) -> Option<CommandLine<'a>>
-    ensures { option_map command_line_of result ≡ run_by words.entry.now }
+fn run_by<'a>(words: &'a [&'a str]) -> Result<CommandLine<'a>, Mistake>
+    ensures { map_read command_line_of result ≡ run_by words.entry.now }
 {
-    let (options, words) = options_in(words)?;
-    let Asked {
-        command,
-        invocation,
-    } = command_in(options.is_from_input(), words)?;
-    if !options.suit(command) {
-        return None;
+    match options_in(words) {
+        Ok((options, rest)) => match command_in(options.is_from_input(), rest) {
+            Ok(asked) => with_options(options, words, asked),
+            Err(mistake) => Err(mistake),
+        },
+        Err(mistake) => Err(mistake),
     }
-    Some(CommandLine {
-        options,
-        invocation,
-    })
+}
+
+/// What is asked for, where each of these options, with which the arguments begin, may go before the command.
+fn with_options<'a>(
+    options: Options<'a>,
+    words: &[&str],
+    asked: Asked<'a>,
+) -> Result<CommandLine<'a>, Mistake>
+    ensures { map_read command_line_of result
+        ≡ with_options (options_of options.entry) words.now (asked_of asked.entry) }
+{
+    match misplaced_in(asked.command, asked.named, options, words) {
+        Some(mistake) => Err(mistake),
+        None => Ok(CommandLine {
+            options,
+            invocation: asked.invocation,
+        }),
+    }
 }
 
 /// The command that the arguments begin with, and what it asks for.
-fn command_in<'a>(from_input: bool, words: &'a [&'a str]) -> Option<Asked<'a>>
-    ensures { option_map asked_of result ≡ command_in from_input words.entry.now }
+fn command_in<'a>(from_input: bool, words: &'a [&'a str]) -> Result<Asked<'a>, Mistake>
+    ensures { map_read asked_of result ≡ command_in from_input words.entry.now }
 {
     match words {
-        [] => None,
-        [word, words @ ..] => match command_named(word) {
-            Some(command) => asked_by(from_input, command, words),
-            None => None,
+        [] => Err(no_command(words)),
+        [word, after @ ..] => match command_named(word) {
+            Some(command) => asked_by(from_input, command, words.len(), after),
+            None => Err(no_command(words)),
         },
     }
 }
 
 /// What a command asks for with what follows it: its own options first, then a first `--`, then its arguments, of which
 /// the input can be the first.
-fn asked_by<'a>(from_input: bool, command: Command, words: &'a [&'a str]) -> Option<Asked<'a>>
-    ensures { option_map asked_of result ≡ asked_by from_input command words.entry.now }
+fn asked_by<'a>(
+    from_input: bool,
+    command: Command,
+    named: usize,
+    words: &'a [&'a str],
+) -> Result<Asked<'a>, Mistake>
+    ensures { map_read asked_of result ≡ asked_by from_input command named words.entry.now }
 {
     let (given, words) = flags_in(command, GivenFlags::none(), words);
     let arguments = arguments_in(words);
     if from_input {
-        input_request(command, arguments)
+        input_request(command, named, arguments)
     } else {
-        request_on(command, given, arguments)
+        request_on(command, named, given, arguments)
     }
 }
 
 /// What a command asks for with these arguments.
 fn request_on<'a>(
     command: Command,
+    named: usize,
     given: GivenFlags,
     arguments: &'a [&'a str],
-) -> Option<Asked<'a>>
-    ensures { option_map asked_of result ≡ request_on command given arguments.entry.now }
+) -> Result<Asked<'a>, Mistake>
+    ensures { map_read asked_of result ≡ request_on command named given arguments.entry.now }
 {
     if !command.takes_count(arguments.len()) {
-        return None;
+        return Err(miscounted(command, named, arguments.len()));
     }
-    request_by(command, given, arguments)
+    request_by(command, named, given, arguments)
+}
+
+/// Of another number of arguments than the command takes: the one that is missing, or the first that is too many.
+fn miscounted(command: Command, named: usize, count: usize) -> Mistake
+    ensures { result ≡ miscounted command named count }
+{
+    match command.arguments.at(count) {
+        Some(argument) => Mistake::new(0, named, Wrong::MissingArgument(argument, command)),
+        None => {
+            let left = count.saturating_sub(command.arguments.count());
+            Mistake::new(left, named, Wrong::SurplusArgument(command))
+        }
+    }
 }
 
 /// The same of as many arguments as it takes.
 fn request_by<'a>(
     command: Command,
+    named: usize,
     given: GivenFlags,
     arguments: &'a [&'a str],
-) -> Option<Asked<'a>>
-    ensures { option_map asked_of result ≡ request_by command.name command given arguments.entry.now }
+) -> Result<Asked<'a>, Mistake>
+    ensures { map_read asked_of result ≡ request_by command.name command named given arguments.entry.now }
 {
     match (command.name, arguments) {
-        (CommandName::Ask(question), [text, arguments @ ..]) => Some(Asked {
+        (CommandName::Ask(question), [text, arguments @ ..]) => Ok(Asked {
             command,
+            named,
             invocation: Invocation::Ask {
                 text,
                 request: Request {
@@ -175,74 +215,99 @@ fn request_by<'a>(
                 },
             },
         }),
-        (CommandName::Script, _) => Some(Asked {
+        (CommandName::Script, _) => Ok(Asked {
             command,
+            named,
             invocation: Invocation::Script,
         }),
-        (CommandName::Serve, _) => Some(Asked {
+        (CommandName::Serve, _) => Ok(Asked {
             command,
+            named,
             invocation: Invocation::Serve {
                 has_ids: given.has(Flag::Ids),
             },
         }),
         (CommandName::Audit, [workers, ..]) => match workers_in(workers) {
-            Some(workers) => Some(Asked {
+            Some(workers) => Ok(Asked {
                 command,
+                named,
                 invocation: Invocation::Audit { workers },
             }),
-            None => None,
+            None => {
+                let wrong = Wrong::NoWorkers(command);
+                Err(Mistake::new(arguments.len(), named, wrong))
+            }
         },
         (CommandName::Each, words) => each_in(given.lines(), words),
-        _ => None,
+        _ => Err(miscounted(command, named, arguments.len())),
     }
 }
 
 /// The command for each line, and its arguments without the line.
-fn each_in<'a>(lines: Lines, words: &'a [&'a str]) -> Option<Asked<'a>>
-    ensures { option_map asked_of result ≡ each_in lines words.entry.now }
+fn each_in<'a>(lines: Lines, words: &'a [&'a str]) -> Result<Asked<'a>, Mistake>
+    ensures { map_read asked_of result ≡ each_in lines words.entry.now }
 {
     match words {
-        [] => None,
-        [word, words @ ..] => match command_named(word) {
-            Some(command) => line_request(command, lines, arguments_in(words)),
-            None => None,
+        [] => Err(no_command(words)),
+        [word, after @ ..] => match command_named(word) {
+            Some(command) => line_request(command, words.len(), lines, arguments_in(after)),
+            None => Err(no_command(words)),
         },
     }
 }
 
 /// What a command asks of each line, with these arguments after it.
-fn line_request<'a>(command: Command, lines: Lines, arguments: &'a [&'a str]) -> Option<Asked<'a>>
-    ensures { option_map asked_of result ≡ line_request command lines arguments.entry.now }
+fn line_request<'a>(
+    command: Command,
+    named: usize,
+    lines: Lines,
+    arguments: &'a [&'a str],
+) -> Result<Asked<'a>, Mistake>
+    ensures { map_read asked_of result ≡ line_request command named lines arguments.entry.now }
 {
-    let request = request_after(command, arguments)?;
-    Some(Asked {
-        command,
-        invocation: Invocation::Each { lines, request },
-    })
+    match request_after(command, named, arguments) {
+        Ok(request) => Ok(Asked {
+            command,
+            named,
+            invocation: Invocation::Each { lines, request },
+        }),
+        Err(mistake) => Err(mistake),
+    }
 }
 
 /// What a command asks of the text that the input is, with these arguments after it.
-fn input_request<'a>(command: Command, arguments: &'a [&'a str]) -> Option<Asked<'a>>
-    ensures { option_map asked_of result ≡ input_request command arguments.entry.now }
+fn input_request<'a>(
+    command: Command,
+    named: usize,
+    arguments: &'a [&'a str],
+) -> Result<Asked<'a>, Mistake>
+    ensures { map_read asked_of result ≡ input_request command named arguments.entry.now }
 {
-    let request = request_after(command, arguments)?;
-    Some(Asked {
-        command,
-        invocation: Invocation::AskInput { request },
-    })
+    match request_after(command, named, arguments) {
+        Ok(request) => Ok(Asked {
+            command,
+            named,
+            invocation: Invocation::AskInput { request },
+        }),
+        Err(mistake) => Err(mistake),
+    }
 }
 
 /// What a command that answers a text asks of one that these arguments follow.
-fn request_after<'a>(command: Command, arguments: &'a [&'a str]) -> Option<Request<'a>>
-    ensures { option_map request_of result ≡ request_after command.name command arguments.entry.now }
+fn request_after<'a>(
+    command: Command,
+    named: usize,
+    arguments: &'a [&'a str],
+) -> Result<Request<'a>, Mistake>
+    ensures { map_read request_of result ≡ request_after command.name command named arguments.entry.now }
 {
     let CommandName::Ask(question) = command.name else {
-        return None;
+        return Err(Mistake::new(named, named, Wrong::NoText));
     };
-    if !command.takes_count(arguments.len() + 1) {
-        return None;
+    if !command.takes_count(1 + arguments.len()) {
+        return Err(miscounted(command, named, 1 + arguments.len()));
     }
-    Some(Request {
+    Ok(Request {
         question,
         arguments,
     })
@@ -252,7 +317,7 @@ fn request_after<'a>(command: Command, arguments: &'a [&'a str]) -> Option<Reque
 fn help_on<'a>(word: &str) -> Option<Invocation<'a>>
     ensures { option_map invocation_of result ≡ help_on word.now }
 {
-    if word == "help" {
+    if is_help(word) {
         return Some(Invocation::Help { command: None });
     }
     help_on_command(word)
@@ -268,12 +333,6 @@ fn help_on_command<'a>(word: &str) -> Option<Invocation<'a>>
         }),
         None => None,
     }
-}
-
-fn is_help_flag(word: &str) -> bool
-    ensures { result ≡ is_help_flag word.now }
-{
-    word == "-h" || word == "--help"
 }
 
 /// The arguments after a command, without a first `--`: a way to say that what follows is no flag.

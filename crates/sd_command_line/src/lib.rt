@@ -18,11 +18,13 @@ mod failure;
 mod flags;
 mod input;
 mod laws;
+mod mistake;
 mod options;
 mod perform;
 mod program;
 mod scripts;
 mod version;
+mod words;
 
 pub use laws::{dashes_keep_texts, each_asks_the_command, help_stands_alone, names_are_distinct};
 pub use program::{drive, reads_input};

@@ -1,21 +1,22 @@
 //! What may stand between the program's name and the command, and what it says.
 ghost use Rattle.std.specs.Prelude.{◌≡◌, IfErr, IfNone, IfOk, IfSome, false, option_map};
-ghost use Rattle.std.specs.List.{list_any};
 ghost use Rattle.std.specs.Option.{option_map_or};
 ghost use Rattle.sd_text.specs.Domain.{domain_sid};
 ghost use Rattle.sd_text.specs.Grammar.{Spells};
 ghost use Rattle.sd_text.specs.Sid.{sid_text};
 ghost use Rattle.sd_command_line.specs.Scripts.{manner_of};
 ghost use Rattle.sd_command_line.specs.Options.{AreSettings, GivesDomain, HasBadValue, IsNoDomain, byte_form_of, given};
-ghost use Rattle.sd_command_line.specs.Options.{has, is_from_input, is_misplaced, is_strict, no_options, options_in};
-ghost use Rattle.sd_command_line.specs.Options.{options_of, parted, paths_of, spelling_of, suits, with_option};
-ghost use Rattle.sd_command_line.specs.Options.{with_value};
+ghost use Rattle.sd_command_line.specs.Options.{has, is_from_input, is_strict, misplaced_in, no_options, options_in};
+ghost use Rattle.sd_command_line.specs.Options.{options_of, parted, paths_of, spelling_of, with_option, with_value};
+ghost use Rattle.sd_command_line.specs.Options.{wrong_option};
+ghost use Rattle.sd_command_line.specs.Mistake.{map_read};
 
+use crate::mistake::{Mistake, Wrong};
 use sd_answer::Spelling;
 use sd_commands::{ByteForm, Settings, kind_given, mapping_given};
 use sd_script::{Manner, PathSpelling};
 use sd_text::{Aliases, Domain, read_sid_text};
-use sd_usage::{Command, OPTIONS, OptionName, OptionRow, ProgramOption, option_named};
+use sd_usage::{Command, OptionName, ProgramOption, option_named};
 
 /// The value of an option that isn't read.
 #[derive(Clone, Copy, Debug)]
@@ -144,22 +145,19 @@ impl<'a> Options<'a> {
         }
     }
 
-    /// These and one more. `None`: it is one of these already.
-    fn with_option(self, option: OptionName, value: &'a str) -> Option<Options<'a>>
-        ensures { option_map options_of result ≡ with_option (options_of self.entry) option value.now }
+    /// These and one more, from which on there are so many arguments, unless it is one of these already.
+    fn with_option(
+        self,
+        left: usize,
+        option: OptionName,
+        value: &'a str,
+    ) -> Result<Options<'a>, Mistake>
+        ensures { map_read options_of result ≡ with_option (options_of self.entry) left option value.now }
     {
         if self.has(option) {
-            return None;
+            return Err(Mistake::new(left, 0, Wrong::RepeatedOption));
         }
-        Some(self.with_value(option, value))
-    }
-
-    /// Whether each of them may go before the command, and beside the others.
-    #[tactic(auto, unfolding(crate::specs::Options::suits))]
-    pub(crate) fn suit(self, command: Command) -> bool
-        ensures { result ≡ suits command (options_of self.entry) }
-    {
-        !has_misplaced(OPTIONS, command, self)
+        Ok(self.with_value(option, value))
     }
 
     /// What they say of a descriptor, or whose value isn't read: first `--domain`'s, which is a domain's SID ([MS-DTYP]
@@ -257,19 +255,44 @@ impl<'a> Options<'a> {
     }
 }
 
-/// Whether one of these options is given and may not be.
-fn has_misplaced(rows: &[OptionRow], command: Command, options: Options<'_>) -> bool
-    ensures { result ≡ list_any (λ row. is_misplaced command (options_of options.entry) row.1) rows.now }
+/// What is wrong with the first of the options that may not go before the command. The arguments begin with them.
+pub(crate) fn misplaced_in(
+    command: Command,
+    named: usize,
+    options: Options<'_>,
+    words: &[&str],
+) -> Option<Mistake>
+    ensures { result ≡ misplaced_in command named (options_of options.entry) words.now }
 {
-    rows.iter().any(|row| is_misplaced(command, options, row.1))
+    let [word, after @ ..] = words else {
+        return None;
+    };
+    let Some(option) = option_named(word) else {
+        return None;
+    };
+    if let Some(wrong) = wrong_option(command, options, option) {
+        return Some(Mistake::new(words.len(), named, wrong));
+    }
+    let Some(_) = option.value else {
+        return misplaced_in(command, named, options, after);
+    };
+    let [_, after @ ..] = after else {
+        return None;
+    };
+    misplaced_in(command, named, options, after)
 }
 
-/// Whether the option is given and may not be: the command doesn't take it, or one that it excludes is given too.
-fn is_misplaced(command: Command, options: Options<'_>, option: ProgramOption) -> bool
-    ensures { result ≡ is_misplaced command (options_of options.entry) option }
+/// Why the option may not go before the command, or not beside the others, if it may not.
+fn wrong_option(command: Command, options: Options<'_>, option: ProgramOption) -> Option<Wrong>
+    ensures { result ≡ wrong_option command (options_of options.entry) option }
 {
-    options.has(option.name)
-        && (!command.takes_option(option.name) || has_excluded(options, option))
+    if !command.takes_option(option.name) {
+        Some(Wrong::MisplacedOption(option.name))
+    } else if has_excluded(options, option) {
+        Some(Wrong::ExcludedOption)
+    } else {
+        None
+    }
 }
 
 /// Whether an option is given that this one excludes.
@@ -293,10 +316,10 @@ fn domain_in(text: &str) -> Option<Domain>
     }
 }
 
-/// The options that the arguments begin with, and the arguments after them. `None`: one of them is there twice, or
-/// lacks its value.
-pub(crate) fn options_in<'a>(words: &'a [&'a str]) -> Option<(Options<'a>, &'a [&'a str])>
-    ensures { option_map parted result ≡ options_in no_options words.entry.now }
+/// The options that the arguments begin with, and the arguments after them, or which of them is there twice, or lacks
+/// its value.
+pub(crate) fn options_in<'a>(words: &'a [&'a str]) -> Result<(Options<'a>, &'a [&'a str]), Mistake>
+    ensures { map_read parted result ≡ options_in no_options words.entry.now }
 {
     options_after(Options::none(), words)
 }
@@ -305,22 +328,26 @@ pub(crate) fn options_in<'a>(words: &'a [&'a str]) -> Option<(Options<'a>, &'a [
 fn options_after<'a>(
     options: Options<'a>,
     words: &'a [&'a str],
-) -> Option<(Options<'a>, &'a [&'a str])>
-    ensures { option_map parted result ≡ options_in (options_of options.entry) words.entry.now }
+) -> Result<(Options<'a>, &'a [&'a str]), Mistake>
+    ensures { map_read parted result ≡ options_in (options_of options.entry) words.entry.now }
 {
     let [word, after @ ..] = words else {
-        return Some((options, words));
+        return Ok((options, words));
     };
     let Some(option) = option_named(word) else {
-        return Some((options, words));
+        return Ok((options, words));
     };
     let Some(_) = option.value else {
-        let options = options.with_option(option.name, "")?;
-        return options_after(options, after);
+        return match options.with_option(words.len(), option.name, "") {
+            Ok(options) => options_after(options, after),
+            Err(mistake) => Err(mistake),
+        };
     };
     let [value, after @ ..] = after else {
-        return None;
+        return Err(Mistake::new(words.len(), 0, Wrong::NoValue));
     };
-    let options = options.with_option(option.name, value)?;
-    options_after(options, after)
+    match options.with_option(words.len(), option.name, value) {
+        Ok(options) => options_after(options, after),
+        Err(mistake) => Err(mistake),
+    }
 }

@@ -1,21 +1,22 @@
 //! The program over any words and streams: words in, an answer and a status out.
-ghost use Rattle.std.specs.Prelude.{◌≡◌, ◌≤◌, ◌⊎◌, ◌||◌, ℕ, List, false, Err, IfErr, IfOk, string_bytes};
+ghost use Rattle.std.specs.Prelude.{◌≡◌, ◌≤◌, ◌⊎◌, ◌||◌, ℕ, List, false, Some, Err, IfErr, IfOk, string_bytes};
 ghost use Rattle.std.specs.Io.KnownBytes.{Keeps};
 ghost use Rattle.sd_stream.specs.Watched.{has_failed, inner_of};
 ghost use Rattle.sd_stream.specs.Whole.{AppendsBeginning, ReadsPart};
 ghost use Rattle.sd_stream.specs.declared.error.RunError.{RunError as Error};
-ghost use Rattle.sd_command_line.specs.CommandLine.{IsAudit, IsUnread, asks_input};
+ghost use Rattle.sd_command_line.specs.CommandLine.{IsAudit, IsUnread, asks_input, mistake_in};
+ghost use Rattle.sd_command_line.specs.Mistake.{message};
+ghost use Rattle.sd_command_line.specs.declared.mistake.Mistake.{Mistake};
 ghost use Rattle.sd_command_line.specs.Output.{AppendsAnswer, AppendsPartOfAnswer, IsDue, LeavesAtFailure};
 ghost use Rattle.sd_command_line.specs.Output.{LeavesByLine, blames_reader, blames_writer, error_line};
 ghost use Rattle.sd_commands.specs.Answer.{outcome_status};
 
 use crate::command_line::read_command_line;
 use crate::failure::Failure;
+use crate::mistake::message;
 use crate::perform::{Ended, perform};
-use sd_commands::shown_word;
 use sd_stream::{RunError, Watched, write_whole};
-use sd_usage::refusal;
-use std::alloc::{AllocError, Global};
+use std::alloc::Global;
 use std::io::{Read, Write};
 use std::sync::Wait;
 use std::thread::Threads;
@@ -27,7 +28,7 @@ use std::thread::Threads;
 /// - 0: the text was printed, or the right granted, or the script carried out to its end. Help and
 ///   the version are such texts.
 /// - 1: an argument's fault was printed, or a verdict other than granted.
-/// - 2: the words aren't a command line, and `errors` has the reason.
+/// - 2: the words aren't a command line, and `errors` has the message of the first mistake in them.
 /// - 3: memory was wanting, a stream failed, the script was too long, or an audit's workers got no
 ///   answers: `errors` has `sdstore: memory`, `sdstore: read`, `sdstore: write`,
 ///   `sdstore: too long` or `sdstore: thread`.
@@ -46,6 +47,9 @@ pub fn drive<T: Threads + Wait + Sync, R: Read, W: Write, E: Write>(
         × AppendsBeginning (E.contents (inner_of errors.old)) (E.contents (inner_of errors.new)) told }
     ensures unread { result ≡ 2 → IsUnread words.now
         × Keeps (W.contents (inner_of writer.old)) (W.contents (inner_of writer.new)) }
+    ensures mistaken { result ≡ 2 → (mistake : Mistake) × (mistake_in words.now ≡ Some mistake)
+        × AppendsBeginning (E.contents (inner_of errors.old)) (E.contents (inner_of errors.new))
+        (message words.now mistake) }
     ensures refused { IsUnread words.now → (2 ≤ result)
         × Keeps (W.contents (inner_of writer.old)) (W.contents (inner_of writer.new)) }
     ensures failed { result ≡ 3
@@ -82,8 +86,8 @@ pub fn reads_input(words: &[&str]) -> bool
     ensures { result ≡ asks_input words.now }
 {
     match read_command_line(words) {
-        Some(line) => line.invocation.is_from_input(),
-        None => false,
+        Ok(line) => line.invocation.is_from_input(),
+        Err(_) => false,
     }
 }
 
@@ -92,16 +96,6 @@ fn tell<E: Write>(errors: &mut Watched<E>, text: &str)
     ensures { AppendsBeginning (E.contents (inner_of errors.old)) (E.contents (inner_of errors.new)) text.now }
 {
     let _ = write_whole(errors, text.as_bytes());
-}
-
-/// Why the words aren't a command line. No control character of theirs stands in it.
-fn reason(alloc: Global, words: &[&str]) -> Result<String, AllocError> {
-    let mut shown = Vec::new(alloc);
-    for word in words {
-        shown.push(shown_word(alloc, word)?)?;
-    }
-    let words: Vec<&str> = shown.iter().map(|word| word.as_str()).collect(alloc)?;
-    refusal(alloc, words.as_slice())
 }
 
 fn carry_out<T: Threads + Wait + Sync, R: Read, W: Write>(
@@ -124,8 +118,8 @@ fn carry_out<T: Threads + Wait + Sync, R: Read, W: Write>(
     ensures thread { result ≡ Err (Failure.Run RunError.Thread) → IsAudit words.now }
     ensures unused { asks_input words.now ≡ false → reader.new ≡ reader.old }
 {
-    let Some(line) = read_command_line(words) else {
-        return Err(Failure::Unread(reason(alloc, words)?));
-    };
-    perform(rt, alloc, line, reader, writer)
+    match read_command_line(words) {
+        Ok(line) => perform(rt, alloc, line, reader, writer),
+        Err(mistake) => Err(Failure::Unread(message(alloc, words, mistake)?)),
+    }
 }

@@ -1,6 +1,7 @@
 -- What the table of commands and options says: which row a text names, and what a command takes.
 use Rattle.std.specs.Prelude.{ℕ, Bool, ◌==◌, ◌||◌, ◌&&◌, nat_le, if◌then◌else◌, List, [], ◌∷◌}
 use Rattle.std.specs.Prelude.{Option, Some, None, is_some, codes, bytes_eq}
+use Rattle.sd_usage.specs.declared.row.Argument.{Argument}
 use Rattle.sd_usage.specs.declared.row.Arguments.{Arguments}
 use Rattle.sd_usage.specs.declared.row.Arguments.TheVariants as arguments
 use Rattle.sd_usage.specs.declared.row.Command.{Command}
@@ -32,6 +33,15 @@ count_of arguments.Nothing = 0
 count_of (arguments.One first) = 1
 count_of (arguments.Two first second) = 2
 count_of (arguments.Three first second third) = 3
+
+-- which one at this place, from 0
+abbrev pub argument_at : Arguments → ℕ → Option Argument
+argument_at arguments.Nothing place = None
+argument_at (arguments.One first) place = if place == 0 then Some first else None
+argument_at (arguments.Two first second) place =
+    if place == 0 then Some first else (if place == 1 then Some second else None)
+argument_at (arguments.Three first second third) place =
+    if place == 0 then Some first else (if place == 1 then Some second else (if place == 2 then Some third else None))
 
 -- it takes so many
 abbrev pub takes_count : Command → ℕ → Bool

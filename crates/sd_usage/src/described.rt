@@ -1,9 +1,10 @@
 //! The program and its commands as values of `clap`, made of the table.
 
+use crate::names::argument_name;
 use crate::notes::NOTES;
 use crate::row::{Argument, CommandRow, Flag, OptionRow, Value};
 use crate::table::{command_rows, option_rows};
-use crate::texts::{CommandTexts, argument_name, flag_help, option_help, own_options, required};
+use crate::texts::{CommandTexts, flag_help, option_help, own_options};
 use clap::{Arg, ArgAction, Command};
 use std::alloc::{AllocError, Global};
 
@@ -67,20 +68,17 @@ pub(crate) fn described<'a>(
         let (name, help) = (flag.name(), flag_help(*flag));
         described = described.arg(own_option(alloc, *flag, name, help))?;
     }
-    for argument in &required(alloc, row.1.arguments)? {
-        let (name, help) = (argument_name(*argument), texts.help(*argument));
-        described = described.arg(value(alloc, name, help).required(true))?;
+    for place in 0..row.1.arguments.count() {
+        if let Some(argument) = row.1.arguments.at(place) {
+            let (name, help) = (argument_name(argument), texts.help(argument));
+            described = described.arg(Arg::new(alloc, name).help(help).required(true))?;
+        }
     }
     if let Some(argument) = row.1.repeated {
         let (name, help) = (argument_name(argument), texts.help(argument));
-        described = described.arg(value(alloc, name, help).num_args(0..))?;
+        described = described.arg(Arg::new(alloc, name).help(help).num_args(0..))?;
     }
     Ok(described)
-}
-
-/// An argument, even if it begins with a hyphen.
-fn value<'a>(alloc: Global, name: &'a str, help: &'a str) -> Arg<'a> {
-    Arg::new(alloc, name).help(help).allow_hyphen_values(true)
 }
 
 /// A command's own option.
@@ -98,14 +96,9 @@ fn option<'a>(alloc: Global, row: &'static OptionRow, help: &'a str) -> Arg<'a> 
     let name = row.0.strip_prefix("--").unwrap_or(row.0);
     let option = Arg::new(alloc, name).long(name).help(help);
     match row.1.value {
-        Some(value) => with_value(option, value_name(value)),
+        Some(value) => option.value_name(value_name(value)),
         None => option.action(ArgAction::SetTrue),
     }
-}
-
-/// The option with a value, even if it begins with a hyphen.
-fn with_value<'a>(option: Arg<'a>, name: &'a str) -> Arg<'a> {
-    option.value_name(name).allow_hyphen_values(true)
 }
 
 fn value_name(value: Value) -> &'static str {

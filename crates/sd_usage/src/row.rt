@@ -1,8 +1,8 @@
 //! What the rows of the table of commands and options are made of, and what a row says. Definitions can't name a
 //! constant whose structs hold references, so a row is a tuple: of texts, and of a struct without any.
 ghost use Rattle.std.specs.Prelude.{◌≡◌, bytes_eq};
-ghost use Rattle.sd_usage.specs.Table.{command_named, count_of, first_of, flag_name, flag_named, option_named};
-ghost use Rattle.sd_usage.specs.Table.{takes_count, takes_option};
+ghost use Rattle.sd_usage.specs.Table.{argument_at, command_named, count_of, first_of, flag_name, flag_named};
+ghost use Rattle.sd_usage.specs.Table.{option_named, takes_count, takes_option};
 
 use crate::table::{COMMANDS, OPTIONS};
 
@@ -275,7 +275,23 @@ impl Flag {
 }
 
 impl Arguments {
-    fn count(self) -> usize
+    /// The argument at this place, from 0, if so many are required.
+    pub fn at(self, place: usize) -> Option<Argument>
+        ensures { result ≡ argument_at self place }
+    {
+        match self {
+            Arguments::One(first) | Arguments::Two(first, _) | Arguments::Three(first, ..)
+                if place == 0 => Some(first),
+            Arguments::Two(_, second) | Arguments::Three(_, second, _) if place == 1 => Some(
+                second,
+            ),
+            Arguments::Three(_, _, third) if place == 2 => Some(third),
+            _ => None,
+        }
+    }
+
+    /// How many they are.
+    pub fn count(self) -> usize
         ensures { result ≡ count_of self }
     {
         match self {

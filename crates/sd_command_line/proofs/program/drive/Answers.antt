@@ -1,6 +1,6 @@
 use Rattle.std.proofs.Common.{◌≡◌, ◌∙◌, Bool, true, false, refl}
 use Rattle.std.specs.Prelude.{◌||◌}
-use Rattle.sd_command_line.proofs.Telling.{failure_left, told_error}
+use Rattle.sd_command_line.proofs.Telling.{failure_left, mistaken, told_error}
 use Rattle.sd_command_line.proofs.program.drive.Goals as goal
 
 or_false : (b : Bool) → (b || false) ≡ b
@@ -15,6 +15,11 @@ returns-in-Err-clause-told g c =
     told_error c.in-Err.failure c.status-in-Err.result c.args.words.now _ _ _ _ _ _ _ _ c.text.result.now
     c.in-Err.ensures.read c.in-Err.ensures.write c.in-Err.ensures.too_long c.in-Err.ensures.thread c.status-in-Err.ensures
     c.text.ensures c.tell-in-Err.ensures
+
+pub returns-in-Err-clause-mistaken : goal.returns-in-Err-clause-mistaken
+returns-in-Err-clause-mistaken g c =
+    mistaken c.in-Err.failure c.status-in-Err.result c.args.words.now _ _ _ _ _ _ c.text.result.now c.in-Err.ensures.err
+    c.status-in-Err.ensures c.text.ensures c.tell-in-Err.ensures
 
 pub returns-in-Err-clause-failed : goal.returns-in-Err-clause-failed
 returns-in-Err-clause-failed g c = λ three. failure_left c.in-Err.failure c.args.words.now _ _ _ _ c.in-Err.ensures.err
