@@ -154,174 +154,160 @@ VERSION = r"""
 --version
 """
 
-# Rejected by both, with the reason that `clap` gives.
+# Rejected, with the argument that the message names, counted from 1, and the mistake. `clap` accepts some of them: an option
+# before any command or with its value after a `=`, help and the version beside other arguments, any number of workers, any
+# arguments after the command of `each`, and a later `--`, which it drops.
 REJECTED = r"""
-serve -- --ids
-serve --ids --ids
---percent --percent script
---strict --strict script
---loose --loose frombin 00
-each
-each -0
---without-sacl --without-sacl print D:
---aliases --aliases print D:
---base64 --base64 frombin 00
---mapping key --mapping key lint D:
---mapping lint D:
---names
---names ''
---names frob
---names why D: SY
---names --names why D: SY 0x1
---names=x why D: SY 0x1
---name why D: SY 0x1
---domain
---domain x
---domain print D:
---domain x --domain y print D:
---domain x print
-
-''
--
---
-frob
-Verdict
-'verdict '
-script x
-serve x
-audit
-audit 2 3
--x
---frob
---help=
---help=x
---version=x
--- help
--- --help
--- print D:
-'' print D:
-help ''
-help frob
-help -h
-help --help
-help --
-help -- print
-help print D:
-help print -h
-help print print
-verdict
-verdict D:
-verdict D: SY
-verdict '' ''
-verdict -V
-verdict --
-verdict -- -h
-verdict -- D: SY
-verdict -- -- SY
-print
-print --
-print D: D:
-print '' ''
-print -- D: D:
-print -- -- D:
-print -- D: --
-frombin 00 --version
+3 SurplusArgument | serve -- --ids
+3 SurplusArgument | serve --ids --ids
+2 RepeatedOption | --percent --percent script
+2 RepeatedOption | --strict --strict script
+2 RepeatedOption | --loose --loose frombin 00
+2 MissingArgument | each
+3 MissingArgument | each -0
+2 RepeatedOption | --without-sacl --without-sacl print D:
+2 RepeatedOption | --aliases --aliases print D:
+2 RepeatedOption | --base64 --base64 frombin 00
+3 RepeatedOption | --mapping key --mapping key lint D:
+3 UnknownCommand | --mapping lint D:
+2 NoCommand | --names
+2 UnknownCommand | --names ''
+2 UnknownCommand | --names frob
+5 MissingArgument | --names why D: SY
+2 RepeatedOption | --names --names why D: SY 0x1
+1 UnknownOption | --names=x why D: SY 0x1
+1 UnknownOption | --name why D: SY 0x1
+1 NoValue | --domain
+3 NoCommand | --domain x
+3 UnknownCommand | --domain print D:
+3 RepeatedOption | --domain x --domain y print D:
+4 MissingArgument | --domain x print
+1 NoCommand |
+1 UnknownCommand | ''
+1 UnknownOption | -
+1 UnknownOption | --
+1 UnknownCommand | frob
+1 UnknownCommand | Verdict
+1 UnknownCommand | 'verdict '
+2 SurplusArgument | script x
+2 SurplusArgument | serve x
+2 MissingArgument | audit
+3 SurplusArgument | audit 2 3
+1 UnknownOption | -x
+1 UnknownOption | --frob
+1 UnknownOption | --help=
+1 UnknownOption | --help=x
+1 UnknownOption | --version=x
+1 UnknownOption | -- help
+1 UnknownOption | -- --help
+1 UnknownOption | -- print D:
+1 UnknownCommand | '' print D:
+2 UnknownCommand | help ''
+2 UnknownCommand | help frob
+2 UnknownCommand | help -h
+2 UnknownCommand | help --help
+2 UnknownCommand | help --
+1 NotAlone | help -- print
+1 NotAlone | help print D:
+1 NotAlone | help print -h
+1 NotAlone | help print print
+2 MissingArgument | verdict
+3 MissingArgument | verdict D:
+4 MissingArgument | verdict D: SY
+4 MissingArgument | verdict '' ''
+3 MissingArgument | verdict -V
+3 MissingArgument | verdict --
+4 MissingArgument | verdict -- -h
+5 MissingArgument | verdict -- D: SY
+5 MissingArgument | verdict -- -- SY
+2 MissingArgument | print
+3 MissingArgument | print --
+3 SurplusArgument | print D: D:
+3 SurplusArgument | print '' ''
+4 SurplusArgument | print -- D: D:
+4 SurplusArgument | print -- -- D:
+4 SurplusArgument | print -- D: --
+3 SurplusArgument | frombin 00 --version
+3 SurplusArgument | print D: --
+3 SurplusArgument | frombin 00 --
+1 NotAlone | -h -h
+1 UnknownOption | -hh
+1 UnknownOption | -hV
+1 NotAlone | --help print
+1 NotAlone | -h print D:
+4 MissingArgument | verdict -h SY
+4 MissingArgument | verdict --help SY
+4 MissingArgument | verdict D: -h
+4 MissingArgument | verdict D: --help
+3 MissingArgument | verdict -hh
+3 SurplusArgument | print -h -h
+3 SurplusArgument | print -h D:
+3 SurplusArgument | print D: --help
+3 SurplusArgument | tobin --help ''
+1 NotAlone | -V -V
+1 UnknownOption | -VV
+1 UnknownOption | -Vh
+1 NotAlone | --version x
+3 NotAlone | --domain x --help
+2 NotAlone | --names --help
+2 NotAlone | --names help
+2 NotAlone | --names help why
+2 NotAlone | --names help help
+4 MissingArgument | --names why -h
+2 NotAlone | --names --version
+1 MisplacedOption | --percent print D:
+1 MisplacedOption | --strict each print
+1 MisplacedOption | --without-sacl script
+1 MisplacedOption | --aliases script
+1 MisplacedOption | --aliases frombin 00
+1 MisplacedOption | --loose script
+1 MisplacedOption | --base64 tobin D:
+1 MisplacedOption | --mapping key print D:
+1 ExcludedOption | --base64 --loose frombin 00
+1 MisplacedOption | --domain x frombin 00
+1 MisplacedOption | --domain x script
+1 MisplacedOption | --domain x serve
+1 MisplacedOption | --domain x audit 1
+1 UnknownOption | --domain=x print D:
+3 MisplacedOption | --domain x --names print D:
+3 MisplacedOption | --domain --loose --base64 print D:
+1 MisplacedOption | --names verdict D: SY 0x1
+1 MisplacedOption | --names lint D:
+1 MisplacedOption | --names print D:
+1 MisplacedOption | --names tobin D:
+1 MisplacedOption | --names frombin 00
+1 MisplacedOption | --names script
+1 MisplacedOption | --names audit 1
+1 MisplacedOption | --names each print
+1 MisplacedOption | --stdin rights
+2 NoText | --stdin script
+2 NoText | --stdin each print
+3 MissingArgument | --stdin verdict
+3 SurplusArgument | --stdin print D:
+2 NoWorkers | audit ''
+2 NoWorkers | audit 0
+2 NoWorkers | audit 00
+2 NoWorkers | audit 65
+2 NoWorkers | audit 001
+2 NoWorkers | audit -1
+2 NoWorkers | audit +1
+2 NoWorkers | audit '1 '
+2 NoWorkers | audit 1/
+2 NoWorkers | audit two
+2 NoWorkers | audit 18446744073709551616
+3 NoWorkers | audit -- 0
+3 UnknownOption | each -- -0 print
+2 UnknownCommand | each frob
+2 NoText | each script
+2 NoText | each each print
+3 SurplusArgument | each print D:
+4 MissingArgument | each verdict SY
+3 SurplusArgument | each print -0
 """
 
-# `clap` answers these with help or the version.
-SHOWN_BY_CLAP = r"""
--h -h
--hh
--hV
---help print
--h print D:
-verdict -h SY
-verdict --help SY
-verdict D: -h
-verdict D: --help
-verdict -hh
-print -h -h
-print -h D:
-print D: --help
-tobin --help ''
--V -V
--VV
--Vh
---version x
---domain x --help
---names --help
---names help
---names help why
---names why -h
---names --version
-"""
-
-# `clap` takes each option before any command, or with its value after a `=`.
-MISPLACED_OPTIONS = r"""
---percent print D:
---strict each print
---without-sacl script
---aliases script
---aliases frombin 00
---loose script
---base64 tobin D:
---mapping key print D:
---base64 --loose frombin 00
---domain x frombin 00
---domain x script
---domain x serve
---domain x audit 1
---domain=x print D:
---domain x --names print D:
---names verdict D: SY 0x1
---names lint D:
---names print D:
---names tobin D:
---names frombin 00
---names script
---names audit 1
---names each print
-"""
-
-# `clap` parses no numbers.
-NO_WORKERS = r"""
-audit ''
-audit 0
-audit 00
-audit 65
-audit 001
-audit -1
-audit +1
-audit '1 '
-audit 1/
-audit two
-audit 18446744073709551616
-"""
-
-# `clap` doesn't know how many arguments the command of `each` has.
-NO_QUESTION_OF_EACH = r"""
-each -- -0 print
-each frob
-each script
-each each print
-each print D:
-each verdict SY
-each print -0
-"""
-
-# `clap` drops a later `--` too.
-LATER_DASHES = r"""
-print D: --
-frombin 00 --
-"""
-
-# The reasons for what `clap` doesn't reject.
-SHOWN_ALONE = "error: help is printed by 'help', "
-BEFORE_ITS_COMMAND = "error: an option goes before its command, "
-WORKERS = "error: the one argument of 'audit' is the number of workers: "
-AFTER_EACH = "error: after 'each' go "
-FIRST_DASHES = "error: only a first '--' after the command is dropped, "
-OWN_REASONS = (SHOWN_ALONE, BEFORE_ITS_COMMAND, WORKERS, AFTER_EACH, FIRST_DASHES)
+# The mistakes, by number from 1.
+MISTAKES = """NoCommand UnknownCommand UnknownOption NotAlone RepeatedOption NoValue MisplacedOption ExcludedOption NoText
+MissingArgument SurplusArgument NoWorkers""".split()
 
 
 def is_help(status, output, errors):
@@ -336,25 +322,30 @@ def is_command(status, output, errors):
     return status < 2 and not is_help(status, output, errors) and not is_version(status, output, errors)
 
 
-def is_rejected(status, output, errors):
-    return status == 2 and not output and errors.startswith("error: ") and not errors.startswith(OWN_REASONS)
+def is_rejected_for(place, name):
+    begins = "sdstore: argument " + place
+    ends = "(%d %s)" % (MISTAKES.index(name) + 1, name)
+
+    def holds(status, output, errors):
+        line = errors.partition("\n")[0]
+        return status == 2 and not output and line.startswith((begins + ":", begins + ", ")) and line.endswith(ends)
+
+    return holds
 
 
-def is_rejected_for(reason):
-    return lambda status, output, errors: status == 2 and not output and errors.startswith(reason)
-
-
-TABLES = (
-    (is_command, COMMANDS + HELP_FLAGS_ARE_ARGUMENTS.lstrip() + LATER_DASHES_ARE_ARGUMENTS.lstrip()),
-    (is_help, HELP),
-    (is_version, VERSION),
-    (is_rejected, REJECTED),
-    (is_rejected_for(SHOWN_ALONE), SHOWN_BY_CLAP),
-    (is_rejected_for(BEFORE_ITS_COMMAND), MISPLACED_OPTIONS),
-    (is_rejected_for(WORKERS), NO_WORKERS),
-    (is_rejected_for(AFTER_EACH), NO_QUESTION_OF_EACH),
-    (is_rejected_for(FIRST_DASHES), LATER_DASHES),
-)
+def cases():
+    """What holds of a line, beside it, of each table."""
+    accepted = (
+        (is_command, COMMANDS + HELP_FLAGS_ARE_ARGUMENTS.lstrip() + LATER_DASHES_ARE_ARGUMENTS.lstrip()),
+        (is_help, HELP),
+        (is_version, VERSION),
+    )
+    for holds, table in accepted:
+        for line in table[1:-1].split("\n"):
+            yield holds, line
+    for row in REJECTED[1:-1].split("\n"):
+        mistake, _, line = row.partition(" |")
+        yield is_rejected_for(*mistake.split()), line.strip(" ")
 
 
 def passes(case):
@@ -367,11 +358,11 @@ def passes(case):
 
 
 def main():
-    cases = [(holds, line) for holds, table in TABLES for line in table[1:-1].split("\n")]
+    rows = list(cases())
     with ThreadPoolExecutor(4) as pool:
-        passed = sum(pool.map(passes, cases))
-    print("%d passed, %d failed" % (passed, len(cases) - passed))
-    return passed != len(cases)
+        passed = sum(pool.map(passes, rows))
+    print("%d passed, %d failed" % (passed, len(rows) - passed))
+    return passed != len(rows)
 
 
 sys.exit(main())
