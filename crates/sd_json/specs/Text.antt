@@ -1,0 +1,18 @@
+-- The objects of an answer's lines.
+use Rattle.std.specs.Prelude.{ℕ, ◌==◌, if◌then◌else◌, List, [], ◌∷◌, ◌++◌, length, codes}
+use Rattle.std.specs.List.{slice_split}
+use Rattle.sd_json.specs.Lines.{object}
+use Rattle.sd_json.specs.declared.tagging.Tagging.{Tagging}
+
+-- what is after the last line feed: a line without its end, or nothing
+abbrev pub last_object : Tagging → List ℕ → List ℕ
+last_object tagging last = if length last == 0 then [] else object tagging last ++ codes "\n"
+
+-- an object in a line for each part that a line feed ends, and for the last one
+abbrev pub objects : Tagging → List (List ℕ) → List ℕ
+objects tagging [] = []
+objects tagging (last ∷ []) = last_object tagging last
+objects tagging (line ∷ next ∷ lines) = object tagging line ++ codes "\n" ++ objects tagging (next ∷ lines)
+
+abbrev pub json_text : Tagging → List ℕ → List ℕ
+json_text tagging text = objects tagging (slice_split (λ b. b == 10) text)

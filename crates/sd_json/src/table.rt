@@ -1,0 +1,71 @@
+//! The table of the kinds of lines that the program prints. docs/JSON.md has the same rows, and says what they mean.
+
+/// A kind, and the line's words: `$name` stands for any word, `#name` for a number, `,name` for a word with a comma
+/// after it, `*name` for all words that are left, one at least; each other word for itself.
+pub type LineRow = (&'static str, &'static str);
+
+/// The kinds. A line is of the first row whose words it has. No two rows of one kind have the same names.
+pub const ROWS: &[LineRow] = &[
+    // Verdicts.
+    ("granted", "granted $mask"),
+    ("denied", "denied $mask"),
+    ("reserved", "reserved $mask"),
+    ("empty", "empty"),
+    // Reasons.
+    ("granted", "granted $mask by entry #entry $ace as $sid"),
+    ("denied", "denied $mask by entry #entry $ace as $sid"),
+    ("denied", "denied $mask by no $no"),
+    ("granted", "granted $mask without a $without"),
+    ("granted", "granted $mask to the $to"),
+    ("granted", "granted $mask by $by"),
+    ("denied", "denied $mask without $without"),
+    ("denied", "denied $mask beyond $beyond"),
+    ("denied", "denied $mask as $as"),
+    (
+        "granted",
+        "granted $mask by entry #entry $ace as ,sid restricted by entry #second_entry $second_ace as $second_sid",
+    ),
+    (
+        "denied",
+        "denied $mask by entry #entry $ace as ,sid restricted by entry #second_entry $second_ace as $second_sid",
+    ),
+    (
+        "denied",
+        "denied $mask by entry #entry $ace as ,sid restricted by no $second_no",
+    ),
+    (
+        "denied",
+        "denied $mask by no ,no restricted by entry #second_entry $second_ace as $second_sid",
+    ),
+    (
+        "denied",
+        "denied $mask by no ,no restricted by no $second_no",
+    ),
+    // Who, and what a change opens.
+    ("who", "$mask to $to"),
+    ("who", "$mask to $to as the $as"),
+    ("who", "$mask to $to unless *unless"),
+    ("who", "$mask to $to as the $as unless *unless"),
+    ("same", "same"),
+    ("gained", "gained $mask by $by"),
+    ("gained", "gained $mask by $by *with"),
+    ("lost", "lost $mask by $by"),
+    ("lost", "lost $mask by $by *with"),
+    // What is doubtful.
+    ("clean", "clean"),
+    ("no DACL", "no DACL grants everything"),
+    ("null DACL", "a null DACL grants everything"),
+    (
+        "out of order",
+        "entry #entry $ace is out of order behind entry #behind",
+    ),
+    ("no right", "entry #entry $ace names no right"),
+    ("not inherited", "entry #entry $ace is inherited by nothing"),
+    ("repeated", "entry #entry $ace repeats entry #repeats"),
+    ("no effect", "entry #entry $ace has no effect"),
+    ("limits owner", "entry #entry $ace limits the owner"),
+    // Faults.
+    ("fault", "fault $of"),
+    ("fault", "fault $of #number $name"),
+    ("fault", "fault $of #number $name at #at"),
+];

@@ -1,0 +1,56 @@
+//! The lines of an answer as objects.
+
+ghost use Rattle.std.specs.Prelude.{◌≡◌, ◌++◌, IfOk, OnOk, codes};
+ghost use Rattle.sd_json.specs.Lines.{object};
+ghost use Rattle.sd_json.specs.Text.{json_text, last_object};
+
+use crate::cut::cut;
+use crate::line::push_object;
+use crate::tagging::Tagging;
+use std::alloc::{AllocError, Global};
+
+/// An answer as JSON Lines: an object for each line that a line feed ends, and for a last one without its end, each
+/// with a line feed. The one error is out of memory.
+pub fn json_text(alloc: Global, tagging: Tagging, text: &[u8]) -> Result<Vec<u8>, AllocError>
+    ensures { IfOk result (λ lines. lines.items ≡ json_text tagging text.now) }
+{
+    let mut out = Vec::new(alloc);
+    let mut rest = text;
+    'lines: loop {
+        let Some((line, after)) = cut(b'\n', rest) else {
+            break 'lines;
+        };
+        push_line(alloc, tagging, line, &mut out)?;
+        rest = after;
+    }
+    push_last(alloc, tagging, rest, &mut out)?;
+    Ok(out)
+}
+
+/// The same of what is after the last line feed: a line without its end, or nothing.
+fn push_last(
+    alloc: Global,
+    tagging: Tagging,
+    last: &[u8],
+    out: &mut Vec<u8>,
+) -> Result<(), AllocError>
+    ensures { OnOk result (out.new.items ≡ out.old.items ++ last_object tagging last.now) }
+{
+    if last.is_empty() {
+        return Ok(());
+    }
+    push_line(alloc, tagging, last, out)
+}
+
+fn push_line(
+    alloc: Global,
+    tagging: Tagging,
+    line: &[u8],
+    out: &mut Vec<u8>,
+) -> Result<(), AllocError>
+    ensures { OnOk result (out.new.items ≡ out.old.items ++ object tagging line.now ++ codes "\n") }
+{
+    push_object(alloc, tagging, line, out)?;
+    out.push(b'\n')?;
+    Ok(())
+}
