@@ -15,7 +15,7 @@ use Rattle.sd_script_audit.specs.Audit.{PrintsAuditAndCounts}
 use Rattle.sd_script.specs.Ids.{PrintsAndCountsIn, PrintsIn}
 use Rattle.sd_script.specs.declared.ids.TheConstants.{LINES}
 use Rattle.sd_commands.specs.Answer.{AnswerValue}
-use Rattle.sd_command_line.specs.Answer.{Answers, AnswersInput, IsBadValue}
+use Rattle.sd_command_line.specs.Answer.{Answers, AnswersInput, IsBadValue, shown_answer}
 use Rattle.sd_command_line.specs.CommandLine.{CommandLineValue, InvocationValue, RequestValue, IsAudit, Ask, AskInput, Script, Serve, Audit, Each, Help, Version, mistake_in, reading, runs_script}
 use Rattle.sd_command_line.specs.Mistake.{message}
 use Rattle.sd_command_line.specs.declared.mistake.Mistake.{Mistake}
@@ -162,14 +162,16 @@ print_fails (Err failure) line input left old new answer answers fails = rw (fai
 
 -- an input that is answered, or whose command has an invalid option
 pub input_answers : (input : Option (List ℕ)) (options : OptionsValue) (request : RequestValue) (settings : Settings) (text bytes : List ℕ)
-    (answer : AnswerValue) → AreSettings options settings → IfSome input (λ known. text ≡ known) → bytes ≡ text
-    → AnswersInput settings request bytes answer → Answers input (record { options = options; invocation = AskInput request }) answer
-input_answers input options request settings text bytes answer said known same is =
-    inl (settings, said, (text, known, subst (λ read. AnswersInput settings request read answer) same is))
+    (plain answer : AnswerValue) → AreSettings options settings → IfSome input (λ known. text ≡ known) → bytes ≡ text
+    → AnswersInput settings request bytes plain → answer ≡ shown_answer options plain
+    → Answers input (record { options = options; invocation = AskInput request }) answer
+input_answers input options request settings text bytes plain answer said known same is printed =
+    (plain, inl (settings, said, (text, known, subst (λ read. AnswersInput settings request read plain) same is)), printed)
 
-pub bad_input : (input : Option (List ℕ)) (options : OptionsValue) (request : RequestValue) (bad : BadValue) (answer : AnswerValue)
-    → HasBadValue options bad → IsBadValue bad answer → Answers input (record { options = options; invocation = AskInput request }) answer
-bad_input input options request bad answer has is = inr (bad, has, is)
+pub bad_input : (input : Option (List ℕ)) (options : OptionsValue) (request : RequestValue) (bad : BadValue) (plain answer : AnswerValue)
+    → HasBadValue options bad → IsBadValue bad plain → answer ≡ shown_answer options plain
+    → Answers input (record { options = options; invocation = AskInput request }) answer
+bad_input input options request bad plain answer has is printed = (plain, inr (bad, has, is), printed)
 
 -- a script whose mapping isn't read
 pub bad_answers : (input : Option (List ℕ)) (options : OptionsValue) (invocation : InvocationValue) (bad : BadValue) (answer : AnswerValue)

@@ -1,6 +1,6 @@
 -- What the program prints for a command line, and whether it did what was asked for.
 use Rattle.std.specs.Prelude.{◌≡◌, ◌⊎◌, ℕ, Bool, true, false, MatchBool, List, [], ◌++◌, Option, Some, None, IfSome}
-use Rattle.std.specs.Prelude.{MatchOption, codes}
+use Rattle.std.specs.Prelude.{MatchOption, if◌then◌else◌, codes, string_bytes}
 use Rattle.std.specs.Io.KnownBytes.{Appends}
 use Rattle.std.specs.Str.{IsUtf8}
 use Rattle.sd_answer.specs.Answer.{line, fault_line}
@@ -15,6 +15,8 @@ use Rattle.sd_lines.specs.Lines.{unmarked}
 use Rattle.sd_lines.specs.declared.ending.Ending.{Ending}
 use Rattle.sd_lines.specs.declared.form.Form.{Form as LineForm}
 use Rattle.sd_command_line.specs.Scripts.{IsToldOfScript, manner_of, script_outcome}
+use Rattle.sd_json.specs.declared.tagging.Tagging.{Tagging}
+use Rattle.sd_json.specs.declared.tagging.Tagging.TheVariants.{Key, Nothing}
 use Rattle.sd_usage.specs.declared.row.Question.{Question}
 use Rattle.sd_usage.specs.declared.row.Question.TheVariants as questions
 use Rattle.sd_command_line.specs.CommandLine.{CommandLineValue, InvocationValue, Ask, AskInput, Script as AsksScript}
@@ -26,12 +28,13 @@ use Rattle.sd_command_line.specs.declared.flags.Lines.{Lines}
 use Rattle.sd_command_line.specs.declared.input.ByteOrder.{ByteOrder}
 use Rattle.sd_command_line.specs.declared.each.Progress.{Progress}
 use Rattle.sd_command_line.specs.declared.each.Progress.TheVariants.{NoLine}
-use Rattle.sd_command_line.specs.Options.{OptionsValue, AreSettings, HasBadValue, is_strict}
+use Rattle.sd_command_line.specs.Options.{OptionsValue, AreSettings, HasBadValue, is_strict, shown}
 use Rattle.sd_text.specs.Alias.{in_domain}
 use Rattle.sd_commands.specs.Answer.{AnswerValue, AnswersQuestion, IsDone, IsFault, is_refusal}
 use Rattle.sd_commands.specs.Told.{told_line, IsSidReason}
 use Rattle.sd_commands.specs.declared.answer.Outcome.TheVariants.{Done}
 use Rattle.sd_command_line.specs.declared.options.BadValue.{BadValue}
+use Rattle.sd_command_line.specs.declared.shown.Shown.{Shown}
 use Rattle.sd_command_line.specs.declared.options.BadValue.TheVariants.{NoDomain, NoMapping}
 use Rattle.sd_commands.specs.declared.settings.Settings.{Settings}
 use Rattle.sd_command_line.specs.declared.version.TheConstants.{VERSION, KIT}
@@ -70,6 +73,22 @@ AnswersWith options Answers answer =
 
 abbrev pub AnswersArguments : OptionsValue → InvocationValue → AnswerValue → Type 0
 AnswersArguments options invocation answer = AnswersWith options (λ settings. AnswersUnder settings invocation) answer
+
+-- ---- as it is printed
+
+abbrev pub shown_of : Shown → AnswerValue
+shown_of shown = record {
+  printed = shown.printed.items;
+  told = string_bytes shown.told;
+  outcome = shown.outcome;
+}
+
+abbrev pub shown_answer : OptionsValue → AnswerValue → AnswerValue
+shown_answer options answer = record answer { printed = shown options Nothing answer.printed }
+
+-- an answer, as it is printed
+abbrev pub Shows : OptionsValue → (AnswerValue → Type 0) → AnswerValue → Type 0
+Shows options Answers answer = (plain : AnswerValue) × Answers plain × (answer ≡ shown_answer options plain)
 
 -- ---- the text that an input is
 
@@ -167,11 +186,14 @@ AnswersLineIn has_keys options request told printed is_refused = MatchBool has_k
     (AnswersKeyed options request told printed is_refused)
     (AnswersLine options request told printed is_refused)
 
--- the same, and how the lines up to this one were answered
+abbrev pub tagging_of : Bool → Tagging
+tagging_of has_keys = if has_keys then Key else Nothing
+
+-- the same as it is printed, and how the lines up to this one were answered
 abbrev pub AnswersNext : Bool → OptionsValue → RequestValue → Progress → Option (List ℕ) → List ℕ → Progress → Type 0
 AnswersNext has_keys options request before told printed after =
-    (is_refused : Bool) × AnswersLineIn has_keys options request told printed is_refused
-    × (after ≡ with_line before is_refused)
+    (plain : List ℕ) × (is_refused : Bool) × AnswersLineIn has_keys options request told plain is_refused
+    × (printed ≡ shown options (tagging_of has_keys) plain) × (after ≡ with_line before is_refused)
 
 -- the lines of an input, of which one that is too long is answered too
 abbrev pub form_of : Ending → LineForm
@@ -198,7 +220,8 @@ pub record AppendsEach (options : OptionsValue) (lines : Lines) (request : Reque
 
 -- what is printed for a command line, with this input where it is known, and what came of it
 abbrev pub AnswersInvocation : Option (List ℕ) → OptionsValue → InvocationValue → AnswerValue → Type 0
-AnswersInvocation input options (AskInput request) answer = AnswersWith options (AnswersGiven input request) answer
+AnswersInvocation input options (AskInput request) answer =
+    Shows options (AnswersWith options (AnswersGiven input request)) answer
 AnswersInvocation input options AsksScript answer = AnswersWith options
     (AnswersScript PrintsAndCounts input options) answer
 AnswersInvocation input options (AsksServe has_ids) answer =
@@ -206,7 +229,7 @@ AnswersInvocation input options (AsksServe has_ids) answer =
 AnswersInvocation input options (AsksAudit workers) answer =
     AnswersWith options (AnswersScript (λ manner. PrintsAuditAndCounts manner workers) input options) answer
 AnswersInvocation input options (AsksEach lines request) answer = AnswersEach options lines request input answer
-AnswersInvocation input options invocation answer = AnswersArguments options invocation answer
+AnswersInvocation input options invocation answer = Shows options (AnswersArguments options invocation) answer
 
 abbrev pub Answers : Option (List ℕ) → CommandLineValue → AnswerValue → Type 0
 Answers input line answer = AnswersInvocation input line.options line.invocation answer

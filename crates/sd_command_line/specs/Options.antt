@@ -11,11 +11,13 @@ use Rattle.sd_script.specs.declared.paths.PathSpelling.{PathSpelling}
 use Rattle.sd_script.specs.declared.paths.PathSpelling.TheVariants as paths
 use Rattle.sd_answer.specs.declared.answer.Spelling.{Spelling}
 use Rattle.sd_answer.specs.declared.answer.Spelling.TheVariants.{Number, Names as ByNames}
+use Rattle.sd_json.specs.Text.{json_text}
+use Rattle.sd_json.specs.declared.tagging.Tagging.{Tagging}
 use Rattle.sd_usage.specs.Table.{option_named, takes_option}
 use Rattle.sd_usage.specs.declared.row.Command.{Command}
 use Rattle.sd_usage.specs.declared.row.OptionName.{OptionName}
 use Rattle.sd_usage.specs.declared.row.OptionName.TheVariants.{Stdin, Names, WithoutSacl, RequireDacl, Base64, Loose}
-use Rattle.sd_usage.specs.declared.row.OptionName.TheVariants.{Percent, Strict, Domain, Aliases, Mapping}
+use Rattle.sd_usage.specs.declared.row.OptionName.TheVariants.{Percent, Strict, Domain, Aliases, Mapping, Json}
 use Rattle.sd_usage.specs.declared.row.ProgramOption.{ProgramOption}
 use Rattle.sd_commands.specs.Mapping.{GivesMapping, GivesNoMapping, kind_given}
 use Rattle.sd_commands.specs.declared.settings.ByteForm.{ByteForm}
@@ -43,6 +45,7 @@ pub record OptionsValue : Type 0 where
   pub domain : Option (List ℕ)
   pub aliases : Option (List ℕ)
   pub mapping : Option (List ℕ)
+  pub json : Option (List ℕ)
 
 abbrev pub options_of : Options → OptionsValue
 options_of options = record {
@@ -57,6 +60,7 @@ options_of options = record {
   domain = option_map (λ text. text.now) options.domain;
   aliases = option_map (λ text. text.now) options.aliases;
   mapping = option_map (λ text. text.now) options.mapping;
+  json = option_map (λ text. text.now) options.json;
 }
 
 abbrev pub no_options : OptionsValue
@@ -72,6 +76,7 @@ no_options = record {
   domain = None;
   aliases = None;
   mapping = None;
+  json = None;
 }
 
 -- the value of an option, where it is given
@@ -87,6 +92,7 @@ given options Strict = options.strict
 given options Domain = options.domain
 given options Aliases = options.aliases
 given options Mapping = options.mapping
+given options Json = options.json
 
 abbrev pub has : OptionsValue → OptionName → Bool
 has options option = is_some (given options option)
@@ -103,6 +109,7 @@ with_value options Strict value = record options { strict = Some value }
 with_value options Domain value = record options { domain = Some value }
 with_value options Aliases value = record options { aliases = Some value }
 with_value options Mapping value = record options { mapping = Some value }
+with_value options Json value = record options { json = Some value }
 
 -- one more option, from which on there are so many arguments, where it isn't one of these already
 abbrev pub with_option : OptionsValue → ℕ → OptionName → List ℕ → Result OptionsValue Mistake
@@ -174,6 +181,10 @@ paths_of options = if is_some options.percent then paths.Percent else paths.Plai
 -- whether the input takes the place of the first argument
 abbrev pub is_from_input : OptionsValue → Bool
 is_from_input options = is_some options.stdin
+
+-- a text as it is printed: as it is, or with `--json` an object for each of its lines
+abbrev pub shown : OptionsValue → Tagging → List ℕ → List ℕ
+shown options tagging text = if is_some options.json then json_text tagging text else text
 
 -- whether a script's fault or refusal is told by the status
 abbrev pub is_strict : OptionsValue → Bool

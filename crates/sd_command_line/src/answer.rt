@@ -1,22 +1,34 @@
 //! The answer to a command line that needs no input.
 ghost use Rattle.std.specs.Prelude.{◌≡◌, ℕ, List, Option, false, IfOk};
 ghost use Rattle.sd_commands.specs.Answer.{answer_of};
-ghost use Rattle.sd_command_line.specs.Answer.{Answers, AnswersUnder, IsBadValue};
+ghost use Rattle.sd_command_line.specs.Answer.{Answers, AnswersArguments, AnswersUnder, IsBadValue, shown_of};
 ghost use Rattle.sd_command_line.specs.CommandLine.{command_line_of, invocation_of, is_script};
+ghost use Rattle.sd_command_line.specs.Options.{options_of};
 
 use crate::command_line::{CommandLine, Invocation};
 use crate::options::BadValue;
+use crate::shown::Shown;
 use crate::version::version_text;
 use sd_commands::{Answer, Settings, answer_question, fault, sid_reason, told_line};
 use sd_text::Aliases;
 use sd_usage::help;
 use std::alloc::{AllocError, Global};
 
-/// The answer to a command line that needs no input.
-pub(crate) fn answer_to(alloc: Global, line: CommandLine<'_>) -> Result<Answer, AllocError>
+/// The answer to a command line that needs no input, as it is printed.
+pub(crate) fn answer_to(alloc: Global, line: CommandLine<'_>) -> Result<Shown, AllocError>
     requires { is_script (invocation_of line.invocation) ≡ false }
     ensures { (input : Option (List ℕ))
-        → IfOk result (λ answer. Answers input (command_line_of line.entry) (answer_of answer)) }
+        → IfOk result (λ shown. Answers input (command_line_of line.entry) (shown_of shown)) }
+{
+    let answer = plain_answer(alloc, line)?;
+    Shown::under(alloc, line.options, answer)
+}
+
+/// The same before its lines are objects.
+pub(crate) fn plain_answer(alloc: Global, line: CommandLine<'_>) -> Result<Answer, AllocError>
+    requires { is_script (invocation_of line.invocation) ≡ false }
+    ensures { IfOk result (λ answer.
+        AnswersArguments (options_of line.entry.options) (invocation_of line.entry.invocation) (answer_of answer)) }
 {
     match line.options.settings() {
         Ok(settings) => answer_under(alloc, settings, line.invocation),

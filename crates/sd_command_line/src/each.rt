@@ -7,18 +7,19 @@ ghost use Rattle.sd_stream.specs.Watched.{has_failed, inner_of};
 ghost use Rattle.sd_stream.specs.Whole.{is_read_error, is_write_error};
 ghost use Rattle.sd_commands.specs.Answer.{answer_of, is_refusal};
 ghost use Rattle.sd_command_line.specs.Answer.{AnswersKeyed, AnswersLine, AnswersNext, AnswersText, AnswersTold};
-ghost use Rattle.sd_command_line.specs.Answer.{AppendsEach, after_answer, form_of};
+ghost use Rattle.sd_command_line.specs.Answer.{AppendsEach, after_answer, form_of, tagging_of};
 ghost use Rattle.sd_command_line.specs.CommandLine.{request_of};
 ghost use Rattle.sd_command_line.specs.Each.{after_key, has_feed, has_key, key_len, key_of, no_line_note};
 ghost use Rattle.sd_command_line.specs.Each.{outcome_of_lines, told_of_lines, with_line};
 ghost use Rattle.sd_command_line.specs.Options.{options_of};
 ghost use Rattle.sd_command_line.specs.declared.each.Progress.TheVariants.{NoLine};
 
-use crate::answer::answer_to;
+use crate::answer::plain_answer;
 use crate::command_line::{CommandLine, Invocation, Request};
 use crate::input::is_blank;
 use crate::options::Options;
 use sd_commands::{Answer, Outcome, fault, told_line};
+use sd_json::Tagging;
 use sd_lines::{Answers, Ending, Form, answer_lines};
 use sd_script::tagged;
 use sd_stream::{RunError, Watched};
@@ -113,13 +114,24 @@ impl Answers for LineQuestion<'_> {
         } else {
             self.answer_line(alloc, line)?
         };
-        text.extend_from_slice(&answered.printed)?;
+        let printed = self.options.shown(alloc, self.tagging(), answered.printed)?;
+        text.extend_from_slice(&printed)?;
         *progress = progress.with_line(answered.outcome);
         Ok(())
     }
 }
 
 impl LineQuestion<'_> {
+    fn tagging(&self) -> Tagging
+        ensures { result ≡ tagging_of self.now.has_keys }
+    {
+        if self.has_keys {
+            Tagging::Key
+        } else {
+            Tagging::Nothing
+        }
+    }
+
     /// The answer to a line that is a key, a tab and a text: the text's, each line of which begins with the key and the
     /// tab. A line without a key is a fault.
     fn answer_keyed(&self, alloc: Global, line: Option<&[u8]>) -> Result<Answered, AllocError>
@@ -144,7 +156,7 @@ impl LineQuestion<'_> {
         ensures { IfOk result (λ answered. AnswersLine (options_of self.now.options) (request_of self.now.request)
             (option_map (λ bytes. bytes.now) line.entry) answered.printed.items (is_refusal answered.outcome)) }
     {
-        self.ended(alloc, self.answer_told(alloc, line)?)
+        self.ended(alloc, self.plain_answerld(alloc, line)?)
     }
 
     /// An answer, and what follows it.
@@ -163,7 +175,7 @@ impl LineQuestion<'_> {
     }
 
     /// The answer to a line, of which there is no text where it is too long.
-    fn answer_told(&self, alloc: Global, line: Option<&[u8]>) -> Result<Answer, AllocError>
+    fn plain_answerld(&self, alloc: Global, line: Option<&[u8]>) -> Result<Answer, AllocError>
         ensures { IfOk result (λ answer. AnswersTold (options_of self.now.options) (request_of self.now.request)
             (option_map (λ bytes. bytes.now) line.entry) (answer_of answer)) }
     {
@@ -184,7 +196,7 @@ impl LineQuestion<'_> {
         if is_blank(text.as_bytes()) {
             return fault(alloc, "blank", String::new(alloc));
         }
-        answer_to(
+        plain_answer(
             alloc,
             CommandLine {
                 options: self.options,

@@ -23,6 +23,7 @@ mod options;
 mod perform;
 mod program;
 mod scripts;
+mod shown;
 mod version;
 mod words;
 

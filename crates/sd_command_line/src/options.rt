@@ -7,16 +7,18 @@ ghost use Rattle.sd_text.specs.Sid.{sid_text};
 ghost use Rattle.sd_command_line.specs.Scripts.{manner_of};
 ghost use Rattle.sd_command_line.specs.Options.{AreSettings, GivesDomain, HasBadValue, IsNoDomain, byte_form_of, given};
 ghost use Rattle.sd_command_line.specs.Options.{has, is_from_input, is_strict, misplaced_in, no_options, options_in};
-ghost use Rattle.sd_command_line.specs.Options.{options_of, parted, paths_of, spelling_of, with_option, with_value};
-ghost use Rattle.sd_command_line.specs.Options.{wrong_option};
+ghost use Rattle.sd_command_line.specs.Options.{options_of, parted, paths_of, shown, spelling_of, with_option};
+ghost use Rattle.sd_command_line.specs.Options.{with_value, wrong_option};
 ghost use Rattle.sd_command_line.specs.Mistake.{map_read};
 
 use crate::mistake::{Mistake, Wrong};
 use sd_answer::Spelling;
 use sd_commands::{ByteForm, Settings, kind_given, mapping_given};
+use sd_json::{Tagging, json_text};
 use sd_script::{Manner, PathSpelling};
 use sd_text::{Aliases, Domain, read_sid_text};
 use sd_usage::{Command, OptionName, ProgramOption, option_named};
+use std::alloc::{AllocError, Global};
 
 /// The value of an option that isn't read.
 #[derive(Clone, Copy, Debug)]
@@ -42,6 +44,7 @@ pub(crate) struct Options<'a> {
     domain: Option<&'a str>,
     aliases: Option<&'a str>,
     mapping: Option<&'a str>,
+    json: Option<&'a str>,
 }
 
 impl<'a> Options<'a> {
@@ -61,6 +64,7 @@ impl<'a> Options<'a> {
             domain: None,
             aliases: None,
             mapping: None,
+            json: None,
         }
     }
 
@@ -80,6 +84,7 @@ impl<'a> Options<'a> {
             OptionName::Domain => self.domain,
             OptionName::Aliases => self.aliases,
             OptionName::Mapping => self.mapping,
+            OptionName::Json => self.json,
         }
     }
 
@@ -140,6 +145,10 @@ impl<'a> Options<'a> {
             },
             OptionName::Mapping => Options {
                 mapping: value,
+                ..self
+            },
+            OptionName::Json => Options {
+                json: value,
                 ..self
             },
         }
@@ -206,6 +215,22 @@ impl<'a> Options<'a> {
         ensures { result ≡ is_strict (options_of self.entry) }
     {
         self.has(OptionName::Strict)
+    }
+
+    /// A text as it is printed: as it is, or with `--json` an object for each of its lines.
+    pub(crate) fn shown(
+        self,
+        alloc: Global,
+        tagging: Tagging,
+        text: Vec<u8>,
+    ) -> Result<Vec<u8>, AllocError>
+        ensures { IfOk result (λ printed. printed.items ≡ shown (options_of self.entry) tagging text.items) }
+    {
+        if self.has(OptionName::Json) {
+            json_text(alloc, tagging, &text)
+        } else {
+            Ok(text)
+        }
     }
 
     /// The domain whose SID is given, if one is.

@@ -3,7 +3,7 @@ ghost use Rattle.std.specs.Prelude.{◌≡◌, ◌≢◌, ◌||◌, ℕ, List, t
 ghost use Rattle.std.specs.Io.KnownBytes.{Appends};
 ghost use Rattle.sd_stream.specs.Watched.{has_failed, inner_of};
 ghost use Rattle.sd_stream.specs.Whole.{AppendsBeginning, ReadsPart, is_read_error, is_write_error};
-ghost use Rattle.sd_commands.specs.Answer.{answer_of, outcome_status};
+ghost use Rattle.sd_commands.specs.Answer.{outcome_status};
 ghost use Rattle.sd_command_line.specs.CommandLine.{AskInput, Audit, Each, command_line_of, invocation_of, is_script};
 ghost use Rattle.sd_command_line.specs.CommandLine.{request_of, runs_script};
 ghost use Rattle.sd_command_line.specs.Options.{AreSettings, is_strict, options_of};
@@ -19,7 +19,8 @@ use crate::flags::Lines;
 use crate::input::answer_input;
 use crate::options::Options;
 use crate::scripts::{script_outcome, told_of_script};
-use sd_commands::{Answer, Outcome, Settings};
+use crate::shown::Shown;
+use sd_commands::{Outcome, Settings};
 use sd_script::{Tally, run, serve};
 use sd_script_audit::run_audit;
 use sd_store::OpenGate;
@@ -102,9 +103,13 @@ fn perform_input<R: Read, W: Write>(
     match options.settings() {
         Ok(settings) => {
             let input = read_whole(alloc, reader)?;
-            print(answer_input(alloc, settings, request, &input)?, writer)
+            let answer = answer_input(alloc, settings, request, &input)?;
+            print(Shown::under(alloc, options, answer)?, writer)
         }
-        Err(bad) => print(bad_value(alloc, bad)?, writer),
+        Err(bad) => {
+            let answer = bad_value(alloc, bad)?;
+            print(Shown::under(alloc, options, answer)?, writer)
+        }
     }
 }
 
@@ -139,7 +144,7 @@ fn perform_script<T: Threads + Wait + Sync, R: Read, W: Write>(
                 outcome: script_outcome(is_strict, &tally),
             })
         }
-        Err(bad) => print(bad_value(alloc, bad)?, writer),
+        Err(bad) => print(Shown::plain(bad_value(alloc, bad)?), writer),
     }
 }
 
@@ -221,20 +226,20 @@ fn perform_each<R: Read, W: Write>(
 }
 
 /// Prints an answer.
-fn print<W: Write>(answer: Answer, writer: &mut Watched<W>) -> Result<Ended, Failure>
+fn print<W: Write>(shown: Shown, writer: &mut Watched<W>) -> Result<Ended, Failure>
     ensures ok { IfOk result (λ ended. Appends (W.contents (inner_of writer.old)) (W.contents (inner_of writer.new))
-        (answer_of answer).printed
-        × (string_bytes ended.told ≡ (answer_of answer).told) × (ended.outcome ≡ answer.outcome)) }
+        shown.printed.items
+        × (string_bytes ended.told ≡ string_bytes shown.told) × (ended.outcome ≡ shown.outcome)) }
     ensures err { IfErr result (λ failure. (failure ≡ Failure.Run RunError.Write)
         × AppendsBeginning (W.contents (inner_of writer.old)) (W.contents (inner_of writer.new))
-        (answer_of answer).printed) }
+        shown.printed.items) }
     ensures write { has_failed writer.new ≡ (has_failed writer.old || blames_writer result) }
 {
-    let Answer {
-        text,
+    let Shown {
+        printed,
         told,
         outcome,
-    } = answer;
-    write_whole(writer, text.as_bytes())?;
+    } = shown;
+    write_whole(writer, &printed)?;
     Ok(Ended { told, outcome })
 }

@@ -10,7 +10,7 @@ use Rattle.sd_usage.specs.declared.row.Flag.TheVariants.{Ids, Key, Zero}
 use Rattle.sd_usage.specs.declared.row.Flags.{Flags}
 use Rattle.sd_usage.specs.declared.row.Flags.TheVariants as flags
 use Rattle.sd_usage.specs.declared.row.OptionName.{OptionName}
-use Rattle.sd_usage.specs.declared.row.OptionName.TheVariants.{Aliases, Base64, Domain, Loose, Mapping}
+use Rattle.sd_usage.specs.declared.row.OptionName.TheVariants.{Aliases, Base64, Domain, Json, Loose, Mapping}
 use Rattle.sd_usage.specs.declared.row.OptionName.TheVariants.{Names, Percent, RequireDacl, Stdin, Strict, WithoutSacl}
 use Rattle.sd_usage.specs.declared.row.ProgramOption.{ProgramOption}
 use Rattle.sd_usage.specs.declared.table.TheConstants.{COMMANDS, OPTIONS}
@@ -61,6 +61,7 @@ takes_option command Strict = command.options.strict
 takes_option command Domain = command.options.domain
 takes_option command Aliases = command.options.aliases
 takes_option command Mapping = command.options.mapping
+takes_option command Json = command.options.json
 
 abbrev pub flag_name : Flag → List ℕ
 flag_name Ids = codes "--ids"

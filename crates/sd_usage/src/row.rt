@@ -77,6 +77,8 @@ pub enum OptionName {
     Aliases,
     /// `--mapping`.
     Mapping,
+    /// `--json`.
+    Json,
 }
 
 /// A command, and what follows it.
@@ -162,6 +164,7 @@ pub struct OptionSet {
     pub domain: bool,
     pub aliases: bool,
     pub mapping: bool,
+    pub json: bool,
 }
 
 /// An option before a command.
@@ -246,6 +249,7 @@ impl Command {
             OptionName::Domain => self.options.domain,
             OptionName::Aliases => self.options.aliases,
             OptionName::Mapping => self.options.mapping,
+            OptionName::Json => self.options.json,
         }
     }
 

@@ -17,6 +17,7 @@ const NO_OPTIONS: OptionSet = OptionSet {
     domain: false,
     aliases: false,
     mapping: false,
+    json: false,
 };
 
 // Of commands that parse a descriptor's text.
@@ -26,6 +27,7 @@ const TEXT_OPTIONS: OptionSet = OptionSet {
     require_dacl: true,
     domain: true,
     aliases: true,
+    json: true,
     ..NO_OPTIONS
 };
 
@@ -41,6 +43,7 @@ const BYTES_OPTIONS: OptionSet = OptionSet {
     require_dacl: true,
     base64: true,
     loose: true,
+    json: true,
     ..NO_OPTIONS
 };
 
@@ -180,6 +183,7 @@ sdstore verdict 'D:(D;;0x2;;;S-1-5-21-1-2-3-1001)(A;;0x1f01ff;;;S-1-5-21-1-2-3-1
             repeated: None,
             options: OptionSet {
                 mapping: true,
+                json: true,
                 ..NO_OPTIONS
             },
         },
@@ -354,6 +358,17 @@ domain AP, CN, KA and RO",
         "\
 the generic mapping, that of a 'file' (the default), of a registry 'key', of a 'service' or of a
 'process', or R,W,X,A, the four masks of GR, GW, GX and GA",
+    ),
+    (
+        "--json",
+        ProgramOption {
+            name: OptionName::Json,
+            value: None,
+            excludes: None,
+        },
+        "\
+prints each line of the answer as an object of JSON in a line, with what kind of line it is and its
+words by their names",
     ),
 ];
 

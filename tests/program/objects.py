@@ -1,0 +1,135 @@
+#!/usr/bin/env python3
+"""Answers with `--json` beside those without: `objects.py PROGRAM`. The last line is 'N passed, M failed'.
+
+Each row of tests/ whose command takes `--json`, and whose input has less than 64 KiB, is run with it and without:
+its status and its standard error are the same, and each line of its output is made again from its object, by the table
+of docs/JSON.md, whose rows are those of crates/sd_json/src/table.rt. Keys of all bytes are tried beside them.
+"""
+import importlib.machinery
+import importlib.util
+import json
+import re
+import subprocess
+import sys
+from concurrent.futures import ThreadPoolExecutor
+from pathlib import Path
+
+PROGRAM = sys.argv[1]
+TOP = Path(__file__).resolve().parent.parent.parent
+MARKS = "$#,*"
+COMMANDS = "verdict why who compare lint print sort tobin frombin rights each".split()
+
+
+def load(path):
+    """A file of Python whose name has no ending."""
+    loader = importlib.machinery.SourceFileLoader("rows", str(path))
+    module = importlib.util.module_from_spec(importlib.util.spec_from_loader("rows", loader))
+    sys.modules["rows"] = module
+    loader.exec_module(module)
+    return module
+
+
+def names_of(words):
+    return tuple(word[1:] for word in words.split(" ") if word[0] in MARKS)
+
+
+def table_of_page():
+    """The rows of docs/JSON.md: the words of a line by its kind and names."""
+    page = (TOP / "docs/JSON.md").read_text()
+    rows = re.findall(r"^\| `([^`]+)` \| `([^`]+)` \|$", page, re.M)
+    table = {(kind, names_of(words)): words for kind, words in rows}
+    assert len(table) == len(rows), "two rows of one kind have the same names"
+    source = (TOP / "crates/sd_json/src/table.rt").read_text()
+    assert rows == re.findall(r'\(\s*"([^"]+)",\s*"([^"]+)",?\s*\)', source), "the page's rows aren't those of table.rt"
+    return table
+
+
+def line_of(object_, table):
+    """The line that an object was made of."""
+    members = dict(object_)
+    key = members.pop("key", None)
+    tag = "" if key is None else key + "\t"
+    if "text" in members:
+        assert list(members) == ["text"]
+        return tag + members["text"]
+    kind = members.pop("answer")
+    words = []
+    for word in table[kind, tuple(members)].split(" "):
+        value = members[word[1:]] if word[0] in MARKS else word
+        if word[0] == "#":
+            assert type(value) is int
+            words.append(str(value))
+        elif word[0] == "*":
+            assert value and all(type(each) is str for each in value)
+            words += value
+        else:
+            assert type(value) is str
+            words.append(value + ("," if word[0] == "," else ""))
+    return tag + " ".join(words)
+
+
+def lines_of(output, table):
+    """The lines that the objects of an output were made of. Bytes that are no UTF-8 are surrogates, and so are they."""
+    assert output.endswith(b"\n") or not output
+    objects = output.decode("ascii" if output.isascii() else "utf-8").split("\n")[:-1]
+    lines = [line_of(json.loads(each), table) + "\n" for each in objects]
+    return "".join(lines).encode("utf-8", "surrogateescape")
+
+
+def run(arguments, input_):
+    return subprocess.run([PROGRAM, *arguments], input=input_, capture_output=True, timeout=120)
+
+
+def compare(arguments, input_, table):
+    """What differs between an answer and the one that its objects make again; None if nothing does."""
+    plain = run(arguments, input_)
+    shown = run(["--json", *arguments], input_)
+    if plain.returncode == shown.returncode == 2 and plain.stdout == shown.stdout:
+        return None
+    try:
+        same = (shown.returncode, shown.stderr) == (plain.returncode, plain.stderr)
+        if same and lines_of(shown.stdout, table) == plain.stdout:
+            return None
+    except (AssertionError, KeyError, ValueError) as error:
+        return "%s: %r: %r" % (arguments, error, shown.stdout[:300])
+    return "%s: %r, not %r" % (arguments, (shown.returncode, shown.stdout[:300]), (plain.returncode, plain.stdout[:300]))
+
+
+def takes_json(arguments):
+    """Whether a command that takes the option comes after the other options, and isn't asked for its help."""
+    if arguments[1:] in ([b"-h"], [b"--help"]):
+        return False
+    words = iter(word.decode("utf-8", "replace") for word in arguments)
+    for word in words:
+        if word in ("--domain", "--mapping"):
+            next(words, None)
+        elif word == "--json" or not word.startswith("--"):
+            return word in COMMANDS
+    return False
+
+
+def cases():
+    rows = load(TOP / ".ci/rows")
+    for path in sorted((TOP / "tests").rglob("*.rows")):
+        found, rejected = rows.read(path)
+        assert not rejected, rejected
+        yield from ((row.arguments, row.input) for row in found if takes_json(row.arguments) and len(row.input) < 0x1_0000)
+    for byte in set(range(256)) - {9, 10}:
+        yield [b"each", b"--key", b"print"], bytes([byte]) + b"\tO:BA\n" + b"\xc3\xa9" + bytes([byte]) + b"\tO:XX\n"
+
+
+def main():
+    table = table_of_page()
+    passed = failed = 0
+    with ThreadPoolExecutor() as processors:
+        for found in processors.map(lambda case: compare(*case, table), cases()):
+            if found:
+                failed += 1
+                print(found)
+            else:
+                passed += 1
+    print("%d passed, %d failed" % (passed, failed))
+    sys.exit(failed > 0)
+
+
+main()
