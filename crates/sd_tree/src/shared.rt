@@ -1,6 +1,8 @@
 //! Values that nodes, journals, plans and trees share.
 
-ghost use Rattle.std.specs.Prelude.{◌≡◌, IfOk, MatchResult};
+ghost use Rattle.std.specs.Prelude.{◌≡◌, IfOk, IfSome, MatchResult};
+ghost use Rattle.std.specs.Borrow.{LendsIf, sem};
+ghost use Rattle.sd_tree.specs.contracts.shared.Shared.{the_row};
 
 use sd_blocks::TryCopy;
 use std::alloc::{AllocError, Global};
@@ -59,5 +61,13 @@ impl<T: Drop> Shared<T> {
         ensures { result.now ≡ self.now }
     {
         &self.value
+    }
+
+    /// The value, to be changed, where it has no other holder.
+    pub fn get_mut(&mut self) -> Option<&mut T>
+        ensures* writes_back { sem 𝓛 (LendsIf (the_row T.row) T.row self.entry result (λ w. w) self.entry.now) }
+        ensures value { IfSome result (λ value. value.now ≡ self.old) }
+    {
+        Arc::get_mut(&mut self.value)
     }
 }
