@@ -1,7 +1,6 @@
 -- What contracts see of a store: its opening, the published edits, and those that are pending.
-use Rattle.std.specs.Prelude.{◌≡◌, [], ◌++◌, length, drop}
+use Rattle.std.specs.Prelude.{[]}
 use Rattle.sd_tree.specs.History.{History}
-use Rattle.sd_tree.specs.Journal.{TreeValue}
 use Rattle.sd_versions.specs.Versions.{VersionsValue, accepted}
 
 -- all its edits
@@ -15,18 +14,3 @@ published_only h = record { opening = h.opening; published = h.journal; pending 
 -- all its edits are published
 abbrev pub all_published : VersionsValue → VersionsValue
 all_published v = published_only (history_in v)
-
--- ---- how it is kept: no public contract says so
-
-abbrev pub versions_of : TreeValue → History → VersionsValue
-versions_of published h = record {
-  opening = h.opening;
-  published = published.journal;
-  pending = drop (length published.journal) h.journal;
-}
-
--- the tree with all edits has gone on from the published one
-abbrev pub IsLater : TreeValue → History → Type 0
-IsLater published h =
-    (published.opening ≡ h.opening)
-    × (published.journal ++ drop (length published.journal) h.journal ≡ h.journal)

@@ -31,7 +31,6 @@ mod request;
 mod review;
 mod sharing;
 mod stop;
-mod store;
 mod stores;
 mod text;
 mod trim;
@@ -60,7 +59,6 @@ pub use not_done::{NotDone, PathArgument};
 pub use over_bytes::hudarin_check_bytes;
 pub use review::{ReviewAnswer, hudarin_store_review};
 pub use sharing::hudarin_share;
-pub use store::Store;
 pub use stores::{
     hudarin_store_edit, hudarin_store_judge, hudarin_store_open, hudarin_store_publish,
     hudarin_store_revert,

@@ -130,7 +130,8 @@ fn reviewed(alloc: Global, kept: &Kept, place: u64) -> Result<(NodeReview, Strin
     let Kept::Store(store) = kept else {
         return Err(NotDone::StoreHandle);
     };
-    let made = review_at(alloc, &store.review(), place)?;
+    let review = Review::of(store.published(), store.draft());
+    let made = review_at(alloc, &review, place)?;
     Ok(made)
 }
 

@@ -1,11 +1,9 @@
 //! The calls over a store, which has one writer.
 
 ghost use Rattle.std.specs.Prelude.{◌≡◌, ◌⊎◌, None, Some, IfErr, IfOk, IsSome, MatchOption, MatchResult, OnOk};
-ghost use Rattle.sd_tree.specs.History.{history_of};
 ghost use Rattle.sd_c.specs.Kept.{IsSame, Stays, store_in, view_in};
 ghost use Rattle.sd_c.specs.Publishing.{Begins, Edits, IsAllowed, IsBegun, IsEdited, IsNotBegun, IsNotEdited};
 ghost use Rattle.sd_c.specs.Publishing.{IsReverted, IsViewOf, Judges, Publishes, Reverts, tree_reason};
-ghost use Rattle.sd_c.specs.Store.{published_only};
 
 use crate::answer::{CheckAnswer, HANDLE, MEMORY, OK, Written, length_told, not_written, unread};
 use crate::edits::{edit_of, node_of};
@@ -13,8 +11,8 @@ use crate::handle::{Handle, Kept};
 use crate::mapping::Mapping;
 use crate::not_done::{NotDone, not_done};
 use crate::request::mapping_of;
-use crate::store::Store;
-use sd_tree::{Tree, TreeError};
+use sd_tree::TreeError;
+use sd_versions::Versions;
 use std::alloc::{AllocError, Global};
 
 /// Opens a store whose tree is the root alone: a container with the owner, the group and the DACL of the descriptor in
@@ -49,16 +47,16 @@ fn opened(alloc: Global, root: &[u8], mapping: Mapping) -> Result<Box<Kept>, Not
     let Ok(mapping) = mapping_of(mapping) else {
         return Err(NotDone::MappingBits);
     };
-    match Tree::opening(alloc, &mapping, &root) {
-        Ok(tree) => Ok(boxed_store(alloc, tree)?),
+    match Versions::opening(alloc, &mapping, &root) {
+        Ok(versions) => Ok(boxed_store(alloc, versions)?),
         Err(e) => Err(reason_of(e)),
     }
 }
 
-fn boxed_store(alloc: Global, tree: Tree) -> Result<Box<Kept>, AllocError>
-    ensures { IfOk result (λ kept. store_in kept.value ≡ Some (published_only (history_of tree))) }
+fn boxed_store(alloc: Global, versions: Versions) -> Result<Box<Kept>, AllocError>
+    ensures { IfOk result (λ kept. store_in kept.value ≡ Some versions) }
 {
-    let store = Box::new(alloc, Store::of(alloc, tree)?)?;
+    let store = Box::new(alloc, versions)?;
     Ok(Box::new(alloc, Kept::Store(store))?)
 }
 
@@ -148,7 +146,7 @@ fn judged(alloc: Global, kept: &Kept, kind: u32, path: &[u8], value: &[u8]) -> R
         return Err(NotDone::StoreHandle);
     };
     let edit = edit_of(alloc, kind, path, value)?;
-    match store.tree().judge(&edit)? {
+    match store.draft().judge(&edit)? {
         None => Ok(()),
         Some(refusal) => Err(NotDone::Refused(refusal)),
     }
@@ -193,10 +191,10 @@ fn published(alloc: Global, kept: &mut Kept) -> Result<Option<(Box<Kept>, u64)>,
     let Kept::Store(store) = kept else {
         return Ok(None);
     };
-    let tree = store.snapshot()?;
+    let tree = store.draft_snapshot()?;
     let length = tree.get().len();
-    let view = Box::new(alloc, Kept::View(tree.share()?))?;
-    store.publish(tree);
+    let view = Box::new(alloc, Kept::View(tree))?;
+    store.publish();
     Ok(Some((view, length)))
 }
 
@@ -243,7 +241,6 @@ fn reverted(alloc: Global, first: &mut Kept, second: &Kept) -> Result<Option<u64
     let Kept::View(tree) = second else {
         return Ok(None);
     };
-    let tree = tree.get();
-    **store = Store::of(alloc, tree.copy()?)?;
-    Ok(Some(tree.len()))
+    **store = Versions::of(alloc, tree.share()?);
+    Ok(Some(tree.get().len()))
 }

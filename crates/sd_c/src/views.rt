@@ -124,7 +124,7 @@ fn length_in(kept: &Kept) -> Written
     ensures { result ≡ length_in kept.now }
 {
     match kept {
-        Kept::Store(store) => length_told(store.tree().len()),
+        Kept::Store(store) => length_told(store.draft().len()),
         Kept::View(tree) => length_told(tree.get().len()),
         Kept::Descriptor(_) | Kept::Token(_) => not_written(HANDLE, 0, 0),
     }

@@ -9,7 +9,8 @@ use Rattle.sd_tree.specs.declared.edit.Edit.{Edit}
 use Rattle.sd_tree.specs.declared.opening.Opening.{Opening}
 use Rattle.sd_versions.specs.Versions.{VersionsValue, accepted}
 use Rattle.sd_desk.specs.Kept.{beginnings, machine_of, AreWithin}
-use Rattle.sd_desk.specs.Machine.{Machine, IsReader, floor_of, longer, with_floor, with_look, with_publish, started, Steps}
+use Rattle.sd_desk.specs.Machine.{Machine, IsReader, floor_of, with_floor, with_look, started, Steps}
+use Rattle.sd_versions.specs.Versions.{longer}
 use Rattle.sd_desk.specs.declared.request.Request.TheVariants.{Publish}
 use Rattle.sd_desk.specs.declared.request.Reply.TheVariants.{Published}
 

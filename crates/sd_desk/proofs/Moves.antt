@@ -8,9 +8,10 @@ use Rattle.sd_tree.proofs.Journals.{lawful_none, lawful_push}
 use Rattle.sd_tree.specs.Journal.{IsLawful, refusal}
 use Rattle.sd_tree.specs.declared.edit.Edit.{Edit}
 use Rattle.sd_tree.specs.declared.opening.Opening.{Opening}
-use Rattle.sd_desk.specs.Machine.{Machine, started, accepted, due, IsReader, floor_of, longer, with_edit, with_publish, with_floor, Steps, Runs}
+use Rattle.sd_desk.specs.Machine.{Machine, started, accepted, due, IsReader, floor_of, with_edit, with_publish, with_floor, Steps, Runs}
+use Rattle.sd_versions.specs.Versions.{longer}
 use Rattle.sd_desk.specs.Laws.{Extends, IsSound, RunsAreSound, OpeningStays, PublishedGrows, FloorsNeverFall, PublishIsWhole, AnswersAreOfThePublished, FailureChangesNothing}
-use Rattle.sd_desk.specs.declared.request.Answer.{Answer}
+use Rattle.sd_versions.specs.declared.answer.Answer.{Answer}
 use Rattle.sd_desk.specs.declared.request.Request.{Request}
 use Rattle.sd_desk.specs.declared.request.Request.TheVariants as asked
 use Rattle.sd_desk.specs.declared.request.Reply.{Reply}

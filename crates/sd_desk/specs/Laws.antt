@@ -7,7 +7,7 @@ use Rattle.sd_tree.specs.Journal.{IsLawful}
 use Rattle.sd_tree.specs.declared.edit.Edit.{Edit}
 use Rattle.sd_tree.specs.declared.opening.Opening.{Opening}
 use Rattle.sd_desk.specs.Machine.{Machine, started, accepted, floor_of, Steps, Runs}
-use Rattle.sd_desk.specs.declared.request.Answer.{Answer}
+use Rattle.sd_versions.specs.declared.answer.Answer.{Answer}
 use Rattle.sd_desk.specs.declared.request.Request.{Request}
 use Rattle.sd_desk.specs.declared.request.Request.TheVariants.{Publish, Check}
 use Rattle.sd_desk.specs.declared.request.Reply.{Reply}
@@ -46,7 +46,7 @@ FloorsNeverFall =
     (old new : Machine) (requests : List Request) (replies : List Reply) (reader : ℕ)
     → IsSound old → Runs old requests replies new → Extends (floor_of new reader) (floor_of old reader)
 
--- the published journal stays, or a publish adds just the edits that wait, all at once
+-- the published journal stays, or a publish adds just the pending edits, all at once
 abbrev pub PublishIsWhole : Type 0
 PublishIsWhole =
     (old new : Machine) (request : Request) (reply : Reply)
@@ -56,7 +56,7 @@ PublishIsWhole =
 
 -- ---- replies
 
--- an answer to a check is that of the published journal, whose length it tells, and which extends what the reader had
+-- an answer to a check is that of the published journal, whose length it has, and which extends what the reader had
 -- seen
 abbrev pub AnswersAreOfThePublished : Type 0
 AnswersAreOfThePublished =

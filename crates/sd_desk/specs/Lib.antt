@@ -1,4 +1,3 @@
 pub mod Kept
 pub mod Laws
 pub mod Machine
-pub mod Starts

@@ -1,5 +1,5 @@
 -- The machine of one thread: what each request does to it, and what is replied.
-use Rattle.std.specs.Prelude.{◌≡◌, ℕ, ◌≤◌, ◌<◌, false, nat_le, if◌then◌else◌, List, [], ◌∷◌, ◌++◌, length, take}
+use Rattle.std.specs.Prelude.{◌≡◌, ℕ, ◌≤◌, ◌<◌, false, List, [], ◌∷◌, ◌++◌, length, take}
 use Rattle.std.specs.Prelude.{replicate, slice_set, slice_index_or, Option, Some, None, IsSome, option_map}
 use Rattle.sd_acl.specs.Descriptor.{descriptor_of}
 use Rattle.sd_tree.specs.Plain.{row_at}
@@ -9,13 +9,14 @@ use Rattle.sd_tree.specs.Answers.{answer, descriptor_at}
 use Rattle.sd_tree.specs.declared.opening.Opening.{Opening}
 use Rattle.sd_tree.specs.declared.edit.Edit.{Edit}
 use Rattle.sd_tree.specs.declared.refusal.EditRefusal.{EditRefusal}
+use Rattle.sd_versions.specs.Versions.{longer}
 use Rattle.sd_desk.specs.declared.request.Request.{Request}
 use Rattle.sd_desk.specs.declared.request.Request.TheVariants as asked
 use Rattle.sd_desk.specs.declared.request.Reply.{Reply}
 use Rattle.sd_desk.specs.declared.request.Reply.TheVariants.{Edited, Refused, Published, Told, Learned, Answered, Shown}
 use Rattle.sd_desk.specs.declared.request.Reply.TheVariants.{NoReader, NoNotice, Memory}
 
--- the edits that are seen, those that wait, and for each reader its floor: the journal that it has seen
+-- the edits that are seen, those that are pending, and for each reader its floor: the journal that it has seen
 pub record Machine : Type 0 where
   pub opening : Opening
   pub published : List Edit
@@ -26,7 +27,7 @@ pub record Machine : Type 0 where
 abbrev pub started : Opening → ℕ → Machine
 started opening readers = record { opening = opening; published = []; pending = []; floors = replicate readers [] }
 
--- all edits that were accepted: those that are seen, and then those that wait
+-- all edits that were accepted: those that are seen, and then those that are pending
 abbrev pub accepted : Machine → List Edit
 accepted m = m.published ++ m.pending
 
@@ -40,17 +41,13 @@ IsReader m reader = reader < length m.floors
 abbrev pub floor_of : Machine → ℕ → List Edit
 floor_of m reader = slice_index_or m.floors reader []
 
--- the longer of two journals
-abbrev pub longer : List Edit → List Edit → List Edit
-longer xs ys = if nat_le (length xs) (length ys) then ys else xs
-
 -- ---- the changes
 
--- one more edit waits
+-- one more edit is pending
 abbrev pub with_edit : Machine → Edit → Machine
 with_edit m edit = record m { pending = m.pending ++ edit ∷ [] }
 
--- all edits that waited are seen, at once
+-- all pending edits are seen, at once
 abbrev pub with_publish : Machine → Machine
 with_publish m = record m { published = accepted m; pending = [] }
 
@@ -64,10 +61,10 @@ with_look m reader = with_floor m reader m.published
 
 -- ---- one request
 
--- the machine before, what is asked, what is replied, and the machine after. Want of memory is the one free choice:
--- of an edit that isn't due a refusal which is found without it, of a publish, and of a show, to a reader that is
--- there, of a node. A desk's publish never wants it; that of the store of many threads, whose audits are told by these
--- steps, may
+-- the machine before, what is asked, what is replied, and the machine after. Out of memory is the one free choice:
+-- of an edit that isn't due a refusal which is found without memory, of a publish, and of a show, to a reader that is
+-- there, of a node. A desk's publish takes no memory; that of the store of many threads, whose audits have these steps
+-- as their rule, may
 abbrev pub Steps : Machine → Request → Reply → Machine → Type 0
 Steps old (asked.Edit edit) Edited new = (due old edit ≡ None) × (new ≡ with_edit old edit)
 Steps old (asked.Edit edit) (Refused refusal) new = (due old edit ≡ Some refusal) × (new ≡ old)

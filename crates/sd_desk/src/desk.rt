@@ -1,21 +1,20 @@
 //! The machine of one thread.
 
-ghost use Rattle.std.specs.Prelude.{◌≡◌, ◌≢◌, None, IfOk, IfErr, length};
+ghost use Rattle.std.specs.Prelude.{◌≡◌, ◌≢◌, ◌<◌, None, IfOk, IfErr, length};
 ghost use Rattle.sd_tree.specs.Journal.{opening_of, root_refusal, IsLawful};
-ghost use Rattle.sd_desk.specs.Machine.{Steps, Runs, started, accepted};
-ghost use Rattle.sd_desk.specs.Starts.{IsReaderCount, IsStartError};
+ghost use Rattle.sd_desk.specs.Machine.{Steps, Runs, started, accepted, with_look};
+ghost use Rattle.sd_versions.specs.Starts.{IsReaderCount, IsStartError};
 
-use crate::request::{Answer, Reply, Request};
-use crate::start::{MAX_READERS, StartError};
+use crate::request::{Reply, Request};
 use sd_check::Token;
 use sd_sid::{GenericMapping, Mask};
 use sd_tree::{Edit, Journal, Path, RootSpec, Tree, TreeError};
-use sd_versions::Versions;
+use sd_versions::{Answer, MAX_READERS, StartError, Versions};
 use std::alloc::{AllocError, Global};
 use std::marker::Model;
 
-/// A store of one thread. Contracts see the machine: the opening, the edits that are seen, those that wait, and for
-/// each reader the journal that it has seen.
+/// A store of one thread. Contracts see the machine: the opening, the edits that are seen, those that are pending, and
+/// for each reader the journal that it has seen.
 #[derive(Drop)]
 pub struct Desk {
     alloc: Global,
@@ -56,7 +55,7 @@ impl Desk {
         }
         Ok(Desk {
             alloc,
-            tree: Versions::of(Tree::opening(alloc, mapping, root)?),
+            tree: Versions::opening(alloc, mapping, root)?,
             floors: vec![in alloc; 0; readers as usize]?,
         })
     }
@@ -103,7 +102,7 @@ impl Desk {
         self.tree.published()
     }
 
-    /// The tree with all edits that were accepted: those that are seen, and then those that wait.
+    /// The tree with all edits that were accepted: those that are seen, and then those that are pending.
     pub fn draft(&self) -> &Tree
         ensures opening { result.now.opening ≡ self.now.opening }
         ensures journal { result.now.journal ≡ accepted self.now }
@@ -123,12 +122,12 @@ impl Desk {
         ensures journal { result ≡ self.now.published }
         ensures lawful { IsLawful self.now.opening (accepted self.now) }
     {
-        // The draft has all edits that were accepted, and is lawful.
+        // The draft has all edits that were accepted, each at a place where nothing refuses it.
         let _ = self.tree.draft().len();
         self.tree.published().journal()
     }
 
-    /// The edit joins those that wait, unless it is refused.
+    /// The edit becomes pending, unless it is refused.
     fn edit(&mut self, edit: &Edit) -> Reply
         ensures { Steps self.old (Request.Edit edit.now) result self.new }
     {
@@ -139,7 +138,7 @@ impl Desk {
         }
     }
 
-    /// The edits that wait are seen. Takes no memory.
+    /// The pending edits are seen. Takes no memory.
     fn publish(&mut self) -> Reply
         ensures step { Steps self.old Request.Publish result self.new }
         ensures publish { result ≢ Reply.Memory }
@@ -155,7 +154,7 @@ impl Desk {
         Reply::Told(self.tree.published().len())
     }
 
-    /// The reader's floor becomes the longer of itself and the first edits that it was told of.
+    /// The reader's floor becomes the longer of itself and the first edits that it learns of.
     fn learn(&mut self, reader: u64, length: u64) -> Reply
         ensures { Steps self.old (Request.Learn reader length) result self.new }
     {
@@ -174,13 +173,11 @@ impl Desk {
     fn check(&mut self, reader: u64, path: &Path, token: &Token, asked: Mask) -> Reply
         ensures { Steps self.old (Request.Check reader path.now token.now asked) result self.new }
     {
-        if reader >= self.floors.len() as u64 {
+        if reader >= self.readers() {
             return Reply::NoReader;
         }
-        let tree = self.tree.published();
-        let seen = tree.len();
-        let reply = tree.check(path, token, asked);
-        self.floors[reader as usize] = seen;
+        let reply = self.published().check(path, token, asked);
+        let seen = self.look(reader);
         Reply::Answered(Answer { seen, reply })
     }
 
@@ -188,15 +185,24 @@ impl Desk {
     fn show(&mut self, reader: u64, path: &Path) -> Reply
         ensures { Steps self.old (Request.Show reader path.now) result self.new }
     {
-        if reader >= self.floors.len() as u64 {
+        if reader >= self.readers() {
             return Reply::NoReader;
         }
-        let tree = self.tree.published();
-        let Ok(descriptor) = tree.descriptor(path) else {
+        let Ok(descriptor) = self.published().descriptor(path) else {
             return Reply::Memory;
         };
-        let seen = tree.len();
-        self.floors[reader as usize] = seen;
+        let seen = self.look(reader);
         Reply::Shown { seen, descriptor }
+    }
+
+    /// The reader has seen the published journal, whose length is returned.
+    fn look(&mut self, reader: u64) -> u64
+        requires { reader < length self.old.floors }
+        ensures seen { result ≡ length self.old.published }
+        ensures floor { self.new ≡ with_look self.old reader }
+    {
+        let seen = self.tree.published().len();
+        self.floors[reader as usize] = seen;
+        seen
     }
 }

@@ -1,8 +1,8 @@
-//! The machine of one thread: a published tree, the edits that wait, and the readers that ask.
+//! The machine of one thread: a published tree, the pending edits, and the readers that ask.
 //!
-//! A desk takes one request after the other. Accepted edits wait until a publish shows them all at once; each reader
-//! has a floor, the beginning of the published journal that it has seen, which never falls. An answer tells the length
-//! of the journal that it was given by. The rules are told in docs/SCRIPT.md.
+//! A desk takes one request after the other. Accepted edits are pending until a publish shows them all at once; each
+//! reader has a floor, the beginning of the published journal that it has seen, which never falls. An answer has the
+//! length of the journal that it was given by. docs/SCRIPT.md has the rules.
 //!
 //! ```text
 //! let mut desk = Desk::start(alloc, &GenericMapping::file(), &root, 2)?;
@@ -18,12 +18,10 @@
 mod desk;
 mod laws;
 mod request;
-mod start;
 
 pub use desk::Desk;
 pub use laws::{
     answers_are_of_the_published, failure_changes_nothing, floors_never_fall, opening_stays,
     publish_is_whole, runs_are_sound,
 };
-pub use request::{Answer, Reply, Request};
-pub use start::{MAX_READERS, StartError};
+pub use request::{Reply, Request};

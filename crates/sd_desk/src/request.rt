@@ -3,27 +3,19 @@
 use sd_acl::Descriptor;
 use sd_check::Token;
 use sd_sid::Mask;
-use sd_tree::{CheckReply, Edit, EditRefusal, Path};
-
-/// The answer to a check ([MS-DTYP] 2.5.3.2), and by which journal it was given.
-#[derive(Clone, Copy, Debug, PartialEq, Eq)]
-pub struct Answer {
-    /// The length of the published journal that the answer was given by.
-    pub seen: u64,
-    /// The answer.
-    pub reply: CheckReply,
-}
+use sd_tree::{Edit, EditRefusal, Path};
+use sd_versions::Answer;
 
 /// What is asked of a store: the first three by its writer, the others by a reader, who is named by number.
 #[derive(Debug, Drop)]
 pub enum Request {
-    /// The edit shall join those that wait.
+    /// The edit shall become pending.
     Edit(Edit),
-    /// The edits that wait shall be seen, all at once.
+    /// The pending edits shall be seen, all at once.
     Publish,
     /// How long the published journal is: a notice that readers may learn.
     Tell,
-    /// The reader is told of a published journal of this length.
+    /// The reader learns of a published journal of this length.
     Learn {
         reader: u64,
         length: u64,
@@ -45,11 +37,11 @@ pub enum Request {
 /// What a store replies.
 #[derive(Debug, Drop)]
 pub enum Reply {
-    /// The edit was accepted and waits.
+    /// The edit was accepted and is pending.
     Edited,
     /// The edit was refused.
     Refused(EditRefusal),
-    /// All edits that waited are seen; the published journal has this length.
+    /// All edits that were pending are seen; the published journal has this length.
     Published(u64),
     /// The published journal has this length.
     Told(u64),

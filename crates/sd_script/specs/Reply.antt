@@ -13,8 +13,8 @@ use Rattle.sd_tree.specs.declared.tree.CheckReply.TheVariants as checks
 use Rattle.sd_desk.specs.declared.request.Reply.{Reply}
 use Rattle.sd_desk.specs.declared.request.Reply.TheVariants.{Edited, Refused, Published, Told, Learned, Answered, Shown}
 use Rattle.sd_desk.specs.declared.request.Reply.TheVariants.{NoReader, NoNotice, Memory}
-use Rattle.sd_desk.specs.declared.start.StartError.{StartError}
-use Rattle.sd_desk.specs.declared.start.StartError.TheVariants as starts
+use Rattle.sd_versions.specs.declared.start.StartError.{StartError}
+use Rattle.sd_versions.specs.declared.start.StartError.TheVariants as starts
 use Rattle.sd_answer.specs.Answer.{line, verdict_line}
 use Rattle.sd_answer.specs.Why.{why_text}
 use Rattle.sd_answer.specs.declared.answer.Spelling.TheVariants.{Number}

@@ -6,10 +6,11 @@ ghost use Rattle.sd_script.specs.Reply.{reply_line, seen_line, shown_line, start
 use sd_acl::Descriptor;
 use sd_answer::{Spelling, verdict_line, why_text};
 use sd_check::Token;
-use sd_desk::{Reply, StartError};
+use sd_desk::Reply;
 use sd_sid::{GenericMapping, Mask};
 use sd_text::print_sddl;
 use sd_tree::{CheckReply, EditRefusal};
+use sd_versions::StartError;
 use std::alloc::{AllocError, Global};
 
 /// The line of a reply. Want of memory has none: it is told as an error.

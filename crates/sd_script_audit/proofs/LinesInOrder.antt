@@ -9,11 +9,11 @@ use Rattle.sd_tree.specs.declared.opening.Opening.{Opening}
 use Rattle.sd_tree.specs.declared.opening.RootSpec.{RootSpec}
 use Rattle.sd_tree.specs.declared.refusal.EditRefusal.{EditRefusal}
 use Rattle.sd_desk.specs.Machine.{Machine, Steps, started}
-use Rattle.sd_desk.specs.Starts.{IsStartError}
+use Rattle.sd_versions.specs.Starts.{IsStartError}
 use Rattle.sd_desk.specs.declared.request.Reply.{Reply}
 use Rattle.sd_desk.specs.declared.request.Request.TheVariants as requests
-use Rattle.sd_desk.specs.declared.start.StartError.{StartError}
-use Rattle.sd_desk.specs.declared.start.StartError.TheVariants.{Readers, Root, Memory, Place}
+use Rattle.sd_versions.specs.declared.start.StartError.{StartError}
+use Rattle.sd_versions.specs.declared.start.StartError.TheVariants.{Readers, Root, Memory, Place}
 use Rattle.sd_store.specs.Errors.{IsStoreError}
 use Rattle.sd_store.specs.Sights.{StoreState}
 use Rattle.sd_store.specs.declared.query.Query.{Query}

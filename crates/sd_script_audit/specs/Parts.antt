@@ -5,7 +5,7 @@ use Rattle.std.specs.Str.Lines.{lines}
 use Rattle.sd_tree.specs.declared.opening.Opening.{Opening}
 use Rattle.sd_tree.specs.declared.opening.RootSpec.{RootSpec}
 use Rattle.sd_desk.specs.Machine.{Machine}
-use Rattle.sd_desk.specs.declared.request.Answer.{Answer}
+use Rattle.sd_versions.specs.declared.answer.Answer.{Answer}
 use Rattle.sd_store.specs.Sights.{StoreState}
 use Rattle.sd_store.specs.declared.query.Query.{Query}
 use Rattle.sd_script.specs.Command.{line_asks}

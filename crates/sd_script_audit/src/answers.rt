@@ -6,10 +6,11 @@ ghost use Rattle.sd_script_audit.specs.Parts.{given_lines, last_lines, machine_o
 ghost use Rattle.sd_script.specs.declared.paths.PathSpelling.{PathSpelling};
 ghost use Rattle.sd_script.specs.declared.session.Session.TheVariants.{Opened};
 
-use sd_desk::{Answer, Reply};
+use sd_desk::Reply;
 use sd_script::{counted_line, reply_line};
 use sd_store::{AuditError, Checker, Gate, Naming, Notice, Query, StoreWriter, audit};
 use sd_stream::RunError;
+use sd_versions::Answer;
 use std::alloc::{AllocError, Global};
 use std::sync::Wait;
 use std::thread::Threads;

@@ -10,7 +10,6 @@ ghost use Rattle.std.specs.Str.Lines.{lines};
 use crate::answers::publish_and_answer;
 use crate::counted::Counted;
 use crate::queries::{collect_queries, only_in_scripts};
-use sd_desk::StartError;
 use sd_history::Opened;
 use sd_lines::{Ending, first_line};
 use sd_script::{
@@ -20,6 +19,7 @@ use sd_script::{
 use sd_store::{Checker, Gate, Naming, StoreWriter, start};
 use sd_stream::RunError;
 use sd_tree::{Edit, RootSpec};
+use sd_versions::StartError;
 use std::alloc::{AllocError, Global};
 use std::marker::Brand;
 use std::sync::Wait;

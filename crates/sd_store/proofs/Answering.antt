@@ -5,7 +5,7 @@ use mathlib.Core.List.{IsPrefix}
 use Rattle.sd_tree.specs.Journal.{IsLawful}
 use Rattle.sd_tree.specs.declared.edit.Edit.{Edit}
 use Rattle.sd_tree.specs.declared.opening.Opening.{Opening}
-use Rattle.sd_desk.specs.declared.request.Answer.{Answer}
+use Rattle.sd_versions.specs.declared.answer.Answer.{Answer}
 use Rattle.sd_store.specs.Audits.{IsAnswer, reply_by}
 use Rattle.sd_store.specs.Sights.{Sight}
 use Rattle.sd_store.specs.Workers.{IsFresh, IsAnswered, IsDrawnAt, IsDrawn, IsUnderWay}

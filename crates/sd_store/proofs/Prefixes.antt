@@ -4,7 +4,7 @@ use Rattle.std.proofs.lemmas.List.{append-nil}
 use Rattle.std.proofs.lemmas.Bool.Decides.{nat_tests}
 use mathlib.Core.List.{IsPrefix}
 use Rattle.sd_tree.specs.declared.edit.Edit.{Edit}
-use Rattle.sd_desk.specs.Machine.{longer}
+use Rattle.sd_versions.specs.Versions.{longer}
 use Rattle.sd_history.specs.Chains.{Comparable}
 
 module _ {A : Type 0} where

@@ -6,8 +6,8 @@ use Rattle.sd_tree.specs.Journal.{IsLawful}
 use Rattle.sd_tree.specs.declared.edit.Edit.{Edit}
 use Rattle.sd_tree.specs.declared.opening.Opening.{Opening}
 use Rattle.sd_tree.specs.declared.tree.CheckReply.{CheckReply}
-use Rattle.sd_desk.specs.Machine.{longer}
-use Rattle.sd_desk.specs.declared.request.Answer.{Answer}
+use Rattle.sd_versions.specs.Versions.{longer}
+use Rattle.sd_versions.specs.declared.answer.Answer.{Answer}
 use Rattle.sd_store.specs.Marks.{last_of}
 use Rattle.sd_store.specs.Sights.{Sight}
 use Rattle.sd_store.specs.declared.query.Query.{Query}
@@ -31,7 +31,7 @@ pub record IsAnswer (opening : Opening) (checker : Sight) (query : Query) (given
 -- ---- all answers
 
 -- the j-th answer is that of checker j % n to the j-th query, n being the number of checkers: by no less than that
--- checker had seen before and was told of, and no less than its answer before this one
+-- checker had seen before and learned of, and no less than its answer before this one
 abbrev pub AreAnswers : Opening → List Query → List Edit → List Sight → List Sight → List Answer → Type 0
 AreAnswers opening queries journal olds news answers =
     (j : ℕ) (d : Answer) (e : Sight) (q : Query) → j < length answers
@@ -40,8 +40,8 @@ AreAnswers opening queries journal olds news answers =
     × (length (longer (slice_index_or olds (j % length olds) e).floor journal) ≤ (slice_index_or answers j d).seen)
     × (length olds ≤ j → (slice_index_or answers (j - length olds) d).seen ≤ (slice_index_or answers j d).seen)
 
--- what an audit makes of the checker at place i, of so many queries: its floor has grown, to a lawful journal; without
--- a query for it, just to what it was told of
+-- what an audit makes of the checker at place i, of so many queries: its floor has grown, to a valid journal; without
+-- a query for it, just to what it learned of
 pub record HasGrown (opening : Opening) (asked : ℕ) (journal : List Edit) (i : ℕ) (old new : Sight) : Type 0 where
   pub floor : IsPrefix (longer old.floor journal) new.floor
   pub own : IsPrefix old.floor new.floor

@@ -5,16 +5,16 @@ use Rattle.sd_tree.specs.declared.refusal.TreeError.{TreeError}
 use Rattle.sd_tree.specs.declared.refusal.TreeError.TheVariants as tree
 use Rattle.sd_tree.specs.Refusals.{is_early}
 use Rattle.std.specs.Prelude.{false}
-use Rattle.sd_desk.specs.Starts.{IsReaderCount, IsStartError}
-use Rattle.sd_desk.specs.declared.start.StartError.{StartError}
-use Rattle.sd_desk.specs.declared.start.StartError.TheVariants.{Readers, Root, Memory, Place}
+use Rattle.sd_versions.specs.Starts.{IsReaderCount, IsStartError}
+use Rattle.sd_versions.specs.declared.start.StartError.{StartError}
+use Rattle.sd_versions.specs.declared.start.StartError.TheVariants.{Readers, Root, Memory, Place}
 use Rattle.sd_store.specs.declared.error.AuditError.{AuditError}
 use Rattle.sd_store.specs.declared.error.AuditError.TheVariants as audit
 use Rattle.sd_store.specs.declared.error.EditError.{EditError}
 use Rattle.sd_store.specs.declared.error.EditError.TheVariants as edit
 
--- why an edit that is due this refusal didn't join those that wait: that refusal, or want of memory where none is due
--- that is found without it
+-- why an edit that is due this refusal didn't become pending: that refusal, or out of memory where none is due that is
+-- found without it
 abbrev pub IsEditError : EditError → Option EditRefusal → Type 0
 IsEditError (edit.Refused refusal) due = due ≡ Some refusal
 IsEditError edit.Memory due = is_early due ≡ false
@@ -24,8 +24,8 @@ abbrev pub edit_error_of : TreeError → EditError
 edit_error_of (tree.Refused refusal) = edit.Refused refusal
 edit_error_of tree.Memory = edit.Memory
 
--- why a store of threads didn't start: as a desk, or, where nothing refuses it, the shared cell gave no place for a
--- reader
+-- why a store of many threads didn't start: as one of one thread, or, where nothing refuses it, the shared cell gave no
+-- place for a reader
 abbrev pub IsStoreError : StartError → ℕ → Option EditRefusal → Type 0
 IsStoreError Place readers due = IsReaderCount readers × (due ≡ None)
 IsStoreError Readers readers due = IsStartError Readers readers due

@@ -1,5 +1,5 @@
 -- The marks of a published journal: 0, and then its length after each publish, in order. What the operations of a
--- publish make of what is shown.
+-- publish make of what is published.
 use Rattle.std.specs.Prelude.{◌≡◌, ℕ, ◌-◌, Bool, true, false, List, [], ◌∷◌, ◌++◌, length, fold, slice_set}
 use Rattle.sd_tree.specs.Journal.{TreeValue}
 use Rattle.sd_tree.specs.declared.edit.Edit.{Edit}
@@ -18,7 +18,7 @@ abbrev pub marks_with : Bool → List ℕ → ℕ → List ℕ
 marks_with true marks new = marks ++ new ∷ []
 marks_with false marks new = slice_set marks (length marks - 1) new
 
--- what is shown is the operation's tree, with its mark
+-- what is published is the operation's tree, with its mark
 abbrev pub marked : Facts → Operation → Facts
 marked s operation = record {
   opening = operation.tree.opening;
@@ -37,7 +37,7 @@ abbrev pub IsOnePublish : List Operation → Type 0
 IsOnePublish [] = Unit {0}
 IsOnePublish (operation ∷ operations) = (operation.opens ≡ true) × Follow operations
 
--- the tree is shown, with one mark more, its length
+-- the tree is published, with one mark more, its length
 abbrev pub with_shown : Facts → TreeValue → Sighting Edit → Facts
 with_shown s tree front = record {
   opening = tree.opening;
@@ -46,6 +46,6 @@ with_shown s tree front = record {
   seen = front;
 }
 
--- the operations, whatever was shown before, come to that
+-- the operations, whatever was published before, come to that
 abbrev pub ShowTree : List Operation → TreeValue → Sighting Edit → Type 0
 ShowTree operations tree front = (s : Facts) → fold marked s operations ≡ with_shown s tree front

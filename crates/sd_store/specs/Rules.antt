@@ -45,7 +45,7 @@ pub record IsFrontOf (n : Named) (front : Sighting Edit) (journal : List Edit) :
   pub book : front.book ≡ n.book
   pub items : items_from n.first front.log ≡ journal
 
--- the tree has the store's opening, and a lawful journal; the marks begin with 0 and end with the journal's length
+-- the tree has the store's opening, and a valid journal; the marks begin with 0 and end with the journal's length
 pub record IsSound (n : Named) (x : Published) : Type 0 where
   pub opening : x.tree.opening ≡ n.opening
   pub lawful : IsLawful n.opening x.tree.journal
@@ -57,14 +57,14 @@ pub record IsSound (n : Named) (x : Published) : Type 0 where
 abbrev pub Kept : Named → Published → List View → Type 0
 Kept n x views = IsSound n x × ((seat : ℕ) (v : View) → get_elem? views seat ≡ some v → Fits x v)
 
--- what a read and a publish tell: the new view is the whole of what is then published, which is sound and goes on from
+-- what a read and a publish give: the new view is the whole of what is then published, which is sound and goes on from
 -- the view before
 abbrev pub Shows : Named → View → Published → Published → View → Type 0
 Shows n v x y w = (w ≡ whole_of y) × IsSound n y × Fits y v
 
 -- ---- the writer
 
--- the writer's view is the whole of what is published, and what waits is one publish
+-- the writer's view is the whole of what is published, and the pending operations are one publish
 pub record IsReady (n : Named) (v : View) (x : Published) (operations : List Operation) : Type 0 where
   pub whole : v ≡ whole_of x
   pub sound : IsSound n x

@@ -1,11 +1,11 @@
 -- What contracts see of a writer and of a checker.
-use Rattle.std.specs.Prelude.{◌≡◌, ℕ, ◌<◌, ◌⊎◌, List, [], length, drop, Option}
+use Rattle.std.specs.Prelude.{◌≡◌, ℕ, ◌<◌, ◌⊎◌, List, [], length, Option}
 use Rattle.sd_tree.specs.declared.edit.Edit.{Edit}
-use Rattle.sd_desk.specs.declared.request.Answer.{Answer}
+use Rattle.sd_versions.specs.declared.answer.Answer.{Answer}
 use Rattle.sd_store.specs.declared.error.AuditError.{AuditError}
 use Rattle.sd_store.specs.declared.rule.View.{View}
 
--- a checker: its view in the shared store; its floor, the journal that it has seen or was told of; and its part of the
+-- a checker: its view in the shared store; its floor, the journal that it has seen or learned of; and its part of the
 -- last audit, of which no public clause speaks
 pub record Sight : Type 0 where
   pub view : View
@@ -13,29 +13,25 @@ pub record Sight : Type 0 where
   pub drawn : List Answer
   pub failed : Option AuditError
 
--- a look that gave no answer: nothing was read, or what was found is shorter than the floor, which stays
+-- a read that gave no answer: nothing was found, or what was found is shorter than the floor, which stays
 pub record IsGone (old new : Sight) : Type 0 where
   pub floor : new.floor ≡ old.floor
   pub looked : (new.view ≡ old.view) ⊎ (length new.view.journal < length old.floor)
 
--- a store, as its writer has it: the published journal and its marks, and the edits that wait
+-- a store, as its writer has it: the published journal and its marks, and the pending edits
 pub record StoreState : Type 0 where
   pub journal : List Edit
   pub marks : List ℕ
   pub pending : List Edit
 
--- what all accepted edits have beyond the published ones
-abbrev pub beyond : List Edit → List Edit → List Edit
-beyond published all = drop (length published) all
-
--- by the writer's view and all accepted edits
+-- by the writer's view and the pending edits
 abbrev pub state_of : View → List Edit → StoreState
-state_of v all = record { journal = v.journal; marks = v.marks; pending = beyond v.journal all }
+state_of v pending = record { journal = v.journal; marks = v.marks; pending = pending }
 
 abbrev pub blank : StoreState
 blank = record { journal = []; marks = []; pending = [] }
 
--- a notice: the journal that was published when it was told, and its marks
+-- a notice: the journal that was published when it was made, and its marks
 pub record Told : Type 0 where
   pub journal : List Edit
   pub marks : List ℕ

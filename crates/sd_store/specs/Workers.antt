@@ -6,8 +6,8 @@ use mathlib.Core.List.{IsPrefix}
 use Rattle.sd_tree.specs.Journal.{IsLawful}
 use Rattle.sd_tree.specs.declared.edit.Edit.{Edit}
 use Rattle.sd_tree.specs.declared.opening.Opening.{Opening}
-use Rattle.sd_desk.specs.Machine.{longer}
-use Rattle.sd_desk.specs.declared.request.Answer.{Answer}
+use Rattle.sd_versions.specs.Versions.{longer}
+use Rattle.sd_versions.specs.declared.answer.Answer.{Answer}
 use Rattle.sd_store.specs.Audits.{IsAnswer, reply_by}
 use Rattle.sd_store.specs.Marks.{last_of}
 use Rattle.sd_store.specs.Sights.{Sight}
@@ -40,7 +40,7 @@ IsDrawn opening checker least worker step queries answers =
     (k : ℕ) (d : Answer) (q : Query) → k < length answers
     → IsDrawnAt opening checker least (slice_index_or queries (worker + k * step) q) answers k d
 
--- a floor that has grown to a lawful journal, and stays where the worker has no query
+-- a floor that has grown to a valid journal, and stays where the worker has no query
 pub record IsFurther (opening : Opening) (asked worker : ℕ) (old new : Sight) : Type 0 where
   pub floor : IsPrefix old.floor new.floor
   pub lawful : IsLawful opening new.floor
@@ -67,7 +67,7 @@ AreDone opening always queries step olds news =
     (i : ℕ) (d : Sight) → i < length olds
     → IsDone opening always queries step i (slice_index_or olds i d) (slice_index_or news i d)
 
--- the checker was told of the journal
+-- the checker has learned of the journal
 pub record IsInformed (journal : List Edit) (old new : Sight) : Type 0 where
   pub floor : new.floor ≡ longer old.floor journal
   pub own : IsPrefix old.floor new.floor

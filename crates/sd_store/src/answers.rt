@@ -8,15 +8,15 @@ ghost use Rattle.sd_store.specs.Together.{AreNone, HasNode, answer_by};
 
 use crate::query::Query;
 use sd_acl::Descriptor;
-use sd_desk::Answer;
 use sd_tree::{Path, Tree};
+use sd_versions::Answer;
 use std::alloc::{AllocError, Global};
 
 /// What a checker answered by one journal: to each query, and the descriptor of each path, in their orders. Its caller
 /// keeps it, so that the next answers find room.
 #[derive(Debug, Drop)]
 pub struct Answers {
-    /// One for each query. All tell the same length.
+    /// One for each query, all of the same length.
     pub checks: Vec<Answer>,
     /// One for each path: `None` where no node stands there.
     pub descriptors: Vec<Option<Descriptor>>,

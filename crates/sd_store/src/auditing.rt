@@ -13,13 +13,13 @@ use crate::gathering::{first_failure, gathered};
 use crate::naming::Naming;
 use crate::notice::Notice;
 use crate::query::Query;
-use sd_desk::Answer;
+use sd_versions::Answer;
 use std::alloc::Global;
 use std::thread;
 use std::thread::Threads;
 
 /// The answers to the queries, in their order, on the condition that there is a checker. Each checker learns the notice
-/// first, so no answer is by less than it tells of. One worker for each of the `n` checkers, in a thread of its own
+/// first, so no answer is by less than its journal. One worker for each of the `n` checkers, in a thread of its own
 /// where one can be made: worker `i` answers the queries `i`, `i + n`, `i + 2n` and so on. After an error each checker
 /// has seen no less than it had.
 pub fn audit<J: Naming + Send + Sync, G: Gate + Sync, R: Threads + Sync>(

@@ -7,7 +7,7 @@ ghost use Rattle.sd_acl.specs.Descriptor.{descriptor_of};
 ghost use Rattle.sd_history.specs.Chains.{items_from};
 ghost use Rattle.sd_tree.specs.Answers.{answer, descriptor_at};
 ghost use Rattle.sd_tree.specs.Journal.{replay, IsLawful};
-ghost use Rattle.sd_desk.specs.Machine.{longer};
+ghost use Rattle.sd_versions.specs.Versions.{longer};
 ghost use Rattle.sd_store.specs.Marks.{last_of};
 ghost use Rattle.sd_store.specs.Sights.{IsGone};
 ghost use Rattle.sd_store.specs.Together.{AreNone, HasNode, answer_by};
@@ -21,18 +21,18 @@ use crate::query::Query;
 use crate::rule::{Seat, Sees};
 use sd_acl::Descriptor;
 use sd_check::Token;
-use sd_desk::Answer;
 use sd_history::Front;
 use sd_sid::Mask;
 use sd_tree::{Edit, Path};
+use sd_versions::Answer;
 use std::fmt;
 use std::marker::Model;
 
 /// A reader of a store. Contracts see its view, the journal and the marks that it found last, and its floor, the
-/// journal that it has seen or was told of, which never falls.
+/// journal that it has seen or learned of, which never falls.
 #[derive(Drop)]
 pub struct Checker<J: Naming> {
-    /// The place in the shared store; away during a look alone.
+    /// The place in the shared store; away during a read alone.
     pub(crate) seat: Option<Seat<J>>,
     /// The floor's length.
     pub(crate) seen: u64,
@@ -79,7 +79,7 @@ impl<J: Naming> fmt::Debug for Checker<J> {
 
 impl<J: Naming> Checker<J> {
     /// The verdict on a request for the node of a path ([MS-DTYP] 2.5.3.2), by the journal that is published at one
-    /// moment of this call, and its length. That journal extends all that this reader has seen or was told of. Takes no
+    /// moment of this call, and its length. That journal extends all that this reader has seen or learned of. Takes no
     /// memory, and waits for nobody.
     pub fn check(&mut self, path: &Path, token: &Token, asked: Mask) -> Result<Answer, Gone>
         ensures floor { OnOk result (self.new.floor ≡ self.new.view.journal) }
@@ -158,7 +158,7 @@ impl<J: Naming> Checker<J> {
     }
 
     /// Several questions at one moment: the verdict on each query ([MS-DTYP] 2.5.3.2) and the descriptor of each path
-    /// ([MS-DTYP] 2.4.6), all by the one journal that is published at one moment of this call, whose length is told. It
+    /// ([MS-DTYP] 2.4.6), all by the journal that is published at one moment of this call, whose length is returned. It
     /// enters the shared store once, as `check` does, and waits for nobody. Room for the answers to queries and then
     /// for the descriptors is made before that; then each descriptor takes memory for its list, in the order of the
     /// paths.
@@ -216,7 +216,7 @@ impl<J: Naming> Checker<J> {
         }
     }
 
-    /// The reader is told of a publish: its floor becomes the longer of what it was and the notice's journal. An older
+    /// The reader learns of a publish: its floor becomes the longer of what it was and the notice's journal. An older
     /// notice lowers nothing. Takes no memory, and waits for nobody.
     pub fn learn(&mut self, notice: &mut Notice<J>)
         ensures view { self.new.view ≡ self.old.view }
@@ -231,7 +231,7 @@ impl<J: Naming> Checker<J> {
         }
     }
 
-    /// The length of the journal that the reader has seen or was told of.
+    /// The length of the journal that the reader has seen or learned of.
     pub fn seen(&self) -> u64
         ensures length { result ≡ length self.now.floor }
         ensures lawful { IsLawful J.opening self.now.floor }
@@ -241,8 +241,8 @@ impl<J: Naming> Checker<J> {
 }
 
 /// The floor becomes what was found, unless that is shorter. It never is: of two beginnings of one history the longer
-/// extends the other, and a notice tells only what was published before. But that a look comes behind a publish that
-/// was told of isn't proved, so the lengths are compared.
+/// extends the other, and a notice has only what was published before. But that a read comes after the publish of a
+/// notice isn't proved, so the lengths are compared.
 fn raise<J: Naming>(
     floor: &mut Front<Edit>,
     seen: &mut u64,

@@ -11,7 +11,7 @@ use crate::error::AuditError;
 use crate::gate::Gate;
 use crate::naming::Naming;
 use crate::query::Query;
-use sd_desk::Answer;
+use sd_versions::Answer;
 use std::alloc::Global;
 
 /// Answers the worker's queries, and leaves the answers in its checker, or why there are none.
@@ -70,7 +70,7 @@ fn fill<J: Naming, G: Gate>(
     ensures all { OnOk result (length queries.now ≤ worker + length answers.new.items * step) }
     ensures gate { IfErr result (λ e. e ≡ audit.Gate → ¬ G.always) }
 {
-    // That the floor is lawful.
+    // That the floor is a valid journal.
     let _ = checker.seen();
     let mut at = worker;
     while at < queries.len() {
@@ -94,7 +94,7 @@ fn ask<J: Naming, G: Gate>(
     ensures answered { OnOk result (IsAnswered J.opening checker.new query.now answers.old.items answers.new.items) }
     ensures gate { IfErr result (λ e. e ≡ audit.Gate → ¬ G.always) }
 {
-    // That the floor is lawful.
+    // That the floor is a valid journal.
     let _ = checker.seen();
     let k = answers.len() as u64;
     if !gate.before(worker, k) {

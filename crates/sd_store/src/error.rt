@@ -6,7 +6,7 @@ ghost use Rattle.sd_store.specs.Errors.{audit_error_number};
 use sd_tree::{EditRefusal, TreeError};
 use thiserror::Error;
 
-/// Why an edit didn't join those that wait, which stay as they were.
+/// Why an edit didn't become pending. Nothing has changed.
 #[derive(Clone, Copy, Debug, PartialEq, Eq, Error)]
 pub enum EditError {
     /// The edit is refused.
@@ -31,7 +31,7 @@ impl From<TreeError> for EditError {
     }
 }
 
-/// Why nothing was published. What waited waits on.
+/// Why nothing was published. The same edits are pending.
 #[derive(Clone, Copy, Debug, PartialEq, Eq, Error)]
 pub enum PublishError {
     /// Memory was refused.
@@ -45,7 +45,7 @@ pub enum PublishError {
 #[error("the store is gone")]
 pub struct Gone;
 
-/// Why no descriptor was shown, or none of several questions answered.
+/// Why no descriptor was returned, or none of several questions answered.
 #[derive(Clone, Copy, Debug, PartialEq, Eq, Error)]
 pub enum ShowError {
     /// As `Gone`.
@@ -65,7 +65,7 @@ pub enum AuditError {
     /// The gate didn't let a worker go on.
     #[error("the gate was closed")]
     Gate,
-    /// A check was told `Gone`.
+    /// A check answered `Gone`.
     #[error("the store is gone")]
     Gone,
 }

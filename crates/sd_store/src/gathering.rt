@@ -9,7 +9,7 @@ ghost use Rattle.sd_store.specs.declared.error.AuditError.TheVariants.{Memory};
 use crate::checker::Checker;
 use crate::error::AuditError;
 use crate::naming::Naming;
-use sd_desk::Answer;
+use sd_versions::Answer;
 use std::alloc::Global;
 
 /// Why the first worker that failed has no answers.

@@ -1,7 +1,7 @@
-//! The store of many threads: one writer that edits and publishes, and up to 64 checkers that ask and never wait.
+//! The store of many threads: one writer that edits and publishes, and up to 64 checkers, whose reads are wait-free.
 //!
 //! Each check takes effect at one moment, by the journal that is published then; that journal extends all that the same
-//! checker has seen or was told of. A publish shows all edits that wait at once. docs/STORE.md tells what is promised.
+//! checker has seen or learned of. A publish makes all pending edits seen at once. docs/STORE.md has the promises.
 //!
 //! ```text
 //! let (mut writer, mut checkers) = start(&rt, alloc, Opened::new(), &mapping, &root, 2)?;

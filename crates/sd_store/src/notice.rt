@@ -1,4 +1,4 @@
-//! What a writer tells readers of a publish.
+//! What readers learn of a publish.
 
 ghost use Rattle.std.specs.Prelude.{◌≡◌, length};
 ghost use Rattle.sd_tree.specs.Journal.{IsLawful};
@@ -52,7 +52,7 @@ impl<J: Naming> Model for Notice<J> {
         × IsLawful J.opening (items_from J.first n.front.log) };
 }
 
-/// Shows the length of the journal that it tells of.
+/// Has the length of its journal.
 impl<J: Naming> fmt::Debug for Notice<J> {
     fn fmt<W: fmt::Write>(&self, f: &mut fmt::Formatter<W>) -> fmt::Result {
         f.debug_struct("Notice")
@@ -74,7 +74,7 @@ impl<J: Naming> Notice<J> {
         }
     }
 
-    /// The length of the journal that it tells of.
+    /// The length of its journal.
     pub fn length(&self) -> u64
         ensures length { result ≡ length self.now.journal }
         ensures lawful { IsLawful J.opening self.now.journal }

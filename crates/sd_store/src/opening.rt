@@ -4,8 +4,8 @@ ghost use Rattle.std.specs.Prelude.{◌≡◌, ◌⊎◌, ◌∷◌, ◌<◌, �
 ghost use Rattle.left_right.specs.Sides.{view};
 ghost use Rattle.sd_tree.specs.Journal.{opening_of, root_refusal};
 ghost use Rattle.sd_history.specs.Chains.{items_from};
-ghost use Rattle.sd_desk.specs.Starts.{IsReaderCount};
-ghost use Rattle.sd_desk.specs.declared.start.StartError.TheVariants.{Memory, Place};
+ghost use Rattle.sd_versions.specs.Starts.{IsReaderCount};
+ghost use Rattle.sd_versions.specs.declared.start.StartError.TheVariants.{Memory, Place};
 ghost use Rattle.sd_store.specs.Errors.{IsStoreError};
 ghost use Rattle.sd_store.specs.Rules.{naming, newcomer, IsFrontOf, IsOpened};
 
@@ -14,11 +14,10 @@ use crate::naming::Naming;
 use crate::published::Published;
 use crate::rule::Cell;
 use crate::writer::StoreWriter;
-use sd_desk::{MAX_READERS, StartError};
 use sd_history::{Front, Opened};
 use sd_sid::GenericMapping;
-use sd_snapshot::Snapshots;
 use sd_tree::{Edit, RootSpec, Shared, Tree};
+use sd_versions::{MAX_READERS, StartError, Versions};
 use std::alloc::{AllocError, Global};
 use std::sync::Wait;
 
@@ -46,18 +45,17 @@ pub fn start<J: Naming, R: Wait>(
     if readers < 1 || MAX_READERS < readers {
         return Err(StartError::Readers);
     }
-    let mut snapshots = Snapshots::of(alloc, Tree::opening(alloc, mapping, root)?)?;
-    let tree = snapshots.snapshot()?;
+    let versions = Versions::opening(alloc, mapping, root)?;
+    let tree = versions.snapshot()?;
     let pencil = history.named::<J>();
     let front = pencil.front();
     let cell = opened::<J>(alloc, &tree, &front, readers)?;
     match seated(alloc, &cell, &front, readers) {
         Ok(checkers) => {
             let writer = StoreWriter {
-                snapshots,
+                versions,
                 pencil,
                 cell: Some(cell),
-                published: 0,
             };
             Ok((writer, checkers))
         }

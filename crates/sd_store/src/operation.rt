@@ -4,8 +4,8 @@ use sd_history::Front;
 use sd_tree::{Edit, Opening, Shared, Tree};
 use std::collections::LinkedList;
 
-/// One operation on what is published: a tree is shown. Those that wait are one publish: mostly one, and more where
-/// publishes were refused.
+/// One operation on what is published: readers get a tree. The pending ones are one publish: mostly one, and more where
+/// publishes failed.
 #[derive(Drop)]
 pub(crate) struct Operation {
     pub tree: Shared<Tree>,

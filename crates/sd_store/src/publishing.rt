@@ -1,4 +1,4 @@
-//! One publish: a tree is shown to readers.
+//! One publish: readers get a tree.
 
 ghost use Rattle.std.specs.Prelude.{◌≡◌, [], ◌∷◌, ◌++◌, length, drop, OnOk, MatchResult};
 ghost use mathlib.Core.List.{IsPrefix};
@@ -15,8 +15,8 @@ use sd_tree::{Edit, Shared, Tree};
 use std::alloc::AllocError;
 use std::sync::Wait;
 
-/// The tree joins what waits. It stands in for those of publishes that were refused before, so that a publish makes one
-/// mark.
+/// The tree joins the pending operations. It stands in for those of publishes that failed before, so that a publish
+/// makes one mark.
 #[tactic(auto, using(crate::proofs::Marking::one_more, crate::proofs::Marking::first_one, crate::proofs::Marking::shows))]
 fn show<J: Naming>(
     cell: &mut Cell<J>,
@@ -33,7 +33,7 @@ fn show<J: Naming>(
         .map_err(|_| AllocError)
 }
 
-/// One publish of the tree, which goes on from what is shown. At an `AllocError` readers see what they saw.
+/// One publish of the tree, which goes on from what is published. At an `AllocError` readers see what they saw.
 pub(crate) fn publish_all<J: Naming, R: Wait>(
     rt: &R,
     cell: Cell<J>,

@@ -16,7 +16,7 @@ pub struct View {
     pub marks: LinkedList<u64>,
 }
 
-/// What is published is a lawful journal of this store, and each view is a beginning of it.
+/// What is published is a valid journal of this store, and each view is a prefix of it.
 pub(crate) struct Law<J: Naming>(PhantomData<J>);
 
 impl<J: Naming> Protocol<Published, View> for Law<J> {
@@ -27,7 +27,7 @@ impl<J: Naming> Protocol<Published, View> for Law<J> {
     ghost first = { newcomer };
 }
 
-/// A look and a publish: the view afterwards is the whole of what is then published.
+/// A read and a publish: the view afterwards is the whole of what is then published.
 pub(crate) struct Sees<J: Naming>(PhantomData<J>);
 
 impl<J: Naming> Outcome<Published, View> for Sees<J> {
@@ -36,7 +36,7 @@ impl<J: Naming> Outcome<Published, View> for Sees<J> {
     ghost then = { λ v x y w. Shows (naming J.opening J.book J.first) v x y w };
 }
 
-/// The writer's side of the shared store, with the operations that wait.
+/// The writer's side of the shared store, with the pending operations.
 pub(crate) type Cell<J> = Writer<Published, Operation, View, Law<J>>;
 
 /// A reader's side.

@@ -4,7 +4,7 @@ use mathlib.Core.List.{IsPrefix}
 use Rattle.sd_tree.specs.Journal.{IsLawful, refusal, root_refusal}
 use Rattle.sd_tree.specs.declared.edit.Edit.{Edit}
 use Rattle.sd_tree.specs.declared.opening.Opening.{Opening}
-use Rattle.sd_desk.specs.declared.request.Answer.{Answer}
+use Rattle.sd_versions.specs.declared.answer.Answer.{Answer}
 use Rattle.sd_store.specs.Audits.{reply_by}
 use Rattle.sd_store.specs.Errors.{IsEditError, IsStoreError}
 use Rattle.sd_store.specs.declared.error.EditError.{EditError}

@@ -5,11 +5,11 @@ ghost use Rattle.sd_tree.specs.Journal.{opening_of, root_refusal};
 ghost use Rattle.sd_store_client.specs.Behind.{IsAskError, IsAskedError, IsBehind};
 
 use crate::error::AskError;
-use sd_desk::Answer;
 use sd_history::Opened;
 use sd_sid::GenericMapping;
 use sd_store::{Checker, Naming, Query, StoreWriter, start};
 use sd_tree::{Edit, RootSpec};
+use sd_versions::Answer;
 use std::alloc::Global;
 use std::sync::Wait;
 

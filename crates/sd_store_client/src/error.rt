@@ -1,7 +1,7 @@
 //! Why there is no answer.
 
-use sd_desk::StartError;
 use sd_store::{EditError, Gone, PublishError};
+use sd_versions::StartError;
 use thiserror::Error;
 
 /// Why there is no answer: the error of the first call that failed.

@@ -8,7 +8,7 @@ use Rattle.sd_tree.specs.Journal.{opened, edited_by, replay}
 use Rattle.sd_tree.specs.declared.edit.Edit.{Edit}
 use Rattle.sd_tree.specs.declared.opening.Opening.{Opening}
 use Rattle.sd_tree_renewal.proofs.AnsweredAlike.{same_tree_answers_alike}
-use Rattle.sd_desk.specs.declared.request.Answer.{Answer}
+use Rattle.sd_versions.specs.declared.answer.Answer.{Answer}
 use Rattle.sd_store.specs.Audits.{reply_by}
 use Rattle.sd_store.specs.declared.query.Query.{Query}
 use Rattle.sd_store.proofs.Prefixes.{prefix_trans}

@@ -2,18 +2,18 @@
 
 ghost use Rattle.std.specs.Prelude.{◌≡◌, ◌∷◌, [], None, length, IfOk, IfErr, OnOk, All, vec_len};
 ghost use Rattle.sd_tree.specs.Journal.{opening_of, replay, IsLawful};
-ghost use Rattle.sd_desk.specs.Starts.{IsReaderCount};
+ghost use Rattle.sd_versions.specs.Starts.{IsReaderCount};
 ghost use Rattle.sd_store.specs.Errors.{IsStoreError};
 ghost use Rattle.sd_store.specs.Rules.{newcomer};
 ghost use Rattle.sd_tree_renewal.specs.Renewal.{Makes};
 ghost use Rattle.sd_store_renewal.specs.Successions.{GoesOnAlike};
 
 use crate::succession::Succession;
-use sd_desk::StartError;
 use sd_history::Opened;
 use sd_store::{Checker, EditError, Naming, StoreWriter, start};
 use sd_tree::Edit;
 use sd_tree_renewal::Beginning;
+use sd_versions::StartError;
 use std::alloc::{AllocError, Global};
 use std::sync::Wait;
 

@@ -3,14 +3,14 @@
 ghost use Rattle.std.specs.Prelude.{◌≡◌, ◌<◌, length, OnOk, OnErr, IfOk};
 ghost use mathlib.Core.List.{IsPrefix};
 ghost use Rattle.sd_tree.specs.Journal.{IsLawful};
-ghost use Rattle.sd_desk.specs.Machine.{longer};
+ghost use Rattle.sd_versions.specs.Versions.{longer};
 ghost use Rattle.sd_store.specs.Marks.{last_of};
 ghost use Rattle.sd_store.specs.Sights.{IsGone};
 ghost use Rattle.sd_store_renewal.specs.Successions.{IsOnwards};
 
 use crate::error::Ahead;
-use sd_desk::Answer;
 use sd_store::{Checker, Gone, Naming, Notice, Query};
+use sd_versions::Answer;
 use std::marker::Model;
 
 /// The last publish of a store and the first of the next one, which make the same tree. Contracts see both journals.

@@ -1,9 +1,9 @@
 //! What a handle keeps.
 
-use crate::store::Store;
 use sd_acl::Descriptor;
 use sd_check::Token;
 use sd_tree::{Shared, Tree};
+use sd_versions::Versions;
 use std::sync::Arc;
 
 /// What was parsed once and is used often, by each handle that shares it; or a store, which has one handle.
@@ -11,6 +11,6 @@ use std::sync::Arc;
 pub enum Kept {
     Descriptor(Arc<Descriptor>),
     Token(Arc<Token>),
-    Store(Box<Store>),
+    Store(Box<Versions>),
     View(Shared<Tree>),
 }

@@ -2,8 +2,8 @@
 
 use super::store::{Play, is_right};
 use super::*;
-use sd_desk::Answer;
 use sd_store::{AuditError, Checker, Gate, Naming, Notice, StoreWriter, audit};
+use sd_versions::Answer;
 use std::sync::Wait;
 use std::sync::atomic::{AtomicBool, Ordering};
 use std::thread::{Threads, join, yield_now};

@@ -1,10 +1,10 @@
 //! The client whose answer is proved to include its edits.
 
 use super::*;
-use sd_desk::Answer;
 use sd_history::Opened;
 use sd_sid::GenericMapping;
 use sd_store_client::answer_behind;
+use sd_versions::Answer;
 use std::marker::Brand;
 use std::sync::Wait;
 

@@ -6,9 +6,9 @@
 
 use super::store::{Play, is_right};
 use super::*;
-use sd_desk::Answer;
 use sd_store::{Answers, Checker, EditError, Naming, PublishError, ShowError, StoreWriter};
 use sd_tree::EditRefusal;
+use sd_versions::Answer;
 use std::process::Abort;
 use std::sync::Wait;
 use std::sync::atomic::{AtomicBool, Ordering};

@@ -6,11 +6,11 @@ ghost use Rattle.sd_tree_renewal.specs.Renewal.{Makes};
 
 use super::store::{Play, is_right};
 use super::*;
-use sd_desk::Answer;
 use sd_history::Opened;
 use sd_store::{Checker, Gone, Naming, StoreWriter};
 use sd_store_renewal::{Ahead, Succession, succeed};
 use sd_tree_renewal::{Beginning, shortest};
+use sd_versions::Answer;
 use std::marker::Brand;
 use std::sync::Wait;
 use std::thread;

@@ -4,8 +4,8 @@
 use super::store::{Play, is_right};
 use super::*;
 use sd_acl::Descriptor;
-use sd_desk::Answer;
 use sd_store::{Answers, Checker, Naming, Notice, ShowError, StoreWriter};
+use sd_versions::Answer;
 use std::sync::Wait;
 use std::thread;
 use std::thread::{JoinHandle, Threads, yield_now};

@@ -2,7 +2,7 @@
 use Rattle.std.proofs.Common.{◌≡◌, ◌∙◌, ap, sym, arith}
 use Rattle.std.proofs.lemmas.Grind.{common_steps}
 use Rattle.std.proofs.lemmas.List.Elements.{All-more}
-use Rattle.sd_desk.specs.declared.request.Answer.{Answer}
+use Rattle.sd_versions.specs.declared.answer.Answer.{Answer}
 use Rattle.sd_script_audit.proofs.answers.print_answers.Goals as goal
 
 pub loop-answer-preserved : goal.loop-answer-preserved

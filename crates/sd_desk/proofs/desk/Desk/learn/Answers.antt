@@ -1,7 +1,8 @@
 use Rattle.std.proofs.Common.{◌≡◌, ◌<◌, ◌≤◌, length, take, max, slice_index_or, slice_set, subst, sym, ap, ◌∙◌, arith}
 use Rattle.std.proofs.lemmas.List.{length-take-le, get_or_read}
 use Rattle.std.proofs.lemmas.List.Elements.{All-get_or}
-use Rattle.sd_desk.specs.Machine.{Machine, Steps, floor_of, longer, with_floor}
+use Rattle.sd_desk.specs.Machine.{Machine, Steps, floor_of, with_floor}
+use Rattle.sd_versions.specs.Versions.{longer}
 use Rattle.sd_desk.specs.Kept.{machine_of}
 use Rattle.sd_desk.specs.declared.request.Request.TheVariants.{Learn}
 use Rattle.sd_desk.specs.declared.request.Reply.TheVariants.{Learned}

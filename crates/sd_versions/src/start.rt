@@ -1,7 +1,7 @@
 //! How a store starts, and why it doesn't.
 
 ghost use Rattle.std.specs.Prelude.{◌≡◌};
-ghost use Rattle.sd_desk.specs.Starts.{start_error_number};
+ghost use Rattle.sd_versions.specs.Starts.{start_error_number};
 
 use sd_tree::{EditRefusal, TreeError};
 use std::alloc::AllocError;
@@ -22,7 +22,7 @@ pub enum StartError {
     /// Memory was refused.
     #[error("memory was refused")]
     Memory,
-    /// A store that threads share has no place for a reader. A desk never answers this.
+    /// A store of many threads has no place for a reader. A store of one thread never answers this.
     #[error("the shared store gave no place for a reader")]
     Place,
 }
@@ -43,7 +43,7 @@ impl StartError {
 
 impl From<TreeError> for StartError {
     ghost use Rattle.std.specs.Prelude.{◌≡◌};
-    ghost use Rattle.sd_desk.specs.Starts.{start_error_of};
+    ghost use Rattle.sd_versions.specs.Starts.{start_error_of};
 
     ghost from_gives = { λ error start. start ≡ start_error_of error };
 
@@ -57,7 +57,7 @@ impl From<TreeError> for StartError {
 
 impl From<AllocError> for StartError {
     ghost use Rattle.std.specs.Prelude.{◌≡◌};
-    ghost use Rattle.sd_desk.specs.declared.start.StartError.TheVariants.{Memory};
+    ghost use Rattle.sd_versions.specs.declared.start.StartError.TheVariants.{Memory};
 
     ghost from_gives = { λ _ start. start ≡ Memory };
 

@@ -4,8 +4,8 @@ use Rattle.sd_tree.specs.Refusals.{is_early}
 use Rattle.sd_tree.specs.declared.refusal.EditRefusal.{EditRefusal}
 use Rattle.sd_tree.specs.declared.refusal.TreeError.{TreeError}
 use Rattle.sd_tree.specs.declared.refusal.TreeError.TheVariants as tree
-use Rattle.sd_desk.specs.declared.start.StartError.{StartError}
-use Rattle.sd_desk.specs.declared.start.StartError.TheVariants.{Readers, Root, Memory, Place}
+use Rattle.sd_versions.specs.declared.start.StartError.{StartError}
+use Rattle.sd_versions.specs.declared.start.StartError.TheVariants.{Readers, Root, Memory, Place}
 
 -- each error's number
 abbrev pub start_error_number : StartError → ℕ
@@ -18,8 +18,8 @@ start_error_number Place = 4
 abbrev pub IsReaderCount : ℕ → Type 0
 IsReaderCount readers = (0 < readers) × (readers ≤ 64)
 
--- why a desk didn't start with so many readers and a root that is due this refusal: the number of readers comes
--- first, want of memory only where no refusal is due that is found without it, and the last error never
+-- why a store of one thread didn't start with so many readers and a root that is due this refusal: the number of
+-- readers comes first, out of memory only where no refusal is due that is found without it, and the last error never
 abbrev pub IsStartError : StartError → ℕ → Option EditRefusal → Type 0
 IsStartError Readers readers due = (readers ≡ 0) ⊎ (64 < readers)
 IsStartError (Root refusal) readers due = IsReaderCount readers × (due ≡ Some refusal)
