@@ -103,17 +103,3 @@ removal g bs standing q none at place stands b =
 -- ---- a node that is changed where it stands
 pub changed_there : (t : PlainTree) (path : Names) (change : Row → Row) (row new : Row) → row_at t path ≡ Some row → new ≡ change row → finite.insert t path new ≡ changed t path change
 changed_there t path change row new there is = ap (finite.insert t path) is ∙ sym (ap (changed_where t path change) there)
-
-pub planned_for : (g : MappingValue) (t a b : PlainTree) (r : Result Plan TreeError) → a ≡ b → IfOk r (IsPlan g t a) → IfOk r (IsPlan g t b)
-planned_for g t a b r same h = let P : PlainTree → Type 0 = λ u. IfOk r (IsPlan g t u) in subst P same h
-
-pub refused_for : (g : MappingValue) (a b : PlainTree) (r : Result Plan TreeError) → a ≡ b → IfErr r (IsLargeError g a) → IfErr r (IsLargeError g b)
-refused_for g a b r same h = let P : PlainTree → Type 0 = λ u. IfErr r (IsLargeError g u) in subst P same h
-
--- the row of a node that is protected with what it had inherited, or as it was where its DACL is null
-pub kept_row : (whole : Option (List Ace)) (kept : Option NodeDacl) (old : Row) (dacl : NodeDacl)
-    → MatchOption kept ((row : Row) → keeping whole row ≡ row) (λ d. (row : Row) → keeping whole row ≡ record row { dacl = d })
-    → MatchOption kept (dacl ≡ old.dacl) (λ d. dacl ≡ d)
-    → ◌≡◌ {A = Row} (record { kind = old.kind; owner = old.owner; group = old.group; dacl = dacl }) (keeping whole old)
-kept_row whole None old dacl keeps is = ap (λ (d : NodeDacl). record { kind = old.kind; owner = old.owner; group = old.group; dacl = d }) is ∙ sym (keeps old)
-kept_row whole (Some d) old dacl keeps is = ap (λ (d : NodeDacl). record { kind = old.kind; owner = old.owner; group = old.group; dacl = d }) is ∙ sym (keeps old)

@@ -102,6 +102,7 @@ one_rewriting g bs standing q at in' stands row whole is fits alone =
     let first = rebuilt_first g t bs at q whole stands is fits in
     record {
       place = omega (arith, count);
+      some = omega arith;
       fits = omega (arith, count);
       made = λ path. ap (λ p. insert (tree_of bs) p row) (sym (key_at bs order at path b in' ∙ stands b));
       below = λ k path w lt.

@@ -28,9 +28,6 @@ use Rattle.sd_tree.proofs.Journals.{holds_of_lawful}
 
 -- ---- kinds
 
-kind_of_row : Row → NodeKind
-kind_of_row row = row.kind
-
 pub known_kind : (t : PlainTree) (path : Names) (row : Row) → row_at t path ≡ Some row → kind_at t path ≡ Some row.kind
 known_kind t path row e = ap (option_map (λ (r : Row). r.kind)) e
 

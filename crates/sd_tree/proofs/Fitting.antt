@@ -111,10 +111,6 @@ refusal_by_parts g t n e r early large limits =
     ap (λ o. option_or o (cond (has_large_dacl g (edited g t e)) (Some AclTooLarge) rest)) early
     ∙ ap (λ b. cond b (Some AclTooLarge) rest) large ∙ sym limits
 
-pub no_some : {X : Type 0} (o : Option X) → ((x : X) → o ≡ Some x → ⊥) → o ≡ None
-no_some None h = refl
-no_some (Some x) h = absurd (h x refl)
-
 -- how many nodes there are
 pub nodes_count : (bs : List Node) (g : MappingValue) → AreNodes g bs → finite.len (tree_of bs) ≡ length bs
 nodes_count bs g kept = len-entries (tree_of bs) ∙ ap length (entries_kept bs kept.order) ∙ length-map bs entry_of

@@ -45,17 +45,6 @@ within_length source path h =
     let found = within_rest source path h in
     omega (arith, ap length found.1, length-append source found.0)
 
-pub moved_length : (source target path : Names) → is_within source path ≡ true → length (moved_path source target path) + length source ≡ length target + length path
-moved_length source target path h =
-    let found = within_rest source path h in
-    omega (
-      arith,
-      ap length found.1,
-      length-append source found.0,
-      length-append target found.0,
-      ap length (ap (moved_path source target) found.1 ∙ moved_path-append source target found.0),
-    )
-
 -- a node of a tree that nodes are stands at a place
 pub place_there : (g : MappingValue) (bs : List Node) → AreStanding g bs → (q : Names) (row : Row) → row_at (tree_of bs) q ≡ Some row
     → (k : ℕ) × (k < length bs) × ((b : Node) → path_of_node (get_or bs k b) ≡ q)
@@ -355,7 +344,3 @@ too_deep_found bs g standing source target k b lt inside (Refused r) h =
 too_deep_found bs g standing source target k b lt inside Memory h = tt
 
 -- ---- errors told of an edit
-
-pub late_from_large : (g : MappingValue) (t : PlainTree) (edit : Edit) (e : TreeError) → IsLargeError g (edited g t edit) e → IsLateError g t edit e
-late_from_large g t edit (Refused r) h = λ count. rw (h.1, h.0) refl
-late_from_large g t edit Memory h = tt

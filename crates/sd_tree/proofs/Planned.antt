@@ -73,9 +73,6 @@ module _ (g : MappingValue) (bs : List Node) (standing : AreStanding g bs) (sour
     abbrev pub rest : List Entry
     rest = beside_run from count es
 
-    es_length : length es ≡ length bs
-    es_length = length-map bs entry_of
-
     front_length : length (take from es) ≡ from
     front_length = taken from es (omega (arith, length-map bs entry_of))
 

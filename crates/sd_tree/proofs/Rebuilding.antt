@@ -167,13 +167,14 @@ module _ (g : MappingValue) (bs : List Node) (standing : AreStanding g bs) (q : 
       ] in
       dacl_at_outside g (insert (tree_of bs) q row) (tree_of bs) q path (λ p other. row_at-insert_other (tree_of bs) q p row other) out
 
-  pub run_rewriting : (end : ℕ) (wholes : List (Option (List Ace))) → end ≤ length bs → AllWithin (λ c. is_within q (path_of_node c) ≡ false) bs end (length bs)
+  pub run_rewriting : (end : ℕ) (wholes : List (Option (List Ace))) → at < end → end ≤ length bs → AllWithin (λ c. is_within q (path_of_node c) ≡ false) bs end (length bs)
       → IsRebuilt g (insert (tree_of bs) q row) bs at end wholes → IsRewriting g (tree_of bs) (insert (tree_of bs) q row) at row wholes
-  run_rewriting end wholes le beyond h =
+  run_rewriting end wholes behind le beyond h =
       let order = standing.kept.order in
       let count = keys_count bs order in
       record {
         place = omega (arith, count);
+        some = omega (arith, h.count);
         fits = omega (arith, count, h.count);
         made = λ path. ap (λ p. insert (tree_of bs) p row) (sym (key_at bs order at path (a_node bs at in') in' ∙ stands (a_node bs at in')));
         below = λ k path whole lt.

@@ -75,7 +75,7 @@ plan_of_nodes o journal e plan bs s h = let P : PlainTree → Type 0 = λ t. IsP
 
 can_carry : (g : MappingValue) (bs : List Node) → AreNodes g bs → (after : PlainTree) (plan : Plan) → IsPlan g (tree_of bs) after plan → CanCarryOut (length bs) plan
 can_carry g bs kept after (Insert at b) h = let count = keys_count bs kept.order in omega (arith, h.place)
-can_carry g bs kept after (Rewrite at row wholes) h = let count = keys_count bs kept.order in (omega (arith, h.place), omega (arith, h.fits))
+can_carry g bs kept after (Rewrite at row wholes) h = let count = keys_count bs kept.order in (h.some, omega (arith, h.fits))
 can_carry g bs kept after (Remove at) h = let count = keys_count bs kept.order in omega (arith, h.place)
 can_carry g bs kept after (Move from to run) h = let count = keys_count bs kept.order in (omega (arith, h.fits), omega (arith, h.place))
 

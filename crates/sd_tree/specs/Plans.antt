@@ -62,6 +62,7 @@ pub record IsInsertion (g : MappingValue) (before after : PlainTree) (at : ℕ) 
 pub record IsRewriting (g : MappingValue) (before after : PlainTree) (at : ℕ) (row : Row)
     (wholes : List (Option (List Ace))) : Type 0 where
   pub place : at < length (finite.keys before)
+  pub some : 0 < length wholes
   pub fits : at + length wholes ≤ length (finite.keys before)
   pub made : (path : Names) → after ≡ finite.insert before (slice_index_or (finite.keys before) at path) row
   pub below : (k : ℕ) (path : Names) (whole : Option (List Ace)) → k < length wholes
@@ -156,7 +157,7 @@ IsPlan g before after (Move from to run) = IsMoving g before after from to run.i
 -- the places are within so many nodes
 abbrev pub CanCarryOut : ℕ → Plan → Type 0
 CanCarryOut count (Insert at node) = at ≤ count
-CanCarryOut count (Rewrite at row wholes) = (at < count) × (at + length wholes.items ≤ count)
+CanCarryOut count (Rewrite at row wholes) = (0 < length wholes.items) × (at + length wholes.items ≤ count)
 CanCarryOut count (Remove at) = at < count
 CanCarryOut count (Move from to run) = (from + length run.items ≤ count) × (to + length run.items ≤ count)
 
@@ -172,6 +173,18 @@ pub record IsRewritten (at : ℕ) (row : Row) (wholes : List (Option (List Ace))
       → (slice_index_or new (at + k) b).whole ≡ slice_index_or wholes k whole
   pub others : (k : ℕ) (b : Node) → k < length old → (k < at) ⊎ (at + length wholes ≤ k)
       → (slice_index_or new k b).whole ≡ (slice_index_or old k b).whole
+
+-- the first so many of the nodes from one on, with its new row and the new whole DACLs
+pub record IsRewrittenRun (at : ℕ) (row : Row) (wholes : List (Option (List Ace))) (old : List Node) (count : ℕ)
+    (run : List Node) : Type 0 where
+  pub counted : length run ≡ count
+  pub paths : (k : ℕ) (b : Node) → k < count → path_of_node (slice_index_or run k b)
+      ≡ path_of_node (slice_index_or old (at + k) b)
+  pub row_is : (b : Node) → 0 < count → (slice_index_or run 0 b).row ≡ row
+  pub rows : (k : ℕ) (b : Node) → 0 < k → k < count → (slice_index_or run k b).row
+      ≡ (slice_index_or old (at + k) b).row
+  pub wholes_are : (k : ℕ) (b : Node) (whole : Option (List Ace)) → k < count
+      → (slice_index_or run k b).whole ≡ slice_index_or wholes k whole
 
 abbrev pub IsCarriedOut : Plan → List Node → List Node → Type 0
 IsCarriedOut (Insert at node) old new = new ≡ insert old at node

@@ -1,6 +1,6 @@
 //! The nodes of a tree in the order of their paths.
 
-ghost use Rattle.std.specs.Prelude.{◌≡◌, ◌<◌, ◌≤◌, length, slice_index_or, IfOk, IfErr};
+ghost use Rattle.std.specs.Prelude.{◌≡◌, ◌-◌, ◌<◌, ◌≤◌, length, slice_index_or, IfOk, IfErr};
 ghost use Rattle.std.specs.List.{HoldsAt, AllWithin};
 ghost use Rattle.std.specs.Option.{option_copied};
 ghost use Rattle.std.specs.declared.cmp.Ordering.TheVariants.{Less, Greater};
@@ -12,6 +12,7 @@ use crate::node::Node;
 use sd_blocks::{Blocks, Sought};
 use sd_path::PathRef;
 use std::cmp::Ordering;
+use std::marker::Model;
 
 /// A path that is sought among nodes.
 #[derive(Drop)]
@@ -61,5 +62,51 @@ pub(crate) fn node_in(nodes: &Blocks<Node>, at: usize) -> &Node
     match nodes.get(at) {
         Some(node) => node,
         None => unreachable!(),
+    }
+}
+
+/// Nodes that are read in their order: the next one mostly stands in the block of the one before, and needs no search.
+/// Contracts see all the nodes.
+#[derive(Drop)]
+pub(crate) struct Walk<'a> {
+    nodes: &'a Blocks<Node>,
+    start: usize,
+    block: &'a [Node],
+}
+
+impl<'a> Model for Walk<'a> {
+    ghost use Rattle.std.specs.Prelude.{◌≡◌, List, length, take, drop};
+    ghost use Rattle.sd_tree.specs.declared.node.Node.{Node};
+
+    ghost Value = { List Node };
+
+    ghost view = { λ w. w.nodes.now };
+
+    ghost invariant = { λ w. w.block.now ≡ take (length w.block.now) (drop w.start w.nodes.now) };
+}
+
+impl<'a> Walk<'a> {
+    /// Before the first node is read.
+    pub(crate) fn new(nodes: &'a Blocks<Node>) -> Walk<'a>
+        ensures { result ≡ nodes.now }
+    {
+        Walk {
+            nodes,
+            start: 0,
+            block: &[],
+        }
+    }
+
+    /// The node at a place.
+    pub(crate) fn node(&mut self, at: usize) -> &'a Node
+        requires { at < length self.old }
+        ensures same { self.new ≡ self.old }
+        ensures node { (n : Node) → result.now ≡ slice_index_or self.old at n }
+    {
+        if at < self.start || at - self.start >= self.block.len() {
+            self.block = self.nodes.run_from(at);
+            self.start = at;
+        }
+        &self.block[at - self.start]
     }
 }

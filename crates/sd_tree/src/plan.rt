@@ -1,12 +1,11 @@
 //! What an accepted edit does to the nodes of a tree: worked out first, then carried out.
 
-ghost use Rattle.std.specs.Prelude.{◌≡◌, ◌≤◌, ◌<◌, ◌+◌, length, slice_index_or, slice_set, vec_len, OnOk, OnErr};
+ghost use Rattle.std.specs.Prelude.{◌≡◌, ◌≤◌, ◌<◌, ◌+◌, length, vec_len, OnOk, OnErr, IfOk};
 ghost use Rattle.std.specs.List.{remove};
-ghost use Rattle.sd_tree.specs.Plans.{CanCarryOut, IsCarriedOut, IsRewritten, run_moved};
-ghost use Rattle.sd_tree.specs.declared.node.Node.{Node};
+ghost use Rattle.sd_tree.specs.Plans.{CanCarryOut, IsCarriedOut, IsRewritten, IsRewrittenRun, run_moved};
 
 use crate::node::{Node, Row};
-use crate::nodes::node_in;
+use crate::nodes::{Walk, node_in};
 use crate::shared::Shared;
 use crate::whole::WholeDacl;
 use sd_blocks::Blocks;
@@ -65,7 +64,7 @@ fn rewrite(
     row: Shared<Row>,
     wholes: Vec<WholeDacl>,
 ) -> Result<(), AllocError>
-    requires place { at < length nodes.old }
+    requires some { 0 < vec_len wholes }
     requires fits { at + vec_len wholes ≤ length nodes.old }
     ensures done { OnOk result (IsRewritten at row wholes.items nodes.old nodes.new) }
     ensures refused { OnErr result (nodes.new ≡ nodes.old) }
@@ -73,10 +72,8 @@ fn rewrite(
     if wholes.len() == 1 {
         return rewrite_one(alloc, nodes, at, row, wholes);
     }
-    let mut changed = nodes.copy(alloc)?;
-    rewrite_each(alloc, &mut changed, at, row, wholes)?;
-    *nodes = changed;
-    Ok(())
+    let run = rewritten(alloc, nodes, at, row, wholes)?;
+    nodes.write_run(alloc, at, run)
 }
 
 /// The same of one node alone, in place.
@@ -101,60 +98,35 @@ fn rewrite_one(
     }
 }
 
-/// The same, one node after the other. After an error some are rewritten.
-fn rewrite_each(
+/// The nodes from the place on, the first with the row, with these whole DACLs.
+fn rewritten(
     alloc: Global,
-    nodes: &mut Blocks<Node>,
+    nodes: &Blocks<Node>,
     at: usize,
     row: Shared<Row>,
-    mut wholes: Vec<WholeDacl>,
-) -> Result<(), AllocError>
-    requires place { at < length nodes.old }
-    requires fits { at + vec_len wholes ≤ length nodes.old }
-    ensures { OnOk result (IsRewritten at row wholes.items nodes.old nodes.new) }
+    wholes: Vec<WholeDacl>,
+) -> Result<Vec<Node>, AllocError>
+    requires some { 0 < vec_len wholes }
+    requires fits { at + vec_len wholes ≤ length nodes.now }
+    ensures { IfOk result (λ run. IsRewrittenRun at row wholes.items nodes.now (vec_len wholes) run.items) }
 {
     // That the places fit a usize.
     let _count = nodes.len();
-    set_row(alloc, nodes, at, row)?;
-    while let Some(whole) = wholes.pop() {
-        let place = at + wholes.len();
-        set_whole(alloc, nodes, place, whole)?;
+    let mut run = Vec::with_capacity(alloc, wholes.len())?;
+    let mut walk = Walk::new(nodes);
+    let mut rest = wholes.into_iter();
+    let Some(whole) = rest.next() else {
+        unreachable!();
+    };
+    let path = walk.node(at).path.share()?;
+    run.push(Node { path, row, whole })?;
+    'made: while let Some(whole) = rest.next() {
+        let node = walk.node(at + run.len());
+        let path = node.path.share()?;
+        let row = node.row.share()?;
+        run.push(Node { path, row, whole })?;
     }
-    Ok(())
-}
-
-/// The node at a place gets the row.
-fn set_row(
-    alloc: Global,
-    nodes: &mut Blocks<Node>,
-    at: usize,
-    row: Shared<Row>,
-) -> Result<(), AllocError>
-    requires { at < length nodes.old }
-    ensures { OnOk result
-        ((n : Node) → nodes.new ≡ slice_set nodes.old at (record (slice_index_or nodes.old at n) { row = row })) }
-{
-    let node = node_in(nodes, at);
-    let path = node.path.share()?;
-    let whole = node.whole.share()?;
-    nodes.set(alloc, at, Node { path, row, whole })
-}
-
-/// The node at a place gets the whole DACL.
-fn set_whole(
-    alloc: Global,
-    nodes: &mut Blocks<Node>,
-    at: usize,
-    whole: WholeDacl,
-) -> Result<(), AllocError>
-    requires { at < length nodes.old }
-    ensures { OnOk result
-        ((n : Node) → nodes.new ≡ slice_set nodes.old at (record (slice_index_or nodes.old at n) { whole = whole })) }
-{
-    let node = node_in(nodes, at);
-    let path = node.path.share()?;
-    let row = node.row.share()?;
-    nodes.set(alloc, at, Node { path, row, whole })
+    Ok(run)
 }
 
 /// The node at the place goes.

@@ -1,6 +1,6 @@
 //! Nodes that stand beside one, among which what it inherits may be found before it is built.
 
-ghost use Rattle.std.specs.Prelude.{◌≡◌, ◌<◌, ◌≤◌, length, slice_index_or, true, false, IfSome};
+ghost use Rattle.std.specs.Prelude.{◌≡◌, ◌-◌, ◌<◌, ◌≤◌, length, slice_index_or, true, false, IfSome};
 ghost use Rattle.sd_path.specs.Names.{is_root};
 ghost use Rattle.sd_tree.specs.Sharing.{trustees_matter, IsSibling};
 ghost use Rattle.sd_tree.specs.View.{IsView};
@@ -123,6 +123,30 @@ impl TreeView<'_> {
             return None;
         }
         self.sibling_among(path, row, above, false, at)
+    }
+
+    /// The same, where the node right before the place is at hand.
+    pub(crate) fn sibling_behind<'b>(
+        &'b self,
+        path: &PathRef<'_>,
+        row: &Row,
+        above: &WholeDacl,
+        at: usize,
+        before: &'b Node,
+    ) -> Option<(usize, &'b Node)>
+        requires standing { IsView self.now }
+        requires place { at ≤ length self.now.nodes.now }
+        requires some { 0 < at }
+        requires before { (n : Node) → before.now ≡ slice_index_or self.now.nodes.now (at - 1) n }
+        ensures sibling { IfSome result
+            (λ beside. IsSibling self.now.nodes.now path.now row.now above.now beside.0) }
+        ensures node { IfSome result
+            (λ beside. (n : Node) → beside.1.now ≡ slice_index_or self.now.nodes.now beside.0 n) }
+    {
+        if self.is_sibling(path, row, above, true, at - 1, before) {
+            return Some((at - 1, before));
+        }
+        self.sibling_with(path, row, above, at)
     }
 
     /// The same, where the node at the place may be the sibling: what stands at the path, or what comes right behind

@@ -1,6 +1,6 @@
 //! The nodes of a tree as they stand, for working out an edit.
 
-ghost use Rattle.std.specs.Prelude.{◌≡◌, ◌≤◌, ◌<◌, length, slice_index_or, true, false, None, IfOk, IfErr, OnOk};
+ghost use Rattle.std.specs.Prelude.{◌≡◌, ◌-◌, ◌≤◌, ◌<◌, length, slice_index_or, true, false, None, IfOk, IfErr, OnOk};
 ghost use Rattle.std.specs.Prelude.{IsSome};
 ghost use Rattle.std.specs.List.{HoldsAt, AllWithin};
 ghost use Rattle.std.specs.FinMap.{insert};
@@ -194,6 +194,7 @@ impl<'a> TreeView<'a> {
         let first = self.whole_of(path, at, row)?;
         wholes.push(first)?;
         let mut last = (at, self.node(at));
+        let mut before = last.1;
         for k in at + 1..end {
             let node = self.node(k);
             let below = node.path();
@@ -203,27 +204,33 @@ impl<'a> TreeView<'a> {
             let whole = self.whole_in_run(
                 &below,
                 (at, k),
+                before,
                 &node.row,
                 &wholes[parent.0 - at],
                 &wholes,
             )?;
             wholes.push(whole)?;
+            before = node;
         }
         Ok(wholes)
     }
 
     /// The whole DACL of a node at the second place, of a run that begins at the first, below a parent with that one.
-    /// What is inherited is that of a near sibling whose list is made already, where it is the same.
+    /// The node right before it is at hand. What is inherited is that of a near sibling whose list is made already,
+    /// where it is the same.
     fn whole_in_run(
         &self,
         path: &PathRef<'_>,
         places: (usize, usize),
+        before: &Node,
         row: &Shared<Row>,
         above: &WholeDacl,
         made: &[WholeDacl],
     ) -> Result<WholeDacl, TreeError>
         requires standing { IsView self.now }
         requires place { places.1 ≤ length self.now.nodes.now }
+        requires some { 0 < places.1 }
+        requires before { (n : Node) → before.now ≡ slice_index_or self.now.nodes.now (places.1 - 1) n }
         requires made { AreMadeFor self.now.mapping.now self.now.nodes.now path.now row.now above.now places.0
             made.now }
         ensures dacl { IfOk result (λ dacl. dacl ≡ dacl_of_row self.now.mapping.now row.now above.now) }
@@ -231,7 +238,7 @@ impl<'a> TreeView<'a> {
         ensures refused { IfErr result (λ e. IsSizeError e (dacl_of_row self.now.mapping.now row.now above.now)) }
     {
         let (at, k) = places;
-        if let Some((beside, sibling)) = self.sibling_with(path, row.get(), above, k) {
+        if let Some((beside, sibling)) = self.sibling_behind(path, row.get(), above, k, before) {
             if at < beside && beside - at < made.len() {
                 if let Some(inherited) = made[beside - at].behind(sibling.row.get()) {
                     return WholeDacl::new(row, inherited.share()?);

@@ -1,4 +1,4 @@
-use Rattle.std.proofs.Common.{◌≡◌, ◌<◌, get_or, length, ap, sym, ◌∙◌, arith}
+use Rattle.std.proofs.Common.{◌≡◌, ◌+◌, ◌-◌, ◌<◌, get_or, length, ap, sym, ◌∙◌, arith}
 use Rattle.std.proofs.lemmas.Result.{err_from_is_err_and}
 use Rattle.sd_path.specs.Names.{up}
 use Rattle.sd_tree.specs.Stored.{path_of_node, tree_of}
@@ -67,6 +67,7 @@ returns-in_err-whole-clause-refused c =
 
 pub loop-k-preserved : goal.loop-k-preserved
 loop-k-preserved c =
+    let back : (c.loop-k.k + 1) - 1 ≡ c.loop-k.k = omega arith in
     let g = c.args.self.now.mapping.now in
     let bs = c.args.self.now.nodes.now in
     let b = c.node-node.result.now in
@@ -82,6 +83,7 @@ loop-k-preserved c =
     record {
       within = c.node_near-parent.ensures.within;
       node = c.node_near-parent.ensures.node;
+      before = λ n. c.node-node.ensures n ∙ ap (λ j. get_or bs j n) (sym back);
       rebuilt = rw c.in_ok-push-2.ensures.items (rebuilt_more g _ bs c.args.at k c.loop-k.wholes.items b _ c.loop-k.invariant.rebuilt in' (c.in_ok-whole.ensures.dacl ∙ next) (rw c.in_ok-whole.ensures.dacl c.in_ok-whole.ensures.fits));
     }
 
@@ -89,7 +91,7 @@ pub returns-clause-rebuilt : goal.returns-clause-rebuilt
 returns-clause-rebuilt c =
     let end : c.loop-k.k ≡ c.end_below-end.result = omega (arith, c.end_below-end.ensures.place.0) in
     run_rewriting c.args.self.now.mapping.now c.args.self.now.nodes.now c.requires.standing c.args.path.now c.args.at c.requires.within c.requires.stands c.args.row.now c.loop-k.k c.loop-k.wholes.items
-    (omega (arith, c.end_below-end.ensures.place.1, end)) (rw end c.end_below-end.ensures.beyond) c.loop-k.invariant.rebuilt
+    (omega (arith, c.end_below-end.ensures.place.0, end)) (omega (arith, c.end_below-end.ensures.place.1, end)) (rw end c.end_below-end.ensures.beyond) c.loop-k.invariant.rebuilt
 
 pub whole_in_run-requires-clause-made : goal.whole_in_run-requires-clause-made
 whole_in_run-requires-clause-made c =
