@@ -90,6 +90,7 @@ impl<J: Naming> StoreWriter<J> {
         let Ok(tree) = self.versions.draft_snapshot() else {
             return Err(PublishError::Memory);
         };
+        let length = tree.get().len();
         let Some(cell) = self.cell.take() else {
             unreachable!()
         };
@@ -102,7 +103,7 @@ impl<J: Naming> StoreWriter<J> {
             return Err(PublishError::Memory);
         }
         self.versions.publish();
-        Ok(self.versions.published().len())
+        Ok(length)
     }
 
     /// What is published now, for readers to learn. Takes no memory, and waits for nobody.
