@@ -156,7 +156,7 @@ impl LineQuestion<'_> {
         ensures { IfOk result (λ answered. AnswersLine (options_of self.now.options) (request_of self.now.request)
             (option_map (λ bytes. bytes.now) line.entry) answered.printed.items (is_refusal answered.outcome)) }
     {
-        self.ended(alloc, self.plain_answerld(alloc, line)?)
+        self.ended(alloc, self.answer_told(alloc, line)?)
     }
 
     /// An answer, and what follows it.
@@ -175,7 +175,7 @@ impl LineQuestion<'_> {
     }
 
     /// The answer to a line, of which there is no text where it is too long.
-    fn plain_answerld(&self, alloc: Global, line: Option<&[u8]>) -> Result<Answer, AllocError>
+    fn answer_told(&self, alloc: Global, line: Option<&[u8]>) -> Result<Answer, AllocError>
         ensures { IfOk result (λ answer. AnswersTold (options_of self.now.options) (request_of self.now.request)
             (option_map (λ bytes. bytes.now) line.entry) (answer_of answer)) }
     {
