@@ -263,7 +263,7 @@ static void nodes_without_memory(hudarin_view *view)
     HOLDS(refused > 2 && refused < 100);
 }
 
-/* Two edits of which the second is refused: behind the revert neither was made, with each request for memory refused before. */
+/* Two edits of which the second is refused: after the revert, which asks for no memory, neither was made. */
 static void reverts(hudarin_store *store)
 {
     static const row removed = { HUDARIN_EDIT_REMOVE, "/b/o", "", DONE }, refused = { HUDARIN_EDIT_REMOVE, "/b/o", "", DONE };
@@ -271,16 +271,10 @@ static void reverts(hudarin_store *store)
     hudarin_store other = HUDARIN_NOTHING;
     uint64_t length = hudarin_store_publish(store, &view).length;
     hudarin_written answer;
-    long at = 0;
     HOLDS(is_made(made(store, &removed)) && made(store, &refused).status == HUDARIN_REFUSED);
-    do {
-        granted = at++;
-        answer = hudarin_store_revert(store, &view);
-        granted = -1;
-        HOLDS(answer.status == HUDARIN_OK || answer.status == HUDARIN_MEMORY);
-        HOLDS(hudarin_journal_length(&store->kept).length == length + (answer.status != HUDARIN_OK));
-    } while (answer.status != HUDARIN_OK && at < 1000);
-    HOLDS(answer.length == length && at > 1);
+    HOLDS(hudarin_journal_length(&store->kept).length == length + 1);
+    HOLDS_WITHOUT_MEMORY((answer = hudarin_store_revert(store, &view)).status == HUDARIN_OK);
+    HOLDS(answer.length == length && hudarin_journal_length(&store->kept).length == length);
     HOLDS(hudarin_store_publish(store, &after).length == length && alike(&view, &after));
     hudarin_free(&after.kept);
     HOLDS(is_made(made(store, &removed)) && hudarin_store_publish(store, &after).length == length + 1 && !alike(&view, &after));
