@@ -65,7 +65,11 @@ pub(crate) fn bad_value(alloc: Global, bad: BadValue<'_>) -> Result<Answer, Allo
 {
     match bad {
         BadValue::NoDomain(text) => {
-            let reason = sid_reason(alloc, Aliases::in_domain(None), "no domain", text)?;
+            let known = Aliases {
+                domain: None,
+                later: false,
+            };
+            let reason = sid_reason(alloc, known, "no domain", text)?;
             fault(
                 alloc,
                 "domain",
