@@ -243,7 +243,7 @@ by_command : (name : CommandName) (command : Command) (named : ℕ) (given : Giv
 by_command (names.Ask question) command named given text arguments request is =
     let more : 1 + length arguments ≡ suc (length arguments) = omega arith in
     subst (λ n. (if takes_count command n then request_by (names.Ask question) command named given (text ∷ arguments)
-      else Err (miscounted command named n))
+    else Err (miscounted command named n))
     ≡ Ok (asks command named (Ask text.now request))) more
     (by_test (takes_count command (1 + length arguments)) command named text.now
     (record { question = question; arguments = arguments }) request _ is)
