@@ -138,7 +138,7 @@ options_in options words = options_from None options words
 -- ---- before which commands they go
 
 -- the option may go before the command, and beside the others; or why not
-abbrev pub wrong_option : Command → OptionsValue → ProgramOption → Option Wrong
+unfoldable pub wrong_option : Command → OptionsValue → ProgramOption → Option Wrong
 wrong_option command options option =
     if not (takes_option command option.name) then Some (MisplacedOption option.name)
     else (if option_map_or (has options) option.excludes false then Some ExcludedOption else None)

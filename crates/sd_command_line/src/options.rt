@@ -308,6 +308,7 @@ pub(crate) fn misplaced_in(
 }
 
 /// Why the option may not go before the command, or not beside the others, if it may not.
+#[tactic(auto, unfolding(crate::specs::Options::wrong_option))]
 fn wrong_option(command: Command, options: Options<'_>, option: ProgramOption) -> Option<Wrong>
     ensures { result ≡ wrong_option command (options_of options.entry) option }
 {
