@@ -50,5 +50,5 @@ abbrev pub has_failed : Tally → Bool
 has_failed tally =
     is_some tally.first_fault || is_some tally.first_difference || is_some tally.first_reordered
 
-abbrev pub script_outcome : Bool → Tally → Outcome
+unfoldable pub script_outcome : Bool → Tally → Outcome
 script_outcome strict tally = if is_some tally.first_unmet || (strict && has_failed tally) then Refused else Done

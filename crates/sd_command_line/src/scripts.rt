@@ -23,6 +23,7 @@ pub(crate) fn told_of_script(alloc: Global, strict: bool, tally: &Tally) -> Stri
 
 /// Whether the script did what was asked for: each answer that it expected was given, and where that is asked for no
 /// line had a fault, was refused or imported another node.
+#[tactic(auto, unfolding(crate::specs::Scripts::script_outcome))]
 pub(crate) fn script_outcome(strict: bool, tally: &Tally) -> Outcome
     ensures { result ≡ script_outcome strict tally.now }
 {

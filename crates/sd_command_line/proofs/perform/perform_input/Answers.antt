@@ -29,3 +29,11 @@ returns-in_ok-under-in-Err-clause-err g c = print_fails c.print-in-Err.result _ 
     (bad_input (g.R.Read.remaining (inner_of c.args.reader.now)) (options_of c.args.options) (request_of c.args.request)
     c.in-Err.bad (answer_of c.in_ok-answer-in-Err.answer) _ c.in-Err.ensures.bad c.in_ok-answer-in-Err.ensures c.in_ok-under-in-Err.ensures)
     c.print-in-Err.ensures.err
+
+pub returns-in_ok-under-in-Err-clause-ok : goal.returns-in_ok-under-in-Err-clause-ok
+returns-in_ok-under-in-Err-clause-ok g c = IfOk-weaker c.print-in-Err.result _ _
+    (λ ended is. print_answers _ _ _ _ _ _ _
+    (bad_input (g.R.Read.remaining (inner_of c.args.reader.now)) (options_of c.args.options) (request_of c.args.request)
+    c.in-Err.bad (answer_of c.in_ok-answer-in-Err.answer) _ c.in-Err.ensures.bad c.in_ok-answer-in-Err.ensures c.in_ok-under-in-Err.ensures)
+    is.0 is.1 is.2)
+    c.print-in-Err.ensures.ok
