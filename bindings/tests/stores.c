@@ -99,7 +99,6 @@ static void each_row(hudarin_store *store)
                 break;
             }
             refused++;
-            /* (the tree that was made for the first edit behind a publish stays for the next one) */
             HOLDS(taken - blocks <= 3 && hudarin_journal_length(&store->kept).length == edits);
             HOLDS(hudarin_store_publish(store, &after).length == edits && alike(&before, &after));
             hudarin_free(&after.kept);

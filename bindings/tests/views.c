@@ -2,9 +2,9 @@
  * Four threads that check by views of a store, beside a writer that edits it and publishes. Each edit gives a node another list,
  * which grants a mask made of the edit's number in the journal, so each answer is compared with what its own length says.
  *
- * The first edit behind a publish takes over the tree of a view that nobody has any more: that a thread's last look at it comes before is
- * the doing of a count in the library, which valgrind's helgrind and drd take for no order. For them LOCKED_ENDS is 1: a view ends, and
- * edits and publishes are made, while the lock is held, whose order they know. Checks and shares are made as ever.
+ * An edit changes in place what no view holds any more: that a thread's last read of it comes before is ensured by counts in the
+ * library, which valgrind's helgrind and drd don't take for an order. For them LOCKED_ENDS is 1: a view ends, and edits and publishes are
+ * made, while the lock is held, whose order they know. Checks and shares are made as ever.
  */
 #include "tally.h"
 #include <pthread.h>
