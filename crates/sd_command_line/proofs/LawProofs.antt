@@ -18,7 +18,7 @@ use Rattle.sd_command_line.specs.Mistake.{map_read, then_read}
 use Rattle.sd_command_line.specs.declared.flags.GivenFlags.{GivenFlags}
 use Rattle.sd_command_line.specs.declared.flags.Lines.{Lines}
 use Rattle.sd_command_line.specs.declared.mistake.Mistake.{Mistake}
-use Rattle.sd_command_line.specs.Options.{OptionsValue, is_from_input, misplaced_in, no_options, options_in}
+use Rattle.sd_command_line.specs.Options.{OptionsValue, is_from_input, misplaced_in, no_options, options_in, wrong_option}
 
 abbrev some_shown : Result AskedValue Mistake → Bool
 some_shown (Err mistake) = false
@@ -198,7 +198,7 @@ dashes_keep_texts_of_why name word dashes sddl user mask words why dash =
     dashes sddl user mask words refl refl refl refl refl refl dash)
 
 pub options_keep_texts : OptionsKeepTexts
-unfolding command_named option_named
+unfolding command_named option_named wrong_option
 options_keep_texts name option domain sid word dashes sddl user mask words names in_domain why dash =
     let options = record no_options { names = Some []; domain = Some sid.now } in
     let Goal = Reads questions.Why options sddl.now (user ∷ mask ∷ words) in
