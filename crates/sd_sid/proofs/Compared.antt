@@ -1,5 +1,5 @@
 -- That SIDs compare as their values do, though they are kept with zeros behind the sub-authorities.
-use Rattle.std.proofs.Common.{◌≡◌, ℕ, zero, suc, ◌+◌, ◌-◌, true, ◌&&◌, ◌==◌, nat_eq, List, [], ◌∷◌, ◌++◌, length, refl, sym, ◌∙◌, ap, arith, replicate, nat_cmp, nat_lt, cond, length-append}
+use Rattle.std.proofs.Common.{◌≡◌, ◌<◌, ◌≤◌, ℕ, zero, suc, ◌+◌, ◌-◌, true, ◌&&◌, ◌==◌, nat_eq, List, [], ◌∷◌, ◌++◌, length, get_or, take, refl, sym, ◌∙◌, ap, arith, replicate, nat_cmp, nat_lt, cond, length-append}
 use Rattle.std.specs.Str.{bytes_eq}
 use Rattle.std.specs.Ordering.{ordering_then}
 use Rattle.std.specs.Cmp.Lexicographic.{slice_cmp}
@@ -7,10 +7,12 @@ use Rattle.std.specs.declared.cmp.Ordering.{Ordering}
 use Rattle.std.specs.declared.cmp.Ordering.TheVariants.{Less, Equal, Greater}
 use Rattle.std.proofs.Math.Bool.{and-false, and_assoc}
 use Rattle.std.proofs.Math.Dec.{eqb-suc-suc, eqb-zero-suc, eqb-suc-zero, leb-suc-suc}
-use Rattle.std.proofs.lemmas.List.{length-replicate}
+use Rattle.std.proofs.lemmas.List.{length-replicate, length-take-le, ext_get_or, get_or-take}
 use Rattle.std.proofs.lemmas.Bool.{lt-ltb, le-ltb, and_parts, and_from, eqb-true, eq-eqb}
 use lib.Pointwise.{bytes_decides}
-use Rattle.sd_sid.specs.Sid.{SidValue, IsSid, same_sid, sid_cmp}
+use Rattle.sd_sid.specs.Sid.{SidValue, IsSid, IsPadded, same_sid, sid_cmp}
+use Rattle.sd_sid.specs.SidParts.{value_of, fields_of, parts_come_back}
+use Rattle.sd_sid.specs.declared.sid.Sid.TheInside.{Inside}
 
 zeros_equal : (m : ℕ) → bytes_eq (replicate m 0) (replicate m 0) ≡ true
 zeros_equal zero = refl
@@ -113,3 +115,38 @@ same_sid-true a b h =
 -- and a SID passes it with itself
 pub same_sid-itself : (s : SidValue) → same_sid s s ≡ true
 same_sid-itself s = and_from (nat_eq s.authority s.authority) (bytes_eq s.subs s.subs) (eq-eqb s.authority s.authority refl) ((bytes_decides s.subs s.subs).1 refl)
+
+-- SIDs that pass the test have the same fields
+pub same_fields : (a b : Inside) → IsPadded a.authority a.subs a.count → IsPadded b.authority b.subs b.count
+    → same_sid (value_of a) (value_of b) ≡ true → a ≡ b
+same_fields a b ha hb h =
+    sym (parts_come_back a ha) ∙ ap fields_of (same_sid-true (value_of a) (value_of b) h) ∙ parts_come_back b hb
+
+-- lists with the same first five numbers
+
+first_same : (xs ys : List ℕ) → get_or xs 0 0 ≡ get_or ys 0 0 → get_or xs 1 0 ≡ get_or ys 1 0 → get_or xs 2 0 ≡ get_or ys 2 0
+    → get_or xs 3 0 ≡ get_or ys 3 0 → get_or xs 4 0 ≡ get_or ys 4 0
+    → (i : ℕ) → i < 5 → get_or xs i 0 ≡ get_or ys i 0
+first_same xs ys a b c d e zero h = a
+first_same xs ys a b c d e (suc zero) h = b
+first_same xs ys a b c d e (suc (suc zero)) h = c
+first_same xs ys a b c d e (suc (suc (suc zero))) h = d
+first_same xs ys a b c d e (suc (suc (suc (suc zero)))) h = e
+first_same xs ys a b c d e (suc (suc (suc (suc (suc i))))) h = absurd (omega (arith, h))
+
+-- SIDs of at most five numbers are the same where these are, the authorities and the counts
+pub few_same : (a b : Inside) → IsPadded a.authority a.subs a.count → IsPadded b.authority b.subs b.count
+    → get_or a.subs 0 0 ≡ get_or b.subs 0 0 → get_or a.subs 1 0 ≡ get_or b.subs 1 0 → get_or a.subs 2 0 ≡ get_or b.subs 2 0
+    → get_or a.subs 3 0 ≡ get_or b.subs 3 0 → get_or a.subs 4 0 ≡ get_or b.subs 4 0
+    → a.authority ≡ b.authority → a.count ≡ b.count → a.count ≤ 5 → same_sid (value_of a) (value_of b) ≡ true
+few_same a b ha hb e0 e1 e2 e3 e4 authority count few =
+    let long : length (take a.count a.subs) ≡ a.count = length-take-le a.count a.subs (omega (arith, ha.few, ha.room)) in
+    let as_long : length (take a.count b.subs) ≡ a.count = length-take-le a.count b.subs (omega (arith, ha.few, hb.room)) in
+    let subs : take a.count a.subs ≡ take a.count b.subs =
+    ext_get_or 0 (take a.count a.subs) (take a.count b.subs) (long ∙ sym as_long)
+    (λ i h. get_or-take a.count a.subs i 0 (omega (arith, h, long))
+    ∙ first_same a.subs b.subs e0 e1 e2 e3 e4 i (omega (arith, h, long, few))
+    ∙ sym (get_or-take a.count b.subs i 0 (omega (arith, h, long)))) in
+    let same : value_of a ≡ value_of b =
+    λ i. record { authority = authority i; subs = (subs ∙ ap (λ n. take n b.subs) count) i } in
+    ap (same_sid (value_of a)) (sym same) ∙ same_sid-itself (value_of a)

@@ -12,6 +12,9 @@ use std::marker::Model;
 /// The most sub-authorities that a SID has ([MS-DTYP] 2.4.2.2, SubAuthorityCount).
 pub const MAX_SUBS: usize = 15;
 
+/// So many sub-authorities has a domain's account ([MS-DTYP] 2.4.2.4, S-1-5-21-..), and few SIDs have more.
+const ACCOUNT_SUBS: usize = 5;
+
 /// An identifier authority is below this: it has six bytes ([MS-DTYP] 2.4.2.2, IdentifierAuthority).
 pub const AUTHORITY_LIMIT: u64 = 0x1_0000_0000_0000;
 
@@ -163,15 +166,24 @@ impl Sid {
     {
         // (the two calls give contracts the value of each SID)
         let _known = (self.authority(), other.authority());
-        self.may_be(other) && self == other
+        self.begins_as(other) && (self.count <= ACCOUNT_SUBS || self == other)
     }
 
-    /// Whether the fifth numbers are the same: SIDs of a domain's accounts differ there, in the relative identifier.
+    /// Whether the first five numbers are the same, and the rest of both but further numbers. SIDs of a domain's
+    /// accounts differ in the fifth, the relative identifier.
     #[inline]
-    fn may_be(&self, other: &Sid) -> bool
-        ensures { same_sid self.now other.now ≡ true → result ≡ true }
+    fn begins_as(&self, other: &Sid) -> bool
+        ensures same { same_sid self.now other.now ≡ true → result ≡ true }
+        ensures few { result ≡ true → length self.now.subs ≤ 5 → same_sid self.now other.now ≡ true }
     {
-        self.subs[4] == other.subs[4]
+        let (one, two) = (&self.subs, &other.subs);
+        if one[4] != two[4] {
+            return false;
+        }
+        if one[0] != two[0] || one[1] != two[1] || one[2] != two[2] || one[3] != two[3] {
+            return false;
+        }
+        self.count == other.count && self.authority == other.authority
     }
 
     /// Whether this is OWNER RIGHTS, S-1-3-4 ([MS-DTYP] 2.4.2.4).
