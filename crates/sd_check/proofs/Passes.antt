@@ -20,6 +20,16 @@ allowed_next : (bit here : Bool) (o : Option Ace) (e : Ace)
 allowed_next bit here None e = grind arith
 allowed_next bit here (Some x) e = grind arith
 
+-- ---- what an entry decides
+
+pub part_idle : (g : MappingValue) (who : AceKind → SidValue → Bool) (e : Ace) → is_inherit_only e ≡ true → part_of g who e ≡ 0
+part_idle g who e idle = ap (λ io. cond (not io && who e.kind e.sid) (mapped g e.mask) 0) idle
+
+pub part_in_force : (g : MappingValue) (who : AceKind → SidValue → Bool) (e : Ace) (applies : Bool) (m : ℕ) → is_inherit_only e ≡ false
+    → applies ≡ who e.kind e.sid → m ≡ mapped g e.mask → cond applies m 0 ≡ part_of g who e
+part_in_force g who e applies m in_force is_who is_mask =
+    ap (λ a. cond a m 0) is_who ∙ ap (λ n. cond (who e.kind e.sid) n 0) is_mask ∙ ap (λ io. cond (not io && who e.kind e.sid) (mapped g e.mask) 0) (sym in_force)
+
 -- ---- a pass
 
 module _ (g : MappingValue) (who : AceKind → SidValue → Bool) (bits owners : ℕ) (seen : List Ace) (e : Ace) where

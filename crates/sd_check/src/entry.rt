@@ -4,7 +4,6 @@ ghost use Rattle.std.specs.Prelude.{◌≡◌, ◌-◌, length, slice_index};
 ghost use Rattle.sd_sid.specs.Sid.{SidValue, same_sid, owner_rights};
 ghost use Rattle.sd_acl.specs.Ace.{is_inherit_only};
 ghost use Rattle.sd_acl.specs.declared.ace.Ace.{Ace};
-ghost use Rattle.sd_check.specs.Check.{is_limit};
 ghost use Rattle.sd_check.specs.Token.{stands_for, is_restricting};
 
 use crate::index::last_sub;
@@ -157,12 +156,4 @@ impl<'a> Entry for AceRef<'a> {
     fn trustee(&self) -> &SidRef<'a> {
         AceRef::sid(self)
     }
-}
-
-/// Whether the entry is effective, and limits the owner ([MS-DTYP] 2.5.3.2).
-#[inline(always)]
-pub(crate) fn limits_owner<E: Entry>(entry: &E) -> bool
-    ensures { result ≡ is_limit (E.ace entry.now) }
-{
-    !entry.is_inherit_only() && entry.trustee().is_owner_rights()
 }

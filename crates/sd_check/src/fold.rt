@@ -7,11 +7,11 @@ ghost use Rattle.sd_acl.specs.declared.ace.Ace.{Ace};
 ghost use Rattle.sd_check.specs.Check.{is_given, is_granted, is_implied, is_listed, is_owner, limits_owner, most_of};
 ghost use Rattle.sd_check.specs.Check.{verdict};
 ghost use Rattle.sd_check.specs.Check as rules;
-ghost use Rattle.sd_check.specs.Fold.{asking, IsTally, TakesOn, wanted_bits};
+ghost use Rattle.sd_check.specs.Fold.{asking, IsSettled, IsTally, TakesOn, wanted_bits};
 ghost use Rattle.sd_check.specs.Token.{is_restricted};
 ghost use Rattle.sd_check.specs.declared.tally.Tally.{Tally};
 
-use crate::entry::{Entry, Trustee, limits_owner};
+use crate::entry::{Entry, Trustee};
 use crate::question::{MAXIMUM_ALLOWED, MAXIMUM_PLACE, Question};
 use crate::tally::{Settled, Tally};
 use crate::token::Privileges;
@@ -58,7 +58,8 @@ impl<O: Trustee> Question<'_, O> {
         if self.is_silent(entry) || tally.is_over::<BOTH>() {
             return tally;
         }
-        self.deciding::<BOTH, E>(tally, entry)
+        let (next, _over) = self.deciding::<BOTH, E>(tally, entry);
+        next
     }
 
     /// Whether one look shows that the entry changes nothing, as most entries of a long list do.
@@ -70,30 +71,38 @@ impl<O: Trustee> Question<'_, O> {
         !self.token.may_matter(entry.trustee())
     }
 
-    /// What the entries so far come to with this one: it decides what was undecided of its mask, in each pass. Of those
-    /// at the place of a SID of the token most are for another, and change nothing.
+    /// What the entries so far come to with this one, which decides what was undecided of its mask, in each pass; and
+    /// whether this settles all. Of those at the place of a SID of the token most are for another, and change nothing.
     #[inline(always)]
-    fn deciding<const BOTH: bool, E: Entry>(&self, tally: Tally, entry: &E) -> Tally
-        ensures { TakesOn BOTH (asking O.sid self.now) (E.ace entry.now ∷ []) tally result }
+    fn deciding<const BOTH: bool, E: Entry>(&self, tally: Tally, entry: &E) -> (Tally, bool)
+        ensures takes { TakesOn BOTH (asking O.sid self.now) (E.ace entry.now ∷ []) tally result.0 }
+        ensures first { result.1 ≡ true → IsSettled result.0.first result.0.kept }
+        ensures second { result.1 ≡ true → BOTH ≡ true → IsSettled result.0.second result.0.kept }
     {
-        let mask = self.mask(entry);
-        let limits = limits_owner(entry);
-        if !BOTH && mask.is_empty() && !limits {
-            return tally;
+        if entry.is_inherit_only() {
+            return (tally, false);
+        }
+        let limits = entry.trustee().is_owner_rights();
+        let applies = self.applies(entry);
+        if !BOTH && !applies && !limits {
+            return (tally, false);
         }
         let kind = entry.kind();
-        let first = tally.first.after(kind, mask);
+        let mask = self.map(entry.mask());
+        let first = tally.first.after(kind, mask.when(applies));
         let kept = tally.kept.when(!limits);
         let second = if BOTH {
-            tally.second.after(kind, self.mask_again(entry))
+            let applies_again = self.applies_again(entry);
+            tally.second.after(kind, mask.when(applies_again))
         } else {
             tally.second
         };
-        Tally {
+        let next = Tally {
             first,
             second,
             kept,
-        }
+        };
+        (next, next.is_over::<BOTH>())
     }
 
     /// The entries from the first on that may change something.
@@ -124,10 +133,11 @@ impl<O: Trustee> Question<'_, O> {
         let mut tally = before;
         let mut rest = self.from_next(entries);
         'each: while let [entry, behind @ ..] = rest {
-            tally = self.deciding::<BOTH, E>(tally, entry);
-            if tally.is_over::<BOTH>() {
-                return tally;
+            let (next, over) = self.deciding::<BOTH, E>(tally, entry);
+            if over {
+                return next;
             }
+            tally = next;
             rest = self.from_next(behind);
         }
         tally

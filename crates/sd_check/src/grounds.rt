@@ -4,7 +4,6 @@ ghost use Rattle.std.specs.Prelude.{◌≡◌, Some};
 ghost use Rattle.std.specs.Option.{option_copied};
 ghost use Rattle.sd_check.specs.Check.{entries_of, implied_of, limits_owner, subject};
 
-use crate::entry::limits_owner;
 use crate::question::Question;
 use crate::request::DaclRef;
 use sd_acl::Ace;
@@ -69,5 +68,5 @@ fn is_limited(dacl: DaclRef<'_>) -> bool
 fn has_limit(entries: &[Ace]) -> bool
     ensures { result ≡ limits_owner (Some entries.now) }
 {
-    entries.iter().any(|entry| limits_owner(entry))
+    entries.iter().any(|entry| !entry.is_inherit_only() && entry.sid.is_owner_rights())
 }

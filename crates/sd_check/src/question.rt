@@ -45,44 +45,19 @@ impl<O: Trustee> Question<'_, O> {
         if !self.token.may_matter(entry.trustee()) {
             return Mask(0);
         }
-        match pass {
-            Pass::First => self.mask(entry),
-            Pass::Second => self.mask_again(entry),
-        }
-    }
-
-    /// The same in the first pass.
-    #[inline(always)]
-    pub(crate) fn mask<E: Entry>(&self, entry: &E) -> Mask
-        ensures { let q = asking O.sid self.now in
-            result ≡ part_of q.mapping (applies q.token q.owner) (E.ace entry.now) }
-    {
         if entry.is_inherit_only() {
             return Mask(0);
         }
-        if !self.applies(entry) {
-            return Mask(0);
-        }
-        self.map(entry.mask())
-    }
-
-    /// The same in the second pass.
-    pub(crate) fn mask_again<E: Entry>(&self, entry: &E) -> Mask
-        ensures { let q = asking O.sid self.now in
-            result ≡ part_of q.mapping (applies_again q.token q.owner) (E.ace entry.now) }
-    {
-        if entry.is_inherit_only() {
-            return Mask(0);
-        }
-        if !self.applies_again(entry) {
-            return Mask(0);
-        }
-        self.map(entry.mask())
+        let applies = match pass {
+            Pass::First => self.applies(entry),
+            Pass::Second => self.applies_again(entry),
+        };
+        self.map(entry.mask()).when(applies)
     }
 
     /// Whether the entry applies in the first pass ([MS-DTYP] 2.5.3.1).
     #[inline(always)]
-    fn applies<E: Entry>(&self, entry: &E) -> bool
+    pub(crate) fn applies<E: Entry>(&self, entry: &E) -> bool
         ensures { let q = asking O.sid self.now in
             result ≡ applies q.token q.owner (E.ace entry.now).kind (E.ace entry.now).sid }
     {
@@ -94,7 +69,7 @@ impl<O: Trustee> Question<'_, O> {
     }
 
     /// Whether it applies in the second pass.
-    fn applies_again<E: Entry>(&self, entry: &E) -> bool
+    pub(crate) fn applies_again<E: Entry>(&self, entry: &E) -> bool
         ensures { let q = asking O.sid self.now in
             result ≡ applies_again q.token q.owner (E.ace entry.now).kind (E.ace entry.now).sid }
     {
@@ -186,7 +161,7 @@ impl<O: Trustee> Question<'_, O> {
 
     /// The mapped mask: most have no generic right, and stay as they are.
     #[inline(always)]
-    fn map(&self, mask: Mask) -> Mask
+    pub(crate) fn map(&self, mask: Mask) -> Mask
         ensures { result ≡ mapped self.now.mapping.now mask }
     {
         if mask.bits() < FIRST_GENERIC {

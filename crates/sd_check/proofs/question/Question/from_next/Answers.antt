@@ -1,5 +1,5 @@
 -- A silent entry changes no tally.
-use Rattle.std.proofs.Common.{length, drop, take, ◌-◌, arith}
+use Rattle.std.proofs.Common.{length, drop, ◌-◌, arith}
 use Rattle.std.proofs.lemmas.List.{length-drop, length-take-le}
 use Rattle.sd_check.proofs.Passes.{takes_next}
 use Rattle.sd_check.proofs.question.Question.from_next.Goals as goal
