@@ -1,54 +1,61 @@
 -- One more node, where none stands.
-use Rattle.std.proofs.Common.{◌≡◌, ◌≢◌, ℕ, ◌<◌, ◌≤◌, true, false, List, [], ◌∷◌, ◌++◌, length, get_or, Option, Some, None, IsSome, is_some, Result, IfOk, IfErr, MatchOption, inl, inr, sym, ap, subst, ◌∙◌, arith}
-use Rattle.std.specs.List.{HoldsAt, AllWithin}
+use Rattle.std.proofs.Common.{◌≡◌, ◌≢◌, ◌⊎◌, ℕ, ◌+◌, ◌<◌, ◌≤◌, Bool, true, false, not, cond, List, [], ◌∷◌, ◌++◌, length, map, get_or, None, IsSome, is_some, Some, inl, inr, refl, sym, ap, ◌∙◌, arith}
+use Rattle.std.specs.List.{HoldsAt, AllWithin, insert}
+use Rattle.std.specs.Cmp.{eq_by_cmp_equiv}
 use Rattle.std.specs.FinMap as finite
-use Rattle.std.specs.declared.cmp.Ordering.TheVariants.{Less, Greater}
+use Rattle.std.specs.FinMap.{put, get-entries, get-remove, entries_sorted, entries-insert}
+use Rattle.std.specs.FinMap.Entries.{where_key, is_sorted-where_key, find-where_key, same_entries}
+use Rattle.std.specs.Ordering.{eq_by_cmp}
+use Rattle.std.specs.declared.cmp.Ordering.TheVariants.{Less, Equal, Greater}
+use Rattle.std.proofs.Math.ListN.{get_or-map as get_or-mapped}
 use Rattle.std.proofs.lemmas.Bool.{cases_Bool}
+use Rattle.std.proofs.lemmas.List.{length-map, get_or-map}
 use Rattle.sd_sid.specs.Mapping.{MappingValue}
-use Rattle.sd_acl.specs.declared.ace.Ace.{Ace}
 use Rattle.sd_path.specs.Names.{Names, names_cmp, is_within}
 use Rattle.sd_tree.specs.Plain.{PlainTree, row_at, dacl_at}
 use Rattle.sd_tree.specs.Closed.{IsClosed, IsAddable}
 use Rattle.sd_tree.specs.Refusals.{dacl_size, has_child}
-use Rattle.sd_tree.specs.Stored.{path_of_node, tree_of, AreStanding}
-use Rattle.sd_tree.specs.Plans.{IsInsertion, IsRemoval, IsPlan, IsLargeError}
-use Rattle.sd_tree.specs.Edits.{changed, changed_where, keeping}
-use Rattle.sd_tree.specs.declared.node.NodeDacl.{NodeDacl}
-use Rattle.sd_tree.specs.declared.plan.Plan.{Plan}
-use Rattle.sd_tree.specs.declared.refusal.TreeError.{TreeError}
+use Rattle.sd_tree.specs.Stored.{path_of_node, entry_of, tree_of, IsWhole, AreStanding}
+use Rattle.sd_tree.specs.Plans.{IsExchange, exchanged}
+use Rattle.sd_tree.specs.Edits.{changed, changed_where}
 use Rattle.sd_tree.specs.declared.node.Row.{Row}
-use Rattle.sd_tree.proofs.Lists.{by_last}
-use Rattle.sd_path.proofs.Paths.{up-push, push_not_root, up_within}
+use Rattle.sd_tree.proofs.Lists.{by_last, all_one}
+use Rattle.sd_path.proofs.Paths.{names_cmp_total, names_cmp_antisymmetric, up-push, push_not_root, up_within}
 use Rattle.sd_tree.proofs.Closed.{no_child}
 use Rattle.sd_tree.proofs.Dacls.{dacl_at_outside}
 use Rattle.sd_tree.proofs.Rows.{same_or_other, row_at-insert_other, row_at-remove_other}
-use Rattle.sd_tree.proofs.Kept.{row_here}
-use Rattle.sd_tree.proofs.CarriedOut.{key_at, keys_count}
+use Rattle.sd_tree.proofs.Kept.{row_here, entries_kept}
+use Rattle.sd_tree.proofs.CarriedOut.{key_at, keys_count, inserted_there, removed_there}
 use Rattle.sd_tree.proofs.Below.{some_row, within_root, nothing_below}
 use Rattle.sd_tree.proofs.Rebuilding.{parent_there, place_same}
+use Rattle.sd_tree.proofs.Sorted.{put_insert, where_remove, greater_from_less, less_from_greater}
 use Rattle.sd_tree.specs.declared.node.Node.{Node}
 
 pub insertion : (g : MappingValue) (bs : List Node) (standing : AreStanding g bs) (q : Names) (row : Row) → IsAddable (tree_of bs) q
     → (at : ℕ) → at ≤ length bs → AllWithin (λ b. names_cmp (path_of_node b) q ≡ Less) bs 0 at → AllWithin (λ b. names_cmp (path_of_node b) q ≡ Greater) bs at (length bs)
     → (b : Node) → path_of_node b ≡ q → b.row ≡ row
     → b.whole ≡ dacl_at g (finite.insert (tree_of bs) q row) q → dacl_size b.whole ≤ 65535
-    → IsInsertion g (tree_of bs) (finite.insert (tree_of bs) q row) at b
+    → IsExchange g (tree_of bs) (finite.insert (tree_of bs) q row) at 0 at (b ∷ [])
 insertion g bs standing q row can at place low high b is-path is-row is-whole fits =
     let order = standing.kept.order in
     let count = keys_count bs order in
     let t' = finite.insert (tree_of bs) q row in
+    let es = map entry_of bs in
+    let size = length-map bs entry_of in
+    let put_there = put_insert names_cmp_total q row es at (omega (arith, place, size))
+    (λ k d lt. greater_from_less names_cmp_total _ q (ap (λ (e : Names × Row). names_cmp e.0 q) (get_or-map entry_of bs k b d (omega (arith, place))) ∙ low k b (omega arith) lt))
+    (λ k d le lt. less_from_greater names_cmp_total _ q (ap (λ (e : Names × Row). names_cmp e.0 q) (get_or-map entry_of bs k b d (omega (arith, size))) ∙ high k b le (omega (arith, size)))) in
     record {
-      place = omega (arith, count);
-      below = λ k d ge lt.
-          let there = key_at bs order k d b (omega (arith, place)) in
-          ap (λ p. names_cmp p (path_of_node b)) there ∙ ap (names_cmp (path_of_node (get_or bs k b))) is-path ∙ low k b ge lt;
-      above = λ k d ge lt.
-          let in' : k < length bs = omega (arith, count) in
-          let there = key_at bs order k d b in' in
-          ap (λ p. names_cmp p (path_of_node b)) there ∙ ap (names_cmp (path_of_node (get_or bs k b))) is-path ∙ high k b ge in';
-      made = sym (λ i. finite.insert (tree_of bs) (is-path i) (is-row i));
-      whole = record { is = is-whole ∙ ap (dacl_at g t') (sym is-path); fits = fits };
-      others = λ k path lt.
+      fits = omega (arith, count, place);
+      place = omega (arith, count, place);
+      made =
+          entries-insert names_cmp_total (tree_of bs) q row
+          ∙ ap (put names_cmp q row) (entries_kept bs order) ∙ put_there
+          ∙ sym (λ i. insert es at (is-path i, is-row i))
+          ∙ sym (inserted_there at (entry_of b) es (omega (arith, place, size)))
+          ∙ ap (exchanged at 0 at (entry_of b ∷ [])) (sym (entries_kept bs order));
+      whole = all_one (IsWhole g t') b (record { is = is-whole ∙ ap (dacl_at g t') (sym is-path); fits = fits });
+      others = λ k path lt where'.
           let in' : k < length bs = omega (arith, count) in
           let there = key_at bs order k path b in' in
           let found = row_here bs order k b in' in
@@ -80,25 +87,59 @@ nothing_below_childless t closed q path row none there other = elim (cases_Bool 
           ih found.0 found.1 (ap (is_within q) (sym (up-push p name)) ∙ up_within q (p ++ name ∷ []) inside other) apart
     ]
 
+-- what is left of a tree's entries without a key
+entries-remove : (t : PlainTree) (q : Names) → finite.entries (finite.remove t q) ≡ where_key names_cmp (λ x. not (eq_by_cmp names_cmp q x)) (finite.entries t)
+entries-remove t q =
+    let rest = where_key names_cmp (λ x. not (eq_by_cmp names_cmp q x)) (finite.entries t) in
+    same_entries names_cmp names_cmp_total names_cmp_antisymmetric (finite.entries (finite.remove t q)) rest (entries_sorted (finite.remove t q))
+    (is_sorted-where_key names_cmp (λ x. not (eq_by_cmp names_cmp q x)) (finite.entries t) (entries_sorted t))
+    (λ p.
+    let alike : (x : Names) → names_cmp p x ≡ Equal → not (eq_by_cmp names_cmp q x) ≡ not (eq_by_cmp names_cmp q p) =
+    λ x tied. ap (λ y. not (eq_by_cmp names_cmp q y)) (sym (names_cmp_antisymmetric p x tied)) in
+    sym (get-entries (finite.remove t q) p) ∙ get-remove names_cmp_total t q p
+    ∙ ap (λ b. cond b None (finite.get t p)) ((eq_by_cmp_equiv names_cmp_total).symm p q)
+    ∙ turned (eq_by_cmp names_cmp q p) None (finite.get t p)
+    ∙ ap (λ r. cond (not (eq_by_cmp names_cmp q p)) r None) (get-entries t p)
+    ∙ sym (find-where_key names_cmp (λ x. not (eq_by_cmp names_cmp q x)) p alike (finite.entries t)))
+  where
+    turned : {A : Type 0} (b : Bool) (x y : A) → cond b x y ≡ cond (not b) y x
+    turned true x y = refl
+    turned false x y = refl
+
 pub removal : (g : MappingValue) (bs : List Node) (standing : AreStanding g bs) (q : Names) → has_child (tree_of bs) q ≡ false
-    → (at : ℕ) → at < length bs → HoldsAt (λ b. path_of_node b ≡ q) bs at → (b : Node) → IsRemoval g (tree_of bs) (finite.remove (tree_of bs) q) at
+    → (at : ℕ) → at < length bs → HoldsAt (λ b. path_of_node b ≡ q) bs at → (b : Node) → IsExchange g (tree_of bs) (finite.remove (tree_of bs) q) at 1 at []
 removal g bs standing q none at place stands b =
     let order = standing.kept.order in
     let count = keys_count bs order in
     let t' = finite.remove (tree_of bs) q in
+    let es = map entry_of bs in
+    let size = length-map bs entry_of in
+    let key : (get_or es at (entry_of b)).0 ≡ q = ap (λ (e : Names × Row). e.0) (get_or-mapped entry_of bs at b) ∙ stands b in
+    let gone = where_remove names_cmp_total es order at (entry_of b) (omega (arith, place, size)) in
     record {
-      place = omega (arith, count);
-      made = λ path. ap (finite.remove (tree_of bs)) (sym (key_at bs order at path b place ∙ stands b));
-      others = λ k path lt other.
+      fits = omega (arith, count, place);
+      place = omega (arith, count, place);
+      made =
+          entries-remove (tree_of bs) q
+          ∙ ap (where_key names_cmp (λ x. not (eq_by_cmp names_cmp q x))) (entries_kept bs order)
+          ∙ (rw key at gone)
+          ∙ sym (removed_there at es (omega (arith, place, size)))
+          ∙ ap (exchanged at 1 at []) (sym (entries_kept bs order));
+      whole = λ k d lt. absurd (omega arith);
+      others = λ k path lt where'.
           let in' : k < length bs = omega (arith, count) in
           let there = key_at bs order k path b in' in
           let found = row_here bs order k b in' in
-          let apart : path_of_node (get_or bs k b) ≢ q = λ same. other (place_same bs order k at b in' place (same ∙ sym (stands b))) in
+          let apart : path_of_node (get_or bs k b) ≢ q = λ same. beside k where' (place_same bs order k at b in' place (same ∙ sym (stands b))) in
           ap (dacl_at g t') there
           ∙ dacl_at_outside g t' (tree_of bs) q (path_of_node (get_or bs k b)) (λ p ne. row_at-remove_other (tree_of bs) q p ne)
           (nothing_below_childless (tree_of bs) standing.closed q (path_of_node (get_or bs k b)) (get_or bs k b).row none found apart)
           ∙ ap (dacl_at g (tree_of bs)) (sym there);
     }
+  where
+    beside : (k : ℕ) → ((k < at) ⊎ (at + 1 ≤ k)) → k ≡ at → ⊥
+    beside k (inl low) same = omega arith
+    beside k (inr high) same = omega arith
 
 -- ---- a node that is changed where it stands
 pub changed_there : (t : PlainTree) (path : Names) (change : Row → Row) (row new : Row) → row_at t path ≡ Some row → new ≡ change row → finite.insert t path new ≡ changed t path change

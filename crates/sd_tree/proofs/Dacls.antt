@@ -43,6 +43,15 @@ pub dacl_at_here : (g : MappingValue) (t : PlainTree) (path : Names) → dacl_at
 dacl_at_here g t [] = dacl_at_root g t
 dacl_at_here g t (n ∷ path) = dacl_at_up g t (n ∷ path) refl
 
+-- the same below a path with that DACL
+pub below_up : (g : MappingValue) (t : PlainTree) (at : Names) (above : Option (List Ace)) (rest : Names) → is_root rest ≡ false
+    → dacl_below g t at above rest ≡ dacl_here g (row_at t (at ++ rest)) (dacl_below g t at above (up rest))
+below_up g t at above rest h =
+    let is = push-up rest h in
+    let held = dacl_below g t at above (up rest) in
+    ap (dacl_below g t at above) (sym is) ∙ below-append g t at above (up rest) (last_name rest ∷ [])
+    ∙ ap (λ p. dacl_here g (row_at t p) held) (append_assoc at (up rest) (last_name rest ∷ []) ∙ ap (λ r. at ++ r) is)
+
 -- ---- the nodes that decide
 
 -- down the names two trees with the same nodes below a path go from one DACL to one

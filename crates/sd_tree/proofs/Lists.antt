@@ -1,5 +1,6 @@
 -- Lists from their last element, and in two parts.
 use Rattle.std.proofs.Common.{◌≡◌, ℕ, zero, suc, ◌≤◌, List, [], ◌∷◌, ◌++◌, length, take, drop, refl, sym, ap, ◌∙◌, arith}
+use Rattle.std.specs.Prelude.{All}
 use Rattle.std.proofs.Math.Seq.{drop-append_seam}
 
 -- what holds of the empty list, and of each list with one more element behind, holds of all
@@ -16,3 +17,8 @@ taken (suc n) (x ∷ xs) le = ap suc (taken n xs (omega arith))
 pub same_behind : {X : Type 0} (xs ys a b : List X) → length xs ≡ length ys → xs ++ a ≡ ys ++ b → a ≡ b
 same_behind xs ys a b same e =
     sym (drop-append_seam xs a) ∙ ap (drop (length xs)) e ∙ ap (λ n. drop n (ys ++ b)) same ∙ drop-append_seam ys b
+
+-- of one element all
+pub all_one : {X : Type 0} (P : X → Type 0) (x : X) → P x → All P (x ∷ [])
+all_one P x h zero d lt = h
+all_one P x h (suc k) d lt = absurd (omega arith)

@@ -17,8 +17,8 @@ use Rattle.sd_tree.specs.declared.node.Row.{Row}
 use Rattle.sd_tree.specs.declared.node.NodeKind.TheVariants.{Container}
 use Rattle.sd_path.proofs.Paths.{names_cmp_total, names_cmp_prefix, within-append, within_rest, within_trans, within_up, moved_path-append, moved_path-outside, up-append}
 use Rattle.sd_tree.proofs.Below.{nothing_below}
-use Rattle.sd_tree.proofs.Dacls.{dacl_at-append, dacl_at_up, dacl_at_alike}
-use Rattle.sd_tree.proofs.Rows.{other_path, row_at-insert_other}
+use Rattle.sd_tree.proofs.Dacls.{dacl_at_up, dacl_at_alike}
+use Rattle.sd_tree.proofs.Rows.{other_path}
 use Rattle.sd_tree.proofs.Sorted.{find_at}
 use Rattle.sd_tree.proofs.Wholes.{up_outside, whole_below}
 
@@ -139,7 +139,7 @@ dacl_at-moved_other g t source target q out-s out-t =
     dacl_at_alike g (moved t source target) t q
     (λ top way. row_at-moved_other t source target top (way_outside source top q way out-s) (way_outside target top q way out-t))
 
-longer : (xs : Names) (name : List ℕ) (top : Names) → xs ++ name ∷ top ≢ xs
+pub longer : (xs : Names) (name : List ℕ) (top : Names) → xs ++ name ∷ top ≢ xs
 longer xs name top same = absurd (omega (arith, ap length same, length-append xs (name ∷ top)))
 
 module _ (g : MappingValue) (t : PlainTree) (closed : IsClosed t) (source target : Names) (can : IsMovable t source target) where
@@ -156,27 +156,6 @@ module _ (g : MappingValue) (t : PlainTree) (closed : IsClosed t) (source target
       ∙ ap (λ r. dacl_here g r (dacl_at g t' (up target))) found
       ∙ ap (dacl_of_row g row) (dacl_at-moved_other g t source target (up target) up_out (up_outside target can.place.below_root))
       ∙ whole_below g t target row can.place.below_root
-
-  -- below the target, by a tree in which the source has what the target will have, and the same nodes below it
-  module _ (u : PlainTree) (same : (name : List ℕ) (below : Names) → row_at t (source ++ name ∷ below) ≡ row_at u (source ++ name ∷ below))
-      (top : dacl_at g (moved t source target) target ≡ dacl_at g u source) where
-    pub dacl_at-moved_by : (rest : Names) → dacl_at g (moved t source target) (target ++ rest) ≡ dacl_at g u (source ++ rest)
-    dacl_at-moved_by rest =
-        let t' = moved t source target in
-        dacl_at-append g t' target rest
-        ∙ below_shift g t' u target source (dacl_at g t' target) (dacl_at g u source) rest top
-        (λ name below. row_at-moved_there t closed source target can.place.free (name ∷ below) ∙ same name below)
-        ∙ sym (dacl_at-append g u source rest)
-
-  pub dacl_at-moved_there : (row : Row) → dacl_at g (moved t source target) target ≡ dacl_at g (finite.insert t source row) source
-      → (rest : Names) → dacl_at g (moved t source target) (target ++ rest) ≡ dacl_at g (finite.insert t source row) (source ++ rest)
-  dacl_at-moved_there row top =
-      dacl_at-moved_by (finite.insert t source row)
-      (λ name below. sym (row_at-insert_other t source (source ++ name ∷ below) row (longer source name below))) top
-
-  pub dacl_at-moved_same : dacl_at g (moved t source target) target ≡ dacl_at g t source
-      → (rest : Names) → dacl_at g (moved t source target) (target ++ rest) ≡ dacl_at g t (source ++ rest)
-  dacl_at-moved_same = dacl_at-moved_by t (λ name below. refl)
 
 -- ---- no gaps
 

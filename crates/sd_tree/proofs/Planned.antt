@@ -1,21 +1,20 @@
 -- The plan of a move is for the tree that it makes.
-use Rattle.std.proofs.Common.{◌≡◌, ◌⊎◌, ℕ, zero, suc, ◌+◌, ◌-◌, ◌<◌, ◌≤◌, false, List, [], ◌∷◌, ◌++◌, length, map, get_or, take, drop, Option, None, inl, inr, refl, sym, ap, subst, ◌∙◌, arith}
+use Rattle.std.proofs.Common.{◌≡◌, ◌⊎◌, ℕ, zero, suc, ◌+◌, ◌-◌, ◌<◌, ◌≤◌, false, List, [], ◌∷◌, ◌++◌, length, map, get_or, take, drop, inl, inr, refl, sym, ap, subst, ◌∙◌, arith}
 use Rattle.std.specs.Prelude.{T, All}
 use Rattle.std.specs.List.{HoldsAt, AllWithin}
 use Rattle.std.proofs.lemmas.Bool.{cases_Bool, cases_lt, false≢true}
-use Rattle.std.proofs.lemmas.List.{length-map, map-append, get_or-map, get_or-take, get_or-drop, length-drop, length-append, same_lists, take-append-drop, drop-drop, get_or_append_left, get_or-append_right}
+use Rattle.std.proofs.lemmas.List.{length-map, map-append, get_or-map, get_or_default, get_or-take, get_or-drop, length-drop, length-append, same_lists, take-append-drop, drop-drop, get_or_append_left, get_or-append_right}
 use Rattle.std.proofs.lemmas.List.Elements.{All-take, All-drop}
 use Rattle.std.specs.FinMap as finite
 use Rattle.std.specs.FinMap.{find, is_sorted, get-entries, entries_sorted}
 use Rattle.std.specs.FinMap.Entries.{same_entries}
 use Rattle.std.specs.declared.cmp.Ordering.TheVariants.{Less, Greater}
 use Rattle.sd_sid.specs.Mapping.{MappingValue}
-use Rattle.sd_acl.specs.declared.ace.Ace.{Ace}
 use Rattle.sd_path.specs.Names.{Names, names_cmp, is_within, moved_path}
 use Rattle.sd_tree.specs.Closed.{IsMovable}
 use Rattle.sd_tree.specs.Edits.{moved_entry, moved}
 use Rattle.sd_tree.specs.Plain.{PlainTree, dacl_at}
-use Rattle.sd_tree.specs.Plans.{beside_run, run_moved, IsMoving, IsRunBelow, IsMovedRun, AreMovedWholes}
+use Rattle.sd_tree.specs.Plans.{beside_run, exchanged, IsExchange, IsRunBelow, AreUnder, IsTaken, relocated}
 use Rattle.sd_tree.specs.Stored.{path_of_node, entry_of, tree_of, AreStanding}
 use Rattle.sd_path.proofs.Paths.{names_cmp_total, names_cmp_antisymmetric, names_cmp_prefix, within_rest, within-append, within_before, within_between, moved_path-append, moved_path-outside}
 use Rattle.sd_tree.proofs.Below.{nothing_below}
@@ -28,6 +27,7 @@ use Rattle.sd_tree.proofs.Rebuilding.{not_before_itself, not_both}
 use Rattle.sd_tree.proofs.Rows.{same_or_other}
 use Rattle.sd_tree.proofs.Sorted.{less_from_greater}
 use Rattle.sd_tree.proofs.Lists.{taken}
+use Rattle.sd_tree.proofs.Under.{whole_taken}
 use Rattle.sd_tree.specs.declared.node.Node.{Node}
 
 map_still : {X : Type 0} (f : X → X) (xs : List X) → ((k : ℕ) (d : X) → k < length xs → f (get_or xs k d) ≡ get_or xs k d) → map f xs ≡ xs
@@ -119,17 +119,33 @@ module _ (g : MappingValue) (bs : List Node) (standing : AreStanding g bs) (sour
 
     -- ---- the moved run
 
-    module _ (wholes : List (Option (List Ace))) (run : List Node) (m : IsMovedRun bs source target from wholes count run) where
+    module _ (first : Node) (first-is : first.row ≡ (get_or bs from first).row) (run : List Node) (u : AreUnder g bs source from first run) (counted : length run ≡ count) where
+      abbrev pub gone : List Node
+      gone = map (relocated source target) run
+
       abbrev pub moved_es : List Entry
-      moved_es = map entry_of run
+      moved_es = map entry_of gone
+
+      -- the rows stay
+      row_still : (k : ℕ) (b c : Node) → k < length run → (get_or run k c).row ≡ (get_or bs (from + k) b).row
+      row_still k b c lt = elim (cases_lt 0 k) [
+        | inl behind ↦ u.rows k b c behind lt
+        | inr le ↦
+            let none : 0 ≡ k = omega arith in
+            let place : from ≡ from + k = omega arith in
+            ap (λ j. (get_or run j c).row) (sym none) ∙ ap (λ (n : Node). n.row) (u.first_is c) ∙ first-is
+            ∙ ap (λ (n : Node). n.row) (get_or_default bs from first b in') ∙ ap (λ j. (get_or bs j b).row) place
+      ]
 
       moved_at : (k : ℕ) (d : Entry) (b : Node) → k < count → get_or moved_es k d ≡ moved_entry source target (entry_of (get_or bs (from + k) b))
       moved_at k d b lt =
-          let n = m.each k b b None (omega (arith, m.counted)) in
-          get_or-map entry_of run k b d (omega (arith, m.counted)) ∙ (λ i. (n.path_is i, n.row_is i))
+          let in-run : k < length run = omega (arith, counted) in
+          get_or-map entry_of gone k b d (omega (arith, in-run, length-map run (relocated source target)))
+          ∙ ap entry_of (get_or-map (relocated source target) run k b b in-run)
+          ∙ (λ i. (moved_path source target (u.paths k b b in-run i), row_still k b b in-run i))
 
       moved_count : length moved_es ≡ count
-      moved_count = length-map run entry_of ∙ m.counted
+      moved_count = length-map gone entry_of ∙ length-map run (relocated source target) ∙ counted
 
       run_rest : (k : ℕ) (b : Node) → k < count → (names : Names) × (path_of_node (get_or bs (from + k) b) ≡ source ++ names)
       run_rest k b lt = within_rest source (path_of_node (get_or bs (from + k) b)) (r.below (from + k) b (omega arith) (omega arith))
@@ -206,7 +222,7 @@ module _ (g : MappingValue) (bs : List Node) (standing : AreStanding g bs) (sour
         rest_out : All (Outside target) rest
         rest_out = rest_all (Outside target) (λ k b lt where'. out_target k b lt)
 
-        pub made : finite.entries (moved (tree_of bs) source target) ≡ run_moved from to moved_es (finite.entries (tree_of bs))
+        pub made : finite.entries (moved (tree_of bs) source target) ≡ exchanged from count to moved_es (finite.entries (tree_of bs))
         made =
             let t' = moved (tree_of bs) source target in
             let before = take to rest in
@@ -225,7 +241,6 @@ module _ (g : MappingValue) (bs : List Node) (standing : AreStanding g bs) (sour
             let rises_behind : Rise behind = (λ i j d lt in-j.
             (λ t. names_cmp (get_or-drop to rest i d t).0 (get_or-drop to rest j d t).0) ∙ rest_rises (to + i) (to + j) d (omega arith) (omega (arith, length-drop to rest))) in
             let sorted : T (is_sorted names_cmp new) = sorted_from new (rise_with_run target before moved_es behind rises_before moved_rises rises_behind low moved_inside high behind_out) in
-            let counted : length moved_es ≡ count = moved_count in
             same_entries names_cmp names_cmp_total names_cmp_antisymmetric (finite.entries t') new (entries_sorted t') sorted
             (λ p.
             sym (get-entries t' p)
@@ -235,35 +250,35 @@ module _ (g : MappingValue) (bs : List Node) (standing : AreStanding g bs) (sour
             ∙ sym (find_swap target p moved_es (take from es) (drop (from + count) es) moved_inside low_out)
             ∙ ap (λ xs. find names_cmp p (moved_es ++ xs)) (sym split)
             ∙ find_swap target p moved_es before behind moved_inside before_out)
-            ∙ sym (λ i. run_moved_of (counted i) (entries_kept bs standing.kept.order i))
-          where
-            run_moved_of : ℕ → List Entry → List Entry
-            run_moved_of n xs = take to (beside_run from n xs) ++ (moved_es ++ drop to (beside_run from n xs))
+            ∙ ap (exchanged from count to moved_es) (sym (entries_kept bs standing.kept.order))
 
         -- the plan
-        pub moving : (h : AreMovedWholes g bs (moved (tree_of bs) source target) source target from wholes) → length wholes ≡ count
-            → IsMoving g (tree_of bs) (moved (tree_of bs) source target) from to run
-        moving h counted =
+        pub moving : IsTaken g (tree_of bs) (moved (tree_of bs) source target) source target first → IsExchange g (tree_of bs) (moved (tree_of bs) source target) from count to gone
+        moving taken =
             let t' = moved (tree_of bs) source target in
             let keys = keys_count bs standing.kept.order in
             let b = a_node bs from in' in
+            let run_fits = r.fits in
             record {
-              fits = omega (arith, r.fits, m.counted, keys);
-              place = omega (arith, place, m.counted, keys);
+              fits = omega (arith, run_fits, keys);
+              place = omega (arith, place, keys);
               made = made;
               whole = λ k d lt.
-                  let n = m.each k b d None lt in
-                  let w = h.each k b None (omega (arith, m.counted, counted)) in
+                  let in-run : k < length run = omega (arith, length-map run (relocated source target)) in
+                  let rest = run_rest k b (omega (arith, counted)) in
+                  let path : path_of_node (get_or gone k d) ≡ target ++ rest.0 =
+                  ap path_of_node (get_or-map (relocated source target) run k d d in-run)
+                  ∙ ap (moved_path source target) (u.paths k b d in-run ∙ rest.1) ∙ moved_path-append source target rest.0 in
+                  let whole-is : (get_or gone k d).whole ≡ (get_or run k d).whole = ap (λ (n : Node). n.whole) (get_or-map (relocated source target) run k d d in-run) in
                   record {
-                    is = n.whole_is ∙ w.0 ∙ ap (dacl_at g t') (sym n.path_is);
-                    fits = rw n.whole_is w.1;
+                    is = whole-is ∙ whole_taken g bs standing.kept.order source from stands first run u t' target taken k b d rest.0 in-run rest.1 ∙ ap (dacl_at g t') (sym path);
+                    fits = rw whole-is (u.fits k d in-run);
                   };
               others = λ k path lt where'.
                   let in-k : k < length bs = omega (arith, keys) in
                   let there = key_at bs standing.kept.order k path b in-k in
-                  let side : (k < from) ⊎ (from + count ≤ k) = elim where' [ inl low' ↦ inl low' | inr high' ↦ inr (omega (arith, m.counted)) ] in
                   ap (dacl_at g t') there
-                  ∙ dacl_at-moved_other g (tree_of bs) source target (path_of_node (get_or bs k b)) (out_source k b in-k side) (out_target k b in-k)
+                  ∙ dacl_at-moved_other g (tree_of bs) source target (path_of_node (get_or bs k b)) (out_source k b in-k where') (out_target k b in-k)
                   ∙ sym (ap (dacl_at g (tree_of bs)) there);
             }
 

@@ -1,5 +1,5 @@
 -- Whole DACLs that are built anew, from a node on down the run of those below it.
-use Rattle.std.proofs.Common.{◌≡◌, ◌≢◌, ◌⊎◌, ℕ, ◌+◌, ◌-◌, ◌<◌, ◌≤◌, Bool, true, false, ◌||◌, List, [], ◌∷◌, ◌++◌, length, get_or, Option, Some, None, IsSome, is_some, option_map, inl, inr, refl, sym, ap, subst, ◌∙◌, arith, nat_lt, add-zero}
+use Rattle.std.proofs.Common.{◌≡◌, ◌≢◌, ◌⊎◌, ℕ, ◌<◌, ◌≤◌, Bool, true, false, ◌||◌, List, [], ◌∷◌, length, get_or, Option, Some, None, IsSome, is_some, option_map, inl, inr, refl, sym, ap, subst, ◌∙◌, arith, nat_lt}
 use Rattle.std.specs.List.{HoldsAt, AllWithin, list_any}
 use Rattle.std.specs.FinMap.{insert, keys, contains_key-keys}
 use Rattle.std.specs.Ordering.{eq_by_cmp}
@@ -7,29 +7,24 @@ use Rattle.std.specs.Cmp.{tied_itself}
 use Rattle.std.specs.declared.cmp.Ordering.TheVariants.{Less, Equal}
 use Rattle.std.proofs.lemmas.Bool.{cases_Bool, cases_lt}
 use Rattle.std.proofs.lemmas.Bool.Decides.{nat_tests}
-use Rattle.std.proofs.lemmas.List.{get_or_default, get_or_append_left, length-append}
-use Rattle.std.proofs.Math.Seq.{get_or-append_seam}
 use Rattle.sd_sid.specs.Mapping.{MappingValue}
-use Rattle.sd_acl.specs.declared.ace.Ace.{Ace}
 use Rattle.sd_path.specs.Names.{Names, names_cmp, up, is_root, is_within}
-use Rattle.sd_tree.specs.Inheritance.{dacl_of_row}
-use Rattle.sd_tree.specs.Plain.{PlainTree, row_at, dacl_here, dacl_at}
+use Rattle.sd_tree.specs.Plain.{PlainTree, row_at, dacl_at}
 use Rattle.sd_tree.specs.Closed.{IsClosed}
 use Rattle.sd_tree.specs.Refusals.{dacl_size, has_large_dacl}
 use Rattle.sd_tree.specs.Sizes.{IsSizeError}
 use Rattle.sd_tree.specs.Stored.{path_of_node, IsInOrder, tree_of, AreStanding}
-use Rattle.sd_tree.specs.Plans.{IsRewriting, IsLargeError}
+use Rattle.sd_tree.specs.Plans.{IsLargeError}
 use Rattle.sd_tree.specs.declared.node.Row.{Row}
 use Rattle.sd_tree.specs.declared.node.NodeKind.{NodeKind}
 use Rattle.sd_tree.specs.declared.refusal.TreeError.{TreeError}
 use Rattle.sd_tree.specs.declared.refusal.TreeError.TheVariants.{Refused, Memory}
 use Rattle.sd_path.proofs.Paths.{names_cmp_total, within_before, up_before, up_within, root_is_empty}
-use Rattle.sd_tree.proofs.Dacls.{dacl_at_up, dacl_at_outside}
+use Rattle.sd_tree.proofs.Dacls.{dacl_at_outside}
 use Rattle.sd_tree.proofs.Rows.{same_or_other, one_path, row_at-insert_other}
 use Rattle.sd_tree.proofs.Sorted.{greater_from_less}
 use Rattle.sd_tree.proofs.Places.{paths_rise}
-use Rattle.sd_tree.proofs.Kept.{row_here, a_node}
-use Rattle.sd_tree.proofs.CarriedOut.{key_at, keys_count}
+use Rattle.sd_tree.proofs.Kept.{row_here}
 use Rattle.sd_tree.specs.declared.node.Node.{Node}
 
 -- ---- places and the order of paths
@@ -100,56 +95,11 @@ module _ (bs : List Node) (order : IsInOrder bs) (q : Names) (at : ℕ) (stands 
             (omega (arith, place_before bs order at p b (omega arith) in-p low-q), before')
       ]
 
-  -- its DACL, once the first of the run has another row
-  pub run_whole : (g : MappingValue) (row : Row) (above : Option (List Ace)) → above ≡ dacl_at g (insert (tree_of bs) q row) (up (path_of_node (get_or bs k b)))
-      → dacl_of_row g (get_or bs k b).row above ≡ dacl_at g (insert (tree_of bs) q row) (path_of_node (get_or bs k b))
-  run_whole g row above is-above =
-      let path = path_of_node (get_or bs k b) in
-      let t' = insert (tree_of bs) q row in
-      let found : row_at t' path ≡ Some (get_or bs k b).row = row_at-insert_other (tree_of bs) q path row run_other ∙ row_here bs order k b in' in
-      ap (dacl_of_row g (get_or bs k b).row) is-above
-      ∙ ap (λ r. dacl_here g r (dacl_at g t' (up path))) (sym found)
-      ∙ sym (dacl_at_up g t' path run_below_root)
-
--- ---- what is built so far: the whole DACLs of the first nodes of the run
-pub record IsRebuilt (g : MappingValue) (after : PlainTree) (bs : List Node) (at k : ℕ) (wholes : List (Option (List Ace))) : Type 0 where
-  pub count : at + length wholes ≡ k
-  pub each : (j : ℕ) (b : Node) (whole : Option (List Ace)) → j < length wholes
-      → (get_or wholes j whole ≡ dacl_at g after (path_of_node (get_or bs (at + j) b))) × (dacl_size (get_or wholes j whole) ≤ 65535)
-
-pub rebuilt_first : (g : MappingValue) (after : PlainTree) (bs : List Node) (at : ℕ) (q : Names) (whole : Option (List Ace))
-    → HoldsAt (λ c. path_of_node c ≡ q) bs at → whole ≡ dacl_at g after q → dacl_size whole ≤ 65535 → IsRebuilt g after bs at (at + 1) (whole ∷ [])
-rebuilt_first g after bs at q whole stands is fits = record {
-  count = omega arith;
-  each = λ j b w lt.
-      let first : j ≡ 0 = omega arith in
-      let P : ℕ → Type 0 = λ i. (get_or (whole ∷ []) i w ≡ dacl_at g after (path_of_node (get_or bs (at + i) b))) × (dacl_size (get_or (whole ∷ []) i w) ≤ 65535) in
-      subst P (sym first) (is ∙ ap (dacl_at g after) (sym (ap (λ i. path_of_node (get_or bs i b)) (add-zero at) ∙ stands b)), fits);
-}
-
-pub rebuilt_more : (g : MappingValue) (after : PlainTree) (bs : List Node) (at k : ℕ) (wholes : List (Option (List Ace))) (c : Node) (whole : Option (List Ace))
-    → IsRebuilt g after bs at k wholes → k < length bs → whole ≡ dacl_at g after (path_of_node (get_or bs k c)) → dacl_size whole ≤ 65535
-    → IsRebuilt g after bs at (k + 1) (wholes ++ whole ∷ [])
-rebuilt_more g after bs at k wholes c whole h in' is fits = record {
-  count = omega (arith, h.count, length-append wholes (whole ∷ []));
-  each = λ j b w lt. elim (cases_lt j (length wholes)) [
-    | inl low ↦
-        let same = get_or_append_left wholes (whole ∷ []) w j low in
-        let old = h.each j b w low in
-        (same ∙ old.0, rw same old.1)
-    | inr high ↦
-        let last : j ≡ length wholes = omega (arith, length-append wholes (whole ∷ [])) in
-        let same : get_or (wholes ++ whole ∷ []) j w ≡ whole = ap (λ i. get_or (wholes ++ whole ∷ []) i w) last ∙ get_or-append_seam wholes whole [] w in
-        let place : at + j ≡ k = omega (arith, h.count, last) in
-        (same ∙ is ∙ ap (dacl_at g after) (ap path_of_node (get_or_default bs k c b in') ∙ ap (λ i. path_of_node (get_or bs i b)) (sym place)), rw same fits)
-  ];
-}
-
--- ---- the whole run
+-- ---- outside of the run
 
 module _ (g : MappingValue) (bs : List Node) (standing : AreStanding g bs) (q : Names) (at : ℕ) (in' : at < length bs) (stands : HoldsAt (λ c. path_of_node c ≡ q) bs at) (row : Row) where
-  -- outside of it a DACL stays
-  outside_stays : (end : ℕ) → AllWithin (λ c. is_within q (path_of_node c) ≡ false) bs end (length bs) → (k : ℕ) (b : Node) → k < length bs → (k < at) ⊎ (end ≤ k)
+  -- a DACL stays
+  pub outside_stays : (end : ℕ) → AllWithin (λ c. is_within q (path_of_node c) ≡ false) bs end (length bs) → (k : ℕ) (b : Node) → k < length bs → (k < at) ⊎ (end ≤ k)
       → dacl_at g (insert (tree_of bs) q row) (path_of_node (get_or bs k b)) ≡ dacl_at g (tree_of bs) (path_of_node (get_or bs k b))
   outside_stays end beyond k b lt where' =
       let path = path_of_node (get_or bs k b) in
@@ -166,29 +116,6 @@ module _ (g : MappingValue) (bs : List Node) (standing : AreStanding g bs) (q : 
         | inr high ↦ beyond k b high lt
       ] in
       dacl_at_outside g (insert (tree_of bs) q row) (tree_of bs) q path (λ p other. row_at-insert_other (tree_of bs) q p row other) out
-
-  pub run_rewriting : (end : ℕ) (wholes : List (Option (List Ace))) → at < end → end ≤ length bs → AllWithin (λ c. is_within q (path_of_node c) ≡ false) bs end (length bs)
-      → IsRebuilt g (insert (tree_of bs) q row) bs at end wholes → IsRewriting g (tree_of bs) (insert (tree_of bs) q row) at row wholes
-  run_rewriting end wholes behind le beyond h =
-      let order = standing.kept.order in
-      let count = keys_count bs order in
-      record {
-        place = omega (arith, count);
-        some = omega (arith, h.count);
-        fits = omega (arith, count, h.count);
-        made = λ path. ap (λ p. insert (tree_of bs) p row) (sym (key_at bs order at path (a_node bs at in') in' ∙ stands (a_node bs at in')));
-        below = λ k path whole lt.
-            let b = a_node bs at in' in
-            let there = key_at bs order (at + k) path b (omega (arith, h.count)) in
-            let built = h.each k b whole lt in
-            (built.0 ∙ ap (dacl_at g (insert (tree_of bs) q row)) (sym there), built.1);
-        others = λ k path lt where'.
-            let b = a_node bs at in' in
-            let there = key_at bs order k path b (omega (arith, count)) in
-            ap (dacl_at g (insert (tree_of bs) q row)) there
-            ∙ outside_stays end beyond k b (omega (arith, count)) (elim where' [ inl low ↦ inl low | inr high ↦ inr (omega (arith, h.count)) ])
-            ∙ ap (dacl_at g (tree_of bs)) (sym there);
-      }
 
 -- ---- a DACL that takes too many bytes
 
@@ -227,29 +154,3 @@ parent_there t closed q row there = some_of_kind (row_at t (up q)) _ (closed.par
 pub row_there : (bs : List Node) → IsInOrder bs → (q : Names) (at : ℕ) → at < length bs → HoldsAt (λ c. path_of_node c ≡ q) bs at → (row : Row) × (row_at (tree_of bs) q ≡ Some row)
 row_there [] order q at in' stands = absurd (omega arith)
 row_there (b ∷ bs) order q at in' stands = ((get_or (b ∷ bs) at b).row, ap (row_at (tree_of (b ∷ bs))) (sym (stands b)) ∙ row_here (b ∷ bs) order at b in')
-
--- the DACL that is built already for what holds the next node of the run
-pub above_rebuilt : (g : MappingValue) (bs : List Node) (order : IsInOrder bs) (q : Names) (at : ℕ) (stands : HoldsAt (λ c. path_of_node c ≡ q) bs at) (row : Row)
-    → (k : ℕ) (b : Node) → at < k → k < length bs → is_within q (path_of_node (get_or bs k b)) ≡ true
-    → (wholes : List (Option (List Ace))) → IsRebuilt g (insert (tree_of bs) q row) bs at k wholes
-    → (p : ℕ) → p < length bs → HoldsAt (λ c. path_of_node c ≡ up (path_of_node (get_or bs k b))) bs p
-    → (above : Option (List Ace)) → above ≡ get_or wholes (p - at) above
-    → above ≡ dacl_at g (insert (tree_of bs) q row) (up (path_of_node (get_or bs k b)))
-above_rebuilt g bs order q at stands row k b behind in' inside wholes h p in-p there above is-above =
-    let t' = insert (tree_of bs) q row in
-    let place = parent_place bs order q at stands k b behind in' inside p in-p there in
-    let built = (h.each (p - at) b above (omega (arith, place.0, place.1, h.count))).0 in
-    let same : at + (p - at) ≡ p = omega (arith, place.0) in
-    is-above ∙ built ∙ ap (dacl_at g t') (ap (λ j. path_of_node (get_or bs j b)) same ∙ there b)
-
--- the DACL of the next node of the run below it
-pub next_rebuilt : (g : MappingValue) (bs : List Node) (order : IsInOrder bs) (q : Names) (at : ℕ) (stands : HoldsAt (λ c. path_of_node c ≡ q) bs at) (row : Row)
-    → (k : ℕ) (b : Node) → at < k → k < length bs → is_within q (path_of_node (get_or bs k b)) ≡ true
-    → (wholes : List (Option (List Ace))) → IsRebuilt g (insert (tree_of bs) q row) bs at k wholes
-    → (p : ℕ) → p < length bs → HoldsAt (λ c. path_of_node c ≡ up (path_of_node (get_or bs k b))) bs p
-    → (row-k : Row) → row-k ≡ (get_or bs k b).row
-    → (above : Option (List Ace)) → above ≡ get_or wholes (p - at) above
-    → dacl_of_row g row-k above ≡ dacl_at g (insert (tree_of bs) q row) (path_of_node (get_or bs k b))
-next_rebuilt g bs order q at stands row k b behind in' inside wholes h p in-p there row-k is-row above is-above =
-    ap (λ r. dacl_of_row g r above) is-row
-    ∙ run_whole bs order q at stands k b behind in' inside g row above (above_rebuilt g bs order q at stands row k b behind in' inside wholes h p in-p there above is-above)

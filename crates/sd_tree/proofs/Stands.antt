@@ -3,7 +3,7 @@ use Rattle.std.proofs.Common.{◌≡◌, ℕ, ◌<◌, ◌≤◌, Bool, true, fa
 use Rattle.std.specs.FinMap as finite
 use Rattle.std.specs.FinMap.{entries-insert, len-entries, len-empty, put}
 use Rattle.sd_sid.specs.Mapping.{MappingValue}
-use Rattle.sd_path.specs.Names.{Names, names_cmp}
+use Rattle.sd_path.specs.Names.{names_cmp}
 use Rattle.sd_tree.specs.Inheritance.{dacl_of_row}
 use Rattle.sd_tree.specs.Plain.{PlainTree, row_at, dacl_here, dacl_at}
 use Rattle.sd_tree.specs.Edits.{edited}
@@ -15,12 +15,12 @@ use Rattle.sd_tree.specs.Closed.{IsClosed}
 use Rattle.sd_tree.specs.Journal.{opened, root_row, replay, refusal, root_refusal}
 use Rattle.sd_tree.specs.Answers.{IsError}
 use Rattle.sd_tree.specs.Stored.{entry_of, tree_of, IsWhole, AreNodes, AreStanding, IsStored}
-use Rattle.sd_tree.specs.Plans.{IsPlan, IsPlanned, CanCarryOut, IsCarriedOut}
+use Rattle.sd_tree.specs.Plans.{IsPlan, IsPlanned, CanCarryOut, carried}
 use Rattle.sd_tree.specs.declared.node.Row.{Row}
 use Rattle.sd_tree.specs.declared.edit.Edit.{Edit}
 use Rattle.sd_tree.specs.declared.opening.Opening.{Opening}
 use Rattle.sd_tree.specs.declared.plan.Plan.{Plan}
-use Rattle.sd_tree.specs.declared.plan.Plan.TheVariants.{Insert, Rewrite, Remove, Move}
+use Rattle.sd_tree.specs.declared.plan.Plan.TheVariants.{Insert, Set, Remove, Exchange}
 use Rattle.sd_tree.specs.declared.refusal.EditRefusal.{EditRefusal}
 use Rattle.sd_tree.specs.declared.refusal.EditRefusal.TheVariants.{InheritedEntry, NotCanonical, AclTooLarge}
 use Rattle.sd_tree.specs.declared.refusal.TreeError.{TreeError}
@@ -30,9 +30,7 @@ use Rattle.sd_tree.proofs.Dacls.{dacl_at_root}
 use Rattle.sd_tree.proofs.Rows.{row_at-insert_same}
 use Rattle.sd_tree.proofs.Journals.{replay-none, replay-push, lawful_none, lawful_push}
 use Rattle.sd_tree.proofs.Closed.{closed_replay}
-use Rattle.sd_tree.proofs.Kept.{a_node}
-use Rattle.sd_tree.proofs.CarriedOut.{tree_from_entries, order_from_entries, keys_count, inserted, rewritten, removed}
-use Rattle.sd_tree.proofs.Went.{went}
+use Rattle.sd_tree.proofs.CarriedOut.{tree_from_entries, order_from_entries, keys_count, plan_carried}
 use Rattle.sd_tree.proofs.Rebuilding.{large_found}
 use Rattle.sd_tree.proofs.Fitting.{no_large}
 use Rattle.sd_tree.specs.declared.node.Node.{Node}
@@ -75,31 +73,19 @@ plan_of_nodes o journal e plan bs s h = let P : PlainTree → Type 0 = λ t. IsP
 
 can_carry : (g : MappingValue) (bs : List Node) → AreNodes g bs → (after : PlainTree) (plan : Plan) → IsPlan g (tree_of bs) after plan → CanCarryOut (length bs) plan
 can_carry g bs kept after (Insert at b) h = let count = keys_count bs kept.order in omega (arith, h.place)
-can_carry g bs kept after (Rewrite at row wholes) h = let count = keys_count bs kept.order in (h.some, omega (arith, h.fits))
+can_carry g bs kept after (Set at b) h = let count = keys_count bs kept.order in omega (arith, h.place)
 can_carry g bs kept after (Remove at) h = let count = keys_count bs kept.order in omega (arith, h.place)
-can_carry g bs kept after (Move from to run) h = let count = keys_count bs kept.order in (omega (arith, h.fits), omega (arith, h.place))
+can_carry g bs kept after (Exchange from to run) h = let count = keys_count bs kept.order in (omega (arith, h.fits), omega (arith, h.place))
 
 pub can_carry_out : (o : Opening) (journal : List Edit) (e : Edit) (plan : Plan) (bs : List Node) → IsStored o journal bs → IsPlanned o journal e plan
     → CanCarryOut (length bs) plan
 can_carry_out o journal e plan bs s h =
     can_carry o.mapping bs s.nodes (edited o.mapping (replay o journal) e) plan (plan_of_nodes o journal e plan bs s h)
 
-carried : (g : MappingValue) (bs bs' : List Node) → AreNodes g bs → (after : PlainTree) (plan : Plan) → IsPlan g (tree_of bs) after plan → IsCarriedOut plan bs bs' → (tree_of bs' ≡ after) × AreNodes g bs'
-carried g bs bs' kept after (Insert at b) h is =
-    let P : List Node → Type 0 = λ cs. (tree_of cs ≡ after) × AreNodes g cs in subst P (sym is) (inserted g bs kept after at b h)
-carried g bs bs' kept after (Rewrite at row wholes) h r =
-    let place : at < length bs = omega (arith, h.place, keys_count bs kept.order) in
-    rewritten g bs kept after at row wholes.items h bs' r (a_node bs at place)
-carried g bs bs' kept after (Remove at) h is =
-    let place : at < length bs = omega (arith, h.place, keys_count bs kept.order) in
-    let P : List Node → Type 0 = λ cs. (tree_of cs ≡ after) × AreNodes g cs in subst P (sym is) (removed g bs kept after at h (a_node bs at place))
-carried g bs bs' kept after (Move from to run) h is =
-    let P : List Node → Type 0 = λ cs. (tree_of cs ≡ after) × AreNodes g cs in subst P (sym is) (went g bs kept after from to run.items h)
-
 -- a tree that an edit joined
-pub stored_more : (o : Opening) (journal : List Edit) (e : Edit) (plan : Plan) (bs bs' : List Node) → IsStored o journal bs → IsPlanned o journal e plan → IsCarriedOut plan bs bs' → IsStored o (journal ++ e ∷ []) bs'
-stored_more o journal e plan bs bs' s h is =
-    let done = carried o.mapping bs bs' s.nodes (edited o.mapping (replay o journal) e) plan (plan_of_nodes o journal e plan bs s h) is in
+pub stored_more : (o : Opening) (journal : List Edit) (e : Edit) (plan : Plan) (bs : List Node) → IsStored o journal bs → IsPlanned o journal e plan → IsStored o (journal ++ e ∷ []) (carried plan bs)
+stored_more o journal e plan bs s h =
+    let done = plan_carried o.mapping bs s.nodes (edited o.mapping (replay o journal) e) plan (plan_of_nodes o journal e plan bs s h) in
     record {
       accepted = s.accepted;
       lawful = lawful_push o journal e s.lawful h.accepted;

@@ -1,16 +1,13 @@
 -- What an accepted edit does to the nodes. No public contract says so.
-use Rattle.std.specs.Prelude.{◌≡◌, ◌≢◌, ◌⊎◌, Bool, true, false, ℕ, ◌+◌, ◌<◌, ◌≤◌, List, ◌++◌, length, take, drop, map}
-use Rattle.std.specs.Prelude.{All, Option, slice_index_or, None, Some}
+use Rattle.std.specs.Prelude.{◌≡◌, ◌≢◌, ◌⊎◌, Bool, true, false, ℕ, ◌+◌, ◌<◌, ◌≤◌, List, [], ◌∷◌, ◌++◌, length, take}
+use Rattle.std.specs.Prelude.{drop, map, All, slice_index_or, slice_set, None, Some}
 use Rattle.std.specs.List.{AllWithin, insert, remove}
 use Rattle.std.specs.FinMap as finite
-use Rattle.std.specs.declared.cmp.Ordering.TheVariants.{Less, Greater}
 use Rattle.sd_sid.specs.Mapping.{MappingValue}
-use Rattle.sd_acl.specs.declared.ace.Ace.{Ace}
-use Rattle.sd_path.specs.Names.{Names, names_cmp, is_within, moved_path}
-use Rattle.sd_tree.specs.Inheritance.{dacl_of_row}
-use Rattle.sd_tree.specs.Plain.{PlainTree, dacl_at}
-use Rattle.sd_tree.specs.Refusals.{dacl_size, has_large_dacl, late_refusal, moves_too_deep}
-use Rattle.sd_tree.specs.Stored.{path_of_node, entry_of, IsWhole}
+use Rattle.sd_path.specs.Names.{Names, is_within, moved_path}
+use Rattle.sd_tree.specs.Plain.{PlainTree, row_at, dacl_below, dacl_at}
+use Rattle.sd_tree.specs.Refusals.{dacl_size, has_large_dacl, late_refusal}
+use Rattle.sd_tree.specs.Stored.{path_of_node, entry_of, tree_of, IsWhole}
 use Rattle.sd_tree.specs.declared.node.Node.{Node}
 use Rattle.sd_tree.specs.declared.node.Row.{Row}
 use Rattle.sd_tree.specs.declared.node.RowChange.{RowChange}
@@ -19,12 +16,11 @@ use Rattle.sd_tree.specs.Edits.{edited}
 use Rattle.sd_tree.specs.Journal.{replay, refusal}
 use Rattle.sd_tree.specs.declared.opening.Opening.{Opening}
 use Rattle.sd_tree.specs.declared.edit.Edit.{Edit}
-use Rattle.sd_tree.specs.declared.edit.Edit.TheVariants as edits
 use Rattle.sd_tree.specs.declared.plan.Plan.{Plan}
 use Rattle.sd_tree.specs.declared.refusal.TreeError.{TreeError}
 use Rattle.sd_tree.specs.declared.refusal.TreeError.TheVariants.{Refused, Memory}
 use Rattle.sd_tree.specs.declared.refusal.EditRefusal.TheVariants.{AclTooLarge, TooDeep}
-use Rattle.sd_tree.specs.declared.plan.Plan.TheVariants.{Insert, Rewrite, Remove, Move}
+use Rattle.sd_tree.specs.declared.plan.Plan.TheVariants.{Insert, Set, Remove, Exchange}
 
 -- ---- a node that stays where it is
 
@@ -46,60 +42,47 @@ ChangesOneNode g before after path = (other : Names) → other ≢ path → dacl
 
 -- ---- the plan for an edit that makes `after` of `before`, by the places of the paths
 
--- the node goes between the paths that are before it and those that are behind it
-pub record IsInsertion (g : MappingValue) (before after : PlainTree) (at : ℕ) (b : Node) : Type 0 where
-  pub place : at ≤ length (finite.keys before)
-  pub below : AllWithin (λ path. names_cmp path (path_of_node b) ≡ Less) (finite.keys before) 0 at
-  pub above : AllWithin (λ path. names_cmp path (path_of_node b) ≡ Greater) (finite.keys before) at
-      (length (finite.keys before))
-  pub made : after ≡ finite.insert before (path_of_node b) b.row
-  pub whole : IsWhole g after b
-  pub others : (k : ℕ) (path : Names) → k < length (finite.keys before)
-      → dacl_at g after (slice_index_or (finite.keys before) k path)
-      ≡ dacl_at g before (slice_index_or (finite.keys before) k path)
-
--- the node gets a row, and with those below it its whole DACL anew
-pub record IsRewriting (g : MappingValue) (before after : PlainTree) (at : ℕ) (row : Row)
-    (wholes : List (Option (List Ace))) : Type 0 where
-  pub place : at < length (finite.keys before)
-  pub some : 0 < length wholes
-  pub fits : at + length wholes ≤ length (finite.keys before)
-  pub made : (path : Names) → after ≡ finite.insert before (slice_index_or (finite.keys before) at path) row
-  pub below : (k : ℕ) (path : Names) (whole : Option (List Ace)) → k < length wholes
-      → (slice_index_or wholes k whole ≡ dacl_at g after (slice_index_or (finite.keys before) (at + k) path))
-      × (dacl_size (slice_index_or wholes k whole) ≤ 65535)
-  pub others : (k : ℕ) (path : Names) → k < length (finite.keys before) → (k < at) ⊎ (at + length wholes ≤ k)
-      → dacl_at g after (slice_index_or (finite.keys before) k path)
-      ≡ dacl_at g before (slice_index_or (finite.keys before) k path)
-
--- the node goes
-pub record IsRemoval (g : MappingValue) (before after : PlainTree) (at : ℕ) : Type 0 where
-  pub place : at < length (finite.keys before)
-  pub made : (path : Names) → after ≡ finite.remove before (slice_index_or (finite.keys before) at path)
-  pub others : (k : ℕ) (path : Names) → k < length (finite.keys before) → (k ≡ at → ⊥)
-      → dacl_at g after (slice_index_or (finite.keys before) k path)
-      ≡ dacl_at g before (slice_index_or (finite.keys before) k path)
-
--- ---- a run of nodes that goes elsewhere
-
 -- all but the run of so many from a place on
 abbrev pub beside_run : {X : Type 0} → ℕ → ℕ → List X → List X
 beside_run from count xs = take from xs ++ drop (from + count) xs
 
--- the run from the one place on gives way, and this one stands at the other, which is counted among those beside it
-abbrev pub run_moved : {X : Type 0} → ℕ → ℕ → List X → List X → List X
-run_moved from to run xs =
-    take to (beside_run from (length run) xs) ++ (run ++ drop to (beside_run from (length run) xs))
+-- so many from the one place on give way, and this run stands at the other, which is counted among those beside them
+abbrev pub exchanged : {X : Type 0} → ℕ → ℕ → ℕ → List X → List X → List X
+exchanged from count to run xs =
+    take to (beside_run from count xs) ++ (run ++ drop to (beside_run from count xs))
 
--- the nodes with their new paths and whole DACLs take the place of those from the one place on, and go to the other
-pub record IsMoving (g : MappingValue) (before after : PlainTree) (from to : ℕ) (run : List Node) : Type 0 where
-  pub fits : from + length run ≤ length (finite.keys before)
-  pub place : to + length run ≤ length (finite.keys before)
-  pub made : finite.entries after ≡ run_moved from to (map entry_of run) (finite.entries before)
+-- so many nodes give way to these, and no other node's DACL changes
+pub record IsExchange (g : MappingValue) (before after : PlainTree) (from count to : ℕ) (run : List Node) : Type 0 where
+  pub fits : from + count ≤ length (finite.keys before)
+  pub place : to + count ≤ length (finite.keys before)
+  pub made : finite.entries after ≡ exchanged from count to (map entry_of run) (finite.entries before)
   pub whole : All (IsWhole g after) run
-  pub others : (k : ℕ) (path : Names) → k < length (finite.keys before) → (k < from) ⊎ (from + length run ≤ k)
+  pub others : (k : ℕ) (path : Names) → k < length (finite.keys before) → (k < from) ⊎ (from + count ≤ k)
       → dacl_at g after (slice_index_or (finite.keys before) k path)
       ≡ dacl_at g before (slice_index_or (finite.keys before) k path)
+
+abbrev pub IsPlan : MappingValue → PlainTree → PlainTree → Plan → Type 0
+IsPlan g before after (Insert at node) = IsExchange g before after at 0 at (node ∷ [])
+IsPlan g before after (Set at node) = IsExchange g before after at 1 at (node ∷ [])
+IsPlan g before after (Remove at) = IsExchange g before after at 1 at []
+IsPlan g before after (Exchange from to run) = IsExchange g before after from (length run.items) to run.items
+
+-- ---- how a plan is carried out
+
+-- the places are within so many nodes
+abbrev pub CanCarryOut : ℕ → Plan → Type 0
+CanCarryOut count (Insert at node) = at ≤ count
+CanCarryOut count (Set at node) = at < count
+CanCarryOut count (Remove at) = at < count
+CanCarryOut count (Exchange from to run) = (from + length run.items ≤ count) × (to + length run.items ≤ count)
+
+abbrev pub carried : Plan → List Node → List Node
+carried (Insert at node) nodes = insert nodes at node
+carried (Set at node) nodes = slice_set nodes at node
+carried (Remove at) nodes = remove nodes at
+carried (Exchange from to run) nodes = exchanged from (length run.items) to run.items nodes
+
+-- ---- a node with all that stand below it
 
 -- these are the nodes from a place on that stand at or below the path, and all of them
 pub record IsRunBelow (bs : List Node) (path : Names) (at count : ℕ) : Type 0 where
@@ -108,89 +91,35 @@ pub record IsRunBelow (bs : List Node) (path : Names) (at count : ℕ) : Type 0 
   pub below : AllWithin (λ b. is_within path (path_of_node b) ≡ true) bs at (at + count)
   pub beyond : AllWithin (λ b. is_within path (path_of_node b) ≡ false) bs (at + count) (length bs)
 
--- the node, moved, with this whole DACL: its path has at most 64 names
-pub record IsMovedNode (source target : Names) (n : Node) (whole : Option (List Ace)) (b : Node) : Type 0 where
-  pub path_is : b.path ≡ moved_path source target n.path
-  pub row_is : b.row ≡ n.row
-  pub whole_is : b.whole ≡ whole
-  pub fits : length b.path ≤ 64
-
--- the moved nodes of a run, so many
-pub record IsMovedRun (bs : List Node) (source target : Names) (at : ℕ) (wholes : List (Option (List Ace))) (count : ℕ)
+-- the first nodes of such a run, once the first of them is another: below it each has its row, and its whole DACL anew
+pub record AreUnder (g : MappingValue) (bs : List Node) (path : Names) (at : ℕ) (first : Node)
     (run : List Node) : Type 0 where
-  pub counted : length run ≡ count
-  pub each : (k : ℕ) (b c : Node) (whole : Option (List Ace)) → k < length run
-      → IsMovedNode source target (slice_index_or bs (at + k) b) (slice_index_or wholes k whole)
-      (slice_index_or run k c)
+  pub first_is : (c : Node) → slice_index_or run 0 c ≡ first
+  pub paths : (k : ℕ) (b c : Node) → k < length run
+      → path_of_node (slice_index_or run k c) ≡ path_of_node (slice_index_or bs (at + k) b)
+  pub rows : (k : ℕ) (b c : Node) → 0 < k → k < length run
+      → (slice_index_or run k c).row ≡ (slice_index_or bs (at + k) b).row
+  pub wholes : (k : ℕ) (b c : Node) (rest : Names) → k < length run
+      → path_of_node (slice_index_or bs (at + k) b) ≡ path ++ rest
+      → (slice_index_or run k c).whole ≡ dacl_below g (tree_of bs) path first.whole rest
+  pub fits : (k : ℕ) (c : Node) → k < length run → dacl_size (slice_index_or run k c).whole ≤ 65535
 
--- an error told of a move: some path would have more than 64 names, or memory was refused
-abbrev pub IsTooDeep : PlainTree → Names → Names → TreeError → Type 0
-IsTooDeep t source target (Refused refusal) = (refusal ≡ TooDeep) × (moves_too_deep t (edits.Move source target) ≡ true)
-IsTooDeep t source target Memory = Unit {0}
+-- a tree with the node's row and whole DACL at the target, and below it with what stands below the source
+pub record IsTaken (g : MappingValue) (before after : PlainTree) (source target : Names) (first : Node) : Type 0 where
+  pub row_is : row_at after target ≡ Some first.row
+  pub whole_is : dacl_at g after target ≡ first.whole
+  pub below : (name : List ℕ) (rest : Names)
+      → row_at after (target ++ name ∷ rest) ≡ row_at before (source ++ name ∷ rest)
 
--- a row whose node has this whole DACL wherever it stands
-abbrev pub HasWhole : Option (List Ace) → Row → Type 0
-HasWhole whole row = (g : MappingValue) (above : Option (List Ace)) → dacl_of_row g row above ≡ whole
+-- the node, once the source has come to the target
+abbrev pub relocated : Names → Names → Node → Node
+relocated source target n = record n { path = moved_path source target n.path }
 
--- an error told of a moved node: its path would have more than 64 names, or memory was refused
-abbrev pub IsDepthError : Names → Names → Names → TreeError → Type 0
-IsDepthError source target path (Refused refusal) = (refusal ≡ TooDeep) × (64 < length (moved_path source target path))
-IsDepthError source target path Memory = Unit {0}
-
--- the whole DACLs of a run, as they are once it has moved
-pub record AreMovedWholes (g : MappingValue) (bs : List Node) (after : PlainTree) (source target : Names) (at : ℕ)
-    (wholes : List (Option (List Ace))) : Type 0 where
-  pub run : IsRunBelow bs source at (length wholes)
-  pub each : (k : ℕ) (b : Node) (whole : Option (List Ace)) → k < length wholes
-      → (slice_index_or wholes k whole
-      ≡ dacl_at g after (moved_path source target (path_of_node (slice_index_or bs (at + k) b))))
-      × (dacl_size (slice_index_or wholes k whole) ≤ 65535)
-
-abbrev pub IsPlan : MappingValue → PlainTree → PlainTree → Plan → Type 0
-IsPlan g before after (Insert at node) = IsInsertion g before after at node
-IsPlan g before after (Rewrite at row wholes) = IsRewriting g before after at row wholes.items
-IsPlan g before after (Remove at) = IsRemoval g before after at
-IsPlan g before after (Move from to run) = IsMoving g before after from to run.items
-
--- ---- how a plan is carried out
-
--- the places are within so many nodes
-abbrev pub CanCarryOut : ℕ → Plan → Type 0
-CanCarryOut count (Insert at node) = at ≤ count
-CanCarryOut count (Rewrite at row wholes) = (0 < length wholes.items) × (at + length wholes.items ≤ count)
-CanCarryOut count (Remove at) = at < count
-CanCarryOut count (Move from to run) = (from + length run.items ≤ count) × (to + length run.items ≤ count)
-
--- the row of one node and the whole DACLs from it on are new, and all else is as it was
-pub record IsRewritten (at : ℕ) (row : Row) (wholes : List (Option (List Ace))) (old new : List Node) : Type 0 where
-  pub length_is : length new ≡ length old
-  pub paths : (k : ℕ) (b : Node) → k < length old → path_of_node (slice_index_or new k b)
-      ≡ path_of_node (slice_index_or old k b)
-  pub row_is : (b : Node) → (slice_index_or new at b).row ≡ row
-  pub rows : (k : ℕ) (b : Node) → k < length old → (k ≡ at → ⊥)
-      → (slice_index_or new k b).row ≡ (slice_index_or old k b).row
-  pub wholes_are : (k : ℕ) (b : Node) (whole : Option (List Ace)) → k < length wholes
-      → (slice_index_or new (at + k) b).whole ≡ slice_index_or wholes k whole
-  pub others : (k : ℕ) (b : Node) → k < length old → (k < at) ⊎ (at + length wholes ≤ k)
-      → (slice_index_or new k b).whole ≡ (slice_index_or old k b).whole
-
--- the first so many of the nodes from one on, with its new row and the new whole DACLs
-pub record IsRewrittenRun (at : ℕ) (row : Row) (wholes : List (Option (List Ace))) (old : List Node) (count : ℕ)
-    (run : List Node) : Type 0 where
-  pub counted : length run ≡ count
-  pub paths : (k : ℕ) (b : Node) → k < count → path_of_node (slice_index_or run k b)
-      ≡ path_of_node (slice_index_or old (at + k) b)
-  pub row_is : (b : Node) → 0 < count → (slice_index_or run 0 b).row ≡ row
-  pub rows : (k : ℕ) (b : Node) → 0 < k → k < count → (slice_index_or run k b).row
-      ≡ (slice_index_or old (at + k) b).row
-  pub wholes_are : (k : ℕ) (b : Node) (whole : Option (List Ace)) → k < count
-      → (slice_index_or run k b).whole ≡ slice_index_or wholes k whole
-
-abbrev pub IsCarriedOut : Plan → List Node → List Node → Type 0
-IsCarriedOut (Insert at node) old new = new ≡ insert old at node
-IsCarriedOut (Rewrite at row wholes) old new = IsRewritten at row wholes.items old new
-IsCarriedOut (Remove at) old new = new ≡ remove old at
-IsCarriedOut (Move from to run) old new = new ≡ run_moved from to run.items old
+-- an error told of a run that goes elsewhere: some path would have more than 64 names, or memory was refused
+abbrev pub IsDepthError : Names → Names → List Node → TreeError → Type 0
+IsDepthError source target run (Refused refusal) = (refusal ≡ TooDeep) × (k : ℕ) × (k < length run)
+    × ((b : Node) → 64 < length (moved_path source target (path_of_node (slice_index_or run k b))))
+IsDepthError source target run Memory = Unit {0}
 
 -- an error told of a tree that an edit would make: some node's DACL takes too many bytes, or memory was refused
 abbrev pub IsLargeError : MappingValue → PlainTree → TreeError → Type 0

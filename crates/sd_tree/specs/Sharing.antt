@@ -41,10 +41,9 @@ pub record IsSibling (boxes : List Node) (path : Names) (row : Row) (above : Opt
   pub parent : (b : Node) → up (path_of_node (slice_index_or boxes k b)) ≡ up path
   pub alike : (b : Node) → InheritOne (slice_index_or boxes k b).row row above
 
--- of the DACLs that are made already, for the nodes from a place on, each sibling's has behind its own entries what the
--- row inherits
-abbrev pub AreMadeFor : MappingValue → List Node → Names → Row → Option (List Ace) → ℕ → List (Option (List Ace))
-    → Type 0
+-- of the nodes that are made already, for those from a place on, each sibling has behind its own entries what the row
+-- inherits
+abbrev pub AreMadeFor : MappingValue → List Node → Names → Row → Option (List Ace) → ℕ → List Node → Type 0
 AreMadeFor g boxes path row above at made =
-    (k : ℕ) (b : Node) (dacl : Option (List Ace)) → IsSibling boxes path row above k → at < k → k - at < length made
-    → slice_index_or made (k - at) dacl ≡ Some (behind_own (slice_index_or boxes k b).row (handed_on g row above))
+    (k : ℕ) (b c : Node) → IsSibling boxes path row above k → at < k → k - at < length made
+    → (slice_index_or made (k - at) c).whole ≡ Some (behind_own (slice_index_or boxes k b).row (handed_on g row above))

@@ -47,3 +47,39 @@ pub(crate) fn are_alike(one: &Row, other: &Row, by_trustees: bool) -> bool
     }
     !by_trustees || (one.owner.is(&other.owner) && one.group.is(&other.group))
 }
+
+/// Whether both are one DACL, entry by entry, own ones and inherited ones; `true` only where they are.
+pub(crate) fn are_one_dacl(one: &WholeDacl, other: &WholeDacl) -> bool
+    ensures { result ≡ true → one.now ≡ other.now }
+{
+    match (one.parts(), other.parts()) {
+        (None, None) => true,
+        (Some(one), Some(other)) => { are_one_list(one.0, other.0) && are_one_list(one.1, other.1) }
+        _ => false,
+    }
+}
+
+/// Whether both lists have the same entries in one order; `true` only where they have.
+fn are_one_list(one: &[Ace], other: &[Ace]) -> bool
+    ensures { result ≡ true → one.now ≡ other.now }
+{
+    if one.len() != other.len() {
+        return false;
+    }
+    for i in 0..one.len() {
+        if !are_one_entry(&one[i], &other[i]) {
+            return false;
+        }
+    }
+    true
+}
+
+/// Whether both entries are one; `true` only where they are.
+fn are_one_entry(one: &Ace, other: &Ace) -> bool
+    ensures { result ≡ true → one.now ≡ other.now }
+{
+    one.kind == other.kind
+        && one.flags == other.flags
+        && one.mask == other.mask
+        && one.sid.is(&other.sid)
+}

@@ -1,13 +1,13 @@
 //! The plan of an edit.
 
-ghost use Rattle.std.specs.Prelude.{◌≡◌, ◌<◌, length, false, None, IsSome, OnOk, IfOk, IfErr};
+ghost use Rattle.std.specs.Prelude.{◌≡◌, ◌<◌, ◌≤◌, length, false, None, IsSome, OnOk, IfOk, IfErr};
 ghost use Rattle.std.specs.List.{HoldsAt};
 ghost use Rattle.std.specs.FinMap.{insert, remove};
 ghost use Rattle.sd_path.specs.Names.{is_root};
 ghost use Rattle.sd_tree.specs.Plain.{row_at, dacl_at};
 ghost use Rattle.sd_tree.specs.Closed.{IsAddable};
 ghost use Rattle.sd_tree.specs.Edits.{changed, edited, keeping};
-ghost use Rattle.sd_tree.specs.Refusals.{early_refusal, has_child, moves_too_deep};
+ghost use Rattle.sd_tree.specs.Refusals.{dacl_size, early_refusal, has_child, moves_too_deep};
 ghost use Rattle.sd_tree.specs.Stored.{path_of_node, IsNodeAt};
 ghost use Rattle.sd_tree.specs.View.{IsView, tree_in};
 ghost use Rattle.sd_tree.specs.Plans.{IsPlan, IsLargeError, IsLateError, ChangesOneNode, changed_row};
@@ -44,6 +44,23 @@ impl TreeView<'_> {
         }
     }
 
+    /// The node at a place, with another row.
+    fn node_with(&self, path: &Path, at: usize, row: Shared<Row>) -> Result<Node, TreeError>
+        requires standing { IsView self.now }
+        requires within { at < length self.now.nodes.now }
+        requires stands { HoldsAt (λ b. path_of_node b ≡ path.now) self.now.nodes.now at }
+        ensures path { IfOk result (λ node. node.path ≡ path.now) }
+        ensures row { IfOk result (λ node. node.row ≡ row) }
+        ensures whole { IfOk result (λ node. node.whole ≡ dacl_at self.now.mapping.now
+            (insert (tree_in self.now) path.now row) path.now) }
+        ensures fits { IfOk result (λ node. dacl_size node.whole ≤ 65535) }
+        ensures refused { IfErr result (IsLargeError self.now.mapping.now (insert (tree_in self.now) path.now row)) }
+    {
+        let whole = self.whole_of(&path.as_path_ref(), at, &row)?;
+        let path = self.node(at).path.share()?;
+        Ok(Node { path, row, whole })
+    }
+
     /// The plan for a node that gets another row, where what it hands on changes with it.
     fn run_plan(&self, path: &Path, at: usize, row: Shared<Row>) -> Result<Plan, TreeError>
         requires standing { IsView self.now }
@@ -53,8 +70,13 @@ impl TreeView<'_> {
             (insert (tree_in self.now) path.now row)) }
         ensures refused { IfErr result (IsLargeError self.now.mapping.now (insert (tree_in self.now) path.now row)) }
     {
-        let wholes = self.whole_dacls_from(&path.as_path_ref(), at, &row)?;
-        Ok(Plan::Rewrite { at, row, wholes })
+        let first = self.node_with(path, at, row)?;
+        let run = self.subtree(&path.as_path_ref(), at, first)?;
+        Ok(Plan::Exchange {
+            from: at,
+            to: at,
+            run,
+        })
     }
 
     /// The plan for a node that gets another row, where no other node's DACL changes with it.
@@ -68,10 +90,8 @@ impl TreeView<'_> {
             (insert (tree_in self.now) path.now row)) }
         ensures refused { IfErr result (IsLargeError self.now.mapping.now (insert (tree_in self.now) path.now row)) }
     {
-        let whole = self.whole_of(&path.as_path_ref(), at, &row)?;
-        let mut wholes = Vec::with_capacity(self.alloc, 1)?;
-        wholes.push(whole)?;
-        Ok(Plan::Rewrite { at, row, wholes })
+        let node = self.node_with(path, at, row)?;
+        Ok(Plan::Set { at, node })
     }
 
     /// A node that is there, and its place.

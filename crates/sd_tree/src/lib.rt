@@ -32,6 +32,7 @@ mod plan;
 mod refusal;
 mod shared;
 mod siblings;
+mod subtree;
 mod tree;
 mod tree_view;
 mod whole;

@@ -19,4 +19,4 @@ invariant_of-self-2 c =
     let grown : room.kept ++ c.push_reserved.new.self.items ≡ journal ++ c.args.edit ∷ [] =
     ap (λ es. room.kept ++ es) c.push_reserved.ensures.items ∙ sym (append_assoc room.kept room.last.items (c.args.edit ∷ []))
     ∙ ap (λ es. es ++ c.args.edit ∷ []) c.in_ok-make_room.ensures.same in
-    rw grown (stored_more o journal c.args.edit c.args.plan c.self.inside.nodes _ c.self.invariant planned c.in_ok-carry_out.ensures.done)
+    rw (grown, c.in_ok-carry_out.ensures.done) (stored_more o journal c.args.edit c.args.plan c.self.inside.nodes c.self.invariant planned)

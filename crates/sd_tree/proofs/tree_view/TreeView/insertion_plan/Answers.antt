@@ -1,6 +1,5 @@
-use Rattle.std.proofs.Common.{◌≡◌, Option, Some, None, sym, ap, ◌∙◌}
+use Rattle.std.proofs.Common.{◌≡◌, Option, Some, None, sym, ◌∙◌}
 use Rattle.std.proofs.lemmas.Result.{err_from_is_err_and}
-use Rattle.sd_tree.specs.declared.node.Node.{Node}
 use Rattle.sd_tree.proofs.Rows.{row_at-insert_same}
 use Rattle.sd_tree.proofs.Adding.{insertion}
 use Rattle.sd_tree.proofs.Rebuilding.{large_error, row_there}
