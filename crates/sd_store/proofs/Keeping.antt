@@ -1,5 +1,5 @@
 -- The rule of the store is kept by every step.
-use Rattle.std.proofs.Common.{◌≡◌, ◌≢◌, ℕ, refl, subst, ⊎_elim}
+use Rattle.std.proofs.Common.{◌≡◌, ◌≢◌, ℕ, Result, Ok, Err, OnOk, refl, subst, ⊎_elim}
 use mathlib.Core.Option.{some}
 use mathlib.Core.List.{IsPrefix}
 use lib.ListN.{get_elem?}
@@ -53,3 +53,7 @@ looks n seat v x = turns n seat v x x (λ sound. sound) (prefix_self x.tree.jour
 -- what is shown goes on from the view before
 pub goes_on : (n : Named) (v : View) (x y : Published) (w : View) → Shows n v x y w → IsPrefix v.journal w.journal × IsPrefix v.marks w.marks
 goes_on n v x y w shows = rw (shows.0) (shows.2.0, shows.2.1)
+
+pub on_ok : {T E : Type 0} {P : Type 0} (result : Result T E) → P → OnOk result P
+on_ok (Ok value) p = p
+on_ok (Err error) p = tt

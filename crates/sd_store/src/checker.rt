@@ -4,7 +4,6 @@ ghost use Rattle.std.specs.Prelude.{◌≡◌, ◌<◌, ◌⊎◌, length, map, 
 ghost use Rattle.std.specs.Prelude.{vec_capacity};
 ghost use mathlib.Core.List.{IsPrefix};
 ghost use Rattle.sd_acl.specs.Descriptor.{descriptor_of};
-ghost use Rattle.sd_history.specs.Chains.{items_from};
 ghost use Rattle.sd_tree.specs.Answers.{answer, descriptor_at};
 ghost use Rattle.sd_tree.specs.Journal.{replay, IsLawful};
 ghost use Rattle.sd_versions.specs.Versions.{longer};
@@ -15,15 +14,16 @@ ghost use Rattle.sd_store.specs.declared.error.ShowError.TheVariants as show;
 
 use crate::answers::Answers;
 use crate::error::{AuditError, Gone, ShowError};
+use crate::floor::Floor;
 use crate::naming::Naming;
 use crate::notice::Notice;
 use crate::query::Query;
-use crate::rule::{Seat, Sees};
+use crate::read::{begin, end};
+use crate::rule::Seat;
 use sd_acl::Descriptor;
 use sd_check::Token;
-use sd_history::Front;
 use sd_sid::Mask;
-use sd_tree::{Edit, Path};
+use sd_tree::Path;
 use sd_versions::Answer;
 use std::fmt;
 use std::marker::Model;
@@ -34,10 +34,8 @@ use std::marker::Model;
 pub struct Checker<J: Naming> {
     /// The place in the shared store; away during a read alone.
     pub(crate) seat: Option<Seat<J>>,
-    /// The floor's length.
-    pub(crate) seen: u64,
-    /// Of the history of accepted edits, the beginning that the floor is.
-    pub(crate) front: Front<Edit>,
+    /// What it has seen or learned of.
+    pub(crate) floor: Floor<J>,
     /// Its answers in the last audit.
     pub(crate) drawn: Vec<Answer>,
     /// Why it has none.
@@ -45,11 +43,9 @@ pub struct Checker<J: Naming> {
 }
 
 impl<J: Naming> Model for Checker<J> {
-    ghost use Rattle.std.specs.Prelude.{◌≡◌, length, IsSome};
+    ghost use Rattle.std.specs.Prelude.{IsSome};
     ghost use Rattle.std.specs.Option.{option_map_or};
     ghost use Rattle.left_right.specs.Sides.{view as client_of};
-    ghost use Rattle.sd_tree.specs.Journal.{IsLawful};
-    ghost use Rattle.sd_history.specs.Chains.{items_from};
     ghost use Rattle.sd_store.specs.Rules.{newcomer};
     ghost use Rattle.sd_store.specs.Sights.{Sight};
 
@@ -57,22 +53,19 @@ impl<J: Naming> Model for Checker<J> {
 
     ghost view = { λ c. record {
       view = option_map_or (λ r. client_of r.place) c.seat newcomer;
-      floor = items_from J.first c.front.log;
+      floor = c.floor;
       drawn = c.drawn.items;
       failed = c.failed;
     } };
 
-    ghost invariant = { λ c. IsSome c.seat
-        × (c.seen ≡ length (items_from J.first c.front.log))
-        × (c.front.book ≡ J.book)
-        × IsLawful J.opening (items_from J.first c.front.log) };
+    ghost invariant = { λ c. IsSome c.seat };
 }
 
 /// Shows the length of what it has seen.
 impl<J: Naming> fmt::Debug for Checker<J> {
     fn fmt<W: fmt::Write>(&self, f: &mut fmt::Formatter<W>) -> fmt::Result {
         f.debug_struct("Checker")
-            .field("seen", &self.seen)
+            .field("seen", &self.floor.len())
             .finish_non_exhaustive()
     }
 }
@@ -92,25 +85,12 @@ impl<J: Naming> Checker<J> {
         ensures reply { IfOk result (λ a. a.reply ≡ answer J.opening self.new.floor path.now token.now asked) }
         ensures gone { OnErr result (IsGone self.old self.new) }
     {
-        let Some(seat) = self.seat.take() else {
-            unreachable!()
+        let entered = begin(&mut self.seat)?;
+        let reply = entered.get().tree.get().check(path, token, asked);
+        let Ok((seen, reply)) = end(&mut self.seat, &mut self.floor, entered, Ok(reply)) else {
+            return Err(Gone);
         };
-        match seat.enter_as::<Sees<J>>() {
-            Err(seat) => {
-                self.seat = Some(seat);
-                Err(Gone)
-            }
-            Ok(reading) => {
-                let published = reading.get();
-                let tree = published.tree.get();
-                let seen = tree.len();
-                let reply = tree.check(path, token, asked);
-                let front = published.front.again();
-                self.seat = Some(reading.leave());
-                raise::<J>(&mut self.front, &mut self.seen, front, seen)?;
-                Ok(Answer { seen, reply })
-            }
-        }
+        Ok(Answer { seen, reply })
     }
 
     /// The descriptor of the node of a path ([MS-DTYP] 2.4.6), if there is one, by the journal that is published at one
@@ -131,30 +111,9 @@ impl<J: Naming> Checker<J> {
         ensures memory { IfErr result (λ e. e ≡ show.Memory
             → IsSome (descriptor_at J.opening.mapping (replay J.opening self.new.view.journal) path.now)) }
     {
-        let Some(seat) = self.seat.take() else {
-            unreachable!()
-        };
-        match seat.enter_as::<Sees<J>>() {
-            Err(seat) => {
-                self.seat = Some(seat);
-                Err(ShowError::Gone)
-            }
-            Ok(reading) => {
-                let published = reading.get();
-                let tree = published.tree.get();
-                let seen = tree.len();
-                let found = tree.descriptor(path);
-                let front = published.front.again();
-                self.seat = Some(reading.leave());
-                let Ok(descriptor) = found else {
-                    return Err(ShowError::Memory);
-                };
-                raise::<J>(&mut self.front, &mut self.seen, front, seen).map_err(
-                    |_| ShowError::Gone,
-                )?;
-                Ok((seen, descriptor))
-            }
-        }
+        let entered = begin(&mut self.seat)?;
+        let found = entered.get().tree.get().descriptor(path);
+        end(&mut self.seat, &mut self.floor, entered, found)
     }
 
     /// Several questions at one moment: the verdict on each query ([MS-DTYP] 2.5.3.2) and the descriptor of each path
@@ -188,30 +147,14 @@ impl<J: Naming> Checker<J> {
             ⊎ (vec_capacity answers.old.descriptors < length paths.now)
             ⊎ HasNode J.opening self.new.view.journal paths.now) }
     {
-        if answers.make_room(queries.len(), paths.len()).is_err() {
-            return Err(ShowError::Memory);
-        }
-        let Some(seat) = self.seat.take() else {
-            unreachable!()
-        };
-        match seat.enter_as::<Sees<J>>() {
-            Err(seat) => {
-                self.seat = Some(seat);
-                Err(ShowError::Gone)
-            }
-            Ok(reading) => {
-                let published = reading.get();
-                let tree = published.tree.get();
-                let seen = tree.len();
-                let filled = answers.fill(tree, queries, paths);
-                let front = published.front.again();
-                self.seat = Some(reading.leave());
-                filled.map_err(|_| ShowError::Memory)?;
-                if raise::<J>(&mut self.front, &mut self.seen, front, seen).is_err() {
-                    answers.clear();
-                    return Err(ShowError::Gone);
-                }
-                Ok(seen)
+        answers.make_room(queries.len(), paths.len())?;
+        let entered = begin(&mut self.seat)?;
+        let filled = answers.fill(entered.get().tree.get(), queries, paths);
+        match end(&mut self.seat, &mut self.floor, entered, filled) {
+            Ok((seen, ())) => Ok(seen),
+            Err(error) => {
+                answers.clear();
+                return Err(error);
             }
         }
     }
@@ -224,11 +167,7 @@ impl<J: Naming> Checker<J> {
         ensures extends { IsPrefix self.old.floor self.new.floor × IsPrefix notice.old.journal self.new.floor }
         ensures notice { notice.new ≡ notice.old }
     {
-        self.front.meet(&notice.front);
-        if self.seen <= notice.len {
-            self.front = notice.front.again();
-            self.seen = notice.len;
-        }
+        let _ = self.floor.raise(notice.journal.again());
     }
 
     /// The length of the journal that the reader has seen or learned of.
@@ -236,32 +175,6 @@ impl<J: Naming> Checker<J> {
         ensures length { result ≡ length self.now.floor }
         ensures lawful { IsLawful J.opening self.now.floor }
     {
-        self.seen
+        self.floor.len()
     }
-}
-
-/// The floor becomes what was found, unless that is shorter. It never is: of two beginnings of one history the longer
-/// extends the other, and a notice has only what was published before. But that a read comes after the publish of a
-/// notice isn't proved, so the lengths are compared.
-fn raise<J: Naming>(
-    floor: &mut Front<Edit>,
-    seen: &mut u64,
-    found: Front<Edit>,
-    len: u64,
-) -> Result<(), Gone>
-    requires book { found.book ≡ floor.old.book }
-    requires seen { seen.old ≡ length (items_from J.first floor.old.log) }
-    requires len { len ≡ length (items_from J.first found.log) }
-    ensures raised { OnOk result ((floor.new ≡ found)
-        × (seen.new ≡ len)
-        × IsPrefix (items_from J.first floor.old.log) (items_from J.first found.log)) }
-    ensures gone { OnErr result ((floor.new ≡ floor.old) × (seen.new ≡ seen.old) × (len < seen.old)) }
-{
-    floor.meet(&found);
-    if len < *seen {
-        return Err(Gone);
-    }
-    *floor = found;
-    *seen = len;
-    Ok(())
 }

@@ -4,6 +4,7 @@ ghost use Rattle.std.specs.Prelude.{◌≡◌};
 ghost use Rattle.sd_store.specs.Errors.{audit_error_number};
 
 use sd_tree::{EditRefusal, TreeError};
+use std::alloc::AllocError;
 use thiserror::Error;
 
 /// Why an edit didn't become pending. Nothing has changed.
@@ -54,6 +55,28 @@ pub enum ShowError {
     /// Memory was refused.
     #[error("memory was refused")]
     Memory,
+}
+
+impl From<Gone> for ShowError {
+    ghost use Rattle.std.specs.Prelude.{◌≡◌};
+    ghost use Rattle.sd_store.specs.declared.error.ShowError.TheVariants as show;
+
+    ghost from_gives = { λ _ error. error ≡ show.Gone };
+
+    fn from(_: Gone) -> ShowError {
+        ShowError::Gone
+    }
+}
+
+impl From<AllocError> for ShowError {
+    ghost use Rattle.std.specs.Prelude.{◌≡◌};
+    ghost use Rattle.sd_store.specs.declared.error.ShowError.TheVariants.{Memory};
+
+    ghost from_gives = { λ _ error. error ≡ Memory };
+
+    fn from(_: AllocError) -> ShowError {
+        ShowError::Memory
+    }
 }
 
 /// Why an audit has no answers. Each checker has then seen no less than it had.

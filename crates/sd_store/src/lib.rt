@@ -23,6 +23,7 @@ mod auditing;
 mod checker;
 mod drawing;
 mod error;
+mod floor;
 mod gate;
 mod gathering;
 mod naming;
@@ -32,6 +33,7 @@ mod operation;
 mod published;
 mod publishing;
 mod query;
+mod read;
 mod rule;
 mod writer;
 

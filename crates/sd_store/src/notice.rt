@@ -3,24 +3,19 @@
 ghost use Rattle.std.specs.Prelude.{◌≡◌, length};
 ghost use Rattle.sd_tree.specs.Journal.{IsLawful};
 
+use crate::floor::Floor;
 use crate::naming::Naming;
 use boxcar::tag::{Names, Tag};
-use sd_history::Front;
-use sd_tree::Edit;
 use std::fmt;
-use std::marker::{Model, PhantomData};
+use std::marker::Model;
 
 /// A publish that readers may learn of, on any thread and any number of times. Contracts see the journal that was then
 /// published, and its marks.
 #[derive(Drop)]
 pub struct Notice<J: Naming> {
-    /// The journal's length.
-    pub(crate) len: u64,
-    /// Of the history of accepted edits, the beginning that the journal is.
-    pub(crate) front: Front<Edit>,
+    pub(crate) journal: Floor<J>,
     /// The marks, in the proofs alone.
     pub(crate) marks: Tag,
-    pub(crate) of: PhantomData<J>,
 }
 
 /// What a notice keeps of the marks.
@@ -38,25 +33,18 @@ impl Names<Tag> for Same {
 }
 
 impl<J: Naming> Model for Notice<J> {
-    ghost use Rattle.std.specs.Prelude.{◌≡◌, length};
-    ghost use Rattle.sd_tree.specs.Journal.{IsLawful};
-    ghost use Rattle.sd_history.specs.Chains.{items_from};
     ghost use Rattle.sd_store.specs.Sights.{Told};
 
     ghost Value = { Told };
 
-    ghost view = { λ n. record { journal = items_from J.first n.front.log; marks = n.marks.numbers } };
-
-    ghost invariant = { λ n. (n.len ≡ length (items_from J.first n.front.log))
-        × (n.front.book ≡ J.book)
-        × IsLawful J.opening (items_from J.first n.front.log) };
+    ghost view = { λ n. record { journal = n.journal; marks = n.marks.numbers } };
 }
 
 /// Has the length of its journal.
 impl<J: Naming> fmt::Debug for Notice<J> {
     fn fmt<W: fmt::Write>(&self, f: &mut fmt::Formatter<W>) -> fmt::Result {
         f.debug_struct("Notice")
-            .field("length", &self.len)
+            .field("length", &self.journal.len())
             .finish_non_exhaustive()
     }
 }
@@ -67,10 +55,8 @@ impl<J: Naming> Notice<J> {
         ensures { result ≡ self.now }
     {
         Notice {
-            len: self.len,
-            front: self.front.again(),
+            journal: self.journal.again(),
             marks: Tag::of::<Tag, Same>(&self.marks),
-            of: PhantomData,
         }
     }
 
@@ -79,6 +65,6 @@ impl<J: Naming> Notice<J> {
         ensures length { result ≡ length self.now.journal }
         ensures lawful { IsLawful J.opening self.now.journal }
     {
-        self.len
+        self.journal.len()
     }
 }

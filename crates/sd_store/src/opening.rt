@@ -10,6 +10,7 @@ ghost use Rattle.sd_store.specs.Errors.{IsStoreError};
 ghost use Rattle.sd_store.specs.Rules.{naming, newcomer, IsFrontOf, IsOpened};
 
 use crate::checker::Checker;
+use crate::floor::Floor;
 use crate::naming::Naming;
 use crate::published::Published;
 use crate::rule::Cell;
@@ -122,8 +123,7 @@ fn seated<J: Naming>(
         };
         checkers.push_reserved(Checker {
             seat: Some(seat),
-            seen: 0,
-            front: front.again(),
+            floor: Floor::new(0, front.again()),
             drawn: Vec::new(alloc),
             failed: None,
         });

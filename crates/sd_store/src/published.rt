@@ -1,7 +1,10 @@
 //! What readers see: a tree, the lengths at which its journal was published, and the front that its journal is.
 
 ghost use Rattle.std.specs.Prelude.{◌≡◌};
+ghost use Rattle.sd_store.specs.Rules.{naming, IsSound};
 
+use crate::floor::Floor;
+use crate::naming::Naming;
 use crate::operation::{Facts, Operation};
 use left_right::Absorb;
 use sd_history::Front;
@@ -16,6 +19,16 @@ pub(crate) struct Published {
     pub marks: Vec<u64>,
     /// Of the history of accepted edits, the beginning that the journal is.
     pub front: Front<Edit>,
+}
+
+impl Published {
+    /// Its journal. Takes no memory.
+    pub(crate) fn floor<J: Naming>(&self) -> Floor<J>
+        requires { IsSound (naming J.opening J.book J.first) self.now }
+        ensures { result ≡ self.now.tree.journal }
+    {
+        Floor::new(self.tree.get().len(), self.front.again())
+    }
 }
 
 impl Absorb<Operation> for Published {

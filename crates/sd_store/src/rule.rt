@@ -4,7 +4,7 @@ use crate::naming::Naming;
 use crate::operation::Operation;
 use crate::published::Published;
 use crossbeam_utils::rule::{Outcome, Protocol};
-use left_right::reader::Reader;
+use left_right::reader::{Reader, Reading};
 use left_right::writer::Writer;
 use sd_tree::Edit;
 use std::collections::LinkedList;
@@ -41,3 +41,6 @@ pub(crate) type Cell<J> = Writer<Published, Operation, View, Law<J>>;
 
 /// A reader's side.
 pub(crate) type Seat<J> = Reader<Published, View, Law<J>>;
+
+/// The same during a read.
+pub(crate) type Entered<J> = Reading<Published, View, Law<J>>;

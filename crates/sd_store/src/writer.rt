@@ -78,7 +78,7 @@ impl<J: Naming> StoreWriter<J> {
 
     /// Readers see all pending edits, at one moment: the published journal goes on by just these, and has one mark
     /// more, its new length, which is answered. So it is also where no edit is pending. At an error nothing was
-    /// published, and the same edits are pending. It waits for readers that are in the midst of a check.
+    /// published, and the same edits are pending. It waits for readers that are within a check.
     pub fn publish<R: Wait>(&mut self, rt: &R) -> Result<u64, PublishError>
         ensures published { IfOk result (λ n. (self.new.journal ≡ self.old.journal ++ self.old.pending)
             × (n ≡ length self.new.journal)) }
@@ -116,10 +116,8 @@ impl<J: Naming> StoreWriter<J> {
         };
         let published = cell.published();
         Notice {
-            len: published.tree.get().len(),
-            front: published.front.again(),
+            journal: published.floor(),
             marks: Tag::of::<Vec<u64>, Listed>(&published.marks),
-            of: PhantomData,
         }
     }
 
@@ -146,7 +144,7 @@ impl<J: Naming> StoreWriter<J> {
         self.versions.draft().len() - self.versions.published().len()
     }
 
-    /// Ends the store. Pending edits are dropped. It waits for readers that are in the midst of a check; each later
+    /// Ends the store. Pending edits are dropped. It waits for readers that are within a check; each later
     /// check answers `Gone`.
     pub fn end<R: Wait>(self, rt: &R) {
         let StoreWriter {

@@ -1,9 +1,8 @@
-use Rattle.sd_store.proofs.Keeping.{looks, goes_on}
+use Rattle.sd_store.proofs.Keeping.{goes_on}
 use Rattle.sd_store.proofs.checker.Checker.check.Goals as goal
 
-pub enter_as-requires : goal.enter_as-requires
-enter_as-requires g c = looks _ _ _
+pub returns-clause-extends : goal.returns-clause-extends
+returns-clause-extends g c = rw (← c.self.view_is) c.in-Ok.ensures.extends
 
-pub returns-in_ok-raise-in-Ok-clause-views : goal.returns-in_ok-raise-in-Ok-clause-views
-returns-in_ok-raise-in-Ok-clause-views g c =
-    rw (← c.self.view_is, ← c.in-Some.ensures.value, c.leave.ensures.1) (goes_on _ _ c.in-Ok.reading.part.value _ _ c.in-Ok.ensures.1)
+pub returns-clause-views : goal.returns-clause-views
+returns-clause-views g c = rw (← c.self.view_is, c.end.ensures.seat.1) (goes_on _ _ c.in_ok-entered.entered.part.value _ _ c.in_ok-entered.ensures.published)
