@@ -1,10 +1,11 @@
 -- The proofs of the laws.
-use Rattle.std.proofs.Common.{◌≡◌, ◌∙◌, ◌+◌, ℕ, suc, List, [], ◌∷◌, length, Bool, true, false, Option, Some, None, Result, Ok, Err, ap, codes, refl, subst, sym, arith}
-use Rattle.std.proofs.lemmas.Bool.{le-leb}
+use Rattle.std.proofs.Common.{◌≡◌, ◌≤◌, ◌∙◌, ◌+◌, ℕ, suc, List, [], ◌∷◌, length, Bool, true, false, Option, Some, None, Result, Ok, Err, ap, codes, refl, subst, sym, arith}
+use Rattle.std.proofs.lemmas.Bool.{eq-eqb, le-leb, ne_eqb}
 use Rattle.std.specs.Prelude.{is_some, if◌then◌else◌, ok_or}
 use Rattle.std.specs.Result.{result_ok}
 use Rattle.std.specs.Borrow.{Bor}
-use Rattle.sd_usage.specs.Table.{command_named, count_of, flag_named, option_named, takes_count}
+use Rattle.sd_usage.specs.Table.{command_named, count_of, flag_named, option_named, takes_count, takes_option}
+use Rattle.sd_usage.specs.declared.row.OptionName.TheVariants.{Domain, Names}
 use Rattle.sd_usage.specs.declared.row.CommandName.{CommandName}
 use Rattle.sd_usage.specs.declared.row.CommandName.TheVariants as names
 use Rattle.sd_usage.specs.declared.row.Command.{Command}
@@ -14,11 +15,11 @@ use Rattle.sd_usage.specs.declared.row.Question.TheVariants as questions
 use Rattle.sd_command_line.specs.CommandLine.{AskedValue, CommandLineValue, InvocationValue, RequestValue, Ask, AskInput, Audit, Each, Help, Script, Serve, Version, after_options, arguments_in, asked_by, asked_with, command_in, each_in, input_request, line_request, miscounted, no_command, reading, request_after, request_by, request_on, with_options, workers_of}
 use Rattle.sd_command_line.specs.Laws.{is_shown, shows, EachAsksTheCommand, InputAsksTheCommand, HelpStandsAlone, DashesKeepTexts, DashesKeepTextsOfWhy, OptionsKeepTexts}
 use Rattle.sd_command_line.specs.Flags.{flags_in, is_given, lines_by, no_flags, with_flag}
-use Rattle.sd_command_line.specs.Mistake.{map_read, then_read}
+use Rattle.sd_command_line.specs.Mistake.{map_read, then_read, word_at}
 use Rattle.sd_command_line.specs.declared.flags.GivenFlags.{GivenFlags}
 use Rattle.sd_command_line.specs.declared.flags.Lines.{Lines}
 use Rattle.sd_command_line.specs.declared.mistake.Mistake.{Mistake}
-use Rattle.sd_command_line.specs.Options.{OptionsValue, is_from_input, misplaced_in, no_options, options_in, wrong_option}
+use Rattle.sd_command_line.specs.Options.{OptionsValue, is_from_input, misplaced_in, no_options, options_in, with_value}
 
 abbrev some_shown : Result AskedValue Mistake → Bool
 some_shown (Err mistake) = false
@@ -27,8 +28,8 @@ some_shown (Ok asked) = is_shown asked.invocation
 abbrev line_shown : Result CommandLineValue Mistake → Bool
 line_shown read = shows (result_ok read)
 
-abbrev asks : Command → ℕ → InvocationValue → AskedValue
-asks command named invocation = record { command = command; named = named; invocation = invocation }
+abbrev asks : ℕ → InvocationValue → AskedValue
+asks named invocation = record { named = named; invocation = invocation }
 
 -- where a test decides whether something is asked for, it is no help if that isn't
 tested_runs : (test : Bool) (asked : Result AskedValue Mistake) (mistake : Mistake) → (some_shown asked ≡ true → ⊥)
@@ -39,7 +40,7 @@ tested_runs false asked mistake none h = cc
 -- what is asked of a text is neither help nor the version
 request_runs_so : (Invoked : RequestValue → InvocationValue) (command : Command) (named : ℕ) (request : Result RequestValue Mistake)
     → ((given : RequestValue) → is_shown (Invoked given) ≡ true → ⊥)
-    → some_shown (map_read (λ (given : RequestValue). asks command named (Invoked given)) request) ≡ true → ⊥
+    → some_shown (map_read (λ (given : RequestValue). asks named (Invoked given)) request) ≡ true → ⊥
 request_runs_so Invoked command named (Err mistake) runs h = cc
 request_runs_so Invoked command named (Ok request) runs h = runs request h
 
@@ -64,7 +65,7 @@ each_runs lines (word ∷ words) h = named_runs (command_named word.now) _ _ (λ
 
 -- nor is an audit, whatever its number
 audit_runs : (command : Command) (named : ℕ) (workers : Option ℕ) (mistake : Mistake)
-    → some_shown (map_read (λ n. asks command named (Audit n)) (ok_or workers mistake)) ≡ true → ⊥
+    → some_shown (map_read (λ n. asks named (Audit n)) (ok_or workers mistake)) ≡ true → ⊥
 audit_runs command named (Some n) mistake h = cc
 audit_runs command named None mistake h = cc
 
@@ -95,7 +96,7 @@ command_runs from_input (word ∷ words) h =
 shown_or_not : (asked : Result AskedValue Mistake) (options : OptionsValue) (words : List (Bor (List ℕ)))
     → (some_shown asked ≡ true → ⊥) → line_shown (then_read (with_options options words) asked) ≡ true → ⊥
 shown_or_not (Err mistake) options words none h = cc
-shown_or_not (Ok asked) options words none h = by_test (misplaced_in asked.command asked.named options words) h where
+shown_or_not (Ok asked) options words none h = by_test (misplaced_in (word_at words asked.named) asked.named options words) h where
   by_test : (test : Option Mistake)
       → line_shown (elim test [
         | Some mistake ↦ Err mistake
@@ -147,13 +148,13 @@ three_or_more command sddl user mask words count more =
 asked_of_three : (question : Question) (command : Command) (named : ℕ) (sddl : Bor (List ℕ)) (arguments : List (Bor (List ℕ)))
     → command.name ≡ names.Ask question
     → request_by command.name command named no_flags (sddl ∷ arguments)
-    ≡ Ok (asks command named (Ask sddl.now (record { question = question; arguments = arguments })))
+    ≡ Ok (asks named (Ask sddl.now (record { question = question; arguments = arguments })))
 asked_of_three question command named sddl arguments is = rw is refl
 
-goes_before : (command : Command) (named : ℕ) (options : OptionsValue) (all : List (Bor (List ℕ))) (invocation : InvocationValue)
-    → misplaced_in command named options all ≡ None
-    → with_options options all (asks command named invocation) ≡ Ok (record { options = options; invocation = invocation })
-goes_before command named options all invocation fits =
+goes_before : (named : ℕ) (options : OptionsValue) (all : List (Bor (List ℕ))) (invocation : InvocationValue)
+    → misplaced_in (word_at all named) named options all ≡ None
+    → with_options options all (asks named invocation) ≡ Ok (record { options = options; invocation = invocation })
+goes_before named options all invocation fits =
     subst (λ (found : Option Mistake). ◌≡◌ {A = Result CommandLineValue Mistake} (elim found [
       | Some wrong ↦ Err wrong
       | None ↦ Ok (record { options = options; invocation = invocation })
@@ -163,7 +164,8 @@ goes_before command named options all invocation fits =
 keeps : (question : Question) (command : Command) (options : OptionsValue) (found : Option Command) (mistake : Mistake)
     (all : List (Bor (List ℕ))) (named : ℕ) (dashes sddl user mask : Bor (List ℕ)) (words : List (Bor (List ℕ)))
     → found ≡ Some command → command.name ≡ names.Ask question → flag_named command dashes.now ≡ None
-    → count_of command.arguments ≡ 3 → is_some command.repeated ≡ true → misplaced_in command named options all ≡ None
+    → count_of command.arguments ≡ 3 → is_some command.repeated ≡ true
+    → misplaced_in (word_at all named) named options all ≡ None
     → dashes.now ≡ codes "--"
     → result_ok (then_read (with_options options all) (then_read (λ (c : Command). asked_by false c named (dashes ∷ sddl ∷ user ∷ mask ∷ words)) (ok_or found mistake)))
     ≡ Some (record { options = options; invocation = Ask sddl.now (record { question = question; arguments = user ∷ mask ∷ words }) })
@@ -173,7 +175,24 @@ keeps question command options found mistake all named dashes sddl user mask wor
     ∙ after_dashes command named dashes (sddl ∷ user ∷ mask ∷ words) plain dash
     ∙ taken command named (sddl ∷ user ∷ mask ∷ words) (three_or_more command sddl user mask words count more)
     ∙ asked_of_three question command named sddl (user ∷ mask ∷ words) asked)
-    ∙ goes_before command named options all (Ask sddl.now (record { question = question; arguments = user ∷ mask ∷ words })) fits)
+    ∙ goes_before named options all (Ask sddl.now (record { question = question; arguments = user ∷ mask ∷ words })) fits)
+
+-- the command's name is that of the argument from which on there are so many
+word_here : (word : Bor (List ℕ)) (words : List (Bor (List ℕ))) → word_at (word ∷ words) (length (word ∷ words)) ≡ word.now
+word_here word words = rw (eq-eqb (length (word ∷ words)) (length (word ∷ words)) refl) refl
+
+word_after : (other : Bor (List ℕ)) (words : List (Bor (List ℕ))) (left : ℕ) → left ≤ length words
+    → word_at (other ∷ words) left ≡ word_at words left
+word_after other words left within =
+    rw (ne_eqb (length (other ∷ words)) left (λ same. omega (arith, within, same))) refl
+
+after_three : (option domain sid word : Bor (List ℕ)) (rest : List (Bor (List ℕ)))
+    → word_at (option ∷ domain ∷ sid ∷ word ∷ rest) (length (word ∷ rest)) ≡ word.now
+after_three option domain sid word rest =
+    word_after option (domain ∷ sid ∷ word ∷ rest) (length (word ∷ rest)) (omega arith)
+    ∙ word_after domain (sid ∷ word ∷ rest) (length (word ∷ rest)) (omega arith)
+    ∙ word_after sid (word ∷ rest) (length (word ∷ rest)) (omega arith)
+    ∙ word_here word rest
 
 -- what holds of a word with this text holds of each that has it
 of_text : (Holds : Bor (List ℕ) → Type 0) (word : Bor (List ℕ)) (text : List ℕ) → word.now ≡ text → Holds (record word { now = text }) → Holds word
@@ -198,17 +217,23 @@ dashes_keep_texts_of_why name word dashes sddl user mask words why dash =
     dashes sddl user mask words refl refl refl refl refl refl dash)
 
 pub options_keep_texts : OptionsKeepTexts
-unfolding command_named option_named wrong_option
+unfolding command_named option_named takes_option
 options_keep_texts name option domain sid word dashes sddl user mask words names in_domain why dash =
-    let options = record no_options { names = Some []; domain = Some sid.now } in
+    let options = with_value (with_value no_options Names []) Domain sid.now in
     let Goal = Reads questions.Why options sddl.now (user ∷ mask ∷ words) in
     let rest = dashes ∷ sddl ∷ user ∷ mask ∷ words in
+    let first = record option { now = codes "--names" } in
+    let next = record domain { now = codes "--domain" } in
+    let asked = record word { now = codes "why" } in
+    let named = length (asked ∷ rest) in
     of_text (λ o. Goal (name ∷ o ∷ domain ∷ sid ∷ word ∷ rest)) option (codes "--names") names
-    (of_text (λ d. Goal (name ∷ record option { now = codes "--names" } ∷ d ∷ sid ∷ word ∷ rest)) domain (codes "--domain") in_domain
-    (of_text (λ w. Goal (name ∷ record option { now = codes "--names" } ∷ record domain { now = codes "--domain" } ∷ sid ∷ w ∷ rest)) word (codes "why") why
-    (keeps questions.Why _ options (command_named (codes "why")) (no_command [])
-    (record option { now = codes "--names" } ∷ record domain { now = codes "--domain" } ∷ sid ∷ record word { now = codes "why" } ∷ rest) _
-    dashes sddl user mask words refl refl refl refl refl refl dash)))
+    (of_text (λ d. Goal (name ∷ first ∷ d ∷ sid ∷ word ∷ rest)) domain (codes "--domain") in_domain
+    (of_text (λ w. Goal (name ∷ first ∷ next ∷ sid ∷ w ∷ rest)) word (codes "why") why
+    (keeps questions.Why _ options (command_named (codes "why")) (no_command []) (first ∷ next ∷ sid ∷ asked ∷ rest) named
+    dashes sddl user mask words refl refl refl refl refl
+    (subst (λ text. misplaced_in text named options (first ∷ next ∷ sid ∷ asked ∷ rest) ≡ None)
+    (sym (after_three first next sid asked rest)) refl)
+    dash)))
 
 -- ---- what is asked of a text
 
@@ -230,7 +255,7 @@ request_of_asked other (Ok asked) = request_in other asked.invocation
 -- a command that asks this of a text which the arguments follow asks the same with the text before them
 by_test : (test : Bool) (command : Command) (named : ℕ) (text : List ℕ) (given request : RequestValue) (mistake : Mistake)
     → (if test then Ok given else Err mistake) ≡ Ok request
-    → (if test then Ok (asks command named (Ask text given)) else Err mistake) ≡ Ok (asks command named (Ask text request))
+    → (if test then Ok (asks named (Ask text given)) else Err mistake) ≡ Ok (asks named (Ask text request))
 by_test true command named text given request mistake is = cc
 by_test false command named text given request mistake is = cc
 
@@ -239,12 +264,12 @@ by_command : (name : CommandName) (command : Command) (named : ℕ) (given : Giv
     → request_after name command named arguments ≡ Ok request
     → (if takes_count command (length (text ∷ arguments)) then request_by name command named given (text ∷ arguments)
     else Err (miscounted command named (length (text ∷ arguments))))
-    ≡ Ok (asks command named (Ask text.now request))
+    ≡ Ok (asks named (Ask text.now request))
 by_command (names.Ask question) command named given text arguments request is =
     let more : 1 + length arguments ≡ suc (length arguments) = omega arith in
     subst (λ n. (if takes_count command n then request_by (names.Ask question) command named given (text ∷ arguments)
     else Err (miscounted command named n))
-    ≡ Ok (asks command named (Ask text.now request))) more
+    ≡ Ok (asks named (Ask text.now request))) more
     (by_test (takes_count command (1 + length arguments)) command named text.now
     (record { question = question; arguments = arguments }) request _ is)
 by_command names.Script command named given text arguments request is = cc
@@ -254,7 +279,7 @@ by_command names.Each command named given text arguments request is = cc
 
 -- what is asked of each line, and of the input
 each_request : (command : Command) (named : ℕ) (lines : Lines) (given : Result RequestValue Mistake) (request : RequestValue)
-    → map_read (λ (r : RequestValue). asks command named (Each lines r)) given ≡ Ok (asks command named (Each lines request))
+    → map_read (λ (r : RequestValue). asks named (Each lines r)) given ≡ Ok (asks named (Each lines request))
     → given ≡ Ok request
 each_request command named lines (Err mistake) request is = cc
 each_request command named lines (Ok given) request is = ap Ok (ap (request_of_asked given) is)
@@ -265,7 +290,7 @@ each_asks_the_command command named lines given line arguments request is =
     (each_request command named lines (request_after command.name command named arguments) request is)
 
 input_request_is : (command : Command) (named : ℕ) (given : Result RequestValue Mistake) (request : RequestValue)
-    → map_read (λ (r : RequestValue). asks command named (AskInput r)) given ≡ Ok (asks command named (AskInput request))
+    → map_read (λ (r : RequestValue). asks named (AskInput r)) given ≡ Ok (asks named (AskInput request))
     → given ≡ Ok request
 input_request_is command named (Err mistake) request is = cc
 input_request_is command named (Ok given) request is = ap Ok (ap (request_of_asked given) is)

@@ -83,12 +83,6 @@ mistaken (Unread reason) status words input left old new errors grown text leave
     let said = leaves.2 in (said.0, said.1, rw (← said.2, ← line) begun)
 mistaken (Run error) status words input left old new errors grown text leaves is line begun ended = absurd (omega arith)
 
--- what a command line's failure leaves, the words' does
-pub words_leave : (words : List (Bor (List ℕ))) (input left old new : Option (List ℕ)) (line : CommandLineValue) (failure : Failure)
-    → reading words ≡ Some line → LeavesAfterFailure line input left old new failure → LeavesAtFailure words input left old new failure
-words_leave words input left old new line (Unread reason) asked leaves = absurd leaves
-words_leave words input left old new line (Run error) asked leaves = inr (line, asked, leaves)
-
 -- ---- an output that is the answer to a line
 
 module _ (line : CommandLineValue) (counts : List ℕ → List ℕ → Tally → Type 0) (strict : Bool) (input : Option (List ℕ))
@@ -123,19 +117,19 @@ module _ (options : OptionsValue) (settings : Settings) (said : AreSettings opti
   pub script_answers : (tally : Tally) (printed told : List ℕ) → IsOutput (λ text printed. PrintsAndCounts (manner_of options settings) text printed tally) input printed
       → IsToldOfScript (is_strict options) tally told
       → Answers input (record { options = options; invocation = Script }) (record { printed = printed; told = told; outcome = script_outcome (is_strict options) tally })
-  script_answers tally printed told is says = inl (settings, said, (tally, is, says, refl))
+  script_answers tally printed told is says = (Ok settings, said, (tally, is, says, refl))
 
   pub served_answers : (has_ids : Bool) (tally : Tally) (printed told : List ℕ)
       → IsOutput (λ text printed. PrintsAndCountsIn has_ids (manner_of options settings) text printed tally) input printed
       → IsToldOfScript (is_strict options) tally told
       → Answers input (record { options = options; invocation = Serve has_ids })
       (record { printed = printed; told = told; outcome = script_outcome (is_strict options) tally })
-  served_answers has_ids tally printed told is says = inl (settings, said, (tally, is, says, refl))
+  served_answers has_ids tally printed told is says = (Ok settings, said, (tally, is, says, refl))
 
   pub audit_answers : (workers : ℕ) (tally : Tally) (printed told : List ℕ)
       → IsOutput (λ text printed. PrintsAuditAndCounts (manner_of options settings) workers text printed tally) input printed → IsToldOfScript (is_strict options) tally told
       → Answers input (record { options = options; invocation = Audit workers }) (record { printed = printed; told = told; outcome = script_outcome (is_strict options) tally })
-  audit_answers workers tally printed told is says = inl (settings, said, (tally, is, says, refl))
+  audit_answers workers tally printed told is says = (Ok settings, said, (tally, is, says, refl))
 
 -- ---- an answer that is printed
 
@@ -166,20 +160,20 @@ pub input_answers : (input : Option (List ℕ)) (options : OptionsValue) (reques
     → AnswersInput settings request bytes plain → answer ≡ shown_answer options plain
     → Answers input (record { options = options; invocation = AskInput request }) answer
 input_answers input options request settings text bytes plain answer said known same is printed =
-    (plain, inl (settings, said, (text, known, subst (λ read. AnswersInput settings request read plain) same is)), printed)
+    (plain, (Ok settings, said, (text, known, subst (λ read. AnswersInput settings request read plain) same is)), printed)
 
 pub bad_input : (input : Option (List ℕ)) (options : OptionsValue) (request : RequestValue) (bad : BadValue) (plain answer : AnswerValue)
     → HasBadValue options bad → IsBadValue bad plain → answer ≡ shown_answer options plain
     → Answers input (record { options = options; invocation = AskInput request }) answer
-bad_input input options request bad plain answer has is printed = (plain, inr (bad, has, is), printed)
+bad_input input options request bad plain answer has is printed = (plain, (Err bad, has, is), printed)
 
 -- a script whose mapping isn't read
 pub bad_answers : (input : Option (List ℕ)) (options : OptionsValue) (invocation : InvocationValue) (bad : BadValue) (answer : AnswerValue)
     → runs_script invocation ≡ true → HasBadValue options bad → IsBadValue bad answer
     → Answers input (record { options = options; invocation = invocation }) answer
-bad_answers input options Script bad answer runs has is = inr (bad, has, is)
-bad_answers input options (Serve has_ids) bad answer runs has is = inr (bad, has, is)
-bad_answers input options (Audit workers) bad answer runs has is = inr (bad, has, is)
+bad_answers input options Script bad answer runs has is = (Err bad, has, is)
+bad_answers input options (Serve has_ids) bad answer runs has is = (Err bad, has, is)
+bad_answers input options (Audit workers) bad answer runs has is = (Err bad, has, is)
 bad_answers input options (Ask text request) bad answer runs has is = absurd (cc (runs))
 bad_answers input options (AskInput request) bad answer runs has is = absurd (cc (runs))
 bad_answers input options (Each lines request) bad answer runs has is = absurd (cc (runs))

@@ -1,6 +1,6 @@
 -- What the program prints for a command line, and whether it did what was asked for.
 use Rattle.std.specs.Prelude.{◌≡◌, ◌⊎◌, ℕ, Bool, true, false, MatchBool, List, [], ◌++◌, Option, Some, None, IfSome}
-use Rattle.std.specs.Prelude.{MatchOption, if◌then◌else◌, codes, string_bytes}
+use Rattle.std.specs.Prelude.{MatchOption, if◌then◌else◌, Result, Ok, Err, codes, string_bytes}
 use Rattle.std.specs.Io.KnownBytes.{Appends}
 use Rattle.std.specs.Str.{IsUtf8}
 use Rattle.sd_answer.specs.Answer.{line, fault_line}
@@ -15,6 +15,7 @@ use Rattle.sd_lines.specs.Lines.{unmarked}
 use Rattle.sd_lines.specs.declared.ending.Ending.{Ending}
 use Rattle.sd_lines.specs.declared.form.Form.{Form as LineForm}
 use Rattle.sd_command_line.specs.Scripts.{IsToldOfScript, manner_of, script_outcome}
+use Rattle.sd_json.specs.Text.{json_text}
 use Rattle.sd_json.specs.declared.tagging.Tagging.{Tagging}
 use Rattle.sd_json.specs.declared.tagging.Tagging.TheVariants.{Key, Nothing}
 use Rattle.sd_usage.specs.declared.row.Question.{Question}
@@ -28,7 +29,7 @@ use Rattle.sd_command_line.specs.declared.flags.Lines.{Lines}
 use Rattle.sd_command_line.specs.declared.input.ByteOrder.{ByteOrder}
 use Rattle.sd_command_line.specs.declared.each.Progress.{Progress}
 use Rattle.sd_command_line.specs.declared.each.Progress.TheVariants.{NoLine}
-use Rattle.sd_command_line.specs.Options.{OptionsValue, AreSettings, HasBadValue, is_strict, shown}
+use Rattle.sd_command_line.specs.Options.{OptionsValue, GivesSettings, is_json, is_strict}
 use Rattle.sd_text.specs.Alias.{in_domain}
 use Rattle.sd_commands.specs.Answer.{AnswerValue, AnswersQuestion, IsDone, IsFault, is_refusal}
 use Rattle.sd_commands.specs.Told.{told_line, IsSidReason}
@@ -65,16 +66,24 @@ IsBadValue (NoDomain text) answer =
 IsBadValue NoMapping answer = IsFault (fault_line (codes "mapping"))
     (told_line (codes "--mapping") (codes "no such mapping")) answer
 
--- an answer under the settings that the options say; or one of their values isn't read
+-- an answer under these settings, or to a value of an option that isn't read
+abbrev pub AnswersBy : (Settings → AnswerValue → Type 0) → Result Settings BadValue → AnswerValue → Type 0
+AnswersBy Answers (Ok settings) answer = Answers settings answer
+AnswersBy Answers (Err bad) answer = IsBadValue bad answer
+
+-- the same under what the options say
 abbrev pub AnswersWith : OptionsValue → (Settings → AnswerValue → Type 0) → AnswerValue → Type 0
 AnswersWith options Answers answer =
-    ((settings : Settings) × AreSettings options settings × Answers settings answer)
-    ⊎ ((bad : BadValue) × HasBadValue options bad × IsBadValue bad answer)
+    (settings : Result Settings BadValue) × GivesSettings options settings × AnswersBy Answers settings answer
 
 abbrev pub AnswersArguments : OptionsValue → InvocationValue → AnswerValue → Type 0
 AnswersArguments options invocation answer = AnswersWith options (λ settings. AnswersUnder settings invocation) answer
 
 -- ---- as it is printed
+
+-- a text as it stands, or an object for each of its lines
+abbrev pub printed_as : Bool → Tagging → List ℕ → List ℕ
+printed_as is_json tagging text = if is_json then json_text tagging text else text
 
 abbrev pub shown_of : Shown → AnswerValue
 shown_of shown = record {
@@ -84,7 +93,7 @@ shown_of shown = record {
 }
 
 abbrev pub shown_answer : OptionsValue → AnswerValue → AnswerValue
-shown_answer options answer = record answer { printed = shown options Nothing answer.printed }
+shown_answer options answer = record answer { printed = printed_as (is_json options) Nothing answer.printed }
 
 -- an answer, as it is printed
 abbrev pub Shows : OptionsValue → (AnswerValue → Type 0) → AnswerValue → Type 0
@@ -139,15 +148,15 @@ AnswersScript Prints input options settings answer =
 
 -- the answer to a line's text is the one command's, but a blank line is a fault; no text is told of a line that is too
 -- long
-abbrev pub AnswersText : OptionsValue → RequestValue → List ℕ → AnswerValue → Type 0
-AnswersText options request text answer = MatchBool (is_blank text)
+abbrev pub AnswersText : Result Settings BadValue → RequestValue → List ℕ → AnswerValue → Type 0
+AnswersText settings request text answer = MatchBool (is_blank text)
     (IsFault (fault_line (codes "blank")) [] answer)
-    (AnswersArguments options (Ask text request) answer)
+    (AnswersBy (λ said. AnswersUnder said (Ask text request)) settings answer)
 
-abbrev pub AnswersTold : OptionsValue → RequestValue → Option (List ℕ) → AnswerValue → Type 0
-AnswersTold options request None answer = IsFault (fault_line (codes "long")) [] answer
-AnswersTold options request (Some text) answer =
-    (IsUtf8 text × AnswersText options request text answer)
+abbrev pub AnswersTold : Result Settings BadValue → RequestValue → Option (List ℕ) → AnswerValue → Type 0
+AnswersTold settings request None answer = IsFault (fault_line (codes "long")) [] answer
+AnswersTold settings request (Some text) answer =
+    (IsUtf8 text × AnswersText settings request text answer)
     ⊎ ((IsUtf8 text → ⊥) × IsFault (fault_line (codes "utf8")) [] answer)
 
 -- what follows each answer: an empty line, where an answer may have several lines
@@ -159,9 +168,9 @@ after_answer questions.Lint = codes "\n"
 after_answer question = []
 
 -- a line's answer, and whether it is a refusal
-abbrev pub AnswersLine : OptionsValue → RequestValue → Option (List ℕ) → List ℕ → Bool → Type 0
-AnswersLine options request told printed is_refused =
-    (answer : AnswerValue) × AnswersTold options request told answer
+abbrev pub AnswersLine : Result Settings BadValue → RequestValue → Option (List ℕ) → List ℕ → Bool → Type 0
+AnswersLine settings request told printed is_refused =
+    (answer : AnswerValue) × AnswersTold settings request told answer
     × (printed ≡ answer.printed ++ after_answer request.question) × (is_refused ≡ is_refusal answer.outcome)
 
 -- a line without a key is a fault
@@ -170,41 +179,43 @@ IsKeyFault request printed is_refused =
     (printed ≡ fault_line (codes "key") ++ after_answer request.question) × (is_refused ≡ true)
 
 -- the same of a line that is a key, a tab and a text: each line of the text's answer begins with the key and the tab
-abbrev pub AnswersKeyAndText : OptionsValue → RequestValue → List ℕ → List ℕ → Bool → Type 0
-AnswersKeyAndText options request line printed is_refused =
-    (answer : List ℕ) × AnswersLine options request (Some (after_key line)) answer is_refused
+abbrev pub AnswersKeyAndText : Result Settings BadValue → RequestValue → List ℕ → List ℕ → Bool → Type 0
+AnswersKeyAndText settings request line printed is_refused =
+    (answer : List ℕ) × AnswersLine settings request (Some (after_key line)) answer is_refused
     × (printed ≡ tagged (key_of line) true answer)
 
-abbrev pub AnswersKeyed : OptionsValue → RequestValue → Option (List ℕ) → List ℕ → Bool → Type 0
-AnswersKeyed options request None printed is_refused = AnswersLine options request None printed is_refused
-AnswersKeyed options request (Some line) printed is_refused = MatchBool (has_key line)
-    (AnswersKeyAndText options request line printed is_refused)
+abbrev pub AnswersKeyed : Result Settings BadValue → RequestValue → Option (List ℕ) → List ℕ → Bool → Type 0
+AnswersKeyed settings request None printed is_refused = AnswersLine settings request None printed is_refused
+AnswersKeyed settings request (Some line) printed is_refused = MatchBool (has_key line)
+    (AnswersKeyAndText settings request line printed is_refused)
     (IsKeyFault request printed is_refused)
 
-abbrev pub AnswersLineIn : Bool → OptionsValue → RequestValue → Option (List ℕ) → List ℕ → Bool → Type 0
-AnswersLineIn has_keys options request told printed is_refused = MatchBool has_keys
-    (AnswersKeyed options request told printed is_refused)
-    (AnswersLine options request told printed is_refused)
+abbrev pub AnswersLineIn : Bool → Result Settings BadValue → RequestValue → Option (List ℕ) → List ℕ → Bool → Type 0
+AnswersLineIn has_keys settings request told printed is_refused = MatchBool has_keys
+    (AnswersKeyed settings request told printed is_refused)
+    (AnswersLine settings request told printed is_refused)
 
 abbrev pub tagging_of : Bool → Tagging
 tagging_of has_keys = if has_keys then Key else Nothing
 
 -- the same as it is printed, and how the lines up to this one were answered
-abbrev pub AnswersNext : Bool → OptionsValue → RequestValue → Progress → Option (List ℕ) → List ℕ → Progress → Type 0
-AnswersNext has_keys options request before told printed after =
-    (plain : List ℕ) × (is_refused : Bool) × AnswersLineIn has_keys options request told plain is_refused
-    × (printed ≡ shown options (tagging_of has_keys) plain) × (after ≡ with_line before is_refused)
+abbrev pub AnswersNext : (has_keys is_json : Bool) → Result Settings BadValue → RequestValue → Progress
+    → Option (List ℕ) → List ℕ → Progress → Type 0
+AnswersNext has_keys is_json settings request before told printed after =
+    (plain : List ℕ) × (is_refused : Bool) × AnswersLineIn has_keys settings request told plain is_refused
+    × (printed ≡ printed_as is_json (tagging_of has_keys) plain) × (after ≡ with_line before is_refused)
 
 -- the lines of an input, of which one that is too long is answered too
 abbrev pub form_of : Ending → LineForm
 form_of ending = record { ending = ending; skips_mark = true; stops_at_long = false; line_by_line = false }
 
--- the lines' answers, one after the other; refused where one is or where there is none
+-- the lines' answers, one after the other, all under the same settings; refused where one is or where there is none
 abbrev pub AnswersEach : OptionsValue → Lines → RequestValue → Option (List ℕ) → AnswerValue → Type 0
 AnswersEach options lines request input answer =
-    (text : List ℕ) × (progress : Progress) × IfSome input (λ bytes. text ≡ bytes)
-    × PrintsAndLeaves (form_of lines.ending) (AnswersNext lines.has_keys options request) NoLine text answer.printed
-    progress
+    (settings : Result Settings BadValue) × GivesSettings options settings
+    × (text : List ℕ) × (progress : Progress) × IfSome input (λ bytes. text ≡ bytes)
+    × PrintsAndLeaves (form_of lines.ending) (AnswersNext lines.has_keys (is_json options) settings request) NoLine text
+    answer.printed progress
     × (answer.told ≡ told_of_lines progress) × (answer.outcome ≡ outcome_of_lines progress)
 
 -- known bytes grow by them

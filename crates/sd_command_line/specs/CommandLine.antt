@@ -21,7 +21,7 @@ use Rattle.sd_command_line.specs.declared.command_line.Invocation.TheVariants as
 use Rattle.sd_command_line.specs.Flags.{flags_in, lines_by, no_flags}
 use Rattle.sd_command_line.specs.declared.flags.GivenFlags.{GivenFlags}
 use Rattle.sd_command_line.specs.declared.flags.Lines.{Lines}
-use Rattle.sd_command_line.specs.Mistake.{map_read, mistake, then_read}
+use Rattle.sd_command_line.specs.Mistake.{map_read, mistake, then_read, word_at}
 use Rattle.sd_command_line.specs.declared.mistake.Mistake.{Mistake}
 use Rattle.sd_command_line.specs.declared.mistake.Wrong.TheVariants as wrongs
 use Rattle.sd_command_line.specs.Options.{OptionsValue, is_from_input, misplaced_in, no_options, options_in, options_of}
@@ -63,14 +63,13 @@ pub record CommandLineValue : Type 0 where
 abbrev pub command_line_of : CommandLine → CommandLineValue
 command_line_of line = record { options = options_of line.options; invocation = invocation_of line.invocation }
 
--- what is asked for, and the command, with how many arguments from it on: of `each` the one for its lines
+-- what is asked for, and how many arguments there are from the command on: of `each` from the one for its lines
 pub record AskedValue : Type 0 where
-  pub command : Command
   pub named : ℕ
   pub invocation : InvocationValue
 
 abbrev pub asked_of : Asked → AskedValue
-asked_of asked = record { command = asked.command; named = asked.named; invocation = invocation_of asked.invocation }
+asked_of asked = record { named = asked.named; invocation = invocation_of asked.invocation }
 
 abbrev pub is_help_flag : List ℕ → Bool
 is_help_flag word = bytes_eq word (codes "-h") || bytes_eq word (codes "--help")
@@ -127,13 +126,13 @@ request_after name command named arguments = Err (mistake named named wrongs.NoT
 -- what is asked of each line
 abbrev pub line_request : Command → ℕ → Lines → List (Bor (List ℕ)) → Result AskedValue Mistake
 line_request command named lines arguments =
-    map_read (λ request. record { command = command; named = named; invocation = Each lines request })
+    map_read (λ request. record { named = named; invocation = Each lines request })
     (request_after command.name command named arguments)
 
 -- what is asked of the text that the input is
 abbrev pub input_request : Command → ℕ → List (Bor (List ℕ)) → Result AskedValue Mistake
 input_request command named arguments =
-    map_read (λ request. record { command = command; named = named; invocation = AskInput request })
+    map_read (λ request. record { named = named; invocation = AskInput request })
     (request_after command.name command named arguments)
 
 -- the one argument after `help` names no command
@@ -159,17 +158,13 @@ each_in lines (word ∷ words) =
 -- what a command asks for, with these own options and with these arguments, as many as it takes
 abbrev pub request_by : CommandName → Command → ℕ → GivenFlags → List (Bor (List ℕ)) → Result AskedValue Mistake
 request_by (names.Ask question) command named given (text ∷ arguments) =
-    Ok (record {
-      command = command;
-      named = named;
-      invocation = Ask text.now (record { question = question; arguments = arguments });
-    })
+    Ok (record { named = named; invocation = Ask text.now (record { question = question; arguments = arguments }) })
 request_by names.Script command named given arguments =
-    Ok (record { command = command; named = named; invocation = Script })
+    Ok (record { named = named; invocation = Script })
 request_by names.Serve command named given arguments =
-    Ok (record { command = command; named = named; invocation = Serve given.ids })
+    Ok (record { named = named; invocation = Serve given.ids })
 request_by names.Audit command named given (workers ∷ arguments) =
-    map_read (λ n. record { command = command; named = named; invocation = Audit n })
+    map_read (λ n. record { named = named; invocation = Audit n })
     (ok_or (workers_of workers.now)
     (mistake (length (workers ∷ arguments)) named (wrongs.NoWorkers command)))
 request_by names.Each command named given arguments = each_in (lines_by given) arguments
@@ -199,7 +194,7 @@ command_in from_input (word ∷ words) =
 -- the same, where each option before it may go there
 abbrev pub with_options : OptionsValue → List (Bor (List ℕ)) → AskedValue → Result CommandLineValue Mistake
 with_options options words asked =
-    elim (misplaced_in asked.command asked.named options words) [
+    elim (misplaced_in (word_at words asked.named) asked.named options words) [
       | Some wrong ↦ Err wrong
       | None ↦ Ok (record { options = options; invocation = asked.invocation })
     ]
@@ -269,19 +264,19 @@ runs_script (Audit workers) = true
 runs_script invocation = false
 
 -- whether what is asked for is answered from the input: a script, or a question of it or of each line
-abbrev pub is_script : InvocationValue → Bool
-is_script Script = true
-is_script (Serve has_ids) = true
-is_script (Audit workers) = true
-is_script (AskInput request) = true
-is_script (Each lines request) = true
-is_script (Ask text request) = false
-is_script (Help command) = false
-is_script Version = false
+abbrev pub uses_input : InvocationValue → Bool
+uses_input Script = true
+uses_input (Serve has_ids) = true
+uses_input (Audit workers) = true
+uses_input (AskInput request) = true
+uses_input (Each lines request) = true
+uses_input (Ask text request) = false
+uses_input (Help command) = false
+uses_input Version = false
 
 -- the arguments ask for what is answered from the input
 abbrev pub asks_input : List (Bor (List ℕ)) → Bool
-asks_input words = option_map_or (λ line. is_script line.invocation) (reading words) false
+asks_input words = option_map_or (λ line. uses_input line.invocation) (reading words) false
 
 -- the arguments ask for an audit
 abbrev pub IsAudit : List (Bor (List ℕ)) → Type 0

@@ -5,12 +5,13 @@ use Rattle.std.specs.List.{list_any}
 use Rattle.std.specs.Option.{option_map_or}
 use Rattle.std.specs.Borrow.{Bor}
 use Rattle.sd_usage.specs.declared.row.Command.{Command}
+use Rattle.sd_usage.specs.declared.row.OptionName.TheVariants.{Domain, Names}
 use Rattle.sd_usage.specs.declared.row.Question.TheVariants as questions
 use Rattle.sd_usage.specs.declared.table.TheConstants.{COMMANDS, OPTIONS}
 use Rattle.sd_command_line.specs.CommandLine.{InvocationValue, Ask, AskInput, Script, Serve, Audit, Each, Help}
 use Rattle.sd_command_line.specs.CommandLine.{Version, CommandLineValue, RequestValue, input_request, line_request}
 use Rattle.sd_command_line.specs.CommandLine.{reading, request_on}
-use Rattle.sd_command_line.specs.Options.{no_options}
+use Rattle.sd_command_line.specs.Options.{no_options, with_value}
 use Rattle.sd_command_line.specs.declared.flags.GivenFlags.{GivenFlags}
 use Rattle.sd_command_line.specs.declared.flags.Lines.{Lines}
 
@@ -66,7 +67,7 @@ abbrev pub OptionsKeepTexts : Type 0
 OptionsKeepTexts = (name option domain sid word dashes sddl user mask : Bor (List ℕ)) (words : List (Bor (List ℕ)))
     → option.now ≡ codes "--names" → domain.now ≡ codes "--domain" → word.now ≡ codes "why" → dashes.now ≡ codes "--"
     → reading (name ∷ option ∷ domain ∷ sid ∷ word ∷ dashes ∷ sddl ∷ user ∷ mask ∷ words) ≡ Some (record {
-      options = record no_options { names = Some []; domain = Some sid.now };
+      options = with_value (with_value no_options Names []) Domain sid.now;
       invocation = Ask sddl.now (record { question = questions.Why; arguments = user ∷ mask ∷ words });
     })
 
@@ -75,15 +76,15 @@ abbrev pub EachAsksTheCommand : Type 0
 EachAsksTheCommand = (command : Command) (named : ℕ) (lines : Lines) (given : GivenFlags) (line : Bor (List ℕ))
     (arguments : List (Bor (List ℕ))) (request : RequestValue)
     → line_request command named lines arguments
-    ≡ Ok (record { command = command; named = named; invocation = Each lines request })
+    ≡ Ok (record { named = named; invocation = Each lines request })
     → request_on command named given (line ∷ arguments)
-    ≡ Ok (record { command = command; named = named; invocation = Ask line.now request })
+    ≡ Ok (record { named = named; invocation = Ask line.now request })
 
 -- what is asked of the input is what the command asks with the input's text as its first argument
 abbrev pub InputAsksTheCommand : Type 0
 InputAsksTheCommand = (command : Command) (named : ℕ) (given : GivenFlags) (text : Bor (List ℕ))
     (arguments : List (Bor (List ℕ))) (request : RequestValue)
     → input_request command named arguments
-    ≡ Ok (record { command = command; named = named; invocation = AskInput request })
+    ≡ Ok (record { named = named; invocation = AskInput request })
     → request_on command named given (text ∷ arguments)
-    ≡ Ok (record { command = command; named = named; invocation = Ask text.now request })
+    ≡ Ok (record { named = named; invocation = Ask text.now request })

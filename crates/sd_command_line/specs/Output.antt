@@ -17,7 +17,8 @@ use Rattle.sd_command_line.specs.CommandLine.{CommandLineValue, RequestValue, Ea
 use Rattle.sd_command_line.specs.CommandLine.{mistake_in}
 use Rattle.sd_command_line.specs.Mistake.{message}
 use Rattle.sd_command_line.specs.declared.mistake.Mistake.{Mistake}
-use Rattle.sd_command_line.specs.Options.{AreSettings}
+use Rattle.sd_command_line.specs.Options.{AreSettings, GivesSettings, OptionsValue, is_json}
+use Rattle.sd_command_line.specs.declared.options.BadValue.{BadValue}
 use Rattle.sd_command_line.specs.declared.each.Progress.TheVariants.{NoLine}
 use Rattle.sd_command_line.specs.Scripts.{manner_of}
 use Rattle.sd_commands.specs.declared.answer.Outcome.{Outcome}
@@ -60,12 +61,19 @@ pub record LeavesServed (line : CommandLineValue) (input left old new : Option (
   pub answers : LeavesAnswers LINES (PrintsIn has_ids (manner_of line.options settings)) input left old new error
 
 -- the answers to the lines of an input, as far as it came
+abbrev pub LeavesEachAnswers : OptionsValue → Lines → RequestValue → Option (List ℕ) → Option (List ℕ)
+    → Option (List ℕ) → Option (List ℕ) → RunError → Type 0
+LeavesEachAnswers options lines request input left old new error =
+    (settings : Result Settings BadValue) × GivesSettings options settings
+    × LeavesAnswers (form_of lines.ending)
+    (Prints (form_of lines.ending) (AnswersNext lines.has_keys (is_json options) settings request) NoLine)
+    input left old new error
+
 pub record LeavesEach (line : CommandLineValue) (input left old new : Option (List ℕ)) (error : RunError) : Type 0 where
   pub lines : Lines
   pub request : RequestValue
   pub asked : line.invocation ≡ Each lines request
-  pub answers : LeavesAnswers (form_of lines.ending)
-      (Prints (form_of lines.ending) (AnswersNext lines.has_keys line.options request) NoLine) input left old new error
+  pub answers : LeavesEachAnswers line.options lines request input left old new error
 
 -- what was answered line by line until then
 abbrev pub LeavesLinesOf : CommandLineValue → Option (List ℕ) → Option (List ℕ) → Option (List ℕ) → Option (List ℕ)

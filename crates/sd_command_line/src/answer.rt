@@ -2,7 +2,7 @@
 ghost use Rattle.std.specs.Prelude.{◌≡◌, ℕ, List, Option, false, IfOk};
 ghost use Rattle.sd_commands.specs.Answer.{answer_of};
 ghost use Rattle.sd_command_line.specs.Answer.{Answers, AnswersArguments, AnswersUnder, IsBadValue, shown_of};
-ghost use Rattle.sd_command_line.specs.CommandLine.{command_line_of, invocation_of, is_script};
+ghost use Rattle.sd_command_line.specs.CommandLine.{command_line_of, invocation_of, uses_input};
 ghost use Rattle.sd_command_line.specs.Options.{options_of};
 
 use crate::command_line::{CommandLine, Invocation};
@@ -16,7 +16,7 @@ use std::alloc::{AllocError, Global};
 
 /// The answer to a command line that needs no input, as it is printed.
 pub(crate) fn answer_to(alloc: Global, line: CommandLine<'_>) -> Result<Shown, AllocError>
-    requires { is_script (invocation_of line.invocation) ≡ false }
+    requires { uses_input (invocation_of line.invocation) ≡ false }
     ensures { (input : Option (List ℕ))
         → IfOk result (λ shown. Answers input (command_line_of line.entry) (shown_of shown)) }
 {
@@ -26,7 +26,7 @@ pub(crate) fn answer_to(alloc: Global, line: CommandLine<'_>) -> Result<Shown, A
 
 /// The same before its lines are objects.
 pub(crate) fn plain_answer(alloc: Global, line: CommandLine<'_>) -> Result<Answer, AllocError>
-    requires { is_script (invocation_of line.invocation) ≡ false }
+    requires { uses_input (invocation_of line.invocation) ≡ false }
     ensures { IfOk result (λ answer.
         AnswersArguments (options_of line.entry.options) (invocation_of line.entry.invocation) (answer_of answer)) }
 {
@@ -42,7 +42,7 @@ fn answer_under(
     settings: Settings,
     invocation: Invocation<'_>,
 ) -> Result<Answer, AllocError>
-    requires { is_script (invocation_of invocation) ≡ false }
+    requires { uses_input (invocation_of invocation) ≡ false }
     ensures { IfOk result (λ answer. AnswersUnder settings (invocation_of invocation.entry) (answer_of answer)) }
 {
     match invocation {

@@ -2,14 +2,14 @@
 ghost use Rattle.std.specs.Prelude.{◌≡◌, option_map};
 ghost use Rattle.sd_command_line.specs.CommandLine.{arguments_in, asked_by, asked_of, command_help, command_in};
 ghost use Rattle.sd_command_line.specs.CommandLine.{command_line_of, count_of, each_in, help_on, input_request};
-ghost use Rattle.sd_command_line.specs.CommandLine.{invocation_of, is_script, line_request, miscounted, parsed};
+ghost use Rattle.sd_command_line.specs.CommandLine.{invocation_of, uses_input, line_request, miscounted, parsed};
 ghost use Rattle.sd_command_line.specs.CommandLine.{request_after, request_by, request_of, request_on, run_by};
 ghost use Rattle.sd_command_line.specs.CommandLine.{shown_by, with_options, workers_of};
 ghost use Rattle.sd_command_line.specs.Mistake.{map_read};
 ghost use Rattle.sd_command_line.specs.Options.{options_of};
 
 use crate::flags::{GivenFlags, Lines, flags_in};
-use crate::mistake::{Mistake, Wrong};
+use crate::mistake::{Mistake, Wrong, word_at};
 use crate::options::{Options, misplaced_in, options_in};
 use crate::words::{is_help, is_help_flag, is_version_flag, no_command};
 use sd_usage::{Command, CommandName, Flag, Question, command_named};
@@ -44,8 +44,8 @@ pub(crate) enum Invocation<'a> {
 
 impl Invocation<'_> {
     /// Whether it is answered from the input.
-    pub(crate) fn is_from_input(self) -> bool
-        ensures { result ≡ is_script (invocation_of self.entry) }
+    pub(crate) fn uses_input(self) -> bool
+        ensures { result ≡ uses_input (invocation_of self.entry) }
     {
         match self {
             Invocation::AskInput { .. }
@@ -65,11 +65,10 @@ pub(crate) struct Request<'a> {
     pub(crate) arguments: &'a [&'a str],
 }
 
-/// What is asked for, and the command: of `each` the one for its lines.
+/// What is asked for.
 #[derive(Clone, Copy)]
 struct Asked<'a> {
-    command: Command,
-    /// How many arguments there are from the command on.
+    /// How many arguments there are from the command on: of `each` from the one for its lines.
     named: usize,
     invocation: Invocation<'a>,
 }
@@ -125,7 +124,7 @@ fn with_options<'a>(
     ensures { map_read command_line_of result
         ≡ with_options (options_of options.entry) words.now (asked_of asked.entry) }
 {
-    match misplaced_in(asked.command, asked.named, options, words) {
+    match misplaced_in(word_at(words, asked.named), asked.named, options, words) {
         Some(mistake) => Err(mistake),
         None => Ok(CommandLine {
             options,
@@ -205,7 +204,6 @@ fn request_by<'a>(
 {
     match (command.name, arguments) {
         (CommandName::Ask(question), [text, arguments @ ..]) => Ok(Asked {
-            command,
             named,
             invocation: Invocation::Ask {
                 text,
@@ -216,12 +214,10 @@ fn request_by<'a>(
             },
         }),
         (CommandName::Script, _) => Ok(Asked {
-            command,
             named,
             invocation: Invocation::Script,
         }),
         (CommandName::Serve, _) => Ok(Asked {
-            command,
             named,
             invocation: Invocation::Serve {
                 has_ids: given.has(Flag::Ids),
@@ -229,7 +225,6 @@ fn request_by<'a>(
         }),
         (CommandName::Audit, [workers, ..]) => match workers_in(workers) {
             Some(workers) => Ok(Asked {
-                command,
                 named,
                 invocation: Invocation::Audit { workers },
             }),
@@ -267,7 +262,6 @@ fn line_request<'a>(
 {
     match request_after(command, named, arguments) {
         Ok(request) => Ok(Asked {
-            command,
             named,
             invocation: Invocation::Each { lines, request },
         }),
@@ -285,7 +279,6 @@ fn input_request<'a>(
 {
     match request_after(command, named, arguments) {
         Ok(request) => Ok(Asked {
-            command,
             named,
             invocation: Invocation::AskInput { request },
         }),

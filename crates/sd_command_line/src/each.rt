@@ -1,8 +1,6 @@
 //! The answers of one command to each line of an input.
 ghost use Rattle.std.specs.Prelude.{◌≡◌, ◌≤◌, ◌||◌, ◌++◌, true, false, IfErr, IfNone, IfOk, IfSome, length};
 ghost use Rattle.std.specs.Prelude.{option_map, string_bytes};
-ghost use Rattle.sd_lines.specs.Answers.{Prints};
-ghost use Rattle.sd_lines.specs.Output.{LeavesAnswers};
 ghost use Rattle.sd_stream.specs.Watched.{has_failed, inner_of};
 ghost use Rattle.sd_stream.specs.Whole.{is_read_error, is_write_error};
 ghost use Rattle.sd_commands.specs.Answer.{answer_of, is_refusal};
@@ -12,13 +10,15 @@ ghost use Rattle.sd_command_line.specs.CommandLine.{request_of};
 ghost use Rattle.sd_command_line.specs.Each.{after_key, has_feed, has_key, key_len, key_of, no_line_note};
 ghost use Rattle.sd_command_line.specs.Each.{outcome_of_lines, told_of_lines, with_line};
 ghost use Rattle.sd_command_line.specs.Options.{options_of};
-ghost use Rattle.sd_command_line.specs.declared.each.Progress.TheVariants.{NoLine};
+ghost use Rattle.sd_command_line.specs.Output.{LeavesEachAnswers};
 
-use crate::answer::plain_answer;
-use crate::command_line::{CommandLine, Invocation, Request};
+use crate::answer::bad_value;
+use crate::command_line::Request;
+use crate::flags::Lines;
 use crate::input::is_blank;
-use crate::options::Options;
-use sd_commands::{Answer, Outcome, fault, told_line};
+use crate::options::{BadValue, Options};
+use crate::shown::printed_as;
+use sd_commands::{Answer, Outcome, Settings, answer_question, fault, told_line};
 use sd_json::Tagging;
 use sd_lines::{Answers, Ending, Form, answer_lines};
 use sd_script::tagged;
@@ -89,18 +89,19 @@ struct Answered {
 #[derive(Clone, Copy, Debug)]
 pub(crate) struct LineQuestion<'a> {
     /// Whether each line begins with a key and a tab.
-    pub(crate) has_keys: bool,
-    pub(crate) options: Options<'a>,
-    pub(crate) request: Request<'a>,
+    has_keys: bool,
+    /// Whether each line of its answer is printed as an object of JSON.
+    is_json: bool,
+    /// What its options say, or which of their values isn't read.
+    settings: Result<Settings, BadValue<'a>>,
+    request: Request<'a>,
 }
 
 impl Answers for LineQuestion<'_> {
     type State = Progress;
 
-    ghost answers = { λ question before told printed after. AnswersNext question.has_keys
-        (options_of question.options)
-        (request_of question.request)
-        before told printed after };
+    ghost answers = { λ question before told printed after. AnswersNext question.has_keys question.is_json
+        question.settings (request_of question.request) before told printed after };
 
     fn answer(
         &self,
@@ -114,7 +115,7 @@ impl Answers for LineQuestion<'_> {
         } else {
             self.answer_line(alloc, line)?
         };
-        let printed = self.options.shown(alloc, self.tagging(), answered.printed)?;
+        let printed = printed_as(alloc, self.is_json, self.tagging(), answered.printed)?;
         text.extend_from_slice(&printed)?;
         *progress = progress.with_line(answered.outcome);
         Ok(())
@@ -135,7 +136,7 @@ impl LineQuestion<'_> {
     /// The answer to a line that is a key, a tab and a text: the text's, each line of which begins with the key and the
     /// tab. A line without a key is a fault.
     fn answer_keyed(&self, alloc: Global, line: Option<&[u8]>) -> Result<Answered, AllocError>
-        ensures { IfOk result (λ answered. AnswersKeyed (options_of self.now.options) (request_of self.now.request)
+        ensures { IfOk result (λ answered. AnswersKeyed self.now.settings (request_of self.now.request)
             (option_map (λ bytes. bytes.now) line.entry) answered.printed.items (is_refusal answered.outcome)) }
     {
         let Some(bytes) = line else {
@@ -153,7 +154,7 @@ impl LineQuestion<'_> {
 
     /// The answer to a line, and what follows it.
     fn answer_line(&self, alloc: Global, line: Option<&[u8]>) -> Result<Answered, AllocError>
-        ensures { IfOk result (λ answered. AnswersLine (options_of self.now.options) (request_of self.now.request)
+        ensures { IfOk result (λ answered. AnswersLine self.now.settings (request_of self.now.request)
             (option_map (λ bytes. bytes.now) line.entry) answered.printed.items (is_refusal answered.outcome)) }
     {
         self.ended(alloc, self.answer_told(alloc, line)?)
@@ -176,7 +177,7 @@ impl LineQuestion<'_> {
 
     /// The answer to a line, of which there is no text where it is too long.
     fn answer_told(&self, alloc: Global, line: Option<&[u8]>) -> Result<Answer, AllocError>
-        ensures { IfOk result (λ answer. AnswersTold (options_of self.now.options) (request_of self.now.request)
+        ensures { IfOk result (λ answer. AnswersTold self.now.settings (request_of self.now.request)
             (option_map (λ bytes. bytes.now) line.entry) (answer_of answer)) }
     {
         let Some(bytes) = line else {
@@ -190,22 +191,20 @@ impl LineQuestion<'_> {
 
     /// The answer to a line's text.
     fn answer_text(&self, alloc: Global, text: &str) -> Result<Answer, AllocError>
-        ensures { IfOk result (λ answer. AnswersText (options_of self.now.options) (request_of self.now.request)
+        ensures { IfOk result (λ answer. AnswersText self.now.settings (request_of self.now.request)
             text.now (answer_of answer)) }
     {
         if is_blank(text.as_bytes()) {
             return fault(alloc, "blank", String::new(alloc));
         }
-        plain_answer(
-            alloc,
-            CommandLine {
-                options: self.options,
-                invocation: Invocation::Ask {
-                    text,
-                    request: self.request,
-                },
-            },
-        )
+        let Request {
+            question,
+            arguments,
+        } = self.request;
+        match self.settings {
+            Ok(settings) => answer_question(alloc, settings, question, text, arguments),
+            Err(bad) => bad_value(alloc, bad),
+        }
     }
 }
 
@@ -265,33 +264,29 @@ fn form_of(ending: Ending) -> Form
 /// Answers each line of an input.
 pub(crate) fn answer_each<R: Read, W: Write>(
     alloc: Global,
-    question: LineQuestion<'_>,
-    ending: Ending,
+    options: Options<'_>,
+    lines: Lines,
+    request: Request<'_>,
     reader: &mut Watched<R>,
     writer: &mut Watched<W>,
 ) -> Result<Progress, RunError>
-    ensures ok { IfOk result (AppendsEach (options_of question.entry.options)
-        (record { ending = ending; has_keys = question.entry.has_keys })
-        (request_of question.entry.request)
+    ensures ok { IfOk result (AppendsEach (options_of options.entry) lines (request_of request.entry)
         (R.remaining (inner_of reader.old))
         (W.contents (inner_of writer.old)) (W.contents (inner_of writer.new))) }
-    ensures err { IfErr result (LeavesAnswers (form_of ending)
-        (Prints (form_of ending)
-        (AnswersNext question.entry.has_keys (options_of question.entry.options)
-        (request_of question.entry.request)) NoLine)
+    ensures err { IfErr result (LeavesEachAnswers (options_of options.entry) lines (request_of request.entry)
         (R.remaining (inner_of reader.old)) (R.remaining (inner_of reader.new))
         (W.contents (inner_of writer.old)) (W.contents (inner_of writer.new))) }
     ensures read { has_failed reader.new ≡ (has_failed reader.old || is_read_error result) }
     ensures write { has_failed writer.new ≡ (has_failed writer.old || is_write_error result) }
 {
+    let question = LineQuestion {
+        has_keys: lines.has_keys,
+        is_json: options.is_json(),
+        settings: options.settings(),
+        request,
+    };
+    let form = form_of(lines.ending);
     let mut progress = Progress::NoLine;
-    answer_lines(
-        alloc,
-        &question,
-        &mut progress,
-        form_of(ending),
-        reader,
-        writer,
-    )?;
+    answer_lines(alloc, &question, &mut progress, form, reader, writer)?;
     Ok(progress)
 }

@@ -97,8 +97,8 @@ pub(crate) fn message(alloc: Global, words: &[&str], mistake: Mistake) -> Result
 }
 
 /// The argument from which on there are so many, or an empty text.
-fn word_at<'a>(words: &'a [&'a str], left: usize) -> &'a str
-    ensures { result.now ≡ word_at words.entry.now left }
+pub(crate) fn word_at<'a>(words: &[&'a str], left: usize) -> &'a str
+    ensures { result.now ≡ word_at words.now left }
 {
     match words {
         [] => "",

@@ -5,20 +5,18 @@ ghost use Rattle.sd_text.specs.Domain.{domain_sid};
 ghost use Rattle.sd_text.specs.Grammar.{Spells};
 ghost use Rattle.sd_text.specs.Sid.{sid_text};
 ghost use Rattle.sd_command_line.specs.Scripts.{manner_of};
-ghost use Rattle.sd_command_line.specs.Options.{AreSettings, GivesDomain, HasBadValue, IsNoDomain, byte_form_of, given};
-ghost use Rattle.sd_command_line.specs.Options.{has, is_from_input, is_strict, misplaced_in, no_options, options_in};
-ghost use Rattle.sd_command_line.specs.Options.{options_of, parted, paths_of, shown, spelling_of, with_option};
-ghost use Rattle.sd_command_line.specs.Options.{with_value, wrong_option};
+ghost use Rattle.sd_command_line.specs.Options.{GivesDomain, GivesSettings, HasBadValue, IsNoDomain, byte_form_of};
+ghost use Rattle.sd_command_line.specs.Options.{given, has, is_from_input, is_json, is_strict, misplaced_in};
+ghost use Rattle.sd_command_line.specs.Options.{no_options, options_in, options_of, parted, paths_of, spelling_of};
+ghost use Rattle.sd_command_line.specs.Options.{with_option, with_value, wrong_option};
 ghost use Rattle.sd_command_line.specs.Mistake.{map_read};
 
 use crate::mistake::{Mistake, Wrong};
 use sd_answer::Spelling;
 use sd_commands::{ByteForm, Settings, kind_given, mapping_given};
-use sd_json::{Tagging, json_text};
 use sd_script::{Manner, PathSpelling};
 use sd_text::{Aliases, Domain, read_sid_text};
-use sd_usage::{Command, OptionName, ProgramOption, option_named};
-use std::alloc::{AllocError, Global};
+use sd_usage::{OPTION_COUNT, OptionName, ProgramOption, option_named, takes_option};
 
 /// The value of an option that isn't read.
 #[derive(Clone, Copy, Debug)]
@@ -29,22 +27,11 @@ pub(crate) enum BadValue<'a> {
     NoMapping,
 }
 
-/// The options of a command line, which go before the command, each at most once: the values of those that are given,
-/// empty for one without a value.
+/// The options of a command line, which go before the command, each at most once.
 #[derive(Clone, Copy, Debug)]
 pub(crate) struct Options<'a> {
-    stdin: Option<&'a str>,
-    names: Option<&'a str>,
-    without_sacl: Option<&'a str>,
-    require_dacl: Option<&'a str>,
-    base64: Option<&'a str>,
-    loose: Option<&'a str>,
-    percent: Option<&'a str>,
-    strict: Option<&'a str>,
-    domain: Option<&'a str>,
-    aliases: Option<&'a str>,
-    mapping: Option<&'a str>,
-    json: Option<&'a str>,
+    /// At the place of each its value, where it is given: empty for one without a value.
+    values: [Option<&'a str>; OPTION_COUNT],
 }
 
 impl<'a> Options<'a> {
@@ -53,18 +40,7 @@ impl<'a> Options<'a> {
         ensures { options_of result ≡ no_options }
     {
         Options {
-            stdin: None,
-            names: None,
-            without_sacl: None,
-            require_dacl: None,
-            base64: None,
-            loose: None,
-            percent: None,
-            strict: None,
-            domain: None,
-            aliases: None,
-            mapping: None,
-            json: None,
+            values: [None; OPTION_COUNT],
         }
     }
 
@@ -72,20 +48,7 @@ impl<'a> Options<'a> {
     fn given(self, option: OptionName) -> Option<&'a str>
         ensures { option_map (λ text. text.now) result ≡ given (options_of self.entry) option }
     {
-        match option {
-            OptionName::Stdin => self.stdin,
-            OptionName::Names => self.names,
-            OptionName::WithoutSacl => self.without_sacl,
-            OptionName::RequireDacl => self.require_dacl,
-            OptionName::Base64 => self.base64,
-            OptionName::Loose => self.loose,
-            OptionName::Percent => self.percent,
-            OptionName::Strict => self.strict,
-            OptionName::Domain => self.domain,
-            OptionName::Aliases => self.aliases,
-            OptionName::Mapping => self.mapping,
-            OptionName::Json => self.json,
-        }
+        self.values[option.place()]
     }
 
     fn has(self, option: OptionName) -> bool
@@ -101,57 +64,9 @@ impl<'a> Options<'a> {
     fn with_value(self, option: OptionName, value: &'a str) -> Options<'a>
         ensures { options_of result ≡ with_value (options_of self.entry) option value.now }
     {
-        let value = Some(value);
-        match option {
-            OptionName::Stdin => Options {
-                stdin: value,
-                ..self
-            },
-            OptionName::Names => Options {
-                names: value,
-                ..self
-            },
-            OptionName::WithoutSacl => Options {
-                without_sacl: value,
-                ..self
-            },
-            OptionName::RequireDacl => Options {
-                require_dacl: value,
-                ..self
-            },
-            OptionName::Base64 => Options {
-                base64: value,
-                ..self
-            },
-            OptionName::Loose => Options {
-                loose: value,
-                ..self
-            },
-            OptionName::Percent => Options {
-                percent: value,
-                ..self
-            },
-            OptionName::Strict => Options {
-                strict: value,
-                ..self
-            },
-            OptionName::Domain => Options {
-                domain: value,
-                ..self
-            },
-            OptionName::Aliases => Options {
-                aliases: value,
-                ..self
-            },
-            OptionName::Mapping => Options {
-                mapping: value,
-                ..self
-            },
-            OptionName::Json => Options {
-                json: value,
-                ..self
-            },
-        }
+        let mut values = self.values;
+        values[option.place()] = Some(value);
+        Options { values }
     }
 
     /// These and one more, from which on there are so many arguments, unless it is one of these already.
@@ -172,11 +87,11 @@ impl<'a> Options<'a> {
     /// What they say of a descriptor, or whose value isn't read: first `--domain`'s, which is a domain's SID ([MS-DTYP]
     /// 2.4.2.4).
     pub(crate) fn settings(self) -> Result<Settings, BadValue<'a>>
-        ensures settings { IfOk result (AreSettings (options_of self.entry)) }
-        ensures bad { IfErr result (HasBadValue (options_of self.entry)) }
+        ensures { GivesSettings (options_of self.entry) result }
     {
         let domain = self.domain_given()?;
-        let Some(mapping) = mapping_given(self.mapping) else {
+        let given = self.given(OptionName::Mapping);
+        let Some(mapping) = mapping_given(given) else {
             return Err(BadValue::NoMapping);
         };
         Ok(Settings {
@@ -186,7 +101,7 @@ impl<'a> Options<'a> {
                 later: self.has(OptionName::Aliases),
             },
             mapping,
-            kind: kind_given(self.mapping),
+            kind: kind_given(given),
             without_sacl: self.has(OptionName::WithoutSacl),
             require_dacl: self.has(OptionName::RequireDacl),
             bytes: self.byte_form(),
@@ -217,28 +132,19 @@ impl<'a> Options<'a> {
         self.has(OptionName::Strict)
     }
 
-    /// A text as it is printed: as it is, or with `--json` an object for each of its lines.
-    pub(crate) fn shown(
-        self,
-        alloc: Global,
-        tagging: Tagging,
-        text: Vec<u8>,
-    ) -> Result<Vec<u8>, AllocError>
-        ensures { IfOk result (λ printed. printed.items ≡ shown (options_of self.entry) tagging text.items) }
+    /// Whether each line is printed as an object of JSON.
+    pub(crate) fn is_json(self) -> bool
+        ensures { result ≡ is_json (options_of self.entry) }
     {
-        if self.has(OptionName::Json) {
-            json_text(alloc, tagging, &text)
-        } else {
-            Ok(text)
-        }
+        self.has(OptionName::Json)
     }
 
     /// The domain whose SID is given, if one is.
     fn domain_given(self) -> Result<Option<Domain>, BadValue<'a>>
-        ensures given { IfOk result (GivesDomain (options_of self.entry).domain) }
+        ensures given { IfOk result (GivesDomain (given (options_of self.entry) OptionName.Domain)) }
         ensures bad { IfErr result (HasBadValue (options_of self.entry)) }
     {
-        match self.domain {
+        match self.given(OptionName::Domain) {
             None => Ok(None),
             Some(text) => match domain_in(text) {
                 Some(domain) => Ok(Some(domain)),
@@ -280,14 +186,15 @@ impl<'a> Options<'a> {
     }
 }
 
-/// What is wrong with the first of the options that may not go before the command. The arguments begin with them.
+/// What is wrong with the first of the options, with which the arguments begin, that may not go before the command of
+/// this name.
 pub(crate) fn misplaced_in(
-    command: Command,
+    name: &str,
     named: usize,
     options: Options<'_>,
     words: &[&str],
 ) -> Option<Mistake>
-    ensures { result ≡ misplaced_in command named (options_of options.entry) words.now }
+    ensures { result ≡ misplaced_in name.now named (options_of options.entry) words.now }
 {
     let [word, after @ ..] = words else {
         return None;
@@ -295,24 +202,23 @@ pub(crate) fn misplaced_in(
     let Some(option) = option_named(word) else {
         return None;
     };
-    if let Some(wrong) = wrong_option(command, options, option) {
+    if let Some(wrong) = wrong_option(name, options, option) {
         return Some(Mistake::new(words.len(), named, wrong));
     }
     let Some(_) = option.value else {
-        return misplaced_in(command, named, options, after);
+        return misplaced_in(name, named, options, after);
     };
     let [_, after @ ..] = after else {
         return None;
     };
-    misplaced_in(command, named, options, after)
+    misplaced_in(name, named, options, after)
 }
 
 /// Why the option may not go before the command, or not beside the others, if it may not.
-#[tactic(auto, unfolding(crate::specs::Options::wrong_option))]
-fn wrong_option(command: Command, options: Options<'_>, option: ProgramOption) -> Option<Wrong>
-    ensures { result ≡ wrong_option command (options_of options.entry) option }
+fn wrong_option(name: &str, options: Options<'_>, option: ProgramOption) -> Option<Wrong>
+    ensures { result ≡ wrong_option name.now (options_of options.entry) option }
 {
-    if !command.takes_option(option.name) {
+    if !takes_option(name, option.name) {
         Some(Wrong::MisplacedOption(option.name))
     } else if has_excluded(options, option) {
         Some(Wrong::ExcludedOption)

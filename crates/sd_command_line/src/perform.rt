@@ -4,7 +4,7 @@ ghost use Rattle.std.specs.Io.KnownBytes.{Appends};
 ghost use Rattle.sd_stream.specs.Watched.{has_failed, inner_of};
 ghost use Rattle.sd_stream.specs.Whole.{AppendsBeginning, ReadsPart, is_read_error, is_write_error};
 ghost use Rattle.sd_commands.specs.Answer.{outcome_status};
-ghost use Rattle.sd_command_line.specs.CommandLine.{AskInput, Audit, Each, command_line_of, invocation_of, is_script};
+ghost use Rattle.sd_command_line.specs.CommandLine.{AskInput, Audit, Each, command_line_of, invocation_of, uses_input};
 ghost use Rattle.sd_command_line.specs.CommandLine.{request_of, runs_script};
 ghost use Rattle.sd_command_line.specs.Options.{AreSettings, is_strict, options_of};
 ghost use Rattle.sd_command_line.specs.Output.{AppendsAnswerTo, LeavesAfter, LeavesAfterFailure, blames_reader};
@@ -13,7 +13,7 @@ ghost use Rattle.sd_command_line.specs.Scripts.{IsToldOfScript, script_outcome};
 
 use crate::answer::{answer_to, bad_value};
 use crate::command_line::{CommandLine, Invocation, Request};
-use crate::each::{LineQuestion, answer_each, no_line_note};
+use crate::each::{answer_each, no_line_note};
 use crate::failure::Failure;
 use crate::flags::Lines;
 use crate::input::answer_input;
@@ -57,7 +57,7 @@ pub(crate) fn perform<T: Threads + Wait + Sync, R: Read, W: Write>(
         → ReadsPart (R.remaining (inner_of reader.old)) (R.remaining (inner_of reader.new)) RunError.TooLong }
     ensures thread { result ≡ Err (Failure.Run RunError.Thread)
         → (workers : ℕ) × (invocation_of line.entry.invocation ≡ Audit workers) }
-    ensures unused { is_script (invocation_of line.entry.invocation) ≡ false → reader.new ≡ reader.old }
+    ensures unused { uses_input (invocation_of line.entry.invocation) ≡ false → reader.new ≡ reader.old }
 {
     match line.invocation {
         Invocation::AskInput { request } => {
@@ -213,12 +213,7 @@ fn perform_each<R: Read, W: Write>(
     ensures thread { result ≢ Err (Failure.Run RunError.Thread) }
 {
     let note = no_line_note(alloc)?;
-    let question = LineQuestion {
-        has_keys: lines.has_keys,
-        options,
-        request,
-    };
-    let progress = answer_each(alloc, question, lines.ending, reader, writer)?;
+    let progress = answer_each(alloc, options, lines, request, reader, writer)?;
     Ok(Ended {
         told: progress.told(alloc, note),
         outcome: progress.outcome(),

@@ -86,7 +86,7 @@ pub fn reads_input(words: &[&str]) -> bool
     ensures { result ≡ asks_input words.now }
 {
     match read_command_line(words) {
-        Ok(line) => line.invocation.is_from_input(),
+        Ok(line) => line.invocation.uses_input(),
         Err(_) => false,
     }
 }

@@ -1,6 +1,10 @@
 -- What the table of commands and options says: which row a text names, and what a command takes.
+use denote.Enum.Declared.{tag_of}
 use Rattle.std.specs.Prelude.{ℕ, Bool, ◌==◌, ◌||◌, ◌&&◌, nat_le, if◌then◌else◌, List, [], ◌∷◌}
-use Rattle.std.specs.Prelude.{Option, Some, None, is_some, codes, bytes_eq}
+use Rattle.std.specs.Prelude.{Option, Some, None, is_some, false, codes, bytes_eq}
+use Rattle.std.specs.List.{list_any}
+use Rattle.std.specs.Option.{option_map_or}
+use Rattle.sd_usage.specs.contracts.row.OptionName.{the_type}
 use Rattle.sd_usage.specs.declared.row.Argument.{Argument}
 use Rattle.sd_usage.specs.declared.row.Arguments.{Arguments}
 use Rattle.sd_usage.specs.declared.row.Arguments.TheVariants as arguments
@@ -10,8 +14,6 @@ use Rattle.sd_usage.specs.declared.row.Flag.TheVariants.{Ids, Key, Zero}
 use Rattle.sd_usage.specs.declared.row.Flags.{Flags}
 use Rattle.sd_usage.specs.declared.row.Flags.TheVariants as flags
 use Rattle.sd_usage.specs.declared.row.OptionName.{OptionName}
-use Rattle.sd_usage.specs.declared.row.OptionName.TheVariants.{Aliases, Base64, Domain, Json, Loose, Mapping}
-use Rattle.sd_usage.specs.declared.row.OptionName.TheVariants.{Names, Percent, RequireDacl, Stdin, Strict, WithoutSacl}
 use Rattle.sd_usage.specs.declared.row.ProgramOption.{ProgramOption}
 use Rattle.sd_usage.specs.declared.table.TheConstants.{COMMANDS, OPTIONS}
 
@@ -26,6 +28,16 @@ command_named text = first_of (λ row. bytes_eq row.0.now text) (λ row. row.1) 
 
 unfoldable pub option_named : List ℕ → Option ProgramOption
 option_named text = first_of (λ row. bytes_eq row.0.now text) (λ row. row.1) OPTIONS.now
+
+-- an option's place among all of them, from 0, in the order in which the type names them
+abbrev pub place : OptionName → ℕ
+place option = tag_of the_type option
+
+-- the option may go before the command that the text names
+unfoldable pub takes_option : List ℕ → OptionName → Bool
+takes_option text option =
+    option_map_or (λ options. list_any (λ name. place name == place option) options)
+    (first_of (λ row. bytes_eq row.0.now text) (λ row. row.2.now) COMMANDS.now) false
 
 -- how many arguments a command requires
 abbrev pub count_of : Arguments → ℕ
@@ -47,21 +59,6 @@ argument_at (arguments.Three first second third) place =
 abbrev pub takes_count : Command → ℕ → Bool
 takes_count command count =
     nat_le (count_of command.arguments) count && (is_some command.repeated || count == count_of command.arguments)
-
--- the option may go before it
-abbrev pub takes_option : Command → OptionName → Bool
-takes_option command Stdin = command.options.stdin
-takes_option command Names = command.options.names
-takes_option command WithoutSacl = command.options.without_sacl
-takes_option command RequireDacl = command.options.require_dacl
-takes_option command Base64 = command.options.base64
-takes_option command Loose = command.options.loose
-takes_option command Percent = command.options.percent
-takes_option command Strict = command.options.strict
-takes_option command Domain = command.options.domain
-takes_option command Aliases = command.options.aliases
-takes_option command Mapping = command.options.mapping
-takes_option command Json = command.options.json
 
 abbrev pub flag_name : Flag → List ℕ
 flag_name Ids = codes "--ids"

@@ -1,6 +1,6 @@
 -- Names of the table as texts have them: lists of commands, and how a command is written.
 use Rattle.std.specs.Prelude.{ℕ, Bool, true, false, if◌then◌else◌, List, [], ◌∷◌, ◌++◌, Option, Some, None}
-use Rattle.std.specs.Prelude.{map, filter, codes}
+use Rattle.std.specs.Prelude.{codes}
 use Rattle.sd_usage.specs.Table.{flag_name, takes_option}
 use Rattle.sd_usage.specs.declared.names.Commands.{Commands}
 use Rattle.sd_usage.specs.declared.names.Commands.TheVariants as commands
@@ -36,15 +36,20 @@ answers_text Serve = false
 answers_text Audit = false
 answers_text Each = false
 
-abbrev pub is_among : Commands → Command → Bool
-is_among commands.All command = true
-is_among commands.Answering command = answers_text command.name
-is_among (commands.Taking option) command = takes_option command option
+abbrev pub is_among : Commands → List ℕ → Command → Bool
+is_among commands.All name command = true
+is_among commands.Answering name command = answers_text command.name
+is_among (commands.Taking option) name command = takes_option name option
+
+-- what each row has for which the test holds
+abbrev pub each_of : {Row Value : Type 0} → (Row → Bool) → (Row → Value) → List Row → List Value
+each_of test value [] = []
+each_of test value (row ∷ rows) = if test row then value row ∷ each_of test value rows else each_of test value rows
 
 -- the names of these commands, each in quotes
 unfoldable pub listed_commands : Commands → List ℕ → List ℕ
 listed_commands commands quote =
-    listed quote (map (λ row. row.0.now) (filter (λ row. is_among commands row.1) COMMANDS.now))
+    listed quote (each_of (λ row. is_among commands row.0.now row.1) (λ row. row.0.now) COMMANDS.now)
 
 -- ---- how a command is written
 

@@ -60,7 +60,7 @@ pub(crate) fn described<'a>(
     // Help with a list in it begins on a line of its own.
     let has_words = matches!(row.1.repeated, Some(Argument::Word | Argument::Group));
     let mut described = Command::new(alloc, row.0)
-        .about(row.2)
+        .about(row.3)
         .override_usage(texts.usage.as_str())
         .after_help(texts.notes.as_str())
         .next_line_help(has_words);

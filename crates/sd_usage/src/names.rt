@@ -1,10 +1,12 @@
 //! Names of the table as texts have them: lists of commands, and how a command is written.
-ghost use Rattle.std.specs.Prelude.{◌≡◌, ◌++◌, IfOk, filter, map, string_bytes};
-ghost use Rattle.sd_usage.specs.Texts.{argument_name, argument_text, arguments_text, first_text};
+ghost use Rattle.std.specs.Prelude.{◌≡◌, ◌++◌, IfOk, map, string_bytes};
+ghost use Rattle.sd_usage.specs.Texts.{argument_name, argument_text, arguments_text, each_of, first_text};
 ghost use Rattle.sd_usage.specs.Texts.{flag_text, flags_text, is_among, link, listed, listed_commands, repeated_text};
 ghost use Rattle.sd_usage.specs.Texts.{usage_line};
 
-use crate::row::{Argument, Arguments, Command, CommandName, CommandRow, Flag, Flags, OptionName};
+use crate::row::{
+    Argument, Arguments, Command, CommandName, CommandRow, Flag, Flags, OptionName, takes_option,
+};
 use crate::table::COMMANDS;
 use std::alloc::{AllocError, Global};
 
@@ -19,13 +21,13 @@ pub enum Commands {
 }
 
 impl Commands {
-    fn has(self, command: Command) -> bool
-        ensures { result ≡ is_among self command }
+    fn has(self, name: &str, command: Command) -> bool
+        ensures { result ≡ is_among self name.now command }
     {
         match self {
             Commands::All => true,
             Commands::Answering => matches!(command.name, CommandName::Ask(_)),
-            Commands::Taking(option) => command.takes_option(option),
+            Commands::Taking(option) => takes_option(name, option),
         }
     }
 }
@@ -49,11 +51,11 @@ fn command_names<'a>(
 ) -> Result<Vec<&'a str>, AllocError>
     ensures { IfOk result
         (λ names. map (λ name. name.now) names.items
-        ≡ map (λ row. row.0.now) (filter (λ row. is_among commands row.1) rows.entry.now)) }
+        ≡ each_of (λ row. is_among commands row.0.now row.1) (λ row. row.0.now) rows.entry.now) }
 {
     let mut names = Vec::new(alloc);
     for row in rows {
-        if commands.has(row.1) {
+        if commands.has(row.0, row.1) {
             names.push(row.0)?;
         }
     }

@@ -1,13 +1,21 @@
 //! What the rows of the table of commands and options are made of, and what a row says. Definitions can't name a
 //! constant whose structs hold references, so a row is a tuple: of texts, and of a struct without any.
-ghost use Rattle.std.specs.Prelude.{◌≡◌, bytes_eq};
+ghost use Rattle.std.specs.Prelude.{◌≡◌, ◌<◌, bytes_eq, option_map};
 ghost use Rattle.sd_usage.specs.Table.{argument_at, command_named, count_of, first_of, flag_name, flag_named};
-ghost use Rattle.sd_usage.specs.Table.{option_named, takes_count, takes_option};
+ghost use Rattle.sd_usage.specs.Table.{option_named, place, takes_count, takes_option};
+ghost use Rattle.sd_usage.specs.declared.row.TheConstants.{OPTION_COUNT};
 
 use crate::table::{COMMANDS, OPTIONS};
 
-/// The name of a command, the command, what it does, and a command line that runs as it stands.
-pub type CommandRow = (&'static str, Command, &'static str, &'static str);
+/// The name of a command, the command, the options that may go before it, what it does, and a command line that runs as
+/// it stands.
+pub type CommandRow = (
+    &'static str,
+    Command,
+    &'static [OptionName],
+    &'static str,
+    &'static str,
+);
 
 /// The name of an option before a command, the option, and what it does, after the commands that it goes before.
 pub type OptionRow = (&'static str, ProgramOption, &'static str);
@@ -81,6 +89,9 @@ pub enum OptionName {
     Json,
 }
 
+/// How many options there are.
+pub const OPTION_COUNT: usize = 12;
+
 /// A command, and what follows it.
 #[derive(Clone, Copy)]
 pub struct Command {
@@ -91,8 +102,6 @@ pub struct Command {
     pub arguments: Arguments,
     /// What any number of further arguments are, if it takes them.
     pub repeated: Option<Argument>,
-    /// The options that may go before it.
-    pub options: OptionSet,
 }
 
 /// The own options of a command.
@@ -150,23 +159,6 @@ pub enum Argument {
     CommandArgument,
 }
 
-/// Options before a command.
-#[derive(Clone, Copy)]
-pub struct OptionSet {
-    pub stdin: bool,
-    pub names: bool,
-    pub without_sacl: bool,
-    pub require_dacl: bool,
-    pub base64: bool,
-    pub loose: bool,
-    pub percent: bool,
-    pub strict: bool,
-    pub domain: bool,
-    pub aliases: bool,
-    pub mapping: bool,
-    pub json: bool,
-}
-
 /// An option before a command.
 #[derive(Clone, Copy)]
 pub struct ProgramOption {
@@ -205,6 +197,29 @@ fn command_in(rows: &[CommandRow], text: &str) -> Option<Command>
     }
 }
 
+/// Whether the option may go before the command that the text names.
+#[tactic(auto, unfolding(crate::specs::Table::takes_option))]
+pub fn takes_option(text: &str, option: OptionName) -> bool
+    ensures { result ≡ takes_option text.now option }
+{
+    match options_in(COMMANDS, text) {
+        Some(options) => options.contains(&option),
+        None => false,
+    }
+}
+
+/// The options of the first of these rows with that name.
+fn options_in(rows: &[CommandRow], text: &str) -> Option<&'static [OptionName]>
+    ensures { option_map (λ options. options.now) result
+        ≡ first_of (λ row. bytes_eq row.0.now text.now) (λ row. row.2.now) rows.now }
+{
+    match rows {
+        [] => None,
+        [row, _rows @ ..] if row.0 == text => Some(row.2),
+        [_row, rows @ ..] => options_in(rows, text),
+    }
+}
+
 /// The option that the text names.
 #[tactic(auto, unfolding(crate::specs::Table::option_named))]
 pub fn option_named(text: &str) -> Option<ProgramOption>
@@ -224,6 +239,16 @@ fn option_in(rows: &[OptionRow], text: &str) -> Option<ProgramOption>
     }
 }
 
+impl OptionName {
+    /// Its place among all options, from 0.
+    pub fn place(self) -> usize
+        ensures is { result ≡ place self }
+        ensures within { result < OPTION_COUNT }
+    {
+        self as usize
+    }
+}
+
 impl Command {
     /// Whether it takes so many arguments.
     pub fn takes_count(self, count: usize) -> bool
@@ -231,26 +256,6 @@ impl Command {
     {
         let least = self.arguments.count();
         least <= count && (self.repeated.is_some() || count == least)
-    }
-
-    /// Whether the option may go before it.
-    pub fn takes_option(self, option: OptionName) -> bool
-        ensures { result ≡ takes_option self option }
-    {
-        match option {
-            OptionName::Stdin => self.options.stdin,
-            OptionName::Names => self.options.names,
-            OptionName::WithoutSacl => self.options.without_sacl,
-            OptionName::RequireDacl => self.options.require_dacl,
-            OptionName::Base64 => self.options.base64,
-            OptionName::Loose => self.options.loose,
-            OptionName::Percent => self.options.percent,
-            OptionName::Strict => self.options.strict,
-            OptionName::Domain => self.options.domain,
-            OptionName::Aliases => self.options.aliases,
-            OptionName::Mapping => self.options.mapping,
-            OptionName::Json => self.options.json,
-        }
     }
 
     /// Its own option that the text names.

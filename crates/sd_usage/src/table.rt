@@ -2,57 +2,56 @@
 
 use crate::row::{
     Argument, Arguments, Command, CommandName, CommandRow, Flag, Flags, OptionName, OptionRow,
-    OptionSet, ProgramOption, Question, Value,
-};
-
-const NO_OPTIONS: OptionSet = OptionSet {
-    stdin: false,
-    names: false,
-    without_sacl: false,
-    require_dacl: false,
-    base64: false,
-    loose: false,
-    percent: false,
-    strict: false,
-    domain: false,
-    aliases: false,
-    mapping: false,
-    json: false,
+    ProgramOption, Question, Value,
 };
 
 // Of commands that parse a descriptor's text.
-const TEXT_OPTIONS: OptionSet = OptionSet {
-    stdin: true,
-    without_sacl: true,
-    require_dacl: true,
-    domain: true,
-    aliases: true,
-    json: true,
-    ..NO_OPTIONS
-};
+const TEXT_OPTIONS: &[OptionName] = &[
+    OptionName::Stdin,
+    OptionName::WithoutSacl,
+    OptionName::RequireDacl,
+    OptionName::Domain,
+    OptionName::Aliases,
+    OptionName::Json,
+];
 
 // Of those that map generic rights too.
-const MAPPED_TEXT_OPTIONS: OptionSet = OptionSet {
-    mapping: true,
-    ..TEXT_OPTIONS
-};
+const MAPPED_TEXT_OPTIONS: &[OptionName] = &[
+    OptionName::Stdin,
+    OptionName::WithoutSacl,
+    OptionName::RequireDacl,
+    OptionName::Domain,
+    OptionName::Aliases,
+    OptionName::Mapping,
+    OptionName::Json,
+];
 
-const BYTES_OPTIONS: OptionSet = OptionSet {
-    stdin: true,
-    without_sacl: true,
-    require_dacl: true,
-    base64: true,
-    loose: true,
-    json: true,
-    ..NO_OPTIONS
-};
+// Of those that print rights too.
+const NAMED_TEXT_OPTIONS: &[OptionName] = &[
+    OptionName::Stdin,
+    OptionName::Names,
+    OptionName::WithoutSacl,
+    OptionName::RequireDacl,
+    OptionName::Domain,
+    OptionName::Aliases,
+    OptionName::Mapping,
+    OptionName::Json,
+];
 
-const SCRIPT_OPTIONS: OptionSet = OptionSet {
-    percent: true,
-    strict: true,
-    mapping: true,
-    ..NO_OPTIONS
-};
+const BYTES_OPTIONS: &[OptionName] = &[
+    OptionName::Stdin,
+    OptionName::WithoutSacl,
+    OptionName::RequireDacl,
+    OptionName::Base64,
+    OptionName::Loose,
+    OptionName::Json,
+];
+
+const SCRIPT_OPTIONS: &[OptionName] = &[
+    OptionName::Percent,
+    OptionName::Strict,
+    OptionName::Mapping,
+];
 
 /// The commands, in the order in which help lists them.
 pub const COMMANDS: &[CommandRow] = &[
@@ -63,8 +62,8 @@ pub const COMMANDS: &[CommandRow] = &[
             flags: Flags::Nothing,
             arguments: Arguments::Three(Argument::Descriptor, Argument::User, Argument::Mask),
             repeated: Some(Argument::Word),
-            options: MAPPED_TEXT_OPTIONS,
         },
+        MAPPED_TEXT_OPTIONS,
         "Prints whether a descriptor grants an access mask to a user",
         "\
 sdstore verdict 'D:(D;;0x2;;;S-1-5-21-1-2-3-1001)(A;;0x1f01ff;;;S-1-5-21-1-2-3-1001)' S-1-5-21-1-2-3-1001 0x1",
@@ -76,11 +75,8 @@ sdstore verdict 'D:(D;;0x2;;;S-1-5-21-1-2-3-1001)(A;;0x1f01ff;;;S-1-5-21-1-2-3-1
             flags: Flags::Nothing,
             arguments: Arguments::Three(Argument::Descriptor, Argument::User, Argument::Mask),
             repeated: Some(Argument::Word),
-            options: OptionSet {
-                names: true,
-                ..MAPPED_TEXT_OPTIONS
-            },
         },
+        NAMED_TEXT_OPTIONS,
         "Prints whether a descriptor grants an access mask to a user, and why",
         "sdstore why 'D:(D;;0x2;;;BU)(A;;FR;;;BU)' S-1-5-21-1-2-3-1001 0x10003 BU",
     ),
@@ -91,11 +87,8 @@ sdstore verdict 'D:(D;;0x2;;;S-1-5-21-1-2-3-1001)(A;;0x1f01ff;;;S-1-5-21-1-2-3-1
             flags: Flags::Nothing,
             arguments: Arguments::Two(Argument::Descriptor, Argument::Mask),
             repeated: Some(Argument::Group),
-            options: OptionSet {
-                names: true,
-                ..MAPPED_TEXT_OPTIONS
-            },
         },
+        NAMED_TEXT_OPTIONS,
         "Prints to whom a descriptor grants the rights of an access mask",
         "sdstore who 'O:BAG:SYD:(D;;FW;;;BG)(A;;FA;;;BU)(A;;FR;;;WD)' FR",
     ),
@@ -106,11 +99,8 @@ sdstore verdict 'D:(D;;0x2;;;S-1-5-21-1-2-3-1001)(A;;0x1f01ff;;;S-1-5-21-1-2-3-1
             flags: Flags::Nothing,
             arguments: Arguments::Two(Argument::Old, Argument::New),
             repeated: Some(Argument::Group),
-            options: OptionSet {
-                names: true,
-                ..MAPPED_TEXT_OPTIONS
-            },
         },
+        NAMED_TEXT_OPTIONS,
         "Prints which rights users gain and lose where one descriptor takes the place of another",
         "sdstore compare 'O:BAG:SYD:(A;;FA;;;BU)' 'O:BAG:SYD:(D;;FW;;;BG)(A;;FA;;;BU)'",
     ),
@@ -121,8 +111,8 @@ sdstore verdict 'D:(D;;0x2;;;S-1-5-21-1-2-3-1001)(A;;0x1f01ff;;;S-1-5-21-1-2-3-1
             flags: Flags::Nothing,
             arguments: Arguments::One(Argument::Descriptor),
             repeated: Some(Argument::Group),
-            options: MAPPED_TEXT_OPTIONS,
         },
+        MAPPED_TEXT_OPTIONS,
         "Prints what is doubtful in a descriptor's DACL",
         "sdstore lint 'D:(A;;FR;;;BU)(D;;FW;;;BU)(A;;0x1;;;BU)'",
     ),
@@ -133,8 +123,8 @@ sdstore verdict 'D:(D;;0x2;;;S-1-5-21-1-2-3-1001)(A;;0x1f01ff;;;S-1-5-21-1-2-3-1
             flags: Flags::Nothing,
             arguments: Arguments::One(Argument::Descriptor),
             repeated: None,
-            options: TEXT_OPTIONS,
         },
+        TEXT_OPTIONS,
         "Prints a descriptor in canonical SDDL",
         "sdstore print 'o:s-1-5-18d:(a;;0x1f01ff;;;s-1-1-0)'",
     ),
@@ -145,8 +135,8 @@ sdstore verdict 'D:(D;;0x2;;;S-1-5-21-1-2-3-1001)(A;;0x1f01ff;;;S-1-5-21-1-2-3-1
             flags: Flags::Nothing,
             arguments: Arguments::One(Argument::Descriptor),
             repeated: None,
-            options: TEXT_OPTIONS,
         },
+        TEXT_OPTIONS,
         "Prints a descriptor with its DACL in canonical order",
         "sdstore sort 'D:(A;;FA;;;BU)(D;;FW;;;BG)'",
     ),
@@ -157,8 +147,8 @@ sdstore verdict 'D:(D;;0x2;;;S-1-5-21-1-2-3-1001)(A;;0x1f01ff;;;S-1-5-21-1-2-3-1
             flags: Flags::Nothing,
             arguments: Arguments::One(Argument::Descriptor),
             repeated: None,
-            options: TEXT_OPTIONS,
         },
+        TEXT_OPTIONS,
         "Prints a descriptor in self-relative form, in hexadecimal",
         "sdstore tobin O:BA",
     ),
@@ -169,8 +159,8 @@ sdstore verdict 'D:(D;;0x2;;;S-1-5-21-1-2-3-1001)(A;;0x1f01ff;;;S-1-5-21-1-2-3-1
             flags: Flags::Nothing,
             arguments: Arguments::One(Argument::Bytes),
             repeated: None,
-            options: BYTES_OPTIONS,
         },
+        BYTES_OPTIONS,
         "Prints a descriptor in self-relative form as canonical SDDL",
         "sdstore frombin 010000801400000000000000000000000000000001020000000000052000000020020000",
     ),
@@ -181,12 +171,8 @@ sdstore verdict 'D:(D;;0x2;;;S-1-5-21-1-2-3-1001)(A;;0x1f01ff;;;S-1-5-21-1-2-3-1
             flags: Flags::Nothing,
             arguments: Arguments::One(Argument::Mask),
             repeated: None,
-            options: OptionSet {
-                mapping: true,
-                json: true,
-                ..NO_OPTIONS
-            },
         },
+        &[OptionName::Mapping, OptionName::Json],
         "Prints the names of the rights of an access mask",
         "sdstore rights 0x1301bf",
     ),
@@ -197,8 +183,8 @@ sdstore verdict 'D:(D;;0x2;;;S-1-5-21-1-2-3-1001)(A;;0x1f01ff;;;S-1-5-21-1-2-3-1
             flags: Flags::Nothing,
             arguments: Arguments::Nothing,
             repeated: None,
-            options: SCRIPT_OPTIONS,
         },
+        SCRIPT_OPTIONS,
         "Runs the script on standard input: builds a tree of nodes, edits it and checks access",
         "\
 printf 'open 1 O:BAG:SYD:\\naddo /a O:BAG:SYD:(A;;FR;;;WD)\\npublish\\ncheck 0 /a SY FR WD\\n' | sdstore script",
@@ -210,8 +196,8 @@ printf 'open 1 O:BAG:SYD:\\naddo /a O:BAG:SYD:(A;;FR;;;WD)\\npublish\\ncheck 0 /
             flags: Flags::One(Flag::Ids),
             arguments: Arguments::Nothing,
             repeated: None,
-            options: SCRIPT_OPTIONS,
         },
+        SCRIPT_OPTIONS,
         "Runs the script on standard input line by line, for a program that waits for each answer",
         "\
 printf 'open 1 O:BAG:SYD:\\naddo /a O:BAG:SYD:(A;;FR;;;WD)\\npublish\\ncheck 0 /a SY FR WD\\n' | sdstore serve",
@@ -223,8 +209,8 @@ printf 'open 1 O:BAG:SYD:\\naddo /a O:BAG:SYD:(A;;FR;;;WD)\\npublish\\ncheck 0 /
             flags: Flags::Nothing,
             arguments: Arguments::One(Argument::Workers),
             repeated: None,
-            options: SCRIPT_OPTIONS,
         },
+        SCRIPT_OPTIONS,
         "Runs the script on standard input, and answers its checks at the end",
         "printf 'open 1 O:BAG:SYD:\\naddo /a O:BAG:SYD:(A;;FR;;;WD)\\ncheck 0 /a SY FR WD\\n' | sdstore audit 4",
     ),
@@ -235,8 +221,8 @@ printf 'open 1 O:BAG:SYD:\\naddo /a O:BAG:SYD:(A;;FR;;;WD)\\npublish\\ncheck 0 /
             flags: Flags::Two(Flag::Zero, Flag::Key),
             arguments: Arguments::One(Argument::Command),
             repeated: Some(Argument::CommandArgument),
-            options: NO_OPTIONS,
         },
+        &[],
         "Runs a command for each line of standard input, with the line as its first argument",
         "printf 'D:(A;;FR;;;WD)\\nD:(A;;FX;;;WD)\\n' | sdstore each verdict S-1-5-21-1-2-3-1001 0x1 WD",
     ),

@@ -38,7 +38,7 @@ pub(crate) struct CommandTexts {
 
 impl CommandTexts {
     pub(crate) fn new(alloc: Global, row: &CommandRow) -> Result<CommandTexts, AllocError> {
-        let (name, command, _, example) = row;
+        let (name, command, _, _, example) = row;
         let notes = notes_of(command.name);
         Ok(CommandTexts {
             usage: usage_line(alloc, name, *command)?,

@@ -15,13 +15,13 @@ returns-in_ok-tally-in-Ok-clause-ok g c = rw (c.script_outcome.ensures, c.is_str
 pub returns-in_ok-bad_value-in-Err-clause-err : goal.returns-in_ok-bad_value-in-Err-clause-err
 returns-in_ok-bad_value-in-Err-clause-err g c = print_fails c.print.result _ _ _ _ _ (shown_of c.plain.result)
     (rw c.plain.ensures (bad_answers (g.R.Read.remaining (inner_of c.args.reader.now)) (options_of c.args.line.options)
-    (invocation_of c.args.line.invocation) c.in-Err.bad _ c.requires c.in-Err.ensures.bad c.in_ok-bad_value-in-Err.ensures))
+    (invocation_of c.args.line.invocation) c.in-Err.bad _ c.requires c.in-Err.ensures c.in_ok-bad_value-in-Err.ensures))
     c.print.ensures.err
 
 pub returns-in_ok-bad_value-in-Err-clause-ok : goal.returns-in_ok-bad_value-in-Err-clause-ok
 returns-in_ok-bad_value-in-Err-clause-ok g c = IfOk-weaker c.print.result _ _
     (λ ended is. print_answers _ _ _ _ (shown_of c.plain.result) _ _
     (rw c.plain.ensures (bad_answers (g.R.Read.remaining (inner_of c.args.reader.now)) (options_of c.args.line.options)
-    (invocation_of c.args.line.invocation) c.in-Err.bad _ c.requires c.in-Err.ensures.bad c.in_ok-bad_value-in-Err.ensures))
+    (invocation_of c.args.line.invocation) c.in-Err.bad _ c.requires c.in-Err.ensures c.in_ok-bad_value-in-Err.ensures))
     is.0 is.1 is.2)
     c.print.ensures.ok

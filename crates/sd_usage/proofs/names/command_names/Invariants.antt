@@ -6,4 +6,4 @@ use Rattle.sd_usage.proofs.names.command_names.Given as goal
 
 abbrev pub invariant-loop-row : goal.invariant-loop-row
 invariant-loop-row l =
-    map (λ name. name.now) l.names.items ≡ map (λ row. row.0.now) (filter (λ row. is_among l.commands row.1) (take l.row-index l.rows))
+    map (λ name. name.now) l.names.items ≡ map (λ row. row.0.now) (filter (λ row. is_among l.commands row.0.now row.1) (take l.row-index l.rows))

@@ -4,16 +4,15 @@ use Rattle.std.proofs.lemmas.Result.{IfOk-weaker}
 use Rattle.sd_command_line.specs.Answer.{AnswersText}
 use Rattle.sd_commands.specs.Answer.{answer_of}
 use Rattle.sd_command_line.specs.CommandLine.{request_of}
-use Rattle.sd_command_line.specs.Options.{options_of}
 use Rattle.sd_command_line.proofs.each.LineQuestion.answer_told.Goals as goal
 
 pub returns : goal.returns
 returns c =
-    let options = options_of c.args.self.now.options in
+    let settings = c.args.self.now.settings in
     let request = request_of c.args.self.now.request in
     let read = c.in-Ok.ensures.cases in
     rw (c.in-Some.is)
     (IfOk-weaker c.answer_text.result _ _ (λ answer is. inl (
       read.1,
-      subst (λ text. AnswersText options request text (answer_of answer)) read.0 is,
+      subst (λ text. AnswersText settings request text (answer_of answer)) read.0 is,
     )) c.answer_text.ensures)
