@@ -20,6 +20,9 @@ each -0 -- print
 --strict --percent serve
 --mapping key --strict audit 1
 --mapping key script
+--domain S-1-5-21-1-2-3 --aliases --without-sacl script
+--without-sacl --aliases serve --ids
+--domain S-1-5-21-1-2-3 --percent audit 1
 --mapping key serve
 --mapping key audit -- 1
 --loose --without-sacl frombin 00
@@ -257,17 +260,14 @@ REJECTED = r"""
 2 NotAlone | --names --version
 1 MisplacedOption | --percent print D:
 1 MisplacedOption | --strict each print
-1 MisplacedOption | --without-sacl script
-1 MisplacedOption | --aliases script
+1 MisplacedOption | --require-dacl script
 1 MisplacedOption | --aliases frombin 00
 1 MisplacedOption | --loose script
 1 MisplacedOption | --base64 tobin D:
 1 MisplacedOption | --mapping key print D:
 1 ExcludedOption | --base64 --loose frombin 00
 1 MisplacedOption | --domain x frombin 00
-1 MisplacedOption | --domain x script
-1 MisplacedOption | --domain x serve
-1 MisplacedOption | --domain x audit 1
+1 MisplacedOption | --domain x rights FR
 1 UnknownOption | --domain=x print D:
 3 MisplacedOption | --domain x --names print D:
 3 MisplacedOption | --domain --loose --base64 print D:

@@ -3,3 +3,4 @@ pub mod OneToken
 pub mod Joins
 pub mod NoLines
 mod LintLines
+mod Descriptors

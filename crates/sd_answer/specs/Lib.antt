@@ -5,3 +5,4 @@ pub mod Lines
 pub mod Who
 pub mod Compare
 pub mod Lint
+pub mod Descriptor

@@ -1,10 +1,12 @@
--- The words that make a token: a user's groups, restricting SIDs and privileges.
-use Rattle.std.specs.Prelude.{◌≡◌, ℕ, zero, suc, Bool, true, false, ⊤, ◌⊎◌, List, [], ◌∷◌, ◌++◌, map, codes}
+-- The words that make a token: a user's groups, restricting SIDs and privileges. SIDs may have the aliases that are
+-- known.
+use Rattle.std.specs.Prelude.{◌≡◌, ℕ, zero, suc, Bool, true, false, ⊤, List, [], ◌∷◌, ◌++◌, map, codes}
 use Rattle.std.specs.List.{list_any, flat_map}
 use Rattle.std.specs.Borrow.{Bor}
 use Rattle.sd_sid.specs.Sid.{SidValue}
 use Rattle.sd_text.specs.Grammar.{Spells}
-use Rattle.sd_text.specs.Sid.{sid_text}
+use Rattle.sd_text.specs.Sid.{sid_text_in}
+use Rattle.sd_text.specs.declared.alias.Aliases.{Aliases}
 use Rattle.sd_check.specs.Token.{TokenValue}
 use Rattle.sd_check.specs.declared.token.GroupState.{GroupState}
 use Rattle.sd_check.specs.declared.token.GroupState.TheVariants.{Enabled, DenyOnly, Disabled}
@@ -12,47 +14,44 @@ use Rattle.sd_answer.specs.declared.word.Word.{Word}
 use Rattle.sd_answer.specs.declared.word.Word.TheVariants.{Group, Restricting, Security, TakeOwnership}
 
 -- the text is no SID
-abbrev pub IsNoSid : List ℕ → Type 0
-IsNoSid text = (sid : SidValue) → Spells sid_text text sid → ⊥
+abbrev pub IsNoSid : Aliases → List ℕ → Type 0
+IsNoSid known text = (sid : SidValue) → Spells (sid_text_in known) text sid → ⊥
 
 -- the text is a SID with this ending
-abbrev pub IsSidBefore : List ℕ → List ℕ → SidValue → Type 0
-IsSidBefore ending text sid = IsNoSid text × ((front : List ℕ) × (text ≡ front ++ ending) × Spells sid_text front sid)
+abbrev pub IsSidBefore : Aliases → List ℕ → List ℕ → SidValue → Type 0
+IsSidBefore known ending text sid =
+    IsNoSid known text × ((front : List ℕ) × (text ≡ front ++ ending) × Spells (sid_text_in known) front sid)
 
 -- the text is a group in this state; it is tried as a SID first
-abbrev pub IsGroup : List ℕ → SidValue → GroupState → Type 0
-IsGroup text sid Enabled = Spells sid_text text sid
-IsGroup text sid DenyOnly = IsSidBefore (codes "=deny") text sid
-IsGroup text sid Disabled = IsSidBefore (codes "=off") text sid
+abbrev pub IsGroup : Aliases → List ℕ → SidValue → GroupState → Type 0
+IsGroup known text sid Enabled = Spells (sid_text_in known) text sid
+IsGroup known text sid DenyOnly = IsSidBefore known (codes "=deny") text sid
+IsGroup known text sid Disabled = IsSidBefore known (codes "=off") text sid
 
 -- the text is this word
-abbrev pub IsWord : List ℕ → Word → Type 0
-IsWord text (Group sid state) = IsGroup text sid state
-IsWord text (Restricting sid) = IsSidBefore (codes "=restrict") text sid
-IsWord text Security = text ≡ codes "+security"
-IsWord text TakeOwnership = text ≡ codes "+take"
+abbrev pub IsWord : Aliases → List ℕ → Word → Type 0
+IsWord known text (Group sid state) = IsGroup known text sid state
+IsWord known text (Restricting sid) = IsSidBefore known (codes "=restrict") text sid
+IsWord known text Security = text ≡ codes "+security"
+IsWord known text TakeOwnership = text ≡ codes "+take"
 
 -- lent texts, as what they are
 abbrev pub texts : List (Bor (List ℕ)) → List (List ℕ)
 texts lent = map (λ (text : Bor (List ℕ)). text.now) lent
 
 -- the texts are these words, one for one
-abbrev pub AreWords : List (List ℕ) → List Word → Type 0
-AreWords [] [] = ⊤
-AreWords [] (word ∷ words) = ⊥
-AreWords (text ∷ texts) [] = ⊥
-AreWords (text ∷ texts) (word ∷ words) = IsWord text word × AreWords texts words
-
--- one of the texts is no word
-abbrev pub IsNoWordIn : List (List ℕ) → Type 0
-IsNoWordIn [] = ⊥
-IsNoWordIn (text ∷ texts) = ((word : Word) → IsWord text word → ⊥) ⊎ IsNoWordIn texts
+abbrev pub AreWords : Aliases → List (List ℕ) → List Word → Type 0
+AreWords known [] [] = ⊤
+AreWords known [] (word ∷ words) = ⊥
+AreWords known (text ∷ texts) [] = ⊥
+AreWords known (text ∷ texts) (word ∷ words) = IsWord known text word × AreWords known texts words
 
 -- the text at the place is no word, and those before it are words
-abbrev pub IsFirstNoWord : List (List ℕ) → ℕ → Type 0
-IsFirstNoWord [] place = ⊥
-IsFirstNoWord (text ∷ texts) zero = (word : Word) → IsWord text word → ⊥
-IsFirstNoWord (text ∷ texts) (suc place) = ((word : Word) × IsWord text word) × IsFirstNoWord texts place
+abbrev pub IsFirstNoWord : Aliases → List (List ℕ) → ℕ → Type 0
+IsFirstNoWord known [] place = ⊥
+IsFirstNoWord known (text ∷ texts) zero = (word : Word) → IsWord known text word → ⊥
+IsFirstNoWord known (text ∷ texts) (suc place) =
+    ((word : Word) × IsWord known text word) × IsFirstNoWord known texts place
 
 abbrev pub is_group : Word → Bool
 is_group (Group sid state) = true
@@ -61,22 +60,22 @@ is_group Security = false
 is_group TakeOwnership = false
 
 -- the text is this word, which is a group
-abbrev pub IsGroupWord : List ℕ → Word → Type 0
-IsGroupWord text word = (is_group word ≡ true) × IsWord text word
+abbrev pub IsGroupWord : Aliases → List ℕ → Word → Type 0
+IsGroupWord known text word = (is_group word ≡ true) × IsWord known text word
 
 -- the texts are these groups, one for one
-abbrev pub AreGroups : List (List ℕ) → List (SidValue × GroupState) → Type 0
-AreGroups [] [] = ⊤
-AreGroups [] (group ∷ groups) = ⊥
-AreGroups (text ∷ texts) [] = ⊥
-AreGroups (text ∷ texts) (group ∷ groups) = IsGroup text group.0 group.1 × AreGroups texts groups
+abbrev pub AreGroups : Aliases → List (List ℕ) → List (SidValue × GroupState) → Type 0
+AreGroups known [] [] = ⊤
+AreGroups known [] (group ∷ groups) = ⊥
+AreGroups known (text ∷ texts) [] = ⊥
+AreGroups known (text ∷ texts) (group ∷ groups) = IsGroup known text group.0 group.1 × AreGroups known texts groups
 
 -- the text at the place is no group, and those before it are groups
-abbrev pub IsFirstNoGroup : List (List ℕ) → ℕ → Type 0
-IsFirstNoGroup [] place = ⊥
-IsFirstNoGroup (text ∷ texts) zero = (sid : SidValue) (state : GroupState) → IsGroup text sid state → ⊥
-IsFirstNoGroup (text ∷ texts) (suc place) =
-    ((group : SidValue × GroupState) × IsGroup text group.0 group.1) × IsFirstNoGroup texts place
+abbrev pub IsFirstNoGroup : Aliases → List (List ℕ) → ℕ → Type 0
+IsFirstNoGroup known [] place = ⊥
+IsFirstNoGroup known (text ∷ texts) zero = (sid : SidValue) (state : GroupState) → IsGroup known text sid state → ⊥
+IsFirstNoGroup known (text ∷ texts) (suc place) =
+    ((group : SidValue × GroupState) × IsGroup known text group.0 group.1) × IsFirstNoGroup known texts place
 
 -- the group that a word adds
 abbrev pub group_of : Word → List (SidValue × GroupState)
@@ -120,5 +119,5 @@ token_of user words = record {
 }
 
 -- the token of a user and of the words that the texts are
-abbrev pub IsToken : SidValue → List (List ℕ) → TokenValue → Type 0
-IsToken user texts token = (words : List Word) × AreWords texts words × (token ≡ token_of user words)
+abbrev pub IsToken : Aliases → SidValue → List (List ℕ) → TokenValue → Type 0
+IsToken known user texts token = (words : List Word) × AreWords known texts words × (token ≡ token_of user words)

@@ -4,7 +4,7 @@
 //! are asked for, a line for each part of the mask; or the line of the first argument that is invalid.
 //!
 //! ```text
-//! let token = read_token(alloc, user, &["BU", "S-1-5-21-1-2-3-512=deny", "+take"])?;
+//! let token = read_token(alloc, aliases, user, &["BU", "S-1-5-21-1-2-3-512=deny", "+take"])?;
 //! verdict_line(alloc, verdict)?;  // granted 0x1
 //! spell(alloc, Spelling::Names, Mask(0x160089))?; // FR+WD
 //! ```
@@ -12,6 +12,7 @@
 
 mod answer;
 mod compare;
+mod descriptor;
 mod lines;
 mod lint;
 mod who;
@@ -20,6 +21,7 @@ mod word;
 
 pub use answer::{Spelling, fault_line, sddl_fault_line, spell, verdict_line};
 pub use compare::{compare_text, gains_and_losses};
+pub use descriptor::read_sddl_argument;
 pub use lint::lint_text;
 pub use who::who_text;
 pub use why::why_text;

@@ -1,12 +1,13 @@
 //! The words that make a token: a user's groups, restricting SIDs and privileges.
-ghost use Rattle.std.specs.Prelude.{◌≡◌, ◌++◌, ℕ, IfSome, IfNone, IfOk, List, Some, None, codes, if◌then◌else◌};
+ghost use Rattle.std.specs.Prelude.{◌≡◌, ◌<◌, ◌++◌, ℕ, Err, IfSome, IfNone, IfOk, List, Some, None, codes, length};
+ghost use Rattle.std.specs.Prelude.{if◌then◌else◌};
 ghost use Rattle.sd_text.specs.Grammar.{Spells};
-ghost use Rattle.sd_text.specs.Sid.{sid_text};
+ghost use Rattle.sd_text.specs.Sid.{sid_text_in};
 ghost use Rattle.sd_sid.specs.Sid.{SidValue};
 ghost use Rattle.sd_answer.specs.declared.word.Word.{Word as WordValue};
 ghost use Rattle.sd_answer.specs.declared.word.TokenError.TheVariants.{Memory};
 ghost use Rattle.sd_answer.specs.Word.{AreGroups, AreWords, IsFirstNoGroup, IsFirstNoWord, IsGroup, IsGroupWord};
-ghost use Rattle.sd_answer.specs.Word.{IsNoWordIn, IsToken, IsWord, is_group};
+ghost use Rattle.sd_answer.specs.Word.{IsToken, IsWord, is_group};
 ghost use Rattle.sd_check.specs.declared.token.GroupState.{GroupState as GroupStateValue};
 ghost use Rattle.sd_answer.specs.Word.{groups_of, is_security, is_take_ownership, restricting_of, token_of};
 ghost use Rattle.sd_answer.specs.Word.{texts as texts_of};
@@ -14,7 +15,7 @@ ghost use Rattle.std.specs.List.{list_any};
 
 use sd_check::{GroupState, Privileges, Token};
 use sd_sid::Sid;
-use sd_text::read_sid_text;
+use sd_text::{Aliases, read_sid_text_in};
 use std::alloc::{AllocError, AllocFailed, Global};
 use thiserror::Error;
 
@@ -95,15 +96,15 @@ impl<T: Drop> From<AllocFailed<T>> for TokenError {
 }
 
 /// The SID that the text has before the ending.
-fn sid_before(text: &str, ending: &str) -> Option<Sid>
+fn sid_before(known: Aliases, text: &str, ending: &str) -> Option<Sid>
     ensures found { IfSome result (λ sid. (front : List ℕ) × (text.now ≡ front ++ ending.now)
-        × Spells sid_text front sid) }
+        × Spells (sid_text_in known) front sid) }
     ensures none { IfNone result ((front : List ℕ) (sid : SidValue) → text.now ≡ front ++ ending.now
-        → Spells sid_text front sid → ⊥) }
+        → Spells (sid_text_in known) front sid → ⊥) }
 {
     match text.strip_suffix(ending) {
         None => None,
-        Some(front) => match read_sid_text(front) {
+        Some(front) => match read_sid_text_in(known, front) {
             Ok(sid) => Some(sid),
             Err(_) => None,
         },
@@ -111,9 +112,9 @@ fn sid_before(text: &str, ending: &str) -> Option<Sid>
 }
 
 /// The word that the text is.
-fn read_word(text: &str) -> Option<Word>
-    ensures word { IfSome result (IsWord text.now) }
-    ensures none { IfNone result ((word : WordValue) → IsWord text.now word → ⊥) }
+fn read_word(known: Aliases, text: &str) -> Option<Word>
+    ensures word { IfSome result (IsWord known text.now) }
+    ensures none { IfNone result ((word : WordValue) → IsWord known text.now word → ⊥) }
 {
     if text == "+security" {
         return Some(Word::Security);
@@ -121,61 +122,67 @@ fn read_word(text: &str) -> Option<Word>
     if text == "+take" {
         return Some(Word::TakeOwnership);
     }
-    read_group(text)
+    read_group(known, text)
 }
 
 /// The group or the restricting SID that the text is.
-fn read_group(text: &str) -> Option<Word>
-    ensures word { IfSome result (IsWord text.now) }
-    ensures enabled { IfNone result ((sid : SidValue) → Spells sid_text text.now sid → ⊥) }
+fn read_group(known: Aliases, text: &str) -> Option<Word>
+    ensures word { IfSome result (IsWord known text.now) }
+    ensures enabled { IfNone result ((sid : SidValue) → Spells (sid_text_in known) text.now sid → ⊥) }
     ensures deny_only { IfNone result ((front : List ℕ) (sid : SidValue) → text.now ≡ front ++ codes "=deny"
-        → Spells sid_text front sid → ⊥) }
+        → Spells (sid_text_in known) front sid → ⊥) }
     ensures disabled { IfNone result ((front : List ℕ) (sid : SidValue) → text.now ≡ front ++ codes "=off"
-        → Spells sid_text front sid → ⊥) }
+        → Spells (sid_text_in known) front sid → ⊥) }
     ensures restricting { IfNone result ((front : List ℕ) (sid : SidValue) → text.now ≡ front ++ codes "=restrict"
-        → Spells sid_text front sid → ⊥) }
+        → Spells (sid_text_in known) front sid → ⊥) }
 {
-    if let Ok(sid) = read_sid_text(text) {
+    if let Ok(sid) = read_sid_text_in(known, text) {
         let state = GroupState::Enabled;
         return Some(Word::Group { sid, state });
     }
-    if let Some(sid) = sid_before(text, "=deny") {
+    if let Some(sid) = sid_before(known, text, "=deny") {
         let state = GroupState::DenyOnly;
         return Some(Word::Group { sid, state });
     }
-    if let Some(sid) = sid_before(text, "=off") {
+    if let Some(sid) = sid_before(known, text, "=off") {
         let state = GroupState::Disabled;
         return Some(Word::Group { sid, state });
     }
-    if let Some(sid) = sid_before(text, "=restrict") {
+    if let Some(sid) = sid_before(known, text, "=restrict") {
         return Some(Word::Restricting { sid });
     }
     None
 }
 
-/// The token of a user and of these words ([MS-DTYP] 2.5.2): each is a group, `SID`, `SID=deny` (it counts for denies
-/// alone) or `SID=off` (it counts for nothing), a restricting SID, `SID=restrict`, or a privilege, `+security` or
-/// `+take`. `NoWord` has the position of the first that is none of these.
-pub fn read_token(alloc: Global, user: Sid, texts: &[&str]) -> Result<Token, TokenError>
-    ensures token { IfOk result (λ token. IsToken user (texts_of texts.now) token) }
-    ensures no_word { (place : ℕ) → result ≡ Err (TokenError.NoWord place) → IsNoWordIn (texts_of texts.now) }
+/// The token of a user and of these words ([MS-DTYP] 2.5.2), whose SIDs may have these aliases. Each word is a group,
+/// `SID`, `SID=deny` (it counts for denies alone) or `SID=off` (it counts for nothing), a restricting SID,
+/// `SID=restrict`, or a privilege, `+security` or `+take`. `NoWord` has the position of the first that is none of
+/// these.
+pub fn read_token(
+    alloc: Global,
+    known: Aliases,
+    user: Sid,
+    texts: &[&str],
+) -> Result<Token, TokenError>
+    ensures token { IfOk result (λ token. IsToken known user (texts_of texts.now) token) }
     ensures first { (place : ℕ) → result ≡ Err (TokenError.NoWord place)
-        → IsFirstNoWord (texts_of texts.now) place }
+        → IsFirstNoWord known (texts_of texts.now) place }
+    ensures within { (place : ℕ) → result ≡ Err (TokenError.NoWord place) → place < length texts.now }
 {
-    let words = read_words(alloc, texts)?;
+    let words = read_words(alloc, known, texts)?;
     Ok(token_of(alloc, user, &words)?)
 }
 
 /// The words that the texts are, in order.
-fn read_words(alloc: Global, texts: &[&str]) -> Result<Vec<Word>, TokenError>
-    ensures words { IfOk result (λ words. AreWords (texts_of texts.now) words.items) }
-    ensures no_word { (place : ℕ) → result ≡ Err (TokenError.NoWord place) → IsNoWordIn (texts_of texts.now) }
+fn read_words(alloc: Global, known: Aliases, texts: &[&str]) -> Result<Vec<Word>, TokenError>
+    ensures words { IfOk result (λ words. AreWords known (texts_of texts.now) words.items) }
     ensures first { (place : ℕ) → result ≡ Err (TokenError.NoWord place)
-        → IsFirstNoWord (texts_of texts.now) place }
+        → IsFirstNoWord known (texts_of texts.now) place }
+    ensures within { (place : ℕ) → result ≡ Err (TokenError.NoWord place) → place < length texts.now }
 {
     let mut words = Vec::new(alloc);
     for place in 0..texts.len() {
-        match read_word(texts[place]) {
+        match read_word(known, texts[place]) {
             Some(word) => words.push(word)?,
             None => return Err(TokenError::NoWord { place }),
         }
@@ -234,26 +241,32 @@ fn restricting_in(alloc: Global, words: &[Word]) -> Result<Vec<Sid>, AllocError>
     Ok(sids)
 }
 
-/// The base of an analysis that these texts are ([MS-DTYP] 2.5.2): each is a group, as those of a token. `NoWord` has
-/// the position of the first that is none.
-pub fn read_base(alloc: Global, texts: &[&str]) -> Result<Vec<(Sid, GroupState)>, TokenError>
-    ensures base { IfOk result (λ groups. AreGroups (texts_of texts.now) groups.items) }
+/// The base of an analysis that these texts are ([MS-DTYP] 2.5.2), whose SIDs may have these aliases: each is a group,
+/// as those of a token. `NoWord` has the position of the first that is none.
+pub fn read_base(
+    alloc: Global,
+    known: Aliases,
+    texts: &[&str],
+) -> Result<Vec<(Sid, GroupState)>, TokenError>
+    ensures base { IfOk result (λ groups. AreGroups known (texts_of texts.now) groups.items) }
     ensures no_group { (place : ℕ) → result ≡ Err (TokenError.NoWord place)
-        → IsFirstNoGroup (texts_of texts.now) place }
+        → IsFirstNoGroup known (texts_of texts.now) place }
+    ensures within { (place : ℕ) → result ≡ Err (TokenError.NoWord place) → place < length texts.now }
 {
-    let words = read_group_words(alloc, texts)?;
+    let words = read_group_words(alloc, known, texts)?;
     Ok(groups_in(alloc, &words)?)
 }
 
 /// The words that the texts are, in order, each a group.
-fn read_group_words(alloc: Global, texts: &[&str]) -> Result<Vec<Word>, TokenError>
-    ensures words { IfOk result (λ words. AreGroups (texts_of texts.now) (groups_of words.items)) }
+fn read_group_words(alloc: Global, known: Aliases, texts: &[&str]) -> Result<Vec<Word>, TokenError>
+    ensures words { IfOk result (λ words. AreGroups known (texts_of texts.now) (groups_of words.items)) }
     ensures no_group { (place : ℕ) → result ≡ Err (TokenError.NoWord place)
-        → IsFirstNoGroup (texts_of texts.now) place }
+        → IsFirstNoGroup known (texts_of texts.now) place }
+    ensures within { (place : ℕ) → result ≡ Err (TokenError.NoWord place) → place < length texts.now }
 {
     let mut words = Vec::new(alloc);
     for place in 0..texts.len() {
-        match read_group_word(texts[place]) {
+        match read_group_word(known, texts[place]) {
             Some(word) => words.push(word)?,
             None => return Err(TokenError::NoWord { place }),
         }
@@ -262,11 +275,11 @@ fn read_group_words(alloc: Global, texts: &[&str]) -> Result<Vec<Word>, TokenErr
 }
 
 /// The word that the text is, if that is a group.
-fn read_group_word(text: &str) -> Option<Word>
-    ensures group { IfSome result (IsGroupWord text.now) }
-    ensures none { IfNone result ((sid : SidValue) (state : GroupStateValue) → IsGroup text.now sid state → ⊥) }
+fn read_group_word(known: Aliases, text: &str) -> Option<Word>
+    ensures group { IfSome result (IsGroupWord known text.now) }
+    ensures none { IfNone result ((sid : SidValue) (state : GroupStateValue) → IsGroup known text.now sid state → ⊥) }
 {
-    match read_word(text) {
+    match read_word(known, text) {
         None => None,
         Some(word) => word.if_group(),
     }

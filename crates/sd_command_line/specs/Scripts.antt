@@ -12,7 +12,14 @@ use Rattle.sd_commands.specs.declared.settings.Settings.{Settings}
 
 -- the manner in which it is carried out
 abbrev pub manner_of : OptionsValue → Settings → Manner
-manner_of options settings = record { mapping = settings.mapping; paths = paths_of options }
+manner_of options settings = record {
+  mapping = settings.mapping;
+  notation = record {
+    paths = paths_of options;
+    aliases = settings.aliases;
+    without_sacl = settings.without_sacl;
+  };
+}
 
 -- what is told of a line, where there is one
 abbrev pub line_note : List ℕ → Option ℕ → List ℕ

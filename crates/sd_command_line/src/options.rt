@@ -14,7 +14,7 @@ ghost use Rattle.sd_command_line.specs.Mistake.{map_read};
 use crate::mistake::{Mistake, Wrong};
 use sd_answer::Spelling;
 use sd_commands::{ByteForm, Settings, kind_given, mapping_given};
-use sd_script::{Manner, PathSpelling};
+use sd_script::{Manner, Notation, PathSpelling};
 use sd_text::{Aliases, Domain, read_sid_text};
 use sd_usage::{OPTION_COUNT, OptionName, ProgramOption, option_named, takes_option};
 
@@ -114,7 +114,11 @@ impl<'a> Options<'a> {
     {
         Manner {
             mapping: settings.mapping,
-            paths: self.paths(),
+            notation: Notation {
+                paths: self.paths(),
+                aliases: settings.aliases,
+                without_sacl: settings.without_sacl,
+            },
         }
     }
 

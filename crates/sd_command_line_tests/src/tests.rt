@@ -4,7 +4,8 @@ mod each_call;
 mod streams;
 
 use sd_command_line::{
-    GenericMapping, Manner, OpenGate, PathSpelling, RunError, Tally, Watched, drive, run_audit,
+    GenericMapping, Manner, Notation, OpenGate, PathSpelling, RunError, Tally, Watched, drive,
+    run_audit,
 };
 use std::alloc::Global;
 use std::io;

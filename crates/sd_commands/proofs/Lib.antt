@@ -4,4 +4,4 @@ pub mod Texts
 pub mod BytesByPart
 pub mod SortedOrder
 pub mod Sorting
-pub mod SpelledOut
+pub mod Arguments

@@ -7,24 +7,12 @@ use Rattle.sd_sid.specs.Sid.{SidValue}
 use Rattle.sd_acl.specs.Descriptor.{DescriptorValue}
 use Rattle.sd_check.specs.Check.{dacl_entries}
 use Rattle.sd_check.specs.declared.token.GroupState.{GroupState}
-use Rattle.sd_text.specs.declared.alias.Aliases.{Aliases}
 use Rattle.sd_analysis.specs.Sufficient.{Parts}
 use Rattle.sd_analysis.specs.Who.{AllBeyond, HasEachOnce, IsMost, IsWho}
 use Rattle.sd_analysis.specs.declared.compare_report.Change.{Change}
 use Rattle.sd_analysis.specs.declared.who_has.Access.{Access}
-use Rattle.sd_answer.specs.Word.{AreGroups, IsFirstNoGroup}
-use Rattle.sd_commands.specs.Words.{AreSpelledOut}
 use Rattle.sd_commands.specs.declared.answer.Outcome.{Outcome}
 use Rattle.sd_commands.specs.declared.answer.Outcome.TheVariants.{Done, Refused}
-
--- the words are these groups
-abbrev pub IsBaseIn : Aliases → List (List ℕ) → List (SidValue × GroupState) → Type 0
-IsBaseIn known words base = (fulls : List (List ℕ)) × AreSpelledOut known words fulls × AreGroups fulls base
-
--- the word at the place is the first that is no group
-abbrev pub IsFirstNoGroupIn : Aliases → List (List ℕ) → ℕ → Type 0
-IsFirstNoGroupIn known words place = (fulls : List (List ℕ)) × AreSpelledOut known words fulls
-    × IsFirstNoGroup fulls place
 
 -- the rights that are asked about: all, for MAXIMUM_ALLOWED, or those of the mapped mask
 abbrev pub rights_asked : MappingValue → ℕ → ℕ

@@ -10,13 +10,9 @@ use Rattle.sd_acl.specs.Descriptor.{DescriptorValue, descriptor_of}
 use Rattle.sd_check.specs.declared.verdict.Verdict.{Verdict}
 use Rattle.sd_check.specs.declared.verdict.Verdict.TheVariants.{Granted, Denied, Reserved, EmptyRequest}
 use Rattle.sd_text.specs.Grammar.{Grammar, Spells, HasFault}
-use Rattle.sd_text.specs.Sacl.{sddl_without_sacl}
-use Rattle.sd_text.specs.Sddl.{sddl_in}
 use Rattle.sd_text.specs.Sid.{sid_text_in}
 use Rattle.sd_text.specs.Rights.{mask_text}
 use Rattle.sd_text.specs.Canon.{canon}
-use Rattle.sd_text.specs.declared.fault.TextError.{TextError}
-use Rattle.sd_text.specs.declared.fault.TextError.TheVariants.{Fault, Memory}
 use Rattle.sd_text.specs.declared.fault.TextFault.{TextFault}
 use Rattle.sd_wire.specs.Reading.{descriptor_read}
 use Rattle.sd_wire.specs.Writing.{wire_of}
@@ -29,11 +25,12 @@ use Rattle.sd_analysis.specs.declared.compare_report.Change.{Change}
 use Rattle.sd_analysis.specs.declared.who_has.Access.{Access}
 use Rattle.sd_check.specs.declared.token.GroupState.{GroupState}
 use Rattle.sd_answer.specs.Compare.{compare_text}
+use Rattle.sd_answer.specs.Descriptor.{IsRead, IsUnreadAt}
 use Rattle.sd_answer.specs.Lint.{IsLintText}
 use Rattle.sd_answer.specs.Who.{who_text}
 use Rattle.sd_answer.specs.Why.{why_text}
-use Rattle.sd_answer.specs.Word.{texts}
-use Rattle.sd_commands.specs.Analysis.{AreAccesses, IsBaseIn, IsFirstNoGroupIn, compare_outcome, parts_in, rights_asked}
+use Rattle.sd_answer.specs.Word.{AreGroups, IsFirstNoGroup, IsFirstNoWord, IsToken, texts}
+use Rattle.sd_commands.specs.Analysis.{AreAccesses, compare_outcome, parts_in, rights_asked}
 use Rattle.sd_commands.specs.Bytes.{bytes_read, form_name, has_sacl, without_sacl}
 use Rattle.sd_usage.specs.declared.row.Question.{Question}
 use Rattle.sd_usage.specs.declared.row.Question.TheVariants as questions
@@ -43,7 +40,6 @@ use Rattle.sd_commands.specs.Sort.{move_notes, sorted_descriptor}
 use Rattle.sd_commands.specs.Told.{fault_text, sacl_note, sddl_fault_text, told_line, told_wire_fault}
 use Rattle.sd_commands.specs.Told.{wire_fault_text, word_argument, word_at}
 use Rattle.sd_commands.specs.Told.{IsStateReason, IsWordReason}
-use Rattle.sd_commands.specs.Words.{IsTokenIn, IsFirstNoWordIn}
 use Rattle.sd_commands.specs.declared.answer.Answer.{Answer}
 use Rattle.sd_commands.specs.declared.answer.Outcome.{Outcome}
 use Rattle.sd_commands.specs.declared.answer.Outcome.TheVariants.{Done, Refused}
@@ -111,26 +107,10 @@ argument arguments place = option_map_or (λ text. text.now) (slice_get argument
 
 -- ---- a descriptor's text
 
--- the text is this descriptor's; whether the section of a SACL was left out
-abbrev pub IsRead : Settings → List ℕ → DescriptorValue → Bool → Type 0
-IsRead settings written d left_out = MatchBool settings.without_sacl
-    (Spells (sddl_without_sacl settings.aliases) written (d, left_out))
-    (Spells (sddl_in settings.aliases) written d × (left_out ≡ false))
-
--- the first fault of the text
-abbrev pub IsUnreadAt : Settings → List ℕ → TextFault → ℕ → Type 0
-IsUnreadAt settings written fault place = MatchBool settings.without_sacl
-    (HasFault (sddl_without_sacl settings.aliases) written fault place)
-    (HasFault (sddl_in settings.aliases) written fault place)
-
-abbrev pub IsUnread : Settings → List ℕ → TextError → Type 0
-IsUnread settings written (Fault fault place) = IsUnreadAt settings written fault place
-IsUnread settings written Memory = Unit {0}
-
 -- the fault of the argument of this name is printed
 abbrev pub AnswersSddlFault : List ℕ → Settings → List ℕ → AnswerValue → Type 0
 AnswersSddlFault argument settings written answer =
-    (fault : TextFault) × (place : ℕ) × IsUnreadAt settings written fault place
+    (fault : TextFault) × (place : ℕ) × IsUnreadAt settings.aliases settings.without_sacl written fault place
     × IsFault (sddl_fault_line fault place) (told_line argument (sddl_fault_text written fault place)) answer
 
 -- what is answered otherwise, and where a SACL was left out, that is told first
@@ -146,13 +126,14 @@ IsMissingDacl argument missing answer = IsFault (fault_line (codes "nodacl")) (t
 abbrev pub IsRefusedArgument : List ℕ → Settings → List ℕ → AnswerValue → Type 0
 IsRefusedArgument argument settings written answer =
     AnswersSddlFault argument settings written answer
-    ⊎ ((d : DescriptorValue) × (left_out : Bool) × (missing : List ℕ) × IsRead settings written d left_out
+    ⊎ ((d : DescriptorValue) × (left_out : Bool) × (missing : List ℕ)
+    × IsRead settings.aliases settings.without_sacl written d left_out
     × (missing_dacl settings.require_dacl d.dacl ≡ Some missing)
     × Noting argument left_out (IsMissingDacl argument missing) answer)
 
 -- the argument is this descriptor, and it is taken
 abbrev pub IsTaken : Settings → List ℕ → DescriptorValue → Bool → Type 0
-IsTaken settings written d left_out = IsRead settings written d left_out
+IsTaken settings written d left_out = IsRead settings.aliases settings.without_sacl written d left_out
     × (missing_dacl settings.require_dacl d.dacl ≡ None)
 
 -- what the argument of this name is
@@ -191,14 +172,14 @@ IsVerdict settings form d token asked answer =
 -- the first of the words that is none, and why
 abbrev pub IsWordFault : Settings → List (List ℕ) → AnswerValue → Type 0
 IsWordFault settings words answer =
-    (place : ℕ) × IsFirstNoWordIn settings.aliases words place
+    (place : ℕ) × IsFirstNoWord settings.aliases words place
     × (reason : List ℕ) × IsWordReason settings.aliases (word_at words place) reason
     × IsFault (fault_line (codes "token")) (told_line (word_argument place (word_at words place)) reason) answer
 
 -- the words make a token, for which this is the verdict; or one of them is no word
 abbrev pub AnswersWords : Settings → Form → DescriptorValue → SidValue → ℕ → List (Bor (List ℕ)) → AnswerValue → Type 0
 AnswersWords settings form d user asked words answer =
-    ((token : TokenValue) × IsTokenIn settings.aliases user (texts words) token
+    ((token : TokenValue) × IsToken settings.aliases user (texts words) token
     × IsVerdict settings form d token asked answer)
     ⊎ IsWordFault settings (texts words) answer
 
@@ -277,7 +258,7 @@ AnswersFromBinary settings written answer = AnswersDecoded settings (bytes_read 
 -- the first of the words that is no group, and why
 abbrev pub IsGroupFault : Settings → List (Bor (List ℕ)) → AnswerValue → Type 0
 IsGroupFault settings words answer =
-    (place : ℕ) × IsFirstNoGroupIn settings.aliases (texts words) place
+    (place : ℕ) × IsFirstNoGroup settings.aliases (texts words) place
     × (reason : List ℕ) × IsStateReason settings.aliases (argument words place) reason
     × IsFault (fault_line (codes "token")) (told_line (word_argument place (argument words place)) reason) answer
 
@@ -285,7 +266,7 @@ IsGroupFault settings words answer =
 abbrev pub AnswersOfBase : Settings → List (Bor (List ℕ)) → (List (SidValue × GroupState) → AnswerValue → Type 0)
     → AnswerValue → Type 0
 AnswersOfBase settings words Answers answer =
-    ((base : List (SidValue × GroupState)) × IsBaseIn settings.aliases (texts words) base × Answers base answer)
+    ((base : List (SidValue × GroupState)) × AreGroups settings.aliases (texts words) base × Answers base answer)
     ⊎ IsGroupFault settings words answer
 
 -- whom the rights are granted to is printed

@@ -8,4 +8,3 @@ pub mod Rights
 pub mod Sort
 pub mod Told
 pub mod Value
-pub mod Words

@@ -2,7 +2,7 @@
 use Rattle.std.specs.Prelude.{◌≡◌, ◌⊎◌, ℕ, ◌+◌, ◌==◌, ◌||◌, ◌&&◌, nat_le, nat_lt, Bool, false, MatchBool, List, [], ◌∷◌}
 use Rattle.std.specs.Prelude.{◌++◌, get_or, take, Option, if◌then◌else◌, codes}
 use Rattle.std.specs.Fmt.{decimal, digits}
-use Rattle.std.specs.List.{flat_map}
+use Rattle.std.specs.List.{flat_map, position_or_len}
 use Rattle.std.specs.Char.{encode_utf8}
 use Rattle.std.specs.Str.{chars}
 use Rattle.sd_sid.specs.Sid.{SidValue}
@@ -15,7 +15,6 @@ use Rattle.sd_wire.specs.Fault.{wire_fault_number, wire_fault_name}
 use Rattle.sd_wire.specs.declared.fault.WireFault.{WireFault}
 use Rattle.sd_answer.specs.Answer.{line}
 use Rattle.sd_commands.specs.Kinds.{kind_note, wire_kind_note}
-use Rattle.sd_commands.specs.Words.{sid_length}
 
 -- what is wrong with an argument
 abbrev pub told_line : List ℕ → List ℕ → List ℕ
@@ -68,6 +67,10 @@ IsSidReason known unfit text reason =
     ((sid : SidValue) × Spells (sid_text_in known) text sid × (reason ≡ unfit))
     ⊎ ((fault : TextFault) × (place : ℕ) × HasFault (sid_text_in known) text fault place
     × (reason ≡ fault_text fault place))
+
+-- how long the SID of a word is: as far as the first `=`, or all of it
+abbrev pub sid_length : List ℕ → ℕ
+sid_length word = position_or_len (λ b. b == 61) word
 
 -- why a text is no SID with a state
 abbrev pub IsStateReason : Aliases → List ℕ → List ℕ → Type 0

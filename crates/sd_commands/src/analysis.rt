@@ -2,9 +2,9 @@
 ghost use Rattle.std.specs.Prelude.{◌≡◌, ◌<◌, IfOk, length};
 ghost use Rattle.sd_acl.specs.Descriptor.{descriptor_of};
 ghost use Rattle.sd_analysis.specs.Sufficient.{parts_of};
-ghost use Rattle.sd_answer.specs.Word.{texts};
+ghost use Rattle.sd_answer.specs.Word.{IsFirstNoGroup, texts};
 ghost use Rattle.sd_check.specs.Check.{dacl_entries, entries_of};
-ghost use Rattle.sd_commands.specs.Analysis.{IsFirstNoGroupIn, compare_outcome, parts_in, rights_asked};
+ghost use Rattle.sd_commands.specs.Analysis.{compare_outcome, parts_in, rights_asked};
 ghost use Rattle.sd_commands.specs.Answer.{AnswersCompare, AnswersCompareOf, AnswersNew, AnswersOfBase};
 ghost use Rattle.sd_commands.specs.Answer.{AnswersWho, AnswersWhoMask, AnswersWhoOf, IsGroupFault, PrintsComparison};
 ghost use Rattle.sd_commands.specs.Answer.{PrintsWho, answer_of};
@@ -13,10 +13,10 @@ use crate::answer::{Answer, Outcome, fault, text_fault};
 use crate::descriptor::{Given, noting, read_argument};
 use crate::settings::Settings;
 use crate::told::{state_reason, told_line, word_argument};
-use crate::words::{argument, arguments_from, base_in};
+use crate::words::{argument, arguments_from};
 use sd_acl::{Dacl, Descriptor};
 use sd_analysis::{Base, Comparison, DescriptorRef, compare, who};
-use sd_answer::{TokenError, compare_text, who_text};
+use sd_answer::{TokenError, compare_text, read_base, who_text};
 use sd_check::{DaclRef, GroupState};
 use sd_sid::{GenericMapping, Mask, Sid};
 use sd_text::{TextError, read_mask};
@@ -87,7 +87,7 @@ fn who_with_base(
         (λ answer. AnswersOfBase settings words.now (PrintsWho settings asked (descriptor_of descriptor.now))
         (answer_of answer)) }
 {
-    match base_in(alloc, settings.aliases, words) {
+    match read_base(alloc, settings.aliases, words) {
         Ok(groups) => who_lines(alloc, settings, descriptor, asked, &groups),
         Err(TokenError::NoWord { place }) => group_fault(alloc, settings, words, place),
         Err(TokenError::Memory) => Err(AllocError),
@@ -129,7 +129,7 @@ pub(crate) fn group_fault(
     words: &[&str],
     place: usize,
 ) -> Result<Answer, AllocError>
-    requires first { IsFirstNoGroupIn settings.aliases (texts words.now) place }
+    requires first { IsFirstNoGroup settings.aliases (texts words.now) place }
     requires within { place < length words.now }
     ensures { IfOk result (λ answer. IsGroupFault settings words.now (answer_of answer)) }
 {
@@ -202,7 +202,7 @@ fn compare_with_base(
     ensures { IfOk result (λ answer. AnswersOfBase settings words.now
         (PrintsComparison settings (descriptor_of old.now) (descriptor_of new.now)) (answer_of answer)) }
 {
-    match base_in(alloc, settings.aliases, words) {
+    match read_base(alloc, settings.aliases, words) {
         Ok(groups) => compare_lines(alloc, settings, old, new, &groups),
         Err(TokenError::NoWord { place }) => group_fault(alloc, settings, words, place),
         Err(TokenError::Memory) => Err(AllocError),

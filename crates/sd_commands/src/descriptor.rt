@@ -1,13 +1,13 @@
 //! The descriptor that an argument's text is, with a SACL that is left out where that is asked for.
-ghost use Rattle.std.specs.Prelude.{◌≡◌, IfErr, IfOk};
-ghost use Rattle.sd_acl.specs.Descriptor.{descriptor_of};
-ghost use Rattle.sd_commands.specs.Answer.{IsGiven, IsRead, IsUnread, Noting, answer_of};
+ghost use Rattle.std.specs.Prelude.{◌≡◌, IfOk};
+ghost use Rattle.sd_commands.specs.Answer.{IsGiven, Noting, answer_of};
 
 use crate::answer::{Answer, sddl_fault};
 use crate::missing_dacl::{missing_dacl, missing_dacl_fault};
 use crate::settings::Settings;
 use crate::told::sacl_note;
-use sd_text::{TextError, WithoutSacl, read_sddl_in, read_sddl_without_sacl};
+use sd_answer::read_sddl_argument;
+use sd_text::{TextError, WithoutSacl};
 use std::alloc::{AllocError, Global};
 
 /// What an argument is.
@@ -27,7 +27,7 @@ pub(crate) fn read_argument(
 ) -> Result<Given, AllocError>
     ensures { IfOk result (IsGiven argument.now settings sddl.now) }
 {
-    let read = match read_text(alloc, settings, sddl) {
+    let read = match read_sddl_argument(alloc, settings.aliases, settings.without_sacl, sddl) {
         Ok(read) => read,
         Err(TextError::Fault { fault, place }) => {
             return Ok(Given::Refused(sddl_fault(alloc, argument, sddl, fault, place)?));
@@ -41,23 +41,6 @@ pub(crate) fn read_argument(
             let answer = noting(alloc, argument, read.left_out, answer)?;
             Ok(Given::Refused(answer))
         }
-    }
-}
-
-/// The descriptor that the text spells, or its first fault.
-fn read_text(alloc: Global, settings: Settings, sddl: &str) -> Result<WithoutSacl, TextError>
-    ensures read { IfOk result (λ read. IsRead settings sddl.now (descriptor_of read.descriptor) read.left_out) }
-    ensures unread { IfErr result (IsUnread settings sddl.now) }
-{
-    if settings.without_sacl {
-        return read_sddl_without_sacl(alloc, settings.aliases, sddl);
-    }
-    match read_sddl_in(alloc, settings.aliases, sddl) {
-        Ok(descriptor) => Ok(WithoutSacl {
-            descriptor,
-            left_out: false,
-        }),
-        Err(error) => Err(error),
     }
 }
 

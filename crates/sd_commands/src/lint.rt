@@ -7,10 +7,9 @@ use crate::analysis::group_fault;
 use crate::answer::{Answer, Outcome};
 use crate::descriptor::{Given, noting, read_argument};
 use crate::settings::Settings;
-use crate::words::base_in;
 use sd_acl::Descriptor;
 use sd_analysis::Base;
-use sd_answer::{TokenError, lint_text};
+use sd_answer::{TokenError, lint_text, read_base};
 use sd_check::GroupState;
 use sd_sid::Sid;
 use std::alloc::{AllocError, Global};
@@ -42,7 +41,7 @@ fn lint_with_base(
     ensures { IfOk result (λ answer. AnswersOfBase settings words.now
         (PrintsFindings settings (descriptor_of descriptor.now)) (answer_of answer)) }
 {
-    match base_in(alloc, settings.aliases, words) {
+    match read_base(alloc, settings.aliases, words) {
         Ok(groups) => lint_lines(alloc, settings, descriptor, &groups),
         Err(TokenError::NoWord { place }) => group_fault(alloc, settings, words, place),
         Err(TokenError::Memory) => Err(AllocError),

@@ -2,18 +2,17 @@
 ghost use Rattle.std.specs.Prelude.{◌≡◌, ◌<◌, IfOk, length, string_bytes};
 ghost use Rattle.sd_acl.specs.Descriptor.{descriptor_of};
 ghost use Rattle.sd_check.specs.Check.{verdict};
-ghost use Rattle.sd_answer.specs.Word.{texts};
+ghost use Rattle.sd_answer.specs.Word.{IsFirstNoWord, texts};
 ghost use Rattle.sd_commands.specs.Answer.{AnswersVerdict, AnswersVerdictOf, AnswersUser, AnswersMask, AnswersWords};
 ghost use Rattle.sd_commands.specs.Answer.{IsWordFault, answer_of, form_text, verdict_outcome};
-ghost use Rattle.sd_commands.specs.Words.{IsFirstNoWordIn};
 
 use crate::answer::{Answer, Outcome, fault, text_fault};
 use crate::descriptor::{Given, noting, read_argument};
 use crate::settings::Settings;
 use crate::told::{told_line, word_argument, word_reason};
-use crate::words::{argument, arguments_from, token_in};
+use crate::words::{argument, arguments_from};
 use sd_acl::Descriptor;
-use sd_answer::{TokenError, verdict_line, why_text};
+use sd_answer::{TokenError, read_token, verdict_line, why_text};
 use sd_check::{Token, Verdict, check};
 use sd_sid::{Mask, Sid};
 use sd_text::{TextError, read_mask, read_sid_text_in};
@@ -116,7 +115,7 @@ fn verdict_with_words(
     ensures { IfOk result (λ answer. AnswersWords settings form (descriptor_of descriptor.now) user asked words.now
         (answer_of answer)) }
 {
-    match token_in(alloc, settings.aliases, user, words) {
+    match read_token(alloc, settings.aliases, user, words) {
         Ok(token) => {
             let verdict = check(descriptor, &settings.mapping, &token, asked);
             Ok(Answer {
@@ -137,7 +136,7 @@ fn word_fault(
     words: &[&str],
     place: usize,
 ) -> Result<Answer, AllocError>
-    requires first { IsFirstNoWordIn settings.aliases (texts words.now) place }
+    requires first { IsFirstNoWord settings.aliases (texts words.now) place }
     requires within { place < length words.now }
     ensures { IfOk result (λ answer. IsWordFault settings (texts words.now) (answer_of answer)) }
 {

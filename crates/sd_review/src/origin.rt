@@ -3,12 +3,9 @@ ghost use Rattle.std.specs.Prelude.{◌≡◌, ◌<◌, IfOk, Some, drop, length
 ghost use Rattle.sd_path.specs.Names.{is_within, moved_path};
 ghost use Rattle.sd_review.specs.Origin.{origin, path_or_none, place_before, unless_same};
 
-use sd_path::Path;
+use sd_path::{MAX_NAMES, Path};
 use sd_tree::{Edit, Journal, Tree};
 use std::alloc::{AllocError, Global};
-
-/// How many names a path has at most (docs/TREE.md).
-const MAX_NAMES: u64 = 128;
 
 /// Where the node that stands at the path stood before the tree's edits from a place on, if they didn't add it.
 pub(crate) fn origin(
@@ -92,7 +89,7 @@ fn moved_back(
 {
     let (source, target) = (source.as_path_ref(), target.as_path_ref());
     let below = path.as_path_ref().depth().saturating_sub(target.depth());
-    if source.depth().saturating_add(below) > MAX_NAMES {
+    if source.depth().saturating_add(below) > u64::from(MAX_NAMES) {
         return Ok(None);
     }
     Ok(Some(path.moved(alloc, &target, &source)?))

@@ -61,11 +61,11 @@ outcomes_begin m reader path t asked =
     (node_begins g (dacl_at g tree path) (row_at tree path) t asked))
 
 pub begins_as_check : BeginsAsCheck
-begins_as_check paths m reader path t asked checked told one other first second =
+begins_as_check notation m reader path t asked checked told one other first second =
     let r = requests.Check reader path t asked in
     let check = one_step m r first.0 first.1 checked first.2 first.3 in
     let why = one_explained m reader path t asked second.0 second.1 told second.2 second.3 in
     let both = outcomes_begin m reader path t asked in (
       (both.0.0, ap (λ (z : List ℕ × Machine). z.0) why ∙ both.0.1 ∙ ap (λ (z : List ℕ × Machine). z.0 ++ both.0.0) (sym check)),
-      second.4 ∙ ap (Opened paths) (ap (λ (z : List ℕ × Machine). z.1) why ∙ both.1 ∙ ap (λ (z : List ℕ × Machine). z.1) (sym check)) ∙ sym first.4,
+      second.4 ∙ ap (Opened notation) (ap (λ (z : List ℕ × Machine). z.1) why ∙ both.1 ∙ ap (λ (z : List ℕ × Machine). z.1) (sym check)) ∙ sym first.4,
     )

@@ -86,7 +86,7 @@ for_reader_alike false m looked len reply by_parent = (
 )
 
 pub deletes_as_checked : DeletesAsChecked
-deletes_as_checked paths m reader path t checked told one other first second =
+deletes_as_checked notation m reader path t checked told one other first second =
     let len = length m.published in
     let by_parent = parent_grants m.opening m.published path t in
     let check = one_step m (requests.Check reader path t delete_right) first.0 first.1 checked first.2 first.3 in
@@ -96,6 +96,6 @@ deletes_as_checked paths m reader path t checked told one other first second =
     let said = ap (λ (z : List ℕ × Machine). z.0) deletion in (
       λ is. said ∙ both.0.0 (subst (IsGranted len) text is),
       λ is. subst (IsGranted len) (sym text) (both.0.1 (sym said ∙ is)),
-      second.4 ∙ ap (λ (z : List ℕ × Machine). Opened paths z.1) deletion ∙ ap (Opened paths) both.1
-          ∙ sym (ap (λ (z : List ℕ × Machine). Opened paths z.1) check) ∙ sym first.4,
+      second.4 ∙ ap (λ (z : List ℕ × Machine). Opened notation z.1) deletion ∙ ap (Opened notation) both.1
+          ∙ sym (ap (λ (z : List ℕ × Machine). Opened notation z.1) check) ∙ sym first.4,
     )

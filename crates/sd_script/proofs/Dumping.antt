@@ -27,6 +27,7 @@ use Rattle.sd_script.specs.Lines.{is_silent}
 use Rattle.sd_script.specs.Paths.{path_word}
 use Rattle.sd_script.specs.declared.asked.Asked.{Asked}
 use Rattle.sd_script.specs.declared.fault.LineFault.{LineFault}
+use Rattle.sd_script.specs.declared.manner.Notation.{Notation}
 use Rattle.sd_script.specs.declared.paths.PathSpelling.{PathSpelling}
 use Rattle.sd_script.proofs.Cutting.{feeds, lines_first, lines_whole}
 use Rattle.sd_script.proofs.OneReading.{line-one}
@@ -112,20 +113,20 @@ good asked = Ok asked
 same_read : {r : Bool} (asked wanted : Asked) → Decides r (asked ≡ wanted) → Decides r (good asked ≡ good wanted)
 same_read asked wanted same = (λ e. ap Ok (same.0 e), λ e. same.1 (cc (e)))
 
-decides_read : (paths : PathSpelling) (is_open : Bool) (text : List ℕ) (read : Result Asked LineFault) (wanted : Asked) (r : Bool) → is_silent text ≡ false
-    → line_asks paths is_open text read → Decides r (read ≡ Ok wanted) → Decides r (IsAskedBy paths is_open text wanted)
-decides_read paths is_open text read wanted r loud asks same =
-    (λ e. (loud, subst (λ x. line_asks paths is_open text x) (same.0 e) asks), λ is. same.1 (line-one paths is_open text read (Ok wanted) asks is.1))
+decides_read : (notation : Notation) (is_open : Bool) (text : List ℕ) (read : Result Asked LineFault) (wanted : Asked) (r : Bool) → is_silent text ≡ false
+    → line_asks notation is_open text read → Decides r (read ≡ Ok wanted) → Decides r (IsAskedBy notation is_open text wanted)
+decides_read notation is_open text read wanted r loud asks same =
+    (λ e. (loud, subst (λ x. line_asks notation is_open text x) (same.0 e) asks), λ is. same.1 (line-one notation is_open text read (Ok wanted) asks is.1))
 
-pub read_decides : (paths : PathSpelling) (is_open : Bool) (text : List ℕ) (asked wanted : Asked) (r : Bool) → is_silent text ≡ false
-    → line_asks paths is_open text (Ok asked) → Decides r (asked ≡ wanted) → Decides r (IsAskedBy paths is_open text wanted)
-read_decides paths is_open text asked wanted r loud asks same = decides_read paths is_open text (Ok asked) wanted r loud asks (same_read asked wanted same)
+pub read_decides : (notation : Notation) (is_open : Bool) (text : List ℕ) (asked wanted : Asked) (r : Bool) → is_silent text ≡ false
+    → line_asks notation is_open text (Ok asked) → Decides r (asked ≡ wanted) → Decides r (IsAskedBy notation is_open text wanted)
+read_decides notation is_open text asked wanted r loud asks same = decides_read notation is_open text (Ok asked) wanted r loud asks (same_read asked wanted same)
 
 -- a line with a fault is read as nothing
-pub fault_decides : (paths : PathSpelling) (is_open : Bool) (text : List ℕ) (fault : LineFault) (wanted : Asked) → is_silent text ≡ false
-    → line_asks paths is_open text (Err fault) → Decides false (IsAskedBy paths is_open text wanted)
-fault_decides paths is_open text fault wanted loud asks =
-    decides_read paths is_open text (Err fault) wanted false loud asks (λ e. absurd (false≢true e), λ e. absurd (cc (e)))
+pub fault_decides : (notation : Notation) (is_open : Bool) (text : List ℕ) (fault : LineFault) (wanted : Asked) → is_silent text ≡ false
+    → line_asks notation is_open text (Err fault) → Decides false (IsAskedBy notation is_open text wanted)
+fault_decides notation is_open text fault wanted loud asks =
+    decides_read notation is_open text (Err fault) wanted false loud asks (λ e. absurd (false≢true e), λ e. absurd (cc (e)))
 
 -- ---- lines
 
@@ -140,24 +141,24 @@ some_lines xs some = elim (cases_lt (position_or_len feeds xs) (length xs)) [
 ]
 
 -- a text whose first line is this, and nothing behind it
-pub one_line : (paths : PathSpelling) (is_open : Bool) (texts : List (List ℕ)) (text rest : List ℕ) (wanted : Asked) (r : Bool) → texts ≡ text ∷ lines rest → length rest ≡ 0
-    → Decides r (IsAskedBy paths is_open text wanted) → Decides r (AreAskedBy paths is_open texts (wanted ∷ []))
-one_line paths is_open texts text rest wanted r cut none decides =
+pub one_line : (notation : Notation) (is_open : Bool) (texts : List (List ℕ)) (text rest : List ℕ) (wanted : Asked) (r : Bool) → texts ≡ text ∷ lines rest → length rest ≡ 0
+    → Decides r (IsAskedBy notation is_open text wanted) → Decides r (AreAskedBy notation is_open texts (wanted ∷ []))
+one_line notation is_open texts text rest wanted r cut none decides =
     let whole : texts ≡ text ∷ [] = cut ∙ ap (λ more. text ∷ more) (no_lines rest none) in
     rw whole (λ e. (decides.0 e, tt), λ are. decides.1 are.0)
 
 -- more lines than one are asked by more than one
-pub not_one_line : (paths : PathSpelling) (is_open : Bool) (texts : List (List ℕ)) (text rest : List ℕ) (wanted : Asked) → texts ≡ text ∷ lines rest → 0 < length rest
-    → AreAskedBy paths is_open texts (wanted ∷ []) → ⊥
-not_one_line paths is_open texts text rest wanted cut some are =
+pub not_one_line : (notation : Notation) (is_open : Bool) (texts : List (List ℕ)) (text rest : List ℕ) (wanted : Asked) → texts ≡ text ∷ lines rest → 0 < length rest
+    → AreAskedBy notation is_open texts (wanted ∷ []) → ⊥
+not_one_line notation is_open texts text rest wanted cut some are =
     let more = some_lines rest some in
     let whole : texts ≡ text ∷ more.0 ∷ more.1 = cut ∙ ap (λ xs. text ∷ xs) more.2 in
-    (subst (λ xs. AreAskedBy paths is_open xs (wanted ∷ [])) whole are).1
+    (subst (λ xs. AreAskedBy notation is_open xs (wanted ∷ [])) whole are).1
 
-pub silent_line : (paths : PathSpelling) (is_open : Bool) (texts : List (List ℕ)) (text rest : List ℕ) (wanted : Asked) → texts ≡ text ∷ lines rest → is_silent text ≡ true
-    → AreAskedBy paths is_open texts (wanted ∷ []) → ⊥
-silent_line paths is_open texts text rest wanted cut silent are =
-    let asked = subst (λ xs. AreAskedBy paths is_open xs (wanted ∷ [])) cut are in
+pub silent_line : (notation : Notation) (is_open : Bool) (texts : List (List ℕ)) (text rest : List ℕ) (wanted : Asked) → texts ≡ text ∷ lines rest → is_silent text ≡ true
+    → AreAskedBy notation is_open texts (wanted ∷ []) → ⊥
+silent_line notation is_open texts text rest wanted cut silent are =
+    let asked = subst (λ xs. AreAskedBy notation is_open xs (wanted ∷ [])) cut are in
     false≢true (sym asked.0.0 ∙ silent)
 
 -- ---- the nodes that are left
@@ -177,20 +178,20 @@ next_left [] k x is = absurd (cc (is))
 next_left (y ∷ xs) zero x is = let same : x ≡ y = cc (is) in ap (λ z. z ∷ xs) (sym same)
 next_left (y ∷ xs) (suc k) x is = next_left xs k x is
 
-module _ (paths : PathSpelling) (readers : ℕ) (es : List (Names × Row)) (behind : List Asked) where
+module _ (notation : Notation) (readers : ℕ) (es : List (Names × Row)) (behind : List Asked) where
   abbrev Left : Bool → List (List ℕ) → ℕ → Type 0
-  Left is_open texts k = AreAskedBy paths is_open texts (makings readers (drop k es) ++ behind)
+  Left is_open texts k = AreAskedBy notation is_open texts (makings readers (drop k es) ++ behind)
 
   -- the first of the lines that are left is the next node's, and the others are left behind it
   left_is : (is_open : Bool) (texts : List (List ℕ)) (text : List ℕ) (more : List (List ℕ)) (k : ℕ) (node : Names × Row) → Some node ≡ slice_get es k
-      → texts ≡ text ∷ more → Same (IsAskedBy paths is_open text (making readers node.0 node.1) × Left true more (suc k)) (Left is_open texts k)
+      → texts ≡ text ∷ more → Same (IsAskedBy notation is_open text (making readers node.0 node.1) × Left true more (suc k)) (Left is_open texts k)
   left_is is_open texts text more k node is cut = rw (cut, next_left es k node is) (record { there = λ x. (x.0, x.1); back = λ x. (x.0, x.1) })
 
   opened : (k : ℕ) → nat_lt 0 (k + 1) ≡ true
   opened k = lt-ltb 0 (k + 1) (omega arith)
 
   pub next_same : (texts : List (List ℕ)) (text : List ℕ) (more : List (List ℕ)) (k : ℕ) (node : Names × Row) (whole : Type 0) → Some node ≡ slice_get es k
-      → texts ≡ text ∷ more → IsAskedBy paths (nat_lt 0 k) text (making readers node.0 node.1) → Same (Left (nat_lt 0 k) texts k) whole
+      → texts ≡ text ∷ more → IsAskedBy notation (nat_lt 0 k) text (making readers node.0 node.1) → Same (Left (nat_lt 0 k) texts k) whole
       → Same (Left (nat_lt 0 (k + 1)) more (k + 1)) whole
   next_same texts text more k node whole is cut asked same =
       let split = left_is (nat_lt 0 k) texts text more k node is cut in
@@ -198,18 +199,18 @@ module _ (paths : PathSpelling) (readers : ℕ) (es : List (Names × Row)) (behi
       rw (opened k, next) (record { there = λ left. same.there (split.there (asked, left)); back = λ all. (split.back (same.back all)).1 })
 
   pub not_next : (texts : List (List ℕ)) (text : List ℕ) (more : List (List ℕ)) (k : ℕ) (node : Names × Row) (whole : Type 0) → Some node ≡ slice_get es k
-      → texts ≡ text ∷ more → (IsAskedBy paths (nat_lt 0 k) text (making readers node.0 node.1) → ⊥) → Same (Left (nat_lt 0 k) texts k) whole → whole → ⊥
+      → texts ≡ text ∷ more → (IsAskedBy notation (nat_lt 0 k) text (making readers node.0 node.1) → ⊥) → Same (Left (nat_lt 0 k) texts k) whole → whole → ⊥
   not_next texts text more k node whole is cut unasked same all = unasked ((left_is (nat_lt 0 k) texts text more k node is cut).back (same.back all)).0
 
 -- where no node is left, what is asked last tells of all
-pub last_same : (paths : PathSpelling) (readers : ℕ) (t : PlainTree) (behind : List Asked) (texts : List (List ℕ)) (k n : ℕ) (whole : Type 0) → len t ≡ n → k ≡ n
-    → Same (AreAskedBy paths (nat_lt 0 k) texts (makings readers (drop k (entries t)) ++ behind)) whole → Same (AreAskedBy paths (nat_lt 0 n) texts behind) whole
-last_same paths readers t behind texts k n whole count at same =
+pub last_same : (notation : Notation) (readers : ℕ) (t : PlainTree) (behind : List Asked) (texts : List (List ℕ)) (k n : ℕ) (whole : Type 0) → len t ≡ n → k ≡ n
+    → Same (AreAskedBy notation (nat_lt 0 k) texts (makings readers (drop k (entries t)) ++ behind)) whole → Same (AreAskedBy notation (nat_lt 0 n) texts behind) whole
+last_same notation readers t behind texts k n whole count at same =
     let size = len-entries t in
     let none : drop k (entries t) ≡ [] = drop_of_length-le (entries t) (omega (arith, size, count, at)) in
-    let P : List (Names × Row) → Type 0 = λ es. Same (AreAskedBy paths (nat_lt 0 k) texts (makings readers es ++ behind)) whole in
-    let left : Same (AreAskedBy paths (nat_lt 0 k) texts behind) whole = subst P none same in
-    let Q : ℕ → Type 0 = λ m. Same (AreAskedBy paths (nat_lt 0 m) texts behind) whole in
+    let P : List (Names × Row) → Type 0 = λ es. Same (AreAskedBy notation (nat_lt 0 k) texts (makings readers es ++ behind)) whole in
+    let left : Same (AreAskedBy notation (nat_lt 0 k) texts behind) whole = subst P none same in
+    let Q : ℕ → Type 0 = λ m. Same (AreAskedBy notation (nat_lt 0 m) texts behind) whole in
     subst Q at left
 
 pub tells_of_all : {P Q : Type 0} (r : Result Bool AllocError) → Same P Q → IfOk r (λ is. Decides is P) → IfOk r (λ is. Decides is Q)

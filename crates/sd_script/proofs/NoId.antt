@@ -13,7 +13,7 @@ use Rattle.sd_script.specs.Lines.{is_silent, word_len, words_of}
 use Rattle.sd_script.specs.Output.{IsAnswered, IsTold, closing_of, is_open, manner_of}
 use Rattle.sd_script.specs.declared.asked.Asked.{Asked}
 use Rattle.sd_script.specs.declared.carried.Carried.{Carried}
-use Rattle.sd_script.specs.declared.paths.PathSpelling.{PathSpelling}
+use Rattle.sd_script.specs.declared.manner.Notation.{Notation}
 use Rattle.sd_script.specs.declared.session.Session.{Session}
 use Rattle.sd_script.specs.Ids.{NoCommandWithoutAnId, asked_of, is_id}
 
@@ -80,10 +80,10 @@ no_command line none =
     rw (first.1) (neither (list_any is_empty (word ∷ first.0)) _ (nothing_then (command_named word) _ none))
 
 -- so it asks for nothing
-asks_nothing : (paths : PathSpelling) (is_open : Bool) (line : List ℕ) (asked : Asked)
-    → NamesNothing line → line_asks paths is_open line (Ok asked) → ⊥
-asks_nothing paths is_open line asked none (inl (utf8, asks)) = absurd (cc (rw (no_command line none) at asks))
-asks_nothing paths is_open line asked none (inr (other, is)) = absurd (cc is)
+asks_nothing : (notation : Notation) (is_open : Bool) (line : List ℕ) (asked : Asked)
+    → NamesNothing line → line_asks notation is_open line (Ok asked) → ⊥
+asks_nothing notation is_open line asked none (inl (utf8, asks)) = absurd (cc (rw (no_command line none) at asks))
+asks_nothing notation is_open line asked none (inr (other, is)) = absurd (cc is)
 
 -- ---- a line that expects an answer
 
@@ -92,11 +92,11 @@ expects_no_command line is named =
     let same : take (word_len line) line ≡ codes "expect" = (bytes_eq-Decides (take (word_len line) line) (codes "expect")).0 is in
     cc (rw same at named)
 
-pub asks_and_expects_nothing : (paths : PathSpelling) (is_open : Bool) (line : List ℕ) (asked : Asked)
-    → line_asks paths is_open line (Ok asked) → expects line ≡ false
-asks_and_expects_nothing paths is_open line asked asks = by_test (expects line) refl where
+pub asks_and_expects_nothing : (notation : Notation) (is_open : Bool) (line : List ℕ) (asked : Asked)
+    → line_asks notation is_open line (Ok asked) → expects line ≡ false
+asks_and_expects_nothing notation is_open line asked asks = by_test (expects line) refl where
   by_test : (test : Bool) → expects line ≡ test → test ≡ false
-  by_test true is = absurd (asks_nothing paths is_open line asked (expects_no_command line is) asks)
+  by_test true is = absurd (asks_nothing notation is_open line asked (expects_no_command line is) asks)
   by_test false is = refl
 
 -- ---- a line whose first word is no id
@@ -106,7 +106,7 @@ unchanged : (old new : Session) (line answer : List ℕ)
 unchanged old new line answer none answered = by_test (is_silent line) answered where
   by_told : (told : List ℕ) → IsTold old line told new → new ≡ old
   by_told told (inl (asked, asks, done)) =
-      absurd (asks_nothing (manner_of old).paths (is_open old) line asked
+      absurd (asks_nothing (manner_of old).notation (is_open old) line asked
       (λ named. cc (name_is_id (take (word_len line) line) named, none)) asks)
   by_told told (inr (fault, asks, is, same)) = same
 

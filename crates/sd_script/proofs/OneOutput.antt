@@ -42,6 +42,7 @@ use Rattle.sd_script.specs.declared.asked.Asked.{Asked}
 use Rattle.sd_script.specs.declared.asked.Asked.TheVariants.{Opening, Asking, Explaining, Finding, Deleting, Viewing, Importing}
 use Rattle.sd_script.specs.declared.carried.Carried.{Carried}
 use Rattle.sd_script.specs.declared.manner.Manner.{Manner}
+use Rattle.sd_script.specs.declared.manner.Notation.{Notation}
 use Rattle.sd_script.specs.declared.paths.PathSpelling.{PathSpelling}
 use Rattle.sd_script.specs.declared.session.Session.{Session}
 use Rattle.sd_script.specs.declared.session.Session.TheVariants.{Closed, Opened}
@@ -218,11 +219,11 @@ opened-one manner readers root p q x y (inr one) (inr other) = (errors-one one.0
 
 -- ---- a tree as a script
 
-dump-one : (paths : PathSpelling) (m : Machine) (p q : List ℕ) → IsDump paths m p → IsDump paths m q → p ≡ q
-dump-one paths m p q (inl one) (inl other) = one.1 ∙ sym other.1
-dump-one paths m p q (inl one) (inr other) = absurd (other.0 one.0)
-dump-one paths m p q (inr one) (inl other) = absurd (one.0 other.0)
-dump-one paths m p q (inr one) (inr other) = one.1 ∙ sym other.1
+dump-one : (notation : Notation) (m : Machine) (p q : List ℕ) → IsDump notation m p → IsDump notation m q → p ≡ q
+dump-one notation m p q (inl one) (inl other) = one.1 ∙ sym other.1
+dump-one notation m p q (inl one) (inr other) = absurd (other.0 one.0)
+dump-one notation m p q (inr one) (inl other) = absurd (one.0 other.0)
+dump-one notation m p q (inr one) (inr other) = one.1 ∙ sym other.1
 
 -- ---- imports
 
@@ -254,12 +255,12 @@ step-one m e r s x y p q path given one other first second = absurd one
 
 -- ---- views
 
-viewed-one : (paths : PathSpelling) (m : Machine) (view : View) (p q : List ℕ) → is_analysis (Viewing view) ≡ false
-    → IsViewed paths m view p → IsViewed paths m view q → p ≡ q
-viewed-one paths m (Lists path) p q plain one other = one ∙ sym other
-viewed-one paths m Dump p q plain one other = dump-one paths m p q one other
-viewed-one paths m (Who path groups asked) p q plain one other = absurd (cc (plain))
-viewed-one paths m (Review path) p q plain one other = absurd (cc (plain))
+viewed-one : (notation : Notation) (m : Machine) (view : View) (p q : List ℕ) → is_analysis (Viewing view) ≡ false
+    → IsViewed notation m view p → IsViewed notation m view q → p ≡ q
+viewed-one notation m (Lists path) p q plain one other = one ∙ sym other
+viewed-one notation m Dump p q plain one other = dump-one notation m p q one other
+viewed-one notation m (Who path groups asked) p q plain one other = absurd (cc (plain))
+viewed-one notation m (Review path) p q plain one other = absurd (cc (plain))
 
 -- ---- the whole output
 
@@ -268,41 +269,41 @@ done-one : (old : Session) (asked : Asked) (p q : List ℕ) (x y : Session) → 
     → (is_analysis asked ≡ false → p ≡ q) × (x ≡ y)
 done-one old (Opening readers root) p q x y one other =
     let same = opened-one (manner_of old) readers root p q x y one other in (λ plain. same.0, same.1)
-done-one (Opened paths m) (Asking r) p q x y one other =
+done-one (Opened notation m) (Asking r) p q x y one other =
     let same = one_step m r one.0 one.1 p one.2 one.3 ∙ sym (one_step m r other.0 other.1 q other.2 other.3) in
-    (λ plain. ap (λ (z : List ℕ × Machine). z.0) same, one.4 ∙ ap (λ (z : List ℕ × Machine). Opened paths z.1) same ∙ sym other.4)
+    (λ plain. ap (λ (z : List ℕ × Machine). z.0) same, one.4 ∙ ap (λ (z : List ℕ × Machine). Opened notation z.1) same ∙ sym other.4)
 done-one (Closed manner) (Asking r) p q x y one other = absurd one
-done-one (Opened paths m) (Explaining reader names t asked) p q x y one other =
+done-one (Opened notation m) (Explaining reader names t asked) p q x y one other =
     let same = one_explained m reader names t asked one.0 one.1 p one.2 one.3 ∙ sym (one_explained m reader names t asked other.0 other.1 q other.2 other.3) in
-    (λ plain. ap (λ (z : List ℕ × Machine). z.0) same, one.4 ∙ ap (λ (z : List ℕ × Machine). Opened paths z.1) same ∙ sym other.4)
+    (λ plain. ap (λ (z : List ℕ × Machine). z.0) same, one.4 ∙ ap (λ (z : List ℕ × Machine). Opened notation z.1) same ∙ sym other.4)
 done-one (Closed manner) (Explaining reader names t asked) p q x y one other = absurd one
-done-one (Opened paths m) (Finding reader names t asked) p q x y one other =
-    let same = one_found paths m reader names t asked one.0 one.1 p one.2 one.3 ∙ sym (one_found paths m reader names t asked other.0 other.1 q other.2 other.3) in
-    (λ plain. ap (λ (z : List ℕ × Machine). z.0) same, one.4 ∙ ap (λ (z : List ℕ × Machine). Opened paths z.1) same ∙ sym other.4)
+done-one (Opened notation m) (Finding reader names t asked) p q x y one other =
+    let same = one_found notation.paths m reader names t asked one.0 one.1 p one.2 one.3 ∙ sym (one_found notation.paths m reader names t asked other.0 other.1 q other.2 other.3) in
+    (λ plain. ap (λ (z : List ℕ × Machine). z.0) same, one.4 ∙ ap (λ (z : List ℕ × Machine). Opened notation z.1) same ∙ sym other.4)
 done-one (Closed manner) (Finding reader names t asked) p q x y one other = absurd one
-done-one (Opened paths m) (Deleting reader names t) p q x y one other =
+done-one (Opened notation m) (Deleting reader names t) p q x y one other =
     let by_parent = parent_grants m.opening m.published names t in
     let same = one_deletion m by_parent reader names t one.0 one.1 p one.2 one.3 ∙ sym (one_deletion m by_parent reader names t other.0 other.1 q other.2 other.3) in
-    (λ plain. ap (λ (z : List ℕ × Machine). z.0) same, one.4 ∙ ap (λ (z : List ℕ × Machine). Opened paths z.1) same ∙ sym other.4)
+    (λ plain. ap (λ (z : List ℕ × Machine). z.0) same, one.4 ∙ ap (λ (z : List ℕ × Machine). Opened notation z.1) same ∙ sym other.4)
 done-one (Closed manner) (Deleting reader names t) p q x y one other = absurd one
-done-one (Opened paths m) (Viewing view) p q x y one other = (λ plain. viewed-one paths m view p q plain one.0 other.0, one.1 ∙ sym other.1)
+done-one (Opened notation m) (Viewing view) p q x y one other = (λ plain. viewed-one notation m view p q plain one.0 other.0, one.1 ∙ sym other.1)
 done-one (Closed manner) (Viewing view) p q x y one other = absurd one
-done-one (Opened paths m) (Importing e path given) p q x y one other =
+done-one (Opened notation m) (Importing e path given) p q x y one other =
     let stepped = step-one m e one.0 other.0 one.1 other.1 p q path given one.2 other.2 one.3 other.3 in
-    (λ plain. stepped.0, one.4 ∙ ap (Opened paths) stepped.1 ∙ sym other.4)
+    (λ plain. stepped.0, one.4 ∙ ap (Opened notation) stepped.1 ∙ sym other.4)
 done-one (Closed manner) (Importing e path given) p q x y one other = absurd one
 
 told-one : (old : Session) (text p q : List ℕ) (x y : Session) → IsTold old text p x → IsTold old text q y
     → (AsksNoAnalysis text → p ≡ q) × (x ≡ y)
 told-one old text p q x y (inl one) (inl other) =
-    let same = line-one (manner_of old).paths (is_open old) text (Ok one.0) (Ok other.0) one.1 other.1 in
+    let same = line-one (manner_of old).notation (is_open old) text (Ok one.0) (Ok other.0) one.1 other.1 in
     let asked : one.0 ≡ other.0 = cc (same) in
     let done = done-one old other.0 p q x y (subst (λ a. IsDone old a p x) asked one.2) other.2 in
-    (λ plain. done.0 (plain (manner_of old).paths (is_open old) other.0 other.1), done.1)
-told-one old text p q x y (inl one) (inr other) = absurd (let no = line-one (manner_of old).paths (is_open old) text (Ok one.0) (Err other.0) one.1 other.1 in cc (no))
-told-one old text p q x y (inr one) (inl other) = absurd (let no = line-one (manner_of old).paths (is_open old) text (Err one.0) (Ok other.0) one.1 other.1 in cc (no))
+    (λ plain. done.0 (plain (manner_of old).notation (is_open old) other.0 other.1), done.1)
+told-one old text p q x y (inl one) (inr other) = absurd (let no = line-one (manner_of old).notation (is_open old) text (Ok one.0) (Err other.0) one.1 other.1 in cc (no))
+told-one old text p q x y (inr one) (inl other) = absurd (let no = line-one (manner_of old).notation (is_open old) text (Err one.0) (Ok other.0) one.1 other.1 in cc (no))
 told-one old text p q x y (inr one) (inr other) =
-    let same = line-one (manner_of old).paths (is_open old) text (Err one.0) (Err other.0) one.1 other.1 in
+    let same = line-one (manner_of old).notation (is_open old) text (Err one.0) (Err other.0) one.1 other.1 in
     let fault : one.0 ≡ other.0 = cc (same) in
     (λ plain. one.2 ∙ ap line_of_fault fault ∙ sym other.2, one.3 ∙ sym other.3)
 

@@ -2,13 +2,18 @@
 use Rattle.std.proofs.Common.{◌≡◌, ℕ, Bool, true, false, List, Option, Some, None, Result, Ok, Err, inl, inr, sym, ◌∙◌, ap, subst}
 use Rattle.std.specs.Prelude.{MatchBool}
 use Rattle.sd_sid.specs.Sid.{SidValue}
+use Rattle.sd_acl.specs.Descriptor.{DescriptorValue}
 use Rattle.sd_text.specs.Grammar.{Spells}
 use Rattle.sd_text.specs.Rights.{mask_text}
-use Rattle.sd_text.specs.Sddl.{sddl}
-use Rattle.sd_text.specs.Sid.{sid_text}
+use Rattle.sd_text.specs.Sacl.{sddl_without_sacl}
+use Rattle.sd_text.specs.Sddl.{sddl_in}
+use Rattle.sd_text.specs.Sid.{sid_text_in}
+use Rattle.sd_text.specs.declared.alias.Aliases.{Aliases}
+use Rattle.sd_text.specs.declared.fault.TextFault.{TextFault}
 use Rattle.sd_text.proofs.Engine.{one_value, no_fault, one_fault}
-use Rattle.sd_answer.proofs.OneToken.{groups_one, token_one, token_or_none}
-use Rattle.sd_answer.specs.Word.{AreGroups}
+use Rattle.sd_answer.proofs.OneToken.{groups_one, token_one}
+use Rattle.sd_answer.specs.Descriptor.{IsRead, IsUnreadAt}
+use Rattle.sd_answer.specs.Word.{AreGroups, IsToken}
 use Rattle.sd_tree.specs.Names.{Names}
 use Rattle.sd_script.specs.Argument.{IsNumber, number, path, sid, mask, token, base, descriptor, node, node_of, dacl, dacl_of, imported, import_of}
 use Rattle.sd_script.specs.Command.{Arguments, Asks, Number, Path, Sid, Mask, Token, Groups, Node, Dacl, Imported}
@@ -20,6 +25,7 @@ use Rattle.sd_script.specs.declared.asked.Asked.{Asked}
 use Rattle.sd_script.specs.declared.command.CommandName.{CommandName}
 use Rattle.sd_script.specs.declared.fault.LineFault.{LineFault}
 use Rattle.sd_script.specs.declared.fault.LineFault.TheVariants as faults
+use Rattle.sd_script.specs.declared.manner.Notation.{Notation}
 use Rattle.sd_script.specs.declared.paths.PathSpelling.{PathSpelling}
 use Rattle.sd_script.specs.declared.paths.PathSpelling.TheVariants.{Plain, Percent}
 
@@ -60,76 +66,88 @@ one_path Percent word a b x y = let same = sym x.3 ∙ y.3 in cc (same)
 path-one : (paths : PathSpelling) (word : List ℕ) → IsOne (path paths word)
 path-one paths word = SomeOr-one (IsPath paths word) faults.Path (one_path paths word)
 
-sid-one : (word : List ℕ) → IsOne (sid word)
-sid-one word = SomeOr-one (Spells sid_text word) faults.Sid (one_value sid_text word)
+sid-one : (notation : Notation) (word : List ℕ) → IsOne (sid notation word)
+sid-one notation word = SomeOr-one (Spells (sid_text_in notation.aliases) word) faults.Sid (one_value (sid_text_in notation.aliases) word)
 
 mask-one : (word : List ℕ) → IsOne (mask word)
 mask-one word = SomeOr-one (Spells mask_text word) faults.Mask (one_value mask_text word)
 
--- ---- tokens
+token-one : (notation : Notation) (user : SidValue) (words : List (List ℕ)) → IsOne (token notation user words)
+token-one notation user words = SomeOr-one (IsToken notation.aliases user words) faults.Token (token_one notation.aliases user words)
 
-token-one : (user : SidValue) (words : List (List ℕ)) → IsOne (token user words)
-token-one user words (Ok t) (Ok u) x y = ap Ok (token_one user words t u x y)
-token-one user words (Ok t) (Err f) x y = absurd (token_or_none user words t x y.0)
-token-one user words (Err f) (Ok t) x y = absurd (token_or_none user words t y x.0)
-token-one user words (Err f) (Err g) x y = ap Err (x.1 ∙ sym y.1)
+base-one : (notation : Notation) (words : List (List ℕ)) → IsOne (base notation words)
+base-one notation words = SomeOr-one (AreGroups notation.aliases words) faults.Token (groups_one notation.aliases words)
 
-base-one : (words : List (List ℕ)) → IsOne (base words)
-base-one words = SomeOr-one (AreGroups words) faults.Token (groups_one words)
+-- ---- descriptors
 
--- ---- lines
+-- a text has one descriptor, or one fault, whether a SACL may be left out or not
+read_once : (known : Aliases) (without_sacl : Bool) (word : List ℕ) (a b : DescriptorValue) (c d : Bool)
+    → IsRead known without_sacl word a c → IsRead known without_sacl word b d → a ≡ b
+read_once known true word a b c d x y = ap (λ (z : DescriptorValue × Bool). z.0) (one_value (sddl_without_sacl known) word (a, c) (b, d) x y)
+read_once known false word a b c d x y = one_value (sddl_in known) word a b x.0 y.0
 
-descriptor-one : (word : List ℕ) → IsOne (descriptor word)
-descriptor-one word (Ok a) (Ok b) x y = ap Ok (one_value sddl word a b x y)
-descriptor-one word (Ok a) (Err f) x y = absurd (no_fault sddl word a y.0 y.1 x y.2)
-descriptor-one word (Err f) (Ok a) x y = absurd (no_fault sddl word a x.0 x.1 y x.2)
-descriptor-one word (Err f) (Err g) x y =
-    let same = one_fault sddl word x.0 y.0 x.1 y.1 x.2 y.2 in
+read_or_not : (known : Aliases) (without_sacl : Bool) (word : List ℕ) (a : DescriptorValue) (c : Bool) (fault : TextFault) (place : ℕ)
+    → IsRead known without_sacl word a c → IsUnreadAt known without_sacl word fault place → ⊥
+read_or_not known true word a c fault place x y = no_fault (sddl_without_sacl known) word (a, c) fault place x y
+read_or_not known false word a c fault place x y = no_fault (sddl_in known) word a fault place x.0 y
+
+unread_once : (known : Aliases) (without_sacl : Bool) (word : List ℕ) (f g : TextFault) (p q : ℕ)
+    → IsUnreadAt known without_sacl word f p → IsUnreadAt known without_sacl word g q → (f ≡ g) × (p ≡ q)
+unread_once known true word f g p q x y = one_fault (sddl_without_sacl known) word f g p q x y
+unread_once known false word f g p q x y = one_fault (sddl_in known) word f g p q x y
+
+descriptor-one : (notation : Notation) (word : List ℕ) → IsOne (descriptor notation word)
+descriptor-one notation word (Ok a) (Ok b) x y = ap Ok (read_once notation.aliases notation.without_sacl word a b x.0 y.0 x.1 y.1)
+descriptor-one notation word (Ok a) (Err f) x y = absurd (read_or_not notation.aliases notation.without_sacl word a x.0 y.0 y.1 x.1 y.2)
+descriptor-one notation word (Err f) (Ok a) x y = absurd (read_or_not notation.aliases notation.without_sacl word a y.0 x.0 x.1 y.1 x.2)
+descriptor-one notation word (Err f) (Err g) x y =
+    let same = unread_once notation.aliases notation.without_sacl word x.0 y.0 x.1 y.1 x.2 y.2 in
     let faults = same.0 in
     let places = same.1 in
     let one = x.3 in
     let other = y.3 in
     cc (faults, places, one, other)
 
-node-one : (word : List ℕ) → IsOne (node word)
-node-one word = Then-one (descriptor word) (λ d read. read ≡ node_of d) (descriptor-one word) (λ d r s x y. x ∙ sym y)
+node-one : (notation : Notation) (word : List ℕ) → IsOne (node notation word)
+node-one notation word = Then-one (descriptor notation word) (λ d read. read ≡ node_of d) (descriptor-one notation word) (λ d r s x y. x ∙ sym y)
 
-dacl-one : (word : List ℕ) → IsOne (dacl word)
-dacl-one word = Then-one (descriptor word) (λ d read. read ≡ dacl_of d) (descriptor-one word) (λ d r s x y. x ∙ sym y)
+dacl-one : (notation : Notation) (word : List ℕ) → IsOne (dacl notation word)
+dacl-one notation word = Then-one (descriptor notation word) (λ d read. read ≡ dacl_of d) (descriptor-one notation word) (λ d r s x y. x ∙ sym y)
 
-imported-one : (word : List ℕ) → IsOne (imported word)
-imported-one word = Then-one (descriptor word) (λ d read. read ≡ import_of d) (descriptor-one word) (λ d r s x y. x ∙ sym y)
+imported-one : (notation : Notation) (word : List ℕ) → IsOne (imported notation word)
+imported-one notation word =
+    Then-one (descriptor notation word) (λ d read. read ≡ import_of d) (descriptor-one notation word) (λ d r s x y. x ∙ sym y)
 
 -- ---- arguments
 
-reads-one : (paths : PathSpelling) (arguments : Arguments) → IsOne (reads paths arguments)
-reads-one paths (Asks asked) = Just-one asked
-reads-one paths (Number word next) = Then-one (number word) (λ n. reads paths (next n)) (number-one word) (λ n. reads-one paths (next n))
-reads-one paths (Path word next) = Then-one (path paths word) (λ p. reads paths (next p)) (path-one paths word) (λ p. reads-one paths (next p))
-reads-one paths (Sid word next) = Then-one (sid word) (λ s. reads paths (next s)) (sid-one word) (λ s. reads-one paths (next s))
-reads-one paths (Mask word next) = Then-one (mask word) (λ m. reads paths (next m)) (mask-one word) (λ m. reads-one paths (next m))
-reads-one paths (Token user words next) = Then-one (token user words) (λ t. reads paths (next t)) (token-one user words) (λ t. reads-one paths (next t))
-reads-one paths (Groups words next) = Then-one (base words) (λ groups. reads paths (next groups)) (base-one words) (λ groups. reads-one paths (next groups))
-reads-one paths (Node word next) = Then-one (node word) (λ n. reads paths (next n)) (node-one word) (λ n. reads-one paths (next n))
-reads-one paths (Dacl word next) = Then-one (dacl word) (λ d. reads paths (next d)) (dacl-one word) (λ d. reads-one paths (next d))
-reads-one paths (Imported word next) = Then-one (imported word) (λ i. reads paths (next i)) (imported-one word) (λ i. reads-one paths (next i))
+reads-one : (notation : Notation) (arguments : Arguments) → IsOne (reads notation arguments)
+reads-one notation (Asks asked) = Just-one asked
+reads-one notation (Number word next) = Then-one (number word) (λ n. reads notation (next n)) (number-one word) (λ n. reads-one notation (next n))
+reads-one notation (Path word next) = Then-one (path notation.paths word) (λ p. reads notation (next p)) (path-one notation.paths word) (λ p. reads-one notation (next p))
+reads-one notation (Sid word next) = Then-one (sid notation word) (λ s. reads notation (next s)) (sid-one notation word) (λ s. reads-one notation (next s))
+reads-one notation (Mask word next) = Then-one (mask word) (λ m. reads notation (next m)) (mask-one word) (λ m. reads-one notation (next m))
+reads-one notation (Token user words next) = Then-one (token notation user words) (λ t. reads notation (next t)) (token-one notation user words) (λ t. reads-one notation (next t))
+reads-one notation (Groups words next) = Then-one (base notation words) (λ groups. reads notation (next groups)) (base-one notation words) (λ groups. reads-one notation (next groups))
+reads-one notation (Node word next) = Then-one (node notation word) (λ n. reads notation (next n)) (node-one notation word) (λ n. reads-one notation (next n))
+reads-one notation (Dacl word next) = Then-one (dacl notation word) (λ d. reads notation (next d)) (dacl-one notation word) (λ d. reads-one notation (next d))
+reads-one notation (Imported word next) = Then-one (imported notation word) (λ i. reads notation (next i)) (imported-one notation word) (λ i. reads-one notation (next i))
 
-by_time : (paths : PathSpelling) (untimely : Bool) (arguments : Arguments) (r s : Result Asked LineFault)
-    → MatchBool untimely (r ≡ Err faults.Open) (reads paths arguments r) → MatchBool untimely (s ≡ Err faults.Open) (reads paths arguments s) → r ≡ s
-by_time paths true arguments r s x y = x ∙ sym y
-by_time paths false arguments r s x y = reads-one paths arguments r s x y
+by_time : (notation : Notation) (untimely : Bool) (arguments : Arguments) (r s : Result Asked LineFault)
+    → MatchBool untimely (r ≡ Err faults.Open) (reads notation arguments r) → MatchBool untimely (s ≡ Err faults.Open) (reads notation arguments s) → r ≡ s
+by_time notation true arguments r s x y = x ∙ sym y
+by_time notation false arguments r s x y = reads-one notation arguments r s x y
 
-reads_where-one : (paths : PathSpelling) (is_open : Bool) (name : CommandName) (arguments : Option Arguments) → IsOne (reads_where paths is_open name arguments)
-reads_where-one paths is_open name None r s x y = x ∙ sym y
-reads_where-one paths is_open name (Some arguments) r s x y = by_time paths (is_untimely is_open name) arguments r s x y
+reads_where-one : (notation : Notation) (is_open : Bool) (name : CommandName) (arguments : Option Arguments) → IsOne (reads_where notation is_open name arguments)
+reads_where-one notation is_open name None r s x y = x ∙ sym y
+reads_where-one notation is_open name (Some arguments) r s x y = by_time notation (is_untimely is_open name) arguments r s x y
 
-where-one : (paths : PathSpelling) (is_open : Bool) (command : Option (CommandName × List (List ℕ))) → IsOne (asks_where paths is_open command)
-where-one paths is_open None r s x y = x ∙ sym y
-where-one paths is_open (Some command) r s x y = reads_where-one paths is_open command.0 (asks command.0 command.1) r s x y
+where-one : (notation : Notation) (is_open : Bool) (command : Option (CommandName × List (List ℕ))) → IsOne (asks_where notation is_open command)
+where-one notation is_open None r s x y = x ∙ sym y
+where-one notation is_open (Some command) r s x y = reads_where-one notation is_open command.0 (asks command.0 command.1) r s x y
 
 -- a line asks for one thing, or has one fault
-pub line-one : (paths : PathSpelling) (is_open : Bool) (text : List ℕ) → IsOne (line_asks paths is_open text)
-line-one paths is_open text r s (inl x) (inl y) = where-one paths is_open (command_of (words_of text)) r s x.1 y.1
-line-one paths is_open text r s (inl x) (inr y) = absurd (y.0 x.0)
-line-one paths is_open text r s (inr x) (inl y) = absurd (x.0 y.0)
-line-one paths is_open text r s (inr x) (inr y) = x.1 ∙ sym y.1
+pub line-one : (notation : Notation) (is_open : Bool) (text : List ℕ) → IsOne (line_asks notation is_open text)
+line-one notation is_open text r s (inl x) (inl y) = where-one notation is_open (command_of (words_of text)) r s x.1 y.1
+line-one notation is_open text r s (inl x) (inr y) = absurd (y.0 x.0)
+line-one notation is_open text r s (inr x) (inl y) = absurd (x.0 y.0)
+line-one notation is_open text r s (inr x) (inr y) = x.1 ∙ sym y.1

@@ -22,7 +22,7 @@ use Rattle.sd_script.specs.declared.command.CommandName.{CommandName}
 use Rattle.sd_script.specs.declared.command.CommandName.TheVariants.{Open, AddContainer, AddObject, SetOwner, SetGroup, SetDacl, Remove, Protect, Move, Publish, Tell, Learn, Check, Why, Find, Show, ListNodes, Dump, Who, Review, ImportNode, Delete}
 use Rattle.sd_script.specs.declared.fault.LineFault.TheVariants as faults
 use Rattle.sd_script.specs.declared.importing.Import.{Import}
-use Rattle.sd_script.specs.declared.paths.PathSpelling.{PathSpelling}
+use Rattle.sd_script.specs.declared.manner.Notation.{Notation}
 use Rattle.sd_script.specs.declared.session.Session.{Session}
 use Rattle.sd_script.specs.declared.session.Session.TheVariants.{Closed, Opened}
 
@@ -67,17 +67,17 @@ then_gives : {A : Type 0} (P : Asked → Type 0) (first : Reading A) (next : A �
 then_gives P first next all a (inl (v, read, more)) = all v a more
 then_gives P first next all a (inr (fault, read, is)) = absurd (cc is)
 
-all_given : (P : Asked → Type 0) (paths : PathSpelling) (arguments : Arguments) → All P arguments → Gives P (reads paths arguments)
-all_given P paths (Asks asked) holds a is = let same : a ≡ asked = cc is in subst P (sym same) holds
-all_given P paths (Number word next) all a is = then_gives P (number word) (λ n. reads paths (next n)) (λ n. all_given P paths (next n) (all n)) a is
-all_given P paths (Path word next) all a is = then_gives P (path paths word) (λ p. reads paths (next p)) (λ p. all_given P paths (next p) (all p)) a is
-all_given P paths (Sid word next) all a is = then_gives P (sid word) (λ s. reads paths (next s)) (λ s. all_given P paths (next s) (all s)) a is
-all_given P paths (Mask word next) all a is = then_gives P (mask word) (λ m. reads paths (next m)) (λ m. all_given P paths (next m) (all m)) a is
-all_given P paths (Token user words next) all a is = then_gives P (token user words) (λ t. reads paths (next t)) (λ t. all_given P paths (next t) (all t)) a is
-all_given P paths (Groups words next) all a is = then_gives P (base words) (λ g. reads paths (next g)) (λ g. all_given P paths (next g) (all g)) a is
-all_given P paths (Node word next) all a is = then_gives P (node word) (λ n. reads paths (next n)) (λ n. all_given P paths (next n) (all n)) a is
-all_given P paths (Dacl word next) all a is = then_gives P (dacl word) (λ d. reads paths (next d)) (λ d. all_given P paths (next d) (all d)) a is
-all_given P paths (Imported word next) all a is = then_gives P (imported word) (λ i. reads paths (next i)) (λ i. all_given P paths (next i) (all i)) a is
+all_given : (P : Asked → Type 0) (notation : Notation) (arguments : Arguments) → All P arguments → Gives P (reads notation arguments)
+all_given P notation (Asks asked) holds a is = let same : a ≡ asked = cc is in subst P (sym same) holds
+all_given P notation (Number word next) all a is = then_gives P (number word) (λ n. reads notation (next n)) (λ n. all_given P notation (next n) (all n)) a is
+all_given P notation (Path word next) all a is = then_gives P (path notation.paths word) (λ p. reads notation (next p)) (λ p. all_given P notation (next p) (all p)) a is
+all_given P notation (Sid word next) all a is = then_gives P (sid notation word) (λ s. reads notation (next s)) (λ s. all_given P notation (next s) (all s)) a is
+all_given P notation (Mask word next) all a is = then_gives P (mask word) (λ m. reads notation (next m)) (λ m. all_given P notation (next m) (all m)) a is
+all_given P notation (Token user words next) all a is = then_gives P (token notation user words) (λ t. reads notation (next t)) (λ t. all_given P notation (next t) (all t)) a is
+all_given P notation (Groups words next) all a is = then_gives P (base notation words) (λ g. reads notation (next g)) (λ g. all_given P notation (next g) (all g)) a is
+all_given P notation (Node word next) all a is = then_gives P (node notation word) (λ n. reads notation (next n)) (λ n. all_given P notation (next n) (all n)) a is
+all_given P notation (Dacl word next) all a is = then_gives P (dacl notation word) (λ d. reads notation (next d)) (λ d. all_given P notation (next d) (all d)) a is
+all_given P notation (Imported word next) all a is = then_gives P (imported notation word) (λ i. reads notation (next i)) (λ i. all_given P notation (next i) (all i)) a is
 
 abbrev AllOf : (Asked → Type 0) → Option Arguments → Type 0
 AllOf P None = ⊤
@@ -124,29 +124,29 @@ untimely_is : (is_open : Bool) (name : CommandName) → is_untimely is_open name
 untimely_is is_open Open = refl
 untimely_is is_open name = refl
 
-by_test : (paths : PathSpelling) (is_open is : Bool) (arguments : Arguments) (b : Asked) → All (Opens is) arguments
-    → MatchBool (if is then is_open else not is_open) (Ok b ≡ Err faults.Open) (reads paths arguments (Ok b)) → Opens (not is_open) b
-by_test paths true true arguments b all h = absurd (cc (h))
-by_test paths true false arguments b all h = all_given (Opens false) paths arguments all b h
-by_test paths false true arguments b all h = all_given (Opens true) paths arguments all b h
-by_test paths false false arguments b all h = absurd (cc (h))
+by_test : (notation : Notation) (is_open is : Bool) (arguments : Arguments) (b : Asked) → All (Opens is) arguments
+    → MatchBool (if is then is_open else not is_open) (Ok b ≡ Err faults.Open) (reads notation arguments (Ok b)) → Opens (not is_open) b
+by_test notation true true arguments b all h = absurd (cc (h))
+by_test notation true false arguments b all h = all_given (Opens false) notation arguments all b h
+by_test notation false true arguments b all h = all_given (Opens true) notation arguments all b h
+by_test notation false false arguments b all h = absurd (cc (h))
 
-reads_open : (paths : PathSpelling) (is_open : Bool) (name : CommandName) (arguments : Option Arguments) → AllOf (Opens (is_opening name)) arguments
-    → Gives (Opens (not is_open)) (reads_where paths is_open name arguments)
-reads_open paths is_open name None all b h = absurd (cc (h))
-reads_open paths is_open name (Some arguments) all b h =
-    by_test paths is_open (is_opening name) arguments b all (subst (λ t. MatchBool t (Ok b ≡ Err faults.Open) (reads paths arguments (Ok b))) (untimely_is is_open name) h)
+reads_open : (notation : Notation) (is_open : Bool) (name : CommandName) (arguments : Option Arguments) → AllOf (Opens (is_opening name)) arguments
+    → Gives (Opens (not is_open)) (reads_where notation is_open name arguments)
+reads_open notation is_open name None all b h = absurd (cc (h))
+reads_open notation is_open name (Some arguments) all b h =
+    by_test notation is_open (is_opening name) arguments b all (subst (λ t. MatchBool t (Ok b ≡ Err faults.Open) (reads notation arguments (Ok b))) (untimely_is is_open name) h)
 
-where_open : (paths : PathSpelling) (is_open : Bool) (command : Option (CommandName × List (List ℕ))) → Gives (Opens (not is_open)) (asks_where paths is_open command)
-where_open paths is_open None b h = absurd (cc (h))
-where_open paths is_open (Some command) b h =
-    reads_open paths is_open command.0 (asks command.0 command.1) (words_open command.0 command.1) b h
+where_open : (notation : Notation) (is_open : Bool) (command : Option (CommandName × List (List ℕ))) → Gives (Opens (not is_open)) (asks_where notation is_open command)
+where_open notation is_open None b h = absurd (cc (h))
+where_open notation is_open (Some command) b h =
+    reads_open notation is_open command.0 (asks command.0 command.1) (words_open command.0 command.1) b h
 
 -- a line opens a store just where none is open
-pub line_opens : (paths : PathSpelling) (is_open : Bool) (line : List ℕ) → Gives (Opens (not is_open)) (line_asks paths is_open line)
-line_opens paths is_open line b h = ⊎_elim (λ x. where_open paths is_open (command_of (words_of line)) b x.1) (λ x. absurd (cc (x.1))) h
+pub line_opens : (notation : Notation) (is_open : Bool) (line : List ℕ) → Gives (Opens (not is_open)) (line_asks notation is_open line)
+line_opens notation is_open line b h = ⊎_elim (λ x. where_open notation is_open (command_of (words_of line)) b x.1) (λ x. absurd (cc (x.1))) h
 
 -- where a line asks something of a store, one is open
 pub open_where_asked : (old : Session) (line : List ℕ) (asked : Asked) → opens asked ≡ false → line_asks_in old line (Ok asked) → is_open old ≡ true
-open_where_asked (Opened paths machine) line asked of_store h = refl
-open_where_asked (Closed manner) line asked of_store h = absurd (let same = sym of_store ∙ line_opens manner.paths false line asked h in cc (same))
+open_where_asked (Opened notation machine) line asked of_store h = refl
+open_where_asked (Closed manner) line asked of_store h = absurd (let same = sym of_store ∙ line_opens manner.notation false line asked h in cc (same))

@@ -1,4 +1,4 @@
--- The words of a line behind its command, each read as what it stands for.
+-- The arguments of a line, each parsed.
 use Rattle.std.specs.Prelude.{◌≡◌, ℕ, ◌<◌, ◌^◌, Bool, false, List, [], filter, Option, Some, None, Result, Ok, Err}
 use Rattle.std.specs.Str.Parse.{IsNumeral, digits_value}
 use Rattle.sd_sid.specs.Sid.{SidValue}
@@ -7,9 +7,8 @@ use Rattle.sd_acl.specs.Descriptor.{DescriptorValue}
 use Rattle.sd_acl.specs.declared.ace.Ace.{Ace}
 use Rattle.sd_acl.specs.Dacl.{Dacl}
 use Rattle.sd_acl.specs.declared.descriptor.DaclOf.TheVariants as dacls
-use Rattle.sd_text.specs.Grammar.{Spells, HasFault}
-use Rattle.sd_text.specs.Sddl.{sddl}
-use Rattle.sd_text.specs.Sid.{sid_text}
+use Rattle.sd_text.specs.Grammar.{Spells}
+use Rattle.sd_text.specs.Sid.{sid_text_in}
 use Rattle.sd_text.specs.Rights.{mask_text}
 use Rattle.sd_text.specs.declared.fault.TextFault.{TextFault}
 use Rattle.sd_check.specs.Token.{TokenValue}
@@ -20,10 +19,12 @@ use Rattle.sd_tree.specs.declared.opening.RootSpec.{RootSpec}
 use Rattle.sd_script.specs.Fault.{Reading, SomeOr, Then}
 use Rattle.sd_script.specs.Paths.{IsPath}
 use Rattle.sd_check.specs.declared.token.GroupState.{GroupState}
-use Rattle.sd_answer.specs.Word.{AreGroups, IsNoWordIn, IsToken}
+use Rattle.sd_answer.specs.Descriptor.{IsRead, IsUnreadAt}
+use Rattle.sd_answer.specs.Word.{AreGroups, IsToken}
 use Rattle.sd_script.specs.declared.fault.LineFault.{LineFault}
 use Rattle.sd_script.specs.declared.fault.LineFault.TheVariants.{Number, Path, Sid, Sddl, Parts, Mask, Token}
 use Rattle.sd_script.specs.declared.importing.Import.{Import}
+use Rattle.sd_script.specs.declared.manner.Notation.{Notation}
 use Rattle.sd_script.specs.declared.paths.PathSpelling.{PathSpelling}
 
 -- the decimal digits of this number, which has 64 bits
@@ -36,26 +37,25 @@ number word = SomeOr (IsNumber word) Number
 abbrev pub path : PathSpelling → List ℕ → Reading Names
 path paths word = SomeOr (IsPath paths word) Path
 
-abbrev pub sid : List ℕ → Reading SidValue
-sid word = SomeOr (Spells sid_text word) Sid
+abbrev pub sid : Notation → List ℕ → Reading SidValue
+sid notation word = SomeOr (Spells (sid_text_in notation.aliases) word) Sid
 
 abbrev pub mask : List ℕ → Reading ℕ
 mask word = SomeOr (Spells mask_text word) Mask
 
 -- the token of a user and words
-abbrev pub token : SidValue → List (List ℕ) → Reading TokenValue
-token user words (Ok t) = IsToken user words t
-token user words (Err told) = IsNoWordIn words × (told ≡ Token)
+abbrev pub token : Notation → SidValue → List (List ℕ) → Reading TokenValue
+token notation user words = SomeOr (IsToken notation.aliases user words) Token
 
 -- the groups that words are
-abbrev pub base : List (List ℕ) → Reading (List (SidValue × GroupState))
-base words = SomeOr (AreGroups words) Token
+abbrev pub base : Notation → List (List ℕ) → Reading (List (SidValue × GroupState))
+base notation words = SomeOr (AreGroups notation.aliases words) Token
 
--- a descriptor, or the first fault of its text, at its place
-abbrev pub descriptor : List ℕ → Reading DescriptorValue
-descriptor word (Ok d) = Spells sddl word d
-descriptor word (Err told) = (fault : TextFault) × (place : ℕ) × HasFault sddl word fault place
-    × (told ≡ Sddl fault place)
+-- a descriptor, whose SACL may be left out; or the first fault of its text, at its place
+abbrev pub descriptor : Notation → List ℕ → Reading DescriptorValue
+descriptor notation word (Ok d) = (left_out : Bool) × IsRead notation.aliases notation.without_sacl word d left_out
+descriptor notation word (Err told) = (fault : TextFault) × (place : ℕ)
+    × IsUnreadAt notation.aliases notation.without_sacl word fault place × (told ≡ Sddl fault place)
 
 -- the DACL that a descriptor gives a node: an absent one is an empty list that isn't protected, and of the words of a
 -- list the one for its protection is kept
@@ -83,12 +83,12 @@ abbrev pub dacl_of : DescriptorValue → Result NodeDacl LineFault
 dacl_of d = without_parts d.owner d.group (own_dacl d.protected d.dacl)
 
 -- the text of a descriptor with an owner and a group
-abbrev pub node : List ℕ → Reading RootSpec
-node word = Then (descriptor word) (λ d read. read ≡ node_of d)
+abbrev pub node : Notation → List ℕ → Reading RootSpec
+node notation word = Then (descriptor notation word) (λ d read. read ≡ node_of d)
 
 -- the text of a descriptor with neither
-abbrev pub dacl : List ℕ → Reading NodeDacl
-dacl word = Then (descriptor word) (λ d read. read ≡ dacl_of d)
+abbrev pub dacl : Notation → List ℕ → Reading NodeDacl
+dacl notation word = Then (descriptor notation word) (λ d read. read ≡ dacl_of d)
 
 -- ---- a descriptor that a node had elsewhere
 
@@ -112,5 +112,5 @@ abbrev pub import_of : DescriptorValue → Result Import LineFault
 import_of d = with_given (entries_in d.dacl) (with_parts d.owner d.group (imported_dacl d.protected d.dacl))
 
 -- the text of such a descriptor, with an owner and a group
-abbrev pub imported : List ℕ → Reading Import
-imported word = Then (descriptor word) (λ d read. read ≡ import_of d)
+abbrev pub imported : Notation → List ℕ → Reading Import
+imported notation word = Then (descriptor notation word) (λ d read. read ≡ import_of d)

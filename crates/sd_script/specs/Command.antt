@@ -36,7 +36,7 @@ use Rattle.sd_script.specs.declared.command.CommandName.TheVariants.{Who, Review
 use Rattle.sd_script.specs.declared.fault.LineFault.TheVariants as faults
 use Rattle.sd_script.specs.declared.fault.Stop.{Stop}
 use Rattle.sd_script.specs.declared.importing.Import.{Import}
-use Rattle.sd_script.specs.declared.paths.PathSpelling.{PathSpelling}
+use Rattle.sd_script.specs.declared.manner.Notation.{Notation}
 use Rattle.sd_script.specs.declared.view.View.{View}
 use Rattle.sd_script.specs.declared.view.View.TheVariants as views
 
@@ -56,17 +56,17 @@ pub data Arguments : Type 0 where
   Imported : List ℕ → (Import → Arguments) → Arguments
 
 -- they are parsed from the left, and the first fault is the answer
-abbrev pub reads : PathSpelling → Arguments → Reading Asked
-reads paths (Asks asked) = Just asked
-reads paths (Number word next) = Then (number word) (λ n. reads paths (next n))
-reads paths (Path word next) = Then (path paths word) (λ p. reads paths (next p))
-reads paths (Sid word next) = Then (sid word) (λ s. reads paths (next s))
-reads paths (Mask word next) = Then (mask word) (λ m. reads paths (next m))
-reads paths (Token user words next) = Then (token user words) (λ t. reads paths (next t))
-reads paths (Groups words next) = Then (base words) (λ groups. reads paths (next groups))
-reads paths (Node word next) = Then (node word) (λ n. reads paths (next n))
-reads paths (Dacl word next) = Then (dacl word) (λ d. reads paths (next d))
-reads paths (Imported word next) = Then (imported word) (λ i. reads paths (next i))
+abbrev pub reads : Notation → Arguments → Reading Asked
+reads notation (Asks asked) = Just asked
+reads notation (Number word next) = Then (number word) (λ n. reads notation (next n))
+reads notation (Path word next) = Then (path notation.paths word) (λ p. reads notation (next p))
+reads notation (Sid word next) = Then (sid notation word) (λ s. reads notation (next s))
+reads notation (Mask word next) = Then (mask word) (λ m. reads notation (next m))
+reads notation (Token user words next) = Then (token notation user words) (λ t. reads notation (next t))
+reads notation (Groups words next) = Then (base notation words) (λ groups. reads notation (next groups))
+reads notation (Node word next) = Then (node notation word) (λ n. reads notation (next n))
+reads notation (Dacl word next) = Then (dacl notation word) (λ d. reads notation (next d))
+reads notation (Imported word next) = Then (imported notation word) (λ i. reads notation (next i))
 
 -- ---- the table: each command's name, its arguments by kind, and what it asks for
 
@@ -201,23 +201,23 @@ command_of [] = None
 command_of (word ∷ words) =
     if list_any is_empty (word ∷ words) then None else option_map (λ name. (name, words)) (command_named word)
 
-abbrev pub reads_where : PathSpelling → Bool → CommandName → Option Arguments → Reading Asked
-reads_where paths is_open name None read = read ≡ Err faults.Words
-reads_where paths is_open name (Some arguments) read =
-    MatchBool (is_untimely is_open name) (read ≡ Err faults.Open) (reads paths arguments read)
+abbrev pub reads_where : Notation → Bool → CommandName → Option Arguments → Reading Asked
+reads_where notation is_open name None read = read ≡ Err faults.Words
+reads_where notation is_open name (Some arguments) read =
+    MatchBool (is_untimely is_open name) (read ≡ Err faults.Open) (reads notation arguments read)
 
-abbrev pub asks_where : PathSpelling → Bool → Option (CommandName × List (List ℕ)) → Reading Asked
-asks_where paths is_open None read = read ≡ Err faults.Words
-asks_where paths is_open (Some command) read = reads_where paths is_open command.0 (asks command.0 command.1) read
+abbrev pub asks_where : Notation → Bool → Option (CommandName × List (List ℕ)) → Reading Asked
+asks_where notation is_open None read = read ≡ Err faults.Words
+asks_where notation is_open (Some command) read = reads_where notation is_open command.0 (asks command.0 command.1) read
 
-abbrev pub line_asks : PathSpelling → Bool → List ℕ → Reading Asked
-line_asks paths is_open line read =
-    (IsUtf8 line × asks_where paths is_open (command_of (words_of line)) read)
+abbrev pub line_asks : Notation → Bool → List ℕ → Reading Asked
+line_asks notation is_open line read =
+    (IsUtf8 line × asks_where notation is_open (command_of (words_of line)) read)
     ⊎ ((IsUtf8 line → ⊥) × (read ≡ Err faults.Utf8))
 
 -- ---- what parses a command's arguments and may be out of memory; nothing, where they aren't as many as it takes
 
-abbrev pub Parses : PathSpelling → Option Arguments → Option (Result Asked Stop) → Type 0
-Parses paths None None = ⊤
-Parses paths (Some arguments) (Some result) = UnlessMemory (reads paths arguments) result
-Parses paths arguments result = ⊥
+abbrev pub Parses : Notation → Option Arguments → Option (Result Asked Stop) → Type 0
+Parses notation None None = ⊤
+Parses notation (Some arguments) (Some result) = UnlessMemory (reads notation arguments) result
+Parses notation arguments result = ⊥

@@ -1,5 +1,5 @@
--- What `dump` tells: the published tree as lines of a script, that of its root first and a parent before what it holds.
--- They are told only where each is read as what makes its node.
+-- What `dump` prints: the published tree as lines of a script, that of its root first and a parent before what it
+-- holds. They are printed only where each is parsed to what makes its node.
 use Rattle.std.specs.Prelude.{◌≡◌, ◌⊎◌, ⊤, ℕ, Bool, true, false, List, [], ◌∷◌, ◌++◌, length, map, Ok, codes}
 use Rattle.std.specs.List.{flat_map}
 use Rattle.std.specs.Fmt.{decimal}
@@ -23,6 +23,7 @@ use Rattle.sd_script.specs.Lines.{is_silent}
 use Rattle.sd_script.specs.Paths.{path_word}
 use Rattle.sd_script.specs.declared.asked.Asked.{Asked}
 use Rattle.sd_script.specs.declared.asked.Asked.TheVariants.{Opening, Asking}
+use Rattle.sd_script.specs.declared.manner.Notation.{Notation}
 use Rattle.sd_script.specs.declared.paths.PathSpelling.{PathSpelling}
 
 -- ---- what makes a node, and the line that asks for it
@@ -54,31 +55,31 @@ making_lines paths readers nodes = flat_map (λ (node : Names × Row). making_li
 abbrev pub makings : ℕ → List (Names × Row) → List Asked
 makings readers nodes = map (λ (node : Names × Row). making readers node.0 node.1) nodes
 
--- a line is read as this, where a store is open or none is
-abbrev pub IsAskedBy : PathSpelling → Bool → List ℕ → Asked → Type 0
-IsAskedBy paths is_open text asked = (is_silent text ≡ false) × line_asks paths is_open text (Ok asked)
+-- a line asks for this, where a store is open or none is
+abbrev pub IsAskedBy : Notation → Bool → List ℕ → Asked → Type 0
+IsAskedBy notation is_open text asked = (is_silent text ≡ false) × line_asks notation is_open text (Ok asked)
 
--- these lines are read as these, one for one, where the first opens the store
-abbrev pub AreAskedBy : PathSpelling → Bool → List (List ℕ) → List Asked → Type 0
-AreAskedBy paths is_open [] [] = ⊤
-AreAskedBy paths is_open [] (asked ∷ more) = ⊥
-AreAskedBy paths is_open (text ∷ texts) [] = ⊥
-AreAskedBy paths is_open (text ∷ texts) (asked ∷ more) = IsAskedBy paths is_open text asked
-    × AreAskedBy paths true texts more
+-- these lines ask for these, one for one, where the first opens the store
+abbrev pub AreAskedBy : Notation → Bool → List (List ℕ) → List Asked → Type 0
+AreAskedBy notation is_open [] [] = ⊤
+AreAskedBy notation is_open [] (asked ∷ more) = ⊥
+AreAskedBy notation is_open (text ∷ texts) [] = ⊥
+AreAskedBy notation is_open (text ∷ texts) (asked ∷ more) = IsAskedBy notation is_open text asked
+    × AreAskedBy notation true texts more
 
--- the nodes' lines, and the publish behind them
-abbrev pub dump_text : PathSpelling → ℕ → PlainTree → List ℕ
-dump_text paths readers t = making_lines paths readers (entries t) ++ line (codes "publish")
+-- the nodes' lines, and then the publish
+abbrev pub dump_text : Notation → ℕ → PlainTree → List ℕ
+dump_text notation readers t = making_lines notation.paths readers (entries t) ++ line (codes "publish")
 
-abbrev pub IsReadBack : PathSpelling → ℕ → PlainTree → List ℕ → Type 0
-IsReadBack paths readers t text = AreAskedBy paths false (lines text)
+abbrev pub IsReadBack : Notation → ℕ → PlainTree → List ℕ → Type 0
+IsReadBack notation readers t text = AreAskedBy notation false (lines text)
     (makings readers (entries t) ++ Asking requests.Publish ∷ [])
 
 -- a name that can't stand in a script is a fault, and so is an entry's flag without a name
-abbrev pub IsDumpOf : PathSpelling → ℕ → PlainTree → List ℕ → Type 0
-IsDumpOf paths readers t printed =
-    (IsReadBack paths readers t (dump_text paths readers t) × (printed ≡ dump_text paths readers t))
-    ⊎ ((IsReadBack paths readers t (dump_text paths readers t) → ⊥) × (printed ≡ fault_line (codes "name")))
+abbrev pub IsDumpOf : Notation → ℕ → PlainTree → List ℕ → Type 0
+IsDumpOf notation readers t printed =
+    (IsReadBack notation readers t (dump_text notation readers t) × (printed ≡ dump_text notation readers t))
+    ⊎ ((IsReadBack notation readers t (dump_text notation readers t) → ⊥) × (printed ≡ fault_line (codes "name")))
 
-abbrev pub IsDump : PathSpelling → Machine → List ℕ → Type 0
-IsDump paths m printed = IsDumpOf paths (length m.floors) (replay m.opening m.published) printed
+abbrev pub IsDump : Notation → Machine → List ℕ → Type 0
+IsDump notation m printed = IsDumpOf notation (length m.floors) (replay m.opening m.published) printed

@@ -1,4 +1,4 @@
--- What is wrong with a line, and how it is told. Of several faults the first is told.
+-- What is wrong with a line, and the line of its answer. Of several faults the first is reported.
 use Rattle.std.specs.Prelude.{◌≡◌, ⊤, ◌⊎◌, ℕ, List, Result, Ok, Err, codes}
 use Rattle.sd_answer.specs.Answer.{fault_line, sddl_fault_line}
 use Rattle.sd_script.specs.declared.fault.LineFault.{LineFault}
@@ -19,7 +19,7 @@ line_of_fault Parts = fault_line (codes "parts")
 line_of_fault Mask = fault_line (codes "mask")
 line_of_fault Token = fault_line (codes "token")
 
--- what a part of a line is read as: a value, or the first thing that is wrong with it
+-- what a part of a line is parsed to: a value, or the first thing that is wrong with it
 abbrev pub Reading : Type 0 → Type 1
 Reading A = Result A LineFault → Type 0
 
@@ -32,13 +32,13 @@ SomeOr {A = A} P fault (Err told) = ((a : A) → P a → ⊥) × (told ≡ fault
 abbrev pub Just : {A : Type 0} → A → Reading A
 Just a read = read ≡ Ok a
 
--- first this part, and then what stands behind it
+-- first this part, and then what follows it
 abbrev pub Then : {A B : Type 0} → Reading A → (A → Reading B) → Reading B
 Then {A = A} first next read =
     ((a : A) × first (Ok a) × next a read)
     ⊎ ((fault : LineFault) × first (Err fault) × (read ≡ Err fault))
 
--- what a reader answers that may want memory
+-- what a parser returns that may be out of memory
 abbrev pub UnlessMemory : {A : Type 0} → Reading A → Result A Stop → Type 0
 UnlessMemory reading (Ok a) = reading (Ok a)
 UnlessMemory reading (Err (Fault fault)) = reading (Err fault)

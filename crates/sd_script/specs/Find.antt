@@ -17,7 +17,7 @@ use Rattle.sd_script.specs.Reply.{reply_line, seen_line}
 use Rattle.sd_script.specs.declared.listing.Which.{Which}
 use Rattle.sd_script.specs.declared.paths.PathSpelling.{PathSpelling}
 
--- by how long a journal, and the lines of the nodes; where none stands at the path, that is told
+-- by how long a journal, and the lines of the nodes; where none is at the path, the answer says so
 abbrev pub found_in : PathSpelling → MappingValue → PlainTree → Names → Which → ℕ → Option NodeKind → List ℕ
 found_in paths g t top which seen None = seen_line seen (line (codes "nonode"))
 found_in paths g t top which seen (Some kind) =

@@ -21,6 +21,7 @@ use Rattle.sd_script.specs.declared.asked.Asked.{Asked}
 use Rattle.sd_script.specs.declared.asked.Asked.TheVariants.{Opening, Asking, Explaining, Finding, Deleting, Viewing}
 use Rattle.sd_script.specs.declared.asked.Asked.TheVariants.{Importing}
 use Rattle.sd_script.specs.declared.manner.Manner.{Manner}
+use Rattle.sd_script.specs.declared.manner.Notation.{Notation}
 use Rattle.sd_script.specs.declared.paths.PathSpelling.{PathSpelling}
 use Rattle.sd_script.specs.declared.session.Session.{Session}
 use Rattle.sd_script.specs.declared.session.Session.TheVariants.{Opened}
@@ -43,7 +44,7 @@ is_analysis (Importing edit path given) = false
 -- the line asks for no analysis, whatever stands before it
 abbrev pub AsksNoAnalysis : List ℕ → Type 0
 AsksNoAnalysis line =
-    (paths : PathSpelling) (is_open : Bool) (asked : Asked) → line_asks paths is_open line (Ok asked)
+    (notation : Notation) (is_open : Bool) (asked : Asked) → line_asks notation is_open line (Ok asked)
     → is_analysis asked ≡ false
 
 -- a line leaves one store, and unless it asks for an analysis it has one answer
@@ -59,13 +60,13 @@ HasOneOutput =
     (manner : Manner) (text one other : List ℕ) → All AsksNoAnalysis (lines text)
     → Prints manner text one → Prints manner text other → one ≡ other
 
--- what `why` tells begins with what `check` tells, and behind both the store is the same
+-- the answer to `why` begins with that to `check`, and after both the store is the same
 abbrev pub BeginsAsCheck : Type 0
 BeginsAsCheck =
-    (paths : PathSpelling) (old : Machine) (reader : ℕ) (path : Names) (token : TokenValue) (asked : ℕ)
+    (notation : Notation) (old : Machine) (reader : ℕ) (path : Names) (token : TokenValue) (asked : ℕ)
     (checked explained : List ℕ) (one other : Session)
-    → IsDone (Opened paths old) (Asking (Check reader path token asked)) checked one
-    → IsDone (Opened paths old) (Explaining reader path token asked) explained other
+    → IsDone (Opened notation old) (Asking (Check reader path token asked)) checked one
+    → IsDone (Opened notation old) (Explaining reader path token asked) explained other
     → ((reasons : List ℕ) × (explained ≡ checked ++ reasons)) × (other ≡ one)
 
 -- a check of a published tree of so many edits is answered by a grant
@@ -78,10 +79,10 @@ by_node_line len = seen_line len (line (codes "granted by node"))
 -- `delete` is granted by the node just where `check` for DELETE is granted, and leaves the same store
 abbrev pub DeletesAsChecked : Type 0
 DeletesAsChecked =
-    (paths : PathSpelling) (old : Machine) (reader : ℕ) (path : Names) (token : TokenValue)
+    (notation : Notation) (old : Machine) (reader : ℕ) (path : Names) (token : TokenValue)
     (checked deleted : List ℕ) (one other : Session)
-    → IsDone (Opened paths old) (Asking (Check reader path token delete_right)) checked one
-    → IsDone (Opened paths old) (Deleting reader path token) deleted other
+    → IsDone (Opened notation old) (Asking (Check reader path token delete_right)) checked one
+    → IsDone (Opened notation old) (Deleting reader path token) deleted other
     → (IsGranted (length old.published) checked → deleted ≡ by_node_line (length old.published))
     × (deleted ≡ by_node_line (length old.published) → IsGranted (length old.published) checked)
     × (other ≡ one)

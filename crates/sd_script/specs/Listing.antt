@@ -1,4 +1,4 @@
--- Lines of the nodes at and below a path, in the order of their paths: what `list` and `find` tell of the published
+-- Lines of the nodes at and below a path, in the order of their paths: what `list` and `find` print of the published
 -- tree.
 use Rattle.std.specs.Prelude.{ℕ, Bool, true, false, ◌&&◌, List, [], ◌++◌, Option, Some, None, if◌then◌else◌, codes}
 use Rattle.std.specs.List.{flat_map, list_any}
@@ -54,12 +54,12 @@ line_below paths g t top which node = if is_within top node.0 then line_of paths
 abbrev pub is_split_below : Names → Names × Row → Bool
 is_split_below top node = is_within top node.0 && is_split node.0
 
--- some path that is to be told can't be
+-- some path can't be printed
 abbrev pub lacks_words : PathSpelling → PlainTree → Names → Bool
 lacks_words Plain t top = list_any (is_split_below top) (entries t)
 lacks_words Percent t top = false
 
--- where no node stands at the path, that is told
+-- where no node is at the path, the answer says so
 abbrev pub unless_none : Option NodeKind → List ℕ → List ℕ
 unless_none None text = line (codes "nonode")
 unless_none (Some kind) text = text

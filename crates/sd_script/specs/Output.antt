@@ -35,59 +35,61 @@ use Rattle.sd_script.specs.declared.tally.Tally.{Tally}
 -- whether a store is open
 abbrev pub is_open : Session → Bool
 is_open (Closed manner) = false
-is_open (Opened paths m) = true
+is_open (Opened notation m) = true
 
 -- in which manner a store is opened, or is open
 abbrev pub manner_of : Session → Manner
 manner_of (Closed manner) = manner
-manner_of (Opened paths m) = record { mapping = m.opening.mapping; paths = paths }
+manner_of (Opened notation m) = record { mapping = m.opening.mapping; notation = notation }
 
 -- what a line asks for where this stands
 abbrev pub line_asks_in : Session → List ℕ → Reading Asked
-line_asks_in s line = line_asks (manner_of s).paths (is_open s) line
+line_asks_in s line = line_asks (manner_of s).notation (is_open s) line
 
 -- a store with this root is opened in this manner for so many readers, or refused; after a refusal none is open
 abbrev pub IsOpened : Manner → ℕ → RootSpec → List ℕ → Session → Type 0
 IsOpened manner readers root printed new =
     (IsReaderCount readers × (root_refusal (opening_of manner.mapping root) ≡ None)
     × (printed ≡ counted_line (codes "opened") readers)
-    × (new ≡ Opened manner.paths (started (opening_of manner.mapping root) readers)))
+    × (new ≡ Opened manner.notation (started (opening_of manner.mapping root) readers)))
     ⊎ ((error : StartError) × IsStartError error readers (root_refusal (opening_of manner.mapping root))
     × (start_error_line error ≡ Some printed) × (new ≡ Closed manner))
 
 -- what is asked of a store that is open is done: what is printed, and what stands then
 abbrev pub IsDone : Session → Asked → List ℕ → Session → Type 0
 IsDone old (Opens readers root) printed new = IsOpened (manner_of old) readers root printed new
-IsDone (Opened paths old) (Asking request) printed new =
+IsDone (Opened notation old) (Asking request) printed new =
     (reply : Reply) × (machine : Machine) × Steps old request reply machine × (reply_line reply ≡ Some printed)
-    × (new ≡ Opened paths machine)
-IsDone (Opened paths old) (Explaining reader path token asked) printed new =
+    × (new ≡ Opened notation machine)
+IsDone (Opened notation old) (Explaining reader path token asked) printed new =
     (reply : Reply) × (machine : Machine) × Steps old (Show reader path) reply machine
-    × (explained_reply old.opening.mapping token asked reply ≡ Some printed) × (new ≡ Opened paths machine)
-IsDone (Opened paths old) (Finding reader path token asked) printed new =
+    × (explained_reply old.opening.mapping token asked reply ≡ Some printed) × (new ≡ Opened notation machine)
+IsDone (Opened notation old) (Finding reader path token asked) printed new =
     (reply : Reply) × (machine : Machine) × Steps old (Show reader path) reply machine
-    × (found_reply paths machine path (Granting token asked) reply ≡ Some printed) × (new ≡ Opened paths machine)
-IsDone (Opened paths old) (Deleting reader path token) printed new =
+    × (found_reply notation.paths machine path (Granting token asked) reply ≡ Some printed)
+    × (new ≡ Opened notation machine)
+IsDone (Opened notation old) (Deleting reader path token) printed new =
     (reply : Reply) × (machine : Machine) × Steps old (Check reader path token delete_right) reply machine
     × (deletion_reply (parent_grants old.opening old.published path token) reply ≡ Some printed)
-    × (new ≡ Opened paths machine)
-IsDone (Opened paths old) (Viewing view) printed new = IsViewed paths old view printed × (new ≡ Opened paths old)
-IsDone (Opened paths old) (Importing edit path given) printed new =
+    × (new ≡ Opened notation machine)
+IsDone (Opened notation old) (Viewing view) printed new =
+    IsViewed notation old view printed × (new ≡ Opened notation old)
+IsDone (Opened notation old) (Importing edit path given) printed new =
     (reply : Reply) × (machine : Machine) × Steps old (Edits edit) reply machine
-    × IsImported machine path given reply printed × (new ≡ Opened paths machine)
+    × IsImported machine path given reply printed × (new ≡ Opened notation machine)
 IsDone old asked printed new = ⊥
 
--- a line that isn't silent is told what it asks for, or its fault
+-- a line that isn't silent is answered by what it asks for, or by its fault
 abbrev pub IsTold : Session → List ℕ → List ℕ → Session → Type 0
 IsTold old line told new =
     ((asked : Asked) × line_asks_in old line (Ok asked) × IsDone old asked told new)
     ⊎ ((fault : LineFault) × line_asks_in old line (Err fault) × (told ≡ line_of_fault fault) × (new ≡ old))
 
--- behind what a line is told: an empty line ends the answer to one that is answered by several lines, a fault too
+-- the end of an answer: an empty line, if the line is answered by several lines, also after a fault
 abbrev pub closing_of : List ℕ → List ℕ
 closing_of line = if wants_lines line then 10 ∷ [] else []
 
--- a line is answered: by nothing, or by what it is told
+-- a line is answered: by nothing, or by its answer and the end of that
 abbrev pub IsAnswered : Session → List ℕ → List ℕ → Session → Type 0
 IsAnswered old line printed new = MatchBool (is_silent line)
     ((printed ≡ []) × (new ≡ old))
@@ -110,26 +112,26 @@ pub record IsNext (old : Carried) (line printed : List ℕ) (new : Carried) : Ty
   pub answered : IsAnsweredAfter old.session old.last line printed new.session new.last
   pub counted : new.tally ≡ tallied line printed old.tally
 
--- what is asked is done, whatever is told of it. No line asks to open a store where one is open
+-- what is asked is done, whatever is printed. No line asks to open a store where one is open
 abbrev pub IsMade : Session → Asked → Session → Type 0
 IsMade old (Opens readers root) new =
     (IsReaderCount readers × (root_refusal (opening_of (manner_of old).mapping root) ≡ None)
-    × (new ≡ Opened (manner_of old).paths (started (opening_of (manner_of old).mapping root) readers)))
+    × (new ≡ Opened (manner_of old).notation (started (opening_of (manner_of old).mapping root) readers)))
     ⊎ (new ≡ Closed (manner_of old))
-IsMade (Opened paths old) (Asking request) new =
-    (reply : Reply) × (machine : Machine) × Steps old request reply machine × (new ≡ Opened paths machine)
-IsMade (Opened paths old) (Explaining reader path token asked) new =
-    (reply : Reply) × (machine : Machine) × Steps old (Show reader path) reply machine × (new ≡ Opened paths machine)
-IsMade (Opened paths old) (Finding reader path token asked) new =
-    (reply : Reply) × (machine : Machine) × Steps old (Show reader path) reply machine × (new ≡ Opened paths machine)
-IsMade (Opened paths old) (Deleting reader path token) new =
+IsMade (Opened notation old) (Asking request) new =
+    (reply : Reply) × (machine : Machine) × Steps old request reply machine × (new ≡ Opened notation machine)
+IsMade (Opened notation old) (Explaining reader path token asked) new =
+    (reply : Reply) × (machine : Machine) × Steps old (Show reader path) reply machine × (new ≡ Opened notation machine)
+IsMade (Opened notation old) (Finding reader path token asked) new =
+    (reply : Reply) × (machine : Machine) × Steps old (Show reader path) reply machine × (new ≡ Opened notation machine)
+IsMade (Opened notation old) (Deleting reader path token) new =
     (reply : Reply) × (machine : Machine) × Steps old (Check reader path token delete_right) reply machine
-    × (new ≡ Opened paths machine)
-IsMade (Opened paths old) (Importing edit path given) new =
-    (reply : Reply) × (machine : Machine) × Steps old (Edits edit) reply machine × (new ≡ Opened paths machine)
+    × (new ≡ Opened notation machine)
+IsMade (Opened notation old) (Importing edit path given) new =
+    (reply : Reply) × (machine : Machine) × Steps old (Edits edit) reply machine × (new ≡ Opened notation machine)
 IsMade old asked new = ⊥
 
--- a line isn't answered, out of memory: nothing has changed, or what it asks for is done, and can't be told
+-- a line isn't answered, out of memory: nothing has changed, or what it asks for is done, without an answer
 abbrev pub IsUntold : Session → List ℕ → Session → Type 0
 IsUntold old line new = (new ≡ old) ⊎ ((asked : Asked) × line_asks_in old line (Ok asked) × IsMade old asked new)
 

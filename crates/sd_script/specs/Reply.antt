@@ -22,7 +22,7 @@ use Rattle.sd_answer.specs.declared.answer.Spelling.TheVariants.{Number}
 abbrev pub refused_line : EditRefusal → List ℕ
 refused_line refusal = line (codes "refused " ++ decimal (number_of refusal) ++ codes " " ++ name_of refusal)
 
--- a word, and a number behind it
+-- a word and a number
 abbrev pub counted_line : List ℕ → ℕ → List ℕ
 counted_line word n = line (word ++ codes " " ++ decimal n)
 
@@ -38,7 +38,7 @@ abbrev pub shown_line : Option Descriptor → List ℕ
 shown_line (Some d) = line (codes "shown " ++ canon (descriptor_of d))
 shown_line None = line (codes "nonode")
 
--- want of memory has no line
+-- out of memory has no line
 abbrev pub reply_line : Reply → Option (List ℕ)
 reply_line Edited = Some (line (codes "ok"))
 reply_line (Refused refusal) = Some (refused_line refusal)
@@ -51,7 +51,7 @@ reply_line NoReader = Some (line (codes "noreader"))
 reply_line NoNotice = Some (line (codes "nonotice"))
 reply_line Memory = None
 
--- nor has the error that a store of one thread never tells
+-- nor has the error that a store of one thread never returns
 abbrev pub start_error_line : StartError → Option (List ℕ)
 start_error_line starts.Readers = Some (line (codes "refused readers"))
 start_error_line (starts.Root refusal) = Some (refused_line refusal)

@@ -19,11 +19,11 @@ no_lines = record {
   begins_with_mark = false;
 }
 
--- the answer tells a fault or a refusal
+-- the answer is a fault or a refusal
 abbrev pub tells_fault : List ℕ → Bool
 tells_fault answer = starts_with nat_eq answer (codes "fault ") || starts_with nat_eq answer (codes "refused ")
 
--- the answer tells that an imported node inherits otherwise than it did
+-- the answer says that an imported node inherits otherwise than it did
 abbrev pub tells_difference : List ℕ → Bool
 tells_difference answer = starts_with nat_eq answer (codes "ok differs")
 

@@ -16,12 +16,12 @@ use Rattle.sd_answer.specs.declared.answer.Spelling.TheVariants.{Number}
 abbrev pub rights_asked : MappingValue → ℕ → ℕ
 rights_asked g asked = if holds asked 25 then 0x001FFFFF else mapped g asked
 
--- where no right is asked about, that is told: no answer is an empty line alone
+-- where no right is asked about, the answer says so: none is an empty line alone
 abbrev pub or_empty : List ℕ → List ℕ
 or_empty text = if length text == 0 then line (codes "empty") else text
 
 -- the lines of accesses that say exactly who is granted each right once: of tokens with the base, as `who` of
--- sd_analysis promises. A node that isn't there is told
+-- sd_analysis promises. A node that isn't there has its own answer
 abbrev pub IsWhoText : MappingValue → Option DescriptorValue → ℕ → List (SidValue × GroupState) → List ℕ → Type 0
 IsWhoText g None asked base printed = printed ≡ line (codes "nonode")
 IsWhoText g (Some d) asked base printed =

@@ -1,17 +1,19 @@
-//! The words of a line after its command, each read as what it stands for.
-ghost use Rattle.std.specs.Prelude.{◌≡◌, IfOk};
+//! The arguments of a line, each parsed.
+ghost use Rattle.std.specs.Prelude.{◌≡◌, Err, IfErr, IfOk, Ok};
 ghost use Rattle.sd_acl.specs.Descriptor.{descriptor_of};
-ghost use Rattle.sd_script.specs.Argument.{base, number, sid, mask, token, node, dacl, node_of, dacl_of, own_dacl};
+ghost use Rattle.sd_script.specs.Argument.{base, dacl, dacl_of, descriptor, mask, node, node_of, number, own_dacl, sid};
+ghost use Rattle.sd_script.specs.Argument.{token};
 ghost use Rattle.sd_script.specs.Fault.{UnlessMemory};
 ghost use Rattle.sd_answer.specs.Word.{texts};
 
 use crate::fault::{LineFault, Stop};
+use crate::manner::Notation;
 use crate::view::Groups;
 use sd_acl::{Dacl, Descriptor};
-use sd_answer::{TokenError, read_base, read_token};
+use sd_answer::{TokenError, read_base, read_sddl_argument, read_token};
 use sd_check::Token;
 use sd_sid::{Mask, Sid};
-use sd_text::{TextError, read_mask, read_sddl, read_sid_text};
+use sd_text::{TextError, WithoutSacl, read_mask, read_sid_text_in};
 use sd_tree::{Entries, NodeDacl, RootSpec};
 use std::alloc::{AllocError, Global};
 
@@ -29,10 +31,10 @@ pub(crate) fn number_in(word: &str) -> Result<u64, LineFault>
 }
 
 /// The text of a SID ([MS-DTYP] 2.4.2.1).
-pub(crate) fn sid_in(word: &str) -> Result<Sid, LineFault>
-    ensures { sid word.now result }
+pub(crate) fn sid_in(notation: Notation, word: &str) -> Result<Sid, LineFault>
+    ensures { sid notation word.now result }
 {
-    match read_sid_text(word) {
+    match read_sid_text_in(notation.aliases, word) {
         Ok(sid) => Ok(sid),
         Err(_) => Err(LineFault::Sid),
     }
@@ -49,33 +51,43 @@ pub(crate) fn mask_in(word: &str) -> Result<Mask, LineFault>
 }
 
 /// The token of a user and of words.
-pub(crate) fn token_in(alloc: Global, user: Sid, words: &[&str]) -> Result<Token, Stop>
-    ensures { UnlessMemory (token user (texts words.now)) result }
+pub(crate) fn token_in(
+    alloc: Global,
+    notation: Notation,
+    user: Sid,
+    words: &[&str],
+) -> Result<Token, Stop>
+    ensures { UnlessMemory (token notation user (texts words.now)) result }
 {
-    match read_token(alloc, user, words) {
+    match read_token(alloc, notation.aliases, user, words) {
         Ok(token) => Ok(token),
-        Err(TokenError::NoWord { .. }) => Err(Stop::Fault(LineFault::Token)),
+        Err(TokenError::NoWord { place: _ }) => Err(Stop::Fault(LineFault::Token)),
         Err(TokenError::Memory) => Err(Stop::Memory),
     }
 }
 
 /// The groups that words are.
-pub(crate) fn base_in(alloc: Global, words: &[&str]) -> Result<Groups, Stop>
-    ensures { UnlessMemory (base (texts words.now)) result }
+pub(crate) fn base_in(alloc: Global, notation: Notation, words: &[&str]) -> Result<Groups, Stop>
+    ensures { UnlessMemory (base notation (texts words.now)) result }
 {
-    match read_base(alloc, words) {
+    match read_base(alloc, notation.aliases, words) {
         Ok(groups) => Ok(Groups::new(groups)),
         Err(TokenError::NoWord { place: _ }) => Err(Stop::Fault(LineFault::Token)),
         Err(TokenError::Memory) => Err(Stop::Memory),
     }
 }
 
-/// The text of a descriptor ([MS-DTYP] 2.5.1) with an owner and a group.
-pub(crate) fn node_in(alloc: Global, word: &str) -> Result<RootSpec, Stop>
-    ensures { UnlessMemory (node word.now) result }
+/// The text of a descriptor ([MS-DTYP] 2.5.1), whose SACL may be left out.
+pub(crate) fn descriptor_in(
+    alloc: Global,
+    notation: Notation,
+    word: &str,
+) -> Result<Descriptor, Stop>
+    ensures read { IfOk result (λ d. descriptor notation word.now (Ok (descriptor_of d))) }
+    ensures stop { IfErr result (λ stop. UnlessMemory (descriptor notation word.now) (Err stop)) }
 {
-    match read_sddl(alloc, word) {
-        Ok(descriptor) => node_of(alloc, &descriptor),
+    match read_sddl_argument(alloc, notation.aliases, notation.without_sacl, word) {
+        Ok(WithoutSacl { descriptor, .. }) => Ok(descriptor),
         Err(TextError::Fault { fault, place }) => {
             Err(Stop::Fault(LineFault::Sddl { fault, place }))
         }
@@ -83,17 +95,20 @@ pub(crate) fn node_in(alloc: Global, word: &str) -> Result<RootSpec, Stop>
     }
 }
 
-/// The text of a descriptor ([MS-DTYP] 2.5.1) with neither.
-pub(crate) fn dacl_in(alloc: Global, word: &str) -> Result<NodeDacl, Stop>
-    ensures { UnlessMemory (dacl word.now) result }
+/// The text of a descriptor with an owner and a group.
+pub(crate) fn node_in(alloc: Global, notation: Notation, word: &str) -> Result<RootSpec, Stop>
+    ensures { UnlessMemory (node notation word.now) result }
 {
-    match read_sddl(alloc, word) {
-        Ok(descriptor) => dacl_of(alloc, &descriptor),
-        Err(TextError::Fault { fault, place }) => {
-            Err(Stop::Fault(LineFault::Sddl { fault, place }))
-        }
-        Err(TextError::Memory) => Err(Stop::Memory),
-    }
+    let descriptor = descriptor_in(alloc, notation, word)?;
+    node_of(alloc, &descriptor)
+}
+
+/// The text of a descriptor with neither.
+pub(crate) fn dacl_in(alloc: Global, notation: Notation, word: &str) -> Result<NodeDacl, Stop>
+    ensures { UnlessMemory (dacl notation word.now) result }
+{
+    let descriptor = descriptor_in(alloc, notation, word)?;
+    dacl_of(alloc, &descriptor)
 }
 
 fn node_of(alloc: Global, descriptor: &Descriptor) -> Result<RootSpec, Stop>

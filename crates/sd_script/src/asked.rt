@@ -5,7 +5,7 @@ ghost use Rattle.sd_script.specs.Command.{asks_groups, groups_given, on_groups_v
 ghost use Rattle.sd_script.specs.Fault.{UnlessMemory};
 ghost use Rattle.sd_script.specs.declared.command.CommandName.TheVariants.{Open, Learn, Show, ListNodes, Review};
 ghost use Rattle.sd_answer.specs.Word.{texts};
-ghost use Rattle.sd_script.specs.declared.paths.PathSpelling.{PathSpelling as Spelling};
+ghost use Rattle.sd_script.specs.declared.manner.Notation.{Notation as NotationValue};
 
 use crate::argument::{base_in, mask_in, node_in, number_in, sid_in, token_in};
 use crate::command::{Command, CommandName};
@@ -15,7 +15,8 @@ use crate::edits::{
 };
 use crate::fault::Stop;
 use crate::importing::importing;
-use crate::paths::{PathSpelling, path_in};
+use crate::manner::Notation;
+use crate::paths::path_in;
 use crate::view::View;
 use sd_check::Token;
 use sd_desk::Request;
@@ -84,24 +85,24 @@ enum Question {
 /// arguments.
 pub(crate) fn asked_by(
     alloc: Global,
-    paths: PathSpelling,
+    notation: Notation,
     command: Command<'_>,
 ) -> Option<Result<Asked, Stop>>
-    ensures { Parses paths (asks command.entry.name (texts command.entry.arguments.now)) result }
+    ensures { Parses notation (asks command.entry.name (texts command.entry.arguments.now)) result }
 {
     match command.name {
-        CommandName::Who => who(alloc, paths, command.arguments),
-        CommandName::Delete => deletion(alloc, paths, command.arguments),
-        _ => taking(alloc, paths, command.name, command.arguments),
+        CommandName::Who => who(alloc, notation, command.arguments),
+        CommandName::Delete => deletion(alloc, notation, command.arguments),
+        _ => taking(alloc, notation, command.name, command.arguments),
     }
 }
 
 /// Who is granted a mask on a path, of groups.
-fn who(alloc: Global, paths: PathSpelling, arguments: &[&str]) -> Option<Result<Asked, Stop>>
-    ensures { Parses paths (asks_who (texts arguments.now)) result }
+fn who(alloc: Global, notation: Notation, arguments: &[&str]) -> Option<Result<Asked, Stop>>
+    ensures { Parses notation (asks_who (texts arguments.now)) result }
 {
     match on_groups(arguments) {
-        Some(OnGroups { path, mask, words }) => Some(granted(alloc, paths, path, mask, words)),
+        Some(OnGroups { path, mask, words }) => Some(granted(alloc, notation, path, mask, words)),
         None => None,
     }
 }
@@ -119,33 +120,33 @@ fn on_groups<'a>(arguments: &'a [&'a str]) -> Option<OnGroups<'a>>
 /// What each other command asks for, by the number of its arguments.
 fn taking(
     alloc: Global,
-    paths: PathSpelling,
+    notation: Notation,
     name: CommandName,
     arguments: &[&str],
 ) -> Option<Result<Asked, Stop>>
-    ensures { Parses paths (asks_taking name (texts arguments.now)) result }
+    ensures { Parses notation (asks_taking name (texts arguments.now)) result }
 {
     match arguments {
-        [] => alone(alloc, paths, name),
-        [path] => on_one(alloc, paths, name, path),
-        [first, second] => on_two(alloc, paths, name, first, second),
-        [kind, path, sddl] => on_three(alloc, paths, name, kind, path, sddl),
+        [] => alone(alloc, notation, name),
+        [path] => on_one(alloc, notation, name, path),
+        [first, second] => on_two(alloc, notation, name, first, second),
+        [kind, path, sddl] => on_three(alloc, notation, name, kind, path, sddl),
         [reader, path, user, mask, words @ ..] => {
-            on_question(alloc, paths, name, reader, path, user, mask, words)
+            on_question(alloc, notation, name, reader, path, user, mask, words)
         }
     }
 }
 
 /// Without an argument.
-fn alone(alloc: Global, paths: PathSpelling, name: CommandName) -> Option<Result<Asked, Stop>>
-    ensures { Parses paths (asks_taking name []) result }
+fn alone(alloc: Global, notation: Notation, name: CommandName) -> Option<Result<Asked, Stop>>
+    ensures { Parses notation (asks_taking name []) result }
 {
     match name {
         CommandName::Publish => Some(Ok(Asked::Asking(Request::Publish))),
         CommandName::Tell => Some(Ok(Asked::Asking(Request::Tell))),
         CommandName::Dump => Some(Ok(Asked::Viewing(View::Dump))),
-        CommandName::ListNodes => Some(listed(alloc, paths, "/")),
-        CommandName::Review => Some(reviewed(alloc, paths, "/")),
+        CommandName::ListNodes => Some(listed(alloc, notation, "/")),
+        CommandName::Review => Some(reviewed(alloc, notation, "/")),
         _ => None,
     }
 }
@@ -153,17 +154,17 @@ fn alone(alloc: Global, paths: PathSpelling, name: CommandName) -> Option<Result
 /// On a path.
 fn on_one(
     alloc: Global,
-    paths: PathSpelling,
+    notation: Notation,
     name: CommandName,
     path: &str,
 ) -> Option<Result<Asked, Stop>>
-    ensures { Parses paths (asks_taking name (path.now ∷ [])) result }
+    ensures { Parses notation (asks_taking name (path.now ∷ [])) result }
 {
     match name {
-        CommandName::Remove => Some(removed(alloc, paths, path)),
-        CommandName::Protect => Some(protected(alloc, paths, path)),
-        CommandName::ListNodes => Some(listed(alloc, paths, path)),
-        CommandName::Review => Some(reviewed(alloc, paths, path)),
+        CommandName::Remove => Some(removed(alloc, notation, path)),
+        CommandName::Protect => Some(protected(alloc, notation, path)),
+        CommandName::ListNodes => Some(listed(alloc, notation, path)),
+        CommandName::Review => Some(reviewed(alloc, notation, path)),
         _ => None,
     }
 }
@@ -171,23 +172,23 @@ fn on_one(
 /// On two arguments.
 fn on_two(
     alloc: Global,
-    paths: PathSpelling,
+    notation: Notation,
     name: CommandName,
     first: &str,
     second: &str,
 ) -> Option<Result<Asked, Stop>>
-    ensures { Parses paths (asks_taking name (first.now ∷ second.now ∷ [])) result }
+    ensures { Parses notation (asks_taking name (first.now ∷ second.now ∷ [])) result }
 {
     match name {
-        CommandName::Open => Some(opening(alloc, first, second)),
-        CommandName::AddContainer => Some(added_container(alloc, paths, first, second)),
-        CommandName::AddObject => Some(added_object(alloc, paths, first, second)),
-        CommandName::SetOwner => Some(set_owner(alloc, paths, first, second)),
-        CommandName::SetGroup => Some(set_group(alloc, paths, first, second)),
-        CommandName::SetDacl => Some(set_dacl(alloc, paths, first, second)),
-        CommandName::Move => Some(moved(alloc, paths, first, second)),
+        CommandName::Open => Some(opening(alloc, notation, first, second)),
+        CommandName::AddContainer => Some(added_container(alloc, notation, first, second)),
+        CommandName::AddObject => Some(added_object(alloc, notation, first, second)),
+        CommandName::SetOwner => Some(set_owner(alloc, notation, first, second)),
+        CommandName::SetGroup => Some(set_group(alloc, notation, first, second)),
+        CommandName::SetDacl => Some(set_dacl(alloc, notation, first, second)),
+        CommandName::Move => Some(moved(alloc, notation, first, second)),
         CommandName::Learn => Some(learned(first, second)),
-        CommandName::Show => Some(shown(alloc, paths, first, second)),
+        CommandName::Show => Some(shown(alloc, notation, first, second)),
         _ => None,
     }
 }
@@ -195,18 +196,18 @@ fn on_two(
 /// On a kind, a path and a descriptor.
 fn on_three(
     alloc: Global,
-    paths: PathSpelling,
+    notation: Notation,
     name: CommandName,
     kind: &str,
     path: &str,
     sddl: &str,
 ) -> Option<Result<Asked, Stop>>
-    ensures { Parses paths (asks_taking name (kind.now ∷ path.now ∷ sddl.now ∷ [])) result }
+    ensures { Parses notation (asks_taking name (kind.now ∷ path.now ∷ sddl.now ∷ [])) result }
 {
     match name {
         CommandName::ImportNode => {
             let kind = kind_named(kind)?;
-            Some(importing(alloc, paths, kind, path, sddl))
+            Some(importing(alloc, notation, kind, path, sddl))
         }
         _ => None,
     }
@@ -226,7 +227,7 @@ fn kind_named(word: &str) -> Option<NodeKind>
 /// On a reader, a path and a question.
 fn on_question(
     alloc: Global,
-    paths: PathSpelling,
+    notation: Notation,
     name: CommandName,
     reader: &str,
     path: &str,
@@ -234,7 +235,7 @@ fn on_question(
     mask: &str,
     words: &[&str],
 ) -> Option<Result<Asked, Stop>>
-    ensures { Parses paths
+    ensures { Parses notation
         (asks_taking name (reader.now ∷ path.now ∷ user.now ∷ mask.now ∷ texts words.now)) result }
 {
     let question = match name {
@@ -243,19 +244,20 @@ fn on_question(
         CommandName::Find => Question::Find,
         _ => return None,
     };
-    Some(posed(alloc, paths, question, reader, path, user, mask, words))
+    Some(posed(alloc, notation, question, reader, path, user, mask, words))
 }
 
-fn opening(alloc: Global, readers: &str, sddl: &str) -> Result<Asked, Stop>
-    ensures { (paths : Spelling) → Parses paths (asks_taking Open (readers.now ∷ sddl.now ∷ [])) (Some result) }
+fn opening(alloc: Global, notation: Notation, readers: &str, sddl: &str) -> Result<Asked, Stop>
+    ensures { Parses notation (asks_taking Open (readers.now ∷ sddl.now ∷ [])) (Some result) }
 {
     let readers = number_in(readers)?;
-    let root = node_in(alloc, sddl)?;
+    let root = node_in(alloc, notation, sddl)?;
     Ok(Asked::Opening { readers, root })
 }
 
 fn learned(reader: &str, length: &str) -> Result<Asked, Stop>
-    ensures { (paths : Spelling) → Parses paths (asks_taking Learn (reader.now ∷ length.now ∷ [])) (Some result) }
+    ensures { (notation : NotationValue)
+        → Parses notation (asks_taking Learn (reader.now ∷ length.now ∷ [])) (Some result) }
 {
     let reader = number_in(reader)?;
     let length = number_in(length)?;
@@ -264,7 +266,7 @@ fn learned(reader: &str, length: &str) -> Result<Asked, Stop>
 
 fn posed(
     alloc: Global,
-    paths: PathSpelling,
+    notation: Notation,
     question: Question,
     reader: &str,
     path: &str,
@@ -273,13 +275,13 @@ fn posed(
     words: &[&str],
 ) -> Result<Asked, Stop>
     ensures { UnlessMemory
-        (reads paths (posed question reader.now path.now user.now mask.now (texts words.now))) result }
+        (reads notation (posed question reader.now path.now user.now mask.now (texts words.now))) result }
 {
     let reader = number_in(reader)?;
-    let path = path_in(alloc, paths, path)?;
-    let user = sid_in(user)?;
+    let path = path_in(alloc, notation.paths, path)?;
+    let user = sid_in(notation, user)?;
     let asked = mask_in(mask)?;
-    let token = token_in(alloc, user, words)?;
+    let token = token_in(alloc, notation, user, words)?;
     Ok(question.about(reader, path, token, asked))
 }
 
@@ -310,33 +312,33 @@ impl Question {
     }
 }
 
-fn shown(alloc: Global, paths: PathSpelling, reader: &str, path: &str) -> Result<Asked, Stop>
-    ensures { Parses paths (asks_taking Show (reader.now ∷ path.now ∷ [])) (Some result) }
+fn shown(alloc: Global, notation: Notation, reader: &str, path: &str) -> Result<Asked, Stop>
+    ensures { Parses notation (asks_taking Show (reader.now ∷ path.now ∷ [])) (Some result) }
 {
     let reader = number_in(reader)?;
-    let path = path_in(alloc, paths, path)?;
+    let path = path_in(alloc, notation.paths, path)?;
     Ok(Asked::Asking(Request::Show { reader, path }))
 }
 
-fn listed(alloc: Global, paths: PathSpelling, path: &str) -> Result<Asked, Stop>
-    ensures { Parses paths (asks_taking ListNodes (path.now ∷ [])) (Some result) }
+fn listed(alloc: Global, notation: Notation, path: &str) -> Result<Asked, Stop>
+    ensures { Parses notation (asks_taking ListNodes (path.now ∷ [])) (Some result) }
 {
-    let path = path_in(alloc, paths, path)?;
+    let path = path_in(alloc, notation.paths, path)?;
     Ok(Asked::Viewing(View::List { path }))
 }
 
 fn granted(
     alloc: Global,
-    paths: PathSpelling,
+    notation: Notation,
     path: &str,
     mask: &str,
     words: &[&str],
 ) -> Result<Asked, Stop>
-    ensures { UnlessMemory (reads paths (asks_groups (path.now, mask.now, texts words.now))) result }
+    ensures { UnlessMemory (reads notation (asks_groups (path.now, mask.now, texts words.now))) result }
 {
-    let path = path_in(alloc, paths, path)?;
+    let path = path_in(alloc, notation.paths, path)?;
     let asked = mask_in(mask)?;
-    let groups = base_in(alloc, words)?;
+    let groups = base_in(alloc, notation, words)?;
     Ok(Asked::Viewing(View::Who {
         path,
         groups,
@@ -344,9 +346,9 @@ fn granted(
     }))
 }
 
-fn reviewed(alloc: Global, paths: PathSpelling, path: &str) -> Result<Asked, Stop>
-    ensures { Parses paths (asks_taking Review (path.now ∷ [])) (Some result) }
+fn reviewed(alloc: Global, notation: Notation, path: &str) -> Result<Asked, Stop>
+    ensures { Parses notation (asks_taking Review (path.now ∷ [])) (Some result) }
 {
-    let path = path_in(alloc, paths, path)?;
+    let path = path_in(alloc, notation.paths, path)?;
     Ok(Asked::Viewing(View::Review { path }))
 }

@@ -69,7 +69,7 @@ impl CommandName {
         }
     }
 
-    /// Whether a store is open and the command would open one, or none is and it wants one.
+    /// Whether a store is open and the command would open one, or none is and it requires one.
     pub(crate) fn is_untimely(self, is_open: bool) -> bool
         ensures { result ≡ is_untimely is_open self }
     {

@@ -9,10 +9,12 @@ use crate::argument::{number_in, sid_in, token_in};
 use crate::asked::Asked;
 use crate::fault::Stop;
 use crate::listing::grants;
-use crate::paths::{PathSpelling, path_in};
+use crate::manner::Notation;
+use crate::paths::path_in;
 use crate::reply::{reply_line, seen_line};
 use sd_check::Token;
 use sd_desk::Reply;
+use sd_path::MAX_NAMES;
 use sd_sid::Mask;
 use sd_tree::{CheckReply, Path, Tree};
 use std::alloc::{AllocError, Global};
@@ -22,9 +24,6 @@ pub(crate) const DELETE: Mask = Mask(0x0001_0000);
 
 /// FILE_DELETE_CHILD of folders (winnt.h).
 const FILE_DELETE_CHILD: Mask = Mask(0x40);
-
-/// How many names a path has at most (docs/TREE.md).
-const MAX_NAMES: u64 = 128;
 
 /// A reader, a path, a user and words.
 #[derive(Clone, Copy)]
@@ -38,10 +37,10 @@ struct OnUser<'a> {
 /// Whether a user may delete a node: what these arguments ask for.
 pub(crate) fn deletion(
     alloc: Global,
-    paths: PathSpelling,
+    notation: Notation,
     arguments: &[&str],
 ) -> Option<Result<Asked, Stop>>
-    ensures { Parses paths (asks_delete (texts arguments.now)) result }
+    ensures { Parses notation (asks_delete (texts arguments.now)) result }
 {
     match on_user(arguments) {
         Some(
@@ -51,7 +50,7 @@ pub(crate) fn deletion(
                 user,
                 words,
             },
-        ) => Some(deleting(alloc, paths, reader, path, user, words)),
+        ) => Some(deleting(alloc, notation, reader, path, user, words)),
         None => None,
     }
 }
@@ -74,18 +73,18 @@ fn on_user<'a>(arguments: &'a [&'a str]) -> Option<OnUser<'a>>
 
 fn deleting(
     alloc: Global,
-    paths: PathSpelling,
+    notation: Notation,
     reader: &str,
     path: &str,
     user: &str,
     words: &[&str],
 ) -> Result<Asked, Stop>
-    ensures { UnlessMemory (reads paths (deletes (reader.now, path.now, user.now, texts words.now))) result }
+    ensures { UnlessMemory (reads notation (deletes (reader.now, path.now, user.now, texts words.now))) result }
 {
     let reader = number_in(reader)?;
-    let path = path_in(alloc, paths, path)?;
-    let user = sid_in(user)?;
-    let token = token_in(alloc, user, words)?;
+    let path = path_in(alloc, notation.paths, path)?;
+    let user = sid_in(notation, user)?;
+    let token = token_in(alloc, notation, user, words)?;
     Ok(Asked::Deleting {
         reader,
         path,
@@ -114,7 +113,7 @@ fn parent_of(alloc: Global, path: &Path) -> Result<Option<Path>, AllocError>
     ensures { IfOk result (λ found. found ≡ parent_of path.now) }
 {
     let place = path.as_path_ref();
-    if place.is_root() || place.depth() > MAX_NAMES {
+    if place.is_root() || place.depth() > u64::from(MAX_NAMES) {
         return Ok(None);
     }
     let parent = path.moved(alloc, &place, &place.parent())?;

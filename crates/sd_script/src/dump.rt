@@ -18,6 +18,7 @@ use crate::asked::Asked;
 use crate::fault::Stop;
 use crate::line::read_line;
 use crate::lines::is_silent;
+use crate::manner::Notation;
 use crate::paths::{PathSpelling, path_word};
 use crate::same::{is_making, is_publishing};
 use sd_acl::Descriptor;
@@ -28,19 +29,19 @@ use sd_tree::{NodeKind, NodeRef, Tree};
 use std::alloc::{AllocError, Global};
 
 /// The lines that make the tree: an opening for so many readers, an addition for each other node, a parent before what
-/// it holds, and `publish`. `fault name` where one of them isn't read as what makes its node.
+/// it holds, and `publish`. `fault name` where one of them isn't parsed to what makes its node.
 pub(crate) fn dump_text(
     alloc: Global,
-    paths: PathSpelling,
+    notation: Notation,
     tree: &Tree,
     readers: u64,
 ) -> Result<String, AllocError>
     ensures { IfOk result
-        (λ text. IsDumpOf paths readers (replay tree.now.opening tree.now.journal) (string_bytes text)) }
+        (λ text. IsDumpOf notation readers (replay tree.now.opening tree.now.journal) (string_bytes text)) }
 {
-    let mut text = making_lines(alloc, paths, tree, readers)?;
+    let mut text = making_lines(alloc, notation.paths, tree, readers)?;
     text.push_str("publish\n")?;
-    if is_read_back(alloc, paths, tree, readers, text.as_bytes())? {
+    if is_read_back(alloc, notation, tree, readers, text.as_bytes())? {
         Ok(text)
     } else {
         fault_line(alloc, "name")
@@ -119,16 +120,16 @@ fn adding_word(kind: NodeKind) -> &'static str
     }
 }
 
-/// Whether the text is read as what makes the tree, line by line, and a publish.
+/// Whether the text is parsed to what makes the tree, line by line, and a publish.
 fn is_read_back(
     alloc: Global,
-    paths: PathSpelling,
+    notation: Notation,
     tree: &Tree,
     readers: u64,
     text: &[u8],
 ) -> Result<bool, AllocError>
     ensures { IfOk result (λ is. Decides is
-        (IsReadBack paths readers (replay tree.now.opening tree.now.journal) text.now)) }
+        (IsReadBack notation readers (replay tree.now.opening tree.now.journal) text.now)) }
 {
     let mut rest = text;
     for index in 0..tree.node_count() {
@@ -136,18 +137,18 @@ fn is_read_back(
             return Ok(false);
         }
         let (line, after) = first_line(Ending::Feed, rest);
-        if !is_read_as_node(alloc, paths, tree, readers, index, line)? {
+        if !is_read_as_node(alloc, notation, tree, readers, index, line)? {
             return Ok(false);
         }
         rest = after;
     }
-    is_read_as_publish(alloc, paths, tree.node_count() > 0, rest)
+    is_read_as_publish(alloc, notation, tree.node_count() > 0, rest)
 }
 
-/// Whether a line is read as what makes the node of a place; only the first is read where no store is open.
+/// Whether a line is parsed to what makes the node of a place; only for the first no store is open.
 fn is_read_as_node(
     alloc: Global,
-    paths: PathSpelling,
+    notation: Notation,
     tree: &Tree,
     readers: u64,
     index: usize,
@@ -155,30 +156,30 @@ fn is_read_as_node(
 ) -> Result<bool, AllocError>
     requires { index < length (entries (replay tree.now.opening tree.now.journal)) }
     ensures { (node : Names × Row) → Some node ≡ slice_get (entries (replay tree.now.opening tree.now.journal)) index
-        → IfOk result (λ is. Decides is (IsAskedBy paths (nat_lt 0 index) line.now (making readers node.0 node.1))) }
+        → IfOk result (λ is. Decides is (IsAskedBy notation (nat_lt 0 index) line.now (making readers node.0 node.1))) }
 {
     match tree.node(index) {
-        Some(node) => is_read_as(alloc, paths, index > 0, line, readers, &node),
+        Some(node) => is_read_as(alloc, notation, index > 0, line, readers, &node),
         None => unreachable!(),
     }
 }
 
-/// Whether a line is read as what makes the node.
+/// Whether a line is parsed to what makes the node.
 fn is_read_as(
     alloc: Global,
-    paths: PathSpelling,
+    notation: Notation,
     is_open: bool,
     line: &[u8],
     readers: u64,
     node: &NodeRef<'_>,
 ) -> Result<bool, AllocError>
     ensures { IfOk result (λ is. Decides is
-        (IsAskedBy paths is_open line.now (making readers (listed node.now).0 (listed node.now).1))) }
+        (IsAskedBy notation is_open line.now (making readers (listed node.now).0 (listed node.now).1))) }
 {
     if is_silent(line) {
         return Ok(false);
     }
-    match read_line(alloc, paths, is_open, line) {
+    match read_line(alloc, notation, is_open, line) {
         Ok(asked) => Ok(is_making(&asked, readers, node)),
         Err(Stop::Fault(_)) => Ok(false),
         Err(Stop::Memory) => Err(AllocError),
@@ -188,11 +189,11 @@ fn is_read_as(
 /// Whether a text is one line, which asks for a publish.
 fn is_read_as_publish(
     alloc: Global,
-    paths: PathSpelling,
+    notation: Notation,
     is_open: bool,
     text: &[u8],
 ) -> Result<bool, AllocError>
-    ensures { IfOk result (λ is. Decides is (AreAskedBy paths is_open (lines text.now) (Asking Publish ∷ []))) }
+    ensures { IfOk result (λ is. Decides is (AreAskedBy notation is_open (lines text.now) (Asking Publish ∷ []))) }
 {
     if text.is_empty() {
         return Ok(false);
@@ -201,7 +202,7 @@ fn is_read_as_publish(
     if !after.is_empty() || is_silent(line) {
         return Ok(false);
     }
-    match read_line(alloc, paths, is_open, line) {
+    match read_line(alloc, notation, is_open, line) {
         Ok(asked) => Ok(is_publishing(&asked)),
         Err(Stop::Fault(_)) => Ok(false),
         Err(Stop::Memory) => Err(AllocError),

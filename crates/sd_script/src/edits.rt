@@ -7,7 +7,8 @@ ghost use Rattle.sd_script.specs.declared.command.CommandName.TheVariants.{SetDa
 use crate::argument::{dacl_in, node_in, sid_in};
 use crate::asked::Asked;
 use crate::fault::Stop;
-use crate::paths::{PathSpelling, path_in};
+use crate::manner::Notation;
+use crate::paths::path_in;
 use sd_desk::Request;
 use sd_tree::{Edit, RootSpec};
 use std::alloc::Global;
@@ -15,14 +16,14 @@ use std::alloc::Global;
 /// A container with the descriptor of a text.
 pub(crate) fn added_container(
     alloc: Global,
-    paths: PathSpelling,
+    notation: Notation,
     path: &str,
     sddl: &str,
 ) -> Result<Asked, Stop>
-    ensures { Parses paths (asks_taking AddContainer (path.now ∷ sddl.now ∷ [])) (Some result) }
+    ensures { Parses notation (asks_taking AddContainer (path.now ∷ sddl.now ∷ [])) (Some result) }
 {
-    let path = path_in(alloc, paths, path)?;
-    let RootSpec { owner, group, dacl } = node_in(alloc, sddl)?;
+    let path = path_in(alloc, notation.paths, path)?;
+    let RootSpec { owner, group, dacl } = node_in(alloc, notation, sddl)?;
     Ok(Asked::Asking(Request::Edit(Edit::AddContainer {
         path,
         owner,
@@ -34,14 +35,14 @@ pub(crate) fn added_container(
 /// An object with the descriptor of a text.
 pub(crate) fn added_object(
     alloc: Global,
-    paths: PathSpelling,
+    notation: Notation,
     path: &str,
     sddl: &str,
 ) -> Result<Asked, Stop>
-    ensures { Parses paths (asks_taking AddObject (path.now ∷ sddl.now ∷ [])) (Some result) }
+    ensures { Parses notation (asks_taking AddObject (path.now ∷ sddl.now ∷ [])) (Some result) }
 {
-    let path = path_in(alloc, paths, path)?;
-    let RootSpec { owner, group, dacl } = node_in(alloc, sddl)?;
+    let path = path_in(alloc, notation.paths, path)?;
+    let RootSpec { owner, group, dacl } = node_in(alloc, notation, sddl)?;
     Ok(Asked::Asking(Request::Edit(Edit::AddObject {
         path,
         owner,
@@ -53,71 +54,71 @@ pub(crate) fn added_object(
 /// Another owner of a node.
 pub(crate) fn set_owner(
     alloc: Global,
-    paths: PathSpelling,
+    notation: Notation,
     path: &str,
     sid: &str,
 ) -> Result<Asked, Stop>
-    ensures { Parses paths (asks_taking SetOwner (path.now ∷ sid.now ∷ [])) (Some result) }
+    ensures { Parses notation (asks_taking SetOwner (path.now ∷ sid.now ∷ [])) (Some result) }
 {
-    let path = path_in(alloc, paths, path)?;
-    let owner = sid_in(sid)?;
+    let path = path_in(alloc, notation.paths, path)?;
+    let owner = sid_in(notation, sid)?;
     Ok(Asked::Asking(Request::Edit(Edit::SetOwner { path, owner })))
 }
 
 /// Another group of a node.
 pub(crate) fn set_group(
     alloc: Global,
-    paths: PathSpelling,
+    notation: Notation,
     path: &str,
     sid: &str,
 ) -> Result<Asked, Stop>
-    ensures { Parses paths (asks_taking SetGroup (path.now ∷ sid.now ∷ [])) (Some result) }
+    ensures { Parses notation (asks_taking SetGroup (path.now ∷ sid.now ∷ [])) (Some result) }
 {
-    let path = path_in(alloc, paths, path)?;
-    let group = sid_in(sid)?;
+    let path = path_in(alloc, notation.paths, path)?;
+    let group = sid_in(notation, sid)?;
     Ok(Asked::Asking(Request::Edit(Edit::SetGroup { path, group })))
 }
 
 /// Another DACL of a node.
 pub(crate) fn set_dacl(
     alloc: Global,
-    paths: PathSpelling,
+    notation: Notation,
     path: &str,
     sddl: &str,
 ) -> Result<Asked, Stop>
-    ensures { Parses paths (asks_taking SetDacl (path.now ∷ sddl.now ∷ [])) (Some result) }
+    ensures { Parses notation (asks_taking SetDacl (path.now ∷ sddl.now ∷ [])) (Some result) }
 {
-    let path = path_in(alloc, paths, path)?;
-    let dacl = dacl_in(alloc, sddl)?;
+    let path = path_in(alloc, notation.paths, path)?;
+    let dacl = dacl_in(alloc, notation, sddl)?;
     Ok(Asked::Asking(Request::Edit(Edit::SetDacl { path, dacl })))
 }
 
 /// That a node is removed.
-pub(crate) fn removed(alloc: Global, paths: PathSpelling, path: &str) -> Result<Asked, Stop>
-    ensures { Parses paths (asks_taking Remove (path.now ∷ [])) (Some result) }
+pub(crate) fn removed(alloc: Global, notation: Notation, path: &str) -> Result<Asked, Stop>
+    ensures { Parses notation (asks_taking Remove (path.now ∷ [])) (Some result) }
 {
-    let path = path_in(alloc, paths, path)?;
+    let path = path_in(alloc, notation.paths, path)?;
     Ok(Asked::Asking(Request::Edit(Edit::Remove { path })))
 }
 
 /// That a node is protected, and keeps what it had inherited.
-pub(crate) fn protected(alloc: Global, paths: PathSpelling, path: &str) -> Result<Asked, Stop>
-    ensures { Parses paths (asks_taking Protect (path.now ∷ [])) (Some result) }
+pub(crate) fn protected(alloc: Global, notation: Notation, path: &str) -> Result<Asked, Stop>
+    ensures { Parses notation (asks_taking Protect (path.now ∷ [])) (Some result) }
 {
-    let path = path_in(alloc, paths, path)?;
+    let path = path_in(alloc, notation.paths, path)?;
     Ok(Asked::Asking(Request::Edit(Edit::ProtectKeeping { path })))
 }
 
 /// That a node goes to another path.
 pub(crate) fn moved(
     alloc: Global,
-    paths: PathSpelling,
+    notation: Notation,
     source: &str,
     target: &str,
 ) -> Result<Asked, Stop>
-    ensures { Parses paths (asks_taking Move (source.now ∷ target.now ∷ [])) (Some result) }
+    ensures { Parses notation (asks_taking Move (source.now ∷ target.now ∷ [])) (Some result) }
 {
-    let source = path_in(alloc, paths, source)?;
-    let target = path_in(alloc, paths, target)?;
+    let source = path_in(alloc, notation.paths, source)?;
+    let target = path_in(alloc, notation.paths, target)?;
     Ok(Asked::Asking(Request::Edit(Edit::Move { source, target })))
 }

@@ -32,12 +32,12 @@ pub enum LineFault {
     Token,
 }
 
-/// Why a line isn't read.
+/// Why a line isn't parsed.
 #[derive(Clone, Copy, Debug, PartialEq, Eq)]
 pub enum Stop {
     /// The line's first fault.
     Fault(LineFault),
-    /// Memory was refused.
+    /// Out of memory.
     Memory,
 }
 
@@ -65,7 +65,7 @@ impl<T: Drop> From<AllocFailed<T>> for Stop {
     }
 }
 
-/// The line that tells the fault, as `fault words`.
+/// The line of the fault, as `fault words`.
 pub fn line_of_fault(alloc: Global, fault: LineFault) -> Result<String, AllocError>
     ensures { IfOk result (λ text. string_bytes text ≡ line_of_fault fault) }
 {

@@ -33,7 +33,7 @@ pub(crate) fn found_reply(
 }
 
 /// By how long a journal, and the lines; `nonode` where no node stands at the path, and `fault name` where a name at or
-/// below it can't be told.
+/// below it can't be printed.
 fn found_in(
     alloc: Global,
     paths: PathSpelling,

@@ -13,15 +13,15 @@ ghost use Rattle.sd_desk.specs.Machine.{Machine, accepted};
 ghost use Rattle.sd_tree.specs.Answers.{descriptor_at};
 ghost use Rattle.sd_tree.specs.Journal.{replay};
 
-use crate::argument::own_dacl;
+use crate::argument::{descriptor_in, own_dacl};
 use crate::asked::Asked;
 use crate::fault::{LineFault, Stop};
-use crate::paths::{PathSpelling, path_in};
+use crate::manner::Notation;
+use crate::paths::path_in;
 use crate::reply::reply_line;
 use sd_acl::{Ace, Dacl, Descriptor, canonicalize};
 use sd_desk::Reply;
 use sd_review::same_entries;
-use sd_text::{TextError, read_sddl};
 use sd_tree::{Edit, Entries, NodeDacl, NodeKind, Path, RootSpec, Tree};
 use std::alloc::{AllocError, Global};
 
@@ -35,31 +35,26 @@ struct Import {
 /// A node of the kind with the descriptor of a text, and the entries that it had elsewhere.
 pub(crate) fn importing(
     alloc: Global,
-    paths: PathSpelling,
+    notation: Notation,
     kind: NodeKind,
     path: &str,
     sddl: &str,
 ) -> Result<Asked, Stop>
-    ensures { UnlessMemory (reads paths (imports path.now sddl.now kind)) result }
+    ensures { UnlessMemory (reads notation (imports path.now sddl.now kind)) result }
 {
-    let path = path_in(alloc, paths, path)?;
-    let Import { node, given } = import_in(alloc, sddl)?;
+    let path = path_in(alloc, notation.paths, path)?;
+    let Import { node, given } = import_in(alloc, notation, sddl)?;
     let added = path.copy(alloc)?;
     let edit = addition(kind, added, node);
     Ok(Asked::Importing { edit, path, given })
 }
 
-/// The text of a descriptor ([MS-DTYP] 2.5.1) with an owner and a group, as a node had it.
-fn import_in(alloc: Global, word: &str) -> Result<Import, Stop>
-    ensures { UnlessMemory (imported word.now) result }
+/// The text of a descriptor with an owner and a group, as a node had it.
+fn import_in(alloc: Global, notation: Notation, word: &str) -> Result<Import, Stop>
+    ensures { UnlessMemory (imported notation word.now) result }
 {
-    match read_sddl(alloc, word) {
-        Ok(descriptor) => import_of(alloc, &descriptor),
-        Err(TextError::Fault { fault, place }) => {
-            Err(Stop::Fault(LineFault::Sddl { fault, place }))
-        }
-        Err(TextError::Memory) => Err(Stop::Memory),
-    }
+    let descriptor = descriptor_in(alloc, notation, word)?;
+    import_of(alloc, &descriptor)
 }
 
 fn import_of(alloc: Global, descriptor: &Descriptor) -> Result<Import, Stop>

@@ -14,7 +14,7 @@ pub fn texts_have_one_output()
     ensures { HasOneOutput }
 {}
 
-/// What `why` tells begins with what `check` tells of the same question, and leaves the same store.
+/// The answer to `why` begins with that of `check` to the same question, and leaves the same store.
 pub fn why_begins_as_check()
     ensures { BeginsAsCheck }
 {}

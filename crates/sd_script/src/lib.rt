@@ -3,16 +3,16 @@
 //! Each line is a command with its words, and is answered by one line, and `why`, `find`, `list`, `dump`, `who` and
 //! `review` by several: by what a store replies, or by the first thing that is wrong with it. `script_output` takes a
 //! whole text and gives the whole output, which is what
-//! `Prints` in specs/Output.antt says. The commands are told in docs/SCRIPT.md.
+//! `Prints` in specs/Output.antt says. docs/SCRIPT.md has the commands.
 //!
 //! ```text
 //! let text = b"open 1 O:BAG:SYD:\naddo /a O:BAG:SYD:(A;;FR;;;SY)\npublish\ncheck 0 /a SY 0x1\n";
-//! let manner = Manner { mapping: GenericMapping::file(), paths: PathSpelling::Plain };
+//! let manner = Manner { mapping: GenericMapping::file(), notation: Notation::plain(PathSpelling::Plain) };
 //! let (printed, tally) = script_output(alloc, &manner, text)?;
 //! // printed holds "opened 1\nok\npublished 1\nseen 1 granted 0x1\n", and tally.first_fault is None
 //! ```
 //!
-//! What reads a line and what prints a reply is public, for who carries out a script in another way.
+//! What parses a line and what prints a reply is public, for who carries out a script in another way.
 #![tactic(auto)]
 
 mod argument;
@@ -55,7 +55,7 @@ pub use laws::{
 };
 pub use line::read_line;
 pub use lines::is_silent;
-pub use manner::Manner;
+pub use manner::{Manner, Notation};
 pub use paths::PathSpelling;
 pub use reply::{counted_line, reply_line, start_error_line};
 pub use script::{answer_line, script_output};

@@ -6,19 +6,18 @@ use crate::asked::{Asked, asked_by};
 use crate::command::command_of;
 use crate::fault::{LineFault, Stop};
 use crate::lines::words_of;
-use crate::paths::PathSpelling;
+use crate::manner::Notation;
 use std::alloc::Global;
 use std::str::from_utf8;
 
-/// What a line that isn't silent asks for, by this spelling of paths, where a store is open or none is; or its first
-/// fault.
+/// What a line that isn't silent asks for, in this notation, where a store is open or none is; or its first fault.
 pub fn read_line(
     alloc: Global,
-    paths: PathSpelling,
+    notation: Notation,
     is_open: bool,
     line: &[u8],
 ) -> Result<Asked, Stop>
-    ensures { UnlessMemory (line_asks paths is_open line.now) result }
+    ensures { UnlessMemory (line_asks notation is_open line.now) result }
 {
     let Ok(text) = from_utf8(line) else {
         return Err(Stop::Fault(LineFault::Utf8));
@@ -27,7 +26,7 @@ pub fn read_line(
     let Some(command) = command_of(&words) else {
         return Err(Stop::Fault(LineFault::Words));
     };
-    let Some(asked) = asked_by(alloc, paths, command) else {
+    let Some(asked) = asked_by(alloc, notation, command) else {
         return Err(Stop::Fault(LineFault::Words));
     };
     if command.name.is_untimely(is_open) {

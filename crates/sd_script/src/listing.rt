@@ -50,7 +50,7 @@ pub(crate) fn list_text(
     lines_below(alloc, paths, tree, top, &Which::All)
 }
 
-/// Whether the path of some node that stands at or below this one can't be told.
+/// Whether the path of some node at or below this one can't be printed.
 pub(crate) fn lacks_words(
     alloc: Global,
     paths: PathSpelling,

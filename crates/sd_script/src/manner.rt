@@ -1,13 +1,40 @@
 //! How a script is carried out.
+ghost use Rattle.std.specs.Prelude.{◌≡◌, None, false};
+ghost use Rattle.sd_text.specs.Alias.{in_domain};
 
 use crate::paths::PathSpelling;
 use sd_sid::GenericMapping;
+use sd_text::Aliases;
 
 /// How a script is carried out, whatever its lines say.
 #[derive(Clone, Copy, Debug)]
 pub struct Manner {
     /// How the store that it opens maps generic rights ([MS-DTYP] 2.4.3).
     pub mapping: GenericMapping,
-    /// How paths are spelled in its lines and in what is printed.
+    /// How its lines are written.
+    pub notation: Notation,
+}
+
+/// How the lines of a script are written.
+#[derive(Clone, Copy, Debug)]
+pub struct Notation {
+    /// How paths are spelled, also in what is printed.
     pub paths: PathSpelling,
+    /// Which aliases of SIDs an SDDL, a user and a word may have ([MS-DTYP] 2.5.1.1, sid-token).
+    pub aliases: Aliases,
+    /// Whether the section of a SACL is left out of an SDDL ([MS-DTYP] 2.5.1.1, sacl).
+    pub without_sacl: bool,
+}
+
+impl Notation {
+    /// Paths are spelled so, no domain's alias and none of newer versions of Windows is known, and a SACL is a fault.
+    pub fn plain(paths: PathSpelling) -> Notation
+        ensures { result ≡ record { paths = paths; aliases = in_domain None; without_sacl = false } }
+    {
+        Notation {
+            paths,
+            aliases: Aliases::in_domain(None),
+            without_sacl: false,
+        }
+    }
 }

@@ -13,7 +13,7 @@ use sd_tree::{CheckReply, EditRefusal};
 use sd_versions::StartError;
 use std::alloc::{AllocError, Global};
 
-/// The line of a reply. Want of memory has none: it is told as an error.
+/// The line of a reply. Out of memory has none: it is an error.
 pub fn reply_line(alloc: Global, reply: &Reply) -> Result<String, AllocError>
     ensures { IfOk result (λ text. reply_line reply.now ≡ Some (string_bytes text)) }
 {
@@ -37,7 +37,7 @@ pub fn reply_line(alloc: Global, reply: &Reply) -> Result<String, AllocError>
     }
 }
 
-/// The line that tells why a store wasn't opened. Want of memory has none: it is told as an error.
+/// The line for a store that wasn't opened. Out of memory has none: it is an error.
 pub fn start_error_line(alloc: Global, error: StartError) -> Result<String, AllocError>
     ensures { IfOk result (λ text. start_error_line error ≡ Some (string_bytes text)) }
 {

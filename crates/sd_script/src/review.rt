@@ -25,7 +25,7 @@ use std::alloc::{AllocError, Global};
 
 /// The lines of the nodes at and below a path that the pending edits change ([MS-DTYP] 2.5.3.2), and the line of the
 /// two journals' lengths; `nonode` if no node stands at the path in either tree, and `fault name` if a name can't be
-/// told.
+/// printed.
 pub(crate) fn review_text(
     alloc: Global,
     paths: PathSpelling,
@@ -81,7 +81,7 @@ impl ReviewText<'_> {
         Ok(text)
     }
 
-    /// Whether the path of some node can't be told.
+    /// Whether the path of some node can't be printed.
     fn lacks_words(&self, alloc: Global) -> Result<bool, AllocError>
         ensures { IfOk result (λ lacks. lacks ≡ has_no_words self.now.paths (trees_of self.now.review)) }
     {

@@ -32,7 +32,7 @@ use std::alloc::{AllocError, Global};
 /// The whole output of a script that is carried out in this manner, and what is counted of its lines. Each line is
 /// answered by one line, and a question that has several by them, an empty one the last; an empty line, and one that
 /// begins with `#`, by none. A line that can't be carried out is answered by its first fault, and the script goes on.
-/// Fails only where memory is refused.
+/// The only error is out of memory.
 pub fn script_output(
     alloc: Global,
     manner: &Manner,
@@ -100,12 +100,12 @@ fn answer_in(
     Ok(text)
 }
 
-/// What a line that isn't silent is told: what it asks for, or its fault.
+/// What a line that isn't silent is answered by: what it asks for, or its fault.
 fn told(alloc: Global, session: &mut Session, line: &[u8]) -> Result<String, AllocError>
     ensures told { IfOk result (λ text. IsTold session.old line.now (string_bytes text) session.new) }
     ensures failed { OnErr result (IsUntold session.old line.now session.new) }
 {
-    match read_line(alloc, session.manner().paths, session.is_open(), line) {
+    match read_line(alloc, session.manner().notation, session.is_open(), line) {
         Ok(Asked::Opening { readers, root }) => open_store(alloc, session, readers, &root),
         Ok(Asked::Asking(request)) => ask(alloc, session, &request),
         Ok(
@@ -151,7 +151,7 @@ fn open_store(
     let manner = session.manner();
     match Desk::start(alloc, &manner.mapping, root, readers) {
         Ok(desk) => {
-            *session = Session::Opened(manner.paths, desk);
+            *session = Session::Opened(manner.notation, desk);
             counted_line(alloc, "opened", readers)
         }
         Err(error) => {
@@ -218,11 +218,18 @@ fn find(
         ⊎ IsMade session.old (Finding reader path token asked) session.new) }
 {
     match session {
-        Session::Opened(paths, desk) => {
+        Session::Opened(notation, desk) => {
             let which = Which::Granting { token, asked };
             let copy = path.copy(alloc)?;
             let reply = desk.step(&Request::Show { reader, path: copy });
-            found_reply(alloc, *paths, desk.published(), &path, &which, &reply)
+            found_reply(
+                alloc,
+                notation.paths,
+                desk.published(),
+                &path,
+                &which,
+                &reply,
+            )
         }
         Session::Closed(_) => unreachable!(),
     }
@@ -258,13 +265,13 @@ fn delete(
     }
 }
 
-/// Tells a view of the published tree of the store that is open.
+/// Prints a view of the store that is open.
 fn viewed(alloc: Global, session: &Session, view: &View) -> Result<String, AllocError>
     requires { is_open session.now ≡ true }
     ensures { IfOk result (λ text. IsDone session.now (Viewing view.now) (string_bytes text) session.now) }
 {
     match session {
-        Session::Opened(paths, desk) => view_text(alloc, *paths, desk, view),
+        Session::Opened(notation, desk) => view_text(alloc, *notation, desk, view),
         Session::Closed(_) => unreachable!(),
     }
 }

@@ -2,8 +2,7 @@
 ghost use Rattle.std.specs.Prelude.{◌≡◌};
 ghost use Rattle.sd_script.specs.Output.{is_open, manner_of};
 
-use crate::manner::Manner;
-use crate::paths::PathSpelling;
+use crate::manner::{Manner, Notation};
 use sd_desk::Desk;
 
 /// What stands between two lines of a script.
@@ -11,8 +10,8 @@ use sd_desk::Desk;
 pub enum Session {
     /// No store is open. One that is opened is opened in this manner.
     Closed(Manner),
-    /// This store is open, and paths are spelled so.
-    Opened(PathSpelling, Desk),
+    /// This store is open, and lines are written in this notation.
+    Opened(Notation, Desk),
 }
 
 impl Session {
@@ -29,9 +28,9 @@ impl Session {
     {
         match self {
             Session::Closed(manner) => *manner,
-            Session::Opened(paths, desk) => Manner {
+            Session::Opened(notation, desk) => Manner {
                 mapping: *desk.published().mapping(),
-                paths: *paths,
+                notation: *notation,
             },
         }
     }

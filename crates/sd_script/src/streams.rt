@@ -18,7 +18,7 @@ use sd_stream::{RunError, Watched, read_whole, write_whole};
 use std::alloc::Global;
 use std::io::{Read, Write};
 
-/// Reads a whole script, writes its whole output in this manner, and tells what is counted of its lines.
+/// Reads a whole script, writes its whole output in this manner, and returns what is counted of its lines.
 ///
 /// - `Read`: the reader failed; nothing was written.
 /// - `TooLong`: more than 16,777,216 bytes were read; nothing was written.

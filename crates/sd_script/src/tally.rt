@@ -5,7 +5,7 @@ ghost use Rattle.sd_script.specs.Tally.{tells_difference, tells_fault, tells_ord
 
 use crate::expect::expects;
 
-/// What is told of a script beside its output. Lines are counted from 1, as far as 64 bits count.
+/// What is counted of a script beside its output. Lines are counted from 1, as far as 64 bits count.
 #[derive(Clone, Copy, Debug, PartialEq, Eq)]
 pub struct Tally {
     /// How many lines were answered.
@@ -83,7 +83,7 @@ fn first_of(before: Option<u64>, holds: bool, number: u64) -> Option<u64>
     }
 }
 
-/// Whether the answer tells a fault or a refusal.
+/// Whether the answer is a fault or a refusal.
 fn tells_fault(answer: &[u8]) -> bool
     ensures { result ≡ tells_fault answer.now }
 {
@@ -97,7 +97,7 @@ fn is_unmet(line: &[u8], answer: &[u8]) -> bool
     expects(line) && tells_fault(answer)
 }
 
-/// Whether the answer tells that an imported node inherits otherwise than it did.
+/// Whether the answer says that an imported node inherits otherwise than it did.
 fn tells_difference(answer: &[u8]) -> bool
     ensures { result ≡ tells_difference answer.now }
 {

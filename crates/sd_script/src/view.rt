@@ -1,10 +1,10 @@
-//! What a script is told of the store at once, and no reader asks for.
+//! What a script sees of the store at once, and no reader asks for.
 ghost use Rattle.std.specs.Prelude.{◌≡◌, IfOk, string_bytes};
 ghost use Rattle.sd_script.specs.View.{IsViewed};
 
 use crate::dump::dump_text;
 use crate::listing::list_text;
-use crate::paths::PathSpelling;
+use crate::manner::Notation;
 use crate::review::review_text;
 use crate::who::node_who_text;
 use sd_check::GroupState;
@@ -65,24 +65,24 @@ pub enum View {
     },
 }
 
-/// The lines of a view. Fails only where memory is refused.
+/// The lines of a view. The only error is out of memory.
 pub(crate) fn view_text(
     alloc: Global,
-    paths: PathSpelling,
+    notation: Notation,
     desk: &Desk,
     view: &View,
 ) -> Result<String, AllocError>
-    ensures { IfOk result (λ text. IsViewed paths desk.now view.now (string_bytes text)) }
+    ensures { IfOk result (λ text. IsViewed notation desk.now view.now (string_bytes text)) }
 {
     let tree = desk.published();
     match view {
-        View::List { path } => list_text(alloc, paths, tree, path),
-        View::Dump => dump_text(alloc, paths, tree, desk.readers()),
+        View::List { path } => list_text(alloc, notation.paths, tree, path),
+        View::Dump => dump_text(alloc, notation, tree, desk.readers()),
         View::Who {
             path,
             groups,
             asked,
         } => node_who_text(alloc, tree, path, groups, *asked),
-        View::Review { path } => review_text(alloc, paths, desk, path),
+        View::Review { path } => review_text(alloc, notation.paths, desk, path),
     }
 }

@@ -15,7 +15,7 @@ use Rattle.sd_store.proofs.Dealing.{nobody}
 use Rattle.sd_script_audit.specs.Audit.{answer_line, IsEnd}
 use Rattle.sd_script_audit.specs.Parts.{last_lines, given_lines, machine_of}
 use Rattle.sd_script.specs.Reply.{check_line, seen_line}
-use Rattle.sd_script.specs.declared.paths.PathSpelling.{PathSpelling}
+use Rattle.sd_script.specs.declared.manner.Notation.{Notation}
 use Rattle.sd_script.specs.declared.session.Session.TheVariants.{Opened}
 
 -- the beginning of a list that has a beginning of that length
@@ -50,12 +50,12 @@ module _ (o : Opening) (journal : List Edit) where
       (ap (λ n. take n new.floor) (seen j d within) ∙ take_begun journal new.floor told))
 
   -- what is printed after the last line is the end
-  pub end_is : (paths : PathSpelling) (w : StoreState) (readers : ℕ) (queries : List Query) (olds news : List Sight) (answers : List Answer) (out now new : List ℕ) (seen : ℕ)
+  pub end_is : (notation : Notation) (w : StoreState) (readers : ℕ) (queries : List Query) (olds news : List Sight) (answers : List Answer) (out now new : List ℕ) (seen : ℕ)
       → journal ≡ w.journal ++ w.pending → seen ≡ length journal → now ≡ out ++ last_lines w → new ≡ now ++ given_lines seen answers
       → All (λ given. given.seen ≡ seen) answers → 0 < length olds
       → HaveGrown o (length queries) journal olds news → AreAnswers o queries journal olds news answers → length answers ≡ length queries
-      → (back : List ℕ) × IsEnd (Opened paths (machine_of o readers w)) queries back × (new ≡ out ++ back)
-  end_is paths w readers queries olds news answers out now new seen is long closed grown all some have are same =
+      → (back : List ℕ) × IsEnd (Opened notation (machine_of o readers w)) queries back × (new ≡ out ++ back)
+  end_is notation w readers queries olds news answers out now new seen is long closed grown all some have are same =
       let lines = answers_are queries olds news answers some have are same (λ j d within. all j d within ∙ long) in (
         last_lines w ++ given_lines seen answers,
         ap (λ xs. last_lines w ++ xs) (ap (λ n. given_lines n answers) long ∙ lines ∙ ap (λ j. flat_map (answer_line o j) queries) is),

@@ -25,7 +25,7 @@ use Rattle.sd_script.specs.Tally.{tallied}
 use Rattle.sd_script.specs.declared.asked.Asked.{Asked}
 use Rattle.sd_script.specs.declared.asked.Asked.TheVariants.{Opening as Opens, Importing}
 use Rattle.sd_script.specs.declared.manner.Manner.{Manner}
-use Rattle.sd_script.specs.declared.paths.PathSpelling.{PathSpelling}
+use Rattle.sd_script.specs.declared.manner.Notation.{Notation}
 use Rattle.sd_script.specs.declared.session.Session.TheVariants.{Opened}
 use Rattle.sd_script.specs.declared.tally.Tally.{Tally}
 use Rattle.sd_script_audit.specs.Audit.{Audited, Progress, IsDoneInAudit, IsAnsweredInAudit, IsNextInAudit, AreAnsweredInAudit, unopened}
@@ -38,17 +38,17 @@ pub done_answers : {X E : Type 0} (bytes : X → List ℕ) (r : Result X E) (wor
     → is_silent line ≡ false → line_asks_in old.store line (Ok asked)
     → IfOk r (λ text. IsDoneInAudit workers old asked (bytes text) new) → IfOk r (λ text. IsAnsweredInAudit workers old line (bytes text) new)
 done_answers bytes (Ok text) workers old new line asked loud asks done =
-    rw (loud, asks_and_expects_nothing (manner_of old.store).paths (is_open old.store) line asked asks) (inl (asked, asks, done))
+    rw (loud, asks_and_expects_nothing (manner_of old.store).notation (is_open old.store) line asked asks) (inl (asked, asks, done))
 done_answers bytes (Err e) workers old new line asked loud asks done = tt
 
 -- an import is done as it is told
-pub import_done : {X E : Type 0} (bytes : X → List ℕ) (r : Result X E) (paths : PathSpelling) (workers : ℕ) (old new : Machine) (queries : List Query)
+pub import_done : {X E : Type 0} (bytes : X → List ℕ) (r : Result X E) (notation : Notation) (workers : ℕ) (old new : Machine) (queries : List Query)
     (e : Edit) (path : Names) (given : List Ace) (reply : Reply) → Steps old (requests.Edit e) reply new
     → IfOk r (λ text. IsImported new path given reply (bytes text))
-    → IfOk r (λ text. IsDoneInAudit workers (record { store = Opened paths old; queries = queries }) (Importing e path given) (bytes text)
-    (record { store = Opened paths new; queries = queries }))
-import_done bytes (Ok text) paths workers old new queries e path given reply steps told = ((reply, new, steps, told, refl), refl)
-import_done bytes (Err error) paths workers old new queries e path given reply steps told = tt
+    → IfOk r (λ text. IsDoneInAudit workers (record { store = Opened notation old; queries = queries }) (Importing e path given) (bytes text)
+    (record { store = Opened notation new; queries = queries }))
+import_done bytes (Ok text) notation workers old new queries e path given reply steps told = ((reply, new, steps, told, refl), refl)
+import_done bytes (Err error) notation workers old new queries e path given reply steps told = tt
 
 -- what stands with no store open, where this is counted
 abbrev pub before_opening : Manner → Tally → Audited
@@ -73,11 +73,11 @@ module _ (whole : List ℕ → Tally → Type 0) (manner : Manner) (workers : �
   -- an opening line, and all after it
   pub opened_whole : (rest after line : List ℕ) (root : RootSpec) (old now new : Counted)
       → ((back : List ℕ) (tally : Tally) → AreAnsweredInAudit workers (before_opening manner old.tally) (lines rest) back tally → whole (old.printed.items ++ back) tally)
-      → lines rest ≡ line ∷ lines after → OpensStore manner.paths line root → now ≡ old
+      → lines rest ≡ line ∷ lines after → OpensStore manner.notation line root → now ≡ old
       → IsOpenedAndAudited manner workers root line after true now new → whole new.printed.items new.tally
   opened_whole rest after line root old now new so_far cut opens same held =
-      let opened : Progress = record { store = Opened manner.paths held.1; queries = [] } in
-      let none = asks_and_expects_nothing manner.paths false line (Opens opens.1.0 root) opens.1.1 in
+      let opened : Progress = record { store = Opened manner.notation held.1; queries = [] } in
+      let none = asks_and_expects_nothing manner.notation false line (Opens opens.1.0 root) opens.1.1 in
       let is : IsAnsweredInAudit workers (unopened manner) line held.0 opened = rw (opens.0, none) (inl (Opens opens.1.0 root, opens.1.1, (held.3, refl))) in
       let between : Audited = record { progress = opened; tally = tallied line held.0 now.tally } in
       let next : IsNextInAudit workers (before_opening manner old.tally) line held.0 between = record {
@@ -89,11 +89,11 @@ module _ (whole : List ℕ → Tally → Type 0) (manner : Manner) (workers : �
   -- an opening line that is refused
   pub opened_refused : (rest after line : List ℕ) (root : RootSpec) (old now new : Counted)
       → ((back : List ℕ) (tally : Tally) → AreAnsweredInAudit workers (before_opening manner old.tally) (lines rest) back tally → whole (old.printed.items ++ back) tally)
-      → lines rest ≡ line ∷ lines after → OpensStore manner.paths line root → now ≡ old
+      → lines rest ≡ line ∷ lines after → OpensStore manner.notation line root → now ≡ old
       → IsOpenedAndAudited manner workers root line after false now new
       → (back : List ℕ) (tally : Tally) → AreAnsweredInAudit workers (before_opening manner new.tally) (lines after) back tally → whole (new.printed.items ++ back) tally
   opened_refused rest after line root old now new so_far cut opens same held =
-      let none = asks_and_expects_nothing manner.paths false line (Opens opens.1.0 root) opens.1.1 in
+      let none = asks_and_expects_nothing manner.notation false line (Opens opens.1.0 root) opens.1.1 in
       more_answered rest after line (before_opening manner old.tally) (before_opening manner new.tally) old.printed.items held.0 new.printed.items so_far cut
       (record {
         answered = rw (opens.0, none) (inl (Opens opens.1.0 root, opens.1.1, (held.1, refl)));
@@ -102,9 +102,9 @@ module _ (whole : List ℕ → Tally → Type 0) (manner : Manner) (workers : �
       (held.3 ∙ ap (λ (c : Counted). c.printed.items ++ held.0) same)
 
 -- a writer that has just started stands for a machine that has
-pub machine_started : (paths : PathSpelling) (o own : Opening) (n : ℕ) (w : StoreState) → o ≡ own → w.journal ≡ [] → w.pending ≡ []
-    → Opened paths (machine_of own n w) ≡ Opened paths (started o n)
-machine_started paths o own n w is journal pending = rw (is, journal, pending) refl
+pub machine_started : (notation : Notation) (o own : Opening) (n : ℕ) (w : StoreState) → o ≡ own → w.journal ≡ [] → w.pending ≡ []
+    → Opened notation (machine_of own n w) ≡ Opened notation (started o n)
+machine_started notation o own n w is journal pending = rw (is, journal, pending) refl
 
 -- an error with a line is one of a store of one thread
 pub told_error : (e : StartError) (n : ℕ) (due : Option EditRefusal) (text : List ℕ) → IsStoreError e n due → start_error_line e ≡ Some text → IsStartError e n due

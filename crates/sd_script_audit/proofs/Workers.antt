@@ -29,7 +29,7 @@ use Rattle.sd_script.specs.declared.asked.Asked.{Asked}
 use Rattle.sd_script.specs.declared.asked.Asked.TheVariants.{Opening as Opens, Asking, Explaining, Finding, Deleting, Viewing, Importing}
 use Rattle.sd_script.specs.declared.fault.LineFault.{LineFault}
 use Rattle.sd_script.specs.declared.manner.Manner.{Manner}
-use Rattle.sd_script.specs.declared.paths.PathSpelling.{PathSpelling}
+use Rattle.sd_script.specs.declared.manner.Notation.{Notation}
 use Rattle.sd_script.specs.declared.session.Session.TheVariants as sessions
 use Rattle.sd_script.specs.declared.tally.Tally.{Tally}
 use Rattle.sd_script.proofs.OneOutput.{no_error, edited, imported-one, outcome, one_step}
@@ -84,11 +84,11 @@ same_import a b e r s x y p q path given alike one other first second = absurd o
 
 -- both are open
 pub record AreAlike (a b : Progress) : Type 0 where
-  pub paths : PathSpelling
+  pub notation : Notation
   pub one : Machine
   pub other : Machine
-  pub one_is : a.store ≡ sessions.Opened paths one
-  pub other_is : b.store ≡ sessions.Opened paths other
+  pub one_is : a.store ≡ sessions.Opened notation one
+  pub other_is : b.store ≡ sessions.Opened notation other
   pub alike : unread one ≡ unread other
   pub queries : a.queries ≡ b.queries
 
@@ -105,7 +105,7 @@ module _ (a b : Progress) (alike : AreAlike a b) where
       ∙ sym (ap unread_after (one_step alike.other r second.0 second.1 q second.2 second.3)) in (
         ap (λ (x : List ℕ × Machine). x.0) same,
         record {
-          paths = alike.paths;
+          notation = alike.notation;
           one = first.1;
           other = second.1;
           one_is = first.4;
@@ -125,7 +125,7 @@ module _ (a b : Progress) (alike : AreAlike a b) where
       let same = same_import alike.one alike.other e first.0 second.0 first.1 second.1 p q path given alike.alike first.2 second.2 first.3 second.3 in (
         same.0,
         record {
-          paths = alike.paths;
+          notation = alike.notation;
           one = first.1;
           other = second.1;
           one_is = first.4;
@@ -150,7 +150,7 @@ module _ (a b : Progress) (alike : AreAlike a b) where
   done_alike n m (requests.Check reader path token asked) p q c d one other = (
     one.0 ∙ sym other.0,
     record {
-      paths = alike.paths;
+      notation = alike.notation;
       one = alike.one;
       other = alike.other;
       one_is = ap (λ (x : Progress). x.store) one.1 ∙ alike.one_is;
@@ -171,9 +171,9 @@ Loud n a text p c =
     ⊎ ((fault : LineFault) × line_asks_in a.store text (Err fault) × (p ≡ line_of_fault fault) × (c ≡ a))
 
 module _ (n m : ℕ) (text : List ℕ) where
-  asking_alike : (a b : Progress) (asked : Asked) (p q : List ℕ) (c d : Progress) → (alike : AreAlike a b) → line_asks alike.paths true text (Ok asked)
+  asking_alike : (a b : Progress) (asked : Asked) (p q : List ℕ) (c d : Progress) → (alike : AreAlike a b) → line_asks alike.notation true text (Ok asked)
       → IsDoneInAudit n a asked p c → IsDoneInAudit m b asked q d → (p ≡ q) × AreAlike c d
-  asking_alike a b (Opens readers root) p q c d alike asks one other = absurd (let no = line_opens alike.paths true text (Opens readers root) asks in cc (no))
+  asking_alike a b (Opens readers root) p q c d alike asks one other = absurd (let no = line_opens alike.notation true text (Opens readers root) asks in cc (no))
   asking_alike a b (Asking r) p q c d alike asks one other = done_alike a b alike n m r p q c d one other
   asking_alike a b (Explaining reader path token asked) p q c d alike asks one other = stay_alike a b alike _ p q c d one other
   asking_alike a b (Finding reader path token asked) p q c d alike asks one other = stay_alike a b alike _ p q c d one other
@@ -185,21 +185,21 @@ module _ (n m : ℕ) (text : List ℕ) where
   loud_alike a b p q c d alike (inl one) (inl other) =
       let first = subst (λ s. line_asks_in s text (Ok one.0)) alike.one_is one.1 in
       let second = subst (λ s. line_asks_in s text (Ok other.0)) alike.other_is other.1 in
-      let same = line-one alike.paths true text (Ok one.0) (Ok other.0) first second in
+      let same = line-one alike.notation true text (Ok one.0) (Ok other.0) first second in
       let asked : one.0 ≡ other.0 = cc (same) in
       asking_alike a b other.0 p q c d alike second (subst (λ x. IsDoneInAudit n a x p c) asked one.2) other.2
   loud_alike a b p q c d alike (inl one) (inr other) = absurd (
       let first = subst (λ s. line_asks_in s text (Ok one.0)) alike.one_is one.1 in
       let second = subst (λ s. line_asks_in s text (Err other.0)) alike.other_is other.1 in
-      let no = line-one alike.paths true text (Ok one.0) (Err other.0) first second in cc (no))
+      let no = line-one alike.notation true text (Ok one.0) (Err other.0) first second in cc (no))
   loud_alike a b p q c d alike (inr one) (inl other) = absurd (
       let first = subst (λ s. line_asks_in s text (Err one.0)) alike.one_is one.1 in
       let second = subst (λ s. line_asks_in s text (Ok other.0)) alike.other_is other.1 in
-      let no = line-one alike.paths true text (Err one.0) (Ok other.0) first second in cc (no))
+      let no = line-one alike.notation true text (Err one.0) (Ok other.0) first second in cc (no))
   loud_alike a b p q c d alike (inr one) (inr other) =
       let first = subst (λ s. line_asks_in s text (Err one.0)) alike.one_is one.1 in
       let second = subst (λ s. line_asks_in s text (Err other.0)) alike.other_is other.1 in
-      let same = line-one alike.paths true text (Err one.0) (Err other.0) first second in
+      let same = line-one alike.notation true text (Err one.0) (Err other.0) first second in
       let fault : one.0 ≡ other.0 = cc (same) in
       stay_alike a b alike (line_of_fault other.0) p q c d (one.2 ∙ ap line_of_fault fault, one.3) (other.2, other.3)
 
@@ -260,7 +260,7 @@ module _ (manner : Manner) (n m : ℕ) (some : IsReaderCount n) (others : IsRead
     one.2,
     other.2,
     record {
-      paths = manner.paths;
+      notation = manner.notation;
       one = started (opening_of manner.mapping root) n;
       other = started (opening_of manner.mapping root) m;
       one_is = one.3;
@@ -281,29 +281,29 @@ module _ (manner : Manner) (n m : ℕ) (some : IsReaderCount n) (others : IsRead
       inl (same, progress_is manner c one.3 none, progress_is manner d other.3 nothing)
 
   module _ (text : List ℕ) where
-    opening_asked : (asked : Asked) (p q : List ℕ) (c d : Progress) → line_asks manner.paths false text (Ok asked)
+    opening_asked : (asked : Asked) (p q : List ℕ) (c d : Progress) → line_asks manner.notation false text (Ok asked)
         → IsDoneInAudit n (unopened manner) asked p c → IsDoneInAudit m (unopened manner) asked q d → Opened p q c d
     opening_asked (Opens readers root) p q c d asks one other = opening root p q c d one other
-    opening_asked (Asking r) p q c d asks one other = absurd (let no = line_opens manner.paths false text (Asking r) asks in cc (no))
+    opening_asked (Asking r) p q c d asks one other = absurd (let no = line_opens manner.notation false text (Asking r) asks in cc (no))
     opening_asked (Explaining reader path token asked) p q c d asks one other =
-        absurd (let no = line_opens manner.paths false text (Explaining reader path token asked) asks in cc (no))
+        absurd (let no = line_opens manner.notation false text (Explaining reader path token asked) asks in cc (no))
     opening_asked (Finding reader path token asked) p q c d asks one other =
-        absurd (let no = line_opens manner.paths false text (Finding reader path token asked) asks in cc (no))
+        absurd (let no = line_opens manner.notation false text (Finding reader path token asked) asks in cc (no))
     opening_asked (Deleting reader path token) p q c d asks one other =
-        absurd (let no = line_opens manner.paths false text (Deleting reader path token) asks in cc (no))
-    opening_asked (Viewing view) p q c d asks one other = absurd (let no = line_opens manner.paths false text (Viewing view) asks in cc (no))
+        absurd (let no = line_opens manner.notation false text (Deleting reader path token) asks in cc (no))
+    opening_asked (Viewing view) p q c d asks one other = absurd (let no = line_opens manner.notation false text (Viewing view) asks in cc (no))
     opening_asked (Importing e path given) p q c d asks one other =
-        absurd (let no = line_opens manner.paths false text (Importing e path given) asks in cc (no))
+        absurd (let no = line_opens manner.notation false text (Importing e path given) asks in cc (no))
 
     loud_unopened : (p q : List ℕ) (c d : Progress) → Loud n (unopened manner) text p c → Loud m (unopened manner) text q d → Opened p q c d
     loud_unopened p q c d (inl one) (inl other) =
-        let same = line-one manner.paths false text (Ok one.0) (Ok other.0) one.1 other.1 in
+        let same = line-one manner.notation false text (Ok one.0) (Ok other.0) one.1 other.1 in
         let asked : one.0 ≡ other.0 = cc (same) in
         opening_asked other.0 p q c d other.1 (subst (λ x. IsDoneInAudit n (unopened manner) x p c) asked one.2) other.2
-    loud_unopened p q c d (inl one) (inr other) = absurd (let no = line-one manner.paths false text (Ok one.0) (Err other.0) one.1 other.1 in cc (no))
-    loud_unopened p q c d (inr one) (inl other) = absurd (let no = line-one manner.paths false text (Err one.0) (Ok other.0) one.1 other.1 in cc (no))
+    loud_unopened p q c d (inl one) (inr other) = absurd (let no = line-one manner.notation false text (Ok one.0) (Err other.0) one.1 other.1 in cc (no))
+    loud_unopened p q c d (inr one) (inl other) = absurd (let no = line-one manner.notation false text (Err one.0) (Ok other.0) one.1 other.1 in cc (no))
     loud_unopened p q c d (inr one) (inr other) =
-        let same = line-one manner.paths false text (Err one.0) (Err other.0) one.1 other.1 in
+        let same = line-one manner.notation false text (Err one.0) (Err other.0) one.1 other.1 in
         let fault : one.0 ≡ other.0 = cc (same) in
         inl (one.2 ∙ ap line_of_fault fault ∙ sym other.2, one.3, other.3)
 

@@ -79,7 +79,7 @@ answer_line opening journal query = seen_line (length journal) (check_line (repl
 -- behind the last line: where a store is open, all that was accepted is published and told, and answers each query
 abbrev pub IsEnd : Session → List Query → List ℕ → Type 0
 IsEnd (Closed manner) queries printed = printed ≡ []
-IsEnd (Opened paths m) queries printed =
+IsEnd (Opened notation m) queries printed =
     printed ≡ last_publish m.pending (length (accepted m)) ++ counted_line (codes "told") (length (accepted m))
     ++ flat_map (answer_line m.opening (accepted m)) queries
 

@@ -15,7 +15,7 @@ use Rattle.sd_script.specs.Reply.{check_line, counted_line, seen_line}
 use Rattle.sd_script.specs.Tally.{tallied}
 use Rattle.sd_script.specs.declared.asked.Asked.TheVariants.{Opening as Opens}
 use Rattle.sd_script.specs.declared.manner.Manner.{Manner}
-use Rattle.sd_script.specs.declared.paths.PathSpelling.{PathSpelling}
+use Rattle.sd_script.specs.declared.manner.Notation.{Notation}
 use Rattle.sd_script.specs.declared.session.Session.TheVariants.{Closed, Opened}
 use Rattle.sd_script.specs.declared.tally.Tally.{Tally}
 use Rattle.sd_script_audit.specs.Audit.{Audited, Progress, AreAnsweredInAudit, last_publish}
@@ -31,32 +31,32 @@ machine_of opening readers writer = record {
 }
 
 -- a store that is open, and the queries so far
-abbrev pub progress : PathSpelling → Opening → ℕ → StoreState → List Query → Progress
-progress paths opening readers writer queries = record {
-  store = Opened paths (machine_of opening readers writer);
+abbrev pub progress : Notation → Opening → ℕ → StoreState → List Query → Progress
+progress notation opening readers writer queries = record {
+  store = Opened notation (machine_of opening readers writer);
   queries = queries;
 }
 
 -- and what is counted so far
-abbrev pub audited : PathSpelling → Opening → ℕ → StoreState → List Query → Tally → Audited
-audited paths opening readers writer queries tally = record {
-  progress = progress paths opening readers writer queries;
+abbrev pub audited : Notation → Opening → ℕ → StoreState → List Query → Tally → Audited
+audited notation opening readers writer queries tally = record {
+  progress = progress notation opening readers writer queries;
   tally = tally;
 }
 
 -- the line opens a store with this root, where none is open
-abbrev pub OpensStore : PathSpelling → List ℕ → RootSpec → Type 0
-OpensStore paths line root = (is_silent line ≡ false)
-    × ((readers : ℕ) × line_asks paths false line (Ok (Opens readers root)))
+abbrev pub OpensStore : Notation → List ℕ → RootSpec → Type 0
+OpensStore notation line root = (is_silent line ≡ false)
+    × ((readers : ℕ) × line_asks notation false line (Ok (Opens readers root)))
 
 -- an opening line was answered, and where a store was then open, so were the lines after it and the end
 abbrev pub IsOpenedAndAudited : Manner → ℕ → RootSpec → List ℕ → List ℕ → Bool → Counted → Counted → Type 0
 IsOpenedAndAudited manner workers root line after true old new =
     (first : List ℕ) × (machine : Machine) × (rest : List ℕ)
-    × IsOpened manner workers root first (Opened manner.paths machine)
+    × IsOpened manner workers root first (Opened manner.notation machine)
     × AreAnsweredInAudit workers
     (record {
-      progress = record { store = Opened manner.paths machine; queries = [] };
+      progress = record { store = Opened manner.notation machine; queries = [] };
       tally = tallied line first old.tally;
     })
     (lines after) rest new.tally

@@ -3,7 +3,7 @@
 ghost use Rattle.std.specs.Prelude.{◌≡◌, ◌⊎◌, ◌++◌, ◌<◌, ◌≤◌, ℕ, List, length, All, IfErr, IfOk, OnOk};
 ghost use Rattle.sd_script_audit.specs.Audit.{IsEnd};
 ghost use Rattle.sd_script_audit.specs.Parts.{given_lines, last_lines, machine_of};
-ghost use Rattle.sd_script.specs.declared.paths.PathSpelling.{PathSpelling};
+ghost use Rattle.sd_script.specs.declared.manner.Notation.{Notation};
 ghost use Rattle.sd_script.specs.declared.session.Session.TheVariants.{Opened};
 
 use sd_desk::Reply;
@@ -26,8 +26,8 @@ pub(crate) fn publish_and_answer<J: Naming + Send + Sync, T: Threads + Wait + Sy
     printed: &mut Vec<u8>,
 ) -> Result<(), RunError>
     requires some { (0 < length checkers.old) × (length checkers.old ≤ 64) }
-    ensures end { (paths : PathSpelling) (readers : ℕ) → OnOk result ((back : List ℕ)
-        × IsEnd (Opened paths (machine_of J.opening readers writer.old)) queries.now back
+    ensures end { (notation : Notation) (readers : ℕ) → OnOk result ((back : List ℕ)
+        × IsEnd (Opened notation (machine_of J.opening readers writer.old)) queries.now back
         × (printed.new.items ≡ printed.old.items ++ back)) }
     ensures failed { IfErr result (λ e. (e ≡ RunError.Memory) ⊎ (e ≡ RunError.Thread)) }
 {

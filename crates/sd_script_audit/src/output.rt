@@ -13,7 +13,7 @@ use crate::queries::{collect_queries, only_in_scripts};
 use sd_history::Opened;
 use sd_lines::{Ending, first_line};
 use sd_script::{
-    Asked, Manner, PathSpelling, Stop, Tally, counted_line, expects, is_silent, line_of_fault,
+    Asked, Manner, Notation, Stop, Tally, counted_line, expects, is_silent, line_of_fault,
     read_line, start_error_line,
 };
 use sd_store::{Checker, Gate, Naming, StoreWriter, start};
@@ -73,7 +73,7 @@ fn opened_root(
     counted: &mut Counted,
 ) -> Result<Option<RootSpec>, AllocError>
     ensures opens { IfOk result (λ found. IfSome found (λ root.
-        OpensStore manner.now.paths line.now root × (counted.new ≡ counted.old))) }
+        OpensStore manner.now.notation line.now root × (counted.new ≡ counted.old))) }
     ensures answered { (workers : ℕ) → IfOk result (λ found. IfNone found ((answer : List ℕ)
         × IsAnsweredInAudit workers (unopened manner.now) line.now answer (unopened manner.now)
         × (counted.new.tally ≡ tallied line.now answer counted.old.tally)
@@ -88,7 +88,7 @@ fn opened_root(
         counted.answer(line, answer.as_bytes())?;
         return Ok(None);
     }
-    match read_line(alloc, manner.paths, false, line) {
+    match read_line(alloc, manner.notation, false, line) {
         Ok(Asked::Opening { readers: _, root }) => Ok(Some(root)),
         Ok(Asked::Asking(_)) => unreachable!(),
         Ok(Asked::Explaining { .. }) => unreachable!(),
@@ -132,7 +132,7 @@ fn open_and_audit<J: Naming + Send + Sync, T: Threads + Wait + Sync, G: Gate + S
                 rt,
                 alloc,
                 workers,
-                manner.paths,
+                manner.notation,
                 &mut writer,
                 &mut checkers,
                 after,
@@ -160,7 +160,7 @@ fn collect_and_answer<J: Naming + Send + Sync, T: Threads + Wait + Sync, G: Gate
     rt: &T,
     alloc: Global,
     workers: u64,
-    paths: PathSpelling,
+    notation: Notation,
     writer: &mut StoreWriter<J>,
     checkers: &mut [Checker<J>],
     text: &[u8],
@@ -169,12 +169,20 @@ fn collect_and_answer<J: Naming + Send + Sync, T: Threads + Wait + Sync, G: Gate
 ) -> Result<Counted, RunError>
     requires some { (0 < length checkers.old) × (length checkers.old ≤ 64) }
     ensures printed { IfOk result (λ counted. AreAnsweredInAudit workers
-        (audited paths J.opening workers writer.old [] tally) (lines text.now) counted.printed.items counted.tally) }
+        (audited notation J.opening workers writer.old [] tally) (lines text.now) counted.printed.items counted.tally) }
     ensures failed { IfErr result (λ e. (e ≡ RunError.Memory) ⊎ (e ≡ RunError.Thread)) }
 {
     let mut counted = Counted::new(alloc, tally);
     let mut queries = Vec::new(alloc);
-    collect_queries(rt, alloc, paths, writer, text, &mut queries, &mut counted)?;
+    collect_queries(
+        rt,
+        alloc,
+        notation,
+        writer,
+        text,
+        &mut queries,
+        &mut counted,
+    )?;
     publish_and_answer(
         rt,
         alloc,

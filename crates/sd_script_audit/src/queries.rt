@@ -6,7 +6,7 @@ ghost use Rattle.sd_desk.specs.Machine.{Steps};
 ghost use Rattle.sd_desk.specs.declared.request.Request.TheVariants as asked;
 ghost use Rattle.sd_script_audit.specs.Audit.{AreAnsweredInAudit, IsAnsweredInAudit, IsDoneInAudit};
 ghost use Rattle.sd_script_audit.specs.Parts.{audited, machine_of, progress};
-ghost use Rattle.sd_script.specs.declared.paths.PathSpelling.{PathSpelling as Spelling};
+ghost use Rattle.sd_script.specs.declared.manner.Notation.{Notation as NotationValue};
 ghost use Rattle.sd_script.specs.declared.tally.Tally.{Tally};
 ghost use Rattle.sd_store.specs.declared.query.Query.{Query as Kept};
 ghost use Rattle.sd_answer.specs.Answer.{fault_line as fault_line_of};
@@ -17,8 +17,7 @@ use sd_answer::fault_line;
 use sd_desk::{Reply, Request};
 use sd_lines::{Ending, first_line};
 use sd_script::{
-    Asked, PathSpelling, Stop, expects, import_line, is_silent, line_of_fault, read_line,
-    reply_line,
+    Asked, Notation, Stop, expects, import_line, is_silent, line_of_fault, read_line, reply_line,
 };
 use sd_store::{EditError, Naming, PublishError, Query, StoreWriter};
 use sd_tree::{Edit, Entries, Path};
@@ -29,7 +28,7 @@ use std::sync::Wait;
 pub(crate) fn collect_queries<J: Naming, T: Wait>(
     rt: &T,
     alloc: Global,
-    paths: PathSpelling,
+    notation: Notation,
     writer: &mut StoreWriter<J>,
     text: &[u8],
     queries: &mut Vec<Query>,
@@ -39,14 +38,15 @@ pub(crate) fn collect_queries<J: Naming, T: Wait>(
     requires printed { counted.old.printed.items ≡ [] }
     ensures { (workers : ℕ) → OnOk result ((back : List ℕ) (tally : Tally)
         → AreAnsweredInAudit workers
-        (audited paths J.opening workers writer.new queries.new.items counted.new.tally) [] back tally
-        → AreAnsweredInAudit workers (audited paths J.opening workers writer.old [] counted.old.tally) (lines text.now)
+        (audited notation J.opening workers writer.new queries.new.items counted.new.tally) [] back tally
+        → AreAnsweredInAudit workers
+        (audited notation J.opening workers writer.old [] counted.old.tally) (lines text.now)
         (counted.new.printed.items ++ back) tally) }
 {
     let mut rest = text;
     while !rest.is_empty() {
         let (line, after) = first_line(Ending::Feed, rest);
-        let answer = answer_line(rt, alloc, paths, writer, queries, line)?;
+        let answer = answer_line(rt, alloc, notation, writer, queries, line)?;
         counted.answer(line, answer.as_bytes())?;
         rest = after;
     }
@@ -57,14 +57,14 @@ pub(crate) fn collect_queries<J: Naming, T: Wait>(
 fn answer_line<J: Naming, T: Wait>(
     rt: &T,
     alloc: Global,
-    paths: PathSpelling,
+    notation: Notation,
     writer: &mut StoreWriter<J>,
     queries: &mut Vec<Query>,
     line: &[u8],
 ) -> Result<String, AllocError>
     ensures { (workers : ℕ) → IfOk result (λ text. IsAnsweredInAudit workers
-        (progress paths J.opening workers writer.old queries.old.items) line.now (string_bytes text)
-        (progress paths J.opening workers writer.new queries.new.items)) }
+        (progress notation J.opening workers writer.old queries.old.items) line.now (string_bytes text)
+        (progress notation J.opening workers writer.new queries.new.items)) }
 {
     if is_silent(line) {
         return Ok(String::new(alloc));
@@ -72,7 +72,7 @@ fn answer_line<J: Naming, T: Wait>(
     if expects(line) {
         return only_in_scripts(alloc);
     }
-    match read_line(alloc, paths, true, line) {
+    match read_line(alloc, notation, true, line) {
         Ok(Asked::Asking(request)) => answer_request(rt, alloc, writer, queries, request),
         Ok(Asked::Importing { edit, path, given }) => import(alloc, writer, &edit, &path, &given),
         Ok(
@@ -95,9 +95,9 @@ fn answer_request<J: Naming, T: Wait>(
     queries: &mut Vec<Query>,
     request: Request,
 ) -> Result<String, AllocError>
-    ensures { (paths : Spelling) (workers : ℕ) → IfOk result (λ text. IsDoneInAudit workers
-        (progress paths J.opening workers writer.old queries.old.items) (Asking request) (string_bytes text)
-        (progress paths J.opening workers writer.new queries.new.items)) }
+    ensures { (notation : NotationValue) (workers : ℕ) → IfOk result (λ text. IsDoneInAudit workers
+        (progress notation J.opening workers writer.old queries.old.items) (Asking request) (string_bytes text)
+        (progress notation J.opening workers writer.new queries.new.items)) }
 {
     match request {
         Request::Edit(edit) => reply_line(alloc, &edit_reply(writer, &edit)),
@@ -123,10 +123,10 @@ fn import<J: Naming>(
     path: &Path,
     given: &Entries,
 ) -> Result<String, AllocError>
-    ensures { (paths : Spelling) (workers : ℕ) (queries : List Kept) → IfOk result (λ text. IsDoneInAudit workers
-        (progress paths J.opening workers writer.old queries) (Importing edit.now path.now given.now)
+    ensures { (notation : NotationValue) (workers : ℕ) (queries : List Kept) → IfOk result (λ text. IsDoneInAudit
+        workers (progress notation J.opening workers writer.old queries) (Importing edit.now path.now given.now)
         (string_bytes text)
-        (progress paths J.opening workers writer.new queries)) }
+        (progress notation J.opening workers writer.new queries)) }
 {
     let reply = edit_reply(writer, edit);
     import_line(alloc, writer.draft(), path, given, &reply)

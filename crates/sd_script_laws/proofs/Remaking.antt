@@ -27,7 +27,7 @@ use Rattle.sd_script.specs.Reply.{counted_line}
 use Rattle.sd_script.specs.declared.asked.Asked.{Asked}
 use Rattle.sd_script.specs.declared.asked.Asked.TheVariants.{Opening as Opens, Asking}
 use Rattle.sd_script.specs.declared.manner.Manner.{Manner}
-use Rattle.sd_script.specs.declared.paths.PathSpelling.{PathSpelling}
+use Rattle.sd_script.specs.declared.manner.Notation.{Notation}
 use Rattle.sd_script.specs.declared.session.Session.{Session}
 use Rattle.sd_script.specs.declared.session.Session.TheVariants.{Closed, Opened}
 use Rattle.sd_script.proofs.NoId.{asks_and_expects_nothing}
@@ -38,7 +38,7 @@ use Rattle.sd_script_laws.specs.Laws.{Reaches, same_manner, IsSound, IsSameAgain
 -- ---- one line
 
 -- what a line asks for is done
-answers : (old new : Session) (text told : List ℕ) (asked : Asked) → IsAskedBy (manner_of old).paths (is_open old) text asked → IsDone old asked told new
+answers : (old new : Session) (text told : List ℕ) (asked : Asked) → IsAskedBy (manner_of old).notation (is_open old) text asked → IsDone old asked told new
     → IsAnswered old text (told ++ closing_of text) new
 answers old new text told asked is done =
     let P : Bool → Type 0 = λ silent. MatchBool silent
@@ -47,12 +47,12 @@ answers old new text told asked is done =
     subst P (sym is.0) (told, inl (asked, is.1, done), refl)
 
 -- and the rest of the lines behind it
-goes_on : (old between new : Session) (text told : List ℕ) (texts : List (List ℕ)) (asked : Asked) → IsAskedBy (manner_of old).paths (is_open old) text asked → IsDone old asked told between
+goes_on : (old between new : Session) (text told : List ℕ) (texts : List (List ℕ)) (asked : Asked) → IsAskedBy (manner_of old).notation (is_open old) text asked → IsDone old asked told between
     → Reaches between texts new → Reaches old (text ∷ texts) new
 goes_on old between new text told texts asked is done rest = (
   told ++ closing_of text,
   between,
-  asks_and_expects_nothing (manner_of old).paths (is_open old) text asked is.1,
+  asks_and_expects_nothing (manner_of old).notation (is_open old) text asked is.1,
   answers old between text told asked is done,
   rest,
 )
@@ -83,23 +83,23 @@ same_addition : (kind : NodeKind) (path : Names) (row : Row) → addition kind p
 same_addition Container path row = refl
 same_addition Object path row = refl
 
-module _ (paths : PathSpelling) (o : Opening) (n : ℕ) where
+module _ (notation : Notation) (o : Opening) (n : ℕ) where
   -- an edit joins those that wait
-  adds : (front : List Edit) (e : Edit) → refusal o front e ≡ None → IsDone (Opened paths (waiting o n front)) (Asking (requests.Edit e)) (line (codes "ok")) (Opened paths (waiting o n (front ++ e ∷ [])))
+  adds : (front : List Edit) (e : Edit) → refusal o front e ≡ None → IsDone (Opened notation (waiting o n front)) (Asking (requests.Edit e)) (line (codes "ok")) (Opened notation (waiting o n (front ++ e ∷ [])))
   adds front e fits = (replies.Edited, waiting o n (front ++ e ∷ []), (fits, refl), refl, refl)
 
-  publishes : (front : List Edit) → IsDone (Opened paths (waiting o n front)) (Asking requests.Publish) (counted_line (codes "published") (length front)) (Opened paths (shown o n front))
+  publishes : (front : List Edit) → IsDone (Opened notation (waiting o n front)) (Asking requests.Publish) (counted_line (codes "published") (length front)) (Opened notation (shown o n front))
   publishes front = (replies.Published (length front), shown o n front, (refl, refl), refl, refl)
 
   nodes_reach : (front : List Edit) (nodes : List (Names × Row)) (texts : List (List ℕ)) → IsLawful o (front ++ map added nodes)
-      → AreAskedBy paths true texts (makings n nodes ++ Asking requests.Publish ∷ []) → Reaches (Opened paths (waiting o n front)) texts (Opened paths (shown o n (front ++ map added nodes)))
+      → AreAskedBy notation true texts (makings n nodes ++ Asking requests.Publish ∷ []) → Reaches (Opened notation (waiting o n front)) texts (Opened notation (shown o n (front ++ map added nodes)))
   nodes_reach front [] [] lawful are = absurd are
   nodes_reach front [] (text ∷ []) lawful are =
-      rw (append-nil) (goes_on (Opened paths (waiting o n front)) (Opened paths (shown o n front)) (Opened paths (shown o n front)) text _ [] (Asking requests.Publish) are.0 (publishes front) refl)
+      rw (append-nil) (goes_on (Opened notation (waiting o n front)) (Opened notation (shown o n front)) (Opened notation (shown o n front)) text _ [] (Asking requests.Publish) are.0 (publishes front) refl)
   nodes_reach front [] (text ∷ more ∷ texts) lawful are = absurd are.1
   nodes_reach front (node ∷ nodes) [] lawful are = absurd are
   nodes_reach front (([], row) ∷ nodes) (text ∷ texts) lawful are =
-      absurd (let no = line_opens paths true text (Opens n (root_of row)) are.0.1 in cc (no))
+      absurd (let no = line_opens notation true text (Opens n (root_of row)) are.0.1 in cc (no))
   nodes_reach front ((name ∷ names, row) ∷ nodes) (text ∷ texts) lawful are =
       let e : Edit = addition row.kind (name ∷ names) row in
       let same = same_addition row.kind (name ∷ names) row in
@@ -108,25 +108,25 @@ module _ (paths : PathSpelling) (o : Opening) (n : ℕ) where
       let rest = nodes_reach (front ++ e ∷ []) nodes texts more are.1 in
       let whole : (front ++ e ∷ []) ++ map added nodes ≡ front ++ map added ((name ∷ names, row) ∷ nodes) =
       append_assoc front (e ∷ []) (map added nodes) ∙ ap (λ x. front ++ x ∷ map added nodes) same in
-      goes_on (Opened paths (waiting o n front)) (Opened paths (waiting o n (front ++ e ∷ []))) (Opened paths (shown o n (front ++ map added ((name ∷ names, row) ∷ nodes)))) text _ texts
+      goes_on (Opened notation (waiting o n front)) (Opened notation (waiting o n (front ++ e ∷ []))) (Opened notation (shown o n (front ++ map added ((name ∷ names, row) ∷ nodes)))) text _ texts
       (Asking (requests.Edit e)) are.0 (adds front e (next_fits o front e (map added nodes) all))
-      (subst (λ edits. Reaches (Opened paths (waiting o n (front ++ e ∷ []))) texts (Opened paths (shown o n edits))) whole rest)
+      (subst (λ edits. Reaches (Opened notation (waiting o n (front ++ e ∷ []))) texts (Opened notation (shown o n edits))) whole rest)
 
 -- ---- the whole tree
 
 opens : (manner : Manner) (n : ℕ) (row : Row) → IsReaderCount n → root_refusal (opening_of manner.mapping (root_of row)) ≡ None
-    → IsDone (Closed manner) (Opens n (root_of row)) (counted_line (codes "opened") n) (Opened manner.paths (waiting (opening_of manner.mapping (root_of row)) n []))
+    → IsDone (Closed manner) (Opens n (root_of row)) (counted_line (codes "opened") n) (Opened manner.notation (waiting (opening_of manner.mapping (root_of row)) n []))
 opens manner n row count fits = inl (count, fits, refl, refl)
 
 lines_reach : (manner : Manner) (n : ℕ) (row : Row) (nodes : List (Names × Row)) (texts : List (List ℕ)) → IsReaderCount n
     → root_refusal (opening_of manner.mapping (root_of row)) ≡ None → IsLawful (opening_of manner.mapping (root_of row)) (map added nodes)
-    → AreAskedBy manner.paths false texts (makings n (([], row) ∷ nodes) ++ Asking requests.Publish ∷ [])
-    → Reaches (Closed manner) texts (Opened manner.paths (shown (opening_of manner.mapping (root_of row)) n (map added nodes)))
+    → AreAskedBy manner.notation false texts (makings n (([], row) ∷ nodes) ++ Asking requests.Publish ∷ [])
+    → Reaches (Closed manner) texts (Opened manner.notation (shown (opening_of manner.mapping (root_of row)) n (map added nodes)))
 lines_reach manner n row nodes [] count fits lawful are = absurd are
 lines_reach manner n row nodes (text ∷ texts) count fits lawful are =
     let o = opening_of manner.mapping (root_of row) in
-    goes_on (Closed manner) (Opened manner.paths (waiting o n [])) (Opened manner.paths (shown o n (map added nodes))) text _ texts (Opens n (root_of row)) are.0 (opens manner n row count fits)
-    (nodes_reach manner.paths o n [] nodes texts lawful are.1)
+    goes_on (Closed manner) (Opened manner.notation (waiting o n [])) (Opened manner.notation (shown o n (map added nodes))) text _ texts (Opens n (root_of row)) are.0 (opens manner n row count fits)
+    (nodes_reach manner.notation o n [] nodes texts lawful are.1)
 
 -- ---- every run
 
@@ -138,10 +138,10 @@ one_end old (text ∷ texts) one other first second =
 
 -- ---- the law
 
-remade : (paths : PathSpelling) (m : Machine) (text : List ℕ) → IsSound m → IsReadBack paths (length m.floors) (replay m.opening m.published) text
-    → (again : Machine) × IsSameAgain m again × Reaches (Closed (same_manner paths m)) (lines text) (Opened paths again)
-    × ((other : Session) → Reaches (Closed (same_manner paths m)) (lines text) other → other ≡ Opened paths again)
-remade paths m text sound back =
+remade : (notation : Notation) (m : Machine) (text : List ℕ) → IsSound m → IsReadBack notation (length m.floors) (replay m.opening m.published) text
+    → (again : Machine) × IsSameAgain m again × Reaches (Closed (same_manner notation m)) (lines text) (Opened notation again)
+    × ((other : Session) → Reaches (Closed (same_manner notation m)) (lines text) other → other ≡ Opened notation again)
+remade notation m text sound back =
     let t = replay m.opening m.published in
     let n = length m.floors in
     let g = m.opening.mapping in
@@ -155,18 +155,18 @@ remade paths m text sound back =
       edits_are = ap (λ (es : List (Names × Row)). map added (drop 1 es)) first.1;
     } in
     let makes = shortest_of_lawful m.opening m.published sound.accepted sound.lawful (spec_of row) edits shortest in
-    let are = subst (λ (es : List (Names × Row)). AreAskedBy paths false (lines text) (makings n es ++ Asking requests.Publish ∷ [])) (sym first.1) back in
-    let reach = lines_reach (same_manner paths m) n row first.0 (lines text) sound.readers makes.accepted makes.lawful are in (
+    let are = subst (λ (es : List (Names × Row)). AreAskedBy notation false (lines text) (makings n es ++ Asking requests.Publish ∷ [])) (sym first.1) back in
+    let reach = lines_reach (same_manner notation m) n row first.0 (lines text) sound.readers makes.accepted makes.lawful are in (
       shown o n edits,
       record { mapping = refl; tree = makes.made; nothing_waits = refl; readers = length-replicate n [] },
       reach,
-      λ other reaches. one_end (Closed (same_manner paths m)) (lines text) other (Opened paths (shown o n edits)) reaches reach,
+      λ other reaches. one_end (Closed (same_manner notation m)) (lines text) other (Opened notation (shown o n edits)) reaches reach,
     )
 
 pub dump_makes_the_tree_again : DumpMakesTheTreeAgain
-dump_makes_the_tree_again paths m printed new sound (inl told, same) fault =
-    let again = remade paths m (dump_text paths (length m.floors) (replay m.opening m.published)) sound told.0 in
-    let P : List ℕ → Type 0 = λ text. (again : Machine) × IsSameAgain m again × Reaches (Closed (same_manner paths m)) (lines text) (Opened paths again)
-    × ((other : Session) → Reaches (Closed (same_manner paths m)) (lines text) other → other ≡ Opened paths again) in
+dump_makes_the_tree_again notation m printed new sound (inl told, same) fault =
+    let again = remade notation m (dump_text notation (length m.floors) (replay m.opening m.published)) sound told.0 in
+    let P : List ℕ → Type 0 = λ text. (again : Machine) × IsSameAgain m again × Reaches (Closed (same_manner notation m)) (lines text) (Opened notation again)
+    × ((other : Session) → Reaches (Closed (same_manner notation m)) (lines text) other → other ≡ Opened notation again) in
     subst P (sym told.1) again
-dump_makes_the_tree_again paths m printed new sound (inr refused, same) fault = absurd (fault refused.1)
+dump_makes_the_tree_again notation m printed new sound (inr refused, same) fault = absurd (fault refused.1)

@@ -9,7 +9,7 @@ use Rattle.sd_script.specs.Expect.{expects}
 use Rattle.sd_script.specs.Output.{IsAnswered, IsDone}
 use Rattle.sd_script.specs.declared.asked.Asked.TheVariants.{Viewing}
 use Rattle.sd_script.specs.declared.manner.Manner.{Manner}
-use Rattle.sd_script.specs.declared.paths.PathSpelling.{PathSpelling}
+use Rattle.sd_script.specs.declared.manner.Notation.{Notation}
 use Rattle.sd_script.specs.declared.session.Session.{Session}
 use Rattle.sd_script.specs.declared.session.Session.TheVariants.{Closed, Opened}
 use Rattle.sd_script.specs.declared.view.View.TheVariants.{Dump}
@@ -34,15 +34,16 @@ pub record IsSameAgain (m again : Machine) : Type 0 where
   pub nothing_waits : again.pending ≡ []
   pub readers : length again.floors ≡ length m.floors
 
--- no store is open yet, and paths are spelled as in the dump
-abbrev pub same_manner : PathSpelling → Machine → Manner
-same_manner paths m = record { mapping = m.opening.mapping; paths = paths }
+-- no store is open yet, and lines are written as in the dump
+abbrev pub same_manner : Notation → Machine → Manner
+same_manner notation m = record { mapping = m.opening.mapping; notation = notation }
 
 -- unless the fault is what is printed
 abbrev pub DumpMakesTheTreeAgain : Type 0
 DumpMakesTheTreeAgain =
-    (paths : PathSpelling) (m : Machine) (printed : List ℕ) (new : Session) → IsSound m
-    → IsDone (Opened paths m) (Viewing Dump) printed new → printed ≢ fault_line (codes "name")
+    (notation : Notation) (m : Machine) (printed : List ℕ) (new : Session) → IsSound m
+    → IsDone (Opened notation m) (Viewing Dump) printed new → printed ≢ fault_line (codes "name")
     → (again : Machine) × IsSameAgain m again
-    × Reaches (Closed (same_manner paths m)) (lines printed) (Opened paths again)
-    × ((other : Session) → Reaches (Closed (same_manner paths m)) (lines printed) other → other ≡ Opened paths again)
+    × Reaches (Closed (same_manner notation m)) (lines printed) (Opened notation again)
+    × ((other : Session) → Reaches (Closed (same_manner notation m)) (lines printed) other
+    → other ≡ Opened notation again)

@@ -8,13 +8,13 @@ mod serving;
 mod streams;
 mod trees;
 
-use sd_script::{Manner, PathSpelling};
+use sd_script::{Manner, Notation, PathSpelling};
 use sd_sid::GenericMapping;
 
-/// With the generic rights of files, and paths as they are.
+/// With the generic rights of files, and lines as they are.
 fn plain() -> Manner {
     Manner {
         mapping: GenericMapping::file(),
-        paths: PathSpelling::Plain,
+        notation: Notation::plain(PathSpelling::Plain),
     }
 }

@@ -48,8 +48,11 @@ const BYTES_OPTIONS: &[OptionName] = &[
 ];
 
 const SCRIPT_OPTIONS: &[OptionName] = &[
+    OptionName::WithoutSacl,
     OptionName::Percent,
     OptionName::Strict,
+    OptionName::Domain,
+    OptionName::Aliases,
     OptionName::Mapping,
 ];
 
@@ -258,7 +261,8 @@ mark, and without a line end at its end",
             excludes: None,
         },
         "\
-drops a section S:, whatever its entries, or the SACL in bytes, and reports it on standard error",
+drops a section S:, whatever its entries, or the SACL in bytes, and reports it on standard error,
+but not of a script's lines",
     ),
     (
         "--require-dacl",

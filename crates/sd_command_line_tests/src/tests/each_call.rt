@@ -94,7 +94,7 @@ impl Way {
 fn plain() -> Manner {
     Manner {
         mapping: GenericMapping::file(),
-        paths: PathSpelling::Plain,
+        notation: Notation::plain(PathSpelling::Plain),
     }
 }
 

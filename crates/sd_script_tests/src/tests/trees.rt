@@ -2,7 +2,7 @@
 
 use super::plain;
 use sd_desk::{Desk, Request};
-use sd_script::{Carried, PathSpelling, Session, answer_line};
+use sd_script::{Carried, Notation, PathSpelling, Session, answer_line};
 use sd_sid::{GenericMapping, Sid};
 use sd_tree::{Edit, Entries, NodeDacl, Path, RootSpec};
 use std::process::Abort;
@@ -31,7 +31,7 @@ fn with_object(rt: &(impl Abort + AllocGlobal), path: &str, paths: PathSpelling)
     let _ = desk.step(&Request::Publish);
     assert_eq!(rt; desk.readers(), 1);
     let mut carried = Carried::begun(&plain());
-    carried.session = Session::Opened(paths, desk);
+    carried.session = Session::Opened(Notation::plain(paths), desk);
     carried
 }
 

@@ -4,4 +4,4 @@ use Rattle.sd_answer.specs.Word.{AreWords, texts}
 use Rattle.sd_answer.proofs.word.read_words.Given as goal
 
 abbrev pub invariant-loop-place : goal.invariant-loop-place
-invariant-loop-place l = AreWords (texts (take l.place l.texts)) l.words.items
+invariant-loop-place l = AreWords l.known (texts (take l.place l.texts)) l.words.items

@@ -2,7 +2,7 @@
 use Rattle.std.proofs.Common.{◌≡◌, ap, codes, string_bytes, subst, take, ◌∙◌}
 use Rattle.std.specs.Prelude.{IfOk}
 use Rattle.sd_commands.specs.Told.{IsSidReason}
-use Rattle.sd_commands.specs.Words.{sid_length}
+use Rattle.sd_commands.specs.Told.{sid_length}
 use Rattle.sd_commands.proofs.told.state_reason.Goals as goal
 
 pub returns : goal.returns

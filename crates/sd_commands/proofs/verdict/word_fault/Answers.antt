@@ -3,7 +3,7 @@ use Rattle.std.proofs.Common.{◌≡◌, ◌∙◌, ap, string_bytes, subst}
 use Rattle.std.proofs.lemmas.Result.{IfOk-weaker}
 use Rattle.sd_answer.specs.Word.{texts}
 use Rattle.sd_commands.specs.Told.{IsWordReason, told_line, word_argument, word_at}
-use Rattle.sd_commands.proofs.SpelledOut.{word_is}
+use Rattle.sd_commands.proofs.Arguments.{word_is}
 use Rattle.sd_commands.proofs.verdict.word_fault.Goals as goal
 
 pub returns : goal.returns

@@ -1,5 +1,5 @@
 use Rattle.std.proofs.Common.{Some, None}
-use Rattle.sd_commands.proofs.SpelledOut.{is_sid_length}
+use Rattle.sd_commands.proofs.Arguments.{is_sid_length}
 use Rattle.sd_commands.proofs.words.sid_length.Goals as goal
 
 pub returns-in-Some-clause-length : goal.returns-in-Some-clause-length

@@ -10,16 +10,16 @@ use Rattle.sd_script.proofs.asked.granted.Goals as goal
 
 pub returns-in_err-groups : goal.returns-in_err-groups
 returns-in_err-groups c =
-    let paths = c.args.paths in
+    let notation = c.args.notation in
     let words = texts c.args.words.now in
     let at = c.in_ok-path.path in
     let asked = c.in_ok-asked.asked in
     let stop = c.in_err-groups.field-0.0 in
     let p = err_from_is_err_and c.from_residual-in_err-groups.result c.from_residual-in_err-groups.ensures.1 in
     rw (p.1, p.2) (
-    Then-value (path paths c.args.path.now) (λ p. reads paths (Mask c.args.mask.now (λ m. Groups words (λ groups. view (Who p groups m))))) at (Err stop) c.in_ok-path.ensures (
-    Then-value (mask c.args.mask.now) (λ m. reads paths (Groups words (λ groups. view (Who at groups m)))) asked (Err stop) c.in_ok-asked.ensures (
-    Then-stop (base words) (λ groups. reads paths (view (Who at groups asked))) stop c.in_err-groups.ensures)))
+    Then-value (path notation.paths c.args.path.now) (λ p. reads notation (Mask c.args.mask.now (λ m. Groups words (λ groups. view (Who p groups m))))) at (Err stop) c.in_ok-path.ensures (
+    Then-value (mask c.args.mask.now) (λ m. reads notation (Groups words (λ groups. view (Who at groups m)))) asked (Err stop) c.in_ok-asked.ensures (
+    Then-stop (base notation words) (λ groups. reads notation (view (Who at groups asked))) stop c.in_err-groups.ensures)))
 
 pub returns : goal.returns
 returns c =

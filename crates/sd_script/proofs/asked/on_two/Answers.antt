@@ -1,7 +1,7 @@
 use Rattle.sd_script.proofs.asked.on_two.Goals as goal
 
 pub returns-in-Open : goal.returns-in-Open
-returns-in-Open c = rw (c.in-Open.is) (c.opening.ensures c.args.paths)
+returns-in-Open c = rw (c.in-Open.is) c.opening.ensures
 
 pub returns-in-AddContainer : goal.returns-in-AddContainer
 returns-in-AddContainer c = rw (c.in-AddContainer.is) c.added_container.ensures
@@ -22,7 +22,7 @@ pub returns-in-Move : goal.returns-in-Move
 returns-in-Move c = rw (c.in-Move.is) c.moved.ensures
 
 pub returns-in-Learn : goal.returns-in-Learn
-returns-in-Learn c = rw (c.in-Learn.is) (c.learned.ensures c.args.paths)
+returns-in-Learn c = rw (c.in-Learn.is) (c.learned.ensures c.args.notation)
 
 pub returns-in-Show : goal.returns-in-Show
 returns-in-Show c = rw (c.in-Show.is) c.shown.ensures

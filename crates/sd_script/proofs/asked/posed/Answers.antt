@@ -10,7 +10,7 @@ use Rattle.sd_script.proofs.asked.posed.Goals as goal
 
 pub returns-in_err-user : goal.returns-in_err-user
 returns-in_err-user c =
-    let paths = c.args.paths in
+    let notation = c.args.notation in
     let q = c.args.question in
     let words = texts c.args.words.now in
     let i = c.in_ok-reader.reader in
@@ -18,13 +18,13 @@ returns-in_err-user c =
     let fault = c.in_err-user.field-0.0 in
     let p = err_from_is_err_and c.from_residual-in_err-user.result c.from_residual-in_err-user.ensures.1 in
     rw (p.1, p.2) (
-    Then-value (number c.args.reader.now) (λ i. reads paths (Path c.args.path.now (λ p. Sid c.args.user.now (λ s. Mask c.args.mask.now (λ m. Token s words (λ t. Asks (poses q i p t m))))))) i (Err (Fault fault)) c.in_ok-reader.ensures (
-    Then-value (path paths c.args.path.now) (λ p. reads paths (Sid c.args.user.now (λ s. Mask c.args.mask.now (λ m. Token s words (λ t. Asks (poses q i p t m)))))) at (Err (Fault fault)) c.in_ok-path.ensures (
-    Then-fault (sid c.args.user.now) (λ s. reads paths (Mask c.args.mask.now (λ m. Token s words (λ t. Asks (poses q i at t m))))) fault c.in_err-user.ensures)))
+    Then-value (number c.args.reader.now) (λ i. reads notation (Path c.args.path.now (λ p. Sid c.args.user.now (λ s. Mask c.args.mask.now (λ m. Token s words (λ t. Asks (poses q i p t m))))))) i (Err (Fault fault)) c.in_ok-reader.ensures (
+    Then-value (path notation.paths c.args.path.now) (λ p. reads notation (Sid c.args.user.now (λ s. Mask c.args.mask.now (λ m. Token s words (λ t. Asks (poses q i p t m)))))) at (Err (Fault fault)) c.in_ok-path.ensures (
+    Then-fault (sid notation c.args.user.now) (λ s. reads notation (Mask c.args.mask.now (λ m. Token s words (λ t. Asks (poses q i at t m))))) fault c.in_err-user.ensures)))
 
 pub returns-in_err-asked : goal.returns-in_err-asked
 returns-in_err-asked c =
-    let paths = c.args.paths in
+    let notation = c.args.notation in
     let q = c.args.question in
     let words = texts c.args.words.now in
     let i = c.in_ok-reader.reader in
@@ -33,14 +33,14 @@ returns-in_err-asked c =
     let fault = c.in_err-asked.field-0.0 in
     let p = err_from_is_err_and c.from_residual-in_err-asked.result c.from_residual-in_err-asked.ensures.1 in
     rw (p.1, p.2) (
-    Then-value (number c.args.reader.now) (λ i. reads paths (Path c.args.path.now (λ p. Sid c.args.user.now (λ s. Mask c.args.mask.now (λ m. Token s words (λ t. Asks (poses q i p t m))))))) i (Err (Fault fault)) c.in_ok-reader.ensures (
-    Then-value (path paths c.args.path.now) (λ p. reads paths (Sid c.args.user.now (λ s. Mask c.args.mask.now (λ m. Token s words (λ t. Asks (poses q i p t m)))))) at (Err (Fault fault)) c.in_ok-path.ensures (
-    Then-value (sid c.args.user.now) (λ s. reads paths (Mask c.args.mask.now (λ m. Token s words (λ t. Asks (poses q i at t m))))) user (Err (Fault fault)) c.in_ok-user.ensures (
-    Then-fault (mask c.args.mask.now) (λ m. reads paths (Token user words (λ t. Asks (poses q i at t m)))) fault c.in_err-asked.ensures))))
+    Then-value (number c.args.reader.now) (λ i. reads notation (Path c.args.path.now (λ p. Sid c.args.user.now (λ s. Mask c.args.mask.now (λ m. Token s words (λ t. Asks (poses q i p t m))))))) i (Err (Fault fault)) c.in_ok-reader.ensures (
+    Then-value (path notation.paths c.args.path.now) (λ p. reads notation (Sid c.args.user.now (λ s. Mask c.args.mask.now (λ m. Token s words (λ t. Asks (poses q i p t m)))))) at (Err (Fault fault)) c.in_ok-path.ensures (
+    Then-value (sid notation c.args.user.now) (λ s. reads notation (Mask c.args.mask.now (λ m. Token s words (λ t. Asks (poses q i at t m))))) user (Err (Fault fault)) c.in_ok-user.ensures (
+    Then-fault (mask c.args.mask.now) (λ m. reads notation (Token user words (λ t. Asks (poses q i at t m)))) fault c.in_err-asked.ensures))))
 
 pub returns-in_err-token : goal.returns-in_err-token
 returns-in_err-token c =
-    let paths = c.args.paths in
+    let notation = c.args.notation in
     let q = c.args.question in
     let words = texts c.args.words.now in
     let i = c.in_ok-reader.reader in
@@ -50,11 +50,11 @@ returns-in_err-token c =
     let stop = c.in_err-token.field-0.0 in
     let p = err_from_is_err_and c.from_residual-in_err-token.result c.from_residual-in_err-token.ensures.1 in
     rw (p.1, p.2) (
-    Then-value (number c.args.reader.now) (λ i. reads paths (Path c.args.path.now (λ p. Sid c.args.user.now (λ s. Mask c.args.mask.now (λ m. Token s words (λ t. Asks (poses q i p t m))))))) i (Err stop) c.in_ok-reader.ensures (
-    Then-value (path paths c.args.path.now) (λ p. reads paths (Sid c.args.user.now (λ s. Mask c.args.mask.now (λ m. Token s words (λ t. Asks (poses q i p t m)))))) at (Err stop) c.in_ok-path.ensures (
-    Then-value (sid c.args.user.now) (λ s. reads paths (Mask c.args.mask.now (λ m. Token s words (λ t. Asks (poses q i at t m))))) user (Err stop) c.in_ok-user.ensures (
-    Then-value (mask c.args.mask.now) (λ m. reads paths (Token user words (λ t. Asks (poses q i at t m)))) asked (Err stop) c.in_ok-asked.ensures (
-    Then-stop (token user words) (λ t. reads paths (Asks (poses q i at t asked))) stop c.in_err-token.ensures)))))
+    Then-value (number c.args.reader.now) (λ i. reads notation (Path c.args.path.now (λ p. Sid c.args.user.now (λ s. Mask c.args.mask.now (λ m. Token s words (λ t. Asks (poses q i p t m))))))) i (Err stop) c.in_ok-reader.ensures (
+    Then-value (path notation.paths c.args.path.now) (λ p. reads notation (Sid c.args.user.now (λ s. Mask c.args.mask.now (λ m. Token s words (λ t. Asks (poses q i p t m)))))) at (Err stop) c.in_ok-path.ensures (
+    Then-value (sid notation c.args.user.now) (λ s. reads notation (Mask c.args.mask.now (λ m. Token s words (λ t. Asks (poses q i at t m))))) user (Err stop) c.in_ok-user.ensures (
+    Then-value (mask c.args.mask.now) (λ m. reads notation (Token user words (λ t. Asks (poses q i at t m)))) asked (Err stop) c.in_ok-asked.ensures (
+    Then-stop (token notation user words) (λ t. reads notation (Asks (poses q i at t asked))) stop c.in_err-token.ensures)))))
 
 pub returns : goal.returns
 returns c =

@@ -5,7 +5,7 @@ use Rattle.sd_script.proofs.asked.who.Goals as goal
 
 pub returns-in-Some : goal.returns-in-Some
 returns-in-Some c =
-    subst (λ given. Parses c.args.paths (option_map asks_groups given) (Some c.granted.result)) c.in-Some.ensures c.granted.ensures
+    subst (λ given. Parses c.args.notation (option_map asks_groups given) (Some c.granted.result)) c.in-Some.ensures c.granted.ensures
 
 pub returns-in-None : goal.returns-in-None
-returns-in-None c = subst (λ given. Parses c.args.paths (option_map asks_groups given) None) c.in-None.ensures tt
+returns-in-None c = subst (λ given. Parses c.args.notation (option_map asks_groups given) None) c.in-None.ensures tt

@@ -11,20 +11,20 @@ use Rattle.sd_script.proofs.deletion.deleting.Goals as goal
 
 pub returns-in_err-user : goal.returns-in_err-user
 returns-in_err-user c =
-    let paths = c.args.paths in
+    let notation = c.args.notation in
     let words = texts c.args.words.now in
     let i = c.in_ok-reader.reader in
     let at = c.in_ok-path.path in
     let fault = c.in_err-user.field-0.0 in
     let p = err_from_is_err_and c.from_residual-in_err-user.result c.from_residual-in_err-user.ensures.1 in
     rw (p.1, p.2) (
-    Then-value (number c.args.reader.now) (λ i. reads paths (Path c.args.path.now (λ p. Sid c.args.user.now (λ s. Token s words (λ t. Asks (Deleting i p t)))))) i (Err (Fault fault)) c.in_ok-reader.ensures (
-    Then-value (path paths c.args.path.now) (λ p. reads paths (Sid c.args.user.now (λ s. Token s words (λ t. Asks (Deleting i p t))))) at (Err (Fault fault)) c.in_ok-path.ensures (
-    Then-fault (sid c.args.user.now) (λ s. reads paths (Token s words (λ t. Asks (Deleting i at t)))) fault c.in_err-user.ensures)))
+    Then-value (number c.args.reader.now) (λ i. reads notation (Path c.args.path.now (λ p. Sid c.args.user.now (λ s. Token s words (λ t. Asks (Deleting i p t)))))) i (Err (Fault fault)) c.in_ok-reader.ensures (
+    Then-value (path notation.paths c.args.path.now) (λ p. reads notation (Sid c.args.user.now (λ s. Token s words (λ t. Asks (Deleting i p t))))) at (Err (Fault fault)) c.in_ok-path.ensures (
+    Then-fault (sid notation c.args.user.now) (λ s. reads notation (Token s words (λ t. Asks (Deleting i at t)))) fault c.in_err-user.ensures)))
 
 pub returns-in_err-token : goal.returns-in_err-token
 returns-in_err-token c =
-    let paths = c.args.paths in
+    let notation = c.args.notation in
     let words = texts c.args.words.now in
     let i = c.in_ok-reader.reader in
     let at = c.in_ok-path.path in
@@ -32,10 +32,10 @@ returns-in_err-token c =
     let stop = c.in_err-token.field-0.0 in
     let p = err_from_is_err_and c.from_residual-in_err-token.result c.from_residual-in_err-token.ensures.1 in
     rw (p.1, p.2) (
-    Then-value (number c.args.reader.now) (λ i. reads paths (Path c.args.path.now (λ p. Sid c.args.user.now (λ s. Token s words (λ t. Asks (Deleting i p t)))))) i (Err stop) c.in_ok-reader.ensures (
-    Then-value (path paths c.args.path.now) (λ p. reads paths (Sid c.args.user.now (λ s. Token s words (λ t. Asks (Deleting i p t))))) at (Err stop) c.in_ok-path.ensures (
-    Then-value (sid c.args.user.now) (λ s. reads paths (Token s words (λ t. Asks (Deleting i at t)))) user (Err stop) c.in_ok-user.ensures (
-    Then-stop (token user words) (λ t. reads paths (Asks (Deleting i at t))) stop c.in_err-token.ensures))))
+    Then-value (number c.args.reader.now) (λ i. reads notation (Path c.args.path.now (λ p. Sid c.args.user.now (λ s. Token s words (λ t. Asks (Deleting i p t)))))) i (Err stop) c.in_ok-reader.ensures (
+    Then-value (path notation.paths c.args.path.now) (λ p. reads notation (Sid c.args.user.now (λ s. Token s words (λ t. Asks (Deleting i p t))))) at (Err stop) c.in_ok-path.ensures (
+    Then-value (sid notation c.args.user.now) (λ s. reads notation (Token s words (λ t. Asks (Deleting i at t)))) user (Err stop) c.in_ok-user.ensures (
+    Then-stop (token notation user words) (λ t. reads notation (Asks (Deleting i at t))) stop c.in_err-token.ensures))))
 
 pub returns : goal.returns
 returns c =

@@ -10,14 +10,14 @@ moved-requires-clause-within c = rw (c.as_path_ref-place.ensures) (within_itself
 pub moved-requires-clause-fits : goal.moved-requires-clause-fits
 moved-requires-clause-fits c =
     let depth = c.depth.ensures ∙ ap length c.as_path_ref-place.ensures in
-    let low : length c.args.path.now ≤ 128 = grind (arith, nat_tests, depth, c.if-depth-gt-MAX_NAMES.false) in
+    let low : length c.args.path.now ≤ 128 = grind (arith, nat_tests, depth, c.from.ensures, c.if-depth-from.false) in
     let short = up_is_shorter c.args.path.now in
     rw (c.parent.ensures, c.as_path_ref-place.ensures, moved_up c.args.path.now) (omega (arith, low, short))
 
 pub returns : goal.returns
 returns c =
     let depth = c.depth.ensures ∙ ap length c.as_path_ref-place.ensures in
-    let low : length c.args.path.now ≤ 128 = grind (arith, nat_tests, depth, c.if-depth-gt-MAX_NAMES.false) in
+    let low : length c.args.path.now ≤ 128 = grind (arith, nat_tests, depth, c.from.ensures, c.if-depth-from.false) in
     let below = ap is_root (sym c.as_path_ref-place.ensures) ∙ sym c.is_root.ensures ∙ c.if-is_root.false in
     let parent = rw (c.parent.ensures, c.as_path_ref-place.ensures, moved_up c.args.path.now) at c.in_ok-parent.ensures in
     parent_found c.args.path.now c.in_ok-parent.parent below low parent

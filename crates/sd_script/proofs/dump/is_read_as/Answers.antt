@@ -4,9 +4,9 @@ use Rattle.sd_script.proofs.dump.is_read_as.Goals as goal
 
 pub returns-in-Ok : goal.returns-in-Ok
 returns-in-Ok c =
-    read_decides c.args.paths c.args.is_open c.args.line.now c.in-Ok.asked _ c.is_making.result (sym c.is_silent.ensures ∙ c.if-is_silent.false) c.in-Ok.ensures c.is_making.ensures
+    read_decides c.args.notation c.args.is_open c.args.line.now c.in-Ok.asked _ c.is_making.result (sym c.is_silent.ensures ∙ c.if-is_silent.false) c.in-Ok.ensures c.is_making.ensures
 
 pub returns-in-Err-Fault : goal.returns-in-Err-Fault
 returns-in-Err-Fault c =
     let asks = rw (c.in-Err-Fault.field-0-is) at c.in-Err-Fault.ensures in
-    fault_decides c.args.paths c.args.is_open c.args.line.now c.in-Err-Fault.field-0-0 _ (sym c.is_silent.ensures ∙ c.if-is_silent.false) asks
+    fault_decides c.args.notation c.args.is_open c.args.line.now c.in-Err-Fault.field-0-0 _ (sym c.is_silent.ensures ∙ c.if-is_silent.false) asks

@@ -12,5 +12,5 @@ use Rattle.sd_script.proofs.dump.is_read_back.Given as goal
 
 abbrev pub invariant-loop-index : goal.invariant-loop-index
 invariant-loop-index l = Same
-    (AreAskedBy l.paths (nat_lt 0 l.index) (lines l.rest) (makings l.readers (drop l.index (entries (replay l.tree.opening l.tree.journal))) ++ Asking Publish ∷ []))
-    (IsReadBack l.paths l.readers (replay l.tree.opening l.tree.journal) l.text)
+    (AreAskedBy l.notation (nat_lt 0 l.index) (lines l.rest) (makings l.readers (drop l.index (entries (replay l.tree.opening l.tree.journal))) ++ Asking Publish ∷ []))
+    (IsReadBack l.notation l.readers (replay l.tree.opening l.tree.journal) l.text)

@@ -10,7 +10,7 @@ pub returns-clause-done : goal.returns-clause-done
 returns-clause-done c =
     let now = c.step-reply.new.self in
     rw (c.in-Opened.is) (
-    found_done string_bytes c.found_reply.result c.in-Opened.paths c.in-Opened.desk now c.args.reader c.args.path c.in_ok-copy-in-Opened.copy
+    found_done string_bytes c.found_reply.result c.in-Opened.notation c.in-Opened.desk now c.args.reader c.args.path c.in_ok-copy-in-Opened.copy
     c.args.token c.args.asked c.step-reply.result c.in_ok-copy-in-Opened.ensures c.step-reply.ensures.step
     (c.found_reply.ensures now (sym c.published.ensures.opening) (sym c.published.ensures.journal)))
 

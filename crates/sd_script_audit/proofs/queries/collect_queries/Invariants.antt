@@ -8,8 +8,8 @@ use Rattle.sd_script_audit.proofs.queries.collect_queries.Given as goal
 
 abbrev pub invariant-loop-rest : goal.invariant-loop-rest
 invariant-loop-rest g l = (workers : ℕ) (back : List ℕ) (tally : Tally)
-    → AreAnsweredInAudit workers (audited l.paths g.J.Naming.opening workers l.writer l.queries.items l.counted.tally) (lines l.rest) back tally
-    → AreAnsweredInAudit workers (audited l.paths g.J.Naming.opening workers l.initial.writer [] l.initial.counted.tally) (lines l.initial.rest)
+    → AreAnsweredInAudit workers (audited l.notation g.J.Naming.opening workers l.writer l.queries.items l.counted.tally) (lines l.rest) back tally
+    → AreAnsweredInAudit workers (audited l.notation g.J.Naming.opening workers l.initial.writer [] l.initial.counted.tally) (lines l.initial.rest)
     (l.counted.printed.items ++ back) tally
 
 abbrev pub decreases-loop-rest : goal.decreases-loop-rest
