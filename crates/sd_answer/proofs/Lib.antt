@@ -4,3 +4,7 @@ pub mod Joins
 pub mod NoLines
 mod LintLines
 mod Descriptors
+mod RightNames
+mod Pluses
+mod WordsLeft
+mod ComeBack

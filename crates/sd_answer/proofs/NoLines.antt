@@ -1,8 +1,8 @@
 -- Where no line is printed of changes, there are none: a mask with a bit has a lowest one, and its line is printed there.
-use Rattle.std.proofs.Common.{◌≡◌, ℕ, zero, suc, ◌+◌, ◌*◌, ◌/◌, ◌%◌, ◌^◌, ◌<◌, ◌≤◌, Bool, true, false, ◌&&◌, ◌==◌, ◌⊎◌, inl, inr, List, [], ◌∷◌, ◌++◌, length, map, refl, sym, ◌∙◌, ap, subst, arith}
+use Rattle.std.proofs.Common.{◌≡◌, ℕ, zero, suc, ◌+◌, ◌*◌, ◌%◌, ◌^◌, ◌<◌, Bool, true, false, ◌&&◌, ◌==◌, ◌⊎◌, inl, inr, List, [], ◌∷◌, ◌++◌, map, refl, sym, ◌∙◌, ap, subst, arith}
 use Rattle.std.specs.Prelude.{if◌then◌else◌, codes}
 use Rattle.std.specs.Int.{bit_at}
-use Rattle.std.specs.List.{All, flat_map}
+use Rattle.std.specs.List.{All}
 use Rattle.std.proofs.lemmas.Bool.{cases_order}
 use Rattle.std.proofs.lemmas.List.Elements.{All-head}
 use Rattle.std.proofs.lemmas.Nat.{mod-pow-add}
@@ -13,7 +13,7 @@ use Rattle.sd_analysis.specs.Compare.{HasABit}
 use Rattle.sd_analysis.specs.Sufficient.{Parts}
 use Rattle.sd_analysis.specs.declared.compare_report.Change.{Change}
 use Rattle.sd_answer.specs.Compare.{change_line, changes_text, gains_and_losses}
-use Rattle.sd_answer.specs.Lines.{LineValue, bits_line, is_lowest, lines_at, lines_below, lines_text}
+use Rattle.sd_answer.specs.Lines.{LineValue, bits_line, is_lowest, lines_at, lines_below}
 use Rattle.sd_answer.specs.declared.answer.Spelling.{Spelling}
 
 -- ---- the lowest bit

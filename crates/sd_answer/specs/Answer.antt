@@ -4,8 +4,8 @@ use Rattle.std.specs.Fmt.{digits, decimal}
 use Rattle.sd_check.specs.declared.verdict.Verdict.{Verdict}
 use Rattle.sd_check.specs.declared.verdict.Verdict.TheVariants.{Granted, Denied, Reserved, EmptyRequest}
 use Rattle.sd_text.specs.Fault as text
-use Rattle.sd_text.specs.MaskNames.{mask_names}
 use Rattle.sd_text.specs.declared.fault.TextFault.{TextFault}
+use Rattle.sd_answer.specs.Names.{mask_names}
 use Rattle.sd_answer.specs.declared.answer.Spelling.{Spelling}
 use Rattle.sd_answer.specs.declared.answer.Spelling.TheVariants.{Number, Names}
 
@@ -17,20 +17,17 @@ line text = text ++ 10 ∷ []
 abbrev pub mask_digits : ℕ → List ℕ
 mask_digits mask = codes "0x" ++ digits 16 false mask
 
--- a mask as a number, or by the names of rights
+-- a mask as a number, or by the names of rights of a kind of object
 abbrev pub spelled : Spelling → ℕ → List ℕ
 spelled Number mask = mask_digits mask
-spelled Names mask = mask_names mask
+spelled (Names kind) mask = mask_names kind mask
 
--- a verdict, its mask in some spelling
-abbrev pub spelled_verdict_line : (ℕ → List ℕ) → Verdict → List ℕ
-spelled_verdict_line spell (Granted mask) = line (codes "granted " ++ spell mask)
-spelled_verdict_line spell (Denied missing) = line (codes "denied " ++ spell missing)
-spelled_verdict_line spell (Reserved mask) = line (codes "reserved " ++ spell mask)
-spelled_verdict_line spell EmptyRequest = line (codes "empty")
-
-abbrev pub verdict_line : Verdict → List ℕ
-verdict_line verdict = spelled_verdict_line mask_digits verdict
+-- a verdict's line
+abbrev pub verdict_line : Spelling → Verdict → List ℕ
+verdict_line spelling (Granted mask) = line (codes "granted " ++ spelled spelling mask)
+verdict_line spelling (Denied missing) = line (codes "denied " ++ spelled spelling missing)
+verdict_line spelling (Reserved mask) = line (codes "reserved " ++ spelled spelling mask)
+verdict_line spelling EmptyRequest = line (codes "empty")
 
 -- the line of an invalid argument
 abbrev pub fault_line : List ℕ → List ℕ

@@ -6,3 +6,7 @@ pub mod Who
 pub mod Compare
 pub mod Lint
 pub mod Descriptor
+pub mod Names
+pub mod Rights
+pub mod Mask
+pub mod Laws

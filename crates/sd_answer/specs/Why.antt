@@ -17,7 +17,7 @@ use Rattle.sd_explain.specs.declared.reason.Cause.{Cause}
 use Rattle.sd_explain.specs.declared.reason.Cause.TheVariants.{NoList, Listed, Restricted, Owner}
 use Rattle.sd_explain.specs.declared.reason.Cause.TheVariants.{TakeOwnership, Security, NoSecurity, BeyondAll, Reserved}
 use Rattle.sd_explain.specs.declared.reason.Reason.{Reason}
-use Rattle.sd_answer.specs.Answer.{line, spelled, spelled_verdict_line}
+use Rattle.sd_answer.specs.Answer.{line, spelled, verdict_line}
 use Rattle.sd_answer.specs.declared.answer.Spelling.{Spelling}
 
 -- the SID that the token stands for, in full
@@ -75,6 +75,6 @@ listed (Some es) = es
 
 abbrev pub why_text : MappingValue → Spelling → DescriptorValue → TokenValue → ℕ → List ℕ
 why_text g spelling d t asked =
-    spelled_verdict_line (spelled spelling) (verdict d.owner (dacl_entries d.dacl) g t asked)
+    verdict_line spelling (verdict d.owner (dacl_entries d.dacl) g t asked)
     ++ part_lines spelling d.owner (listed (dacl_entries d.dacl))
     (reason_in (reasons_of d.owner (dacl_entries d.dacl) g t asked)) 32

@@ -1,10 +1,11 @@
 //! The lines of verdicts and of invalid arguments, and how they spell masks.
-ghost use Rattle.std.specs.Prelude.{◌≡◌, IfOk, string_bytes};
-ghost use Rattle.sd_answer.specs.Answer.{fault_line, mask_digits, sddl_fault_line, spelled, verdict_line};
+ghost use Rattle.std.specs.Prelude.{◌≡◌, ◌++◌, IfOk, string_bytes};
+ghost use Rattle.sd_answer.specs.Answer.{fault_line, line, mask_digits, sddl_fault_line, spelled, verdict_line};
 
+use crate::names::{ObjectKind, mask_names};
 use sd_check::Verdict;
 use sd_sid::Mask;
-use sd_text::{TextFault, print_mask_names};
+use sd_text::TextFault;
 use std::alloc::{AllocError, Global};
 
 /// How a mask is spelled.
@@ -12,8 +13,8 @@ use std::alloc::{AllocError, Global};
 pub enum Spelling {
     /// As a number, as `0x160089`.
     Number,
-    /// By names of rights ([MS-DTYP] 2.5.1.1, ace-rights), as `FR+WD`.
-    Names,
+    /// By the names of a kind of object, as `FR+WD` of a file; of none by those of every object.
+    Names(Option<ObjectKind>),
 }
 
 /// The mask in this spelling ([MS-DTYP] 2.4.3).
@@ -22,7 +23,7 @@ pub fn spell(alloc: Global, spelling: Spelling, mask: Mask) -> Result<String, Al
 {
     match spelling {
         Spelling::Number => number_text(alloc, mask),
-        Spelling::Names => print_mask_names(alloc, mask),
+        Spelling::Names(kind) => mask_names(alloc, kind, mask),
     }
 }
 
@@ -33,16 +34,35 @@ fn number_text(alloc: Global, mask: Mask) -> Result<String, AllocError>
     format!(in alloc; "0x{bits:x}")
 }
 
-/// The line of a verdict ([MS-DTYP] 2.5.3.2): `granted 0x1`, `denied 0x2`, `reserved 0x200000` or `empty`.
-pub fn verdict_line(alloc: Global, verdict: Verdict) -> Result<String, AllocError>
-    ensures { IfOk result (λ text. string_bytes text ≡ verdict_line verdict) }
+/// The line of a verdict ([MS-DTYP] 2.5.3.2): as `granted 0x1`, `denied 0x2`, `reserved 0x200000` or `empty`.
+pub fn verdict_line(
+    alloc: Global,
+    spelling: Spelling,
+    verdict: Verdict,
+) -> Result<String, AllocError>
+    ensures { IfOk result (λ text. string_bytes text ≡ verdict_line spelling verdict) }
 {
     match verdict {
-        Verdict::Granted(mask) => format!(in alloc; "granted 0x{:x}\n", mask.bits()),
-        Verdict::Denied { missing } => format!(in alloc; "denied 0x{:x}\n", missing.bits()),
-        Verdict::Reserved(mask) => format!(in alloc; "reserved 0x{:x}\n", mask.bits()),
+        Verdict::Granted(mask) => mask_line(alloc, "granted ", spelling, mask),
+        Verdict::Denied { missing } => mask_line(alloc, "denied ", spelling, missing),
+        Verdict::Reserved(mask) => mask_line(alloc, "reserved ", spelling, mask),
         Verdict::EmptyRequest => String::from_str(alloc, "empty\n"),
     }
+}
+
+/// A line that ends with a mask.
+fn mask_line(
+    alloc: Global,
+    head: &str,
+    spelling: Spelling,
+    mask: Mask,
+) -> Result<String, AllocError>
+    ensures { IfOk result (λ text. string_bytes text ≡ line (head.now ++ spelled spelling mask)) }
+{
+    let mask = spell(alloc, spelling, mask)?;
+    let mask = mask.as_str();
+    let text = format!(in alloc; "{head}{mask}\n")?;
+    Ok(text)
 }
 
 /// The line of an invalid argument: what it should have been, as `fault sid`.

@@ -5,16 +5,22 @@
 //!
 //! ```text
 //! let token = read_token(alloc, aliases, user, &["BU", "S-1-5-21-1-2-3-512=deny", "+take"])?;
-//! verdict_line(alloc, verdict)?;  // granted 0x1
-//! spell(alloc, Spelling::Names, Mask(0x160089))?; // FR+WD
+//! verdict_line(alloc, Spelling::Number, verdict)?;  // granted 0x1
+//! let names = Spelling::Names(Some(ObjectKind::File));
+//! spell(alloc, names, Mask(0x160089))?; // FR+WD
+//! read_mask_in(names, "Full control"); // Mask(0x1F01FF)
 //! ```
 #![tactic(auto)]
 
 mod answer;
 mod compare;
 mod descriptor;
+mod laws;
 mod lines;
 mod lint;
+mod mask;
+mod names;
+mod rights;
 mod who;
 mod why;
 mod word;
@@ -22,7 +28,11 @@ mod word;
 pub use answer::{Spelling, fault_line, sddl_fault_line, spell, verdict_line};
 pub use compare::{compare_text, gains_and_losses};
 pub use descriptor::read_sddl_argument;
+pub use laws::{masks_come_back, names_are_distinct};
 pub use lint::lint_text;
+pub use mask::read_mask_in;
+pub use names::ObjectKind;
+pub use rights::rights_line;
 pub use who::who_text;
 pub use why::why_text;
 pub use word::{TokenError, read_base, read_token};

@@ -3,13 +3,12 @@ ghost use Rattle.std.specs.Prelude.{◌≡◌, ◌++◌, IfOk, OnOk, slice_get, 
 ghost use Rattle.sd_check.specs.Check.{subject, dacl_entries};
 ghost use Rattle.sd_acl.specs.Descriptor.{descriptor_of};
 ghost use Rattle.sd_explain.specs.Parts.{reason_in};
-ghost use Rattle.sd_answer.specs.Answer.{line, spelled, spelled_verdict_line};
 ghost use Rattle.sd_answer.specs.Why.{cause_text, entry_text, finding_text, line_at, listed, part_line, part_lines};
 ghost use Rattle.sd_answer.specs.Why.{subject_text, verb_of, why_text};
 
-use crate::answer::{Spelling, spell};
+use crate::answer::{Spelling, spell, verdict_line};
 use sd_acl::{Ace, Dacl, Descriptor};
-use sd_check::{Token, Verdict, subject_of};
+use sd_check::{Token, subject_of};
 use sd_explain::{Cause, Explanation, Finding, PLACES, Part, explain_descriptor};
 use sd_sid::{GenericMapping, Mask, Sid};
 use sd_text::{print_entry, print_full_sid};
@@ -34,38 +33,8 @@ pub fn why_text(
         owner: &descriptor.owner,
         entries: entries_in(&descriptor.dacl),
     };
-    let mut text = spelled_verdict_line(alloc, spelling, explanation.verdict())?;
+    let mut text = verdict_line(alloc, spelling, explanation.verdict())?;
     list.push_parts(alloc, &mut text, &explanation)?;
-    Ok(text)
-}
-
-fn spelled_verdict_line(
-    alloc: Global,
-    spelling: Spelling,
-    verdict: Verdict,
-) -> Result<String, AllocError>
-    ensures { IfOk result (λ text. string_bytes text ≡ spelled_verdict_line (spelled spelling) verdict) }
-{
-    match verdict {
-        Verdict::Granted(mask) => spelled_line(alloc, "granted ", spelling, mask),
-        Verdict::Denied { missing } => spelled_line(alloc, "denied ", spelling, missing),
-        Verdict::Reserved(mask) => spelled_line(alloc, "reserved ", spelling, mask),
-        Verdict::EmptyRequest => String::from_str(alloc, "empty\n"),
-    }
-}
-
-/// A line that ends with a mask.
-fn spelled_line(
-    alloc: Global,
-    head: &str,
-    spelling: Spelling,
-    mask: Mask,
-) -> Result<String, AllocError>
-    ensures { IfOk result (λ text. string_bytes text ≡ line (head.now ++ spelled spelling mask)) }
-{
-    let mask = spell(alloc, spelling, mask)?;
-    let mask = mask.as_str();
-    let text = format!(in alloc; "{head}{mask}\n")?;
     Ok(text)
 }
 

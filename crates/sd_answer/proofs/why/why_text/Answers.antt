@@ -2,7 +2,7 @@
 use Rattle.std.proofs.Common.{◌++◌, ◌∙◌, ap}
 use Rattle.sd_check.specs.Check.{verdict, dacl_entries}
 use Rattle.sd_explain.specs.Parts.{reason_in}
-use Rattle.sd_answer.specs.Answer.{spelled, spelled_verdict_line}
+use Rattle.sd_answer.specs.Answer.{verdict_line}
 use Rattle.sd_answer.specs.Why.{listed, part_lines}
 use Rattle.sd_answer.proofs.why.why_text.Goals as goal
 
@@ -17,7 +17,7 @@ returns c =
     c.in_ok-push_parts.ensures
     ∙ ap (λ text. text ++ part_lines spelling owner c.entries_in.result.now (reason_in c.explain_descriptor-explanation.result.reasons) 32)
     (c.in_ok-text.ensures
-    ∙ ap (spelled_verdict_line (spelled spelling)) (c.verdict.ensures ∙ c.explain_descriptor-explanation.ensures.verdict))
-    ∙ ap (λ es. spelled_verdict_line (spelled spelling) (verdict owner dacl mapping token asked) ++ part_lines spelling owner es (reason_in c.explain_descriptor-explanation.result.reasons) 32) c.entries_in.ensures
-    ∙ ap (λ reasons. spelled_verdict_line (spelled spelling) (verdict owner dacl mapping token asked) ++ part_lines spelling owner (listed dacl) (reason_in reasons) 32)
+    ∙ ap (verdict_line spelling) (c.verdict.ensures ∙ c.explain_descriptor-explanation.ensures.verdict))
+    ∙ ap (λ es. verdict_line spelling (verdict owner dacl mapping token asked) ++ part_lines spelling owner es (reason_in c.explain_descriptor-explanation.result.reasons) 32) c.entries_in.ensures
+    ∙ ap (λ reasons. verdict_line spelling (verdict owner dacl mapping token asked) ++ part_lines spelling owner (listed dacl) (reason_in reasons) 32)
     c.explain_descriptor-explanation.ensures.reasons

@@ -1,14 +1,13 @@
--- The names of a mask's rights, by kind of object ([MS-DTYP] 2.4.3), as winnt.h and winsvc.h have them.
-use Rattle.std.specs.Prelude.{ℕ, Bool, true, false, ◌&&◌, ◌==◌, if◌then◌else◌, List, [], ◌∷◌, ◌++◌, Option, Some, None}
-use Rattle.std.specs.Prelude.{codes}
+-- The names of masks, by kind of object ([MS-DTYP] 2.4.3): one table for masks that are printed and parsed.
+use Rattle.std.specs.Prelude.{ℕ, Bool, true, false, ◌&&◌, if◌then◌else◌, List, [], ◌∷◌, ◌++◌, Option, Some, None}
+use Rattle.std.specs.Prelude.{bytes_eq, codes}
+use Rattle.std.specs.Option.{option_or}
 use Rattle.std.specs.Borrow.{Bor}
-use Rattle.sd_answer.specs.Answer.{line, mask_digits}
-use Rattle.sd_commands.specs.declared.mapping.ObjectKind.{ObjectKind}
-use Rattle.sd_commands.specs.declared.mapping.ObjectKind.TheVariants.{File, Key, Service, Process}
 use Rattle.sd_text.specs.Grammar.{Name}
 use Rattle.sd_text.specs.MaskNames.{named_from}
 use Rattle.sd_text.specs.Rights.{bits}
-use Rattle.sd_usage.specs.Table.{first_of}
+use Rattle.sd_answer.specs.declared.names.ObjectKind.{ObjectKind}
+use Rattle.sd_answer.specs.declared.names.ObjectKind.TheVariants.{File, Key, Service, Process}
 
 -- a name for bits, and the kind of object that has it, or none where every object does
 abbrev pub NamedBits : Type 0
@@ -29,6 +28,27 @@ process letters mask = (bits letters mask, Some Process)
 
 abbrev pub any : List ℕ → ℕ → NamedBits
 any letters mask = (bits letters mask, None)
+
+-- what Windows lists as the permissions of a file, and masks that winnt.h names, where SDDL has a shorter name or names
+-- that are these bits together
+unfoldable pub long_names : List NamedBits
+long_names =
+    file (codes "Full control") 0x1F01FF ∷ file (codes "Read & execute") 0x1200A9 ∷ file (codes "Read") 0x120089
+    ∷ file (codes "FILE_GENERIC_WRITE") 0x120116 ∷ file (codes "FILE_GENERIC_EXECUTE") 0x1200A0
+    ∷ key (codes "KEY_ALL_ACCESS") 0xF003F ∷ key (codes "KEY_READ") 0x20019 ∷ key (codes "KEY_WRITE") 0x20006 ∷ []
+
+-- the names of SDDL for masks of a kind and for rights of every object (KX has the mask of KR), and names of one word
+-- for masks that it has none for, the greatest mask first
+unfoldable pub short_names : List NamedBits
+short_names =
+    any (codes "GR") 0x80000000 ∷ any (codes "GW") 0x40000000 ∷ any (codes "GX") 0x20000000
+    ∷ any (codes "GA") 0x10000000
+    ∷ process (codes "PROCESS_ALL_ACCESS") 0x1FFFFF
+    ∷ file (codes "FA") 0x1F01FF ∷ file (codes "Modify") 0x1301BF ∷ file (codes "FW") 0x120116
+    ∷ file (codes "FX") 0x1200A0 ∷ file (codes "FR") 0x120089 ∷ file (codes "Write") 0x100116
+    ∷ service (codes "SERVICE_ALL_ACCESS") 0xF01FF ∷ key (codes "KA") 0xF003F
+    ∷ any (codes "WO") 0x80000 ∷ any (codes "WD") 0x40000 ∷ key (codes "KR") 0x20019 ∷ key (codes "KW") 0x20006
+    ∷ any (codes "RC") 0x20000 ∷ any (codes "SD") 0x10000 ∷ []
 
 -- the rights, one bit each
 unfoldable pub rights : List NamedBits
@@ -59,15 +79,6 @@ rights =
     ∷ any (codes "GENERIC_ALL") 0x10000000 ∷ any (codes "GENERIC_EXECUTE") 0x20000000
     ∷ any (codes "GENERIC_WRITE") 0x40000000 ∷ any (codes "GENERIC_READ") 0x80000000 ∷ []
 
--- what Windows lists as the permissions of a file, and the other masks that winnt.h and winsvc.h name
-unfoldable pub permissions : List NamedBits
-permissions =
-    file (codes "Full control") 0x1F01FF ∷ file (codes "Modify") 0x1301BF ∷ file (codes "Read & execute") 0x1200A9
-    ∷ file (codes "Read") 0x120089 ∷ file (codes "Write") 0x100116 ∷ file (codes "FILE_GENERIC_WRITE") 0x120116
-    ∷ file (codes "FILE_GENERIC_EXECUTE") 0x1200A0 ∷ key (codes "KEY_ALL_ACCESS") 0xF003F
-    ∷ key (codes "KEY_READ") 0x20019 ∷ key (codes "KEY_WRITE") 0x20006 ∷ service (codes "SERVICE_ALL_ACCESS") 0xF01FF
-    ∷ process (codes "PROCESS_ALL_ACCESS") 0x1FFFFF ∷ []
-
 abbrev pub is_same_kind : ObjectKind → ObjectKind → Bool
 is_same_kind File File = true
 is_same_kind Key Key = true
@@ -81,27 +92,32 @@ is_of kind None = true
 is_of None (Some other) = false
 is_of (Some kind) (Some other) = is_same_kind kind other
 
+-- whether it is one for objects of this kind alone
+abbrev pub is_own : Option ObjectKind → Option ObjectKind → Bool
+is_own kind None = false
+is_own None (Some other) = false
+is_own (Some kind) (Some other) = is_same_kind kind other
+
 abbrev pub names_of : Option ObjectKind → List NamedBits → List (Name ℕ)
 names_of kind [] = []
 names_of kind (named ∷ rest) = if is_of kind named.1 then named.0 ∷ names_of kind rest else names_of kind rest
 
--- the rights, as FILE_READ_DATA+DELETE, and bits without a name as a number after them
-abbrev pub right_names : Option ObjectKind → ℕ → List ℕ
-right_names kind mask = named_from (names_of kind rights) mask 0 []
+-- a mask by names, as FR+WD
+abbrev pub mask_names : Option ObjectKind → ℕ → List ℕ
+mask_names kind mask = named_from (names_of kind short_names ++ names_of kind rights) mask 0 []
 
--- the permission that is just this mask
-abbrev pub permission_among : List NamedBits → Option ObjectKind → ℕ → Option (List ℕ)
-permission_among rows kind mask =
-    first_of (λ named. is_of kind named.1 && named.0.stands_for == mask) (λ named. named.0.letters) rows
+-- the bits of the first of these names that the word is
+abbrev pub bits_among : List NamedBits → Option ObjectKind → List ℕ → Option ℕ
+bits_among [] kind word = None
+bits_among (named ∷ rest) kind word =
+    if is_of kind named.1 && bytes_eq named.0.letters word then Some named.0.stands_for
+    else bits_among rest kind word
 
-abbrev pub permission_text : Option (List ℕ) → List ℕ
-permission_text None = []
-permission_text (Some name) = codes " " ++ name
-
-abbrev pub rights_line : Option ObjectKind → ℕ → List ℕ
-rights_line kind mask =
-    line (mask_digits mask ++ permission_text (permission_among permissions kind mask) ++ codes ": "
-    ++ right_names kind mask)
+-- the mask that the word names
+abbrev pub mask_named : Option ObjectKind → List ℕ → Option ℕ
+mask_named kind word =
+    option_or (option_or (bits_among long_names kind word) (bits_among short_names kind word))
+    (bits_among rights kind word)
 
 -- a row of a table of the code
 abbrev pub named_bits : Bor (List ℕ) × ℕ × Option ObjectKind → NamedBits

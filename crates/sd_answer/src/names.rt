@@ -1,0 +1,318 @@
+//! The names of masks, by kind of object ([MS-DTYP] 2.4.3): one table for masks that are printed and parsed.
+ghost use Rattle.std.specs.Prelude.{◌≡◌, ◌++◌, ◌&&◌, ℕ, IfOk, OnOk, List, map, option_map, string_bytes};
+ghost use Rattle.sd_text.specs.Grammar.{Name};
+ghost use Rattle.sd_text.specs.MaskNames.{is_due, named_from, with_rest, with_word};
+ghost use Rattle.sd_answer.specs.Names.{bits_among, is_of, is_own, is_same_kind, long_names, mask_named, mask_names};
+ghost use Rattle.sd_answer.specs.Names.{named_bits, names_of, rights, short_names};
+ghost use Rattle.sd_answer.specs.Rights.{permission_among, permission_named, right_names};
+
+use sd_sid::Mask;
+use std::alloc::{AllocError, Global};
+
+/// A kind of object.
+#[derive(Clone, Copy, Debug, PartialEq, Eq)]
+pub enum ObjectKind {
+    File,
+    /// A registry key.
+    Key,
+    Service,
+    Process,
+}
+
+/// A name, its bits, and the kind of object that has it; `None`: every object does.
+type NamedBits = (&'static str, u32, Option<ObjectKind>);
+
+/// What Windows lists as the permissions of a file, and masks that winnt.h names, where SDDL has a shorter name or
+/// names that are these bits together.
+static LONG_NAMES: [NamedBits; 8] = [
+    ("Full control", 0x001F_01FF, Some(ObjectKind::File)),
+    ("Read & execute", 0x0012_00A9, Some(ObjectKind::File)),
+    ("Read", 0x0012_0089, Some(ObjectKind::File)),
+    ("FILE_GENERIC_WRITE", 0x0012_0116, Some(ObjectKind::File)),
+    ("FILE_GENERIC_EXECUTE", 0x0012_00A0, Some(ObjectKind::File)),
+    ("KEY_ALL_ACCESS", 0x000F_003F, Some(ObjectKind::Key)),
+    ("KEY_READ", 0x0002_0019, Some(ObjectKind::Key)),
+    ("KEY_WRITE", 0x0002_0006, Some(ObjectKind::Key)),
+];
+
+/// The names of SDDL for masks of a kind and for rights of every object ([MS-DTYP] 2.5.1.1, ace-rights), and names of
+/// one word for masks that it has none for, the greatest mask first. `KX` has the mask of `KR`.
+static SHORT_NAMES: [NamedBits; 19] = [
+    ("GR", 0x8000_0000, None),
+    ("GW", 0x4000_0000, None),
+    ("GX", 0x2000_0000, None),
+    ("GA", 0x1000_0000, None),
+    ("PROCESS_ALL_ACCESS", 0x001F_FFFF, Some(ObjectKind::Process)),
+    ("FA", 0x001F_01FF, Some(ObjectKind::File)),
+    ("Modify", 0x0013_01BF, Some(ObjectKind::File)),
+    ("FW", 0x0012_0116, Some(ObjectKind::File)),
+    ("FX", 0x0012_00A0, Some(ObjectKind::File)),
+    ("FR", 0x0012_0089, Some(ObjectKind::File)),
+    ("Write", 0x0010_0116, Some(ObjectKind::File)),
+    ("SERVICE_ALL_ACCESS", 0x000F_01FF, Some(ObjectKind::Service)),
+    ("KA", 0x000F_003F, Some(ObjectKind::Key)),
+    ("WO", 0x0008_0000, None),
+    ("WD", 0x0004_0000, None),
+    ("KR", 0x0002_0019, Some(ObjectKind::Key)),
+    ("KW", 0x0002_0006, Some(ObjectKind::Key)),
+    ("RC", 0x0002_0000, None),
+    ("SD", 0x0001_0000, None),
+];
+
+/// The rights, one bit each, by the names of winnt.h and winsvc.h.
+static RIGHTS: [NamedBits; 51] = [
+    ("FILE_READ_DATA", 0x1, Some(ObjectKind::File)),
+    ("FILE_WRITE_DATA", 0x2, Some(ObjectKind::File)),
+    ("FILE_APPEND_DATA", 0x4, Some(ObjectKind::File)),
+    ("FILE_READ_EA", 0x8, Some(ObjectKind::File)),
+    ("FILE_WRITE_EA", 0x10, Some(ObjectKind::File)),
+    ("FILE_EXECUTE", 0x20, Some(ObjectKind::File)),
+    ("FILE_DELETE_CHILD", 0x40, Some(ObjectKind::File)),
+    ("FILE_READ_ATTRIBUTES", 0x80, Some(ObjectKind::File)),
+    ("FILE_WRITE_ATTRIBUTES", 0x100, Some(ObjectKind::File)),
+    ("KEY_QUERY_VALUE", 0x1, Some(ObjectKind::Key)),
+    ("KEY_SET_VALUE", 0x2, Some(ObjectKind::Key)),
+    ("KEY_CREATE_SUB_KEY", 0x4, Some(ObjectKind::Key)),
+    ("KEY_ENUMERATE_SUB_KEYS", 0x8, Some(ObjectKind::Key)),
+    ("KEY_NOTIFY", 0x10, Some(ObjectKind::Key)),
+    ("KEY_CREATE_LINK", 0x20, Some(ObjectKind::Key)),
+    ("KEY_WOW64_64KEY", 0x100, Some(ObjectKind::Key)),
+    ("KEY_WOW64_32KEY", 0x200, Some(ObjectKind::Key)),
+    ("SERVICE_QUERY_CONFIG", 0x1, Some(ObjectKind::Service)),
+    ("SERVICE_CHANGE_CONFIG", 0x2, Some(ObjectKind::Service)),
+    ("SERVICE_QUERY_STATUS", 0x4, Some(ObjectKind::Service)),
+    (
+        "SERVICE_ENUMERATE_DEPENDENTS",
+        0x8,
+        Some(ObjectKind::Service),
+    ),
+    ("SERVICE_START", 0x10, Some(ObjectKind::Service)),
+    ("SERVICE_STOP", 0x20, Some(ObjectKind::Service)),
+    ("SERVICE_PAUSE_CONTINUE", 0x40, Some(ObjectKind::Service)),
+    ("SERVICE_INTERROGATE", 0x80, Some(ObjectKind::Service)),
+    (
+        "SERVICE_USER_DEFINED_CONTROL",
+        0x100,
+        Some(ObjectKind::Service),
+    ),
+    ("PROCESS_TERMINATE", 0x1, Some(ObjectKind::Process)),
+    ("PROCESS_CREATE_THREAD", 0x2, Some(ObjectKind::Process)),
+    ("PROCESS_SET_SESSIONID", 0x4, Some(ObjectKind::Process)),
+    ("PROCESS_VM_OPERATION", 0x8, Some(ObjectKind::Process)),
+    ("PROCESS_VM_READ", 0x10, Some(ObjectKind::Process)),
+    ("PROCESS_VM_WRITE", 0x20, Some(ObjectKind::Process)),
+    ("PROCESS_DUP_HANDLE", 0x40, Some(ObjectKind::Process)),
+    ("PROCESS_CREATE_PROCESS", 0x80, Some(ObjectKind::Process)),
+    ("PROCESS_SET_QUOTA", 0x100, Some(ObjectKind::Process)),
+    ("PROCESS_SET_INFORMATION", 0x200, Some(ObjectKind::Process)),
+    (
+        "PROCESS_QUERY_INFORMATION",
+        0x400,
+        Some(ObjectKind::Process),
+    ),
+    ("PROCESS_SUSPEND_RESUME", 0x800, Some(ObjectKind::Process)),
+    (
+        "PROCESS_QUERY_LIMITED_INFORMATION",
+        0x1000,
+        Some(ObjectKind::Process),
+    ),
+    (
+        "PROCESS_SET_LIMITED_INFORMATION",
+        0x2000,
+        Some(ObjectKind::Process),
+    ),
+    ("DELETE", 0x0001_0000, None),
+    ("READ_CONTROL", 0x0002_0000, None),
+    ("WRITE_DAC", 0x0004_0000, None),
+    ("WRITE_OWNER", 0x0008_0000, None),
+    ("SYNCHRONIZE", 0x0010_0000, None),
+    ("ACCESS_SYSTEM_SECURITY", 0x0100_0000, None),
+    ("MAXIMUM_ALLOWED", 0x0200_0000, None),
+    ("GENERIC_ALL", 0x1000_0000, None),
+    ("GENERIC_EXECUTE", 0x2000_0000, None),
+    ("GENERIC_WRITE", 0x4000_0000, None),
+    ("GENERIC_READ", 0x8000_0000, None),
+];
+
+#[tactic(auto, unfolding(crate::specs::Names::long_names))]
+fn long_names() -> &'static [NamedBits]
+    ensures { map named_bits result.now ≡ long_names }
+{
+    &LONG_NAMES
+}
+
+#[tactic(auto, unfolding(crate::specs::Names::short_names))]
+fn short_names() -> &'static [NamedBits]
+    ensures { map named_bits result.now ≡ short_names }
+{
+    &SHORT_NAMES
+}
+
+#[tactic(auto, unfolding(crate::specs::Names::rights))]
+fn rights() -> &'static [NamedBits]
+    ensures { map named_bits result.now ≡ rights }
+{
+    &RIGHTS
+}
+
+/// A mask by the names of its kind of object, as `FR+WD`: those whose bits are all the mask's, the greatest first and
+/// single rights last, except one whose bits earlier names have. The bits that no name has follow as a number, as
+/// `FR+0x200`.
+pub(crate) fn mask_names(
+    alloc: Global,
+    kind: Option<ObjectKind>,
+    mask: Mask,
+) -> Result<String, AllocError>
+    ensures { IfOk result (λ text. string_bytes text ≡ mask_names kind mask) }
+{
+    let mut text = String::new(alloc);
+    let named = push_names(&mut text, 0, short_names(), kind, mask)?;
+    let named = push_names(&mut text, named, rights(), kind, mask)?;
+    push_rest(alloc, &mut text, mask.minus(Mask(named)))?;
+    Ok(text)
+}
+
+/// The rights, as `FILE_READ_DATA+DELETE`, and bits without a name as a number after them.
+pub(crate) fn right_names(
+    alloc: Global,
+    kind: Option<ObjectKind>,
+    mask: Mask,
+) -> Result<String, AllocError>
+    ensures { IfOk result (λ text. string_bytes text ≡ right_names kind mask) }
+{
+    let mut text = String::new(alloc);
+    let named = push_names(&mut text, 0, rights(), kind, mask)?;
+    push_rest(alloc, &mut text, mask.minus(Mask(named)))?;
+    Ok(text)
+}
+
+/// Appends the names of these rows that are due, where names before them have some bits already. Returns the bits of
+/// all.
+#[tactic(auto, using(crate::proofs::RightNames::named_end))]
+fn push_names(
+    text: &mut String,
+    before: u32,
+    rows: &[NamedBits],
+    kind: Option<ObjectKind>,
+    mask: Mask,
+) -> Result<u32, AllocError>
+    ensures { IfOk result (λ named. (more : List (Name ℕ))
+        → named_from (names_of kind (map named_bits rows.now) ++ more) mask before (string_bytes text.old)
+        ≡ named_from more mask named (string_bytes text.new)) }
+{
+    let mut named = before;
+    for (name, bits, of) in rows {
+        if is_due(kind, mask, named, *bits, *of) {
+            push_word(text, name)?;
+            named |= *bits;
+        }
+    }
+    Ok(named)
+}
+
+/// The name that the kind has for just this mask: as Windows lists it, or else as it is printed.
+pub(crate) fn permission_named(kind: Option<ObjectKind>, mask: Mask) -> Option<&'static str>
+    ensures { option_map (λ name. name.now) result ≡ permission_named kind mask }
+{
+    match permission_among(long_names(), kind, mask.bits()) {
+        Some(name) => Some(name),
+        None => permission_among(short_names(), kind, mask.bits()),
+    }
+}
+
+/// The first of the kind's own names whose bits are just this mask.
+fn permission_among(rows: &[NamedBits], kind: Option<ObjectKind>, mask: u32) -> Option<&'static str>
+    ensures { option_map (λ name. name.now) result ≡ permission_among (map named_bits rows.now) kind mask }
+{
+    match rows {
+        [] => None,
+        [row, _rows @ ..] if is_own(kind, row.2) && row.1 == mask => Some(row.0),
+        [_row, rows @ ..] => permission_among(rows, kind, mask),
+    }
+}
+
+/// The mask that a word names.
+pub(crate) fn mask_named(kind: Option<ObjectKind>, word: &str) -> Option<u32>
+    ensures { result ≡ mask_named kind word.now }
+{
+    let long = bits_among(long_names(), kind, word);
+    let short = bits_among(short_names(), kind, word);
+    long.or(short).or(bits_among(rights(), kind, word))
+}
+
+/// The bits of the first of these names that the word is.
+fn bits_among(rows: &[NamedBits], kind: Option<ObjectKind>, word: &str) -> Option<u32>
+    ensures { result ≡ bits_among (map named_bits rows.now) kind word.now }
+{
+    match rows {
+        [] => None,
+        [row, _rows @ ..] if is_of(kind, row.2) && row.0 == word => Some(row.1),
+        [_row, rows @ ..] => bits_among(rows, kind, word),
+    }
+}
+
+/// Whether a name is one for objects of this kind; of no kind only that of every object is.
+fn is_of(kind: Option<ObjectKind>, of: Option<ObjectKind>) -> bool
+    ensures { result ≡ is_of kind of }
+{
+    of.is_none() || is_own(kind, of)
+}
+
+/// Whether a name is one for objects of this kind alone.
+fn is_own(kind: Option<ObjectKind>, of: Option<ObjectKind>) -> bool
+    ensures { result ≡ is_own kind of }
+{
+    match (kind, of) {
+        (Some(kind), Some(other)) => is_same_kind(kind, other),
+        _ => false,
+    }
+}
+
+fn is_same_kind(kind: ObjectKind, other: ObjectKind) -> bool
+    ensures { result ≡ is_same_kind kind other }
+{
+    matches!(
+        (kind, other),
+        (ObjectKind::File, ObjectKind::File)
+            | (ObjectKind::Key, ObjectKind::Key)
+            | (ObjectKind::Service, ObjectKind::Service)
+            | (ObjectKind::Process, ObjectKind::Process)
+    )
+}
+
+/// Whether a name is one for objects of this kind whose bits are all the mask's, and names before it don't have them
+/// all.
+fn is_due(
+    kind: Option<ObjectKind>,
+    mask: Mask,
+    named: u32,
+    bits: u32,
+    of: Option<ObjectKind>,
+) -> bool
+    ensures { result ≡ (is_of kind of && is_due mask named bits) }
+{
+    is_of(kind, of) && mask.bits() & bits == bits && named & bits != bits
+}
+
+/// Appends a word, after a `+` if it isn't the first.
+fn push_word(text: &mut String, word: &str) -> Result<(), AllocError>
+    ensures { OnOk result (string_bytes text.new ≡ with_word (string_bytes text.old) word.now) }
+{
+    if !text.is_empty() {
+        text.push_str("+")?;
+    }
+    text.push_str(word)?;
+    Ok(())
+}
+
+/// Appends the bits that no name has, or the number 0 if the text is empty.
+fn push_rest(alloc: Global, text: &mut String, rest: Mask) -> Result<(), AllocError>
+    ensures { OnOk result (string_bytes text.new ≡ with_rest (string_bytes text.old) rest) }
+{
+    if rest.is_empty() && !text.is_empty() {
+        return Ok(());
+    }
+    let bits = rest.bits();
+    let number = format!(in alloc; "0x{bits:x}")?;
+    push_word(text, number.as_str())
+}
