@@ -33,6 +33,8 @@ each lint --
 each verdict SY 0x1 BU +take
 each -0 frombin
 --names each why SY 0x1
+--names verdict D: SY Modify
+--names --mapping key rights KEY_READ+WD
 --without-sacl print D:
 --aliases print D:
 --aliases --domain S-1-5-21-1-2-3 verdict D: SY 0x1
@@ -271,7 +273,6 @@ REJECTED = r"""
 1 UnknownOption | --domain=x print D:
 3 MisplacedOption | --domain x --names print D:
 3 MisplacedOption | --domain --loose --base64 print D:
-1 MisplacedOption | --names verdict D: SY 0x1
 1 MisplacedOption | --names lint D:
 1 MisplacedOption | --names print D:
 1 MisplacedOption | --names tobin D:

@@ -76,7 +76,7 @@ fn word_mask(kind: Option<ObjectKind>, start: u64, word: &str) -> Result<u32, Te
     }
 }
 
-/// The mask of a rights field that isn't empty, or its fault and that's offset.
+/// The mask of a rights field that isn't empty, or its fault and the fault's offset.
 fn rights_word(word: &str) -> Result<Mask, (TextFault, u64)>
     ensures value { IfOk result (Spells rights_word word.now) }
     ensures fault { IfErr result (λ at. HasFault rights_word word.now at.0 at.1) }

@@ -106,7 +106,7 @@ parted (options, words) = (options_of options, words.now)
 
 -- how masks are told
 abbrev pub spelling_of : OptionsValue → Spelling
-spelling_of options = if has options Names then ByNames else Number
+spelling_of options = if has options Names then ByNames (kind_given (given options Mapping)) else Number
 
 -- how bytes are spelled
 abbrev pub byte_form_of : OptionsValue → ByteForm

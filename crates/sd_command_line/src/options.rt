@@ -183,7 +183,7 @@ impl<'a> Options<'a> {
         ensures { result ≡ spelling_of (options_of self.entry) }
     {
         if self.has(OptionName::Names) {
-            Spelling::Names
+            Spelling::Names(kind_given(self.given(OptionName::Mapping)))
         } else {
             Spelling::Number
         }

@@ -1,5 +1,4 @@
 pub mod Commas
-pub mod RightNames
 pub mod Texts
 pub mod BytesByPart
 pub mod SortedOrder

@@ -1,6 +1,6 @@
 -- What `who` and `compare` are asked and find: the base that every token in question has, the rights, whom they are
 -- granted to, and what a change of a descriptor grants and takes.
-use Rattle.std.specs.Prelude.{◌==◌, ◌&&◌, ℕ, if◌then◌else◌, List, length, Option}
+use Rattle.std.specs.Prelude.{◌==◌, ◌&&◌, ℕ, if◌then◌else◌, List, length}
 use Rattle.sd_sid.specs.Mask.{holds}
 use Rattle.sd_sid.specs.Mapping.{MappingValue, mapped}
 use Rattle.sd_sid.specs.Sid.{SidValue}

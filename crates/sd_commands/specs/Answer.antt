@@ -11,8 +11,8 @@ use Rattle.sd_check.specs.declared.verdict.Verdict.{Verdict}
 use Rattle.sd_check.specs.declared.verdict.Verdict.TheVariants.{Granted, Denied, Reserved, EmptyRequest}
 use Rattle.sd_text.specs.Grammar.{Grammar, Spells, HasFault}
 use Rattle.sd_text.specs.Sid.{sid_text_in}
-use Rattle.sd_text.specs.Rights.{mask_text}
 use Rattle.sd_text.specs.Canon.{canon}
+use Rattle.sd_text.specs.declared.fault.TextError.TheVariants.{Fault}
 use Rattle.sd_text.specs.declared.fault.TextFault.{TextFault}
 use Rattle.sd_wire.specs.Reading.{descriptor_read}
 use Rattle.sd_wire.specs.Writing.{wire_of}
@@ -27,6 +27,8 @@ use Rattle.sd_check.specs.declared.token.GroupState.{GroupState}
 use Rattle.sd_answer.specs.Compare.{compare_text}
 use Rattle.sd_answer.specs.Descriptor.{IsRead, IsUnreadAt}
 use Rattle.sd_answer.specs.Lint.{IsLintText}
+use Rattle.sd_answer.specs.Mask.{IsMaskErrorIn, IsMaskIn}
+use Rattle.sd_answer.specs.Rights.{rights_line}
 use Rattle.sd_answer.specs.Who.{who_text}
 use Rattle.sd_answer.specs.Why.{why_text}
 use Rattle.sd_answer.specs.Word.{AreGroups, IsFirstNoGroup, IsFirstNoWord, IsToken, texts}
@@ -35,7 +37,6 @@ use Rattle.sd_commands.specs.Bytes.{bytes_read, form_name, has_sacl, without_sac
 use Rattle.sd_usage.specs.declared.row.Question.{Question}
 use Rattle.sd_usage.specs.declared.row.Question.TheVariants as questions
 use Rattle.sd_commands.specs.MissingDacl.{missing_dacl}
-use Rattle.sd_commands.specs.Rights.{rights_line}
 use Rattle.sd_commands.specs.Sort.{move_notes, sorted_descriptor}
 use Rattle.sd_commands.specs.Told.{fault_text, sacl_note, sddl_fault_text, told_line, told_wire_fault}
 use Rattle.sd_commands.specs.Told.{wire_fault_text, word_argument, word_at}
@@ -99,6 +100,12 @@ IsTextFault grammar text expected argument answer =
     (fault : TextFault) × (place : ℕ) × HasFault grammar text fault place
     × IsFault expected (told_line argument (fault_text fault place)) answer
 
+-- the mask that is asked for has this first fault
+abbrev pub IsMaskFault : Settings → List ℕ → AnswerValue → Type 0
+IsMaskFault settings mask answer =
+    (fault : TextFault) × (place : ℕ) × IsMaskErrorIn settings.spelling mask (Fault fault place)
+    × IsFault (fault_line (codes "mask")) (told_line (codes "MASK") (fault_text fault place)) answer
+
 -- ---- arguments
 
 -- the argument at the place, empty where there is none
@@ -158,7 +165,7 @@ AnswersOfText settings written Answers answer = AnswersOfArgument (codes "SDDL")
 
 -- the verdict's line, or with it the reasons
 abbrev pub form_text : Settings → Form → DescriptorValue → TokenValue → ℕ → List ℕ
-form_text settings Short d token asked = verdict_line
+form_text settings Short d token asked = verdict_line settings.spelling
     (verdict d.owner (dacl_entries d.dacl) settings.mapping token asked)
 form_text settings Explained d token asked = why_text settings.mapping settings.spelling d token asked
 
@@ -186,8 +193,8 @@ AnswersWords settings form d user asked words answer =
 abbrev pub AnswersMask : Settings → Form → DescriptorValue → SidValue → List ℕ → List (Bor (List ℕ)) → AnswerValue
     → Type 0
 AnswersMask settings form d user mask words answer =
-    ((asked : ℕ) × Spells mask_text mask asked × AnswersWords settings form d user asked words answer)
-    ⊎ IsTextFault mask_text mask (fault_line (codes "mask")) (codes "MASK") answer
+    ((asked : ℕ) × IsMaskIn settings.spelling mask asked × AnswersWords settings form d user asked words answer)
+    ⊎ IsMaskFault settings mask answer
 
 abbrev pub AnswersUser : Settings → Form → List ℕ → List ℕ → List (Bor (List ℕ)) → DescriptorValue → AnswerValue
     → Type 0
@@ -277,8 +284,9 @@ PrintsWho settings asked d base answer =
 
 abbrev pub AnswersWhoMask : Settings → List ℕ → List (Bor (List ℕ)) → DescriptorValue → AnswerValue → Type 0
 AnswersWhoMask settings mask words d answer =
-    ((asked : ℕ) × Spells mask_text mask asked × AnswersOfBase settings words (PrintsWho settings asked d) answer)
-    ⊎ IsTextFault mask_text mask (fault_line (codes "mask")) (codes "MASK") answer
+    ((asked : ℕ) × IsMaskIn settings.spelling mask asked
+    × AnswersOfBase settings words (PrintsWho settings asked d) answer)
+    ⊎ IsMaskFault settings mask answer
 
 abbrev pub AnswersWhoOf : Settings → List ℕ → List ℕ → List (Bor (List ℕ)) → AnswerValue → Type 0
 AnswersWhoOf settings written mask words answer = AnswersOfText settings written
@@ -342,8 +350,8 @@ AnswersLint settings written words answer = AnswersOfText settings written
 -- the mask's rights by name
 abbrev pub AnswersRights : Settings → List ℕ → AnswerValue → Type 0
 AnswersRights settings mask answer =
-    ((asked : ℕ) × Spells mask_text mask asked × IsDone (rights_line settings.kind asked) answer)
-    ⊎ IsTextFault mask_text mask (fault_line (codes "mask")) (codes "MASK") answer
+    ((asked : ℕ) × IsMaskIn settings.spelling mask asked × IsDone (rights_line settings.kind asked) answer)
+    ⊎ IsMaskFault settings mask answer
 
 -- ---- commands
 

@@ -4,7 +4,6 @@ pub mod Bytes
 pub mod Kinds
 pub mod Mapping
 pub mod MissingDacl
-pub mod Rights
 pub mod Sort
 pub mod Told
 pub mod Value

@@ -1,6 +1,6 @@
 -- What standard error is told beside an answer: which argument isn't read, and why; or that a SACL is left out.
 use Rattle.std.specs.Prelude.{◌≡◌, ◌⊎◌, ℕ, ◌+◌, ◌==◌, ◌||◌, ◌&&◌, nat_le, nat_lt, Bool, false, MatchBool, List, [], ◌∷◌}
-use Rattle.std.specs.Prelude.{◌++◌, get_or, take, Option, if◌then◌else◌, codes}
+use Rattle.std.specs.Prelude.{◌++◌, get_or, take, if◌then◌else◌, codes}
 use Rattle.std.specs.Fmt.{decimal, digits}
 use Rattle.std.specs.List.{flat_map, position_or_len}
 use Rattle.std.specs.Char.{encode_utf8}

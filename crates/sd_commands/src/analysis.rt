@@ -16,10 +16,10 @@ use crate::told::{state_reason, told_line, word_argument};
 use crate::words::{argument, arguments_from};
 use sd_acl::{Dacl, Descriptor};
 use sd_analysis::{Base, Comparison, DescriptorRef, compare, who};
-use sd_answer::{TokenError, compare_text, read_base, who_text};
+use sd_answer::{TokenError, compare_text, read_base, read_mask_in, who_text};
 use sd_check::{DaclRef, GroupState};
 use sd_sid::{GenericMapping, Mask, Sid};
-use sd_text::{TextError, read_mask};
+use sd_text::TextError;
 use std::alloc::{AllocError, Global};
 
 /// MAXIMUM_ALLOWED's place in a mask, and all rights of an object ([MS-DTYP] 2.4.3).
@@ -69,7 +69,7 @@ fn who_on_mask(
     ensures { IfOk result (λ answer. AnswersWhoMask settings mask.now words.now (descriptor_of descriptor.now)
         (answer_of answer)) }
 {
-    match read_mask(mask) {
+    match read_mask_in(settings.spelling, mask) {
         Ok(asked) => who_with_base(alloc, settings, descriptor, asked, words),
         Err(TextError::Fault { fault, place }) => text_fault(alloc, "mask", "MASK", fault, place),
         Err(TextError::Memory) => Err(AllocError),

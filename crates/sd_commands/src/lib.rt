@@ -33,7 +33,7 @@ mod words;
 
 pub use answer::{Answer, Outcome, answer_question, fault};
 pub use laws::sorted_is_canonical;
-pub use mapping::{ObjectKind, kind_given, mapping_given};
+pub use mapping::{kind_given, mapping_given};
 pub use settings::{ByteForm, Settings};
 pub use shown::shown_word;
 pub use told::{sid_reason, told_line};

@@ -7,43 +7,32 @@ ghost use Rattle.sd_text.specs.Rights.{mask_text};
 ghost use Rattle.sd_commands.specs.Mapping.{AreMasks, GivesMapping, GivesNoMapping, IsMappingText, kind_given};
 ghost use Rattle.sd_commands.specs.Mapping.{kind_mapping, kind_named, mapping_named, between_commas};
 
+use sd_answer::ObjectKind;
 use sd_sid::{GenericMapping, Mask};
 use sd_text::read_mask;
 
-/// A kind of object.
-#[derive(Clone, Copy, Debug, PartialEq, Eq)]
-pub enum ObjectKind {
-    File,
-    /// A registry key.
-    Key,
-    Service,
-    Process,
+/// The kind of object that the text names.
+fn kind_named(text: &str) -> Option<ObjectKind>
+    ensures { result ≡ kind_named text.now }
+{
+    match text {
+        "file" => Some(ObjectKind::File),
+        "key" => Some(ObjectKind::Key),
+        "service" => Some(ObjectKind::Service),
+        "process" => Some(ObjectKind::Process),
+        _ => None,
+    }
 }
 
-impl ObjectKind {
-    /// The kind that the text names.
-    fn named(text: &str) -> Option<ObjectKind>
-        ensures { result ≡ kind_named text.now }
-    {
-        match text {
-            "file" => Some(ObjectKind::File),
-            "key" => Some(ObjectKind::Key),
-            "service" => Some(ObjectKind::Service),
-            "process" => Some(ObjectKind::Process),
-            _ => None,
-        }
-    }
-
-    /// Its mapping: the constants of winnt.h, and of winsvc.h for services.
-    fn mapping(self) -> Option<GenericMapping>
-        ensures { result ≡ Some (kind_mapping self) }
-    {
-        match self {
-            ObjectKind::File => Some(GenericMapping::file()),
-            ObjectKind::Key => of_masks(0x2_0019, 0x2_0006, 0x2_0019, 0xF_003F),
-            ObjectKind::Service => of_masks(0x2_008D, 0x2_0002, 0x2_0170, 0xF_01FF),
-            ObjectKind::Process => of_masks(0x2_0410, 0x2_0BEA, 0x12_1001, 0x1F_FFFF),
-        }
+/// Its mapping: the constants of winnt.h, and of winsvc.h for services.
+fn kind_mapping(kind: ObjectKind) -> Option<GenericMapping>
+    ensures { result ≡ Some (kind_mapping kind) }
+{
+    match kind {
+        ObjectKind::File => Some(GenericMapping::file()),
+        ObjectKind::Key => of_masks(0x2_0019, 0x2_0006, 0x2_0019, 0xF_003F),
+        ObjectKind::Service => of_masks(0x2_008D, 0x2_0002, 0x2_0170, 0xF_01FF),
+        ObjectKind::Process => of_masks(0x2_0410, 0x2_0BEA, 0x12_1001, 0x1F_FFFF),
     }
 }
 
@@ -53,7 +42,7 @@ pub fn kind_given(text: Option<&str>) -> Option<ObjectKind>
 {
     match text {
         None => Some(ObjectKind::File),
-        Some(text) => ObjectKind::named(text),
+        Some(text) => kind_named(text),
     }
 }
 
@@ -83,7 +72,7 @@ fn mapping_in(text: &str) -> Option<GenericMapping>
 fn named(text: &str) -> Option<GenericMapping>
     ensures { result ≡ mapping_named text.now }
 {
-    ObjectKind::named(text)?.mapping()
+    kind_mapping(kind_named(text)?)
 }
 
 /// The mapping of these masks, each within the object's own rights and the standard ones.

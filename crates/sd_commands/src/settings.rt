@@ -1,7 +1,6 @@
 //! What the options before a command about a descriptor say.
 
-use crate::mapping::ObjectKind;
-use sd_answer::Spelling;
+use sd_answer::{ObjectKind, Spelling};
 use sd_sid::GenericMapping;
 use sd_text::Aliases;
 
@@ -19,7 +18,7 @@ pub enum ByteForm {
 /// What the options say.
 #[derive(Clone, Copy, Debug)]
 pub struct Settings {
-    /// How masks are told.
+    /// How masks are printed, and what the argument MASK may be.
     pub spelling: Spelling,
     /// Which aliases of SIDs a text may have.
     pub aliases: Aliases,

@@ -12,10 +12,10 @@ use crate::settings::Settings;
 use crate::told::{told_line, word_argument, word_reason};
 use crate::words::{argument, arguments_from};
 use sd_acl::Descriptor;
-use sd_answer::{TokenError, read_token, verdict_line, why_text};
+use sd_answer::{TokenError, read_mask_in, read_token, verdict_line, why_text};
 use sd_check::{Token, Verdict, check};
 use sd_sid::{Mask, Sid};
-use sd_text::{TextError, read_mask, read_sid_text_in};
+use sd_text::{TextError, read_sid_text_in};
 use std::alloc::{AllocError, Global};
 
 /// What is told of a verdict.
@@ -96,7 +96,7 @@ fn verdict_on_mask(
     ensures { IfOk result (λ answer. AnswersMask settings form (descriptor_of descriptor.now) user mask.now words.now
         (answer_of answer)) }
 {
-    match read_mask(mask) {
+    match read_mask_in(settings.spelling, mask) {
         Ok(asked) => verdict_with_words(alloc, settings, form, descriptor, user, asked, words),
         Err(TextError::Fault { fault, place }) => text_fault(alloc, "mask", "MASK", fault, place),
         Err(TextError::Memory) => Err(AllocError),
@@ -165,7 +165,7 @@ fn text_of(
     match form {
         Form::Short => {
             let verdict = check(descriptor, &settings.mapping, token, asked);
-            verdict_line(alloc, verdict)
+            verdict_line(alloc, settings.spelling, verdict)
         }
         Form::Explained => {
             let mapping = &settings.mapping;

@@ -31,7 +31,7 @@ abbrev pub seen_line : ℕ → List ℕ → List ℕ
 seen_line seen what = codes "seen " ++ decimal seen ++ codes " " ++ what
 
 abbrev pub check_line : CheckReply → List ℕ
-check_line (checks.Verdict verdict) = verdict_line verdict
+check_line (checks.Verdict verdict) = verdict_line Number verdict
 check_line checks.NoNode = line (codes "nonode")
 
 abbrev pub shown_line : Option Descriptor → List ℕ

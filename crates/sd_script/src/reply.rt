@@ -77,7 +77,7 @@ fn check_line(alloc: Global, reply: CheckReply) -> Result<String, AllocError>
     ensures { IfOk result (λ text. string_bytes text ≡ check_line reply) }
 {
     match reply {
-        CheckReply::Verdict(verdict) => verdict_line(alloc, verdict),
+        CheckReply::Verdict(verdict) => verdict_line(alloc, Spelling::Number, verdict),
         CheckReply::NoNode => String::from_str(alloc, "nonode\n"),
     }
 }

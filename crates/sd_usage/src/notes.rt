@@ -159,7 +159,8 @@ winnt.h and winsvc.h. Bits without a name are a number:
   0x100116 Write: FILE_WRITE_DATA+FILE_APPEND_DATA+FILE_WRITE_EA+FILE_WRITE_ATTRIBUTES+SYNCHRONIZE
   0x10201: FILE_READ_DATA+DELETE+0x200
 The rights are those of a file, or with '--mapping' before 'rights' those of a 'key', 'service' or
-'process'; with R,W,X,A only rights of all objects have names.
+'process'; with R,W,X,A only rights of all objects have names. With '--names' MASK may be names
+joined by '+', as 'Read & execute' or FR+DELETE.
 
 Statuses:
   0  the line was printed

@@ -66,7 +66,7 @@ pub const COMMANDS: &[CommandRow] = &[
             arguments: Arguments::Three(Argument::Descriptor, Argument::User, Argument::Mask),
             repeated: Some(Argument::Word),
         },
-        MAPPED_TEXT_OPTIONS,
+        NAMED_TEXT_OPTIONS,
         "Prints whether a descriptor grants an access mask to a user",
         "\
 sdstore verdict 'D:(D;;0x2;;;S-1-5-21-1-2-3-1001)(A;;0x1f01ff;;;S-1-5-21-1-2-3-1001)' S-1-5-21-1-2-3-1001 0x1",
@@ -175,7 +175,7 @@ sdstore verdict 'D:(D;;0x2;;;S-1-5-21-1-2-3-1001)(A;;0x1f01ff;;;S-1-5-21-1-2-3-1
             arguments: Arguments::One(Argument::Mask),
             repeated: None,
         },
-        &[OptionName::Mapping, OptionName::Json],
+        &[OptionName::Names, OptionName::Mapping, OptionName::Json],
         "Prints the names of the rights of an access mask",
         "sdstore rights 0x1301bf",
     ),
@@ -251,7 +251,9 @@ mark, and without a line end at its end",
             value: None,
             excludes: None,
         },
-        "prints rights by their names, as FR+WD instead of 0x160089",
+        "\
+prints masks by the names of their kind of object, as FR+WD instead of 0x160089, and takes such
+names as MASK",
     ),
     (
         "--without-sacl",
