@@ -1,4 +1,3 @@
 pub mod Json
 pub mod Lines
-pub mod Pushes
 pub mod Text

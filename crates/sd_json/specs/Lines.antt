@@ -1,11 +1,11 @@
 -- The object of one line of an answer: what kind of line it is, and its words by their names, as the table has them.
-use Rattle.std.specs.Prelude.{ℕ, ◌==◌, nat_lt, if◌then◌else◌, List, [], ◌∷◌, ◌++◌, length}
-use Rattle.std.specs.Prelude.{Option, Some, None, option_map, option_and_then, codes, bytes_eq}
+use Rattle.std.specs.Prelude.{ℕ, ◌+◌, ◌==◌, nat_lt, Bool, true, false, ◌&&◌, ◌||◌, if◌then◌else◌}
+use Rattle.std.specs.Prelude.{List, [], ◌∷◌, ◌++◌, drop, length, Option, Some, None, codes, bytes_eq}
 use Rattle.std.specs.List.{after_first, before_first, position_or_len, slice_split}
 use Rattle.sd_json.specs.Json.{is_number, json_string, named, strings, then_named}
 use Rattle.sd_json.specs.declared.table.TheConstants.{ROWS}
 use Rattle.sd_json.specs.declared.tagging.Tagging.{Tagging}
-use Rattle.sd_json.specs.declared.tagging.Tagging.TheVariants.{Nothing, Key}
+use Rattle.sd_json.specs.declared.tagging.Tagging.TheVariants.{Id, Key, Nothing}
 
 -- ---- words
 
@@ -25,88 +25,87 @@ words_after (Some text) = words_of text
 
 -- ---- a line that is of a row
 
--- the word is the text with a comma after it
-abbrev pub comma_member : List ℕ → List ℕ → Option (List ℕ)
-comma_member name word = option_and_then
-    (λ parts. if length parts.1 == 0 then Some (then_named name (json_string parts.0)) else None)
-    (cut_at 44 word)
+-- a row's word is `$name` for any word, `#name` for a number, `,name` for a word with a comma after it, `*name` for all
+-- words that are left, one at least; each other word is for itself
+abbrev pub fits_mark : ℕ → List ℕ → List ℕ → Bool
+fits_mark mark name word =
+    if mark == 36 then true
+    else (if mark == 35 then is_number word
+    else (if mark == 44 then position_or_len (λ b. b == 44) word + 1 == length word
+    else bytes_eq (mark ∷ name) word))
 
-abbrev pub number_member : List ℕ → List ℕ → Option (List ℕ)
-number_member name word = if is_number word then Some (then_named name word) else None
+abbrev pub fits_word : List ℕ → List ℕ → Bool
+fits_word [] word = length word == 0
+fits_word (mark ∷ name) word = fits_mark mark name word
 
--- what a word of a row makes of a word of the line. `$name` stands for any word, `#name` for a number, and `,name` for
--- a word with a comma after it; each other word for itself
-abbrev pub marked_member : ℕ → List ℕ → List ℕ → Option (List ℕ)
+abbrev pub is_rest : List ℕ → Bool
+is_rest [] = false
+is_rest (mark ∷ name) = mark == 42
+
+-- the words of a line are of the row that has these words
+abbrev pub fits : List (List ℕ) → List (List ℕ) → Bool
+fits [] [] = true
+fits [] (word ∷ words) = false
+fits (piece ∷ pieces) [] = false
+fits (piece ∷ pieces) (word ∷ words) = is_rest piece || (fits_word piece word && fits pieces words)
+
+-- what such a word of a row makes of a word of the line
+abbrev pub marked_member : ℕ → List ℕ → List ℕ → List ℕ
 marked_member mark name word =
-    if mark == 36 then Some (then_named name (json_string word))
-    else (if mark == 35 then number_member name word
-    else (if mark == 44 then comma_member name word
-    else (if bytes_eq (mark ∷ name) word then Some [] else None)))
+    if mark == 36 then then_named name (json_string word)
+    else (if mark == 35 then then_named name word
+    else (if mark == 44 then then_named name (json_string (before_first (λ b. b == 44) word)) else []))
 
-abbrev pub member : List ℕ → List ℕ → Option (List ℕ)
-member [] word = if length word == 0 then Some [] else None
+abbrev pub member : List ℕ → List ℕ → List ℕ
+member [] word = []
 member (mark ∷ name) word = marked_member mark name word
-
--- the name that stands for all words that are left, `*name`
-abbrev pub rest_name : List ℕ → Option (List ℕ)
-rest_name [] = None
-rest_name (mark ∷ name) = if mark == 42 then Some name else None
 
 -- an array of strings
 abbrev pub json_strings : List (List ℕ) → List ℕ
 json_strings words = codes "[" ++ strings words ++ codes "]"
 
--- all words that are left as one member, or where the row has no name for them these members
-abbrev pub whole_or : Option (List ℕ) → List (List ℕ) → Option (List ℕ) → Option (List ℕ)
-whole_or (Some name) words members = Some (then_named name (json_strings words))
-whole_or None words members = members
-
-abbrev pub joined : Option (List ℕ) → Option (List ℕ) → Option (List ℕ)
-joined None rest = None
-joined (Some first) None = None
-joined (Some first) (Some rest) = Some (first ++ rest)
-
--- the members that the words of a row make of the words of a line, where the line is of that row
-abbrev pub members : List (List ℕ) → List (List ℕ) → Option (List ℕ)
-members [] [] = Some []
-members [] (word ∷ words) = None
-members (piece ∷ pieces) [] = None
+-- the members that the words of a row make of those of a line that is of the row
+abbrev pub members : List (List ℕ) → List (List ℕ) → List ℕ
+members [] words = []
+members (piece ∷ pieces) [] = []
 members (piece ∷ pieces) (word ∷ words) =
-    whole_or (rest_name piece) (word ∷ words) (joined (member piece word) (members pieces words))
+    if is_rest piece then then_named (drop 1 piece) (json_strings (word ∷ words))
+    else member piece word ++ members pieces words
+
+-- ---- the table
+
+-- what the first row has for which the test holds
+abbrev pub first_of : {Row Value : Type 0} → (Row → Bool) → (Row → Value) → List Row → Option Value
+first_of test value [] = None
+first_of test value (row ∷ rows) = if test row then Some (value row) else first_of test value rows
+
+-- the kind and the words of the row that a line is of
+unfoldable pub row_of : List ℕ → Option (List ℕ × List ℕ)
+row_of line =
+    first_of (λ row. fits (words_of row.1.now) (words_of line)) (λ row. (row.0.now, row.1.now)) ROWS.now
 
 -- ---- the object
 
--- what the first row gives that gives something
-abbrev pub first_of : {Row Value : Type 0} → (Row → Option Value) → List Row → Option Value
-first_of value [] = None
-first_of value (row ∷ rows) = elim (value row) [ Some found ↦ Some found | None ↦ first_of value rows ]
-
--- the members of a line of this kind
-abbrev pub of_kind : List ℕ → List ℕ → List ℕ → Option (List ℕ)
-of_kind kind template line = option_map
-    (λ found. named (codes "answer") (codes "\"" ++ kind ++ codes "\"") ++ found)
-    (members (words_of template) (words_of line))
-
 -- the members of any line; one that is of no row is a text
-unfoldable pub line_members : List ℕ → List ℕ
-line_members line =
-    elim (first_of (λ row. of_kind row.0.now row.1.now line) ROWS.now) [
-      | Some found ↦ found
-      | None ↦ named (codes "text") (json_string line)
-    ]
+abbrev pub line_members : List ℕ → List ℕ
+line_members line = elim (row_of line) [
+  | Some row ↦ named (codes "answer") (codes "\"" ++ row.0 ++ codes "\"") ++ members (words_of row.1) (words_of line)
+  | None ↦ named (codes "text") (json_string line)
+]
 
 abbrev pub plain_object : List ℕ → List ℕ
 plain_object line = codes "{" ++ line_members line ++ codes "}"
 
--- a key is what is before the first tab, where one is there
-abbrev pub keyed_object : List ℕ → List ℕ
-keyed_object line =
-    elim (cut_at 9 line) [
+-- the tag is what is before the first such byte, where one is there, and the line is what is after it
+abbrev pub tagged_object : List ℕ → ℕ → List ℕ → List ℕ
+tagged_object name mark line =
+    elim (cut_at mark line) [
       | Some parts ↦
-          codes "{" ++ named (codes "key") (json_string parts.0) ++ codes "," ++ line_members parts.1 ++ codes "}"
+          codes "{" ++ named name (json_string parts.0) ++ codes "," ++ line_members parts.1 ++ codes "}"
       | None ↦ plain_object line
     ]
 
 abbrev pub object : Tagging → List ℕ → List ℕ
 object Nothing line = plain_object line
-object Key line = keyed_object line
+object Key line = tagged_object (codes "key") 9 line
+object Id line = tagged_object (codes "id") 32 line

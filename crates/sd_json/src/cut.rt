@@ -18,7 +18,7 @@ pub(crate) fn cut(mark: u8, text: &[u8]) -> Option<(&[u8], &[u8])>
 }
 
 /// How many bytes are before the first such byte, or all if it isn't there.
-fn place(mark: u8, text: &[u8]) -> usize
+pub(crate) fn place(mark: u8, text: &[u8]) -> usize
     ensures place { result ≡ position_or_len (λ b. b == mark) text.now }
     ensures within { result ≤ length text.now }
 {

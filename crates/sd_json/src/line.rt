@@ -1,101 +1,88 @@
 //! One line of an answer as an object.
 
-ghost use Rattle.std.specs.Prelude.{◌≡◌, ◌++◌, ℕ, List, IfOk, OnOk, codes, option_map};
-ghost use Rattle.sd_json.specs.Json.{json_string, named};
-ghost use Rattle.sd_json.specs.Lines.{first_of, keyed_object, line_members, object, of_kind, plain_object};
+ghost use Rattle.std.specs.Prelude.{◌≡◌, ◌++◌, ◌∷◌, ℕ, List, OnOk, option_map};
+ghost use Rattle.sd_json.specs.Lines.{first_of, fits, line_members, object, plain_object, row_of, tagged_object};
+ghost use Rattle.sd_json.specs.Lines.{words_after, words_of};
 
-use crate::cut::cut;
-use crate::members::push_members;
+use crate::cut::{cut, first_word};
+use crate::members::{fits, push_members};
 use crate::string::push_string;
 use crate::table::{LineRow, ROWS};
 use crate::tagging::Tagging;
-use std::alloc::{AllocError, Global};
+use std::alloc::AllocError;
 
 /// Appends the object of a line that has no line feed.
 pub(crate) fn push_object(
-    alloc: Global,
+    out: &mut Vec<u8>,
     tagging: Tagging,
     line: &[u8],
-    out: &mut Vec<u8>,
 ) -> Result<(), AllocError>
     ensures { OnOk result (out.new.items ≡ out.old.items ++ object tagging line.now) }
 {
     match tagging {
-        Tagging::Nothing => push_plain(alloc, line, out),
-        Tagging::Key => push_keyed(alloc, line, out),
+        Tagging::Nothing => push_plain(out, line),
+        Tagging::Key => push_tagged(out, b"key", b'\t', line),
+        Tagging::Id => push_tagged(out, b"id", b' ', line),
     }
 }
 
-fn push_plain(alloc: Global, line: &[u8], out: &mut Vec<u8>) -> Result<(), AllocError>
+fn push_plain(out: &mut Vec<u8>, line: &[u8]) -> Result<(), AllocError>
     ensures { OnOk result (out.new.items ≡ out.old.items ++ plain_object line.now) }
 {
     out.push(b'{')?;
-    push_line_members(alloc, line, out)?;
+    push_line_members(out, line)?;
     out.push(b'}')?;
     Ok(())
 }
 
-/// The same of a line that begins with a key and a tab.
-fn push_keyed(alloc: Global, line: &[u8], out: &mut Vec<u8>) -> Result<(), AllocError>
-    ensures { OnOk result (out.new.items ≡ out.old.items ++ keyed_object line.now) }
+/// The same of a line that begins with a tag, which this byte ends, as the first member.
+fn push_tagged(out: &mut Vec<u8>, name: &[u8], end: u8, line: &[u8]) -> Result<(), AllocError>
+    ensures { OnOk result (out.new.items ≡ out.old.items ++ tagged_object name.now end line.now) }
 {
-    let Some((key, after)) = cut(b'\t', line) else {
-        return push_plain(alloc, line, out);
+    let Some((tag, after)) = cut(end, line) else {
+        return push_plain(out, line);
     };
-    out.extend_from_slice(b"{\"key\":")?;
-    push_string(out, key)?;
+    out.extend_from_slice(b"{\"")?;
+    out.extend_from_slice(name)?;
+    out.extend_from_slice(b"\":")?;
+    push_string(out, tag)?;
     out.push(b',')?;
-    push_line_members(alloc, after, out)?;
+    push_line_members(out, after)?;
     out.push(b'}')?;
     Ok(())
 }
 
 /// The members of a line by the table; a line that is of no row is a text.
-#[tactic(auto, unfolding(crate::specs::Lines::line_members))]
-fn push_line_members(alloc: Global, line: &[u8], out: &mut Vec<u8>) -> Result<(), AllocError>
+fn push_line_members(out: &mut Vec<u8>, line: &[u8]) -> Result<(), AllocError>
     ensures { OnOk result (out.new.items ≡ out.old.items ++ line_members line.now) }
 {
-    match members_by(alloc, ROWS, line)? {
-        Some(members) => out.extend_from_slice(&members),
-        None => {
-            out.extend_from_slice(b"\"text\":")?;
-            push_string(out, line)
-        }
-    }
+    let Some((kind, template)) = row_of(line) else {
+        out.extend_from_slice(b"\"text\":")?;
+        return push_string(out, line);
+    };
+    out.extend_from_slice(b"\"answer\":\"")?;
+    out.extend_from_slice(kind.as_bytes())?;
+    out.push(b'"')?;
+    push_members(out, template.as_bytes(), line)
 }
 
-/// The members of a line by the first of these rows that it is of.
-fn members_by(alloc: Global, rows: &[LineRow], line: &[u8]) -> Result<Option<Vec<u8>>, AllocError>
-    ensures { IfOk result (λ found. option_map (λ text. text.items) found
-        ≡ first_of (λ row. of_kind row.0.now row.1.now line.now) rows.now) }
+/// The row that a line is of.
+fn row_of(line: &[u8]) -> Option<LineRow>
+    ensures { option_map {U = List ℕ × List ℕ} (λ row. (row.0.now, row.1.now)) result ≡ row_of line.now }
+{
+    let (word, after) = first_word(line);
+    first_fit(ROWS, word, after)
+}
+
+/// The first of these rows that a line is of, of which this is the first word and the text after it.
+fn first_fit(rows: &[LineRow], word: &[u8], after: Option<&[u8]>) -> Option<LineRow>
+    ensures { option_map {U = List ℕ × List ℕ} (λ row. (row.0.now, row.1.now)) result ≡ first_of
+        (λ row. fits (words_of row.1.now) (word.now ∷ words_after (option_map (λ text. text.now) after.entry)))
+        (λ row. (row.0.now, row.1.now)) rows.now }
 {
     match rows {
-        [] => Ok(None),
-        [row, rows @ ..] => match members_of(alloc, row.0, row.1, line)? {
-            Some(members) => Ok(Some(members)),
-            None => members_by(alloc, rows, line),
-        },
+        [] => None,
+        [row, _rows @ ..] if fits(row.1.as_bytes(), word, after) => Some(*row),
+        [_row, rows @ ..] => first_fit(rows, word, after),
     }
-}
-
-/// The members of a line of this kind. `None`: it isn't of the row.
-fn members_of(
-    alloc: Global,
-    kind: &str,
-    template: &str,
-    line: &[u8],
-) -> Result<Option<Vec<u8>>, AllocError>
-    ensures { IfOk result (λ found. option_map (λ text. text.items) found
-        ≡ of_kind kind.now template.now line.now) }
-{
-    let mut members = Vec::new(alloc);
-    if !push_members(&mut members, template.as_bytes(), line)? {
-        return Ok(None);
-    }
-    let mut text = Vec::new(alloc);
-    text.extend_from_slice(b"\"answer\":\"")?;
-    text.extend_from_slice(kind.as_bytes())?;
-    text.push(b'"')?;
-    text.extend_from_slice(&members)?;
-    Ok(Some(text))
 }

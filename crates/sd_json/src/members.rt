@@ -1,62 +1,67 @@
 //! What a row of the table makes of a line.
 
-ghost use Rattle.std.specs.Prelude.{◌≡◌, ◌++◌, ℕ, List, true, IfOk, OnOk, bytes_eq, option_map};
+ghost use Rattle.std.specs.Prelude.{◌≡◌, ◌++◌, ◌∷◌, ℕ, List, false, OnOk, bytes_eq, option_map};
 ghost use Rattle.sd_json.specs.Json.{json_string, strings, then_named};
-ghost use Rattle.sd_json.specs.Lines.{comma_member, json_strings, member, members, number_member, rest_name, words_of};
-ghost use Rattle.sd_json.specs.Pushes.{Pushes};
+ghost use Rattle.sd_json.specs.Lines.{fits, fits_word, is_rest, json_strings, member, members, words_after, words_of};
 
-use crate::cut::{cut, first_word};
+use crate::cut::{first_word, place};
 use crate::string::{is_number, push_string};
 use std::alloc::AllocError;
 
-/// Appends the members that a row's words make of a line, and says whether the line is of that row. If it isn't, what
-/// was appended has no meaning.
-pub(crate) fn push_members(
-    out: &mut Vec<u8>,
-    template: &[u8],
-    line: &[u8],
-) -> Result<bool, AllocError>
-    ensures { IfOk result (λ fits.
-        Pushes (members (words_of template.now) (words_of line.now)) fits out.old.items out.new.items) }
+/// Whether a line, of which this is the first word and the text after it, is of the row that has these words.
+pub(crate) fn fits(template: &[u8], word: &[u8], after: Option<&[u8]>) -> bool
+    ensures { result ≡ fits (words_of template.now)
+        (word.now ∷ words_after (option_map (λ text. text.now) after.entry)) }
 {
+    if !may_begin(template, word) {
+        return false;
+    }
     let (piece, pieces) = first_word(template);
-    if let Some(name) = rest_name(piece) {
-        push_words(out, name, line)?;
-        return Ok(true);
+    if is_rest(piece) {
+        return true;
     }
-    let (word, words) = first_word(line);
-    if !push_member(out, piece, word)? {
-        return Ok(false);
+    if !fits_word(piece, word) {
+        return false;
     }
-    match (pieces, words) {
-        (None, None) => Ok(true),
-        (Some(template), Some(line)) => push_members(out, template, line),
-        _ => Ok(false),
-    }
-}
-
-/// The name that stands for all words that are left.
-fn rest_name(piece: &[u8]) -> Option<&[u8]>
-    ensures { option_map (λ name. name.now) result ≡ rest_name piece.now }
-{
-    match piece {
-        [mark, name @ ..] if *mark == b'*' => Some(name),
-        _ => None,
+    match (pieces, after) {
+        (None, None) => true,
+        (Some(template), Some(line)) => {
+            let (word, after) = first_word(line);
+            fits(template, word, after)
+        }
+        _ => false,
     }
 }
 
-/// What a word of a row makes of a word of the line.
-fn push_member(out: &mut Vec<u8>, piece: &[u8], word: &[u8]) -> Result<bool, AllocError>
-    ensures { IfOk result (λ fits. Pushes (member piece.now word.now) fits out.old.items out.new.items) }
+/// Whether a row may begin with this word, by the first byte of each.
+fn may_begin(template: &[u8], word: &[u8]) -> bool
+    ensures { result ≡ false → (words : List (List ℕ)) → fits (words_of template.now) (word.now ∷ words) ≡ false }
 {
-    let [mark, name @ ..] = piece else {
-        return Ok(word.is_empty());
+    match template {
+        [first, ..] if first.is_ascii_lowercase() => word.first() == Some(first),
+        _ => true,
+    }
+}
+
+/// Whether a row's word stands for all words that are left.
+fn is_rest(piece: &[u8]) -> bool
+    ensures { result ≡ is_rest piece.now }
+{
+    matches!(piece, [b'*', ..])
+}
+
+/// Whether a row's word stands for this one.
+fn fits_word(piece: &[u8], word: &[u8]) -> bool
+    ensures { result ≡ fits_word piece.now word.now }
+{
+    let [mark, _name @ ..] = piece else {
+        return word.is_empty();
     };
     match *mark {
-        b'$' => push_named_string(out, name, word),
-        b'#' => push_number(out, name, word),
-        b',' => push_before_comma(out, name, word),
-        _ => Ok(is_same(piece, word)),
+        b'$' => true,
+        b'#' => is_number(word),
+        b',' => place(b',', word) + 1 == word.len(),
+        _ => is_same(piece, word),
     }
 }
 
@@ -66,33 +71,53 @@ fn is_same(piece: &[u8], word: &[u8]) -> bool
     piece == word
 }
 
-fn push_number(out: &mut Vec<u8>, name: &[u8], word: &[u8]) -> Result<bool, AllocError>
-    ensures { IfOk result (λ fits. Pushes (number_member name.now word.now) fits out.old.items out.new.items) }
+/// Appends the members that a row's words make of a line that is of the row.
+pub(crate) fn push_members(
+    out: &mut Vec<u8>,
+    template: &[u8],
+    line: &[u8],
+) -> Result<(), AllocError>
+    ensures { OnOk result (out.new.items ≡ out.old.items ++ members (words_of template.now) (words_of line.now)) }
 {
-    if !is_number(word) {
-        return Ok(false);
+    let (piece, pieces) = first_word(template);
+    if is_rest(piece) {
+        return push_words(out, &piece[1..], line);
     }
-    push_name(out, name)?;
-    out.extend_from_slice(word)?;
-    Ok(true)
+    let (word, words) = first_word(line);
+    push_member(out, piece, word)?;
+    match (pieces, words) {
+        (Some(template), Some(line)) => push_members(out, template, line),
+        _ => Ok(()),
+    }
 }
 
-fn push_before_comma(out: &mut Vec<u8>, name: &[u8], word: &[u8]) -> Result<bool, AllocError>
-    ensures { IfOk result (λ fits. Pushes (comma_member name.now word.now) fits out.old.items out.new.items) }
+/// Appends the member that a row's word makes of a word of the line.
+fn push_member(out: &mut Vec<u8>, piece: &[u8], word: &[u8]) -> Result<(), AllocError>
+    ensures { OnOk result (out.new.items ≡ out.old.items ++ member piece.now word.now) }
 {
-    match cut(b',', word) {
-        Some((front, [])) => push_named_string(out, name, front),
-        _ => Ok(false),
+    let [mark, name @ ..] = piece else {
+        return Ok(());
+    };
+    match *mark {
+        b'$' => push_named_string(out, name, word),
+        b'#' => push_number(out, name, word),
+        b',' => push_named_string(out, name, &word[..place(b',', word)]),
+        _ => Ok(()),
     }
 }
 
-fn push_named_string(out: &mut Vec<u8>, name: &[u8], text: &[u8]) -> Result<bool, AllocError>
-    ensures { IfOk result (λ fits. (fits ≡ true)
-        × (out.new.items ≡ out.old.items ++ then_named name.now (json_string text.now))) }
+fn push_number(out: &mut Vec<u8>, name: &[u8], word: &[u8]) -> Result<(), AllocError>
+    ensures { OnOk result (out.new.items ≡ out.old.items ++ then_named name.now word.now) }
 {
     push_name(out, name)?;
-    push_string(out, text)?;
-    Ok(true)
+    out.extend_from_slice(word)
+}
+
+fn push_named_string(out: &mut Vec<u8>, name: &[u8], text: &[u8]) -> Result<(), AllocError>
+    ensures { OnOk result (out.new.items ≡ out.old.items ++ then_named name.now (json_string text.now)) }
+{
+    push_name(out, name)?;
+    push_string(out, text)
 }
 
 /// A comma, and the name of a member with its colon.

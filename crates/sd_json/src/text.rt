@@ -20,37 +20,27 @@ pub fn json_text(alloc: Global, tagging: Tagging, text: &[u8]) -> Result<Vec<u8>
         let Some((line, after)) = cut(b'\n', rest) else {
             break 'lines;
         };
-        push_line(alloc, tagging, line, &mut out)?;
+        push_line(&mut out, tagging, line)?;
         rest = after;
     }
-    push_last(alloc, tagging, rest, &mut out)?;
+    push_last(&mut out, tagging, rest)?;
     Ok(out)
 }
 
 /// The same of what is after the last line feed: a line without its end, or nothing.
-fn push_last(
-    alloc: Global,
-    tagging: Tagging,
-    last: &[u8],
-    out: &mut Vec<u8>,
-) -> Result<(), AllocError>
+fn push_last(out: &mut Vec<u8>, tagging: Tagging, last: &[u8]) -> Result<(), AllocError>
     ensures { OnOk result (out.new.items ≡ out.old.items ++ last_object tagging last.now) }
 {
     if last.is_empty() {
         return Ok(());
     }
-    push_line(alloc, tagging, last, out)
+    push_line(out, tagging, last)
 }
 
-fn push_line(
-    alloc: Global,
-    tagging: Tagging,
-    line: &[u8],
-    out: &mut Vec<u8>,
-) -> Result<(), AllocError>
+fn push_line(out: &mut Vec<u8>, tagging: Tagging, line: &[u8]) -> Result<(), AllocError>
     ensures { OnOk result (out.new.items ≡ out.old.items ++ object tagging line.now ++ codes "\n") }
 {
-    push_object(alloc, tagging, line, out)?;
+    push_object(out, tagging, line)?;
     out.push(b'\n')?;
     Ok(())
 }
