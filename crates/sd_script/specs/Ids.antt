@@ -18,9 +18,13 @@ use Rattle.sd_script.specs.declared.tally.Tally.{Tally}
 abbrev pub is_id : List ℕ → Bool
 is_id word = not (is_silent word) && list_all is_ascii_graphic word
 
+-- the first word of a line is an id
+abbrev pub has_id : List ℕ → Bool
+has_id line = is_id (take (word_len line) line)
+
 -- the bytes of a line's id and of the space after it; none where the first word is no id
 abbrev pub tag_len : List ℕ → ℕ
-tag_len line = if is_id (take (word_len line) line) then head_len line else 0
+tag_len line = if has_id line then head_len line else 0
 
 -- what each line of the answer begins with, and what is answered
 abbrev pub tag_of : List ℕ → List ℕ
@@ -56,4 +60,4 @@ PrintsIn has_ids manner text printed =
 -- a line whose first word is no id changes nothing
 abbrev pub NoCommandWithoutAnId : Type 0
 NoCommandWithoutAnId = (old new : Carried) (line printed : List ℕ)
-    → is_id (take (word_len line) line) ≡ false → IsNextIn true old line printed new → new.session ≡ old.session
+    → has_id line ≡ false → IsNextIn true old line printed new → new.session ≡ old.session

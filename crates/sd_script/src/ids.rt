@@ -1,7 +1,7 @@
 //! How each line of a script is answered; with ids, each line of its answer begins with the line's id.
 
 ghost use Rattle.std.specs.Prelude.{◌≡◌, ◌≤◌, true, length, IfOk, IfSome};
-ghost use Rattle.sd_script.specs.Ids.{IsNextIn, asked_of, is_id, tag_len, tag_of, tagged};
+ghost use Rattle.sd_script.specs.Ids.{IsNextIn, asked_of, has_id, is_id, tag_len, tag_of, tagged};
 
 use crate::carried::Carried;
 use crate::lines::{head_len, is_silent, word_len};
@@ -19,8 +19,9 @@ pub const LINES: Form = Form {
 
 /// A script, whose lines begin with ids or don't.
 #[derive(Clone, Copy, Debug)]
-pub(crate) struct Script {
-    pub(crate) has_ids: bool,
+pub struct Script {
+    /// Whether they do: `serve` has more on ids.
+    pub has_ids: bool,
 }
 
 impl Answers for Script {
@@ -78,11 +79,14 @@ fn tag_len(line: &[u8]) -> usize
     ensures len { result ≡ tag_len line.now }
     ensures within { result ≤ length line.now }
 {
-    if is_id(&line[..word_len(line)]) {
-        head_len(line)
-    } else {
-        0
-    }
+    if has_id(line) { head_len(line) } else { 0 }
+}
+
+/// Whether the first word of a line is an id: with ids each line of its answer then begins with that and a space.
+pub fn has_id(line: &[u8]) -> bool
+    ensures { result ≡ has_id line.now }
+{
+    is_id(&line[..word_len(line)])
 }
 
 /// Whether a word is an id: it isn't empty, doesn't begin with `#`, and has printable ASCII characters alone.

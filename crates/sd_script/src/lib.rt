@@ -47,7 +47,7 @@ pub use asked::Asked;
 pub use carried::Carried;
 pub use expect::{LastAnswer, expects};
 pub use fault::{LineFault, Stop, line_of_fault};
-pub use ids::{LINES, tagged};
+pub use ids::{LINES, Script, has_id, tagged};
 pub use importing::import_line;
 pub use laws::{
     deletes_as_checked, lines_have_one_answer, no_command_without_an_id,

@@ -22,4 +22,5 @@ mod queries;
 mod streams;
 
 pub use laws::workers_show_in_the_opening;
+pub use output::audit_output;
 pub use streams::run_audit;
