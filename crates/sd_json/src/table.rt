@@ -64,6 +64,16 @@ pub const ROWS: &[LineRow] = &[
     ("repeated", "entry #entry $ace repeats entry #repeats"),
     ("no effect", "entry #entry $ace has no effect"),
     ("limits owner", "entry #entry $ace limits the owner"),
+    // Risks.
+    ("empty DACL", "an empty DACL grants nothing"),
+    ("owner cannot read", "the owner $sid has no way to read"),
+    ("risky grant", "$sid is granted $right"),
+    (
+        "unknown SID",
+        "entry #entry $ace names a SID of no known kind",
+    ),
+    ("unknown owner", "the owner $sid is of no known kind"),
+    ("unknown group", "the group $sid is of no known kind"),
     // What a store answers to a reader.
     ("granted", "seen #seen granted $mask"),
     ("denied", "seen #seen denied $mask"),
