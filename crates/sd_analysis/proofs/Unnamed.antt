@@ -1,8 +1,8 @@
 -- There is always a SID that neither descriptor names: more are numbered than named.
-use Rattle.std.proofs.Common.{◌≡◌, ℕ, suc, zero, ◌<◌, ◌≤◌, ◌+◌, ◌/◌, ◌%◌, Bool, true, false, ◌||◌, cond, List, [], ◌∷◌, ◌++◌, length, map, Option, Some, None, Ok, Result, inl, inr, refl, sym, ◌∙◌, ap, arith}
+use Rattle.std.proofs.Common.{◌≡◌, ℕ, suc, zero, ◌<◌, ◌≤◌, ◌+◌, ◌^◌, ◌/◌, ◌%◌, Bool, true, false, ◌||◌, cond, List, [], ◌∷◌, ◌++◌, length, map, Option, Some, None, Ok, Result, inl, inr, refl, sym, ◌∙◌, ap, arith}
 use Rattle.std.specs.List.{list_any}
 use Rattle.std.specs.Option.{option_to_list}
-use Rattle.std.proofs.lemmas.Bool.{cases_Bool, cases_eq, false_from_ne_true, le-ltb, ne_eqb}
+use Rattle.std.proofs.lemmas.Bool.{cases_Bool, cases_eq, false_from_ne_true, le-ltb, lt-ltb, ne_eqb}
 use Rattle.std.proofs.lemmas.List.Folds.{list_any-append}
 use Rattle.std.proofs.lemmas.List.{length-append, length-map}
 use Rattle.std.proofs.Math.Bool.{or-false}
@@ -13,14 +13,14 @@ use Rattle.sd_acl.specs.declared.ace.Ace.{Ace}
 use Rattle.sd_analysis.specs.Sufficient.{Parts, entries_or_none, has_sid, is_among, is_named}
 use Rattle.sd_analysis.specs.Passes.{numbered}
 
-pub sid_made : (subs : List ℕ) → 0 < length subs → length subs ≤ 15 → sid_of 0 subs ≡ Ok (record { authority = 0; subs = subs })
-sid_made subs some few = rw (ne_eqb (length subs) 0 (omega arith), le-ltb 15 (length subs) few) refl
+pub sid_made : (authority : ℕ) (subs : List ℕ) → authority < 2 ^ 48 → 0 < length subs → length subs ≤ 15 → sid_of authority subs ≡ Ok (record { authority = authority; subs = subs })
+sid_made authority subs low some few = rw (ne_eqb (length subs) 0 (omega arith), le-ltb 15 (length subs) few, lt-ltb authority (2 ^ 48) low) refl
 
 abbrev ok_sid : SidValue → Result SidValue SidError
 ok_sid s = Ok s
 
-pub the_sid : (s : SidValue) (subs : List ℕ) → ok_sid s ≡ Ok (record { authority = 0; subs = subs }) → s ≡ record { authority = 0; subs = subs }
-the_sid s subs e = cc
+pub the_sid : (s : SidValue) (authority : ℕ) (subs : List ℕ) → ok_sid s ≡ Ok (record { authority = authority; subs = subs }) → s ≡ record { authority = authority; subs = subs }
+the_sid s authority subs e = cc
 
 -- how many numbers below n pass
 count : (ℕ → Bool) → ℕ → ℕ

@@ -8,3 +8,4 @@ pub mod Table
 pub mod Report
 pub mod Effect
 pub mod Redundant
+pub mod Risks

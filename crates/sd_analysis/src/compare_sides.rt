@@ -1,6 +1,6 @@
 //! What a descriptor grants in a pass to a base with two SIDs more, as masks.
 
-ghost use Rattle.std.specs.Prelude.{◌≡◌, ◌&&◌, ◌||◌, ◌<◌, ◌≤◌, ◌++◌, ℕ, Some, IfOk, OnOk, false, length, not};
+ghost use Rattle.std.specs.Prelude.{◌≡◌, ◌&&◌, ◌||◌, ◌<◌, ◌≤◌, ◌++◌, ◌^◌, ℕ, Some, IfOk, OnOk, false, length, not};
 ghost use Rattle.std.specs.List.{filter_map, list_any};
 ghost use Rattle.std.specs.Option.{is_some, option_to_list};
 ghost use Rattle.sd_sid.specs.Mask.{holds};
@@ -110,7 +110,7 @@ pub(crate) fn unnamed(old: &DescriptorRef<'_>, new: &DescriptorRef<'_>) -> Sid
     ensures old { is_named (parts_of old.now) result ≡ false }
     ensures new { is_named (parts_of new.now) result ≡ false }
 {
-    let nobody = made(&[0]);
+    let nobody = made(0, &[0]);
     if !either_names(old, new, &nobody) {
         return nobody;
     }
@@ -134,16 +134,18 @@ fn either_names(old: &DescriptorRef<'_>, new: &DescriptorRef<'_>, sid: &Sid) -> 
 fn numbered(n: u64) -> Sid
     ensures { result ≡ numbered n }
 {
-    made(&[(n / 0x1_0000_0000) as u32, (n % 0x1_0000_0000) as u32])
+    made(0, &[(n / 0x1_0000_0000) as u32, (n % 0x1_0000_0000) as u32])
 }
 
+/// The SID of these parts.
 #[tactic(auto, using(crate::proofs::Unnamed::sid_made, crate::proofs::Unnamed::the_sid))]
-fn made(subs: &[u32]) -> Sid
+pub(crate) fn made(authority: u64, subs: &[u32]) -> Sid
+    requires authority { authority < 2 ^ 48 }
     requires some { 0 < length subs.now }
     requires few { length subs.now ≤ 15 }
-    ensures { result ≡ record { authority = 0; subs = subs.now } }
+    ensures { result ≡ record { authority = authority; subs = subs.now } }
 {
-    Sid::new(0, subs).unwrap()
+    Sid::new(authority, subs).unwrap()
 }
 
 fn subjects_of(

@@ -1,4 +1,5 @@
-//! Access analysis: who is granted a right by a descriptor at all, and who gains or loses one by a change.
+//! Access analysis: who is granted a right by a descriptor at all, who gains or loses one by a change, and which risks
+//! are in it.
 //!
 //! An analysis is about every token that has a base: groups that all tokens in question have. It answers by SIDs. The
 //! rules of the check are those of `sd_check` (specs/Check.antt there).
@@ -27,6 +28,7 @@ mod compare_table;
 mod effect;
 mod laws;
 mod redundancy;
+mod risks;
 mod trial;
 mod who_case;
 mod who_has;
@@ -40,5 +42,6 @@ pub use compare_sides::DescriptorRef;
 pub use effect::has_effect;
 pub use laws::bit_is_its_check;
 pub use redundancy::redundant;
+pub use risks::{Right, Risk, risks_in};
 pub use who_has::{Access, Alternative, Holder, who};
 pub use witness::{PassSids, Witness, two_sids_per_pass_suffice};

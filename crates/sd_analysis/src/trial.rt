@@ -139,7 +139,7 @@ fn differs(
 }
 
 /// The bits that the verdict grants.
-fn granted_by(verdict: Verdict) -> Mask
+pub(crate) fn granted_by(verdict: Verdict) -> Mask
     ensures { result ≡ granted_by verdict }
 {
     match verdict {

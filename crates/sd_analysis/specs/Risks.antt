@@ -1,0 +1,145 @@
+-- The risks in a descriptor: whom it shuts out, what it grants to nearly everybody, and SIDs of no known kind. Each is
+-- found if and only if its condition here holds.
+use Rattle.std.specs.Prelude.{ℕ, zero, suc, ◌+◌, Bool, false, not, ◌&&◌, ◌||◌, ◌==◌, nat_le, if◌then◌else◌}
+use Rattle.std.specs.Prelude.{List, [], ◌∷◌, ◌++◌, length, slice_get, Option, Some, None}
+use Rattle.std.specs.List.{list_any}
+use Rattle.sd_sid.specs.Mask.{holds, mask_of}
+use Rattle.sd_sid.specs.Mapping.{MappingValue, mapped}
+use Rattle.sd_sid.specs.Sid.{SidValue}
+use Rattle.sd_acl.specs.Dacl.{Dacl}
+use Rattle.sd_acl.specs.Descriptor.{DescriptorValue}
+use Rattle.sd_acl.specs.declared.ace.Ace.{Ace}
+use Rattle.sd_acl.specs.declared.descriptor.DaclOf.TheVariants.{Absent, Null, List as Entries}
+use Rattle.sd_check.specs.Check.{verdict}
+use Rattle.sd_check.specs.Token.{no_privileges}
+use Rattle.sd_check.specs.declared.token.GroupState.{GroupState}
+use Rattle.sd_analysis.specs.Effect.{granted_by}
+use Rattle.sd_analysis.specs.declared.risks.Right.TheVariants.{FullControl, Write, Delete, ChangePermissions}
+use Rattle.sd_analysis.specs.declared.risks.Risk.{Risk}
+use Rattle.sd_analysis.specs.declared.risks.Risk.TheVariants.{EmptyList, OwnerCannotRead, Grants, UnknownEntry}
+use Rattle.sd_analysis.specs.declared.risks.Risk.TheVariants.{UnknownOwner, UnknownGroup}
+
+-- ---- rights that change an object
+
+abbrev pub has_all : ℕ → ℕ → Bool
+has_all granted rights = mask_of (λ b. holds rights b && not (holds granted b)) 32 == 0
+
+-- all that GENERIC_ALL stands for, unless that is nothing
+abbrev pub has_full_control : MappingValue → ℕ → Bool
+has_full_control g granted = not (mapped g 0x10000000 == 0) && has_all granted (mapped g 0x10000000)
+
+-- what GENERIC_WRITE stands for, and neither GENERIC_READ nor GENERIC_EXECUTE
+abbrev pub writing : MappingValue → ℕ
+writing g = mask_of (λ b. holds (mapped g 0x40000000) b && not (holds (mapped g 0xA0000000) b)) 32
+
+abbrev pub has_write : MappingValue → ℕ → Bool
+has_write g granted = not (mask_of (λ b. holds granted b && holds (writing g) b) 32 == 0)
+
+-- place 6 is FILE_DELETE_CHILD, as of files, where of the generic rights only GENERIC_ALL stands for it
+abbrev pub has_delete_child : MappingValue → Bool
+has_delete_child g = holds (mapped g 0x10000000) 6 && not (holds (mapped g 0xE0000000) 6)
+
+-- DELETE, place 16, or FILE_DELETE_CHILD
+abbrev pub has_delete : MappingValue → ℕ → Bool
+has_delete g granted = holds granted 16 || (holds granted 6 && has_delete_child g)
+
+-- WRITE_DAC or WRITE_OWNER, places 18 and 19
+abbrev pub has_permissions : ℕ → Bool
+has_permissions granted = holds granted 18 || holds granted 19
+
+-- ---- what a list grants
+
+-- what a token is granted whose user has the SID and whose groups are the base, without privileges
+abbrev pub rights_of : Option SidValue → List Ace → MappingValue → List (SidValue × GroupState) → SidValue → ℕ
+rights_of owner es g base s = granted_by (verdict owner (Some es) g
+    (record { user = s; groups = base; restricting = []; privileges = no_privileges }) 0x02000000)
+
+abbrev pub risk_if : Bool → Risk → List Risk
+risk_if test risk = if test then risk ∷ [] else []
+
+-- full control, or else of the other rights those that the SID has
+abbrev pub grants : MappingValue → SidValue → ℕ → List Risk
+grants g s granted =
+    if has_full_control g granted then Grants s FullControl ∷ []
+    else risk_if (has_write g granted) (Grants s Write)
+    ++ risk_if (has_delete g granted) (Grants s Delete)
+    ++ risk_if (has_permissions granted) (Grants s ChangePermissions)
+
+abbrev pub grants_to : Option SidValue → List Ace → MappingValue → List (SidValue × GroupState) → SidValue → List Risk
+grants_to owner es g base s = grants g s (rights_of owner es g base s)
+
+-- neither all that GENERIC_READ stands for nor WRITE_DAC, by which the list could be made to grant it
+abbrev pub cannot_read : MappingValue → ℕ → Bool
+cannot_read g granted = not (has_all granted (mapped g 0x80000000)) && not (holds granted 18)
+
+abbrev pub owner_risks : Option SidValue → List Ace → MappingValue → List (SidValue × GroupState) → List Risk
+owner_risks None es g base = []
+owner_risks (Some s) es g base = risk_if (cannot_read g (rights_of (Some s) es g base s)) (OwnerCannotRead s)
+
+-- Everyone, Anonymous, Authenticated Users and Users ([MS-DTYP] 2.4.2.4)
+abbrev pub everyone : SidValue
+everyone = record { authority = 1; subs = 0 ∷ [] }
+
+abbrev pub anonymous : SidValue
+anonymous = record { authority = 5; subs = 7 ∷ [] }
+
+abbrev pub authenticated_users : SidValue
+authenticated_users = record { authority = 5; subs = 11 ∷ [] }
+
+abbrev pub users : SidValue
+users = record { authority = 5; subs = 32 ∷ 545 ∷ [] }
+
+-- ---- kinds of SIDs
+
+-- an authority, and from which first sub-authority to which its SIDs are of a known kind: those of [MS-DTYP] 2.4.1.1
+-- and 2.4.2.4, and from 80 to 111 what winnt.h reserves for services and the like
+unfoldable pub known_kinds : List (ℕ × ℕ × ℕ)
+known_kinds =
+    (0, 0, 0) ∷ (1, 0, 0) ∷ (2, 0, 1) ∷ (3, 0, 4) ∷ (4, 0, 0xFFFFFFFF) ∷ (5, 1, 15) ∷ (5, 17, 21) ∷ (5, 32, 33)
+    ∷ (5, 64, 65) ∷ (5, 80, 111) ∷ (5, 113, 114) ∷ (5, 1000, 1000) ∷ (15, 2, 3) ∷ (16, 0, 0xFFFFFFFF)
+    ∷ (17, 0, 0xFFFFFFFF) ∷ (18, 1, 6) ∷ []
+
+abbrev pub is_of_kind : ℕ → ℕ → ℕ × ℕ × ℕ → Bool
+is_of_kind authority first kind = kind.0 == authority && (nat_le kind.1 first && nat_le first kind.2)
+
+abbrev pub is_known : ℕ → List ℕ → Bool
+is_known authority [] = false
+is_known authority (first ∷ subs) = list_any (is_of_kind authority first) known_kinds
+
+abbrev pub unknown_if_any : (SidValue → Risk) → Option SidValue → List Risk
+unknown_if_any risk None = []
+unknown_if_any risk (Some s) = risk_if (not (is_known s.authority s.subs)) (risk s)
+
+-- those of the entry at the place, counted from 1
+abbrev pub risks_at : ℕ → Option Ace → List Risk
+risks_at place None = []
+risks_at place (Some e) = risk_if (not (is_known e.sid.authority e.sid.subs)) (UnknownEntry (place + 1) e)
+
+-- those of the entries below a place
+unfoldable pub entry_risks : List Ace → ℕ → List Risk
+entry_risks es zero = []
+entry_risks es (suc k) = entry_risks es k ++ risks_at k (slice_get es k)
+
+-- ---- all of them
+
+unfoldable pub list_risks : Option SidValue → List Ace → MappingValue → List (SidValue × GroupState) → List Risk
+list_risks owner es g base =
+    risk_if (length es == 0) EmptyList
+    ++ owner_risks owner es g base
+    ++ grants_to owner es g base everyone
+    ++ grants_to owner es g base anonymous
+    ++ grants_to owner es g base authenticated_users
+    ++ grants_to owner es g base users
+    ++ entry_risks es (length es)
+
+-- an absent or a null DACL grants everything to everybody, which is a finding of its own
+abbrev pub dacl_risks : Option SidValue → Dacl → MappingValue → List (SidValue × GroupState) → List Risk
+dacl_risks owner Absent g base = []
+dacl_risks owner Null g base = []
+dacl_risks owner (Entries es) g base = list_risks owner es g base
+
+abbrev pub risks_of : MappingValue → List (SidValue × GroupState) → DescriptorValue → List Risk
+risks_of g base d =
+    dacl_risks d.owner d.dacl g base
+    ++ unknown_if_any UnknownOwner d.owner
+    ++ unknown_if_any UnknownGroup d.group
