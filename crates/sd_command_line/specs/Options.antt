@@ -149,6 +149,7 @@ pub record AreSettings (options : OptionsValue) (settings : Settings) : Type 0 w
   pub kind : settings.kind ≡ kind_given (given options Mapping)
   pub without_sacl : settings.without_sacl ≡ has options WithoutSacl
   pub require_dacl : settings.require_dacl ≡ has options RequireDacl
+  pub risks : settings.risks ≡ false
   pub bytes : settings.bytes ≡ byte_form_of options
 
 -- the value of an option isn't read: the domain's, or else the mapping's

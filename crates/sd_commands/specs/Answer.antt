@@ -37,6 +37,7 @@ use Rattle.sd_commands.specs.Bytes.{bytes_read, form_name, has_sacl, without_sac
 use Rattle.sd_usage.specs.declared.row.Question.{Question}
 use Rattle.sd_usage.specs.declared.row.Question.TheVariants as questions
 use Rattle.sd_commands.specs.MissingDacl.{missing_dacl}
+use Rattle.sd_commands.specs.Risks.{risk_lines}
 use Rattle.sd_commands.specs.Sort.{move_notes, sorted_descriptor}
 use Rattle.sd_commands.specs.Told.{fault_text, sacl_note, sddl_fault_text, told_line, told_wire_fault}
 use Rattle.sd_commands.specs.Told.{wire_fault_text, word_argument, word_at}
@@ -338,7 +339,7 @@ IsLinted lines answer = (answer.printed ≡ or_clean lines) × (answer.told ≡ 
 
 abbrev pub PrintsFindings : Settings → DescriptorValue → List (SidValue × GroupState) → AnswerValue → Type 0
 PrintsFindings settings d base answer = (lines : List ℕ) × IsLintText settings.mapping base d lines
-    × IsLinted lines answer
+    × IsLinted (lines ++ risk_lines settings d base) answer
 
 -- the arguments after the descriptor are a base
 abbrev pub AnswersLint : Settings → List ℕ → List (Bor (List ℕ)) → AnswerValue → Type 0

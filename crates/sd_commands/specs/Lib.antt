@@ -4,6 +4,7 @@ pub mod Bytes
 pub mod Kinds
 pub mod Mapping
 pub mod MissingDacl
+pub mod Risks
 pub mod Sort
 pub mod Told
 pub mod Value

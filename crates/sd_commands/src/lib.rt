@@ -23,6 +23,7 @@ mod loose;
 mod mapping;
 mod missing_dacl;
 mod rights;
+mod risks;
 mod settings;
 mod shown;
 mod sort;

@@ -6,6 +6,7 @@ ghost use Rattle.sd_commands.specs.Answer.{AnswersLint, AnswersOfBase, IsLinted,
 use crate::analysis::group_fault;
 use crate::answer::{Answer, Outcome};
 use crate::descriptor::{Given, noting, read_argument};
+use crate::risks::risk_lines;
 use crate::settings::Settings;
 use sd_acl::Descriptor;
 use sd_analysis::Base;
@@ -58,7 +59,9 @@ fn lint_lines(
         (answer_of answer)) }
 {
     let base = Base { groups };
-    let lines = lint_text(alloc, &settings.mapping, &base, descriptor)?;
+    let mut lines = lint_text(alloc, &settings.mapping, &base, descriptor)?;
+    let risks = risk_lines(alloc, settings, descriptor, &base)?;
+    lines.push_str(risks.as_str())?;
     found(alloc, lines)
 }
 

@@ -1,0 +1,35 @@
+-- The lines of risks, which `--risks` adds to those of `lint`.
+use Rattle.std.specs.Prelude.{ℕ, if◌then◌else◌, List, [], ◌++◌, codes}
+use Rattle.std.specs.Fmt.{decimal}
+use Rattle.std.specs.List.{flat_map}
+use Rattle.sd_sid.specs.Sid.{SidValue}
+use Rattle.sd_acl.specs.Descriptor.{DescriptorValue}
+use Rattle.sd_text.specs.Canon.{entry_canon, full_canon}
+use Rattle.sd_check.specs.declared.token.GroupState.{GroupState}
+use Rattle.sd_analysis.specs.Risks.{risks_of}
+use Rattle.sd_analysis.specs.declared.risks.Right.{Right}
+use Rattle.sd_analysis.specs.declared.risks.Right.TheVariants.{FullControl, Write, Delete, ChangePermissions}
+use Rattle.sd_analysis.specs.declared.risks.Risk.{Risk}
+use Rattle.sd_analysis.specs.declared.risks.Risk.TheVariants.{EmptyList, OwnerCannotRead, Grants, UnknownEntry}
+use Rattle.sd_analysis.specs.declared.risks.Risk.TheVariants.{UnknownOwner, UnknownGroup}
+use Rattle.sd_answer.specs.Answer.{line}
+use Rattle.sd_commands.specs.declared.settings.Settings.{Settings}
+
+abbrev pub has_right : Right → List ℕ
+has_right FullControl = codes " is granted full-control"
+has_right Write = codes " is granted write"
+has_right Delete = codes " is granted delete"
+has_right ChangePermissions = codes " is granted change-permissions"
+
+abbrev pub risk_line : Risk → List ℕ
+risk_line EmptyList = line (codes "an empty DACL grants nothing")
+risk_line (OwnerCannotRead s) = line (codes "the owner " ++ full_canon s ++ codes " has no way to read")
+risk_line (Grants s right) = line (full_canon s ++ has_right right)
+risk_line (UnknownEntry number e) =
+    line (codes "entry " ++ decimal number ++ codes " " ++ entry_canon e ++ codes " names a SID of no known kind")
+risk_line (UnknownOwner s) = line (codes "the owner " ++ full_canon s ++ codes " is of no known kind")
+risk_line (UnknownGroup s) = line (codes "the group " ++ full_canon s ++ codes " is of no known kind")
+
+-- those of a descriptor, where they are asked for
+abbrev pub risk_lines : Settings → DescriptorValue → List (SidValue × GroupState) → List ℕ
+risk_lines settings d base = if settings.risks then flat_map risk_line (risks_of settings.mapping base d) else []
