@@ -1,0 +1,13 @@
+use Rattle.std.proofs.Common.{◌≡◌, [], ◌++◌, append_assoc, append-nil}
+use Rattle.sd_stream.specs.Utf16.{utf16_text}
+use Rattle.sd_stream.proofs.Decoding.{ok_appended}
+use Rattle.sd_stream.proofs.utf16.ByteOrder.decode_last.Goals as goal
+
+pub returns : goal.returns
+returns c =
+    let text = c.in_ok-left.ensures.text in
+    let left = c.in_ok-left.left.now in
+    let all : utf16_text c.args.self c.args.bytes.now ≡ text.0 ++ utf16_text c.args.self left =
+    rw (append-nil c.args.bytes.now, append-nil left) at (text.2 []) in
+    ok_appended c.extend_from_slice.result c.extend_from_slice.new.self.items c.decode.new.text.items c.unfinished.result.now (c.args.text.now.items ++ utf16_text c.args.self c.args.bytes.now) c.extend_from_slice.ensures.items
+    (rw (text.1, c.unfinished.ensures, ← c.in_ok-left.ensures.left, all) (append_assoc c.args.text.now.items text.0 (utf16_text c.args.self left)))
