@@ -14,7 +14,7 @@ use Rattle.sd_answer.specs.declared.answer.Spelling.TheVariants.{Number, Names a
 use Rattle.sd_usage.specs.Table.{option_named, place, takes_option}
 use Rattle.sd_usage.specs.declared.row.OptionName.{OptionName}
 use Rattle.sd_usage.specs.declared.row.OptionName.TheVariants.{Stdin, Names, WithoutSacl, RequireDacl, Base64, Loose}
-use Rattle.sd_usage.specs.declared.row.OptionName.TheVariants.{Percent, Strict, Domain, Aliases, Mapping, Json}
+use Rattle.sd_usage.specs.declared.row.OptionName.TheVariants.{Percent, Risks, Strict, Domain, Aliases, Mapping, Json}
 use Rattle.sd_usage.specs.declared.row.ProgramOption.{ProgramOption}
 use Rattle.sd_usage.specs.declared.row.TheConstants.{OPTION_COUNT}
 use Rattle.sd_commands.specs.Mapping.{GivesMapping, GivesNoMapping, kind_given}
@@ -149,7 +149,7 @@ pub record AreSettings (options : OptionsValue) (settings : Settings) : Type 0 w
   pub kind : settings.kind ≡ kind_given (given options Mapping)
   pub without_sacl : settings.without_sacl ≡ has options WithoutSacl
   pub require_dacl : settings.require_dacl ≡ has options RequireDacl
-  pub risks : settings.risks ≡ false
+  pub risks : settings.risks ≡ has options Risks
   pub bytes : settings.bytes ≡ byte_form_of options
 
 -- the value of an option isn't read: the domain's, or else the mapping's

@@ -104,7 +104,7 @@ impl<'a> Options<'a> {
             kind: kind_given(given),
             without_sacl: self.has(OptionName::WithoutSacl),
             require_dacl: self.has(OptionName::RequireDacl),
-            risks: false,
+            risks: self.has(OptionName::Risks),
             bytes: self.byte_form(),
         })
     }

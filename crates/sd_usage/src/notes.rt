@@ -124,6 +124,13 @@ Prints a line for each finding, or 'clean':
   entry N (..) repeats entry M
   entry N (..) has no effect
   entry N (..) limits the owner
+After '--risks' also:
+  an empty DACL grants nothing
+  the owner SID has no way to read
+  SID is granted full-control, or write, delete, change-permissions
+  entry N (..) names a SID of no known kind
+  the owner SID is of no known kind
+  the group SID is of no known kind
 Without all entries that have no effect, each check has the same verdict.
 
 Statuses:

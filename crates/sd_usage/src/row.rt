@@ -71,6 +71,8 @@ pub enum OptionName {
     WithoutSacl,
     /// `--require-dacl`.
     RequireDacl,
+    /// `--risks`.
+    Risks,
     /// `--base64`.
     Base64,
     /// `--loose`.
@@ -90,7 +92,7 @@ pub enum OptionName {
 }
 
 /// How many options there are.
-pub const OPTION_COUNT: usize = 12;
+pub const OPTION_COUNT: usize = 13;
 
 /// A command, and what follows it.
 #[derive(Clone, Copy)]

@@ -38,6 +38,17 @@ const NAMED_TEXT_OPTIONS: &[OptionName] = &[
     OptionName::Json,
 ];
 
+const LINT_OPTIONS: &[OptionName] = &[
+    OptionName::Stdin,
+    OptionName::WithoutSacl,
+    OptionName::RequireDacl,
+    OptionName::Risks,
+    OptionName::Domain,
+    OptionName::Aliases,
+    OptionName::Mapping,
+    OptionName::Json,
+];
+
 const BYTES_OPTIONS: &[OptionName] = &[
     OptionName::Stdin,
     OptionName::WithoutSacl,
@@ -115,7 +126,7 @@ sdstore verdict 'D:(D;;0x2;;;S-1-5-21-1-2-3-1001)(A;;0x1f01ff;;;S-1-5-21-1-2-3-1
             arguments: Arguments::One(Argument::Descriptor),
             repeated: Some(Argument::Group),
         },
-        MAPPED_TEXT_OPTIONS,
+        LINT_OPTIONS,
         "Prints what is doubtful in a descriptor's DACL",
         "sdstore lint 'D:(A;;FR;;;BU)(D;;FW;;;BU)(A;;0x1;;;BU)'",
     ),
@@ -274,6 +285,17 @@ but not of a script's lines",
             excludes: None,
         },
         "a descriptor without a DACL, or with a null one, is a fault: either grants everything",
+    ),
+    (
+        "--risks",
+        ProgramOption {
+            name: OptionName::Risks,
+            value: None,
+            excludes: None,
+        },
+        "\
+also reports risks: what Everyone, Anonymous, Authenticated Users and Users are granted to change
+the object, an empty list, an owner without a way to read, and SIDs of no known kind",
     ),
     (
         "--base64",
