@@ -11,7 +11,7 @@ use Rattle.sd_script.specs.declared.tally.Tally.{Tally}
 use Rattle.sd_script_audit.specs.Audit.{PrintsAuditAndCounts}
 use Rattle.sd_script.specs.Ids.{PrintsAndCountsIn, tagged}
 use Rattle.sd_lines.specs.Answers.{PrintsAndLeaves}
-use Rattle.sd_lines.specs.Lines.{unmarked}
+use Rattle.sd_stream.specs.Decoder.{decoded}
 use Rattle.sd_lines.specs.declared.ending.Ending.{Ending}
 use Rattle.sd_lines.specs.declared.form.Form.{Form as LineForm}
 use Rattle.sd_command_line.specs.Scripts.{IsToldOfScript, manner_of, script_outcome}
@@ -24,9 +24,8 @@ use Rattle.sd_command_line.specs.CommandLine.{CommandLineValue, InvocationValue,
 use Rattle.sd_command_line.specs.CommandLine.{Serve as AsksServe, Audit as AsksAudit, Each as AsksEach, Help, Version}
 use Rattle.sd_command_line.specs.CommandLine.{RequestValue}
 use Rattle.sd_command_line.specs.Each.{after_key, has_key, key_of, outcome_of_lines, told_of_lines, with_line}
-use Rattle.sd_command_line.specs.Input.{is_blank, marked_utf16, utf16_text, without_end}
+use Rattle.sd_command_line.specs.Input.{is_blank, is_utf16, without_end}
 use Rattle.sd_command_line.specs.declared.flags.Lines.{Lines}
-use Rattle.sd_command_line.specs.declared.input.ByteOrder.{ByteOrder}
 use Rattle.sd_command_line.specs.declared.each.Progress.{Progress}
 use Rattle.sd_command_line.specs.declared.each.Progress.TheVariants.{NoLine}
 use Rattle.sd_command_line.specs.Options.{OptionsValue, GivesSettings, is_json, is_strict}
@@ -111,23 +110,17 @@ AnswersFilled settings request text answer = MatchBool (is_blank text)
     (IsInputFault (codes "blank") (codes "blank") answer)
     (AnswersQuestion settings request.question text request.arguments answer)
 
--- the same of bytes that are a text in UTF-8, or aren't
-abbrev pub AnswersUtf8 : Settings → RequestValue → List ℕ → AnswerValue → Type 0
-AnswersUtf8 settings request bytes answer =
-    (IsUtf8 bytes × AnswersFilled settings request bytes answer)
-    ⊎ ((IsUtf8 bytes → ⊥) × IsInputFault (codes "utf8") (codes "not UTF-8") answer)
-
--- the same of bytes that are a text in UTF-16, or aren't
-abbrev pub AnswersUtf16 : Settings → RequestValue → ByteOrder × List ℕ → AnswerValue → Type 0
-AnswersUtf16 settings request (order, bytes) answer = MatchOption (utf16_text order bytes)
+-- an input that isn't in its encoding
+abbrev pub IsNoText : List ℕ → AnswerValue → Type 0
+IsNoText input answer = MatchBool (is_utf16 input)
     (IsInputFault (codes "utf16") (codes "not UTF-16") answer)
-    (λ text. AnswersUtf8 settings request (without_end text) answer)
+    (IsInputFault (codes "utf8") (codes "not UTF-8") answer)
 
--- the answer to an input, by its byte order mark
+-- the answer to the text of an input. What is no character in it isn't UTF-8
 abbrev pub AnswersInput : Settings → RequestValue → List ℕ → AnswerValue → Type 0
-AnswersInput settings request input answer = MatchOption (marked_utf16 input)
-    (AnswersUtf8 settings request (without_end (unmarked input)) answer)
-    (λ marked. AnswersUtf16 settings request marked answer)
+AnswersInput settings request input answer =
+    (IsUtf8 (without_end (decoded input)) × AnswersFilled settings request (without_end (decoded input)) answer)
+    ⊎ ((IsUtf8 (without_end (decoded input)) → ⊥) × IsNoText input answer)
 
 -- the same of the input that a reader gives, which is its bytes where they are known
 abbrev pub AnswersGiven : Option (List ℕ) → RequestValue → Settings → AnswerValue → Type 0

@@ -1,5 +1,5 @@
 -- The parts of an input, one after the other.
-use Rattle.std.proofs.Common.{◌≡◌, ℕ, ◌+◌, ◌<◌, Bool, true, false, ◌&&◌, cond, List, [], ◌∷◌, ◌++◌, length, Option, refl, sym, ◌∙◌, ap, append_assoc, append-nil, subst}
+use Rattle.std.proofs.Common.{◌≡◌, ℕ, ◌+◌, ◌<◌, Bool, true, false, ◌&&◌, cond, List, [], ◌++◌, length, Option, refl, sym, ◌∙◌, ap, append_assoc, append-nil}
 use Rattle.std.specs.Prelude.{⊤}
 use Rattle.std.specs.Io.KnownBytes.{Appends}
 use Rattle.std.proofs.KnownBytes.{Appends-nil, Appends-trans}
@@ -9,11 +9,11 @@ use Rattle.sd_stream.specs.declared.error.RunError.TheVariants.{Read, TooLong, W
 use Rattle.sd_stream.specs.declared.input.TheConstants.{MAX_INPUT_BYTES}
 use Rattle.sd_lines.specs.Answers.{Answering, of_form}
 use Rattle.sd_lines.specs.Lines.{HasNoEnd, IsLong}
-use Rattle.sd_lines.specs.Steps.{FailsIn, Holds, IsKept, StopsAt, StopsIn, Takes, TakesFrom, kept_bytes}
+use Rattle.sd_lines.specs.Steps.{FailsIn, Holds, IsKept, StopsAt, StopsIn, Takes, TakesFrom}
 use Rattle.sd_lines.specs.declared.begun.Begun.{Begun}
-use Rattle.sd_lines.specs.declared.begun.TheConstants.{MARK_AND_RETURN}
+use Rattle.sd_lines.specs.declared.begun.TheConstants.{RETURN}
 use Rattle.sd_lines.specs.declared.form.Form.{Form}
-use Rattle.sd_lines.proofs.Steps.{beginning_after, takes_as, takes_before, takes_none, takes_on}
+use Rattle.sd_lines.proofs.Steps.{beginning_after, takes_before, takes_none, takes_on}
 
 -- a line that ends the run is longer than the longest
 pub stops_is : (form : Form) (line : Begun) → (form.stops_at_long && line.is_over) ≡ true → form.stops_at_long ≡ true
@@ -26,7 +26,7 @@ pub long_line : (form : Form) (line : Begun) (begun : List ℕ) → (form.stops_
     → Holds form line begun → MAX_INPUT_BYTES < length begun
 long_line form line begun is holds = by_tests form.stops_at_long line.is_over is holds where
   by_tests : (stops is_over : Bool) → (stops && is_over) ≡ true
-      → IsKept (cond stops MAX_INPUT_BYTES (MAX_INPUT_BYTES + MARK_AND_RETURN)) is_over line.bytes.items begun
+      → IsKept (cond stops MAX_INPUT_BYTES (MAX_INPUT_BYTES + RETURN)) is_over line.bytes.items begun
       → MAX_INPUT_BYTES < length begun
   by_tests true true is holds = holds
   by_tests true false is holds = absurd (cc is)
@@ -41,18 +41,16 @@ module _ {State : Type 0} (form : Form) (Answer : Answering State) where
     fails.0,
     λ begun holds none. (
       old,
-      line.is_first,
-      begun ++ bytes,
-      takes_none (of_form form Answer) form.ending (IsLong form.ending) (Appends now now) old line.is_first (begun ++ bytes)
+        begun ++ bytes,
+      takes_none (of_form form Answer) form.ending (IsLong form.ending) (Appends now now) old (begun ++ bytes)
           (fails.1 begun holds none) (Appends-nil now),
     ),
   )
   fails_stop old line bytes now Write fails = absurd fails
   fails_stop old line bytes now Memory fails = λ begun holds none. (
     old,
-    line.is_first,
     begun ++ bytes,
-    takes_none (of_form form Answer) form.ending (λ left. ⊤) (Appends now now) old line.is_first (begun ++ bytes) tt (Appends-nil now),
+    takes_none (of_form form Answer) form.ending (λ left. ⊤) (Appends now now) old (begun ++ bytes) tt (Appends-nil now),
   )
   fails_stop old line bytes now Thread fails = absurd fails
 
@@ -65,8 +63,7 @@ module _ {State : Type 0} (form : Form) (Answer : Answering State) where
   taken_stops Behind Wrote Writes old new line after bytes takes rest made = λ begun holds none.
       let t = takes begun holds none in (
         new,
-        after.is_first,
-        t.0,
+            t.0,
         record {
           ended = t.2.ended;
           printed = t.2.printed;
@@ -84,12 +81,7 @@ module _ {State : Type 0} (form : Form) (Answer : Answering State) where
       (begun : List ℕ) → Holds form before begun → HasNoEnd form.ending begun
       → (left : List ℕ) × Holds form line left × HasNoEnd form.ending left
       × Takes (of_form form Answer) form.ending (λ behind. ⊤) Wrote
-      old before.is_first (begun ++ bytes) new line.is_first (left ++ rest)
-
-  pub some_none : (Wrote : List ℕ → Type 0) (old : State) (line : Begun) (bytes : List ℕ) → Wrote []
-      → TakesSome Wrote old line bytes old line bytes
-  some_none Wrote old line bytes wrote begun holds none =
-      (begun, holds, none, takes_none (of_form form Answer) form.ending (λ left. ⊤) Wrote old line.is_first (begun ++ bytes) tt wrote)
+      old (begun ++ bytes) new (left ++ rest)
 
   regroup : (left rest part after : List ℕ) → rest ≡ part ++ after → (left ++ part) ++ after ≡ left ++ rest
   regroup left rest part after is = append_assoc left part after ∙ ap (λ l. left ++ l) (sym is)
@@ -102,13 +94,13 @@ module _ {State : Type 0} (form : Form) (Answer : Answering State) where
   some_more a b c old mid new before line next bytes rest part after some is takes begun holds none =
       let s = some begun holds none in
       let t = takes s.0 s.1 s.2 in
-      let more = takes_before (of_form form Answer) form.ending (HasNoEnd form.ending) (λ left. ⊤) (Appends b c) mid new line.is_first next.is_first
+      let more = takes_before (of_form form Answer) form.ending (HasNoEnd form.ending) (λ left. ⊤) (Appends b c) mid new
       (s.0 ++ part) t.0 after t.2 tt in (
         t.0,
         t.1,
         t.2.rest,
         takes_on (of_form form Answer) form.ending (λ left. ⊤) (λ left. ⊤) (Appends a b) (Appends b c) (Appends a c)
-            old mid new before.is_first line.is_first next.is_first (begun ++ bytes) (s.0 ++ rest) (t.0 ++ after) s.3
+            old mid new (begun ++ bytes) (s.0 ++ rest) (t.0 ++ after) s.3
             (rw (regroup s.0 rest part after is) at more)
             (λ one two first second. Appends-trans a b c one two first second),
       )
@@ -142,17 +134,16 @@ module _ {State : Type 0} (form : Form) (Answer : Answering State) where
   stops_later Behind After Wrote Both a b old mid before line bytes rest part after some is stop behind both begun holds none =
       let s = some begun holds none in
       let t = stop s.0 s.1 s.2 in
-      let more = takes_before (of_form form Answer) form.ending Behind After Wrote mid t.0 line.is_first t.1
-      (s.0 ++ part) t.2 after t.3 (behind t.2 t.3.rest) in (
+      let more = takes_before (of_form form Answer) form.ending Behind After Wrote mid t.0
+      (s.0 ++ part) t.1 after t.2 (behind t.1 t.2.rest) in (
         t.0,
-        t.1,
-        t.2 ++ after,
+        t.1 ++ after,
         takes_on (of_form form Answer) form.ending (λ left. ⊤) After (Appends a b) Wrote Both
-            old mid t.0 before.is_first line.is_first t.1 (begun ++ bytes) (s.0 ++ rest) (t.2 ++ after) s.3
+            old mid t.0 (begun ++ bytes) (s.0 ++ rest) (t.1 ++ after) s.3
             (rw (regroup s.0 rest part after is) at more) both,
       )
 
-  still_long : (after left : List ℕ) → IsLong form.ending left → IsLong form.ending (left ++ after)
+  pub still_long : (after left : List ℕ) → IsLong form.ending left → IsLong form.ending (left ++ after)
   still_long after left (line, more, is, none, long) =
       (line, more ++ after, ap (λ l. l ++ after) is ∙ append_assoc line more after, none, long)
 

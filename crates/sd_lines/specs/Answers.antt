@@ -1,6 +1,6 @@
 -- What the lines of an input are answered by.
 use Rattle.std.specs.Prelude.{◌≡◌, ℕ, List, [], ◌∷◌, ◌++◌, Option}
-use Rattle.sd_lines.specs.Lines.{asked_of, lines_of}
+use Rattle.sd_lines.specs.Lines.{asked_of, lines_in, lines_of}
 use Rattle.sd_lines.specs.declared.form.Form.{Form}
 
 -- one line after the other: what each prints, and the state that it leaves for the next
@@ -24,5 +24,7 @@ abbrev pub PrintsAndLeaves : {State : Type 0} → Form → Answering State → S
 PrintsAndLeaves form Answer old input printed last =
     AreAnswered (of_form form Answer) old (lines_of form input) printed last
 
+-- the answers to all lines of a text
 abbrev pub Prints : {State : Type 0} → Form → Answering State → State → List ℕ → List ℕ → Type 0
-Prints {State} form Answer old input printed = (last : State) × PrintsAndLeaves form Answer old input printed last
+Prints {State} form Answer old text printed =
+    (last : State) × AreAnswered (of_form form Answer) old (lines_in form.ending text) printed last

@@ -1,8 +1,9 @@
 -- The lines of an input.
-use Rattle.std.specs.Prelude.{◌≡◌, ◌⊎◌, ℕ, ◌<◌, ◌==◌, nat_le, Bool, true, false, ◌&&◌, ◌||◌, if◌then◌else◌, All, List}
+use Rattle.std.specs.Prelude.{◌≡◌, ◌⊎◌, ℕ, ◌<◌, ◌==◌, nat_le, false, ◌||◌, if◌then◌else◌, All, List}
 use Rattle.std.specs.Prelude.{[], ◌∷◌, ◌++◌, length, Option, Some, None}
 use Rattle.std.specs.List.{slice_split}
 use Rattle.std.specs.Str.Lines.{lines_of_parts, strip_carriage_return}
+use Rattle.sd_stream.specs.Decoder.{decoded}
 use Rattle.sd_stream.specs.declared.input.TheConstants.{MAX_INPUT_BYTES}
 use Rattle.sd_lines.specs.declared.ending.Ending.{Ending}
 use Rattle.sd_lines.specs.declared.ending.Ending.TheVariants.{Feed, Zero}
@@ -28,20 +29,13 @@ lines_between Zero (part ∷ next ∷ parts) = part ∷ lines_between Zero (next
 abbrev pub lines_in : Ending → List ℕ → List (List ℕ)
 lines_in ending text = lines_between ending (slice_split (λ b. b == end_byte ending) text)
 
--- the text without a byte order mark before it
-abbrev pub unmarked : List ℕ → List ℕ
-unmarked [] = []
-unmarked (a ∷ []) = a ∷ []
-unmarked (a ∷ b ∷ []) = a ∷ b ∷ []
-unmarked (a ∷ b ∷ c ∷ rest) = if (c == 191) && (b == 187) && (a == 239) then rest else a ∷ b ∷ c ∷ rest
-
-abbrev pub front_of : Bool → List ℕ → List ℕ
-front_of true text = unmarked text
-front_of false text = text
+-- the text of an input: its bytes, or what they are by the byte order mark that it begins with
+abbrev pub text_of : Form → List ℕ → List ℕ
+text_of form input = if form.skips_mark then decoded input else input
 
 -- the lines of an input
 abbrev pub lines_of : Form → List ℕ → List (List ℕ)
-lines_of form input = lines_in form.ending (front_of form.skips_mark input)
+lines_of form input = lines_in form.ending (text_of form input)
 
 -- what is asked of a line: its text; none of one that is too long and doesn't end the run
 abbrev pub asked_of : Form → List ℕ → Option (List ℕ)

@@ -6,22 +6,16 @@ use Rattle.sd_stream.specs.declared.error.RunError.{RunError}
 use Rattle.sd_stream.specs.declared.error.RunError.TheVariants.{Read, TooLong, Write, Memory, Thread}
 use Rattle.sd_stream.specs.declared.input.TheConstants.{MAX_INPUT_BYTES}
 use Rattle.sd_lines.specs.Answers.{Answering, AreAnswered, of_form}
-use Rattle.sd_lines.specs.Lines.{HasNoEnd, IsEnded, IsLong, ended_line, front_of, lines_in}
+use Rattle.sd_lines.specs.Lines.{HasNoEnd, IsEnded, IsLong, lines_in}
 use Rattle.sd_lines.specs.declared.begun.Begun.{Begun}
-use Rattle.sd_lines.specs.declared.begun.TheConstants.{MARK_AND_RETURN}
+use Rattle.sd_lines.specs.declared.begun.TheConstants.{RETURN}
 use Rattle.sd_lines.specs.declared.ending.Ending.{Ending}
 use Rattle.sd_lines.specs.declared.form.Form.{Form}
 
--- ---- a line that hasn't ended, the first one or another
-
-abbrev pub line_from : Bool → Ending → List ℕ → List ℕ
-line_from is_first ending begun = ended_line ending (front_of is_first begun)
-
-abbrev pub lines_from : Bool → Ending → List ℕ → List (List ℕ)
-lines_from is_first ending text = lines_in ending (front_of is_first text)
+-- ---- a line that hasn't ended
 
 abbrev pub kept_bytes : Form → ℕ
-kept_bytes form = if form.stops_at_long then MAX_INPUT_BYTES else MAX_INPUT_BYTES + MARK_AND_RETURN
+kept_bytes form = if form.stops_at_long then MAX_INPUT_BYTES else MAX_INPUT_BYTES + RETURN
 
 -- the kept bytes are those of the line, or the line has more than are kept
 abbrev pub IsKept : ℕ → Bool → List ℕ → List ℕ → Type 0
@@ -39,21 +33,21 @@ goes_on form line = (form.stops_at_long && line.is_over) ≡ false
 
 -- whatever the lines after it are answered by, the text puts this before it
 abbrev pub Advances : {State : Type 0} → (State → List ℕ → List ℕ → State → Type 0)
-    → Ending → State → Bool → List ℕ → List ℕ → State → Bool → Type 0
-Advances {State} IsNext ending old was_first text printed new is_first =
-    (rest : List ℕ) (back : List ℕ) (last : State) → AreAnswered IsNext new (lines_from is_first ending rest) back last
-    → AreAnswered IsNext old (lines_from was_first ending (text ++ rest)) (printed ++ back) last
+    → Ending → State → List ℕ → List ℕ → State → Type 0
+Advances {State} IsNext ending old text printed new =
+    (rest : List ℕ) (back : List ℕ) (last : State) → AreAnswered IsNext new (lines_in ending rest) back last
+    → AreAnswered IsNext old (lines_in ending (text ++ rest)) (printed ++ back) last
 
 -- the lines that ended in the bytes are answered, and the bytes after them are left
 pub record Takes {State : Type 0} (IsNext : State → List ℕ → List ℕ → State → Type 0) (ending : Ending)
     (Behind : List ℕ → Type 0) (Wrote : List ℕ → Type 0)
-    (old : State) (was_first : Bool) (bytes : List ℕ) (new : State) (is_first : Bool) (left : List ℕ) : Type 0 where
+    (old : State) (bytes : List ℕ) (new : State) (left : List ℕ) : Type 0 where
   pub ended : List ℕ
   pub printed : List ℕ
   pub parts : bytes ≡ ended ++ left
   pub whole : IsEnded ending ended
   pub rest : Behind left
-  pub advances : Advances IsNext ending old was_first ended printed new is_first
+  pub advances : Advances IsNext ending old ended printed new
   pub wrote : Wrote printed
 
 -- the same of any beginning of a line that is held, and of the bytes after it
@@ -63,15 +57,15 @@ TakesFrom form Answer Wrote old before bytes new line =
     (begun : List ℕ) → Holds form before begun → HasNoEnd form.ending begun
     → (left : List ℕ) × Holds form line left
     × Takes (of_form form Answer) form.ending (HasNoEnd form.ending) Wrote
-    old before.is_first (begun ++ bytes) new line.is_first left
+    old (begun ++ bytes) new left
 
 -- the same, up to where an error came
 abbrev pub StopsAt : {State : Type 0} → Form → Answering State → (List ℕ → Type 0) → (List ℕ → Type 0)
     → State → Begun → List ℕ → Type 0
 StopsAt {State} form Answer Behind Wrote old before bytes =
     (begun : List ℕ) → Holds form before begun → HasNoEnd form.ending begun
-    → (new : State) × (is_first : Bool) × (left : List ℕ)
-    × Takes (of_form form Answer) form.ending Behind Wrote old before.is_first (begun ++ bytes) new is_first left
+    → (new : State) × (left : List ℕ)
+    × Takes (of_form form Answer) form.ending Behind Wrote old (begun ++ bytes) new left
 
 abbrev pub StopsIn : {State : Type 0} → Form → Answering State → State → Begun → List ℕ
     → Option (List ℕ) → Option (List ℕ) → RunError → Type 0
@@ -101,7 +95,7 @@ abbrev pub AnswersLast : {State : Type 0} → Form → Answering State → (List
 AnswersLast form Answer Wrote old line new =
     (begun : List ℕ) → Holds form line begun → HasNoEnd form.ending begun
     → (printed : List ℕ)
-    × AreAnswered (of_form form Answer) old (lines_from line.is_first form.ending begun) printed new × Wrote printed
+    × AreAnswered (of_form form Answer) old (lines_in form.ending begun) printed new × Wrote printed
 
 abbrev pub FailsLast : {State : Type 0} → Form → Answering State → State → Begun
     → Option (List ℕ) → Option (List ℕ) → RunError → Type 0

@@ -1,15 +1,16 @@
 //! A line that is joined from the parts in which it is read.
 
 ghost use Rattle.std.specs.Prelude.{◌≡◌, ◌++◌, ◌&&◌, ◌<◌, ℕ, List, [], true, false, OnOk, length, option_map};
-ghost use Rattle.sd_lines.specs.Lines.{asked_of, front_of, unmarked};
-ghost use Rattle.sd_lines.specs.Steps.{Holds, kept_bytes, line_from};
+ghost use Rattle.sd_lines.specs.Lines.{asked_of, ended_line};
+ghost use Rattle.sd_lines.specs.Steps.{Holds, kept_bytes};
+ghost use Rattle.sd_lines.specs.declared.form.Form.{Form};
 
 use crate::form::Form;
 use sd_stream::MAX_INPUT_BYTES;
 use std::alloc::{AllocError, Global};
 
-/// The bytes that a line may have over the most: a mark of three bytes and a carriage return aren't part of it.
-const MARK_AND_RETURN: usize = 4;
+/// The bytes that a line may have over the most: a carriage return isn't part of it.
+const RETURN: usize = 1;
 
 /// A line that hasn't ended.
 #[derive(Debug, Drop)]
@@ -17,29 +18,24 @@ pub(crate) struct Begun {
     /// Its bytes, where they aren't over the most that are kept.
     bytes: Vec<u8>,
     is_over: bool,
-    /// Whether a byte order mark before it is no part of it.
-    is_first: bool,
 }
 
 impl Begun {
-    /// The first line of an input, of which nothing is read.
-    pub(crate) fn new(alloc: Global, form: Form) -> Begun
-        ensures holds { Holds form result [] }
-        ensures first { result.is_first ≡ form.skips_mark }
+    /// A line of which nothing is read.
+    pub(crate) fn new(alloc: Global) -> Begun
+        ensures holds { (form : Form) → Holds form result [] }
         ensures within { result.is_over ≡ false }
     {
         Begun {
             bytes: Vec::new(alloc),
             is_over: false,
-            is_first: form.skips_mark,
         }
     }
 
     /// A part of it was read.
     pub(crate) fn grow(&mut self, form: Form, part: &[u8]) -> Result<(), AllocError>
-        ensures holds { OnOk result ((begun : List ℕ) → Holds form self.old begun
+        ensures { OnOk result ((begun : List ℕ) → Holds form self.old begun
             → Holds form self.new (begun ++ part.now)) }
-        ensures first { self.new.is_first ≡ self.old.is_first }
     {
         if self.is_over || part.len() > kept_bytes(form).saturating_sub(self.bytes.len()) {
             self.is_over = true;
@@ -49,14 +45,12 @@ impl Begun {
     }
 
     /// It has ended, and the next one begins.
-    pub(crate) fn end(&mut self, form: Form)
-        ensures holds { Holds form self.new [] }
-        ensures first { self.new.is_first ≡ false }
+    pub(crate) fn end(&mut self)
+        ensures holds { (form : Form) → Holds form self.new [] }
         ensures within { self.new.is_over ≡ false }
     {
         self.bytes.clear();
         self.is_over = false;
-        self.is_first = false;
     }
 
     /// Whether it is too long, and that ends the run.
@@ -70,45 +64,33 @@ impl Begun {
     pub(crate) fn line(&self, form: Form) -> Option<&[u8]>
         requires { (form.stops_at_long && self.now.is_over) ≡ false }
         ensures { (begun : List ℕ) → Holds form self.now begun
-            → option_map (λ bytes. bytes.now) result ≡ asked_of form (line_from self.now.is_first form.ending begun) }
+            → option_map (λ bytes. bytes.now) result ≡ asked_of form (ended_line form.ending begun) }
     {
         if self.is_over {
             return None;
         }
-        form.asked(form.ending.line(self.front()))
+        form.asked(form.ending.line(&self.bytes))
     }
 
     /// What is asked of the line, which the end of the input ended.
     pub(crate) fn last(&self, form: Form) -> Option<&[u8]>
         requires { (form.stops_at_long && self.now.is_over) ≡ false }
         ensures { (begun : List ℕ) → Holds form self.now begun
-            → option_map (λ bytes. bytes.now) result ≡ asked_of form (front_of self.now.is_first begun) }
+            → option_map (λ bytes. bytes.now) result ≡ asked_of form begun }
     {
         if self.is_over {
             return None;
         }
-        form.asked(self.front())
+        form.asked(&self.bytes)
     }
 
     /// Whether there is no such line.
-    pub(crate) fn is_empty(&self, form: Form) -> bool
-        ensures none { result ≡ true → (begun : List ℕ) → Holds form self.now begun
-            → front_of self.now.is_first begun ≡ [] }
-        ensures some { result ≡ false → (begun : List ℕ) → Holds form self.now begun
-            → 0 < length (front_of self.now.is_first begun) }
+    pub(crate) fn is_empty(&self) -> bool
+        ensures none { result ≡ true → (form : Form) (begun : List ℕ) → Holds form self.now begun → begun ≡ [] }
+        ensures some { result ≡ false → (form : Form) (begun : List ℕ) → Holds form self.now begun
+            → 0 < length begun }
     {
-        !self.is_over && self.front().is_empty()
-    }
-
-    /// What is kept, without the mark before a first line.
-    fn front(&self) -> &[u8]
-        ensures { result.now ≡ front_of self.now.is_first self.now.bytes.items }
-    {
-        if self.is_first {
-            without_mark(&self.bytes)
-        } else {
-            &self.bytes
-        }
+        !self.is_over && self.bytes.is_empty()
     }
 }
 
@@ -119,17 +101,6 @@ fn kept_bytes(form: Form) -> usize
     if form.stops_at_long {
         MAX_INPUT_BYTES
     } else {
-        MAX_INPUT_BYTES + MARK_AND_RETURN
-    }
-}
-
-/// The text without a byte order mark before it.
-fn without_mark(text: &[u8]) -> &[u8]
-    ensures { result.now ≡ unmarked text.now }
-{
-    match text {
-        [first, second, third, rest @ ..] if *third == 0xbf && *second == 0xbb && *first == 0xef =>
-            rest,
-        _ => text,
+        MAX_INPUT_BYTES + RETURN
     }
 }

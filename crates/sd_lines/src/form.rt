@@ -1,17 +1,20 @@
 //! What lines are, and when their answers are written.
 
-ghost use Rattle.std.specs.Prelude.{◌≡◌, ◌<◌, ◌++◌, length, option_map};
-ghost use Rattle.sd_lines.specs.Lines.{asked_of};
+ghost use Rattle.std.specs.Prelude.{◌≡◌, ◌<◌, ◌++◌, ℕ, List, length, option_map};
+ghost use Rattle.sd_stream.specs.Decoder.{text_after};
+ghost use Rattle.sd_lines.specs.Lines.{asked_of, text_of};
 
 use crate::ending::Ending;
-use sd_stream::MAX_INPUT_BYTES;
+use sd_stream::{Decoder, MAX_INPUT_BYTES};
+use std::alloc::Global;
 
 /// What the lines of an input are, and when their answers are written.
 #[derive(Clone, Copy, Debug, PartialEq, Eq)]
 pub struct Form {
     /// What ends a line.
     pub ending: Ending,
-    /// Whether a byte order mark before the first line is no part of it.
+    /// Whether a byte order mark at the front is no part of the first line, and says how the input is encoded. If not,
+    /// the lines are of its bytes as they are.
     pub skips_mark: bool,
     /// Whether a line of more than 16,777,216 bytes ends the run. If not, it is answered without its text.
     pub stops_at_long: bool,
@@ -21,6 +24,17 @@ pub struct Form {
 }
 
 impl Form {
+    /// An input of which nothing has come.
+    pub(crate) fn decoder(self, alloc: Global) -> Decoder
+        ensures { (input : List ℕ) → text_after result input ≡ text_of self input }
+    {
+        if self.skips_mark {
+            Decoder::new(alloc)
+        } else {
+            Decoder::utf8(alloc)
+        }
+    }
+
     /// What is asked of a line: its text, or `None` where it is too long and that doesn't end the run.
     pub(crate) fn asked(self, line: &[u8]) -> Option<&[u8]>
         ensures { option_map (λ bytes. bytes.now) result ≡ asked_of self line.now }

@@ -98,7 +98,7 @@ fn append_answers<A: Answers>(
         return Err(RunError::TooLong);
     }
     answers.answer(alloc, state, line.line(form), text)?;
-    line.end(form);
+    line.end();
     let left = answer_ended(alloc, answers, state, form, after, text)?;
     line.grow(form, left)?;
     Ok(())
@@ -123,7 +123,7 @@ pub(crate) fn answer_last<A: Answers, W: Write>(
         (W.contents (inner_of writer.old)) (W.contents (inner_of writer.new))) }
     ensures failed { has_failed writer.new ≡ (has_failed writer.old || is_write_error result) }
 {
-    if line.is_empty(form) {
+    if line.is_empty() {
         return Ok(());
     }
     answers.answer(alloc, state, line.last(form), text)?;

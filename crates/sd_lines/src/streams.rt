@@ -44,17 +44,26 @@ pub fn answer_lines<A: Answers, R: Read, W: Write>(
     ensures read { has_failed reader.new ≡ (has_failed reader.old || is_read_error result) }
     ensures write { has_failed writer.new ≡ (has_failed writer.old || is_write_error result) }
 {
-    let mut line = Begun::new(alloc, form);
+    let mut line = Begun::new(alloc);
+    let mut decoder = form.decoder(alloc);
+    let mut decoded = Vec::new(alloc);
     let mut text = Vec::new(alloc);
     let mut buffer = [0u8; BUFFER_BYTES];
     for _ in 0..u64::MAX {
+        decoded.clear();
         match reader.read(&mut buffer) {
             Err(_) => return Err(RunError::Read),
-            Ok(0) => return answer_last(alloc, answers, state, form, &line, &mut text, writer),
-            Ok(count) => {
-                let bytes = &buffer[..count];
+            Ok(0) => {
+                decoder.end(&mut decoded)?;
                 answer_parts(
-                    alloc, answers, state, form, &mut line, bytes, &mut text, writer,
+                    alloc, answers, state, form, &mut line, &decoded, &mut text, writer,
+                )?;
+                return answer_last(alloc, answers, state, form, &line, &mut text, writer);
+            }
+            Ok(count) => {
+                decoder.decode(alloc, &buffer[..count], &mut decoded)?;
+                answer_parts(
+                    alloc, answers, state, form, &mut line, &decoded, &mut text, writer,
                 )?;
             }
         }

@@ -1,6 +1,6 @@
 //! The lines of a text, and their answers.
 
-ghost use Rattle.std.specs.Prelude.{◌≡◌, ◌++◌, ℕ, List, false, IfOk, OnOk};
+ghost use Rattle.std.specs.Prelude.{◌≡◌, ◌++◌, ℕ, List, IfOk, OnOk};
 ghost use Rattle.sd_lines.specs.Answers.{AreAnswered, of_form};
 ghost use Rattle.sd_lines.specs.Lines.{HasNoEnd, lines_in};
 ghost use Rattle.sd_lines.specs.Steps.{Takes};
@@ -39,7 +39,7 @@ pub(crate) fn answer_ended<'a, A: Answers>(
     printed: &mut Vec<u8>,
 ) -> Result<&'a [u8], AllocError>
     ensures { IfOk result (λ left. Takes (of_form form (A.answers answers.now)) form.ending (HasNoEnd form.ending)
-        (λ added. printed.new.items ≡ printed.old.items ++ added) state.old false bytes.now state.new false left.now) }
+        (λ added. printed.new.items ≡ printed.old.items ++ added) state.old bytes.now state.new left.now) }
 {
     let mut rest = bytes;
     'lines: loop {

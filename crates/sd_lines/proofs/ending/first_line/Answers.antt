@@ -1,4 +1,4 @@
-use Rattle.std.proofs.Common.{◌≡◌, ◌-◌, ◌∷◌, [], length, take, drop, ◌∙◌, ap, sym, false, arith}
+use Rattle.std.proofs.Common.{length, ◌∙◌, ap, arith}
 use Rattle.std.proofs.lemmas.List.{drop_all, take_rest}
 use Rattle.sd_lines.specs.Lines.{lines_in}
 use Rattle.sd_lines.proofs.Cutting.{lines_cut, lines_last, no_lines}
@@ -13,4 +13,4 @@ pub returns-in-None-clause-lines : goal.returns-in-None-clause-lines
 returns-in-None-clause-lines c =
     let text = c.args.text.now in
     rw (take_rest text (length text), drop_all (length text) text (omega arith), no_lines c.args.ending)
-    (lines_last false c.args.ending text c.in-None.ensures.none c.requires)
+    (lines_last c.args.ending text c.in-None.ensures.none c.requires)

@@ -1,7 +1,6 @@
-use Rattle.std.proofs.Common.{◌≡◌, ◌++◌, ℕ, List, refl, ◌∙◌, ap}
+use Rattle.std.proofs.Common.{◌≡◌, ◌++◌, ◌∙◌, ap}
 use Rattle.std.proofs.lemmas.Result.{on_ok_weaker}
 use Rattle.sd_lines.specs.Answers.{of_form}
-use Rattle.sd_lines.specs.Steps.{AnswersLast}
 use Rattle.sd_lines.proofs.Steps.{if_write, one_last}
 use Rattle.sd_lines.proofs.part.answer_last.Goals as goal
 
@@ -11,8 +10,8 @@ returns-clause-ok g c =
     let text : c.deref.result.now ≡ said.0 = c.deref.ensures.value ∙ said.1 ∙ ap (λ l. l ++ said.0) c.requires.text in
     on_ok_weaker c.write_whole.result (λ wrote begun holds none. (
       said.0,
-      one_last (of_form c.args.form (g.A.Answers.answers c.args.answers.now)) c.args.form.ending _ _ c.args.line.now.is_first begun said.0 none
-          (c.is_empty.ensures.some c.if-is_empty.false begun holds) (rw (c.last.ensures begun holds) at said.2),
+      one_last (of_form c.args.form (g.A.Answers.answers c.args.answers.now)) c.args.form.ending _ _ begun said.0 none
+          (c.is_empty.ensures.some c.if-is_empty.false c.args.form begun holds) (rw (c.last.ensures begun holds) at said.2),
       rw text at wrote,
     )) c.write_whole.ensures.ok
 
@@ -24,8 +23,8 @@ returns-clause-err g c =
       c.answer.new.state,
       λ begun holds none. (
         said.0,
-        one_last (of_form c.args.form (g.A.Answers.answers c.args.answers.now)) c.args.form.ending _ _ c.args.line.now.is_first begun said.0 none
-            (c.is_empty.ensures.some c.if-is_empty.false begun holds) (rw (c.last.ensures begun holds) at said.2),
+        one_last (of_form c.args.form (g.A.Answers.answers c.args.answers.now)) c.args.form.ending _ _ begun said.0 none
+            (c.is_empty.ensures.some c.if-is_empty.false c.args.form begun holds) (rw (c.last.ensures begun holds) at said.2),
         rw text at wrote,
       ),
     ))

@@ -1,4 +1,4 @@
-use Rattle.std.proofs.Common.{◌≡◌, ◌++◌, [], ℕ, List, sym, ◌∙◌, ap, append-nil}
+use Rattle.std.proofs.Common.{◌++◌, [], sym, ◌∙◌, ap, append-nil}
 use Rattle.std.specs.Prelude.{⊤}
 use Rattle.std.specs.Io.KnownBytes.{Appends}
 use Rattle.std.proofs.lemmas.Result.{err_from_is_err_and}

@@ -1,11 +1,9 @@
-use Rattle.std.proofs.Common.{◌≡◌, [], length, sym, ◌∙◌, rules, arith}
-use Rattle.std.specs.Io.KnownBytes.{Appends}
-use Rattle.std.proofs.KnownBytes.{Appends-nil}
+use Rattle.std.proofs.Common.{sym, ◌∙◌, rules, arith}
 use Rattle.std.proofs.lemmas.Bool.Decides.{nat_tests}
 use Rattle.std.proofs.lemmas.List.{nil_from_length}
 use Rattle.std.proofs.lemmas.Result.{err_from_is_err_and}
 use Rattle.sd_stream.specs.Watched.{inner_of}
-use Rattle.sd_lines.proofs.Parts.{some_all, some_more, some_none, some_stops}
+use Rattle.sd_lines.proofs.Parts.{some_all, some_more, some_stops}
 use Rattle.sd_lines.proofs.part.answer_parts.Goals as goal
 
 pub returns-in_err-answer_part-clause-err : goal.returns-in_err-answer_part-clause-err

@@ -1,9 +1,8 @@
-use Rattle.std.proofs.Common.{◌≡◌, ◌<◌, ◌++◌, [], length, false, sym, ◌∙◌, ap, append_assoc, append-nil, arith}
+use Rattle.std.proofs.Common.{◌≡◌, ◌<◌, ◌++◌, [], length, sym, ◌∙◌, ap, append_assoc, append-nil, arith}
 use Rattle.std.proofs.lemmas.Bool.Decides.{nat_tests}
 use Rattle.std.proofs.lemmas.List.{nil_from_length}
 use Rattle.std.proofs.lemmas.Result.{on_ok_weaker}
 use Rattle.sd_lines.specs.Answers.{of_form}
-use Rattle.sd_lines.specs.Lines.{HasNoEnd}
 use Rattle.sd_lines.proofs.Steps.{all_answered, no_last, one_last}
 use Rattle.sd_lines.proofs.text.answer_text.Goals as goal
 
@@ -14,7 +13,7 @@ returns-then-is_empty g c =
     let none : c.in_ok-last.last.now ≡ [] = nil_from_length _ (let test = sym c.is_empty.ensures ∙ c.if-is_empty.true in grind (arith, nat_tests)) in (
       t.printed ++ [],
       t.wrote ∙ ap (λ l. c.args.printed.now.items ++ l) (sym (append-nil t.printed)),
-      all_answered Next c.args.form.ending _ _ _ _ _ _ _ _ _ [] t (no_last Next c.args.form.ending _ false _ none),
+      all_answered Next c.args.form.ending _ _ _ _ _ _ _ [] t (no_last Next c.args.form.ending _ _ none),
     )
 
 pub returns : goal.returns
@@ -25,6 +24,6 @@ returns g c =
     on_ok_weaker c.answer.result (λ said. (
       t.printed ++ said.0,
       said.1 ∙ ap (λ l. l ++ said.0) t.wrote ∙ append_assoc _ t.printed said.0,
-      all_answered Next c.args.form.ending _ _ _ _ _ _ _ _ _ said.0 t
-          (one_last Next c.args.form.ending _ _ false _ said.0 t.rest some (rw c.asked.ensures at said.2)),
+      all_answered Next c.args.form.ending _ _ _ _ _ _ _ said.0 t
+          (one_last Next c.args.form.ending _ _ _ said.0 t.rest some (rw c.asked.ensures at said.2)),
     )) c.answer.ensures

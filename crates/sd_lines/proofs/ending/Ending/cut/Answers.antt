@@ -1,6 +1,6 @@
-use Rattle.std.proofs.Common.{◌≡◌, ◌+◌, ◌-◌, ◌<◌, ◌++◌, ◌∷◌, length, take, drop, arith}
+use Rattle.std.proofs.Common.{◌≡◌, ◌+◌, take, arith}
 use Rattle.std.proofs.lemmas.List.{take_all, take_rest}
-use Rattle.sd_lines.specs.Lines.{HasNoEnd, end_byte}
+use Rattle.sd_lines.specs.Lines.{HasNoEnd}
 use Rattle.sd_lines.proofs.Cutting.{cut_at_end, none_before}
 use Rattle.sd_lines.proofs.ending.Ending.cut.Goals as goal
 
