@@ -17,7 +17,7 @@ from pathlib import Path
 PROGRAM = sys.argv[1]
 TOP = Path(__file__).resolve().parent.parent.parent
 MARKS = "$#,*"
-COMMANDS = "verdict why who compare lint print sort tobin frombin rights each".split()
+COMMANDS = "verdict why who compare lint print sort tobin frombin rights each script serve audit".split()
 
 
 def load(path):
@@ -47,8 +47,7 @@ def table_of_page():
 def line_of(object_, table):
     """The line that an object was made of."""
     members = dict(object_)
-    key = members.pop("key", None)
-    tag = "" if key is None else key + "\t"
+    tag = "".join(members.pop(name) + end for name, end in (("key", "\t"), ("id", " ")) if name in members)
     if "text" in members:
         assert list(members) == ["text"]
         return tag + members["text"]

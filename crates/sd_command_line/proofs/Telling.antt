@@ -9,17 +9,15 @@ use Rattle.sd_stream.specs.declared.error.RunError.{RunError}
 use Rattle.sd_stream.specs.declared.error.RunError.TheVariants.{Read, TooLong, Write, Memory, Thread}
 use Rattle.sd_script.specs.Output.{PrintsAndCounts}
 use Rattle.sd_lines.specs.Output.{AppendsOutput, IsOutput, LeavesAnswers, LeavesOutput}
-use Rattle.sd_script.specs.declared.manner.Manner.{Manner}
 use Rattle.sd_script.specs.declared.tally.Tally.{Tally}
 use Rattle.sd_script_audit.specs.Audit.{PrintsAuditAndCounts}
-use Rattle.sd_script.specs.Ids.{PrintsAndCountsIn, PrintsIn}
 use Rattle.sd_script.specs.declared.ids.TheConstants.{LINES}
 use Rattle.sd_commands.specs.Answer.{AnswerValue}
-use Rattle.sd_command_line.specs.Answer.{Answers, AnswersInput, IsBadValue, shown_answer}
+use Rattle.sd_command_line.specs.Answer.{Answers, AnswersInput, IsBadValue, PrintsAndCountsServed, PrintsAs, shown_answer}
 use Rattle.sd_command_line.specs.CommandLine.{CommandLineValue, InvocationValue, RequestValue, IsAudit, Ask, AskInput, Script, Serve, Audit, Each, Help, Version, mistake_in, reading, runs_script}
 use Rattle.sd_command_line.specs.Mistake.{message}
 use Rattle.sd_command_line.specs.declared.mistake.Mistake.{Mistake}
-use Rattle.sd_command_line.specs.Options.{AreSettings, HasBadValue, OptionsValue, is_strict}
+use Rattle.sd_command_line.specs.Options.{AreSettings, HasBadValue, OptionsValue, is_json, is_strict}
 use Rattle.sd_commands.specs.declared.answer.Outcome.{Outcome}
 use Rattle.sd_command_line.specs.declared.options.BadValue.{BadValue}
 use Rattle.sd_commands.specs.declared.settings.Settings.{Settings}
@@ -114,20 +112,20 @@ module _ (line : CommandLineValue) (counts : List ℕ → List ℕ → Tally →
   output_leaves old new Thread leaves = leaves
 
 module _ (options : OptionsValue) (settings : Settings) (said : AreSettings options settings) (input : Option (List ℕ)) where
-  pub script_answers : (tally : Tally) (printed told : List ℕ) → IsOutput (λ text printed. PrintsAndCounts (manner_of options settings) text printed tally) input printed
+  pub script_answers : (tally : Tally) (printed told : List ℕ) → IsOutput (λ text printed. PrintsAs (is_json options) (PrintsAndCounts (manner_of options settings)) text printed tally) input printed
       → IsToldOfScript (is_strict options) tally told
       → Answers input (record { options = options; invocation = Script }) (record { printed = printed; told = told; outcome = script_outcome (is_strict options) tally })
   script_answers tally printed told is says = (Ok settings, said, (tally, is, says, refl))
 
   pub served_answers : (has_ids : Bool) (tally : Tally) (printed told : List ℕ)
-      → IsOutput (λ text printed. PrintsAndCountsIn has_ids (manner_of options settings) text printed tally) input printed
+      → IsOutput (λ text printed. PrintsAndCountsServed has_ids (is_json options) (manner_of options settings) text printed tally) input printed
       → IsToldOfScript (is_strict options) tally told
       → Answers input (record { options = options; invocation = Serve has_ids })
       (record { printed = printed; told = told; outcome = script_outcome (is_strict options) tally })
   served_answers has_ids tally printed told is says = (Ok settings, said, (tally, is, says, refl))
 
   pub audit_answers : (workers : ℕ) (tally : Tally) (printed told : List ℕ)
-      → IsOutput (λ text printed. PrintsAuditAndCounts (manner_of options settings) workers text printed tally) input printed → IsToldOfScript (is_strict options) tally told
+      → IsOutput (λ text printed. PrintsAs (is_json options) (PrintsAuditAndCounts (manner_of options settings) workers) text printed tally) input printed → IsToldOfScript (is_strict options) tally told
       → Answers input (record { options = options; invocation = Audit workers }) (record { printed = printed; told = told; outcome = script_outcome (is_strict options) tally })
   audit_answers workers tally printed told is says = (Ok settings, said, (tally, is, says, refl))
 
@@ -168,29 +166,29 @@ pub bad_input : (input : Option (List ℕ)) (options : OptionsValue) (request : 
 bad_input input options request bad plain answer has is printed = (plain, (Err bad, has, is), printed)
 
 -- a script whose mapping isn't read
-pub bad_answers : (input : Option (List ℕ)) (options : OptionsValue) (invocation : InvocationValue) (bad : BadValue) (answer : AnswerValue)
-    → runs_script invocation ≡ true → HasBadValue options bad → IsBadValue bad answer
+pub bad_answers : (input : Option (List ℕ)) (options : OptionsValue) (invocation : InvocationValue) (bad : BadValue) (plain answer : AnswerValue)
+    → runs_script invocation ≡ true → HasBadValue options bad → IsBadValue bad plain → answer ≡ shown_answer options plain
     → Answers input (record { options = options; invocation = invocation }) answer
-bad_answers input options Script bad answer runs has is = (Err bad, has, is)
-bad_answers input options (Serve has_ids) bad answer runs has is = (Err bad, has, is)
-bad_answers input options (Audit workers) bad answer runs has is = (Err bad, has, is)
-bad_answers input options (Ask text request) bad answer runs has is = absurd (cc (runs))
-bad_answers input options (AskInput request) bad answer runs has is = absurd (cc (runs))
-bad_answers input options (Each lines request) bad answer runs has is = absurd (cc (runs))
-bad_answers input options (Help command) bad answer runs has is = absurd (cc (runs))
-bad_answers input options Version bad answer runs has is = absurd (cc (runs))
+bad_answers input options Script bad plain answer runs has is printed = (Err bad, has, (plain, is, printed))
+bad_answers input options (Serve has_ids) bad plain answer runs has is printed = (Err bad, has, (plain, is, printed))
+bad_answers input options (Audit workers) bad plain answer runs has is printed = (Err bad, has, (plain, is, printed))
+bad_answers input options (Ask text request) bad plain answer runs has is printed = absurd (cc (runs))
+bad_answers input options (AskInput request) bad plain answer runs has is printed = absurd (cc (runs))
+bad_answers input options (Each lines request) bad plain answer runs has is printed = absurd (cc (runs))
+bad_answers input options (Help command) bad plain answer runs has is printed = absurd (cc (runs))
+bad_answers input options Version bad plain answer runs has is printed = absurd (cc (runs))
 
 -- ---- line by line
 
 -- too long a line is too much that was read
-pub served_too_much : (has_ids : Bool) (manner : Manner) (input left old new : Option (List ℕ))
-    → LeavesAnswers LINES (PrintsIn has_ids manner) input left old new TooLong → ReadsPart input left TooLong
-served_too_much has_ids manner input left old new leaves =
+pub served_too_much : (prints : List ℕ → List ℕ → Type 0) (input left old new : Option (List ℕ))
+    → LeavesAnswers LINES prints input left old new TooLong → ReadsPart input left TooLong
+served_too_much prints input left old new leaves =
     let ends = leaves.1 in
     let parts = ends.rest in
-    let long : length (ends.ended ++ ends.behind) ≡ length ends.ended + (length parts.0 + length parts.1) =
-    length-append ends.ended ends.behind ∙ ap (λ n. length ends.ended + n) (ap length parts.2 ∙ length-append parts.0 parts.1) in
-    record { part = ends.ended ++ ends.behind; consumed = ends.consumed; fits = omega (arith, parts.4, long) }
+    let long : length ends.read ≡ length ends.ended + (length parts.0 + length parts.1) =
+    ap length ends.parts ∙ length-append ends.ended ends.behind ∙ ap (λ n. length ends.ended + n) (ap length parts.2 ∙ length-append parts.0 parts.1) in
+    record { part = ends.read; consumed = ends.consumed; fits = omega (arith, parts.4, long) }
 
 pub fails_so : {T : Type 0} (P : RunError → Type 0) (r : Result T RunError) (error : RunError) → IfErr r P → r ≡ Err error → P error
 fails_so P (Ok x) error given is = absurd (cc (is))

@@ -6,12 +6,11 @@ use Rattle.sd_stream.specs.Whole.{AppendsBeginning, ReadsPart, is_read_error, is
 use Rattle.sd_stream.specs.declared.error.RunError.{RunError}
 use Rattle.sd_stream.specs.declared.error.RunError.TheVariants.{Read, TooLong, Write, Memory, Thread}
 use Rattle.sd_answer.specs.Answer.{line}
-use Rattle.sd_script.specs.Ids.{PrintsIn}
 use Rattle.sd_script.specs.declared.ids.TheConstants.{LINES}
 use Rattle.sd_lines.specs.Answers.{Prints}
 use Rattle.sd_lines.specs.Output.{LeavesAnswers}
 use Rattle.sd_command_line.specs.declared.flags.Lines.{Lines}
-use Rattle.sd_command_line.specs.Answer.{Answers, AnswersNext, form_of}
+use Rattle.sd_command_line.specs.Answer.{Answers, AnswersNext, PrintsServed, form_of}
 use Rattle.sd_commands.specs.Answer.{AnswerValue, outcome_status}
 use Rattle.sd_command_line.specs.CommandLine.{CommandLineValue, RequestValue, Each, Serve, reading, IsAudit, IsUnread}
 use Rattle.sd_command_line.specs.CommandLine.{mistake_in}
@@ -58,7 +57,8 @@ pub record LeavesServed (line : CommandLineValue) (input left old new : Option (
   pub has_ids : Bool
   pub asked : line.invocation ≡ Serve has_ids
   pub said : AreSettings line.options settings
-  pub answers : LeavesAnswers LINES (PrintsIn has_ids (manner_of line.options settings)) input left old new error
+  pub answers : LeavesAnswers LINES (PrintsServed has_ids (is_json line.options) (manner_of line.options settings))
+      input left old new error
 
 -- the answers to the lines of an input, as far as it came
 abbrev pub LeavesEachAnswers : OptionsValue → Lines → RequestValue → Option (List ℕ) → Option (List ℕ)

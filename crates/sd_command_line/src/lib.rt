@@ -22,6 +22,7 @@ mod mistake;
 mod options;
 mod perform;
 mod program;
+mod running;
 mod scripts;
 mod shown;
 mod version;

@@ -18,17 +18,6 @@ pub(crate) struct Shown {
 }
 
 impl Shown {
-    /// The answer as it is.
-    pub(crate) fn plain(answer: Answer) -> Shown
-        ensures { shown_of result ≡ answer_of answer }
-    {
-        Shown {
-            printed: answer.text.into_bytes(),
-            told: answer.told,
-            outcome: answer.outcome,
-        }
-    }
-
     /// The answer as these options have it printed. The one error is out of memory.
     pub(crate) fn under(
         alloc: Global,

@@ -41,7 +41,7 @@ module _ {State : Type 0} (form : Form) (Answer : Answering State) where
     fails.0,
     λ begun holds none. (
       old,
-        begun ++ bytes,
+      begun ++ bytes,
       takes_none (of_form form Answer) form.ending (IsLong form.ending) (Appends now now) old (begun ++ bytes)
           (fails.1 begun holds none) (Appends-nil now),
     ),
@@ -63,7 +63,7 @@ module _ {State : Type 0} (form : Form) (Answer : Answering State) where
   taken_stops Behind Wrote Writes old new line after bytes takes rest made = λ begun holds none.
       let t = takes begun holds none in (
         new,
-            t.0,
+        t.0,
         record {
           ended = t.2.ended;
           printed = t.2.printed;

@@ -65,6 +65,7 @@ const SCRIPT_OPTIONS: &[OptionName] = &[
     OptionName::Domain,
     OptionName::Aliases,
     OptionName::Mapping,
+    OptionName::Json,
 ];
 
 /// The commands, in the order in which help lists them.
