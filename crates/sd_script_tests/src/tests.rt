@@ -3,6 +3,7 @@
 //! What a test calls it calls by a helper that promises nothing: the proof of a test then carries no value along.
 
 mod audits;
+mod decoder;
 mod each;
 mod serving;
 mod streams;

@@ -37,9 +37,9 @@ impl Answers for Brackets {
     }
 }
 
-/// Inputs, their answers, and whether one is a refusal. Of a mark alone there is no line, and of two bytes of one there
-/// is.
-const INPUTS: [(Ending, &[u8], &[u8], bool); 12] = [
+/// Inputs, their answers, and whether one is a refusal. Of a mark alone there is no line, and of a part of one
+/// there is. UTF-16 is as RFC 2781 has it.
+const INPUTS: [(Ending, &[u8], &[u8], bool); 16] = [
     (Ending::Feed, b"", b"", false),
     (Ending::Feed, b"a\nbc\n", b"[a]\n[bc]\n", false),
     (
@@ -65,6 +65,25 @@ const INPUTS: [(Ending, &[u8], &[u8], bool); 12] = [
         Ending::Zero,
         b"\xef\xbb\xbfa\r\n\0\0b\r\0c",
         b"[a\r\n]\n[]\n[b\r]\n[c]\n",
+        false,
+    ),
+    (Ending::Feed, b"\xff\xfe", b"", false),
+    (
+        Ending::Feed,
+        b"\xff\xfea\0\r\0\n\0\n\0b\0",
+        b"[a]\n[]\n[b]\n",
+        false,
+    ),
+    (
+        Ending::Feed,
+        b"\xfe\xff\0!\0\n\xd8\0\0\n\0a\n",
+        b"[!]\n[\xff]\n[a\xff]\n",
+        true,
+    ),
+    (
+        Ending::Zero,
+        b"\xff\xfea\0\0\0\n\0\0\0",
+        b"[a]\n[\n]\n",
         false,
     ),
 ];
