@@ -90,7 +90,8 @@ def page(text: str) -> list[str]:
     made: list[str] = []
     text = re.sub(r"\A# .*\n", "", text)
     text = re.sub(r"(^- \[.*\]\(#.*\)\n)+", "", text, flags=re.MULTILINE)
-    text = re.sub(r"^```.*\n(.*?)\n```$", lambda found: indent(found[1], "    "), text, flags=re.MULTILINE | re.DOTALL)
+    console = re.compile(r"^```[^\n]*\n(.*?)\n```$", re.MULTILINE | re.DOTALL)
+    text = console.sub(lambda found: indent(found[1], "    "), text)
     for block in re.split(r"\n{2,}", text.strip("\n")):
         lines = block.splitlines()
         if found := re.match(r"(##+) (.*)", block):
