@@ -18,7 +18,8 @@ use Rattle.sd_text.specs.Finding.{find}
 use Rattle.sd_text.specs.Rights.{mask_text, rights}
 use Rattle.sd_text.specs.Sid.{sid_text_in, sid}
 use Rattle.sd_text.specs.Sddl.{sid_section, dacl_words, no_words, with_word, words, dacl_behind, dacl_section, no_sacl, parts, sections, sddl_in}
-use Rattle.sd_text.specs.Canon.{where_set, words_canon, entry_canon, section_canon, dacl_canon, sid_canon, rights_canon, canon}
+use Rattle.sd_text.specs.Canon.{where_set, words_canon, entry_canon_in, section_canon, dacl_canon, sid_canon, rights_canon_in, canon_in}
+use Rattle.sd_text.specs.declared.right_names.RightNames.{RightNames}
 use Rattle.sd_text.specs.Laws.{DescriptorsComeBack, SidsComeBack, MasksComeBack}
 use Rattle.sd_text.proofs.Engine.{find_spells}
 use Rattle.sd_text.proofs.Tables.{IsTogether, run_start, run_more, run_end}
@@ -37,9 +38,9 @@ sids_come_back known s is =
     find_spells (sid_text_in known) (sid_canon s) s [] (rw read refl)
 
 pub masks_come_back : MasksComeBack
-masks_come_back mask lt =
-    let read : find rights (rights_canon mask) ≡ Ok (mask, []) = rw append-nil at (rights_read mask [] lt refl refl) in
-    find_spells mask_text (rights_canon mask) mask [] (rw read refl)
+masks_come_back names mask lt =
+    let read : find rights (rights_canon_in names mask) ≡ Ok (mask, []) = rw append-nil at (rights_read names mask [] lt refl refl) in
+    find_spells mask_text (rights_canon_in names mask) mask [] (rw read refl)
 
 -- ---- words
 
@@ -77,9 +78,9 @@ words_again p r i rest =
 
 -- ---- the DACL
 
-no_word : (es : List Ace) → named dacl_words (flat_map entry_canon es) ≡ None
-no_word [] = refl
-no_word (e ∷ es) = rw (entry_text e (flat_map entry_canon es)) refl
+no_word : (names : RightNames) (es : List Ace) → named dacl_words (flat_map (entry_canon_in names) es) ≡ None
+no_word names [] = refl
+no_word names (e ∷ es) = rw (entry_text names e (flat_map (entry_canon_in names) es)) refl
 
 regroup : (a b c rest : List ℕ) → (a ++ b ++ c) ++ rest ≡ a ++ (b ++ (c ++ rest))
 regroup a b c rest = simp append_assoc
@@ -92,9 +93,9 @@ null_read p r i =
     let last = run_more dacl_words with_word no_words start (record { protected = p; auto_req = r; auto_inherited = i; no_access_control = false }) (codes "NO_ACCESS_CONTROL") NoAccessControl [] so_far refl in
     run_end dacl_words with_word no_words start (record { protected = p; auto_req = r; auto_inherited = i; no_access_control = true }) [] last refl
 
-list_read : (p r i : Bool) (es : List Ace) → find words (words_text p r i (flat_map entry_canon es)) ≡ Ok (record { protected = p; auto_req = r; auto_inherited = i; no_access_control = false }, flat_map entry_canon es)
+list_read : (names : RightNames) (p r i : Bool) (es : List Ace) → find words (words_text p r i (flat_map (entry_canon_in names) es)) ≡ Ok (record { protected = p; auto_req = r; auto_inherited = i; no_access_control = false }, flat_map (entry_canon_in names) es)
 unfolding words Reached
-list_read p r i es = run_end dacl_words with_word no_words (words_text p r i (flat_map entry_canon es)) (record { protected = p; auto_req = r; auto_inherited = i; no_access_control = false }) (flat_map entry_canon es) (words_again p r i (flat_map entry_canon es)) (no_word es)
+list_read names p r i es = run_end dacl_words with_word no_words (words_text p r i (flat_map (entry_canon_in names) es)) (record { protected = p; auto_req = r; auto_inherited = i; no_access_control = false }) (flat_map (entry_canon_in names) es) (words_again p r i (flat_map (entry_canon_in names) es)) (no_word names es)
 
 -- the flags of a descriptor without a DACL are false
 all_false : (p r i : Bool) → IsTrue (not p && not r && not i) → (p ≡ false) × (r ≡ false) × (i ≡ false)
@@ -124,22 +125,22 @@ keeps Absent p r i without = let f = all_false p r i (without refl) in record { 
 keeps Null p r i without = record { list = refl; protected = refl; auto_req = refl; auto_inherited = refl }
 keeps (Entries es) p r i without = record { list = refl; protected = refl; auto_req = refl; auto_inherited = refl }
 
-dacl_read : (known : Aliases) (dacl : Dacl) (p r i : Bool) → IsDacl dacl → HaveNamedFlags dacl → find (dacl_section known) (dacl_canon (letters_of p r i) dacl) ≡ Ok (part_of dacl p r i, [])
+dacl_read : (known : Aliases) (names : RightNames) (dacl : Dacl) (p r i : Bool) → IsDacl dacl → HaveNamedFlags dacl → find (dacl_section known) (dacl_canon names (letters_of p r i) dacl) ≡ Ok (part_of dacl p r i, [])
 unfolding part_of letters_of dacl_section dacl_behind words_text
-dacl_read known Absent p r i is named_only = refl
-dacl_read known Null p r i is named_only = rw (regroup (where_set p (codes "P")) (where_set r (codes "AR")) (where_set i (codes "AI")) (codes "NO_ACCESS_CONTROL"), null_read p r i) refl
-dacl_read known (Entries es) p r i is named_only = rw (regroup (where_set p (codes "P")) (where_set r (codes "AR")) (where_set i (codes "AI")) (flat_map entry_canon es), list_read p r i es, entries_read known es is.each named_only is.fit) refl
+dacl_read known names Absent p r i is named_only = refl
+dacl_read known names Null p r i is named_only = rw (regroup (where_set p (codes "P")) (where_set r (codes "AR")) (where_set i (codes "AI")) (codes "NO_ACCESS_CONTROL"), null_read p r i) refl
+dacl_read known names (Entries es) p r i is named_only = rw (regroup (where_set p (codes "P")) (where_set r (codes "AR")) (where_set i (codes "AI")) (flat_map (entry_canon_in names) es), list_read names p r i es, entries_read known names es is.each named_only is.fit) refl
 
 -- ---- sections
 
-after_group : (letters : List ℕ) (dacl : Dacl) → Stops (dacl_canon letters dacl) × (begins (dacl_canon letters dacl) (codes "G:") ≡ false) × (begins (dacl_canon letters dacl) (codes "O:") ≡ false)
-after_group letters Absent = (record { no_digit = refl; no_dash = refl }, refl, refl)
-after_group letters Null = (record { no_digit = refl; no_dash = refl }, refl, refl)
-after_group letters (Entries es) = (record { no_digit = refl; no_dash = refl }, refl, refl)
+after_group : (names : RightNames) (letters : List ℕ) (dacl : Dacl) → Stops (dacl_canon names letters dacl) × (begins (dacl_canon names letters dacl) (codes "G:") ≡ false) × (begins (dacl_canon names letters dacl) (codes "O:") ≡ false)
+after_group names letters Absent = (record { no_digit = refl; no_dash = refl }, refl, refl)
+after_group names letters Null = (record { no_digit = refl; no_dash = refl }, refl, refl)
+after_group names letters (Entries es) = (record { no_digit = refl; no_dash = refl }, refl, refl)
 
-after_owner : (g : Option SidValue) (letters : List ℕ) (dacl : Dacl) → Stops (section_canon (codes "G:") g ++ dacl_canon letters dacl) × (begins (section_canon (codes "G:") g ++ dacl_canon letters dacl) (codes "O:") ≡ false)
-after_owner None letters dacl = let h = after_group letters dacl in (h.0, h.2)
-after_owner (Some s) letters dacl = (record { no_digit = refl; no_dash = refl }, refl)
+after_owner : (names : RightNames) (g : Option SidValue) (letters : List ℕ) (dacl : Dacl) → Stops (section_canon (codes "G:") g ++ dacl_canon names letters dacl) × (begins (section_canon (codes "G:") g ++ dacl_canon names letters dacl) (codes "O:") ≡ false)
+after_owner names None letters dacl = let h = after_group names letters dacl in (h.0, h.2)
+after_owner names (Some s) letters dacl = (record { no_digit = refl; no_dash = refl }, refl)
 
 owner_read : (known : Aliases) (o : Option SidValue) (rest : List ℕ) → IfSome o IsSid → Stops rest → begins rest (codes "O:") ≡ false → find (sid_section known (codes "O:")) (section_canon (codes "O:") o ++ rest) ≡ Ok (o, rest)
 unfolding sid_section
@@ -151,16 +152,16 @@ unfolding sid_section
 group_read known None rest is stops other = rw other refl
 group_read known (Some s) rest is stops other = rw (sid_read known s rest is stops) refl
 
-sections_read : (known : Aliases) (d : DescriptorValue) → IsDescriptor d → HaveNamedFlags d.dacl → find (sections known) (canon d) ≡ Ok (d, [])
-unfolding sections parts canon no_sacl letters_of words_canon
-sections_read known d is named_only =
-    let tail = dacl_canon (words_canon d) d.dacl in
-    let behind_group = after_group (words_canon d) d.dacl in
-    let behind_owner = after_owner d.group (words_canon d) d.dacl in
+sections_read : (known : Aliases) (names : RightNames) (d : DescriptorValue) → IsDescriptor d → HaveNamedFlags d.dacl → find (sections known) (canon_in names d) ≡ Ok (d, [])
+unfolding sections parts canon_in no_sacl letters_of words_canon
+sections_read known names d is named_only =
+    let tail = dacl_canon names (words_canon d) d.dacl in
+    let behind_group = after_group names (words_canon d) d.dacl in
+    let behind_owner = after_owner names d.group (words_canon d) d.dacl in
     let part = part_of d.dacl d.protected d.auto_req d.auto_inherited in
     let kept : Keeps part d.dacl d.protected d.auto_req d.auto_inherited = keeps d.dacl d.protected d.auto_req d.auto_inherited is.without_a_dacl in
-    rw (append_assoc (section_canon (codes "O:") d.owner) (section_canon (codes "G:") d.group) tail, owner_read known d.owner (section_canon (codes "G:") d.group ++ tail) is.owner behind_owner.0 behind_owner.1, group_read known d.group tail is.group behind_group.0 behind_group.1, dacl_read known d.dacl d.protected d.auto_req d.auto_inherited is.dacl named_only)
+    rw (append_assoc (section_canon (codes "O:") d.owner) (section_canon (codes "G:") d.group) tail, owner_read known d.owner (section_canon (codes "G:") d.group ++ tail) is.owner behind_owner.0 behind_owner.1, group_read known d.group tail is.group behind_group.0 behind_group.1, dacl_read known names d.dacl d.protected d.auto_req d.auto_inherited is.dacl named_only)
     (rw (kept.list, kept.protected, kept.auto_req, kept.auto_inherited) refl)
 
 pub descriptors_come_back : DescriptorsComeBack
-descriptors_come_back known d is named_only = find_spells (sddl_in known) (canon d) d [] (rw (sections_read known d is named_only) refl)
+descriptors_come_back known names d is named_only = find_spells (sddl_in known) (canon_in names d) d [] (rw (sections_read known names d is named_only) refl)

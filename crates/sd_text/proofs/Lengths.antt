@@ -16,7 +16,9 @@ use Rattle.sd_acl.specs.declared.descriptor.DaclOf.TheVariants.{Null, List as En
 use Rattle.sd_text.specs.Grammar.{Name}
 use Rattle.sd_text.specs.Alias.{aliases, alias_in}
 use Rattle.sd_text.specs.Entry.{flag_names}
-use Rattle.sd_text.specs.Canon.{hex, authority_canon, sub_canon, full_canon, sid_canon, printed_rights, name_in, rights_canon, flag_canon, flags_canon, kind_canon, entry_canon, where_set, words_canon, dacl_canon}
+use Rattle.sd_text.specs.Canon.{hex, authority_canon, sub_canon, full_canon, sid_canon, rights_canon_in, flag_canon, flags_canon, kind_canon, entry_canon_in, where_set, words_canon, dacl_canon}
+use Rattle.sd_text.specs.RightNames.{printed_rights, name_in}
+use Rattle.sd_text.specs.declared.right_names.RightNames.{RightNames}
 use Rattle.sd_text.proofs.Parts.{went}
 use Rattle.sd_text.proofs.Tables.{right_row}
 use Rattle.sd_text.proofs.Printing.{alias_is_pair}
@@ -88,24 +90,24 @@ flags_length : (flags : ℕ) → length (flags_canon flags) ≤ 14
 unfolding flags_canon
 flags_length flags = names_length flags flag_names (refl, (refl, (refl, (refl, (refl, (refl, (refl, tt)))))))
 
-rights_length : (mask : ℕ) → mask < 2 ^ 32 → length (rights_canon mask) ≤ 10
-unfolding rights_canon printed_rights
-rights_length mask lt = by_name (name_in printed_rights mask) refl
+rights_length : (names : RightNames) (mask : ℕ) → mask < 2 ^ 32 → length (rights_canon_in names mask) ≤ 10
+unfolding rights_canon_in printed_rights
+rights_length names mask lt = by_name (name_in names printed_rights mask) refl
   where
-    by_name : (found : Option (List ℕ)) → name_in printed_rights mask ≡ found → length (unwrap_or found (codes "0x" ++ hex mask)) ≤ 10
+    by_name : (found : Option (List ℕ)) → name_in names printed_rights mask ≡ found → length (unwrap_or found (codes "0x" ++ hex mask)) ≤ 10
     by_name None e = let le = hex_length 7 mask (omega arith) in omega arith
-    by_name (Some letters) e = let row = right_row (λ name. length name.letters ≡ 2) printed_rights mask letters (refl, (refl, (refl, (refl, (refl, (refl, (refl, (refl, (refl, (refl, (refl, (refl, (refl, (refl, (refl, tt))))))))))))))) e in let two : length letters ≡ 2 = rw (sym row.2) row.1 in omega arith
+    by_name (Some letters) e = let row = right_row (λ name. length name.letters ≡ 2) names printed_rights mask letters (refl, (refl, (refl, (refl, (refl, (refl, (refl, (refl, (refl, (refl, (refl, (refl, (refl, (refl, (refl, tt))))))))))))))) e in let two : length letters ≡ 2 = rw (sym row.2) row.1 in omega arith
 
 kind_length : (kind : AceKind) → length (kind_canon kind) ≡ 1
 kind_length Allow = refl
 kind_length Deny = refl
 
-pub entry_length : (e : Ace) (k : ℕ) → e.mask < 2 ^ 32 → length (sid_canon e.sid) ≤ k → length (entry_canon e) ≤ 32 + k
-unfolding entry_canon
-entry_length e k mask sid =
+pub entry_length : (names : RightNames) (e : Ace) (k : ℕ) → e.mask < 2 ^ 32 → length (sid_canon e.sid) ≤ k → length (entry_canon_in names e) ≤ 32 + k
+unfolding entry_canon_in
+entry_length names e k mask sid =
     let kind = kind_length e.kind in
     let flags = flags_length e.flags.0 in
-    let rights = rights_length e.mask mask in
+    let rights = rights_length names e.mask mask in
     simp length-append (omega arith)
 
 -- ---- the section of a DACL
@@ -124,8 +126,8 @@ words_length d = by d.protected d.auto_req d.auto_inherited
     by false false true = omega arith
     by false false false = omega arith
 
-pub null_length : (d : DescriptorValue) → length (dacl_canon (words_canon d) Null) ≤ 24
-null_length d = let words = words_length d in omega (arith, length-append (words_canon d) (codes "NO_ACCESS_CONTROL"))
+pub null_length : (names : RightNames) (d : DescriptorValue) → length (dacl_canon names (words_canon d) Null) ≤ 24
+null_length names d = let words = words_length d in omega (arith, length-append (words_canon d) (codes "NO_ACCESS_CONTROL"))
 
-pub list_length : (d : DescriptorValue) (es : List Ace) (k : ℕ) → length (flat_map entry_canon es) ≤ k → length (dacl_canon (words_canon d) (Entries es)) ≤ 7 + k
-list_length d es k fits = let words = words_length d in omega (arith, length-append (words_canon d) (flat_map entry_canon es))
+pub list_length : (names : RightNames) (d : DescriptorValue) (es : List Ace) (k : ℕ) → length (flat_map (entry_canon_in names) es) ≤ k → length (dacl_canon names (words_canon d) (Entries es)) ≤ 7 + k
+list_length names d es k fits = let words = words_length d in omega (arith, length-append (words_canon d) (flat_map (entry_canon_in names) es))

@@ -1,8 +1,9 @@
 -- Names of a table, one row after the other.
 use Rattle.std.proofs.Common.{◌≡◌, ℕ, zero, suc, ◌+◌, ◌<◌, ◌^◌, cond, List, [], ◌∷◌, ◌++◌, length, drop, get_or, Some, None, Ok, refl, arith, add-one, ap, sym, subst, ◌∙◌, inl, inr}
-use Rattle.std.specs.Prelude.{fold, bit_or, ◌==◌}
+use Rattle.std.specs.Prelude.{fold, bit_or, map, ◌==◌, ◌&&◌}
+use Rattle.std.specs.Borrow.{Bor}
 use Rattle.std.specs.List.{AllByRecursion}
-use Rattle.std.proofs.lemmas.Bool.{eqb-true}
+use Rattle.std.proofs.lemmas.Bool.{and_parts, eqb-true}
 use Rattle.std.proofs.lemmas.Grind.{fold-append}
 use Rattle.std.proofs.lemmas.Nat.{or_lt, pow_pos}
 use Rattle.sd_text.specs.Grammar.{Name, value, many, named, begins, spells, run, Items}
@@ -11,7 +12,8 @@ use Rattle.sd_text.specs.Rights.{bits_of}
 use Rattle.sd_sid.specs.Sid.{SidValue, same_sid}
 use Rattle.sd_sid.proofs.Compared.{same_sid-true}
 use Rattle.sd_text.specs.Alias.{alias_in}
-use Rattle.sd_text.specs.Canon.{name_in}
+use Rattle.sd_text.specs.RightNames.{PrintedRight, has, name_in, printed_right}
+use Rattle.sd_text.specs.declared.right_names.RightNames.{RightNames}
 use Rattle.sd_text.specs.Names.{Row, rows, renamed}
 use Rattle.sd_text.proofs.Parts.{chosen, name_is, found_name, found_is, part_ok}
 use Rattle.sd_text.proofs.Engine.{find_spells}
@@ -23,12 +25,12 @@ named_at [] i r text lt is = absurd (omega arith)
 named_at (q ∷ rs) zero r text lt is = rw is refl
 named_at (q ∷ rs) (suc i) r text lt is = rw add-one (let h = named_at rs i r text (omega arith) is in rw add-one at h)
 
--- the same of a table of masks, looked up by the mask
-pub name_at : (rs : List (Row ℕ)) (i : ℕ) (r : Row ℕ) (mask : ℕ) → i < length rs → r ≡ get_or rs i r → name_in (rows (drop i rs)) mask ≡ cond (r.1 == mask) (Some r.0.now) (name_in (rows (drop (i + 1) rs)) mask)
+-- the same of the table of printed rights, looked up by the mask
+pub name_at : (names : RightNames) (rs : List (Bor (List ℕ) × ℕ × RightNames)) (i : ℕ) (r : Bor (List ℕ) × ℕ × RightNames) (mask : ℕ) → i < length rs → r ≡ get_or rs i r → name_in names (map printed_right (drop i rs)) mask ≡ cond (has names r.2 && r.1 == mask) (Some r.0.now) (name_in names (map printed_right (drop (i + 1) rs)) mask)
 unfolding name_in
-name_at [] i r mask lt is = absurd (omega arith)
-name_at (q ∷ rs) zero r mask lt is = rw is refl
-name_at (q ∷ rs) (suc i) r mask lt is = rw add-one (let h = name_at rs i r mask (omega arith) is in rw add-one at h)
+name_at names [] i r mask lt is = absurd (omega arith)
+name_at names (q ∷ rs) zero r mask lt is = rw is refl
+name_at names (q ∷ rs) (suc i) r mask lt is = rw add-one (let h = name_at names rs i r mask (omega arith) is in rw add-one at h)
 
 -- ---- a run of names, whose meanings are put together one by one
 
@@ -90,13 +92,16 @@ alias_row P (name ∷ names) s letters all e =
     ]
 
 -- and the row whose name is for just these bits
-pub right_row : (P : Name ℕ → Type 0) (names : List (Name ℕ)) (mask : ℕ) (letters : List ℕ) → AllByRecursion P names → name_in names mask ≡ Some letters → (name : Name ℕ) × P name × (name.letters ≡ letters) × (name.stands_for ≡ mask)
+pub right_row : (P : Name ℕ → Type 0) (names : RightNames) (rights : List PrintedRight) (mask : ℕ) (letters : List ℕ) → AllByRecursion (λ (right : PrintedRight). P right.0) rights → name_in names rights mask ≡ Some letters → (name : Name ℕ) × P name × (name.letters ≡ letters) × (name.stands_for ≡ mask)
 unfolding name_in
-right_row P [] mask letters all e = absurd cc
-right_row P (name ∷ names) mask letters all e =
-    elim (chosen (name.stands_for == mask) _ _ _ e) [
-      | inl h ↦ let same : name.letters ≡ letters = cc in (name, all.0, same, eqb-true name.stands_for mask h.0)
-      | inr h ↦ right_row P names mask letters all.1 h.1
+right_row P names [] mask letters all e = absurd cc
+right_row P names (right ∷ rights) mask letters all e =
+    elim (chosen (has names right.1 && right.0.stands_for == mask) _ _ _ e) [
+      | inl h ↦
+          let same : right.0.letters ≡ letters = cc in
+          let both = and_parts (has names right.1) (right.0.stands_for == mask) h.0 in
+          (right.0, all.0, same, eqb-true right.0.stands_for mask both.1)
+      | inr h ↦ right_row P names rights mask letters all.1 h.1
     ]
 
 -- ---- how large joined bits grow

@@ -1,5 +1,5 @@
--- The one printed text of each value ([MS-DTYP] 2.5.1).
-use Rattle.std.specs.Prelude.{ℕ, ◌-◌, ◌^◌, Bool, false, ◌==◌, nat_lt, List, [], ◌∷◌, ◌++◌, length, replicate, bit_and}
+-- The printed text of each value ([MS-DTYP] 2.5.1).
+use Rattle.std.specs.Prelude.{ℕ, ◌-◌, ◌^◌, Bool, false, ◌==◌, nat_lt, List, [], ◌++◌, length, replicate, bit_and}
 use Rattle.std.specs.Prelude.{Option, Some, None, unwrap_or, codes, if◌then◌else◌}
 use Rattle.std.specs.List.{flat_map}
 use Rattle.std.specs.Fmt.{decimal, digits}
@@ -12,7 +12,9 @@ use Rattle.sd_acl.specs.Dacl.{Dacl}
 use Rattle.sd_acl.specs.declared.descriptor.DaclOf.TheVariants.{Absent, Null, List as Entries}
 use Rattle.sd_text.specs.Grammar.{Name}
 use Rattle.sd_text.specs.Alias.{aliases, alias_in}
-use Rattle.sd_text.specs.Rights.{bits}
+use Rattle.sd_text.specs.RightNames.{name_in, printed_rights}
+use Rattle.sd_text.specs.declared.right_names.RightNames.{RightNames}
+use Rattle.sd_text.specs.declared.right_names.RightNames.TheVariants.{All}
 use Rattle.sd_text.specs.Entry.{flag_names}
 
 -- a number in lower-case hexadecimal digits
@@ -35,23 +37,9 @@ full_canon sid = codes "S-1-" ++ authority_canon sid.authority ++ flat_map sub_c
 unfoldable pub sid_canon : SidValue → List ℕ
 sid_canon sid = unwrap_or (alias_in aliases sid) (full_canon sid)
 
--- the names for whole masks in printed texts
-unfoldable pub printed_rights : List (Name ℕ)
-printed_rights =
-    bits (codes "FA") 0x1F01FF ∷ bits (codes "FR") 0x120089 ∷ bits (codes "FW") 0x120116 ∷ bits (codes "FX") 0x1200A0
-    ∷ bits (codes "KA") 0xF003F ∷ bits (codes "KR") 0x20019 ∷ bits (codes "KW") 0x20006
-    ∷ bits (codes "GA") 0x10000000 ∷ bits (codes "GR") 0x80000000 ∷ bits (codes "GW") 0x40000000
-    ∷ bits (codes "GX") 0x20000000
-    ∷ bits (codes "SD") 0x10000 ∷ bits (codes "RC") 0x20000 ∷ bits (codes "WD") 0x40000 ∷ bits (codes "WO") 0x80000 ∷ []
-
--- the table's name for exactly these bits
-unfoldable pub name_in : List (Name ℕ) → ℕ → Option (List ℕ)
-name_in [] mask = None
-name_in (name ∷ names) mask = if name.stands_for == mask then Some name.letters else name_in names mask
-
--- a mask by one name, or else in hexadecimal
-unfoldable pub rights_canon : ℕ → List ℕ
-rights_canon mask = unwrap_or (name_in printed_rights mask) (codes "0x" ++ hex mask)
+-- a mask by one of these names, or else in hexadecimal
+unfoldable pub rights_canon_in : RightNames → ℕ → List ℕ
+rights_canon_in names mask = unwrap_or (name_in names printed_rights mask) (codes "0x" ++ hex mask)
 
 -- the name of a flag if it is set
 abbrev pub flag_canon : ℕ → Name ℕ → List ℕ
@@ -66,10 +54,13 @@ abbrev pub kind_canon : AceKind → List ℕ
 kind_canon Allow = codes "A"
 kind_canon Deny = codes "D"
 
--- an entry
-unfoldable pub entry_canon : Ace → List ℕ
-entry_canon e = codes "(" ++ kind_canon e.kind ++ codes ";" ++ flags_canon e.flags.0 ++ codes ";" ++ rights_canon e.mask
-    ++ codes ";;;" ++ sid_canon e.sid ++ codes ")"
+-- an entry with these names of rights
+unfoldable pub entry_canon_in : RightNames → Ace → List ℕ
+entry_canon_in names e = codes "(" ++ kind_canon e.kind ++ codes ";" ++ flags_canon e.flags.0 ++ codes ";"
+    ++ rights_canon_in names e.mask ++ codes ";;;" ++ sid_canon e.sid ++ codes ")"
+
+abbrev pub entry_canon : Ace → List ℕ
+entry_canon e = entry_canon_in All e
 
 -- letters if the test holds
 abbrev pub where_set : Bool → List ℕ → List ℕ
@@ -81,16 +72,21 @@ words_canon d = where_set d.protected (codes "P") ++ where_set d.auto_req (codes
     (codes "AI")
 
 -- the DACL's section, if there is a DACL
-abbrev pub dacl_canon : List ℕ → Dacl → List ℕ
-dacl_canon words Absent = []
-dacl_canon words Null = codes "D:" ++ words ++ codes "NO_ACCESS_CONTROL"
-dacl_canon words (Entries es) = codes "D:" ++ words ++ flat_map entry_canon es
+abbrev pub dacl_canon : RightNames → List ℕ → Dacl → List ℕ
+dacl_canon names words Absent = []
+dacl_canon names words Null = codes "D:" ++ words ++ codes "NO_ACCESS_CONTROL"
+dacl_canon names words (Entries es) = codes "D:" ++ words ++ flat_map (entry_canon_in names) es
 
 -- a section of one SID, if there is one
 abbrev pub section_canon : List ℕ → Option SidValue → List ℕ
 section_canon head None = []
 section_canon head (Some sid) = head ++ sid_canon sid
 
--- the printed text of a descriptor
-unfoldable pub canon : DescriptorValue → List ℕ
-canon d = section_canon (codes "O:") d.owner ++ section_canon (codes "G:") d.group ++ dacl_canon (words_canon d) d.dacl
+-- the printed text of a descriptor with these names of rights
+unfoldable pub canon_in : RightNames → DescriptorValue → List ℕ
+canon_in names d = section_canon (codes "O:") d.owner ++ section_canon (codes "G:") d.group
+    ++ dacl_canon names (words_canon d) d.dacl
+
+-- the canonical text
+abbrev pub canon : DescriptorValue → List ℕ
+canon d = canon_in All d

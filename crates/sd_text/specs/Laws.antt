@@ -2,13 +2,14 @@
 use Rattle.std.specs.Prelude.{◌≡◌, ℕ, ◌^◌, ◌<◌, ◌⊎◌, List, ◌++◌, true, false, codes}
 use Rattle.sd_sid.specs.Sid.{SidValue, IsSid}
 use Rattle.sd_acl.specs.Descriptor.{DescriptorValue, IsDescriptor, HaveNamedFlags}
-use Rattle.sd_text.specs.Canon.{sid_canon, rights_canon, canon}
+use Rattle.sd_text.specs.Canon.{sid_canon, rights_canon_in, canon_in}
 use Rattle.sd_text.specs.Rights.{mask_text}
 use Rattle.sd_text.specs.Sacl.{sddl_without_sacl}
 use Rattle.sd_text.specs.Sddl.{sddl_in}
 use Rattle.sd_text.specs.Sid.{sid_text_in}
 use Rattle.sd_text.specs.declared.alias.Aliases.{Aliases}
 use Rattle.sd_text.specs.declared.fault.TextFault.{TextFault}
+use Rattle.sd_text.specs.declared.right_names.RightNames.{RightNames}
 use Rattle.sd_text.specs.Grammar.{Grammar, begins, Spells, HasFault}
 
 -- no text has two values
@@ -30,10 +31,10 @@ abbrev pub HasOneFault : {A : Type 0} → Grammar A → Type 0
 HasOneFault grammar = (text : List ℕ) (f g : TextFault) (p q : ℕ) → HasFault grammar text f p
     → HasFault grammar text g q → (f ≡ g) × (p ≡ q)
 
--- the printed text of a descriptor spells it, whichever aliases a text may have
+-- the printed text of a descriptor spells it, whichever aliases a text may have, and whichever names rights have
 abbrev pub DescriptorsComeBack : Type 0
-DescriptorsComeBack = (known : Aliases) (d : DescriptorValue) → IsDescriptor d → HaveNamedFlags d.dacl
-    → Spells (sddl_in known) (canon d) d
+DescriptorsComeBack = (known : Aliases) (names : RightNames) (d : DescriptorValue) → IsDescriptor d
+    → HaveNamedFlags d.dacl → Spells (sddl_in known) (canon_in names d) d
 
 -- the printed text of a SID spells it
 abbrev pub SidsComeBack : Type 0
@@ -41,7 +42,7 @@ SidsComeBack = (known : Aliases) (sid : SidValue) → IsSid sid → Spells (sid_
 
 -- the printed text of a mask spells it
 abbrev pub MasksComeBack : Type 0
-MasksComeBack = (mask : ℕ) → mask < 2 ^ 32 → Spells mask_text (rights_canon mask) mask
+MasksComeBack = (names : RightNames) (mask : ℕ) → mask < 2 ^ 32 → Spells mask_text (rights_canon_in names mask) mask
 
 -- a text without a SACL's section spells the same descriptor where one may be left out
 abbrev pub AreReadAlike : Type 0

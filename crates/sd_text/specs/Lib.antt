@@ -10,6 +10,7 @@ pub mod Rights
 pub mod Entry
 pub mod Sddl
 pub mod Sacl
+pub mod RightNames
 pub mod Canon
 pub mod MaskNames
 pub mod Room

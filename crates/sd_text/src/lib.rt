@@ -2,7 +2,7 @@
 //!
 //! Texts of descriptors, of SIDs and of access masks are parsed and printed. A text is parsed in one pass, and an error
 //! is its first fault, with the offset in bytes. A text parses exactly if the grammar in specs/ accepts it; each value
-//! has one printed text, which parses as that value again.
+//! has one canonical text, which parses as that value again.
 //!
 //! ```text
 //! let descriptor = read_sddl(alloc, "o:s-1-5-18d:(a;;0x1f01ff;;;wd)")?;
@@ -23,6 +23,7 @@ mod name;
 mod number;
 mod places;
 mod print;
+mod right_names;
 mod rights;
 mod sacl;
 mod sid;
@@ -37,7 +38,10 @@ pub use laws::{
     texts_without_a_sacl_are_read_alike,
 };
 pub use mask_names::print_mask_names;
-pub use print::{print_entry, print_full_sid, print_sddl, print_sid};
+pub use print::{
+    print_entry, print_entry_in, print_full_sid, print_sddl, print_sddl_in, print_sid,
+};
+pub use right_names::RightNames;
 pub use rights::read_mask;
 pub use sacl::{WithoutSacl, read_sddl_without_sacl};
 pub use sid::{read_sid_text, read_sid_text_in};

@@ -1,41 +1,23 @@
-//! The one printed text of each value: [MS-DTYP] 2.5.1.
+//! The printed text of each value: [MS-DTYP] 2.5.1.
 
-ghost use Rattle.std.specs.Prelude.{◌≡◌, ◌<◌, ◌≤◌, ◌+◌, ◌*◌, length, replicate, OnErr, IfOk, option_map, string_bytes};
+ghost use Rattle.std.specs.Prelude.{◌≡◌, ◌<◌, ◌≤◌, ◌+◌, ◌*◌, length, replicate, OnErr, IfOk, string_bytes};
 ghost use Rattle.std.specs.List.{flat_map};
 ghost use Rattle.sd_acl.specs.Ace.{ace_size, acl_size_of};
 ghost use Rattle.sd_acl.specs.Descriptor.{descriptor_of};
-ghost use Rattle.sd_text.specs.Names.{rows};
 ghost use Rattle.sd_text.specs.Room.{HasRoom, IsPrinted};
-ghost use Rattle.sd_text.specs.Canon.{authority_canon, sub_canon, full_canon, sid_canon, printed_rights, name_in};
-ghost use Rattle.sd_text.specs.Canon.{rights_canon, flags_canon, entry_canon, where_set, words_canon, section_canon};
-ghost use Rattle.sd_text.specs.Canon.{dacl_canon, canon};
+ghost use Rattle.sd_text.specs.Canon.{authority_canon, sub_canon, full_canon, sid_canon, rights_canon_in, flags_canon};
+ghost use Rattle.sd_text.specs.Canon.{entry_canon, entry_canon_in, where_set, words_canon, section_canon, dacl_canon};
+ghost use Rattle.sd_text.specs.Canon.{canon, canon_in};
+ghost use Rattle.sd_text.specs.declared.right_names.RightNames.{RightNames};
 
 use crate::alias::alias_text;
 use crate::entry::flag_names;
 use crate::number::{MAX_DIGITS, digits, push_decimal};
+use crate::right_names::RightNames;
 use bitflags::Flags;
 use sd_acl::{Ace, AceFlags, AceKind, Dacl, Descriptor};
 use sd_sid::{Mask, Sid};
 use std::alloc::{AllocError, Global};
-
-/// The names for whole masks in printed texts ([MS-DTYP] 2.5.1.1, ace-rights).
-static PRINTED_RIGHTS: [(&str, u32); 15] = [
-    ("FA", 0x001F_01FF),
-    ("FR", 0x0012_0089),
-    ("FW", 0x0012_0116),
-    ("FX", 0x0012_00A0),
-    ("KA", 0x000F_003F),
-    ("KR", 0x0002_0019),
-    ("KW", 0x0002_0006),
-    ("GA", 0x1000_0000),
-    ("GR", 0x8000_0000),
-    ("GW", 0x4000_0000),
-    ("GX", 0x2000_0000),
-    ("SD", 0x0001_0000),
-    ("RC", 0x0002_0000),
-    ("WD", 0x0004_0000),
-    ("WO", 0x0008_0000),
-];
 
 /// An authority below this is printed in decimal ([MS-DTYP] 2.4.2.1).
 const DECIMAL_LIMIT: u64 = 0x1_0000_0000;
@@ -49,8 +31,21 @@ pub fn print_sddl(alloc: Global, descriptor: &Descriptor) -> Result<String, Allo
     ensures text { IfOk result (λ text. string_bytes text ≡ canon (descriptor_of descriptor.now)) }
     ensures memory { OnErr result (0 < length (canon (descriptor_of descriptor.now))) }
 {
+    print_sddl_in(alloc, RightNames::All, descriptor)
+}
+
+/// The text of a descriptor in which rights have these names ([MS-DTYP] 2.5.1). The only error is out of memory.
+/// `read_sddl` parses the text as the same descriptor, if no entry has a flag outside the seven named ones.
+pub fn print_sddl_in(
+    alloc: Global,
+    names: RightNames,
+    descriptor: &Descriptor,
+) -> Result<String, AllocError>
+    ensures text { IfOk result (λ text. string_bytes text ≡ canon_in names (descriptor_of descriptor.now)) }
+    ensures memory { OnErr result (0 < length (canon_in names (descriptor_of descriptor.now))) }
+{
     let mut text = String::with_capacity(alloc, sddl_room(descriptor))?;
-    write_sddl(&mut text, descriptor);
+    write_sddl(&mut text, names, descriptor);
     give_back_room(&mut text);
     Ok(text)
 }
@@ -79,8 +74,15 @@ pub fn print_full_sid(alloc: Global, sid: &Sid) -> Result<String, AllocError>
 pub fn print_entry(alloc: Global, entry: &Ace) -> Result<String, AllocError>
     ensures { IfOk result (λ text. string_bytes text ≡ entry_canon entry.now) }
 {
+    print_entry_in(alloc, RightNames::All, entry)
+}
+
+/// An entry in whose text rights have these names ([MS-DTYP] 2.5.1.1). The only error is out of memory.
+pub fn print_entry_in(alloc: Global, names: RightNames, entry: &Ace) -> Result<String, AllocError>
+    ensures { IfOk result (λ text. string_bytes text ≡ entry_canon_in names entry.now) }
+{
     let mut text = String::with_capacity(alloc, entry_room(entry))?;
-    write_entry(&mut text, entry);
+    write_entry(&mut text, names, entry);
     give_back_room(&mut text);
     Ok(text)
 }
@@ -94,11 +96,11 @@ fn give_back_room(text: &mut String)
     }
 }
 
-/// Room for the text of a descriptor, 0 if the text is empty.
-#[tactic(auto, unfolding(crate::specs::Canon::canon))]
+/// Room for the text of a descriptor, whichever names rights have; 0 if the text is empty.
+#[tactic(auto, unfolding(crate::specs::Canon::canon_in))]
 fn sddl_room(d: &Descriptor) -> usize
-    ensures room { length (canon (descriptor_of d.now)) ≤ result }
-    ensures some { 0 < result → 0 < length (canon (descriptor_of d.now)) }
+    ensures room { (names : RightNames) → length (canon_in names (descriptor_of d.now)) ≤ result }
+    ensures some { 0 < result → (names : RightNames) → 0 < length (canon_in names (descriptor_of d.now)) }
 {
     section_room("O:", &d.owner) + section_room("G:", &d.group) + dacl_room(d)
 }
@@ -128,8 +130,10 @@ fn sid_room(sid: &Sid) -> usize
 
 /// Room for the section of a DACL: its head, the keywords, and the entries or NO_ACCESS_CONTROL.
 fn dacl_room(d: &Descriptor) -> usize
-    ensures room { length (dacl_canon (words_canon (descriptor_of d.now)) d.now.dacl) ≤ result }
-    ensures some { 0 < result → 0 < length (dacl_canon (words_canon (descriptor_of d.now)) d.now.dacl) }
+    ensures room { (names : RightNames)
+        → length (dacl_canon names (words_canon (descriptor_of d.now)) d.now.dacl) ≤ result }
+    ensures some { 0 < result → (names : RightNames)
+        → 0 < length (dacl_canon names (words_canon (descriptor_of d.now)) d.now.dacl) }
     ensures most { result ≤ 4 * 65535 + 24 }
 {
     match &d.dacl {
@@ -141,7 +145,7 @@ fn dacl_room(d: &Descriptor) -> usize
 
 fn entries_room(entries: &[Ace]) -> usize
     requires { acl_size_of entries.now ≤ 65535 }
-    ensures room { length (flat_map entry_canon entries.now) ≤ result }
+    ensures room { (names : RightNames) → length (flat_map (entry_canon_in names) entries.now) ≤ result }
     ensures most { result ≤ 4 * acl_size_of entries.now }
 {
     let mut room = 0;
@@ -154,7 +158,7 @@ fn entries_room(entries: &[Ace]) -> usize
 /// Room for an entry: 32 letters and its SID. That is at most four for each byte of its binary form.
 #[tactic(auto, using(crate::proofs::Lengths::entry_length))]
 fn entry_room(entry: &Ace) -> usize
-    ensures room { length (entry_canon entry.now) ≤ result }
+    ensures room { (names : RightNames) → length (entry_canon_in names entry.now) ≤ result }
     ensures most { result ≤ 4 * ace_size entry.now }
 {
     let _mask = entry.mask.bits();
@@ -169,14 +173,14 @@ fn push(out: &mut String, letters: &str)
     out.push_str(letters).unwrap();
 }
 
-#[tactic(auto, unfolding(crate::specs::Canon::canon))]
-fn write_sddl(out: &mut String, d: &Descriptor)
-    requires { HasRoom out.old (canon (descriptor_of d.now)) }
-    ensures { IsPrinted out.old out.new (canon (descriptor_of d.now)) }
+#[tactic(auto, unfolding(crate::specs::Canon::canon_in))]
+fn write_sddl(out: &mut String, names: RightNames, d: &Descriptor)
+    requires { HasRoom out.old (canon_in names (descriptor_of d.now)) }
+    ensures { IsPrinted out.old out.new (canon_in names (descriptor_of d.now)) }
 {
     write_section(out, "O:", &d.owner);
     write_section(out, "G:", &d.group);
-    write_dacl(out, d);
+    write_dacl(out, names, d);
 }
 
 /// A section of one SID, if there is one.
@@ -267,9 +271,9 @@ fn write_where(out: &mut String, test: bool, letters: &str)
     }
 }
 
-fn write_dacl(out: &mut String, d: &Descriptor)
-    requires { HasRoom out.old (dacl_canon (words_canon (descriptor_of d.now)) d.now.dacl) }
-    ensures { IsPrinted out.old out.new (dacl_canon (words_canon (descriptor_of d.now)) d.now.dacl) }
+fn write_dacl(out: &mut String, names: RightNames, d: &Descriptor)
+    requires { HasRoom out.old (dacl_canon names (words_canon (descriptor_of d.now)) d.now.dacl) }
+    ensures { IsPrinted out.old out.new (dacl_canon names (words_canon (descriptor_of d.now)) d.now.dacl) }
 {
     match &d.dacl {
         Dacl::Absent => {}
@@ -282,16 +286,16 @@ fn write_dacl(out: &mut String, d: &Descriptor)
             push(out, "D:");
             write_words(out, d);
             for entry in list.entries() {
-                write_entry(out, entry);
+                write_entry(out, names, entry);
             }
         }
     }
 }
 
-#[tactic(auto, unfolding(crate::specs::Canon::entry_canon))]
-fn write_entry(out: &mut String, entry: &Ace)
-    requires { HasRoom out.old (entry_canon entry.now) }
-    ensures { IsPrinted out.old out.new (entry_canon entry.now) }
+#[tactic(auto, unfolding(crate::specs::Canon::entry_canon_in))]
+fn write_entry(out: &mut String, names: RightNames, entry: &Ace)
+    requires { HasRoom out.old (entry_canon_in names entry.now) }
+    ensures { IsPrinted out.old out.new (entry_canon_in names entry.now) }
 {
     match entry.kind {
         AceKind::Allow => push(out, "(A;"),
@@ -299,7 +303,7 @@ fn write_entry(out: &mut String, entry: &Ace)
     }
     write_flags(out, entry.flags);
     push(out, ";");
-    write_rights(out, entry.mask);
+    write_rights(out, names, entry.mask);
     push(out, ";;;");
     write_sid(out, &entry.sid);
     push(out, ")");
@@ -319,13 +323,13 @@ fn write_flags(out: &mut String, flags: AceFlags)
     }
 }
 
-#[tactic(auto, unfolding(crate::specs::Canon::rights_canon))]
-fn write_rights(out: &mut String, mask: Mask)
-    requires { HasRoom out.old (rights_canon mask) }
-    ensures { IsPrinted out.old out.new (rights_canon mask) }
+#[tactic(auto, unfolding(crate::specs::Canon::rights_canon_in))]
+fn write_rights(out: &mut String, names: RightNames, mask: Mask)
+    requires { HasRoom out.old (rights_canon_in names mask) }
+    ensures { IsPrinted out.old out.new (rights_canon_in names mask) }
 {
     let bits = mask.bits();
-    match right_name(bits) {
+    match names.name_of(bits) {
         Some(letters) => push(out, letters),
         None => {
             let mut bytes = [0; MAX_DIGITS];
@@ -333,24 +337,4 @@ fn write_rights(out: &mut String, mask: Mask)
             push(out, digits(u64::from(bits), 16, &mut bytes));
         }
     }
-}
-
-/// The name for exactly these bits.
-#[tactic(auto, using(crate::proofs::Tables::name_at), unfolding(crate::specs::Canon::name_in))]
-fn right_name(bits: u32) -> Option<&'static str>
-    ensures { option_map (λ letters. letters.now) result ≡ name_in printed_rights bits }
-{
-    for (letters, mask) in printed_rights() {
-        if *mask == bits {
-            return Some(letters);
-        }
-    }
-    None
-}
-
-#[tactic(auto, unfolding(crate::specs::Canon::printed_rights))]
-fn printed_rights() -> &'static [(&'static str, u32)]
-    ensures { rows result.now ≡ printed_rights }
-{
-    &PRINTED_RIGHTS
 }
