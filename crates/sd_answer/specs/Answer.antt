@@ -1,13 +1,16 @@
 -- The lines of verdicts and of invalid arguments, and how they spell masks.
-use Rattle.std.specs.Prelude.{ℕ, List, [], ◌∷◌, ◌++◌, false, codes}
+use Rattle.std.specs.Prelude.{ℕ, List, [], ◌∷◌, ◌++◌, Some, false, codes}
 use Rattle.std.specs.Fmt.{digits, decimal}
 use Rattle.sd_check.specs.declared.verdict.Verdict.{Verdict}
 use Rattle.sd_check.specs.declared.verdict.Verdict.TheVariants.{Granted, Denied, Reserved, EmptyRequest}
 use Rattle.sd_text.specs.Fault as text
 use Rattle.sd_text.specs.declared.fault.TextFault.{TextFault}
+use Rattle.sd_text.specs.declared.right_names.RightNames.{RightNames}
+use Rattle.sd_text.specs.declared.right_names.RightNames.TheVariants.{All, Files, Keys, Common}
 use Rattle.sd_answer.specs.Names.{mask_names}
 use Rattle.sd_answer.specs.declared.answer.Spelling.{Spelling}
 use Rattle.sd_answer.specs.declared.answer.Spelling.TheVariants.{Number, Names}
+use Rattle.sd_answer.specs.declared.names.ObjectKind.TheVariants.{File, Key}
 
 -- the text, and the end of the line
 abbrev pub line : List ℕ → List ℕ
@@ -21,6 +24,13 @@ mask_digits mask = codes "0x" ++ digits 16 false mask
 abbrev pub spelled : Spelling → ℕ → List ℕ
 spelled Number mask = mask_digits mask
 spelled (Names kind) mask = mask_names kind mask
+
+-- the names that rights have in an entry beside masks so spelled
+abbrev pub right_names_of : Spelling → RightNames
+right_names_of Number = All
+right_names_of (Names (Some File)) = Files
+right_names_of (Names (Some Key)) = Keys
+right_names_of (Names kind) = Common
 
 -- a verdict's line
 abbrev pub verdict_line : Spelling → Verdict → List ℕ

@@ -12,11 +12,12 @@ use Rattle.sd_acl.specs.Descriptor.{DescriptorValue}
 use Rattle.sd_acl.specs.declared.ace.Ace.{Ace}
 use Rattle.sd_acl.specs.declared.ace.AceKind.{AceKind}
 use Rattle.sd_acl.specs.declared.descriptor.DaclOf.TheVariants.{Absent, Null, List as Entries}
-use Rattle.sd_text.specs.Canon.{entry_canon}
+use Rattle.sd_text.specs.Canon.{entry_canon_in}
 use Rattle.sd_check.specs.Check.{is_limit}
 use Rattle.sd_check.specs.declared.token.GroupState.{GroupState}
 use Rattle.sd_analysis.specs.Redundant.{AreRedundant, is_marked}
-use Rattle.sd_answer.specs.Answer.{line}
+use Rattle.sd_answer.specs.Answer.{line, right_names_of}
+use Rattle.sd_answer.specs.declared.answer.Spelling.{Spelling}
 
 -- ---- what two entries are to each other
 
@@ -46,8 +47,9 @@ is_useless e mark = mark && not (is_inherit_only e)
 
 -- ---- lines
 
-abbrev pub entry_head : ℕ → Ace → List ℕ
-entry_head place e = codes "entry " ++ decimal (place + 1) ++ codes " " ++ entry_canon e ++ codes " "
+abbrev pub entry_head : Spelling → ℕ → Ace → List ℕ
+entry_head spelling place e =
+    codes "entry " ++ decimal (place + 1) ++ codes " " ++ entry_canon_in (right_names_of spelling) e ++ codes " "
 
 -- what is so of an entry, where it is
 abbrev pub where_so : Bool → List ℕ → List ℕ → List ℕ
@@ -59,35 +61,38 @@ where_behind None head what = []
 where_behind (Some earlier) head what = line (head ++ what ++ decimal (earlier + 1))
 
 -- the findings of an entry, by a mark whether it is redundant
-unfoldable pub entry_lines : List Ace → ℕ → Ace → Bool → List ℕ
-entry_lines es place e mark =
-    where_behind (position (is_misplaced e) (take place es)) (entry_head place e)
+unfoldable pub entry_lines : Spelling → List Ace → ℕ → Ace → Bool → List ℕ
+entry_lines spelling es place e mark =
+    where_behind (position (is_misplaced e) (take place es)) (entry_head spelling place e)
     (codes "is out of order behind entry ")
-    ++ where_so (e.mask == 0) (entry_head place e) (codes "names no right")
-    ++ where_so (is_stranded e) (entry_head place e) (codes "is inherited by nothing")
-    ++ where_behind (position (is_repeated e) (take place es)) (entry_head place e) (codes "repeats entry ")
-    ++ where_so (is_useless e mark) (entry_head place e) (codes "has no effect")
-    ++ where_so (is_limit e) (entry_head place e) (codes "limits the owner")
+    ++ where_so (e.mask == 0) (entry_head spelling place e) (codes "names no right")
+    ++ where_so (is_stranded e) (entry_head spelling place e) (codes "is inherited by nothing")
+    ++ where_behind (position (is_repeated e) (take place es)) (entry_head spelling place e) (codes "repeats entry ")
+    ++ where_so (is_useless e mark) (entry_head spelling place e) (codes "has no effect")
+    ++ where_so (is_limit e) (entry_head spelling place e) (codes "limits the owner")
 
-abbrev pub lines_at : List Ace → ℕ → Option Ace → Bool → List ℕ
-lines_at es place None mark = []
-lines_at es place (Some e) mark = entry_lines es place e mark
+abbrev pub lines_at : Spelling → List Ace → ℕ → Option Ace → Bool → List ℕ
+lines_at spelling es place None mark = []
+lines_at spelling es place (Some e) mark = entry_lines spelling es place e mark
 
 -- those of the entries below a place
-unfoldable pub list_lines : List Ace → List Bool → ℕ → List ℕ
-list_lines es marks zero = []
-list_lines es marks (suc k) = list_lines es marks k ++ lines_at es k (slice_get es k) (is_marked marks k)
+unfoldable pub list_lines : Spelling → List Ace → List Bool → ℕ → List ℕ
+list_lines spelling es marks zero = []
+list_lines spelling es marks (suc k) =
+    list_lines spelling es marks k ++ lines_at spelling es k (slice_get es k) (is_marked marks k)
 
 -- those of a list of this owner's, of whose entries the redundant ones are marked
-abbrev pub AreListLines : MappingValue → List (SidValue × GroupState) → Option SidValue → List Ace → List ℕ → Type 0
-AreListLines g base owner es text =
-    (marks : List Bool) × AreRedundant owner es g base marks × (text ≡ list_lines es marks (length es))
+abbrev pub AreListLines : MappingValue → Spelling → List (SidValue × GroupState) → Option SidValue → List Ace → List ℕ
+    → Type 0
+AreListLines g spelling base owner es text =
+    (marks : List Bool) × AreRedundant owner es g base marks × (text ≡ list_lines spelling es marks (length es))
 
 -- those of a DACL
-abbrev pub AreDaclLines : MappingValue → List (SidValue × GroupState) → Option SidValue → Dacl → List ℕ → Type 0
-AreDaclLines g base owner Absent text = text ≡ line (codes "no DACL grants everything")
-AreDaclLines g base owner Null text = text ≡ line (codes "a null DACL grants everything")
-AreDaclLines g base owner (Entries es) text = AreListLines g base owner es text
+abbrev pub AreDaclLines : MappingValue → Spelling → List (SidValue × GroupState) → Option SidValue → Dacl → List ℕ
+    → Type 0
+AreDaclLines g spelling base owner Absent text = text ≡ line (codes "no DACL grants everything")
+AreDaclLines g spelling base owner Null text = text ≡ line (codes "a null DACL grants everything")
+AreDaclLines g spelling base owner (Entries es) text = AreListLines g spelling base owner es text
 
-abbrev pub IsLintText : MappingValue → List (SidValue × GroupState) → DescriptorValue → List ℕ → Type 0
-IsLintText g base d text = AreDaclLines g base d.owner d.dacl text
+abbrev pub IsLintText : MappingValue → Spelling → List (SidValue × GroupState) → DescriptorValue → List ℕ → Type 0
+IsLintText g spelling base d text = AreDaclLines g spelling base d.owner d.dacl text

@@ -6,7 +6,7 @@ use Rattle.sd_sid.specs.Mapping.{MappingValue}
 use Rattle.sd_acl.specs.Descriptor.{DescriptorValue}
 use Rattle.sd_check.specs.Check.{subject, verdict, dacl_entries}
 use Rattle.sd_acl.specs.declared.ace.Ace.{Ace}
-use Rattle.sd_text.specs.Canon.{full_canon, entry_canon}
+use Rattle.sd_text.specs.Canon.{full_canon, entry_canon_in}
 use Rattle.sd_check.specs.Token.{TokenValue}
 use Rattle.sd_explain.specs.Reasons.{grants, reasons_of}
 use Rattle.sd_explain.specs.Parts.{part_at, reason_in}
@@ -17,7 +17,7 @@ use Rattle.sd_explain.specs.declared.reason.Cause.{Cause}
 use Rattle.sd_explain.specs.declared.reason.Cause.TheVariants.{NoList, Listed, Restricted, Owner}
 use Rattle.sd_explain.specs.declared.reason.Cause.TheVariants.{TakeOwnership, Security, NoSecurity, BeyondAll, Reserved}
 use Rattle.sd_explain.specs.declared.reason.Reason.{Reason}
-use Rattle.sd_answer.specs.Answer.{line, spelled, verdict_line}
+use Rattle.sd_answer.specs.Answer.{line, right_names_of, spelled, verdict_line}
 use Rattle.sd_answer.specs.declared.answer.Spelling.{Spelling}
 
 -- the SID that the token stands for, in full
@@ -25,37 +25,38 @@ abbrev pub subject_text : Option SidValue → List ℕ
 subject_text None = []
 subject_text (Some s) = full_canon s
 
--- an entry, counted from 1 and printed as the canonical text prints it, and whom it speaks of
-abbrev pub entry_text : Option SidValue → ℕ → Option Ace → List ℕ
-entry_text owner place None = []
-entry_text owner place (Some e) =
-    codes "by entry " ++ decimal (place + 1) ++ codes " " ++ entry_canon e
+-- an entry, counted from 1 and with the names of its kind of object, and whom it speaks of
+abbrev pub entry_text : Spelling → Option SidValue → ℕ → Option Ace → List ℕ
+entry_text spelling owner place None = []
+entry_text spelling owner place (Some e) =
+    codes "by entry " ++ decimal (place + 1) ++ codes " " ++ entry_canon_in (right_names_of spelling) e
     ++ codes " as " ++ subject_text (subject owner e.sid)
 
-abbrev pub finding_text : Option SidValue → List Ace → Finding → List ℕ
-finding_text owner es (Allowed place) = entry_text owner place (slice_get es place)
-finding_text owner es (Denied place) = entry_text owner place (slice_get es place)
-finding_text owner es NoEntry = codes "by no entry"
+abbrev pub finding_text : Spelling → Option SidValue → List Ace → Finding → List ℕ
+finding_text spelling owner es (Allowed place) = entry_text spelling owner place (slice_get es place)
+finding_text spelling owner es (Denied place) = entry_text spelling owner place (slice_get es place)
+finding_text spelling owner es NoEntry = codes "by no entry"
 
 -- of a restricted token each pass has its own reason
-abbrev pub cause_text : Option SidValue → List Ace → Cause → List ℕ
-cause_text owner es NoList = codes "without a list"
-cause_text owner es (Listed finding) = finding_text owner es finding
-cause_text owner es (Restricted first second) =
-    finding_text owner es first ++ codes ", restricted " ++ finding_text owner es second
-cause_text owner es Owner = codes "to the owner"
-cause_text owner es TakeOwnership = codes "by SeTakeOwnershipPrivilege"
-cause_text owner es Security = codes "by SeSecurityPrivilege"
-cause_text owner es NoSecurity = codes "without SeSecurityPrivilege"
-cause_text owner es BeyondAll = codes "beyond GENERIC_ALL"
-cause_text owner es Reserved = codes "as reserved"
+abbrev pub cause_text : Spelling → Option SidValue → List Ace → Cause → List ℕ
+cause_text spelling owner es NoList = codes "without a list"
+cause_text spelling owner es (Listed finding) = finding_text spelling owner es finding
+cause_text spelling owner es (Restricted first second) =
+    finding_text spelling owner es first ++ codes ", restricted " ++ finding_text spelling owner es second
+cause_text spelling owner es Owner = codes "to the owner"
+cause_text spelling owner es TakeOwnership = codes "by SeTakeOwnershipPrivilege"
+cause_text spelling owner es Security = codes "by SeSecurityPrivilege"
+cause_text spelling owner es NoSecurity = codes "without SeSecurityPrivilege"
+cause_text spelling owner es BeyondAll = codes "beyond GENERIC_ALL"
+cause_text spelling owner es Reserved = codes "as reserved"
 
 abbrev pub verb_of : Cause → List ℕ
 verb_of cause = if grants cause then codes "granted" else codes "denied"
 
 abbrev pub part_line : Spelling → Option SidValue → List Ace → Part → List ℕ
 part_line spelling owner es part =
-    line (verb_of part.cause ++ codes " " ++ spelled spelling part.mask ++ codes " " ++ cause_text owner es part.cause)
+    line (verb_of part.cause ++ codes " " ++ spelled spelling part.mask ++ codes " "
+    ++ cause_text spelling owner es part.cause)
 
 -- the line of the part that begins at a place, where one does
 abbrev pub line_at : Spelling → Option SidValue → List Ace → Option Part → List ℕ

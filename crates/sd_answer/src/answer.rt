@@ -1,11 +1,12 @@
 //! The lines of verdicts and of invalid arguments, and how they spell masks.
 ghost use Rattle.std.specs.Prelude.{◌≡◌, ◌++◌, IfOk, string_bytes};
-ghost use Rattle.sd_answer.specs.Answer.{fault_line, line, mask_digits, sddl_fault_line, spelled, verdict_line};
+ghost use Rattle.sd_answer.specs.Answer.{fault_line, line, mask_digits, right_names_of, sddl_fault_line};
+ghost use Rattle.sd_answer.specs.Answer.{spelled, verdict_line};
 
 use crate::names::{ObjectKind, mask_names};
 use sd_check::Verdict;
 use sd_sid::Mask;
-use sd_text::TextFault;
+use sd_text::{RightNames, TextFault};
 use std::alloc::{AllocError, Global};
 
 /// How a mask is spelled.
@@ -15,6 +16,21 @@ pub enum Spelling {
     Number,
     /// By the names of a kind of object, as `FR+WD` of a file; of none by those of every object.
     Names(Option<ObjectKind>),
+}
+
+impl Spelling {
+    /// The names that rights have in an entry beside masks so spelled: of their kind of object alone. Without names the
+    /// entry is that of the canonical text.
+    pub fn right_names(self) -> RightNames
+        ensures { result ≡ right_names_of self }
+    {
+        match self {
+            Spelling::Number => RightNames::All,
+            Spelling::Names(Some(ObjectKind::File)) => RightNames::Files,
+            Spelling::Names(Some(ObjectKind::Key)) => RightNames::Keys,
+            Spelling::Names(_) => RightNames::Common,
+        }
+    }
 }
 
 /// The mask in this spelling ([MS-DTYP] 2.4.3).

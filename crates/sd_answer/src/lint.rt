@@ -6,11 +6,12 @@ ghost use Rattle.sd_check.specs.Check.{is_limit};
 ghost use Rattle.sd_answer.specs.Lint.{AreListLines, IsLintText, entry_head, entry_lines, is_misplaced, is_repeated};
 ghost use Rattle.sd_answer.specs.Lint.{is_stranded, is_useless, list_lines, same_kind, where_behind, where_so};
 
+use crate::answer::Spelling;
 use bitflags::Flags;
 use sd_acl::{Ace, AceFlags, AceKind, Dacl, Descriptor};
 use sd_analysis::{Base, redundant};
 use sd_sid::{GenericMapping, Sid};
-use sd_text::print_entry;
+use sd_text::print_entry_in;
 use std::alloc::{AllocError, Global};
 
 /// What is doubtful in a descriptor's DACL, entry by entry, a line for each finding, as `entry 2 (A;;FR;;;BU) has no
@@ -19,15 +20,24 @@ use std::alloc::{AllocError, Global};
 pub fn lint_text(
     alloc: Global,
     mapping: &GenericMapping,
+    spelling: Spelling,
     base: &Base<'_>,
     descriptor: &Descriptor,
 ) -> Result<String, AllocError>
-    ensures { IfOk result (λ text. IsLintText mapping.now base.now (descriptor_of descriptor.now) (string_bytes text)) }
+    ensures { IfOk result (λ text. IsLintText mapping.now spelling base.now (descriptor_of descriptor.now)
+        (string_bytes text)) }
 {
     match &descriptor.dacl {
         Dacl::Absent => String::from_str(alloc, "no DACL grants everything\n"),
         Dacl::Null => String::from_str(alloc, "a null DACL grants everything\n"),
-        Dacl::List(list) => lines_of(alloc, &descriptor.owner, list.entries(), mapping, base),
+        Dacl::List(list) => lines_of(
+            alloc,
+            &descriptor.owner,
+            list.entries(),
+            mapping,
+            spelling,
+            base,
+        ),
     }
 }
 
@@ -37,22 +47,36 @@ fn lines_of(
     owner: &Option<Sid>,
     entries: &[Ace],
     mapping: &GenericMapping,
+    spelling: Spelling,
     base: &Base<'_>,
 ) -> Result<String, AllocError>
-    ensures { IfOk result (λ text. AreListLines mapping.now base.now owner.now entries.now (string_bytes text)) }
+    ensures { IfOk result (λ text. AreListLines mapping.now spelling base.now owner.now entries.now
+        (string_bytes text)) }
 {
     let marks = redundant(alloc, *owner, entries, mapping, base)?;
-    list_lines(alloc, entries, &marks)
+    list_lines(alloc, spelling, entries, &marks)
 }
 
 /// The lines of these entries, of which the marks say which are redundant.
-fn list_lines(alloc: Global, entries: &[Ace], marks: &[bool]) -> Result<String, AllocError>
+fn list_lines(
+    alloc: Global,
+    spelling: Spelling,
+    entries: &[Ace],
+    marks: &[bool],
+) -> Result<String, AllocError>
     requires { length marks.now ≡ length entries.now }
-    ensures { IfOk result (λ text. string_bytes text ≡ list_lines entries.now marks.now (length entries.now)) }
+    ensures { IfOk result (λ text. string_bytes text ≡ list_lines spelling entries.now marks.now (length entries.now)) }
 {
     let mut text = String::new(alloc);
     for place in 0..entries.len() {
-        let lines = entry_lines(alloc, entries, place, &entries[place], marks[place])?;
+        let lines = entry_lines(
+            alloc,
+            spelling,
+            entries,
+            place,
+            &entries[place],
+            marks[place],
+        )?;
         text.push_str(lines.as_str())?;
     }
     Ok(text)
@@ -62,16 +86,17 @@ fn list_lines(alloc: Global, entries: &[Ace], marks: &[bool]) -> Result<String, 
 #[tactic(auto, unfolding(crate::specs::Lint::entry_lines))]
 fn entry_lines(
     alloc: Global,
+    spelling: Spelling,
     entries: &[Ace],
     place: usize,
     entry: &Ace,
     mark: bool,
 ) -> Result<String, AllocError>
     requires { place < length entries.now }
-    ensures { IfOk result (λ text. string_bytes text ≡ entry_lines entries.now place entry.now mark) }
+    ensures { IfOk result (λ text. string_bytes text ≡ entry_lines spelling entries.now place entry.now mark) }
 {
     let mut text = String::new(alloc);
-    let head = entry_head(alloc, place, entry)?;
+    let head = entry_head(alloc, spelling, place, entry)?;
     let head = head.as_str();
     let misplaced = first_misplaced(&entries[..place], entry);
     push_behind(
@@ -96,13 +121,18 @@ fn entry_lines(
     Ok(text)
 }
 
-/// Which entry it is, counted from 1 and as the canonical text has it.
-fn entry_head(alloc: Global, place: usize, entry: &Ace) -> Result<String, AllocError>
+/// Which entry it is, counted from 1 and with the names of its kind of object.
+fn entry_head(
+    alloc: Global,
+    spelling: Spelling,
+    place: usize,
+    entry: &Ace,
+) -> Result<String, AllocError>
     requires { place < 2 ^ 63 }
-    ensures { IfOk result (λ text. string_bytes text ≡ entry_head place entry.now) }
+    ensures { IfOk result (λ text. string_bytes text ≡ entry_head spelling place entry.now) }
 {
     let number = place + 1;
-    let entry = print_entry(alloc, entry)?;
+    let entry = print_entry_in(alloc, spelling.right_names(), entry)?;
     let entry = entry.as_str();
     let text = format!(in alloc; "entry {number} {entry} ")?;
     Ok(text)

@@ -11,7 +11,7 @@ use sd_acl::{Ace, Dacl, Descriptor};
 use sd_check::{Token, subject_of};
 use sd_explain::{Cause, Explanation, Finding, PLACES, Part, explain_descriptor};
 use sd_sid::{GenericMapping, Mask, Sid};
-use sd_text::{print_entry, print_full_sid};
+use sd_text::{print_entry_in, print_full_sid};
 use std::alloc::{AllocError, Global};
 
 /// The lines of an explanation: the verdict's, and one for each part, as `denied 0x2 by entry 1 (D;;0x2;;;BU) as
@@ -103,7 +103,7 @@ impl Listed<'_> {
     /// Why, in words.
     fn cause_text(&self, alloc: Global, cause: Cause) -> Result<String, AllocError>
         ensures { IfOk result (λ text. string_bytes text
-            ≡ cause_text self.now.owner.now self.now.entries.now cause) }
+            ≡ cause_text self.now.spelling self.now.owner.now self.now.entries.now cause) }
     {
         match cause {
             Cause::NoList => String::from_str(alloc, "without a list"),
@@ -126,7 +126,7 @@ impl Listed<'_> {
         second: Finding,
     ) -> Result<String, AllocError>
         ensures { IfOk result (λ text. string_bytes text
-            ≡ cause_text self.now.owner.now self.now.entries.now (Cause.Restricted first second)) }
+            ≡ cause_text self.now.spelling self.now.owner.now self.now.entries.now (Cause.Restricted first second)) }
     {
         let first = self.finding_text(alloc, first)?;
         let second = self.finding_text(alloc, second)?;
@@ -138,7 +138,7 @@ impl Listed<'_> {
     /// What a pass found.
     fn finding_text(&self, alloc: Global, finding: Finding) -> Result<String, AllocError>
         ensures { IfOk result (λ text. string_bytes text
-            ≡ finding_text self.now.owner.now self.now.entries.now finding) }
+            ≡ finding_text self.now.spelling self.now.owner.now self.now.entries.now finding) }
     {
         match finding {
             Finding::Allowed(place) => self.entry_text(alloc, place),
@@ -150,14 +150,14 @@ impl Listed<'_> {
     /// The entry at the place, where there is one.
     fn entry_text(&self, alloc: Global, place: usize) -> Result<String, AllocError>
         ensures { IfOk result (λ text. string_bytes text
-            ≡ entry_text self.now.owner.now place (slice_get self.now.entries.now place)) }
+            ≡ entry_text self.now.spelling self.now.owner.now place (slice_get self.now.entries.now place)) }
     {
         match self.entries.get(place) {
             None => String::from_str(alloc, ""),
             Some(entry) => {
                 let number = place + 1;
                 let whom = self.subject_text(alloc, &entry.sid)?;
-                let entry = print_entry(alloc, entry)?;
+                let entry = print_entry_in(alloc, self.spelling.right_names(), entry)?;
                 let (entry, whom) = (entry.as_str(), whom.as_str());
                 let text = format!(in alloc; "by entry {number} {entry} as {whom}")?;
                 Ok(text)

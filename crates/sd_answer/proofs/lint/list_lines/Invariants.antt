@@ -4,4 +4,4 @@ use Rattle.sd_answer.specs.Lint.{list_lines}
 use Rattle.sd_answer.proofs.lint.list_lines.Given as goal
 
 abbrev pub invariant-loop-place : goal.invariant-loop-place
-invariant-loop-place l = string_bytes l.text ≡ list_lines l.entries l.marks l.place
+invariant-loop-place l = string_bytes l.text ≡ list_lines l.spelling l.entries l.marks l.place
