@@ -1,6 +1,7 @@
--- The kinds of entries that no list here has ([MS-DTYP] 2.4.4.1, 2.5.1.1): what standard error says of an EntryKind.
+-- The kinds of entries ([MS-DTYP] 2.4.4.1, 2.5.1.1): what standard error says of an EntryKind.
 use Rattle.std.specs.Prelude.{ℕ, ◌==◌, if◌then◌else◌, List, [], ◌∷◌, ◌++◌, drop, Option, Some, None, codes, bytes_eq}
-use Rattle.std.specs.Char.{to_ascii_lowercase}
+use Rattle.std.specs.Prelude.{not}
+use Rattle.std.specs.Char.{is_ascii_alphabetic, to_ascii_lowercase}
 use Rattle.std.specs.Borrow.{Bor}
 use Rattle.std.specs.Fmt.{decimal}
 use Rattle.sd_text.specs.Sid.{begins_letter}
@@ -21,7 +22,8 @@ kind number letters name = record { number = number; letters = letters; name = n
 
 abbrev pub kinds : List KindRow
 kinds =
-    kind 2 (codes "au") (codes "audit") ∷ kind 3 (codes "al") (codes "alarm") ∷ kind 4 [] (codes "compound allow")
+    kind 0 (codes "a") (codes "allow") ∷ kind 1 (codes "d") (codes "deny")
+    ∷ kind 2 (codes "au") (codes "audit") ∷ kind 3 (codes "al") (codes "alarm") ∷ kind 4 [] (codes "compound allow")
     ∷ kind 5 (codes "oa") (codes "object allow") ∷ kind 6 (codes "od") (codes "object deny")
     ∷ kind 7 (codes "ou") (codes "object audit") ∷ kind 8 (codes "ol") (codes "object alarm")
     ∷ kind 9 (codes "xa") (codes "callback allow") ∷ kind 10 (codes "xd") (codes "callback deny")
@@ -45,15 +47,16 @@ abbrev pub kind_by_number : List KindRow → ℕ → List ℕ
 kind_by_number [] number = codes "unknown"
 kind_by_number (row ∷ rows) number = if row.number == number then row.name else kind_by_number rows number
 
--- which kind an entry is whose type, two letters of either case, begins a text
+-- which kind an entry is whose type, one or two letters of either case, begins a text
 abbrev pub kind_at : List ℕ → List ℕ
 kind_at [] = codes "unknown"
-kind_at (a ∷ []) = codes "unknown"
+kind_at (a ∷ []) = kind_by_letters kinds (to_ascii_lowercase a ∷ [])
 kind_at (a ∷ b ∷ text) =
-    if begins_letter text then codes "unknown"
+    if not (is_ascii_alphabetic b) then kind_by_letters kinds (to_ascii_lowercase a ∷ [])
+    else if begins_letter text then codes "unknown"
     else kind_by_letters kinds (to_ascii_lowercase a ∷ to_ascii_lowercase b ∷ [])
 
--- which kind it is, where the fault is that it is neither an allow nor a deny
+-- which kind it is, where the fault is that it may not stand in its list
 abbrev pub kind_note : List ℕ → TextFault → ℕ → List ℕ
 kind_note text EntryKind place = codes " (" ++ kind_at (drop place text) ++ codes ")"
 kind_note text fault place = []

@@ -1,4 +1,4 @@
-//! The kinds of entries that no list here has, by their names: [MS-DTYP] 2.4.4.1 and 2.5.1.1.
+//! The kinds of entries by their names: [MS-DTYP] 2.4.4.1 and 2.5.1.1.
 ghost use Rattle.std.specs.Prelude.{◌≡◌, IfOk, Some, map, string_bytes};
 ghost use Rattle.sd_commands.specs.Kinds.{entry_note, kind_at, kind_by_letters, kind_by_number, kind_note, kind_row};
 ghost use Rattle.sd_commands.specs.Kinds.{kinds, wire_kind_note};
@@ -11,7 +11,9 @@ use std::alloc::{AllocError, Global};
 /// A kind: its AceType, its letters in a text, in lower case, or none, and its name.
 type KindRow = (u8, &'static str, &'static str);
 
-static KINDS: [KindRow; 20] = [
+static KINDS: [KindRow; 22] = [
+    (0, "a", "allow"),
+    (1, "d", "deny"),
     (2, "au", "audit"),
     (3, "al", "alarm"),
     (4, "", "compound allow"),
@@ -40,8 +42,7 @@ fn kinds() -> &'static [KindRow]
     &KINDS
 }
 
-/// Which kind an entry of a text is, where the fault is that it is neither an allow nor a deny: its type is at this
-/// byte.
+/// Which kind an entry of a text is, where the fault is that it may not stand in its list: its type is at this byte.
 pub(crate) fn kind_note(
     alloc: Global,
     text: &str,
@@ -97,17 +98,20 @@ fn numbered_kind(kind: u8) -> &'static str
     kind_by_number(kinds(), kind)
 }
 
-/// Which kind an entry is whose type, two letters of either case, begins a text.
+/// Which kind an entry is whose type, one or two letters of either case, begins a text.
 fn kind_at(text: &[u8]) -> &'static str
     ensures { result.now ≡ kind_at text.now }
 {
     match text {
-        [_, _, after, ..] if after.is_ascii_alphabetic() => "unknown",
-        [first, second, ..] => kind_by_letters(
+        [] => "unknown",
+        [_, second, after, ..] if second.is_ascii_alphabetic() && after.is_ascii_alphabetic() => {
+            "unknown"
+        }
+        [first, second, ..] if second.is_ascii_alphabetic() => kind_by_letters(
             kinds(),
             &[first.to_ascii_lowercase(), second.to_ascii_lowercase()],
         ),
-        _ => "unknown",
+        [first, ..] => kind_by_letters(kinds(), &[first.to_ascii_lowercase()]),
     }
 }
 
