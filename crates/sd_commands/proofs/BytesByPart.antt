@@ -1,12 +1,12 @@
 -- Hexadecimal with signs between bytes, part by part.
-use Rattle.std.proofs.Common.{◌≡◌, ℕ, ◌+◌, ◌-◌, ◌<◌, ◌≤◌, Bool, false, All, List, [], ◌∷◌, ◌++◌, length, take, drop, Result, Ok, Err, refl, sym, ◌∙◌, ap, append_assoc, append-nil, arith, Some, None, cond, ltb, true}
+use Rattle.std.proofs.Common.{◌≡◌, ℕ, ◌+◌, ◌-◌, ◌<◌, ◌≤◌, Bool, false, All, List, [], ◌∷◌, ◌++◌, length, take, drop, Ok, Err, refl, sym, ◌∙◌, ap, append_assoc, append-nil, arith, Some, None, cond, ltb, true}
 use Rattle.std.specs.List.{slice_split, position_or_len, before_first, after_first}
 use Rattle.std.proofs.lemmas.Bool.Decides.{nat_tests}
 use Rattle.std.proofs.lemmas.List.{take_rest, drop_all, length-take-le, length-drop}
 use Rattle.hex.specs.Hex.{decode_pairs}
 use Rattle.std.proofs.lemmas.List.Splits.{slice_split_first, slice_split_none}
 use Rattle.std.proofs.lemmas.List.Sums.{fails_before_first}
-use Rattle.sd_commands.specs.Bytes.{is_between, joined, part_read, parts_read}
+use Rattle.sd_commands.specs.Bytes.{BytesRead, is_between, joined, part_read, parts_read}
 
 -- no element passes where the first that does is behind the last
 none_pass : (p : ℕ → Bool) (xs : List ℕ) → length xs ≤ position_or_len p xs → All (λ x. p x ≡ false) xs
@@ -22,11 +22,11 @@ place_none n m is = grind (arith, nat_tests)
 
 -- ---- results that are joined
 
-pub joined_none : (r : Result (List ℕ) (List ℕ)) → joined (Ok []) r ≡ r
+pub joined_none : (r : BytesRead) → joined (Ok []) r ≡ r
 joined_none (Ok bytes) = refl
 joined_none (Err reason) = refl
 
-pub joined_both : (one two : List ℕ) (r : Result (List ℕ) (List ℕ)) → joined (Ok one) (joined (Ok two) r) ≡ joined (Ok (one ++ two)) r
+pub joined_both : (one two : List ℕ) (r : BytesRead) → joined (Ok one) (joined (Ok two) r) ≡ joined (Ok (one ++ two)) r
 joined_both one two (Ok bytes) = ap Ok (sym (append_assoc one two bytes))
 joined_both one two (Err reason) = refl
 
@@ -57,7 +57,7 @@ parts_last xs end place at high =
 -- ---- part by part
 
 -- one more part is read
-pub part_joins : (total : Result (List ℕ) (List ℕ)) (text rest behind part bytes more grown : List ℕ)
+pub part_joins : (total : BytesRead) (text rest behind part bytes more grown : List ℕ)
     → total ≡ joined (Ok bytes) (parts_read (length text - length rest) (slice_split is_between rest))
     → length rest ≤ length text → length behind < length rest
     → parts_read (length text - length rest) (slice_split is_between rest) ≡ joined (part_read (length text - length rest) part)
@@ -71,7 +71,7 @@ part_joins total text rest behind part bytes more grown so_far within less cut r
     ∙ joined_both bytes more _ ∙ ap (λ xs. joined (Ok xs) (parts_read (length text - length behind) (slice_split is_between behind))) (sym longer)
 
 -- a part isn't read
-pub part_fails : (total : Result (List ℕ) (List ℕ)) (text rest behind part bytes reason : List ℕ)
+pub part_fails : (total : BytesRead) (text rest behind part bytes : List ℕ) (reason : List ℕ × ℕ)
     → total ≡ joined (Ok bytes) (parts_read (length text - length rest) (slice_split is_between rest))
     → parts_read (length text - length rest) (slice_split is_between rest) ≡ joined (part_read (length text - length rest) part)
     (parts_read (((length text - length rest) + length rest) - length behind) (slice_split is_between behind))
@@ -80,7 +80,7 @@ part_fails total text rest behind part bytes reason so_far cut fails =
     so_far ∙ ap (joined (Ok bytes)) (cut ∙ ap (λ r. joined r (parts_read (((length text - length rest) + length rest) - length behind) (slice_split is_between behind))) fails)
 
 -- nothing is left
-pub all_joined : (total : Result (List ℕ) (List ℕ)) (text rest bytes : List ℕ)
+pub all_joined : (total : BytesRead) (text rest bytes : List ℕ)
     → total ≡ joined (Ok bytes) (parts_read (length text - length rest) (slice_split is_between rest))
     → length rest ≡ 0 → total ≡ Ok bytes
 unfolding parts_read decode_pairs

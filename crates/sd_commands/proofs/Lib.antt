@@ -1,3 +1,4 @@
+pub mod CharStart
 pub mod Commas
 pub mod Texts
 pub mod BytesByPart

@@ -33,13 +33,14 @@ use Rattle.sd_answer.specs.Who.{who_text}
 use Rattle.sd_answer.specs.Why.{why_text}
 use Rattle.sd_answer.specs.Word.{AreGroups, IsFirstNoGroup, IsFirstNoWord, IsToken, texts}
 use Rattle.sd_commands.specs.Analysis.{AreAccesses, compare_outcome, parts_in, rights_asked}
-use Rattle.sd_commands.specs.Bytes.{bytes_read, form_name, has_sacl, without_sacl}
+use Rattle.sd_commands.specs.Bytes.{BytesRead, bytes_read, form_name, has_sacl, without_sacl}
 use Rattle.sd_usage.specs.declared.row.Question.{Question}
 use Rattle.sd_usage.specs.declared.row.Question.TheVariants as questions
 use Rattle.sd_commands.specs.MissingDacl.{missing_dacl}
+use Rattle.sd_commands.specs.Pointer.{pointed}
 use Rattle.sd_commands.specs.Risks.{risk_lines}
 use Rattle.sd_commands.specs.Sort.{move_notes, sorted_descriptor}
-use Rattle.sd_commands.specs.Told.{fault_text, sacl_note, sddl_fault_text, told_line, told_wire_fault}
+use Rattle.sd_commands.specs.Told.{at_byte, fault_text, sacl_note, sddl_fault_text, told_line, told_wire_fault}
 use Rattle.sd_commands.specs.Told.{wire_fault_text, word_argument, word_at}
 use Rattle.sd_commands.specs.Told.{IsStateReason, IsWordReason}
 use Rattle.sd_commands.specs.declared.answer.Answer.{Answer}
@@ -96,16 +97,17 @@ abbrev pub IsFault : List ℕ → List ℕ → AnswerValue → Type 0
 IsFault expected told answer = (answer.printed ≡ expected) × (answer.told ≡ told) × (answer.outcome ≡ Refused)
 
 -- an argument's text has this first fault
-abbrev pub IsTextFault : {A : Type 0} → Grammar A → List ℕ → List ℕ → List ℕ → AnswerValue → Type 0
-IsTextFault grammar text expected argument answer =
+abbrev pub IsTextFault : {A : Type 0} → Settings → Grammar A → List ℕ → List ℕ → List ℕ → AnswerValue → Type 0
+IsTextFault settings grammar text expected argument answer =
     (fault : TextFault) × (place : ℕ) × HasFault grammar text fault place
-    × IsFault expected (told_line argument (fault_text fault place)) answer
+    × IsFault expected (told_line argument (fault_text settings.points text fault place)) answer
 
 -- the mask that is asked for has this first fault
 abbrev pub IsMaskFault : Settings → List ℕ → AnswerValue → Type 0
 IsMaskFault settings mask answer =
     (fault : TextFault) × (place : ℕ) × IsMaskErrorIn settings.spelling mask (Fault fault place)
-    × IsFault (fault_line (codes "mask")) (told_line (codes "MASK") (fault_text fault place)) answer
+    × IsFault (fault_line (codes "mask"))
+    (told_line (codes "MASK") (fault_text settings.points mask fault place)) answer
 
 -- ---- arguments
 
@@ -119,7 +121,8 @@ argument arguments place = option_map_or (λ text. text.now) (slice_get argument
 abbrev pub AnswersSddlFault : List ℕ → Settings → List ℕ → AnswerValue → Type 0
 AnswersSddlFault argument settings written answer =
     (fault : TextFault) × (place : ℕ) × IsUnreadAt settings.aliases settings.without_sacl written fault place
-    × IsFault (sddl_fault_line fault place) (told_line argument (sddl_fault_text written fault place)) answer
+    × IsFault (sddl_fault_line fault place)
+    (told_line argument (sddl_fault_text settings.points written fault place)) answer
 
 -- what is answered otherwise, and where a SACL was left out, that is told first
 abbrev pub Noting : List ℕ → Bool → (AnswerValue → Type 0) → AnswerValue → Type 0
@@ -181,7 +184,7 @@ IsVerdict settings form d token asked answer =
 abbrev pub IsWordFault : Settings → List (List ℕ) → AnswerValue → Type 0
 IsWordFault settings words answer =
     (place : ℕ) × IsFirstNoWord settings.aliases words place
-    × (reason : List ℕ) × IsWordReason settings.aliases (word_at words place) reason
+    × (reason : List ℕ) × IsWordReason settings.points settings.aliases (word_at words place) reason
     × IsFault (fault_line (codes "token")) (told_line (word_argument place (word_at words place)) reason) answer
 
 -- the words make a token, for which this is the verdict; or one of them is no word
@@ -202,7 +205,7 @@ abbrev pub AnswersUser : Settings → Form → List ℕ → List ℕ → List (B
 AnswersUser settings form user mask words d answer =
     ((sid : SidValue) × Spells (sid_text_in settings.aliases) user sid
     × AnswersMask settings form d sid mask words answer)
-    ⊎ IsTextFault (sid_text_in settings.aliases) user (fault_line (codes "sid")) (codes "USER") answer
+    ⊎ IsTextFault settings (sid_text_in settings.aliases) user (fault_line (codes "sid")) (codes "USER") answer
 
 abbrev pub AnswersVerdictOf : Settings → Form → List ℕ → List ℕ → List ℕ → List (Bor (List ℕ)) → AnswerValue → Type 0
 AnswersVerdictOf settings form written user mask words answer = AnswersOfText settings written
@@ -253,13 +256,14 @@ AnswersBytes settings bytes answer = MatchBool settings.without_sacl
     (AnswersHeld settings bytes answer)
 
 -- the same of the bytes that a text spells, or that it spells none
-abbrev pub AnswersDecoded : Settings → Result (List ℕ) (List ℕ) → AnswerValue → Type 0
-AnswersDecoded settings (Ok bytes) answer = AnswersBytes settings bytes answer
-AnswersDecoded settings (Err reason) answer = IsFault (fault_line (form_name settings.bytes))
-    (told_line (codes "BYTES") reason) answer
+abbrev pub AnswersDecoded : Settings → List ℕ → BytesRead → AnswerValue → Type 0
+AnswersDecoded settings written (Ok bytes) answer = AnswersBytes settings bytes answer
+AnswersDecoded settings written (Err (what, place)) answer = IsFault (fault_line (form_name settings.bytes))
+    (told_line (codes "BYTES") (at_byte what place ++ pointed settings.points written place)) answer
 
 abbrev pub AnswersFromBinary : Settings → List ℕ → AnswerValue → Type 0
-AnswersFromBinary settings written answer = AnswersDecoded settings (bytes_read settings.bytes written) answer
+AnswersFromBinary settings written answer =
+    AnswersDecoded settings written (bytes_read settings.bytes written) answer
 
 -- ---- whom rights are granted to, and changes
 
@@ -267,7 +271,7 @@ AnswersFromBinary settings written answer = AnswersDecoded settings (bytes_read 
 abbrev pub IsGroupFault : Settings → List (Bor (List ℕ)) → AnswerValue → Type 0
 IsGroupFault settings words answer =
     (place : ℕ) × IsFirstNoGroup settings.aliases (texts words) place
-    × (reason : List ℕ) × IsStateReason settings.aliases (argument words place) reason
+    × (reason : List ℕ) × IsStateReason settings.points settings.aliases (argument words place) reason
     × IsFault (fault_line (codes "token")) (told_line (word_argument place (argument words place)) reason) answer
 
 -- the words are a base, of which this is answered; or one of them is no group

@@ -1,8 +1,7 @@
 -- Bytes as a text spells them, and a SACL in them that is passed over.
 use Rattle.std.specs.Prelude.{◌≡◌, ℕ, ◌+◌, ◌==◌, ◌&&◌, ◌||◌, nat_le, not, Bool, List, [], ◌∷◌, ◌++◌, length}
-use Rattle.std.specs.Prelude.{drop, filter, Option, Some, None, string_bytes, slice_index, slice_set, bit_and, Result}
+use Rattle.std.specs.Prelude.{drop, filter, Option, Some, None, slice_index, slice_set, bit_and, Result}
 use Rattle.std.specs.Prelude.{Ok, Err, if◌then◌else◌, codes}
-use Rattle.std.specs.Fmt.{decimal}
 use Rattle.std.specs.List.{slice_split}
 use Rattle.base64.specs.Engines.{standard}
 use Rattle.base64.specs.GeneralPurpose as base64
@@ -21,27 +20,31 @@ use Rattle.sd_commands.specs.declared.bytes.BytesError.TheVariants.{NoBytes, Mem
 use Rattle.sd_commands.specs.declared.settings.ByteForm.{ByteForm}
 use Rattle.sd_commands.specs.declared.settings.ByteForm.TheVariants.{Hex, Loose, Base64}
 
--- why a text isn't bytes in its form: what is wrong with it, and where; what is missing is missing at its end
-abbrev pub hex_reason : List ℕ → FromHexError → List ℕ
-hex_reason text (InvalidHexCharacter c place) = codes "no digit at " ++ decimal place
-hex_reason text OddLength = codes "no second digit at " ++ decimal (length text)
-hex_reason text InvalidStringLength = codes "no bytes"
-hex_reason text OutOfMemory = codes "no bytes"
+-- the bytes that a text spells, or what is wrong with it, and at which byte
+abbrev pub BytesRead : Type 0
+BytesRead = Result (List ℕ) (List ℕ × ℕ)
 
-abbrev pub base64_reason : List ℕ → DecodeError → List ℕ
-base64_reason text (InvalidByte place byte) = codes "no digit at " ++ decimal place
-base64_reason text (InvalidLength place) = codes "no end at " ++ decimal place
-base64_reason text (InvalidLastSymbol place symbol value) = codes "no last digit at " ++ decimal place
-base64_reason text InvalidPadding = codes "no padding at " ++ decimal (length text)
+-- why a text isn't bytes in its form; what is missing is missing at its end. Decoding gives none of the last two
+abbrev pub hex_reason : List ℕ → FromHexError → List ℕ × ℕ
+hex_reason text (InvalidHexCharacter c place) = (codes "no digit", place)
+hex_reason text OddLength = (codes "no second digit", length text)
+hex_reason text InvalidStringLength = (codes "no bytes", 0)
+hex_reason text OutOfMemory = (codes "no bytes", 0)
 
-abbrev pub reasoned : {E : Type 0} → (E → List ℕ) → Result (List ℕ) E → Result (List ℕ) (List ℕ)
+abbrev pub base64_reason : List ℕ → DecodeError → List ℕ × ℕ
+base64_reason text (InvalidByte place byte) = (codes "no digit", place)
+base64_reason text (InvalidLength place) = (codes "no end", place)
+base64_reason text (InvalidLastSymbol place symbol value) = (codes "no last digit", place)
+base64_reason text InvalidPadding = (codes "no padding", length text)
+
+abbrev pub reasoned : {E : Type 0} → (E → List ℕ × ℕ) → Result (List ℕ) E → BytesRead
 reasoned reason (Ok bytes) = Ok bytes
 reasoned reason (Err e) = Err (reason e)
 
 -- ---- values as other tools write them
 
-abbrev pub no_bytes : ℕ → List ℕ
-no_bytes place = codes "no bytes at " ++ decimal place
+abbrev pub no_bytes : ℕ → List ℕ × ℕ
+no_bytes place = (codes "no bytes", place)
 
 -- what may stand between two bytes: a tab, the end of a line, a space, a comma or a backslash
 abbrev pub is_between : ℕ → Bool
@@ -54,17 +57,17 @@ digits_of (b ∷ []) = b ∷ []
 digits_of (a ∷ b ∷ digits) = if a == 48 && (b == 120 || b == 88) then digits else a ∷ b ∷ digits
 
 -- the bytes of the part that begins at this byte of the text, or that it spells none
-abbrev pub part_read : ℕ → List ℕ → Result (List ℕ) (List ℕ)
+abbrev pub part_read : ℕ → List ℕ → BytesRead
 part_read place part = reasoned (λ error. no_bytes place) (hex.decode_of (digits_of part))
 
-abbrev pub joined : Result (List ℕ) (List ℕ) → Result (List ℕ) (List ℕ) → Result (List ℕ) (List ℕ)
+abbrev pub joined : BytesRead → BytesRead → BytesRead
 joined (Ok bytes) (Ok more) = Ok (bytes ++ more)
 joined (Ok bytes) (Err reason) = Err reason
 joined (Err reason) more = Err reason
 
 -- the bytes of the parts, one behind the other, of which the first begins at this byte of the text; or why there are
 -- none
-unfoldable pub parts_read : ℕ → List (List ℕ) → Result (List ℕ) (List ℕ)
+unfoldable pub parts_read : ℕ → List (List ℕ) → BytesRead
 parts_read place [] = Ok []
 parts_read place (part ∷ parts) = joined (part_read place part) (parts_read (place + length part + 1) parts)
 
@@ -73,7 +76,7 @@ abbrev pub is_blank_byte : ℕ → Bool
 is_blank_byte b = b == 9 || b == 10 || b == 13 || b == 32
 
 -- the bytes of a value, or the place of what spells none
-abbrev pub value_read : List ℕ → Option Value → Result (List ℕ) (List ℕ)
+abbrev pub value_read : List ℕ → Option Value → BytesRead
 value_read text None = Err (no_bytes 0)
 value_read text (Some (values.Hex place)) = parts_read place (slice_split is_between (drop place text))
 value_read text (Some (values.Base64 place)) =
@@ -81,30 +84,26 @@ value_read text (Some (values.Base64 place)) =
     (base64.decode_of standard (filter (λ b. not (is_blank_byte b)) (drop place text)))
 
 -- the descriptor in them
-abbrev pub held : Result (List ℕ) (List ℕ) → Result (List ℕ) (List ℕ)
+abbrev pub held : BytesRead → BytesRead
 held (Ok bytes) = Ok (descriptor_in bytes)
 held (Err reason) = Err reason
 
 -- ---- by form
 
 -- the bytes that the text spells, or why it spells none
-abbrev pub bytes_read : ByteForm → List ℕ → Result (List ℕ) (List ℕ)
+abbrev pub bytes_read : ByteForm → List ℕ → BytesRead
 bytes_read Hex text = reasoned (hex_reason text) (hex.decode_of text)
 bytes_read Loose text = held (value_read text (value_in text))
 bytes_read Base64 text = reasoned (base64_reason text) (base64.decode_of standard text)
 
 abbrev pub IsBytesError : ByteForm → List ℕ → BytesError → Type 0
-IsBytesError form text (NoBytes reason) = bytes_read form text ≡ Err (string_bytes reason)
+IsBytesError form text (NoBytes what place) = bytes_read form text ≡ Err (what.now, place)
 IsBytesError form text Memory = Unit {0}
 
--- the same of a value's
-abbrev pub IsValueError : Result (List ℕ) (List ℕ) → BytesError → Type 0
-IsValueError read (NoBytes reason) = read ≡ Err (string_bytes reason)
+-- the same of a value's, and of a part of it
+abbrev pub IsValueError : BytesRead → BytesError → Type 0
+IsValueError read (NoBytes what place) = read ≡ Err (what.now, place)
 IsValueError read Memory = Unit {0}
-
-abbrev pub IsPartError : ℕ → List ℕ → BytesError → Type 0
-IsPartError place part (NoBytes reason) = part_read place part ≡ Err (string_bytes reason)
-IsPartError place part Memory = Unit {0}
 
 -- what the text should have been
 abbrev pub form_name : ByteForm → List ℕ

@@ -4,7 +4,9 @@ pub mod Bytes
 pub mod Kinds
 pub mod Mapping
 pub mod MissingDacl
+pub mod Pointer
 pub mod Risks
+pub mod Shown
 pub mod Sort
 pub mod Told
 pub mod Value

@@ -1,10 +1,8 @@
 -- What standard error is told beside an answer: which argument isn't read, and why; or that a SACL is left out.
-use Rattle.std.specs.Prelude.{◌≡◌, ◌⊎◌, ℕ, ◌+◌, ◌==◌, ◌||◌, ◌&&◌, nat_le, nat_lt, Bool, false, MatchBool, List, [], ◌∷◌}
-use Rattle.std.specs.Prelude.{◌++◌, get_or, take, if◌then◌else◌, codes}
-use Rattle.std.specs.Fmt.{decimal, digits}
-use Rattle.std.specs.List.{flat_map, position_or_len}
-use Rattle.std.specs.Char.{encode_utf8}
-use Rattle.std.specs.Str.{chars}
+use Rattle.std.specs.Prelude.{◌≡◌, ◌⊎◌, ℕ, ◌+◌, ◌==◌, Bool, false, MatchBool, List, [], ◌∷◌, ◌++◌, get_or, take}
+use Rattle.std.specs.Prelude.{if◌then◌else◌, codes}
+use Rattle.std.specs.Fmt.{decimal}
+use Rattle.std.specs.List.{position_or_len}
 use Rattle.sd_sid.specs.Sid.{SidValue}
 use Rattle.sd_text.specs.Fault.{number_of, name_of}
 use Rattle.sd_text.specs.Grammar.{Spells, HasFault}
@@ -15,18 +13,29 @@ use Rattle.sd_wire.specs.Fault.{wire_fault_number, wire_fault_name}
 use Rattle.sd_wire.specs.declared.fault.WireFault.{WireFault}
 use Rattle.sd_answer.specs.Answer.{line}
 use Rattle.sd_commands.specs.Kinds.{kind_note, wire_kind_note}
+use Rattle.sd_commands.specs.Pointer.{pointed}
+use Rattle.sd_commands.specs.Shown.{shown}
 
 -- what is wrong with an argument
 abbrev pub told_line : List ℕ → List ℕ → List ℕ
 told_line argument what = line (codes "sdstore: " ++ argument ++ codes ": " ++ what)
 
+-- what is wrong with a text, and at which byte
+abbrev pub at_byte : List ℕ → ℕ → List ℕ
+at_byte what place = what ++ codes " at " ++ decimal place
+
 -- the first fault of a text, by number and name, and its byte
-abbrev pub fault_text : TextFault → ℕ → List ℕ
-fault_text fault place = decimal (number_of fault) ++ codes " " ++ name_of fault ++ codes " at " ++ decimal place
+abbrev pub fault_name : TextFault → ℕ → List ℕ
+fault_name fault place = at_byte (decimal (number_of fault) ++ codes " " ++ name_of fault) place
+
+-- the same, and where that is asked for, the text there
+abbrev pub fault_text : Bool → List ℕ → TextFault → ℕ → List ℕ
+fault_text points text fault place = fault_name fault place ++ pointed points text place
 
 -- the same of a descriptor's text, and which kind an entry is that isn't taken
-abbrev pub sddl_fault_text : List ℕ → TextFault → ℕ → List ℕ
-sddl_fault_text text fault place = fault_text fault place ++ kind_note text fault place
+abbrev pub sddl_fault_text : Bool → List ℕ → TextFault → ℕ → List ℕ
+sddl_fault_text points text fault place = fault_name fault place ++ kind_note text fault place
+    ++ pointed points text place
 
 -- the first test that bytes don't pass
 abbrev pub wire_fault_text : WireFault → List ℕ
@@ -42,17 +51,6 @@ sacl_note argument left_out = if left_out then told_line argument (codes "the SA
 
 -- ---- words
 
--- a control character (C0, DEL or C1), or one that separates lines or paragraphs
-abbrev pub is_hidden : ℕ → Bool
-is_hidden c = nat_lt c 32 || (nat_le 127 c && nat_le c 159) || c == 8232 || c == 8233
-
--- a character as a message shows it: a hidden one by its number
-abbrev pub shown_char : ℕ → List ℕ
-shown_char c = if is_hidden c then codes "\\u{" ++ digits 16 false c ++ codes "}" else encode_utf8 c
-
-abbrev pub shown : List ℕ → List ℕ
-shown word = flat_map shown_char (chars word)
-
 -- which WORD it is, counted from 1
 abbrev pub word_argument : ℕ → List ℕ → List ℕ
 word_argument place word = codes "WORD " ++ decimal (place + 1) ++ codes ", \"" ++ shown word ++ codes "\""
@@ -62,24 +60,25 @@ begins_by_plus [] = false
 begins_by_plus (b ∷ bs) = b == 43
 
 -- why a text isn't what it should be: the first fault of its SID, or where it is one, that it isn't a fit one
-abbrev pub IsSidReason : Aliases → List ℕ → List ℕ → List ℕ → Type 0
-IsSidReason known unfit text reason =
+abbrev pub IsSidReason : Bool → Aliases → List ℕ → List ℕ → List ℕ → Type 0
+IsSidReason points known unfit text reason =
     ((sid : SidValue) × Spells (sid_text_in known) text sid × (reason ≡ unfit))
     ⊎ ((fault : TextFault) × (place : ℕ) × HasFault (sid_text_in known) text fault place
-    × (reason ≡ fault_text fault place))
+    × (reason ≡ fault_text points text fault place))
 
 -- how long the SID of a word is: as far as the first `=`, or all of it
 abbrev pub sid_length : List ℕ → ℕ
 sid_length word = position_or_len (λ b. b == 61) word
 
 -- why a text is no SID with a state
-abbrev pub IsStateReason : Aliases → List ℕ → List ℕ → Type 0
-IsStateReason known word reason = IsSidReason known (codes "no such state") (take (sid_length word) word) reason
+abbrev pub IsStateReason : Bool → Aliases → List ℕ → List ℕ → Type 0
+IsStateReason points known word reason =
+    IsSidReason points known (codes "no such state") (take (sid_length word) word) reason
 
 -- why a text is no word
-abbrev pub IsWordReason : Aliases → List ℕ → List ℕ → Type 0
-IsWordReason known word reason = MatchBool (begins_by_plus word) (reason ≡ codes "no such privilege")
-    (IsStateReason known word reason)
+abbrev pub IsWordReason : Bool → Aliases → List ℕ → List ℕ → Type 0
+IsWordReason points known word reason = MatchBool (begins_by_plus word) (reason ≡ codes "no such privilege")
+    (IsStateReason points known word reason)
 
 -- the word at a place
 abbrev pub word_at : List (List ℕ) → ℕ → List ℕ

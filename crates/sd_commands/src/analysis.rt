@@ -71,7 +71,9 @@ fn who_on_mask(
 {
     match read_mask_in(settings.spelling, mask) {
         Ok(asked) => who_with_base(alloc, settings, descriptor, asked, words),
-        Err(TextError::Fault { fault, place }) => text_fault(alloc, "mask", "MASK", fault, place),
+        Err(TextError::Fault { fault, place }) => {
+            text_fault(alloc, settings, "mask", "MASK", mask, fault, place)
+        }
         Err(TextError::Memory) => Err(AllocError),
     }
 }
@@ -135,7 +137,7 @@ pub(crate) fn group_fault(
 {
     let word = argument(words, place);
     let argument = word_argument(alloc, place, word)?;
-    let reason = state_reason(alloc, settings.aliases, word)?;
+    let reason = state_reason(alloc, settings.points, settings.aliases, word)?;
     fault(
         alloc,
         "token",

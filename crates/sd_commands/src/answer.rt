@@ -10,7 +10,7 @@ use crate::lint::answer_lint;
 use crate::rights::answer_rights;
 use crate::settings::Settings;
 use crate::sort::answer_sort;
-use crate::told::{sddl_fault_text, told_fault, told_line};
+use crate::told::{fault_text, sddl_fault_text, told_line};
 use crate::verdict::{Form, answer_verdict};
 use sd_answer::{fault_line, sddl_fault_line};
 use sd_text::TextFault;
@@ -107,31 +107,35 @@ pub fn fault(alloc: Global, what: &str, told: String) -> Result<Answer, AllocErr
 /// The answer to an argument whose text has this first fault.
 pub(crate) fn text_fault(
     alloc: Global,
+    settings: Settings,
     what: &str,
     argument: &str,
+    text: &str,
     text_fault: TextFault,
     place: u64,
 ) -> Result<Answer, AllocError>
     ensures { IfOk result
-        (λ answer. IsFault (fault_line what.now) (told_line argument.now (fault_text text_fault place))
-        (answer_of answer)) }
+        (λ answer. IsFault (fault_line what.now)
+        (told_line argument.now (fault_text settings.points text.now text_fault place)) (answer_of answer)) }
 {
-    fault(alloc, what, told_fault(alloc, argument, text_fault, place)?)
+    let reason = fault_text(alloc, settings.points, text, text_fault, place)?;
+    fault(alloc, what, told_line(alloc, argument, reason.as_str())?)
 }
 
 /// The answer to a descriptor's text with a fault, which is the argument of this name.
 pub(crate) fn sddl_fault(
     alloc: Global,
+    settings: Settings,
     argument: &str,
     sddl: &str,
     fault: TextFault,
     place: u64,
 ) -> Result<Answer, AllocError>
     ensures { IfOk result
-        (λ answer. IsFault (sddl_fault_line fault place) (told_line argument.now (sddl_fault_text sddl.now fault place))
-        (answer_of answer)) }
+        (λ answer. IsFault (sddl_fault_line fault place)
+        (told_line argument.now (sddl_fault_text settings.points sddl.now fault place)) (answer_of answer)) }
 {
-    let what = sddl_fault_text(alloc, sddl, fault, place)?;
+    let what = sddl_fault_text(alloc, settings.points, sddl, fault, place)?;
     Ok(Answer {
         text: sddl_fault_line(alloc, fault, place)?,
         told: told_line(alloc, argument, what.as_str())?,

@@ -1,5 +1,5 @@
 //! Bytes as a text spells them, and a SACL in them that is passed over.
-ghost use Rattle.std.specs.Prelude.{◌≡◌, Err, IfErr, IfOk, Ok, string_bytes};
+ghost use Rattle.std.specs.Prelude.{◌≡◌, Err, IfErr, IfOk, Ok};
 ghost use Rattle.sd_commands.specs.declared.bytes.BytesError.TheVariants.{Memory};
 ghost use Rattle.sd_commands.specs.declared.settings.ByteForm.TheVariants.{Hex, Loose, Base64};
 ghost use Rattle.sd_commands.specs.Bytes.{IsBytesError, base64_reason, bytes_read, form_name, has_sacl, hex_reason};
@@ -16,8 +16,8 @@ use std::alloc::{AllocError, AllocFailed, Global};
 /// Why a text is no bytes.
 #[derive(Debug, Drop)]
 pub(crate) enum BytesError {
-    /// It spells none, and the text says why.
-    NoBytes(String),
+    /// It spells none: what is wrong with it, and at which byte.
+    NoBytes { what: &'static str, place: usize },
     /// Memory was refused.
     Memory,
 }
@@ -78,26 +78,20 @@ fn hex_bytes(alloc: Global, text: &str) -> Result<Vec<u8>, BytesError>
     match hex::decode(alloc, text) {
         Ok(bytes) => Ok(bytes),
         Err(FromHexError::OutOfMemory) => Err(BytesError::Memory),
-        Err(error) => Err(BytesError::NoBytes(hex_reason(alloc, text, error)?)),
+        Err(error) => {
+            let (what, place) = hex_reason(text, error);
+            Err(BytesError::NoBytes { what, place })
+        }
     }
 }
 
-fn hex_reason(alloc: Global, text: &str, error: FromHexError) -> Result<String, AllocError>
-    ensures { IfOk result (λ reason. string_bytes reason ≡ hex_reason text.now error) }
+fn hex_reason(text: &str, error: FromHexError) -> (&'static str, usize)
+    ensures { (result.0.now, result.1) ≡ hex_reason text.now error }
 {
     match error {
-        FromHexError::InvalidHexCharacter { c: _, index } => {
-            let reason = format!(in alloc; "no digit at {index}")?;
-            Ok(reason)
-        }
-        FromHexError::OddLength => {
-            let end = text.len();
-            let reason = format!(in alloc; "no second digit at {end}")?;
-            Ok(reason)
-        }
-        FromHexError::InvalidStringLength | FromHexError::OutOfMemory => {
-            String::from_str(alloc, "no bytes")
-        }
+        FromHexError::InvalidHexCharacter { c: _, index } => ("no digit", index),
+        FromHexError::OddLength => ("no second digit", text.len()),
+        FromHexError::InvalidStringLength | FromHexError::OutOfMemory => ("no bytes", 0),
     }
 }
 
@@ -109,32 +103,20 @@ fn base64_bytes(alloc: Global, text: &str) -> Result<Vec<u8>, BytesError>
         Ok(bytes) => Ok(bytes),
         Err(DecodeAllocError::OutOfMemory) => Err(BytesError::Memory),
         Err(DecodeAllocError::DecodeError(error)) => {
-            Err(BytesError::NoBytes(base64_reason(alloc, text, error)?))
+            let (what, place) = base64_reason(text, error);
+            Err(BytesError::NoBytes { what, place })
         }
     }
 }
 
-fn base64_reason(alloc: Global, text: &str, error: DecodeError) -> Result<String, AllocError>
-    ensures { IfOk result (λ reason. string_bytes reason ≡ base64_reason text.now error) }
+fn base64_reason(text: &str, error: DecodeError) -> (&'static str, usize)
+    ensures { (result.0.now, result.1) ≡ base64_reason text.now error }
 {
     match error {
-        DecodeError::InvalidByte(place, _) => {
-            let reason = format!(in alloc; "no digit at {place}")?;
-            Ok(reason)
-        }
-        DecodeError::InvalidLength(place) => {
-            let reason = format!(in alloc; "no end at {place}")?;
-            Ok(reason)
-        }
-        DecodeError::InvalidLastSymbol { offset, .. } => {
-            let reason = format!(in alloc; "no last digit at {offset}")?;
-            Ok(reason)
-        }
-        DecodeError::InvalidPadding => {
-            let end = text.len();
-            let reason = format!(in alloc; "no padding at {end}")?;
-            Ok(reason)
-        }
+        DecodeError::InvalidByte(place, _) => ("no digit", place),
+        DecodeError::InvalidLength(place) => ("no end", place),
+        DecodeError::InvalidLastSymbol { offset, .. } => ("no last digit", offset),
+        DecodeError::InvalidPadding => ("no padding", text.len()),
     }
 }
 

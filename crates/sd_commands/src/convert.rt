@@ -13,7 +13,7 @@ use crate::descriptor::{Given, noting, read_argument};
 use crate::kinds::wire_kind_note;
 use crate::missing_dacl::{missing_dacl, missing_dacl_fault};
 use crate::settings::Settings;
-use crate::told::told_line;
+use crate::told::{text_at_byte, told_line};
 use sd_acl::Descriptor;
 use sd_text::print_sddl;
 use sd_wire::{WireError, WireFault, read_descriptor, write_descriptor};
@@ -62,11 +62,11 @@ pub(crate) fn answer_from_binary(
 {
     match read_bytes(alloc, settings.bytes, text) {
         Ok(bytes) => answer_bytes(alloc, settings, bytes),
-        Err(BytesError::NoBytes(reason)) => fault(
-            alloc,
-            settings.bytes.name(),
-            told_line(alloc, "BYTES", reason.as_str())?,
-        ),
+        Err(BytesError::NoBytes { what, place }) => {
+            let reason = text_at_byte(alloc, settings.points, text, what, place)?;
+            let told = told_line(alloc, "BYTES", reason.as_str())?;
+            fault(alloc, settings.bytes.name(), told)
+        }
         Err(BytesError::Memory) => Err(AllocError),
     }
 }

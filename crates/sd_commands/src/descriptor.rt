@@ -30,7 +30,8 @@ pub(crate) fn read_argument(
     let read = match read_sddl_argument(alloc, settings.aliases, settings.without_sacl, sddl) {
         Ok(read) => read,
         Err(TextError::Fault { fault, place }) => {
-            return Ok(Given::Refused(sddl_fault(alloc, argument, sddl, fault, place)?));
+            let answer = sddl_fault(alloc, settings, argument, sddl, fault, place)?;
+            return Ok(Given::Refused(answer));
         }
         Err(TextError::Memory) => return Err(AllocError),
     };

@@ -22,6 +22,7 @@ mod lint;
 mod loose;
 mod mapping;
 mod missing_dacl;
+mod pointer;
 mod rights;
 mod risks;
 mod settings;

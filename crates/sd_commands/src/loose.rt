@@ -2,7 +2,7 @@
 //! backslashes and line ends between bytes.
 ghost use Rattle.std.specs.Prelude.{◌≡◌, ◌<◌, ◌≤◌, ◌+◌, ◌-◌, ℕ, Ok, Err, Some, IfErr, IfOk, filter, length, not};
 ghost use Rattle.std.specs.List.{position_or_len, slice_split};
-ghost use Rattle.sd_commands.specs.Bytes.{IsPartError, IsValueError, digits_of, is_between, is_blank_byte, joined};
+ghost use Rattle.sd_commands.specs.Bytes.{IsValueError, digits_of, is_between, is_blank_byte, joined};
 ghost use Rattle.sd_commands.specs.Bytes.{no_bytes, part_read, parts_read, value_read};
 ghost use Rattle.sd_commands.specs.Value.{value_in};
 ghost use Rattle.sd_commands.specs.declared.value.Value.TheVariants as values;
@@ -22,17 +22,17 @@ pub(crate) fn loose_bytes(alloc: Global, text: &[u8]) -> Result<Vec<u8>, BytesEr
     match value_in(text) {
         Some(Value::Hex(place)) => hex_value(alloc, text, place),
         Some(Value::Base64(place)) => base64_value(alloc, text, place),
-        None => Err(no_bytes(alloc, 0)),
+        None => Err(no_bytes(0)),
     }
 }
 
 /// That no bytes are spelled at this place.
-fn no_bytes(alloc: Global, place: usize) -> BytesError
+fn no_bytes(place: usize) -> BytesError
     ensures { IsValueError (Err (no_bytes place)) result }
 {
-    match format!(in alloc; "no bytes at {place}") {
-        Ok(reason) => BytesError::NoBytes(reason),
-        Err(_) => BytesError::Memory,
+    BytesError::NoBytes {
+        what: "no bytes",
+        place,
     }
 }
 
@@ -46,7 +46,7 @@ fn base64_value(alloc: Global, text: &[u8], place: usize) -> Result<Vec<u8>, Byt
     match STANDARD.decode(alloc, digits.as_slice()) {
         Ok(bytes) => Ok(bytes),
         Err(DecodeAllocError::OutOfMemory) => Err(BytesError::Memory),
-        Err(DecodeAllocError::DecodeError(_)) => Err(no_bytes(alloc, place)),
+        Err(DecodeAllocError::DecodeError(_)) => Err(no_bytes(place)),
     }
 }
 
@@ -122,15 +122,12 @@ fn is_between(b: u8) -> bool
 /// The bytes of a part, which begins at this byte of the text.
 fn part_bytes(alloc: Global, place: usize, part: &[u8]) -> Result<Vec<u8>, BytesError>
     ensures ok { IfOk result (λ bytes. part_read place part.now ≡ Ok bytes.items) }
-    ensures err { IfErr result (IsPartError place part.now) }
+    ensures err { IfErr result (IsValueError (part_read place part.now)) }
 {
     match hex::decode(alloc, digits(part)) {
         Ok(bytes) => Ok(bytes),
         Err(FromHexError::OutOfMemory) => Err(BytesError::Memory),
-        Err(_) => {
-            let reason = format!(in alloc; "no bytes at {place}")?;
-            Err(BytesError::NoBytes(reason))
-        }
+        Err(_) => Err(no_bytes(place)),
     }
 }
 

@@ -18,7 +18,9 @@ pub(crate) fn answer_rights(
 {
     match read_mask_in(settings.spelling, mask) {
         Ok(mask) => Ok(Answer::done(alloc, rights_line(alloc, settings.kind, mask)?)),
-        Err(TextError::Fault { fault, place }) => text_fault(alloc, "mask", "MASK", fault, place),
+        Err(TextError::Fault { fault, place }) => {
+            text_fault(alloc, settings, "mask", "MASK", mask, fault, place)
+        }
         Err(TextError::Memory) => Err(AllocError),
     }
 }

@@ -34,4 +34,6 @@ pub struct Settings {
     pub risks: bool,
     /// How bytes are spelled.
     pub bytes: ByteForm,
+    /// Whether a message that names a byte of a text shows the text there.
+    pub points: bool,
 }

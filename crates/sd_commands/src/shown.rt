@@ -1,6 +1,7 @@
 //! A word of a command line, as a message shows it.
-ghost use Rattle.std.specs.Prelude.{◌≡◌, IfOk, string_bytes};
-ghost use Rattle.sd_commands.specs.Told.{is_hidden, shown, shown_char};
+ghost use Rattle.std.specs.Prelude.{◌≡◌, IfOk, drop, string_bytes, take};
+ghost use Rattle.std.specs.Str.{chars};
+ghost use Rattle.sd_commands.specs.Shown.{is_hidden, shown, shown_char, shown_chars};
 
 use std::alloc::{AllocError, Global};
 
@@ -9,12 +10,38 @@ use std::alloc::{AllocError, Global};
 pub fn shown_word(alloc: Global, word: &str) -> Result<String, AllocError>
     ensures { IfOk result (λ text. string_bytes text ≡ shown word.now) }
 {
-    let mut text = String::new(alloc);
-    for c in word.chars() {
-        let shown = shown_char(alloc, c)?;
-        text.push_str(shown.as_str())?;
+    shown_from(alloc, word, 0)
+}
+
+/// The same of a text's characters from the `start`th on, counted from 0.
+pub(crate) fn shown_from(alloc: Global, text: &str, start: usize) -> Result<String, AllocError>
+    ensures { IfOk result (λ shown. string_bytes shown ≡ shown_chars (drop start (chars text.now))) }
+{
+    shown_part(alloc, text, start, text.len())
+}
+
+/// The same of at most `count` characters.
+pub(crate) fn shown_part(
+    alloc: Global,
+    text: &str,
+    start: usize,
+    count: usize,
+) -> Result<String, AllocError>
+    ensures { IfOk result
+        (λ shown. string_bytes shown ≡ shown_chars (take count (drop start (chars text.now)))) }
+{
+    let mut shown = String::new(alloc);
+    let (mut before, mut left) = (start, count);
+    for c in text.chars() {
+        if 0 < before {
+            before -= 1;
+        } else if 0 < left {
+            left -= 1;
+            let c = shown_char(alloc, c)?;
+            shown.push_str(c.as_str())?;
+        }
     }
-    Ok(text)
+    Ok(shown)
 }
 
 fn shown_char(alloc: Global, c: char) -> Result<String, AllocError>

@@ -79,7 +79,9 @@ fn verdict_for_user(
 {
     match read_sid_text_in(settings.aliases, user) {
         Ok(user) => verdict_on_mask(alloc, settings, form, descriptor, user, mask, words),
-        Err(TextError::Fault { fault, place }) => text_fault(alloc, "sid", "USER", fault, place),
+        Err(TextError::Fault { fault, place }) => {
+            text_fault(alloc, settings, "sid", "USER", user, fault, place)
+        }
         Err(TextError::Memory) => Err(AllocError),
     }
 }
@@ -98,7 +100,9 @@ fn verdict_on_mask(
 {
     match read_mask_in(settings.spelling, mask) {
         Ok(asked) => verdict_with_words(alloc, settings, form, descriptor, user, asked, words),
-        Err(TextError::Fault { fault, place }) => text_fault(alloc, "mask", "MASK", fault, place),
+        Err(TextError::Fault { fault, place }) => {
+            text_fault(alloc, settings, "mask", "MASK", mask, fault, place)
+        }
         Err(TextError::Memory) => Err(AllocError),
     }
 }
@@ -142,7 +146,7 @@ fn word_fault(
 {
     let word = words[place];
     let argument = word_argument(alloc, place, word)?;
-    let reason = word_reason(alloc, settings.aliases, word)?;
+    let reason = word_reason(alloc, settings.points, settings.aliases, word)?;
     fault(
         alloc,
         "token",

@@ -17,6 +17,6 @@ returns c =
       place,
       c.requires.first,
       string_bytes c.in_ok-reason.reason,
-      subst (λ w. IsStateReason c.args.settings.aliases w (string_bytes c.in_ok-reason.reason)) c.argument-word.ensures c.in_ok-reason.ensures,
+      subst (λ w. IsStateReason c.args.settings.points c.args.settings.aliases w (string_bytes c.in_ok-reason.reason)) c.argument-word.ensures c.in_ok-reason.ensures,
       (is.0, is.1 ∙ told, is.2),
     )) c.fault.ensures

@@ -7,5 +7,5 @@ returns-in-Err-Fault c = inl (
   c.in-Err-Fault.fault,
   c.in-Err-Fault.place,
   rw (c.in-Err-Fault.field-0-is) at c.in-Err-Fault.ensures.unread,
-  rw (c.in-Err-Fault.field-0-is) at c.in_ok-sddl_fault-in-Err-Fault.ensures,
+  c.in_ok-answer-in-Err-Fault.ensures,
 )

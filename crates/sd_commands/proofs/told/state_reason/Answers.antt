@@ -9,4 +9,4 @@ pub returns : goal.returns
 returns c =
     let word = c.args.word.now in
     let same : c.split_at.result.0.now ≡ take (sid_length word) word = c.split_at.ensures.front ∙ ap (λ n. take n word) c.sid_length.ensures.length in
-    subst (λ text. IfOk c.sid_reason.result (λ reason. IsSidReason c.args.known (codes "no such state") text (string_bytes reason))) same c.sid_reason.ensures
+    subst (λ text. IfOk c.sid_reason.result (λ reason. IsSidReason c.args.points c.args.known (codes "no such state") text (string_bytes reason))) same c.sid_reason.ensures

@@ -19,6 +19,6 @@ returns c =
       place,
       c.requires.first,
       string_bytes c.in_ok-reason.reason,
-      subst (λ w. IsWordReason c.args.settings.aliases w (string_bytes c.in_ok-reason.reason)) same c.in_ok-reason.ensures,
+      subst (λ w. IsWordReason c.args.settings.points c.args.settings.aliases w (string_bytes c.in_ok-reason.reason)) same c.in_ok-reason.ensures,
       (is.0, is.1 ∙ told, is.2),
     )) c.fault.ensures
