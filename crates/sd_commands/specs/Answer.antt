@@ -11,7 +11,7 @@ use Rattle.sd_check.specs.declared.verdict.Verdict.{Verdict}
 use Rattle.sd_check.specs.declared.verdict.Verdict.TheVariants.{Granted, Denied, Reserved, EmptyRequest}
 use Rattle.sd_text.specs.Grammar.{Grammar, Spells, HasFault}
 use Rattle.sd_text.specs.Sid.{sid_text_in}
-use Rattle.sd_text.specs.Canon.{canon}
+use Rattle.sd_text.specs.Canon.{canon, canon_in}
 use Rattle.sd_text.specs.declared.fault.TextError.TheVariants.{Fault}
 use Rattle.sd_text.specs.declared.fault.TextFault.{TextFault}
 use Rattle.sd_wire.specs.Reading.{descriptor_read}
@@ -19,7 +19,7 @@ use Rattle.sd_wire.specs.Writing.{wire_of}
 use Rattle.sd_wire.specs.declared.fault.WireFault.{WireFault}
 use Rattle.sd_check.specs.Check.{verdict, dacl_entries}
 use Rattle.sd_check.specs.Token.{TokenValue}
-use Rattle.sd_answer.specs.Answer.{line, verdict_line, fault_line, sddl_fault_line}
+use Rattle.sd_answer.specs.Answer.{line, right_names_of, verdict_line, fault_line, sddl_fault_line}
 use Rattle.sd_analysis.specs.Compare.{AreGains}
 use Rattle.sd_analysis.specs.declared.compare_report.Change.{Change}
 use Rattle.sd_analysis.specs.declared.who_has.Access.{Access}
@@ -218,17 +218,20 @@ AnswersVerdict settings form written arguments answer =
 
 -- ---- other forms
 
--- the canonical text
-abbrev pub AnswersPrint : Settings → List ℕ → AnswerValue → Type 0
-AnswersPrint settings written answer = AnswersOfText settings written (λ d. IsDone (line (canon d))) answer
+-- the canonical text, or where masks are spelled by names, with those of their kind of object alone
+abbrev pub printed_line : Settings → DescriptorValue → List ℕ
+printed_line settings d = line (canon_in (right_names_of settings.spelling) d)
 
--- the canonical text with the DACL in canonical order; standard error says what moved
-abbrev pub IsSorted : DescriptorValue → AnswerValue → Type 0
-IsSorted d answer = (answer.printed ≡ line (canon (sorted_descriptor d))) × (answer.told ≡ move_notes d.dacl)
-    × (answer.outcome ≡ Done)
+abbrev pub AnswersPrint : Settings → List ℕ → AnswerValue → Type 0
+AnswersPrint settings written answer = AnswersOfText settings written (λ d. IsDone (printed_line settings d)) answer
+
+-- the same with the DACL in canonical order; standard error says what moved
+abbrev pub IsSorted : Settings → DescriptorValue → AnswerValue → Type 0
+IsSorted settings d answer = (answer.printed ≡ printed_line settings (sorted_descriptor d))
+    × (answer.told ≡ move_notes settings.spelling d.dacl) × (answer.outcome ≡ Done)
 
 abbrev pub AnswersSort : Settings → List ℕ → AnswerValue → Type 0
-AnswersSort settings written answer = AnswersOfText settings written IsSorted answer
+AnswersSort settings written answer = AnswersOfText settings written (IsSorted settings) answer
 
 -- the self-relative form in hexadecimal
 abbrev pub AnswersToBinary : Settings → List ℕ → AnswerValue → Type 0
@@ -342,7 +345,7 @@ abbrev pub IsLinted : List ℕ → AnswerValue → Type 0
 IsLinted lines answer = (answer.printed ≡ or_clean lines) × (answer.told ≡ []) × (answer.outcome ≡ lint_outcome lines)
 
 abbrev pub PrintsFindings : Settings → DescriptorValue → List (SidValue × GroupState) → AnswerValue → Type 0
-PrintsFindings settings d base answer = (lines : List ℕ) × IsLintText settings.mapping base d lines
+PrintsFindings settings d base answer = (lines : List ℕ) × IsLintText settings.mapping settings.spelling base d lines
     × IsLinted (lines ++ risk_lines settings d base) answer
 
 -- the arguments after the descriptor are a base

@@ -4,7 +4,8 @@ use Rattle.std.specs.Fmt.{decimal}
 use Rattle.std.specs.List.{flat_map}
 use Rattle.sd_sid.specs.Sid.{SidValue}
 use Rattle.sd_acl.specs.Descriptor.{DescriptorValue}
-use Rattle.sd_text.specs.Canon.{entry_canon, full_canon}
+use Rattle.sd_acl.specs.declared.ace.Ace.{Ace}
+use Rattle.sd_text.specs.Canon.{entry_canon_in, full_canon}
 use Rattle.sd_check.specs.declared.token.GroupState.{GroupState}
 use Rattle.sd_analysis.specs.Risks.{risks_of}
 use Rattle.sd_analysis.specs.declared.risks.Right.{Right}
@@ -12,7 +13,8 @@ use Rattle.sd_analysis.specs.declared.risks.Right.TheVariants.{FullControl, Writ
 use Rattle.sd_analysis.specs.declared.risks.Risk.{Risk}
 use Rattle.sd_analysis.specs.declared.risks.Risk.TheVariants.{EmptyList, OwnerCannotRead, Grants, UnknownEntry}
 use Rattle.sd_analysis.specs.declared.risks.Risk.TheVariants.{UnknownOwner, UnknownGroup}
-use Rattle.sd_answer.specs.Answer.{line}
+use Rattle.sd_answer.specs.Answer.{line, right_names_of}
+use Rattle.sd_answer.specs.declared.answer.Spelling.{Spelling}
 use Rattle.sd_commands.specs.declared.settings.Settings.{Settings}
 
 abbrev pub has_right : Right → List ℕ
@@ -21,15 +23,21 @@ has_right Write = codes " is granted write"
 has_right Delete = codes " is granted delete"
 has_right ChangePermissions = codes " is granted change-permissions"
 
-abbrev pub risk_line : Risk → List ℕ
-risk_line EmptyList = line (codes "an empty DACL grants nothing")
-risk_line (OwnerCannotRead s) = line (codes "the owner " ++ full_canon s ++ codes " has no way to read")
-risk_line (Grants s right) = line (full_canon s ++ has_right right)
-risk_line (UnknownEntry number e) =
-    line (codes "entry " ++ decimal number ++ codes " " ++ entry_canon e ++ codes " names a SID of no known kind")
-risk_line (UnknownOwner s) = line (codes "the owner " ++ full_canon s ++ codes " is of no known kind")
-risk_line (UnknownGroup s) = line (codes "the group " ++ full_canon s ++ codes " is of no known kind")
+-- an entry, counted from 1 and with the names of its kind of object
+abbrev pub unknown_line : Spelling → ℕ → Ace → List ℕ
+unknown_line spelling number e =
+    line (codes "entry " ++ decimal number ++ codes " " ++ entry_canon_in (right_names_of spelling) e
+    ++ codes " names a SID of no known kind")
+
+abbrev pub risk_line : Spelling → Risk → List ℕ
+risk_line spelling EmptyList = line (codes "an empty DACL grants nothing")
+risk_line spelling (OwnerCannotRead s) = line (codes "the owner " ++ full_canon s ++ codes " has no way to read")
+risk_line spelling (Grants s right) = line (full_canon s ++ has_right right)
+risk_line spelling (UnknownEntry number e) = unknown_line spelling number e
+risk_line spelling (UnknownOwner s) = line (codes "the owner " ++ full_canon s ++ codes " is of no known kind")
+risk_line spelling (UnknownGroup s) = line (codes "the group " ++ full_canon s ++ codes " is of no known kind")
 
 -- those of a descriptor, where they are asked for
 abbrev pub risk_lines : Settings → DescriptorValue → List (SidValue × GroupState) → List ℕ
-risk_lines settings d base = if settings.risks then flat_map risk_line (risks_of settings.mapping base d) else []
+risk_lines settings d base =
+    if settings.risks then flat_map (risk_line settings.spelling) (risks_of settings.mapping base d) else []

@@ -8,6 +8,7 @@ use Rattle.sd_acl.specs.Descriptor.{DescriptorValue}
 use Rattle.sd_acl.specs.declared.ace.Ace.{Ace}
 use Rattle.sd_acl.specs.declared.descriptor.DaclOf.TheVariants.{Absent, Null, List as Entries}
 use Rattle.sd_answer.specs.Lint.{entry_head, is_misplaced}
+use Rattle.sd_answer.specs.declared.answer.Spelling.{Spelling}
 use Rattle.sd_commands.specs.Told.{told_line}
 
 -- ---- the order
@@ -39,19 +40,19 @@ move_note None head = []
 move_note (Some first) head =
     told_line (codes "SDDL") (head ++ codes "moves before entry " ++ decimal (first + 1))
 
-abbrev pub note_of : List Ace → ℕ → Ace → List ℕ
-note_of es place e = move_note (position (is_misplaced e) (take place es)) (entry_head place e)
+abbrev pub note_of : Spelling → List Ace → ℕ → Ace → List ℕ
+note_of spelling es place e = move_note (position (is_misplaced e) (take place es)) (entry_head spelling place e)
 
-abbrev pub note_at : List Ace → ℕ → Option Ace → List ℕ
-note_at es place None = []
-note_at es place (Some e) = note_of es place e
+abbrev pub note_at : Spelling → List Ace → ℕ → Option Ace → List ℕ
+note_at spelling es place None = []
+note_at spelling es place (Some e) = note_of spelling es place e
 
 -- those of the entries below a place
-unfoldable pub notes_below : List Ace → ℕ → List ℕ
-notes_below es zero = []
-notes_below es (suc k) = notes_below es k ++ note_at es k (slice_get es k)
+unfoldable pub notes_below : Spelling → List Ace → ℕ → List ℕ
+notes_below spelling es zero = []
+notes_below spelling es (suc k) = notes_below spelling es k ++ note_at spelling es k (slice_get es k)
 
-abbrev pub move_notes : Dacl → List ℕ
-move_notes Absent = []
-move_notes Null = []
-move_notes (Entries es) = notes_below es (length es)
+abbrev pub move_notes : Spelling → Dacl → List ℕ
+move_notes spelling Absent = []
+move_notes spelling Null = []
+move_notes spelling (Entries es) = notes_below spelling es (length es)

@@ -15,11 +15,11 @@ use crate::missing_dacl::{missing_dacl, missing_dacl_fault};
 use crate::settings::Settings;
 use crate::told::{text_at_byte, told_line};
 use sd_acl::Descriptor;
-use sd_text::print_sddl;
+use sd_text::{print_sddl, print_sddl_in};
 use sd_wire::{WireError, WireFault, read_descriptor, write_descriptor};
 use std::alloc::{AllocError, Global};
 
-/// The canonical text of a descriptor's text.
+/// The canonical text of a descriptor's text, or where masks are spelled by names, with those of their kind of object.
 pub(crate) fn answer_print(
     alloc: Global,
     settings: Settings,
@@ -31,7 +31,8 @@ pub(crate) fn answer_print(
         Given::Descriptor(read) => read,
         Given::Refused(answer) => return Ok(answer),
     };
-    let answer = printed(alloc, print_sddl(alloc, &read.descriptor)?)?;
+    let names = settings.spelling.right_names();
+    let answer = printed(alloc, print_sddl_in(alloc, names, &read.descriptor)?)?;
     Ok(noting(alloc, "SDDL", read.left_out, answer)?)
 }
 

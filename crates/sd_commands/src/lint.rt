@@ -59,7 +59,8 @@ fn lint_lines(
         (answer_of answer)) }
 {
     let base = Base { groups };
-    let mut lines = lint_text(alloc, &settings.mapping, &base, descriptor)?;
+    let (mapping, spelling) = (&settings.mapping, settings.spelling);
+    let mut lines = lint_text(alloc, mapping, spelling, &base, descriptor)?;
     let risks = risk_lines(alloc, settings, descriptor, &base)?;
     lines.push_str(risks.as_str())?;
     found(alloc, lines)

@@ -1,17 +1,17 @@
 //! The lines of risks, which `--risks` adds to those of `lint`.
-ghost use Rattle.std.specs.Prelude.{◌≡◌, ◌++◌, IfOk, codes, string_bytes};
-ghost use Rattle.std.specs.Fmt.{decimal};
+ghost use Rattle.std.specs.Prelude.{◌≡◌, ◌++◌, IfOk, string_bytes};
 ghost use Rattle.std.specs.List.{flat_map};
 ghost use Rattle.sd_acl.specs.Descriptor.{descriptor_of};
-ghost use Rattle.sd_text.specs.Canon.{entry_canon, full_canon};
+ghost use Rattle.sd_text.specs.Canon.{full_canon};
 ghost use Rattle.sd_answer.specs.Answer.{line};
-ghost use Rattle.sd_commands.specs.Risks.{has_right, risk_line, risk_lines};
+ghost use Rattle.sd_commands.specs.Risks.{has_right, risk_line, risk_lines, unknown_line};
 
 use crate::settings::Settings;
 use sd_acl::{Ace, Descriptor};
 use sd_analysis::{Base, Right, Risk, risks_in};
+use sd_answer::Spelling;
 use sd_sid::Sid;
-use sd_text::{print_entry, print_full_sid};
+use sd_text::{print_entry_in, print_full_sid};
 use std::alloc::{AllocError, Global};
 
 /// A line for each risk in the descriptor, where risks are asked for.
@@ -28,28 +28,28 @@ pub(crate) fn risk_lines(
         return Ok(String::new(alloc));
     }
     let risks = risks_in(alloc, descriptor, &settings.mapping, base)?;
-    lines_of(alloc, &risks)
+    lines_of(alloc, settings.spelling, &risks)
 }
 
-fn lines_of(alloc: Global, risks: &[Risk]) -> Result<String, AllocError>
-    ensures { IfOk result (λ text. string_bytes text ≡ flat_map risk_line risks.now) }
+fn lines_of(alloc: Global, spelling: Spelling, risks: &[Risk]) -> Result<String, AllocError>
+    ensures { IfOk result (λ text. string_bytes text ≡ flat_map (risk_line spelling) risks.now) }
 {
     let mut text = String::new(alloc);
     for risk in risks {
-        let line = risk_line(alloc, risk)?;
+        let line = risk_line(alloc, spelling, risk)?;
         text.push_str(line.as_str())?;
     }
     Ok(text)
 }
 
-fn risk_line(alloc: Global, risk: &Risk) -> Result<String, AllocError>
-    ensures { IfOk result (λ text. string_bytes text ≡ risk_line risk.now) }
+fn risk_line(alloc: Global, spelling: Spelling, risk: &Risk) -> Result<String, AllocError>
+    ensures { IfOk result (λ text. string_bytes text ≡ risk_line spelling risk.now) }
 {
     match risk {
         Risk::EmptyList => String::from_str(alloc, "an empty DACL grants nothing\n"),
         Risk::OwnerCannotRead(sid) => about(alloc, "the owner ", sid, " has no way to read"),
         Risk::Grants(sid, right) => about(alloc, "", sid, has_right(*right)),
-        Risk::UnknownEntry(number, entry) => entry_line(alloc, *number, entry),
+        Risk::UnknownEntry(number, entry) => unknown_line(alloc, spelling, *number, entry),
         Risk::UnknownOwner(sid) => about(alloc, "the owner ", sid, " is of no known kind"),
         Risk::UnknownGroup(sid) => about(alloc, "the group ", sid, " is of no known kind"),
     }
@@ -75,11 +75,15 @@ fn has_right(right: Right) -> &'static str
     }
 }
 
-fn entry_line(alloc: Global, number: usize, entry: &Ace) -> Result<String, AllocError>
-    ensures { IfOk result (λ text. string_bytes text ≡ line (codes "entry " ++ decimal number ++ codes " "
-        ++ entry_canon entry.now ++ codes " names a SID of no known kind")) }
+fn unknown_line(
+    alloc: Global,
+    spelling: Spelling,
+    number: usize,
+    entry: &Ace,
+) -> Result<String, AllocError>
+    ensures { IfOk result (λ text. string_bytes text ≡ unknown_line spelling number entry.now) }
 {
-    let entry = print_entry(alloc, entry)?;
+    let entry = print_entry_in(alloc, spelling.right_names(), entry)?;
     let entry = entry.as_str();
     let line = format!(in alloc; "entry {number} {entry} names a SID of no known kind\n")?;
     Ok(line)

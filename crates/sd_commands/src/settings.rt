@@ -18,7 +18,7 @@ pub enum ByteForm {
 /// What the options say.
 #[derive(Clone, Copy, Debug)]
 pub struct Settings {
-    /// How masks are printed, and what the argument MASK may be.
+    /// How masks and the rights of entries are printed, and what the argument MASK may be.
     pub spelling: Spelling,
     /// Which aliases of SIDs a text may have.
     pub aliases: Aliases,

@@ -11,7 +11,8 @@ use crate::descriptor::{Given, noting, read_argument};
 use crate::settings::Settings;
 use crate::told::told_line;
 use sd_acl::{Ace, AceList, Dacl, Descriptor, canonicalize};
-use sd_text::{print_entry, print_sddl};
+use sd_answer::Spelling;
+use sd_text::{print_entry_in, print_sddl_in};
 use std::alloc::{AllocError, Global};
 
 /// The canonical text of a descriptor's text with its DACL in canonical order ([MS-DTYP] 2.4.5).
@@ -26,16 +27,20 @@ pub(crate) fn answer_sort(
         Given::Descriptor(read) => read,
         Given::Refused(answer) => return Ok(answer),
     };
-    let answer = sorted_answer(alloc, &read.descriptor)?;
+    let answer = sorted_answer(alloc, settings, &read.descriptor)?;
     Ok(noting(alloc, "SDDL", read.left_out, answer)?)
 }
 
-fn sorted_answer(alloc: Global, descriptor: &Descriptor) -> Result<Answer, AllocError>
-    ensures { IfOk result (λ answer. IsSorted (descriptor_of descriptor.now) (answer_of answer)) }
+fn sorted_answer(
+    alloc: Global,
+    settings: Settings,
+    descriptor: &Descriptor,
+) -> Result<Answer, AllocError>
+    ensures { IfOk result (λ answer. IsSorted settings (descriptor_of descriptor.now) (answer_of answer)) }
 {
-    let told = move_notes(alloc, &descriptor.dacl)?;
+    let told = move_notes(alloc, settings.spelling, &descriptor.dacl)?;
     let sorted = sorted_descriptor(alloc, descriptor)?;
-    let mut text = print_sddl(alloc, &sorted)?;
+    let mut text = print_sddl_in(alloc, settings.spelling.right_names(), &sorted)?;
     text.push_str("\n")?;
     Ok(Answer {
         text,
@@ -90,36 +95,42 @@ fn sorted_entries(alloc: Global, entries: &[Ace]) -> Result<Vec<Ace>, AllocError
 }
 
 /// A line for each entry that moves.
-fn move_notes(alloc: Global, dacl: &Dacl) -> Result<String, AllocError>
-    ensures { IfOk result (λ text. string_bytes text ≡ move_notes dacl.now) }
+fn move_notes(alloc: Global, spelling: Spelling, dacl: &Dacl) -> Result<String, AllocError>
+    ensures { IfOk result (λ text. string_bytes text ≡ move_notes spelling dacl.now) }
 {
     match dacl {
-        Dacl::List(list) => list_notes(alloc, list.entries()),
+        Dacl::List(list) => list_notes(alloc, spelling, list.entries()),
         _ => Ok(String::new(alloc)),
     }
 }
 
-fn list_notes(alloc: Global, entries: &[Ace]) -> Result<String, AllocError>
-    ensures { IfOk result (λ text. string_bytes text ≡ notes_below entries.now (length entries.now)) }
+fn list_notes(alloc: Global, spelling: Spelling, entries: &[Ace]) -> Result<String, AllocError>
+    ensures { IfOk result (λ text. string_bytes text ≡ notes_below spelling entries.now (length entries.now)) }
 {
     let mut text = String::new(alloc);
     for place in 0..entries.len() {
-        let note = note_of(alloc, entries, place, &entries[place])?;
+        let note = note_of(alloc, spelling, entries, place, &entries[place])?;
         text.push_str(note.as_str())?;
     }
     Ok(text)
 }
 
 /// Before which entry the one at the place moves, or nothing.
-fn note_of(alloc: Global, entries: &[Ace], place: usize, entry: &Ace) -> Result<String, AllocError>
+fn note_of(
+    alloc: Global,
+    spelling: Spelling,
+    entries: &[Ace],
+    place: usize,
+    entry: &Ace,
+) -> Result<String, AllocError>
     requires { place < length entries.now }
-    ensures { IfOk result (λ text. string_bytes text ≡ note_of entries.now place entry.now) }
+    ensures { IfOk result (λ text. string_bytes text ≡ note_of spelling entries.now place entry.now) }
 {
     match first_behind(&entries[..place], entry) {
         None => Ok(String::new(alloc)),
         Some(first) => {
             let (number, before) = (place + 1, first + 1);
-            let entry = print_entry(alloc, entry)?;
+            let entry = print_entry_in(alloc, spelling.right_names(), entry)?;
             let entry = entry.as_str();
             let what = format!(in alloc; "entry {number} {entry} moves before entry {before}")?;
             told_line(alloc, "SDDL", what.as_str())

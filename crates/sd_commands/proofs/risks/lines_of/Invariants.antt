@@ -5,4 +5,4 @@ use Rattle.sd_commands.specs.Risks.{risk_line}
 use Rattle.sd_commands.proofs.risks.lines_of.Given as goal
 
 abbrev pub invariant-loop-risk : goal.invariant-loop-risk
-invariant-loop-risk l = string_bytes l.text ≡ flat_map risk_line (take l.risk-index l.risks)
+invariant-loop-risk l = string_bytes l.text ≡ flat_map (risk_line l.spelling) (take l.risk-index l.risks)

@@ -6,6 +6,6 @@ use Rattle.sd_commands.proofs.sort.answer_sort.Goals as goal
 pub returns : goal.returns
 returns c =
     answered (codes "SDDL") c.args.settings c.args.sddl.now
-    (IsSorted)
+    (IsSorted c.args.settings)
     c.in_ok-read.field-0 c.in-Descriptor.read (answer_of c.in_ok-answer.answer) (answer_of c.in_ok-noting.field-0)
     c.in_ok-read.ensures c.in-Descriptor.is c.in_ok-answer.ensures c.in_ok-noting.ensures

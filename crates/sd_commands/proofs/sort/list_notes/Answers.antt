@@ -10,17 +10,18 @@ loop-place-init c = c.new-text.ensures.bytes
 pub loop-place-preserved : goal.loop-place-preserved
 unfolding notes_below
 loop-place-preserved c =
+    let spelling = c.args.spelling in
     let entries = c.args.entries.now in
     let place = c.loop-place.place in
     let stands : slice_get entries place ≡ Some c.index-entries-place.result =
     slice_get_read entries (length entries) place c.index-entries-place.result refl c.loop-place-test.true c.index-entries-place.is in
     c.in_ok-push_str.ensures.bytes
     ∙ ap (λ text. text ++ c.as_str.result.now) c.loop-place.invariant
-    ∙ ap (λ notes. notes_below entries place ++ notes)
-    (c.as_str.ensures.value ∙ c.in_ok-note.ensures ∙ ap (note_at entries place) (sym stands))
-    ∙ ap (notes_below entries) (sym (add-one place))
+    ∙ ap (λ notes. notes_below spelling entries place ++ notes)
+    (c.as_str.ensures.value ∙ c.in_ok-note.ensures ∙ ap (note_at spelling entries place) (sym stands))
+    ∙ ap (notes_below spelling entries) (sym (add-one place))
 
 pub returns : goal.returns
 returns c =
     let all : c.loop-place.place ≡ length c.args.entries.now = omega (arith, c.loop-place-test.false, c.loop-place.auto.place-end) in
-    c.loop-place.invariant ∙ ap (notes_below c.args.entries.now) all
+    c.loop-place.invariant ∙ ap (notes_below c.args.spelling c.args.entries.now) all

@@ -4,4 +4,4 @@ use Rattle.sd_commands.specs.Sort.{notes_below}
 use Rattle.sd_commands.proofs.sort.list_notes.Given as goal
 
 abbrev pub invariant-loop-place : goal.invariant-loop-place
-invariant-loop-place l = string_bytes l.text ≡ notes_below l.entries l.place
+invariant-loop-place l = string_bytes l.text ≡ notes_below l.spelling l.entries l.place
