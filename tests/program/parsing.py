@@ -44,6 +44,13 @@ each -0 frombin
 --mapping --mapping --names why -- -h SY 0x1
 --mapping '' --domain '' lint --mapping
 --names why D: SY 0x1
+--names lint D:
+--names script
+--names serve
+--names audit 1
+--names each print
+--names --mapping key print D:
+--names --mapping key sort D:
 --names why -- -h SY 0x1 --names
 --names why --names --names --names
 --domain S-1-5-21-1-2-3 verdict D: DA 0x1
@@ -266,20 +273,16 @@ REJECTED = r"""
 1 MisplacedOption | --aliases frombin 00
 1 MisplacedOption | --loose script
 1 MisplacedOption | --base64 tobin D:
-1 MisplacedOption | --mapping key print D:
+1 MisplacedOption | --mapping key tobin D:
 1 ExcludedOption | --base64 --loose frombin 00
 1 MisplacedOption | --domain x frombin 00
 1 MisplacedOption | --domain x rights FR
 1 UnknownOption | --domain=x print D:
-3 MisplacedOption | --domain x --names print D:
+3 MisplacedOption | --domain x --names tobin D:
 3 MisplacedOption | --domain --loose --base64 print D:
-1 MisplacedOption | --names lint D:
-1 MisplacedOption | --names print D:
 1 MisplacedOption | --names tobin D:
 1 MisplacedOption | --names frombin 00
-1 MisplacedOption | --names script
-1 MisplacedOption | --names audit 1
-1 MisplacedOption | --names each print
+1 MisplacedOption | --names each tobin
 1 MisplacedOption | --stdin rights
 2 NoText | --stdin script
 2 NoText | --stdin each print

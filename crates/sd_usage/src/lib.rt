@@ -13,6 +13,7 @@
 mod described;
 mod names;
 mod notes;
+mod options;
 mod row;
 mod table;
 mod texts;

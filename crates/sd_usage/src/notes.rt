@@ -215,7 +215,7 @@ Statuses:
 const SERVE_NOTES: &str = "\
 Has the output of 'sdstore script'. Every complete line is answered before more input is read: a
 program can write a line, wait for its answer, and write the next. The number of lines is unlimited.
-'--mapping', '--percent' and '--strict' go before 'serve', as before 'script', and '--ids' after it.
+Options go before 'serve', as before 'script', and '--ids' after it.
 
 With '--ids' the first word of a line is its id, which comes before each line of its answer:
   17 check 0 /a SY FR WD               17 seen 1 granted 0x120089
@@ -239,7 +239,7 @@ Has the output of 'sdstore script', except for these lines:
   tell, learn, why, find, delete, show, list, dump, who, review, expect
                                        are faults
 At the end all accepted edits are published, and then the checks are answered, in order.
-'--mapping', '--percent' and '--strict' go before 'audit', as before 'script'.
+Options go before 'audit', as before 'script'.
 
 Statuses:
   0  the audit was carried out to its end, even with faults and refusals

@@ -1,72 +1,12 @@
 //! The table of commands and options. Nothing else says which arguments are a command line.
 
+use crate::options::{
+    BYTES_OPTIONS, LINT_OPTIONS, NAMED_TEXT_OPTIONS, RIGHTS_OPTIONS, SCRIPT_OPTIONS, TEXT_OPTIONS,
+};
 use crate::row::{
     Argument, Arguments, Command, CommandName, CommandRow, Flag, Flags, OptionName, OptionRow,
     ProgramOption, Question, Value,
 };
-
-// Of commands that parse a descriptor's text.
-const TEXT_OPTIONS: &[OptionName] = &[
-    OptionName::Stdin,
-    OptionName::WithoutSacl,
-    OptionName::RequireDacl,
-    OptionName::Domain,
-    OptionName::Aliases,
-    OptionName::Json,
-];
-
-// Of those that map generic rights too.
-const MAPPED_TEXT_OPTIONS: &[OptionName] = &[
-    OptionName::Stdin,
-    OptionName::WithoutSacl,
-    OptionName::RequireDacl,
-    OptionName::Domain,
-    OptionName::Aliases,
-    OptionName::Mapping,
-    OptionName::Json,
-];
-
-// Of those that print rights too.
-const NAMED_TEXT_OPTIONS: &[OptionName] = &[
-    OptionName::Stdin,
-    OptionName::Names,
-    OptionName::WithoutSacl,
-    OptionName::RequireDacl,
-    OptionName::Domain,
-    OptionName::Aliases,
-    OptionName::Mapping,
-    OptionName::Json,
-];
-
-const LINT_OPTIONS: &[OptionName] = &[
-    OptionName::Stdin,
-    OptionName::WithoutSacl,
-    OptionName::RequireDacl,
-    OptionName::Risks,
-    OptionName::Domain,
-    OptionName::Aliases,
-    OptionName::Mapping,
-    OptionName::Json,
-];
-
-const BYTES_OPTIONS: &[OptionName] = &[
-    OptionName::Stdin,
-    OptionName::WithoutSacl,
-    OptionName::RequireDacl,
-    OptionName::Base64,
-    OptionName::Loose,
-    OptionName::Json,
-];
-
-const SCRIPT_OPTIONS: &[OptionName] = &[
-    OptionName::WithoutSacl,
-    OptionName::Percent,
-    OptionName::Strict,
-    OptionName::Domain,
-    OptionName::Aliases,
-    OptionName::Mapping,
-    OptionName::Json,
-];
 
 /// The commands, in the order in which help lists them.
 pub const COMMANDS: &[CommandRow] = &[
@@ -139,7 +79,7 @@ sdstore verdict 'D:(D;;0x2;;;S-1-5-21-1-2-3-1001)(A;;0x1f01ff;;;S-1-5-21-1-2-3-1
             arguments: Arguments::One(Argument::Descriptor),
             repeated: None,
         },
-        TEXT_OPTIONS,
+        NAMED_TEXT_OPTIONS,
         "Prints a descriptor in canonical SDDL",
         "sdstore print 'o:s-1-5-18d:(a;;0x1f01ff;;;s-1-1-0)'",
     ),
@@ -151,7 +91,7 @@ sdstore verdict 'D:(D;;0x2;;;S-1-5-21-1-2-3-1001)(A;;0x1f01ff;;;S-1-5-21-1-2-3-1
             arguments: Arguments::One(Argument::Descriptor),
             repeated: None,
         },
-        TEXT_OPTIONS,
+        NAMED_TEXT_OPTIONS,
         "Prints a descriptor with its DACL in canonical order",
         "sdstore sort 'D:(A;;FA;;;BU)(D;;FW;;;BG)'",
     ),
@@ -187,7 +127,7 @@ sdstore verdict 'D:(D;;0x2;;;S-1-5-21-1-2-3-1001)(A;;0x1f01ff;;;S-1-5-21-1-2-3-1
             arguments: Arguments::One(Argument::Mask),
             repeated: None,
         },
-        &[OptionName::Names, OptionName::Mapping, OptionName::Json],
+        RIGHTS_OPTIONS,
         "Prints the names of the rights of an access mask",
         "sdstore rights 0x1301bf",
     ),
@@ -264,8 +204,8 @@ mark, and without a line end at its end",
             excludes: None,
         },
         "\
-prints masks by the names of their kind of object, as FR+WD instead of 0x160089, and takes such
-names as MASK",
+prints masks by the names of their kind of object, as FR+WD instead of 0x160089, takes such names as
+MASK, and prints entries with names of that kind alone",
     ),
     (
         "--without-sacl",

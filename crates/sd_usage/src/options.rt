@@ -1,0 +1,63 @@
+//! The options that commands take, for the rows of the table.
+
+use crate::row::OptionName;
+
+/// Of commands that parse a descriptor's text.
+pub(crate) const TEXT_OPTIONS: &[OptionName] = &[
+    OptionName::Stdin,
+    OptionName::WithoutSacl,
+    OptionName::RequireDacl,
+    OptionName::Domain,
+    OptionName::Aliases,
+    OptionName::Json,
+];
+
+/// Of those that also print masks, or entries.
+pub(crate) const NAMED_TEXT_OPTIONS: &[OptionName] = &[
+    OptionName::Stdin,
+    OptionName::Names,
+    OptionName::WithoutSacl,
+    OptionName::RequireDacl,
+    OptionName::Domain,
+    OptionName::Aliases,
+    OptionName::Mapping,
+    OptionName::Json,
+];
+
+pub(crate) const LINT_OPTIONS: &[OptionName] = &[
+    OptionName::Stdin,
+    OptionName::Names,
+    OptionName::WithoutSacl,
+    OptionName::RequireDacl,
+    OptionName::Risks,
+    OptionName::Domain,
+    OptionName::Aliases,
+    OptionName::Mapping,
+    OptionName::Json,
+];
+
+pub(crate) const BYTES_OPTIONS: &[OptionName] = &[
+    OptionName::Stdin,
+    OptionName::WithoutSacl,
+    OptionName::RequireDacl,
+    OptionName::Base64,
+    OptionName::Loose,
+    OptionName::Json,
+];
+
+pub(crate) const SCRIPT_OPTIONS: &[OptionName] = &[
+    OptionName::Names,
+    OptionName::WithoutSacl,
+    OptionName::Percent,
+    OptionName::Strict,
+    OptionName::Domain,
+    OptionName::Aliases,
+    OptionName::Mapping,
+    OptionName::Json,
+];
+
+pub(crate) const RIGHTS_OPTIONS: &[OptionName] = &[
+    OptionName::Names,
+    OptionName::Mapping,
+    OptionName::Json,
+];
