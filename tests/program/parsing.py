@@ -93,6 +93,12 @@ print -V
 print --version
 print -hx
 print -- D:
+--caret print D:
+--caret --stdin print
+--caret --json each print
+--caret rights FR
+--caret frombin 00
+print --caret
 print -- -h
 print -- --
 tobin -- --help
@@ -173,6 +179,7 @@ REJECTED = r"""
 3 SurplusArgument | serve -- --ids
 3 SurplusArgument | serve --ids --ids
 2 RepeatedOption | --percent --percent script
+2 RepeatedOption | --caret --caret print D:
 2 RepeatedOption | --strict --strict script
 2 RepeatedOption | --loose --loose frombin 00
 2 MissingArgument | each
@@ -283,6 +290,10 @@ REJECTED = r"""
 1 MisplacedOption | --names tobin D:
 1 MisplacedOption | --names frombin 00
 1 MisplacedOption | --names each tobin
+1 MisplacedOption | --caret script
+1 MisplacedOption | --caret serve
+1 MisplacedOption | --caret audit 1
+2 MisplacedOption | --percent --caret script
 1 MisplacedOption | --stdin rights
 2 NoText | --stdin script
 2 NoText | --stdin each print

@@ -10,6 +10,7 @@ pub(crate) const TEXT_OPTIONS: &[OptionName] = &[
     OptionName::Domain,
     OptionName::Aliases,
     OptionName::Json,
+    OptionName::Caret,
 ];
 
 /// Of those that also print masks, or entries.
@@ -22,6 +23,7 @@ pub(crate) const NAMED_TEXT_OPTIONS: &[OptionName] = &[
     OptionName::Aliases,
     OptionName::Mapping,
     OptionName::Json,
+    OptionName::Caret,
 ];
 
 pub(crate) const LINT_OPTIONS: &[OptionName] = &[
@@ -34,6 +36,7 @@ pub(crate) const LINT_OPTIONS: &[OptionName] = &[
     OptionName::Aliases,
     OptionName::Mapping,
     OptionName::Json,
+    OptionName::Caret,
 ];
 
 pub(crate) const BYTES_OPTIONS: &[OptionName] = &[
@@ -43,6 +46,7 @@ pub(crate) const BYTES_OPTIONS: &[OptionName] = &[
     OptionName::Base64,
     OptionName::Loose,
     OptionName::Json,
+    OptionName::Caret,
 ];
 
 pub(crate) const SCRIPT_OPTIONS: &[OptionName] = &[
@@ -60,4 +64,5 @@ pub(crate) const RIGHTS_OPTIONS: &[OptionName] = &[
     OptionName::Names,
     OptionName::Mapping,
     OptionName::Json,
+    OptionName::Caret,
 ];

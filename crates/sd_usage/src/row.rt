@@ -89,10 +89,12 @@ pub enum OptionName {
     Mapping,
     /// `--json`.
     Json,
+    /// `--caret`.
+    Caret,
 }
 
 /// How many options there are.
-pub const OPTION_COUNT: usize = 13;
+pub const OPTION_COUNT: usize = 14;
 
 /// A command, and what follows it.
 #[derive(Clone, Copy)]

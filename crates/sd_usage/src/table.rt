@@ -325,6 +325,17 @@ the generic mapping, that of a 'file' (the default), of a registry 'key', of a '
 prints each line of the answer as an object of JSON in a line, with what kind of line it is and its
 words by their names",
     ),
+    (
+        "--caret",
+        ProgramOption {
+            name: OptionName::Caret,
+            value: None,
+            excludes: None,
+        },
+        "\
+a message that names a byte of an argument shows the text, with a caret under that byte, as it does
+in any case where standard error is a terminal",
+    ),
 ];
 
 /// The commands, for texts: no contract speaks of these, so their proofs don't carry the table along.
