@@ -13,8 +13,9 @@ use Rattle.sd_answer.specs.declared.answer.Spelling.{Spelling}
 use Rattle.sd_answer.specs.declared.answer.Spelling.TheVariants.{Number, Names as ByNames}
 use Rattle.sd_usage.specs.Table.{option_named, place, takes_option}
 use Rattle.sd_usage.specs.declared.row.OptionName.{OptionName}
-use Rattle.sd_usage.specs.declared.row.OptionName.TheVariants.{Stdin, Names, WithoutSacl, RequireDacl, Base64, Loose}
-use Rattle.sd_usage.specs.declared.row.OptionName.TheVariants.{Percent, Risks, Strict, Domain, Aliases, Mapping, Json}
+use Rattle.sd_usage.specs.declared.row.OptionName.TheVariants.{Aliases, Base64, Caret, Domain, Json, Loose}
+use Rattle.sd_usage.specs.declared.row.OptionName.TheVariants.{Mapping, Names, Percent, RequireDacl, Risks}
+use Rattle.sd_usage.specs.declared.row.OptionName.TheVariants.{Stdin, Strict, WithoutSacl}
 use Rattle.sd_usage.specs.declared.row.ProgramOption.{ProgramOption}
 use Rattle.sd_usage.specs.declared.row.TheConstants.{OPTION_COUNT}
 use Rattle.sd_commands.specs.Mapping.{GivesMapping, GivesNoMapping, kind_given}
@@ -151,6 +152,7 @@ pub record AreSettings (options : OptionsValue) (settings : Settings) : Type 0 w
   pub require_dacl : settings.require_dacl ≡ has options RequireDacl
   pub risks : settings.risks ≡ has options Risks
   pub bytes : settings.bytes ≡ byte_form_of options
+  pub points : settings.points ≡ has options Caret
 
 -- the value of an option isn't read: the domain's, or else the mapping's
 abbrev pub HasBadValue : OptionsValue → BadValue → Type 0

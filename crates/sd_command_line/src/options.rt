@@ -106,6 +106,7 @@ impl<'a> Options<'a> {
             require_dacl: self.has(OptionName::RequireDacl),
             risks: self.has(OptionName::Risks),
             bytes: self.byte_form(),
+            points: self.has(OptionName::Caret),
         })
     }
 

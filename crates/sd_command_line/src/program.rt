@@ -1,17 +1,19 @@
 //! The program over any words and streams: words in, an answer and a status out.
-ghost use Rattle.std.specs.Prelude.{◌≡◌, ◌≤◌, ◌⊎◌, ◌||◌, ℕ, List, false, Some, Err, IfErr, IfOk, string_bytes};
+ghost use Rattle.std.specs.Prelude.{◌≡◌, ◌≤◌, ◌⊎◌, ◌||◌, ℕ, List, false, Some, Err, IfErr, IfOk, is_some};
+ghost use Rattle.std.specs.Prelude.{string_bytes};
 ghost use Rattle.std.specs.Io.KnownBytes.{Keeps};
 ghost use Rattle.sd_stream.specs.Watched.{has_failed, inner_of};
 ghost use Rattle.sd_stream.specs.Whole.{AppendsBeginning, ReadsPart};
 ghost use Rattle.sd_stream.specs.declared.error.RunError.{RunError as Error};
-ghost use Rattle.sd_command_line.specs.CommandLine.{IsAudit, IsUnread, asks_input, mistake_in};
+ghost use Rattle.sd_command_line.specs.CommandLine.{IsAudit, IsUnread, asks_input, mistake_in, reading};
+ghost use Rattle.sd_command_line.specs.Laws.{shows};
 ghost use Rattle.sd_command_line.specs.Mistake.{message};
 ghost use Rattle.sd_command_line.specs.declared.mistake.Mistake.{Mistake};
 ghost use Rattle.sd_command_line.specs.Output.{AppendsAnswer, AppendsPartOfAnswer, IsDue, LeavesAtFailure};
 ghost use Rattle.sd_command_line.specs.Output.{LeavesByLine, blames_reader, blames_writer, error_line};
 ghost use Rattle.sd_commands.specs.Answer.{outcome_status};
 
-use crate::command_line::read_command_line;
+use crate::command_line::{Invocation, read_command_line};
 use crate::failure::Failure;
 use crate::mistake::message;
 use crate::perform::{Ended, perform};
@@ -89,6 +91,26 @@ pub fn reads_input(words: &[&str]) -> bool
         Ok(line) => line.invocation.uses_input(),
         Err(_) => false,
     }
+}
+
+/// Whether these words, of which the first is the program's name, are a command line.
+pub fn is_command_line(words: &[&str]) -> bool
+    ensures { result ≡ is_some (reading words.now) }
+{
+    read_command_line(words).is_ok()
+}
+
+/// Whether what these words ask for, of which the first is the program's name, is help or the version.
+pub fn asks_help(words: &[&str]) -> bool
+    ensures { result ≡ shows (reading words.now) }
+{
+    let Ok(line) = read_command_line(words) else {
+        return false;
+    };
+    matches!(
+        line.invocation,
+        Invocation::Help { .. } | Invocation::Version
+    )
 }
 
 /// Tells standard error. What stands, stands also where the errors can't be written.
