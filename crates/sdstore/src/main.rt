@@ -10,7 +10,7 @@ use std::process::ExitCode;
 use std::sync::Wait;
 use std::thread::Threads;
 use std::{env, io};
-use terminal::{Coloured, shows_colours};
+use terminal::{Coloured, shows_colours, with_caret};
 
 fn main(rt: HostRuntime) -> ExitCode {
     match run(&rt, rt.stdin(), rt.stdout(), &mut rt.stderr()) {
@@ -28,15 +28,19 @@ fn main(rt: HostRuntime) -> ExitCode {
 
 // The status with which the program ends. An `Err` says that there are no words: an argument isn't
 // Unicode, or there is no memory for them.
-fn run<T, R, W, E: Write>(rt: &T, input: R, output: W, errors: &mut E) -> io::Result<u8>
+fn run<T, R, W, E>(rt: &T, input: R, output: W, errors: &mut E) -> io::Result<u8>
 where
     T: Env + AllocGlobal + Threads + Wait + Sync,
     R: Read + IsTerminal + Drop,
     W: Write + IsTerminal + Drop,
+    E: Write + IsTerminal,
 {
     let alloc = rt.alloc();
     let texts: Vec<String> = env::args(rt)?.collect(alloc)?;
-    let words: Vec<&str> = texts.iter().map(|text| text.as_str()).collect(alloc)?;
+    let mut words: Vec<&str> = texts.iter().map(|text| text.as_str()).collect(alloc)?;
+    if errors.is_terminal() {
+        words = with_caret(alloc, words);
+    }
     if input.is_terminal() && reads_input(words.as_slice()) {
         // Where nobody can be told, nobody is.
         let _ = errors.write_all(b"sdstore: reads the standard input, up to its end\n");

@@ -1,6 +1,8 @@
-//! What a terminal changes in the output: verdicts in colour. Where it is none, nothing changes.
+//! What a terminal changes: verdicts in colour, and a caret below a fault. Where it is none, nothing changes.
 ghost use Rattle.std.specs.Prelude.{◌≤◌, length};
 
+use sd_command_line::{asks_help, is_command_line};
+use std::alloc::{AllocError, Global};
 use std::env::{Env, VarError};
 use std::io::{IsTerminal, Write};
 use std::{env, io};
@@ -8,6 +10,26 @@ use std::{env, io};
 const GRANTED: &[u8] = b"granted 0x";
 
 const DENIED: &[u8] = b"denied 0x";
+
+/// The words with the option `--caret` before all others, where that is a command line too. Help stays help, also where
+/// it is asked for behind a command, and a mistake keeps its argument's number. Without memory for them they stay.
+pub(crate) fn with_caret<'a>(alloc: Global, words: Vec<&'a str>) -> Vec<&'a str> {
+    if asks_help(words.as_slice()) {
+        return words;
+    }
+    match after_caret(alloc, words.as_slice()) {
+        Ok(more) if is_command_line(more.as_slice()) => more,
+        _ => words,
+    }
+}
+
+fn after_caret<'a>(alloc: Global, words: &[&'a str]) -> Result<Vec<&'a str>, AllocError> {
+    let mut more = Vec::from_slice(alloc, words)?;
+    if !words.is_empty() {
+        more.insert(1, "--caret")?;
+    }
+    Ok(more)
+}
 
 /// Whether the output shows colours: a terminal's does, unless the variable `NO_COLOR` is there, whatever
 /// it holds.
