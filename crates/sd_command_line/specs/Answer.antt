@@ -61,8 +61,8 @@ AnswersUnder settings (AsksEach lines request) answer = ⊥
 
 -- the value of an option isn't read
 abbrev pub IsBadValue : BadValue → AnswerValue → Type 0
-IsBadValue (NoDomain text) answer =
-    (reason : List ℕ) × IsSidReason (in_domain None) (codes "no domain") text.now reason
+IsBadValue (NoDomain text points) answer =
+    (reason : List ℕ) × IsSidReason points (in_domain None) (codes "no domain") text.now reason
     × IsFault (fault_line (codes "domain")) (told_line (codes "--domain") reason) answer
 IsBadValue NoMapping answer = IsFault (fault_line (codes "mapping"))
     (told_line (codes "--mapping") (codes "no such mapping")) answer

@@ -3,7 +3,8 @@ use Rattle.std.specs.Prelude.{ℕ, ◌-◌, ◌==◌, if◌then◌else◌, List,
 use Rattle.std.specs.Fmt.{decimal}
 use Rattle.std.specs.Borrow.{Bor}
 use Rattle.sd_answer.specs.Answer.{line}
-use Rattle.sd_commands.specs.Told.{shown, told_line}
+use Rattle.sd_commands.specs.Shown.{shown}
+use Rattle.sd_commands.specs.Told.{told_line}
 use Rattle.sd_usage.specs.Texts.{argument_name, listed_commands, usage_line}
 use Rattle.sd_usage.specs.declared.names.Commands.TheVariants.{All, Answering, Taking}
 use Rattle.sd_command_line.specs.declared.mistake.Mistake.{Mistake}

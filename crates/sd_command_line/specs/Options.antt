@@ -156,7 +156,8 @@ pub record AreSettings (options : OptionsValue) (settings : Settings) : Type 0 w
 
 -- the value of an option isn't read: the domain's, or else the mapping's
 abbrev pub HasBadValue : OptionsValue → BadValue → Type 0
-HasBadValue options (NoDomain text) = (given options Domain ≡ Some text.now) × IsNoDomain text.now
+HasBadValue options (NoDomain text points) =
+    (given options Domain ≡ Some text.now) × IsNoDomain text.now × (points ≡ has options Caret)
 HasBadValue options NoMapping = ((domain : Option DomainValue) × GivesDomain (given options Domain) domain)
     × GivesNoMapping (given options Mapping)
 

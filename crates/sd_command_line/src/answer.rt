@@ -64,12 +64,12 @@ pub(crate) fn bad_value(alloc: Global, bad: BadValue<'_>) -> Result<Answer, Allo
     ensures { IfOk result (λ answer. IsBadValue bad.entry (answer_of answer)) }
 {
     match bad {
-        BadValue::NoDomain(text) => {
+        BadValue::NoDomain { text, points } => {
             let known = Aliases {
                 domain: None,
                 later: false,
             };
-            let reason = sid_reason(alloc, known, "no domain", text)?;
+            let reason = sid_reason(alloc, points, known, "no domain", text)?;
             fault(
                 alloc,
                 "domain",

@@ -21,8 +21,8 @@ use sd_usage::{OPTION_COUNT, OptionName, ProgramOption, option_named, takes_opti
 /// The value of an option that isn't read.
 #[derive(Clone, Copy, Debug)]
 pub(crate) enum BadValue<'a> {
-    /// The value of `--domain` is no domain's SID.
-    NoDomain(&'a str),
+    /// The value of `--domain` is no domain's SID, and whether a caret shows where.
+    NoDomain { text: &'a str, points: bool },
     /// The value of `--mapping` is no mapping.
     NoMapping,
 }
@@ -154,7 +154,10 @@ impl<'a> Options<'a> {
             None => Ok(None),
             Some(text) => match domain_in(text) {
                 Some(domain) => Ok(Some(domain)),
-                None => Err(BadValue::NoDomain(text)),
+                None => {
+                    let points = self.has(OptionName::Caret);
+                    Err(BadValue::NoDomain { text, points })
+                }
             },
         }
     }
