@@ -8,12 +8,13 @@ use Rattle.sd_stream.specs.Whole.{AppendsBeginning, ReadsPart}
 use Rattle.sd_stream.specs.declared.error.RunError.{RunError}
 use Rattle.sd_stream.specs.declared.error.RunError.TheVariants.{Read, TooLong, Write, Memory, Thread}
 use Rattle.sd_script.specs.Output.{PrintsAndCounts}
+use Rattle.sd_script.specs.Printed.{PrintsAndCountsServed, PrintsAs}
 use Rattle.sd_lines.specs.Output.{AppendsOutput, IsOutput, LeavesAnswers, LeavesOutput}
 use Rattle.sd_script.specs.declared.tally.Tally.{Tally}
 use Rattle.sd_script_audit.specs.Audit.{PrintsAuditAndCounts}
 use Rattle.sd_script.specs.declared.ids.TheConstants.{LINES}
 use Rattle.sd_commands.specs.Answer.{AnswerValue}
-use Rattle.sd_command_line.specs.Answer.{Answers, AnswersInput, IsBadValue, PrintsAndCountsServed, PrintsAs, shown_answer}
+use Rattle.sd_command_line.specs.Answer.{Answers, AnswersInput, IsBadValue, shown_answer}
 use Rattle.sd_command_line.specs.CommandLine.{CommandLineValue, InvocationValue, RequestValue, IsAudit, Ask, AskInput, Script, Serve, Audit, Each, Help, Version, mistake_in, reading, runs_script}
 use Rattle.sd_command_line.specs.Mistake.{message}
 use Rattle.sd_command_line.specs.declared.mistake.Mistake.{Mistake}

@@ -1,25 +1,24 @@
 -- What the program prints for a command line, and whether it did what was asked for.
-use Rattle.std.specs.Prelude.{◌≡◌, ◌⊎◌, ℕ, Bool, true, false, ◌&&◌, MatchBool, List, [], ◌++◌, Option, Some, None}
+use Rattle.std.specs.Prelude.{◌≡◌, ◌⊎◌, ℕ, Bool, true, false, MatchBool, List, [], ◌++◌, Option, Some, None}
 use Rattle.std.specs.Prelude.{IfSome, MatchOption, if◌then◌else◌, Result, Ok, Err, codes, string_bytes}
 use Rattle.std.specs.Io.KnownBytes.{Appends}
 use Rattle.std.specs.Str.{IsUtf8}
-use Rattle.std.specs.Str.Lines.{lines}
 use Rattle.sd_answer.specs.Answer.{line, fault_line}
-use Rattle.sd_script.specs.Output.{PrintsAndCounts, begun}
+use Rattle.sd_script.specs.Output.{PrintsAndCounts}
 use Rattle.sd_lines.specs.Output.{IsOutput}
 use Rattle.sd_script.specs.declared.manner.Manner.{Manner}
 use Rattle.sd_script.specs.declared.tally.Tally.{Tally}
 use Rattle.sd_script_audit.specs.Audit.{PrintsAuditAndCounts}
-use Rattle.sd_script.specs.Ids.{IsNextIn, has_id, tagged}
-use Rattle.sd_script.specs.declared.carried.Carried.{Carried}
-use Rattle.sd_lines.specs.Answers.{AreAnswered, PrintsAndLeaves}
+use Rattle.sd_script.specs.Ids.{tagged}
+use Rattle.sd_script.specs.Printed.{PrintsAndCountsServed, PrintsAs}
+use Rattle.sd_lines.specs.Answers.{PrintsAndLeaves}
 use Rattle.sd_stream.specs.Decoder.{decoded}
 use Rattle.sd_lines.specs.declared.ending.Ending.{Ending}
 use Rattle.sd_lines.specs.declared.form.Form.{Form as LineForm}
 use Rattle.sd_command_line.specs.Scripts.{IsToldOfScript, manner_of, script_outcome}
-use Rattle.sd_json.specs.Text.{json_text}
+use Rattle.sd_json.specs.Text.{printed_as}
 use Rattle.sd_json.specs.declared.tagging.Tagging.{Tagging}
-use Rattle.sd_json.specs.declared.tagging.Tagging.TheVariants.{Id, Key, Nothing}
+use Rattle.sd_json.specs.declared.tagging.Tagging.TheVariants.{Key, Nothing}
 use Rattle.sd_usage.specs.declared.row.Question.{Question}
 use Rattle.sd_usage.specs.declared.row.Question.TheVariants as questions
 use Rattle.sd_command_line.specs.CommandLine.{CommandLineValue, InvocationValue, Ask, AskInput, Script as AsksScript}
@@ -82,10 +81,6 @@ AnswersArguments options invocation answer = AnswersWith options (λ settings. A
 
 -- ---- as it is printed
 
--- a text as it stands, or an object for each of its lines
-abbrev pub printed_as : Bool → Tagging → List ℕ → List ℕ
-printed_as is_json tagging text = if is_json then json_text tagging text else text
-
 abbrev pub shown_of : Shown → AnswerValue
 shown_of shown = record {
   printed = shown.printed.items;
@@ -130,31 +125,6 @@ AnswersGiven input request settings answer =
     (text : List ℕ) × IfSome input (λ bytes. text ≡ bytes) × AnswersInput settings request text answer
 
 -- ---- scripts
-
--- the whole output of a script, each line of which is an object, where that is asked for
-abbrev pub PrintsAs : Bool → (List ℕ → List ℕ → Tally → Type 0) → List ℕ → List ℕ → Tally → Type 0
-PrintsAs is_json Prints text printed tally =
-    (plain : List ℕ) × Prints text plain tally × (printed ≡ printed_as is_json Nothing plain)
-
--- what each line of the answer to a line begins with
-abbrev pub served_tagging : Bool → List ℕ → Tagging
-served_tagging has_ids line = if has_ids && has_id line then Id else Nothing
-
--- a line of `serve` is answered, and counted, and each line of its answer an object, where that is asked for
-abbrev pub IsNextServed : (has_ids is_json : Bool) → Carried → List ℕ → List ℕ → Carried → Type 0
-IsNextServed has_ids is_json old line printed new =
-    (plain : List ℕ) × IsNextIn has_ids old line plain new
-    × (printed ≡ printed_as is_json (served_tagging has_ids line) plain)
-
--- the output of all lines, and what is counted of them
-abbrev pub PrintsAndCountsServed : (has_ids is_json : Bool) → Manner → List ℕ → List ℕ → Tally → Type 0
-PrintsAndCountsServed has_ids is_json manner text printed tally =
-    (last : Carried) × AreAnswered (IsNextServed has_ids is_json) (begun manner) (lines text) printed last
-    × (tally ≡ last.tally)
-
-abbrev pub PrintsServed : (has_ids is_json : Bool) → Manner → List ℕ → List ℕ → Type 0
-PrintsServed has_ids is_json manner text printed =
-    (last : Carried) × AreAnswered (IsNextServed has_ids is_json) (begun manner) (lines text) printed last
 
 -- the output of the script on the input, as this is printed and counted; or a value of an option isn't read
 abbrev pub AnswersScriptBy : (Manner → List ℕ → List ℕ → Tally → Type 0) → Option (List ℕ) → OptionsValue

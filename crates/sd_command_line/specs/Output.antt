@@ -6,11 +6,12 @@ use Rattle.sd_stream.specs.Whole.{AppendsBeginning, ReadsPart, is_read_error, is
 use Rattle.sd_stream.specs.declared.error.RunError.{RunError}
 use Rattle.sd_stream.specs.declared.error.RunError.TheVariants.{Read, TooLong, Write, Memory, Thread}
 use Rattle.sd_answer.specs.Answer.{line}
+use Rattle.sd_script.specs.Printed.{PrintsServed}
 use Rattle.sd_script.specs.declared.ids.TheConstants.{LINES}
 use Rattle.sd_lines.specs.Answers.{Prints}
 use Rattle.sd_lines.specs.Output.{LeavesAnswers}
 use Rattle.sd_command_line.specs.declared.flags.Lines.{Lines}
-use Rattle.sd_command_line.specs.Answer.{Answers, AnswersNext, PrintsServed, form_of}
+use Rattle.sd_command_line.specs.Answer.{Answers, AnswersNext, form_of}
 use Rattle.sd_commands.specs.Answer.{AnswerValue, outcome_status}
 use Rattle.sd_command_line.specs.CommandLine.{CommandLineValue, RequestValue, Each, Serve, reading, IsAudit, IsUnread}
 use Rattle.sd_command_line.specs.CommandLine.{mistake_in}

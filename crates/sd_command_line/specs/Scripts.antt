@@ -7,7 +7,7 @@ use Rattle.sd_script.specs.declared.tally.Tally.{Tally}
 use Rattle.sd_commands.specs.Told.{told_line}
 use Rattle.sd_commands.specs.declared.answer.Outcome.{Outcome}
 use Rattle.sd_commands.specs.declared.answer.Outcome.TheVariants.{Done, Refused}
-use Rattle.sd_command_line.specs.Options.{OptionsValue, paths_of}
+use Rattle.sd_command_line.specs.Options.{OptionsValue, is_json, paths_of}
 use Rattle.sd_commands.specs.declared.settings.Settings.{Settings}
 
 -- the manner in which it is carried out
@@ -18,6 +18,7 @@ manner_of options settings = record {
     paths = paths_of options;
     aliases = settings.aliases;
     without_sacl = settings.without_sacl;
+    is_json = is_json options;
   };
 }
 

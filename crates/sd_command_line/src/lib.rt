@@ -22,7 +22,6 @@ mod mistake;
 mod options;
 mod perform;
 mod program;
-mod running;
 mod scripts;
 mod shown;
 mod version;

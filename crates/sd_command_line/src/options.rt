@@ -120,6 +120,7 @@ impl<'a> Options<'a> {
                 paths: self.paths(),
                 aliases: settings.aliases,
                 without_sacl: settings.without_sacl,
+                is_json: self.is_json(),
             },
         }
     }

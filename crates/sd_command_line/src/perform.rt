@@ -18,11 +18,12 @@ use crate::failure::Failure;
 use crate::flags::Lines;
 use crate::input::answer_input;
 use crate::options::Options;
-use crate::running::{run_audit, run_script, serve};
 use crate::scripts::{script_outcome, told_of_script};
 use crate::shown::Shown;
 use sd_commands::{Outcome, Settings};
-use sd_script::Tally;
+use sd_script::{Tally, run, serve};
+use sd_script_audit::run_audit;
+use sd_store::OpenGate;
 use sd_stream::{RunError, Watched, read_whole, write_whole};
 use std::alloc::Global;
 use std::io::{Read, Write};
@@ -177,12 +178,11 @@ fn run_under<T: Threads + Wait + Sync, R: Read, W: Write>(
         × (invocation_of line.entry.invocation ≡ Audit workers) }
 {
     let manner = line.options.manner(settings);
-    let is_json = line.options.is_json();
     match line.invocation {
-        Invocation::Script => run_script(alloc, is_json, &manner, reader, writer),
-        Invocation::Serve { has_ids } => serve(alloc, is_json, &manner, has_ids, reader, writer),
+        Invocation::Script => run(alloc, &manner, reader, writer),
+        Invocation::Serve { has_ids } => serve(alloc, &manner, has_ids, reader, writer),
         Invocation::Audit { workers } => {
-            run_audit(rt, alloc, workers, is_json, &manner, reader, writer)
+            run_audit(rt, alloc, workers, &manner, reader, writer, &OpenGate)
         }
         _ => unreachable!(),
     }

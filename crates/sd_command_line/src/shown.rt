@@ -1,12 +1,12 @@
 //! An answer as it is printed.
 ghost use Rattle.std.specs.Prelude.{◌≡◌, IfOk};
 ghost use Rattle.sd_commands.specs.Answer.{answer_of};
-ghost use Rattle.sd_command_line.specs.Answer.{printed_as, shown_answer, shown_of};
+ghost use Rattle.sd_command_line.specs.Answer.{shown_answer, shown_of};
 ghost use Rattle.sd_command_line.specs.Options.{options_of};
 
 use crate::options::Options;
 use sd_commands::{Answer, Outcome};
-use sd_json::{Tagging, json_text};
+use sd_json::{Tagging, printed_as};
 use std::alloc::{AllocError, Global};
 
 /// What is printed, and what comes of it.
@@ -42,21 +42,5 @@ impl Shown {
             told,
             outcome,
         })
-    }
-}
-
-/// A text as it is printed: as it stands, or an object of JSON for each of its lines. The one error is out of memory.
-pub(crate) fn printed_as(
-    alloc: Global,
-    is_json: bool,
-    tagging: Tagging,
-    text: Vec<u8>,
-) -> Result<Vec<u8>, AllocError>
-    ensures { IfOk result (λ printed. printed.items ≡ printed_as is_json tagging text.items) }
-{
-    if is_json {
-        json_text(alloc, tagging, &text)
-    } else {
-        Ok(text)
     }
 }

@@ -1,5 +1,5 @@
 -- The objects of an answer's lines.
-use Rattle.std.specs.Prelude.{ℕ, ◌==◌, if◌then◌else◌, List, [], ◌∷◌, ◌++◌, length, codes}
+use Rattle.std.specs.Prelude.{ℕ, Bool, ◌==◌, if◌then◌else◌, List, [], ◌∷◌, ◌++◌, length, codes}
 use Rattle.std.specs.List.{slice_split}
 use Rattle.sd_json.specs.Lines.{object}
 use Rattle.sd_json.specs.declared.tagging.Tagging.{Tagging}
@@ -16,3 +16,7 @@ objects tagging (line ∷ next ∷ lines) = object tagging line ++ codes "\n" ++
 
 abbrev pub json_text : Tagging → List ℕ → List ℕ
 json_text tagging text = objects tagging (slice_split (λ b. b == 10) text)
+
+-- a text as it stands, or an object for each of its lines
+abbrev pub printed_as : Bool → Tagging → List ℕ → List ℕ
+printed_as is_json tagging text = if is_json then json_text tagging text else text

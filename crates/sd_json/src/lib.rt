@@ -20,4 +20,4 @@ mod text;
 
 pub use table::{LineRow, ROWS};
 pub use tagging::Tagging;
-pub use text::json_text;
+pub use text::{json_text, printed_as};

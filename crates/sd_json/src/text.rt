@@ -2,12 +2,28 @@
 
 ghost use Rattle.std.specs.Prelude.{◌≡◌, ◌++◌, IfOk, OnOk, codes};
 ghost use Rattle.sd_json.specs.Lines.{object};
-ghost use Rattle.sd_json.specs.Text.{json_text, last_object};
+ghost use Rattle.sd_json.specs.Text.{json_text, last_object, printed_as};
 
 use crate::cut::cut;
 use crate::line::push_object;
 use crate::tagging::Tagging;
 use std::alloc::{AllocError, Global};
+
+/// A text as it is printed: as it stands, or an object of JSON for each of its lines. The one error is out of memory.
+pub fn printed_as(
+    alloc: Global,
+    is_json: bool,
+    tagging: Tagging,
+    text: Vec<u8>,
+) -> Result<Vec<u8>, AllocError>
+    ensures { IfOk result (λ printed. printed.items ≡ printed_as is_json tagging text.items) }
+{
+    if is_json {
+        json_text(alloc, tagging, &text)
+    } else {
+        Ok(text)
+    }
+}
 
 /// An answer as JSON Lines: an object for each line that a line feed ends, and for a last one without its end, each
 /// with a line feed. The one error is out of memory.

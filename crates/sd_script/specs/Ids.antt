@@ -3,14 +3,10 @@ use Rattle.std.specs.Prelude.{◌≡◌, ℕ, Bool, true, false, not, ◌&&◌, 
 use Rattle.std.specs.Prelude.{if◌then◌else◌}
 use Rattle.std.specs.Char.{is_ascii_graphic}
 use Rattle.std.specs.List.{list_all}
-use Rattle.std.specs.Str.Lines.{lines}
 use Rattle.sd_script.specs.Expect.{head_len}
 use Rattle.sd_script.specs.Lines.{is_silent, word_len}
-use Rattle.sd_lines.specs.Answers.{AreAnswered}
-use Rattle.sd_script.specs.Output.{IsNext, begun}
+use Rattle.sd_script.specs.Output.{IsNext}
 use Rattle.sd_script.specs.declared.carried.Carried.{Carried}
-use Rattle.sd_script.specs.declared.manner.Manner.{Manner}
-use Rattle.sd_script.specs.declared.tally.Tally.{Tally}
 
 -- ---- of one line
 
@@ -45,15 +41,6 @@ abbrev pub IsNextIn : Bool → Carried → List ℕ → List ℕ → Carried →
 IsNextIn false old line printed new = IsNext old line printed new
 IsNextIn true old line printed new =
     (answer : List ℕ) × IsNext old (asked_of line) answer new × (printed ≡ tagged (tag_of line) true answer)
-
--- the whole output, and what is counted of it: without ids it is that of the script
-abbrev pub PrintsAndCountsIn : Bool → Manner → List ℕ → List ℕ → Tally → Type 0
-PrintsAndCountsIn has_ids manner text printed tally =
-    (last : Carried) × AreAnswered (IsNextIn has_ids) (begun manner) (lines text) printed last × (tally ≡ last.tally)
-
-abbrev pub PrintsIn : Bool → Manner → List ℕ → List ℕ → Type 0
-PrintsIn has_ids manner text printed =
-    (last : Carried) × AreAnswered (IsNextIn has_ids) (begun manner) (lines text) printed last
 
 -- ---- a law
 

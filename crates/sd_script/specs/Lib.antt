@@ -13,6 +13,7 @@ pub mod Deletion
 pub mod Dump
 pub mod Addition
 pub mod Paths
+pub mod Printed
 pub mod Importing
 pub mod Tally
 pub mod View

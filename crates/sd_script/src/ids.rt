@@ -1,11 +1,14 @@
-//! How each line of a script is answered; with ids, each line of its answer begins with the line's id.
+//! How each line of a script is answered; with ids, each line of its answer begins with the line's id, or is an object
+//! of JSON that has the id.
 
 ghost use Rattle.std.specs.Prelude.{◌≡◌, ◌≤◌, true, length, IfOk, IfSome};
 ghost use Rattle.sd_script.specs.Ids.{IsNextIn, asked_of, has_id, is_id, tag_len, tag_of, tagged};
+ghost use Rattle.sd_script.specs.Printed.{IsNextServed, served_tagging};
 
 use crate::carried::Carried;
 use crate::lines::{head_len, is_silent, word_len};
 use crate::script::answer_line;
+use sd_json::{Tagging, printed_as};
 use sd_lines::{Answers, Ending, Form};
 use std::alloc::{AllocError, Global};
 
@@ -17,18 +20,20 @@ pub const LINES: Form = Form {
     line_by_line: true,
 };
 
-/// A script, whose lines begin with ids or don't.
+/// A script, as its lines are answered.
 #[derive(Clone, Copy, Debug)]
-pub struct Script {
-    /// Whether they do: `serve` has more on ids.
-    pub has_ids: bool,
+pub(crate) struct Script {
+    /// Whether its lines begin with ids: `serve` has more on them.
+    pub(crate) has_ids: bool,
+    /// Whether each line of an answer is printed as an object of JSON.
+    pub(crate) is_json: bool,
 }
 
 impl Answers for Script {
     type State = Carried;
 
     ghost answers = { λ script old line printed new. IfSome line
-        (λ text. IsNextIn script.has_ids old text printed new) };
+        (λ text. IsNextServed script.has_ids script.is_json old text printed new) };
 
     fn answer(
         &self,
@@ -41,8 +46,22 @@ impl Answers for Script {
             // (a line that is too long has ended the script)
             return Ok(());
         };
-        let answer = answer_next(alloc, self.has_ids, carried, line)?;
-        text.extend_from_slice(&answer)
+        let plain = answer_next(alloc, self.has_ids, carried, line)?;
+        let printed = printed_as(alloc, self.is_json, self.tagging(line), plain)?;
+        text.extend_from_slice(&printed)
+    }
+}
+
+impl Script {
+    /// What each line of the answer to a line begins with.
+    fn tagging(&self, line: &[u8]) -> Tagging
+        ensures { result ≡ served_tagging self.now.has_ids line.now }
+    {
+        if self.has_ids && has_id(line) {
+            Tagging::Id
+        } else {
+            Tagging::Nothing
+        }
     }
 }
 
@@ -83,7 +102,7 @@ fn tag_len(line: &[u8]) -> usize
 }
 
 /// Whether the first word of a line is an id: with ids each line of its answer then begins with that and a space.
-pub fn has_id(line: &[u8]) -> bool
+fn has_id(line: &[u8]) -> bool
     ensures { result ≡ has_id line.now }
 {
     is_id(&line[..word_len(line)])

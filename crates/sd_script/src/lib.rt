@@ -1,15 +1,16 @@
 //! Scripts: lines of text that build a tree of securable nodes, edit it, publish and ask.
 //!
 //! Each line is a command with its words, and is answered by one line, and `why`, `find`, `list`, `dump`, `who` and
-//! `review` by several: by what a store replies, or by the first thing that is wrong with it. `script_output` takes a
-//! whole text and gives the whole output, which is what
-//! `Prints` in specs/Output.antt says. docs/SCRIPT.md has the commands.
+//! `review` by several: by what a store replies, or by the first thing that is wrong with it. `run` takes a whole
+//! script from a reader and writes the whole output, which is what `PrintsAndCounts` in specs/Output.antt and
+//! `PrintsAs` in specs/Printed.antt say; `serve` does so line by line. docs/SCRIPT.md has the commands.
 //!
 //! ```text
 //! let text = b"open 1 O:BAG:SYD:\naddo /a O:BAG:SYD:(A;;FR;;;SY)\npublish\ncheck 0 /a SY 0x1\n";
+//! let (mut reader, mut writer) = (Watched::new(text.as_slice()), Watched::new(Vec::new(alloc)));
 //! let manner = Manner { mapping: GenericMapping::file(), notation: Notation::plain(PathSpelling::Plain) };
-//! let (printed, tally) = script_output(alloc, &manner, text)?;
-//! // printed holds "opened 1\nok\npublished 1\nseen 1 granted 0x1\n", and tally.first_fault is None
+//! let tally = run(alloc, &manner, &mut reader, &mut writer)?;
+//! // the writer holds "opened 1\nok\npublished 1\nseen 1 granted 0x1\n", and tally.first_fault is None
 //! ```
 //!
 //! What parses a line and what prints a reply is public, for who carries out a script in another way.
@@ -47,7 +48,7 @@ pub use asked::Asked;
 pub use carried::Carried;
 pub use expect::{LastAnswer, expects};
 pub use fault::{LineFault, Stop, line_of_fault};
-pub use ids::{LINES, Script, has_id, tagged};
+pub use ids::{LINES, tagged};
 pub use importing::import_line;
 pub use laws::{
     deletes_as_checked, lines_have_one_answer, no_command_without_an_id,
@@ -58,7 +59,7 @@ pub use lines::is_silent;
 pub use manner::{Manner, Notation};
 pub use paths::PathSpelling;
 pub use reply::{counted_line, reply_line, start_error_line};
-pub use script::{answer_line, script_output};
+pub use script::answer_line;
 pub use session::Session;
 pub use streams::{run, serve};
 pub use tally::Tally;

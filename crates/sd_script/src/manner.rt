@@ -15,7 +15,7 @@ pub struct Manner {
     pub notation: Notation,
 }
 
-/// How the lines of a script are written.
+/// How the lines of a script are written, and its answers printed.
 #[derive(Clone, Copy, Debug)]
 pub struct Notation {
     /// How paths are spelled, also in what is printed.
@@ -24,17 +24,21 @@ pub struct Notation {
     pub aliases: Aliases,
     /// Whether the section of a SACL is left out of an SDDL ([MS-DTYP] 2.5.1.1, sacl).
     pub without_sacl: bool,
+    /// Whether each line of an answer is printed as an object of JSON.
+    pub is_json: bool,
 }
 
 impl Notation {
-    /// Paths are spelled so, no domain's alias and none of newer versions of Windows is known, and a SACL is a fault.
+    /// Paths are spelled so, no domain's alias and none of newer versions of Windows is known, a SACL is a fault, and
+    /// answers are printed as they are.
     pub fn plain(paths: PathSpelling) -> Notation
-        ensures { result ≡ record { paths = paths; aliases = in_domain None; without_sacl = false } }
+        ensures { result ≡ record { paths = paths; aliases = in_domain None; without_sacl = false; is_json = false } }
     {
         Notation {
             paths,
             aliases: Aliases::in_domain(None),
             without_sacl: false,
+            is_json: false,
         }
     }
 }

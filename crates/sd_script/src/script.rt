@@ -29,11 +29,9 @@ use sd_sid::Mask;
 use sd_tree::{Edit, Entries, Path, RootSpec};
 use std::alloc::{AllocError, Global};
 
-/// The whole output of a script that is carried out in this manner, and what is counted of its lines. Each line is
-/// answered by one line, and a question that has several by them, an empty one the last; an empty line, and one that
-/// begins with `#`, by none. A line that can't be carried out is answered by its first fault, and the script goes on.
+/// The whole output of a script that is carried out in this manner, as it stands, and what is counted of its lines.
 /// The only error is out of memory.
-pub fn script_output(
+pub(crate) fn script_output(
     alloc: Global,
     manner: &Manner,
     text: &[u8],
@@ -42,7 +40,10 @@ pub fn script_output(
 {
     let mut carried = Carried::begun(manner);
     let mut printed = Vec::new(alloc);
-    let script = Script { has_ids: false };
+    let script = Script {
+        has_ids: false,
+        is_json: false,
+    };
     answer_text(alloc, &script, &mut carried, LINES, text, &mut printed)?;
     Ok((printed, carried.tally))
 }

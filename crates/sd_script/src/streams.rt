@@ -3,37 +3,47 @@
 ghost use Rattle.std.specs.Prelude.{◌≡◌, ◌≢◌, ◌||◌, Err, IfErr, IfOk};
 ghost use Rattle.sd_stream.specs.Watched.{inner_of, has_failed};
 ghost use Rattle.sd_stream.specs.Whole.{is_read_error, is_write_error, ReadsPart};
-ghost use Rattle.sd_script.specs.Output.{Prints, PrintsAndCounts};
+ghost use Rattle.sd_script.specs.Output.{PrintsAndCounts};
+ghost use Rattle.sd_script.specs.Printed.{PrintsAndCountsServed, PrintsAs, PrintsServed};
 ghost use Rattle.sd_lines.specs.Output.{AppendsOutput, LeavesAnswers, LeavesOutput};
-ghost use Rattle.sd_script.specs.Ids.{PrintsAndCountsIn, PrintsIn};
 ghost use Rattle.sd_script.specs.declared.ids.TheConstants.{LINES};
+ghost use Rattle.sd_script.specs.declared.tally.Tally.{Tally};
 
 use crate::carried::Carried;
 use crate::ids::{LINES, Script};
 use crate::manner::Manner;
 use crate::script::script_output;
 use crate::tally::Tally;
+use sd_json::{Tagging, printed_as};
 use sd_lines::answer_lines;
 use sd_stream::{RunError, Watched, read_whole, write_whole};
 use std::alloc::Global;
 use std::io::{Read, Write};
 
-/// Reads a whole script, writes its whole output in this manner, and returns what is counted of its lines.
+/// Reads a whole script, writes its whole output in this manner, each line as an object of JSON where that is asked
+/// for, and returns what is counted of its lines.
+///
+/// Each line is answered by one line, and a question that has several by them, an empty one the last; an empty line,
+/// and one that begins with `#`, by none. A line that can't be carried out is answered by its first fault, and the
+/// script goes on.
 ///
 /// - `Read`: the reader failed; nothing was written.
 /// - `TooLong`: more than 16,777,216 bytes were read; nothing was written.
-/// - `Write`: the writer failed; a beginning of the output was written.
-/// - `Memory`: memory was refused; nothing was written.
+/// - `Write`: the writer failed; a prefix of the output was written.
+/// - `Memory`: out of memory; nothing was written.
 pub fn run<R: Read, W: Write>(
     alloc: Global,
     manner: &Manner,
     reader: &mut Watched<R>,
     writer: &mut Watched<W>,
 ) -> Result<Tally, RunError>
-    ensures ok { IfOk result (λ tally. AppendsOutput (λ text printed. PrintsAndCounts manner.now text printed tally)
+    ensures ok { IfOk result (λ tally. AppendsOutput
+        (λ text printed. PrintsAs manner.now.notation.is_json (PrintsAndCounts manner.now) text printed tally)
         (R.remaining (inner_of reader.old))
         (W.contents (inner_of writer.old)) (W.contents (inner_of writer.new))) }
-    ensures err { IfErr result (LeavesOutput (Prints manner.now) (R.remaining (inner_of reader.old))
+    ensures err { IfErr result (LeavesOutput (λ text printed. (tally : Tally)
+        × PrintsAs manner.now.notation.is_json (PrintsAndCounts manner.now) text printed tally)
+        (R.remaining (inner_of reader.old))
         (W.contents (inner_of writer.old)) (W.contents (inner_of writer.new))) }
     ensures too_long { result ≡ Err RunError.TooLong
         → ReadsPart (R.remaining (inner_of reader.old)) (R.remaining (inner_of reader.new)) RunError.TooLong }
@@ -42,7 +52,8 @@ pub fn run<R: Read, W: Write>(
     ensures write { has_failed writer.new ≡ (has_failed writer.old || is_write_error result) }
 {
     let text = read_whole(alloc, reader)?;
-    let (printed, tally) = script_output(alloc, manner, &text)?;
+    let (plain, tally) = script_output(alloc, manner, &text)?;
+    let printed = printed_as(alloc, manner.notation.is_json, Tagging::Nothing, plain)?;
     write_whole(writer, &printed)?;
     Ok(tally)
 }
@@ -52,8 +63,8 @@ pub fn run<R: Read, W: Write>(
 /// limit on the number of lines.
 ///
 /// Where lines have ids, the first word of a line is its id, printable ASCII that doesn't begin with `#`. The rest of
-/// the line is answered, and each line of its answer begins with the id and a space. A line without an id is answered
-/// as it is, which changes nothing: `no_command_without_an_id`.
+/// the line is answered, and each line of its answer begins with the id and a space, or is an object of JSON that has
+/// the id. A line without an id is answered as it is, which changes nothing: `no_command_without_an_id`.
 ///
 /// - `Read`: the reader failed; the lines that had ended are answered.
 /// - `TooLong`: a line has more than 16,777,216 bytes; those before it are answered.
@@ -67,23 +78,20 @@ pub fn serve<R: Read, W: Write>(
     writer: &mut Watched<W>,
 ) -> Result<Tally, RunError>
     ensures ok { IfOk result (λ tally. AppendsOutput
-        (λ text printed. PrintsAndCountsIn has_ids manner.now text printed tally)
+        (λ text printed. PrintsAndCountsServed has_ids manner.now.notation.is_json manner.now text printed tally)
         (R.remaining (inner_of reader.old))
         (W.contents (inner_of writer.old)) (W.contents (inner_of writer.new))) }
-    ensures err { IfErr result (LeavesAnswers LINES (PrintsIn has_ids manner.now)
+    ensures err { IfErr result (LeavesAnswers LINES (PrintsServed has_ids manner.now.notation.is_json manner.now)
         (R.remaining (inner_of reader.old)) (R.remaining (inner_of reader.new))
         (W.contents (inner_of writer.old)) (W.contents (inner_of writer.new))) }
     ensures read { has_failed reader.new ≡ (has_failed reader.old || is_read_error result) }
     ensures write { has_failed writer.new ≡ (has_failed writer.old || is_write_error result) }
 {
+    let script = Script {
+        has_ids,
+        is_json: manner.notation.is_json,
+    };
     let mut carried = Carried::begun(manner);
-    answer_lines(
-        alloc,
-        &Script { has_ids },
-        &mut carried,
-        LINES,
-        reader,
-        writer,
-    )?;
+    answer_lines(alloc, &script, &mut carried, LINES, reader, writer)?;
     Ok(carried.tally)
 }

@@ -2,8 +2,8 @@
 //!
 //! Lines are read and answered as those of a script are. A check is kept; after the last line the edits that wait are
 //! published, and each check is answered by them. `run_audit` takes a whole script from a reader, writes the whole
-//! output and tells what is counted of its lines, which is what `PrintsAuditAndCounts` in specs/Audit.antt says.
-//! docs/SCRIPT.md tells the same in prose.
+//! output and returns what is counted of its lines, which is what `PrintsAuditAndCounts` in specs/Audit.antt says.
+//! docs/SCRIPT.md says the same in prose.
 //!
 //! ```text
 //! let mut reader = Watched::new(b"open 1 O:BAG:SYD:\ncheck 0 / S-1-5-18 0x1\n".as_slice());
@@ -22,5 +22,4 @@ mod queries;
 mod streams;
 
 pub use laws::workers_show_in_the_opening;
-pub use output::audit_output;
 pub use streams::run_audit;

@@ -26,8 +26,8 @@ use std::sync::Wait;
 use std::thread::Threads;
 
 /// The whole output of an audit by so many workers that is carried out in this manner, and what is counted of its
-/// lines. Fails where memory is refused, and by `Thread`, as `run_audit`.
-pub fn audit_output<T: Threads + Wait + Sync, G: Gate + Sync>(
+/// lines. The errors are out of memory and `Thread`, as of `run_audit`.
+pub(crate) fn audit_output<T: Threads + Wait + Sync, G: Gate + Sync>(
     rt: &T,
     alloc: Global,
     workers: u64,

@@ -3,10 +3,13 @@
 ghost use Rattle.std.specs.Prelude.{◌≡◌, ◌||◌, Err, IfErr, IfOk};
 ghost use Rattle.sd_stream.specs.Watched.{inner_of, has_failed};
 ghost use Rattle.sd_stream.specs.Whole.{is_read_error, is_write_error, ReadsPart};
-ghost use Rattle.sd_script_audit.specs.Audit.{PrintsAudit, PrintsAuditAndCounts};
+ghost use Rattle.sd_script_audit.specs.Audit.{PrintsAuditAndCounts};
+ghost use Rattle.sd_script.specs.Printed.{PrintsAs};
+ghost use Rattle.sd_script.specs.declared.tally.Tally.{Tally};
 ghost use Rattle.sd_lines.specs.Output.{AppendsOutput, LeavesOutput};
 
 use crate::output::audit_output;
+use sd_json::{Tagging, printed_as};
 use sd_script::{Manner, Tally};
 use sd_store::Gate;
 use sd_stream::{RunError, Watched, read_whole, write_whole};
@@ -15,15 +18,14 @@ use std::io::{Read, Write};
 use std::sync::Wait;
 use std::thread::Threads;
 
-/// Reads a whole script, and writes its whole output as an audit's: its checks are answered at the end, by all that was
-/// published, dealt among so many workers, 1 to 64. It is carried out in this manner, and what is counted of its lines
-/// is told.
-/// `OpenGate` lets each check through.
+/// Reads a whole script, writes its whole output as an audit's in this manner, each line as an object of JSON where
+/// that is asked for, and returns what is counted of its lines. Its checks are answered at the end, by all that was
+/// published, dealt among so many workers, 1 to 64. `OpenGate` lets each check through.
 ///
 /// - `Read`: the reader failed; nothing was written.
 /// - `TooLong`: more than 16,777,216 bytes were read; nothing was written.
-/// - `Write`: the writer failed; a beginning of the output was written.
-/// - `Memory`: memory was refused; nothing was written.
+/// - `Write`: the writer failed; a prefix of the output was written.
+/// - `Memory`: out of memory; nothing was written.
 /// - `Thread`: the gate was closed, or the store that the workers share gave no place or nothing to read; nothing was
 ///   written.
 pub fn run_audit<T: Threads + Wait + Sync, R: Read, W: Write, G: Gate + Sync>(
@@ -35,11 +37,13 @@ pub fn run_audit<T: Threads + Wait + Sync, R: Read, W: Write, G: Gate + Sync>(
     writer: &mut Watched<W>,
     gate: &G,
 ) -> Result<Tally, RunError>
-    ensures ok { IfOk result
-        (λ tally. AppendsOutput (λ text printed. PrintsAuditAndCounts manner.now workers text printed tally)
+    ensures ok { IfOk result (λ tally. AppendsOutput (λ text printed.
+        PrintsAs manner.now.notation.is_json (PrintsAuditAndCounts manner.now workers) text printed tally)
         (R.remaining (inner_of reader.old))
         (W.contents (inner_of writer.old)) (W.contents (inner_of writer.new))) }
-    ensures err { IfErr result (LeavesOutput (PrintsAudit manner.now workers) (R.remaining (inner_of reader.old))
+    ensures err { IfErr result (LeavesOutput (λ text printed. (tally : Tally)
+        × PrintsAs manner.now.notation.is_json (PrintsAuditAndCounts manner.now workers) text printed tally)
+        (R.remaining (inner_of reader.old))
         (W.contents (inner_of writer.old)) (W.contents (inner_of writer.new))) }
     ensures too_long { result ≡ Err RunError.TooLong
         → ReadsPart (R.remaining (inner_of reader.old)) (R.remaining (inner_of reader.new)) RunError.TooLong }
@@ -47,7 +51,8 @@ pub fn run_audit<T: Threads + Wait + Sync, R: Read, W: Write, G: Gate + Sync>(
     ensures write { has_failed writer.new ≡ (has_failed writer.old || is_write_error result) }
 {
     let text = read_whole(alloc, reader)?;
-    let (printed, tally) = audit_output(rt, alloc, workers, manner, &text, gate)?;
+    let (plain, tally) = audit_output(rt, alloc, workers, manner, &text, gate)?;
+    let printed = printed_as(alloc, manner.notation.is_json, Tagging::Nothing, plain)?;
     write_whole(writer, &printed)?;
     Ok(tally)
 }

@@ -1,0 +1,39 @@
+-- A script's output as it is printed: as it stands, or an object of JSON for each of its lines.
+use Rattle.std.specs.Prelude.{◌≡◌, ℕ, Bool, ◌&&◌, List, if◌then◌else◌}
+use Rattle.std.specs.Str.Lines.{lines}
+use Rattle.sd_json.specs.Text.{printed_as}
+use Rattle.sd_json.specs.declared.tagging.Tagging.{Tagging}
+use Rattle.sd_json.specs.declared.tagging.Tagging.TheVariants.{Id, Nothing}
+use Rattle.sd_lines.specs.Answers.{AreAnswered}
+use Rattle.sd_script.specs.Ids.{IsNextIn, has_id}
+use Rattle.sd_script.specs.Output.{begun}
+use Rattle.sd_script.specs.declared.carried.Carried.{Carried}
+use Rattle.sd_script.specs.declared.manner.Manner.{Manner}
+use Rattle.sd_script.specs.declared.tally.Tally.{Tally}
+
+-- the whole output, each line of which is an object, where that is asked for
+abbrev pub PrintsAs : Bool → (List ℕ → List ℕ → Tally → Type 0) → List ℕ → List ℕ → Tally → Type 0
+PrintsAs is_json Prints text printed tally =
+    (plain : List ℕ) × Prints text plain tally × (printed ≡ printed_as is_json Nothing plain)
+
+-- ---- line by line
+
+-- what each line of the answer to a line begins with
+abbrev pub served_tagging : Bool → List ℕ → Tagging
+served_tagging has_ids line = if has_ids && has_id line then Id else Nothing
+
+-- a line is answered, and counted, and each line of its answer an object, where that is asked for
+abbrev pub IsNextServed : (has_ids is_json : Bool) → Carried → List ℕ → List ℕ → Carried → Type 0
+IsNextServed has_ids is_json old line printed new =
+    (plain : List ℕ) × IsNextIn has_ids old line plain new
+    × (printed ≡ printed_as is_json (served_tagging has_ids line) plain)
+
+-- the output of all lines, and what is counted of them
+abbrev pub PrintsAndCountsServed : (has_ids is_json : Bool) → Manner → List ℕ → List ℕ → Tally → Type 0
+PrintsAndCountsServed has_ids is_json manner text printed tally =
+    (last : Carried) × AreAnswered (IsNextServed has_ids is_json) (begun manner) (lines text) printed last
+    × (tally ≡ last.tally)
+
+abbrev pub PrintsServed : (has_ids is_json : Bool) → Manner → List ℕ → List ℕ → Type 0
+PrintsServed has_ids is_json manner text printed =
+    (last : Carried) × AreAnswered (IsNextServed has_ids is_json) (begun manner) (lines text) printed last
