@@ -1,5 +1,5 @@
 -- What a sibling has is what a node beside it would have.
-use Rattle.std.proofs.Common.{◌≡◌, ℕ, ◌-◌, ◌<◌, true, List, ◌++◌, length, get_or, Option, Some, refl, sym, ap, ◌∙◌}
+use Rattle.std.proofs.Common.{◌≡◌, ℕ, ◌-◌, ◌<◌, true, List, ◌++◌, length, get_or, Option, Some, refl, sym, ap, subst, ◌∙◌}
 use Rattle.std.proofs.lemmas.Bool.{false≢true}
 use Rattle.sd_sid.specs.Mapping.{MappingValue}
 use Rattle.sd_acl.specs.declared.ace.Ace.{Ace}
@@ -16,6 +16,7 @@ use Rattle.sd_tree.specs.declared.node.Node.{Node}
 use Rattle.sd_tree.specs.declared.node.Row.{Row}
 use Rattle.sd_tree.proofs.Dacls.{dacl_at_up}
 use Rattle.sd_tree.proofs.Kept.{row_here}
+use Rattle.sd_tree.proofs.Lists.{same_behind}
 use Rattle.sd_tree.proofs.OneDacl.{inheriting_dacl}
 
 pub behind_sibling : (g : MappingValue) (beside row : Row) (above : Option (List Ace)) → InheritOne beside row above
@@ -51,21 +52,30 @@ row_beside g beside row above h inherited is =
     with_own row inherited h.other_inherits
     ∙ ap (λ xs. Some (behind_own row xs)) is ∙ sym (inheriting_dacl g row above h.other_inherits)
 
+-- so it does where they are all that a sibling inherits, whose DACL is known as a whole
+from_sibling : (g : MappingValue) (beside row : Row) (above : Option (List Ace)) → InheritOne beside row above → (n : Node) (inherited : List Ace)
+    → n.whole ≡ whole_with n.row inherited → n.whole ≡ Some (behind_own n.row (handed_on g row above)) → whole_with row inherited ≡ dacl_of_row g row above
+from_sibling g beside row above h n inherited kept is =
+    row_beside g beside row above h inherited (only_behind n.row.dacl inherited (handed_on g row above) (sym kept ∙ is))
+  where
+    same_Some : {X : Type 0} (x y : X) → ◌≡◌ {A = Option X} (Some x) (Some y) → x ≡ y
+    same_Some x y e = cc
+
+    only_behind : (d : NodeDacl) (xs ys : List Ace) → dacl_with d xs ≡ Some (own_entries d ++ ys) → xs ≡ ys
+    only_behind Null xs ys e = absurd cc
+    only_behind (Entries is-protected own) xs ys e = same_behind own xs ys (same_Some _ _ e)
+
 pub dacl_beside : (g : MappingValue) (bs : List Node) → AreStanding g bs → (path : Names) (row : Row) (above : Option (List Ace)) (k : ℕ)
-    → above ≡ dacl_at g (tree_of bs) (up path) → IsSibling bs path row above k → (b : Node) (n : Node) → n ≡ (get_or bs k b)
-    → (beside : Row) → beside ≡ n.row → (inherited : List Ace) → ((rest : List Ace) → n.whole ≡ Some (behind_own beside rest) → inherited ≡ rest)
-    → whole_with row inherited ≡ dacl_of_row g row above
-dacl_beside g bs standing path row above k is-above sibling b n is beside of inherited told =
-    let own = of ∙ ap (λ (m : Node). m.row) is in
-    let kept = ap (λ (m : Node). m.whole) is ∙ sibling_whole g bs standing path row above k is-above sibling b in
-    row_beside g _ row above (sibling.alike b) inherited (told _ (kept ∙ ap (λ r. Some (behind_own r (handed_on g row above))) (sym own)))
+    → above ≡ dacl_at g (tree_of bs) (up path) → IsSibling bs path row above k → (n : Node) → n ≡ get_or bs k n
+    → (inherited : List Ace) → n.whole ≡ whole_with n.row inherited → whole_with row inherited ≡ dacl_of_row g row above
+dacl_beside g bs standing path row above k is-above sibling n is inherited kept =
+    let P : Node → Type 0 = λ m. m.whole ≡ Some (behind_own m.row (handed_on g row above)) in
+    from_sibling g _ row above (sibling.alike n) n inherited kept (subst P (sym is) (sibling_whole g bs standing path row above k is-above sibling n))
 
 pub made_beside : (g : MappingValue) (bs : List Node) (path : Names) (row : Row) (above : Option (List Ace)) (at k : ℕ) (made : List Node)
     → AreMadeFor g bs path row above at made → IsSibling bs path row above k → at < k → k - at < length made
-    → (b : Node) → b ≡ get_or bs k b → (beside : Row) → beside ≡ b.row → (n : Node) → n ≡ get_or made (k - at) n
-    → (inherited : List Ace) → ((rest : List Ace) → n.whole ≡ Some (behind_own beside rest) → inherited ≡ rest)
-    → whole_with row inherited ≡ dacl_of_row g row above
-made_beside g bs path row above at k made are sibling behind lt b is beside of n is-made inherited told =
-    let own = of ∙ ap (λ (m : Node). m.row) is in
-    let kept = ap (λ (m : Node). m.whole) is-made ∙ are k b n sibling behind lt in
-    row_beside g _ row above (sibling.alike b) inherited (told _ (kept ∙ ap (λ r. Some (behind_own r (handed_on g row above))) (sym own)))
+    → (n : Node) → n ≡ get_or made (k - at) n
+    → (inherited : List Ace) → n.whole ≡ whole_with n.row inherited → whole_with row inherited ≡ dacl_of_row g row above
+made_beside g bs path row above at k made are sibling behind lt n is inherited kept =
+    let P : Node → Type 0 = λ m. m.whole ≡ Some (behind_own m.row (handed_on g row above)) in
+    from_sibling g _ row above (sibling.alike n) n inherited kept (subst P (sym is) (are k n n sibling behind lt))

@@ -13,10 +13,9 @@ taken zero xs le = refl
 taken (suc n) [] le = absurd (omega arith)
 taken (suc n) (x ∷ xs) le = ap suc (taken n xs (omega arith))
 
--- behind first parts of one length stands the same
-pub same_behind : {X : Type 0} (xs ys a b : List X) → length xs ≡ length ys → xs ++ a ≡ ys ++ b → a ≡ b
-same_behind xs ys a b same e =
-    sym (drop-append_seam xs a) ∙ ap (drop (length xs)) e ∙ ap (λ n. drop n (ys ++ b)) same ∙ drop-append_seam ys b
+-- behind one first part stands the same
+pub same_behind : {X : Type 0} (xs a b : List X) → xs ++ a ≡ xs ++ b → a ≡ b
+same_behind xs a b e = sym (drop-append_seam xs a) ∙ ap (drop (length xs)) e ∙ drop-append_seam xs b
 
 -- of one element all
 pub all_one : {X : Type 0} (P : X → Type 0) (x : X) → P x → All P (x ∷ [])

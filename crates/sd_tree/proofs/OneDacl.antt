@@ -8,7 +8,7 @@ use Rattle.sd_acl.specs.declared.ace.Ace.{Ace}
 use Rattle.sd_tree.specs.Inheritance.{object_inherit, container_inherit, no_propagate, creator_owner, creator_group, created_by, effective_copy, waiting_copy, whole_copy, is_split, pass_on, handed_on, dacl_under, dacl_of_row}
 use Rattle.sd_tree.specs.Refusals.{own_entries}
 use Rattle.sd_tree.specs.Sharing.{names_creator, trustees_matter, AreAlike, InheritOne}
-use Rattle.sd_tree.specs.Whole.{behind_own, inherits}
+use Rattle.sd_tree.specs.Whole.{behind_own, dacl_with, whole_with, inherits}
 use Rattle.sd_tree.specs.declared.node.NodeKind.{NodeKind}
 use Rattle.sd_tree.specs.declared.node.NodeKind.TheVariants.{Container, Object}
 use Rattle.sd_tree.specs.declared.node.NodeDacl.{NodeDacl}
@@ -25,6 +25,15 @@ inheriting_dacl g row above h = parts g row row.dacl above h
     parts g row Null above h = absurd (false≢true h)
     parts g row (Entries true own) above h = absurd (false≢true h)
     parts g row (Entries false own) above h = refl
+
+-- what inherits nothing has its own entries alone, as at the root
+pub own_alone : (g : MappingValue) (row : Row) → whole_with row [] ≡ dacl_of_row g row None
+own_alone g row = parts g row row.dacl
+  where
+    parts : (g : MappingValue) (row : Row) (d : NodeDacl) → dacl_with d [] ≡ dacl_under g row d None
+    parts g row Null = refl
+    parts g row (Entries true own) = refl
+    parts g row (Entries false own) = refl
 
 -- ---- of one kind, owner and group
 one_by_trustees : (one other : Row) (above : Option (List Ace))

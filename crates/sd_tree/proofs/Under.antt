@@ -7,13 +7,14 @@ use Rattle.std.proofs.lemmas.List.{get_or_append_left}
 use Rattle.sd_sid.specs.Mapping.{MappingValue}
 use Rattle.sd_acl.specs.declared.ace.Ace.{Ace}
 use Rattle.sd_path.specs.Names.{Names, up, is_root, is_within}
-use Rattle.sd_tree.specs.Inheritance.{dacl_of_row}
+use Rattle.sd_tree.specs.Inheritance.{handed_on, dacl_of_row}
 use Rattle.sd_tree.specs.Plain.{PlainTree, row_at, dacl_here, dacl_below, dacl_at}
 use Rattle.sd_tree.specs.Plans.{AreUnder, IsTaken, IsLargeError}
 use Rattle.sd_tree.specs.Refusals.{dacl_size}
 use Rattle.sd_tree.specs.Sharing.{AreMadeFor}
 use Rattle.sd_tree.specs.Sizes.{IsSizeError}
 use Rattle.sd_tree.specs.Stored.{path_of_node, IsInOrder, tree_of, AreStanding}
+use Rattle.sd_tree.specs.Whole.{behind_own}
 use Rattle.sd_tree.specs.declared.node.Node.{Node}
 use Rattle.sd_tree.specs.declared.node.Row.{Row}
 use Rattle.sd_tree.specs.declared.refusal.TreeError.{TreeError}
@@ -88,6 +89,7 @@ module _ (g : MappingValue) (bs : List Node) (order : IsInOrder bs) (q : Names) 
       u.wholes (j - at) b d found.0 in-run (ap (λ i. path_of_node (get_or bs i b)) here ∙ found.1)
       ∙ sym (next_under j b behind sibling.place found.0 found.1 p c low lt (λ e. there e ∙ sym (sibling.parent b)))
       ∙ ap (dacl_of_row g (get_or bs j b).row) (sym is-above) ∙ behind_sibling g (get_or bs j b).row row above (sibling.alike b)
+      ∙ ap (λ (r : Row). Some (behind_own r (handed_on g row above))) (sym (u.rows (j - at) b d (omega arith) in-run ∙ ap (λ i. (get_or bs i b).row) here))
 
   -- what it is in a tree with the first elsewhere
   pub whole_taken : (after : PlainTree) (target : Names) → IsTaken g (tree_of bs) after q target first → (k : ℕ) (b c : Node) (rest : Names) → k < length run

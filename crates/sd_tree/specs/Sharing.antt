@@ -46,4 +46,5 @@ pub record IsSibling (boxes : List Node) (path : Names) (row : Row) (above : Opt
 abbrev pub AreMadeFor : MappingValue → List Node → Names → Row → Option (List Ace) → ℕ → List Node → Type 0
 AreMadeFor g boxes path row above at made =
     (k : ℕ) (b c : Node) → IsSibling boxes path row above k → at < k → k - at < length made
-    → (slice_index_or made (k - at) c).whole ≡ Some (behind_own (slice_index_or boxes k b).row (handed_on g row above))
+    → (slice_index_or made (k - at) c).whole
+    ≡ Some (behind_own (slice_index_or made (k - at) c).row (handed_on g row above))

@@ -1,6 +1,7 @@
--- How a node's whole DACL is kept: in two parts. No public contract says so.
+-- A node's whole DACL, which is kept in two parts. No public contract says so.
 use Rattle.std.specs.Prelude.{Bool, false, not, List, ◌++◌, Option, Some, None}
 use Rattle.sd_acl.specs.declared.ace.Ace.{Ace}
+use Rattle.sd_path.specs.Names.{Names}
 use Rattle.sd_tree.specs.Refusals.{own_entries}
 use Rattle.sd_tree.specs.declared.node.NodeDacl.{NodeDacl}
 use Rattle.sd_tree.specs.declared.node.NodeDacl.TheVariants.{Null, List as Entries}
@@ -17,6 +18,12 @@ dacl_with (Entries protected own) inherited = Some (own ++ inherited)
 
 abbrev pub whole_with : Row → List Ace → Option (List Ace)
 whole_with row inherited = dacl_with row.dacl inherited
+
+-- a node as contracts see it: its path, its row and its whole DACL
+pub record NodeValue : Type 0 where
+  pub path : Names
+  pub row : Row
+  pub whole : Option (List Ace)
 
 -- whether a node with this DACL inherits: it is neither null nor protected
 abbrev pub inherits : NodeDacl → Bool

@@ -6,8 +6,7 @@ ghost use Rattle.sd_tree.specs.Sharing.{names_creator, trustees_matter, AreAlike
 ghost use Rattle.sd_tree.specs.Whole.{inherits};
 
 use crate::inherit::{is_creator_group, is_creator_owner};
-use crate::node::{NodeDacl, Row};
-use crate::whole::WholeDacl;
+use crate::node::{Node, NodeDacl, Row};
 use sd_acl::Ace;
 
 /// Whether a node with this DACL inherits: it is neither null nor protected.
@@ -28,8 +27,8 @@ fn names_creator(entries: &[Ace]) -> bool
 }
 
 /// Whether a parent's DACL has such an entry: then a child's owner and group tell in what it inherits.
-pub(crate) fn trustees_matter(above: &WholeDacl) -> bool
-    ensures { result ≡ trustees_matter above.now }
+pub(crate) fn trustees_matter(above: &Node) -> bool
+    ensures { result ≡ trustees_matter above.now.whole }
 {
     match above.parts() {
         None => false,
@@ -48,9 +47,9 @@ pub(crate) fn are_alike(one: &Row, other: &Row, by_trustees: bool) -> bool
     !by_trustees || (one.owner.is(&other.owner) && one.group.is(&other.group))
 }
 
-/// Whether both are one DACL, entry by entry, own ones and inherited ones; `true` only where they are.
-pub(crate) fn are_one_dacl(one: &WholeDacl, other: &WholeDacl) -> bool
-    ensures { result ≡ true → one.now ≡ other.now }
+/// Whether both nodes have one DACL, entry by entry, own ones and inherited ones; `true` only where they have.
+pub(crate) fn have_one_dacl(one: &Node, other: &Node) -> bool
+    ensures { result ≡ true → one.now.whole ≡ other.now.whole }
 {
     match (one.parts(), other.parts()) {
         (None, None) => true,

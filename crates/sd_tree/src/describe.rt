@@ -1,32 +1,23 @@
 //! The descriptor of a node ([MS-DTYP] 2.4.6).
 
-ghost use Rattle.std.specs.Prelude.{◌≡◌, ◌++◌, ◌≤◌, IfOk};
+ghost use Rattle.std.specs.Prelude.{◌≡◌, ◌≤◌, IfOk};
 ghost use Rattle.sd_acl.specs.Ace.{acl_size_of};
 ghost use Rattle.sd_acl.specs.Descriptor.{descriptor_of};
 ghost use Rattle.sd_tree.specs.Descriptors.{is_protected, descriptor_of_row, own_descriptor_of_row, own_list};
 ghost use Rattle.sd_tree.specs.Refusals.{own_entries};
 
-use crate::node::{NodeDacl, Row};
-use crate::whole::{WholeDacl, joined};
+use crate::node::{Node, NodeDacl, Row};
 use sd_acl::{Ace, AceList, Dacl, Descriptor};
 use std::alloc::{AllocError, Global};
 
-/// The descriptor of a node with this whole DACL; `None` is a null one. Control bit DI tells that a list was inherited
-/// automatically ([MS-DTYP] 2.4.6).
-pub(crate) fn descriptor_of_node(
-    alloc: Global,
-    row: &Row,
-    whole: &WholeDacl,
-) -> Result<Descriptor, AllocError>
-    ensures { IfOk result (λ descriptor. descriptor_of descriptor ≡ descriptor_of_row row.now whole.now) }
+/// The descriptor of a node. Control bit DI says that a list was inherited automatically ([MS-DTYP] 2.4.6).
+pub(crate) fn descriptor_of_node(alloc: Global, node: &Node) -> Result<Descriptor, AllocError>
+    ensures { IfOk result (λ descriptor. descriptor_of descriptor ≡ descriptor_of_row node.now.row node.now.whole) }
 {
-    let (dacl, protected, auto_inherited) = match whole.parts() {
+    let row = node.row();
+    let (dacl, protected, auto_inherited) = match node.whole(alloc)? {
         None => (Dacl::Null, false, false),
-        Some((own, inherited)) => (
-            Dacl::List(whole_list(alloc, own, inherited)?),
-            is_protected(&row.dacl),
-            true,
-        ),
+        Some(entries) => (Dacl::List(list_of(entries)), is_protected(&row.dacl), true),
     };
     Ok(Descriptor {
         owner: Some(row.owner),
@@ -38,13 +29,13 @@ pub(crate) fn descriptor_of_node(
     })
 }
 
-/// Entries and those behind them, as one list.
-fn whole_list(alloc: Global, own: &[Ace], inherited: &[Ace]) -> Result<AceList, AllocError>
-    requires { acl_size_of (own.now ++ inherited.now) ≤ 65535 }
-    ensures { IfOk result (λ list. list ≡ own.now ++ inherited.now) }
+/// Entries that fit a list.
+fn list_of(entries: Vec<Ace>) -> AceList
+    requires { acl_size_of entries.items ≤ 65535 }
+    ensures { result ≡ entries.items }
 {
-    match AceList::new(joined(alloc, own, inherited)?) {
-        Ok(list) => Ok(list),
+    match AceList::new(entries) {
+        Ok(list) => list,
         Err(_) => unreachable!(),
     }
 }
@@ -71,10 +62,8 @@ fn own_list(alloc: Global, dacl: &NodeDacl) -> Result<Dacl, AllocError>
     match dacl {
         NodeDacl::Null => Ok(Dacl::Null),
         NodeDacl::List { entries, .. } => {
-            match AceList::new(Vec::from_slice(alloc, entries.as_slice())?) {
-                Ok(list) => Ok(Dacl::List(list)),
-                Err(_) => unreachable!(),
-            }
+            let entries = Vec::from_slice(alloc, entries.as_slice())?;
+            Ok(Dacl::List(list_of(entries)))
         }
     }
 }

@@ -35,10 +35,10 @@ impl TreeView<'_> {
         match locate(self.nodes, &path.as_path_ref()) {
             Ok(_) => unreachable!(),
             Err(at) => {
-                let row = Shared::new(self.alloc, row)?;
-                let whole = self.whole_of(&path.as_path_ref(), at, &row)?;
+                let inherited = self.inherited_at(&path.as_path_ref(), at, &row)?;
                 let path = Shared::new(self.alloc, path.copy(self.alloc)?)?;
-                let node = Node { path, row, whole };
+                let row = Shared::new(self.alloc, row)?;
+                let node = Node::new(path, row, inherited)?;
                 Ok(Plan::Insert { at, node })
             }
         }
@@ -56,9 +56,10 @@ impl TreeView<'_> {
         ensures fits { IfOk result (λ node. dacl_size node.whole ≤ 65535) }
         ensures refused { IfErr result (IsLargeError self.now.mapping.now (insert (tree_in self.now) path.now row)) }
     {
-        let whole = self.whole_of(&path.as_path_ref(), at, &row)?;
-        let path = self.node(at).path.share()?;
-        Ok(Node { path, row, whole })
+        let inherited = self.inherited_at(&path.as_path_ref(), at, row.get())?;
+        let old = self.node(at);
+        let path = old.path.share()?;
+        Node::new(path, row, inherited)
     }
 
     /// The plan for a node that gets another row, where what it hands on changes with it.
@@ -147,7 +148,7 @@ impl TreeView<'_> {
     {
         let (at, old) = self.node_of(path);
         let alone = change.is_of_trustee();
-        let row = old.row.get().with(self.alloc, change)?;
+        let row = old.row().with(self.alloc, change)?;
         let row = Shared::new(self.alloc, row)?;
         if alone {
             self.one_node_plan(path, at, row)
@@ -179,7 +180,7 @@ impl TreeView<'_> {
             (keeping (dacl_at self.now.mapping.now (tree_in self.now) path.now)))) }
     {
         let (at, old) = self.node_of(path);
-        match kept_dacl(self.alloc, &old.whole)? {
+        match kept_dacl(self.alloc, old)? {
             Some(dacl) => self.change_plan(path, RowChange::Dacl(dacl)),
             None => {
                 let row = old.row.share()?;

@@ -1,20 +1,17 @@
-//! What an entry hands on to a child, and the DACL of a node ([MS-DTYP] 2.5.3.4).
+//! What an entry hands on to a child, and what a node inherits ([MS-DTYP] 2.5.3.4).
 
-ghost use Rattle.std.specs.Prelude.{◌≡◌, ◌++◌, ◌≤◌, None, OnOk, IfOk, IfErr};
+ghost use Rattle.std.specs.Prelude.{◌≡◌, ◌++◌, [], OnOk, IfOk};
 ghost use Rattle.std.specs.List.{flat_map};
-ghost use Rattle.sd_sid.specs.Mapping.{MappingValue};
 ghost use Rattle.sd_sid.specs.Sid.{same_sid};
 ghost use Rattle.sd_tree.specs.Inheritance.{object_inherit, container_inherit, no_propagate, creator_owner};
 ghost use Rattle.sd_tree.specs.Inheritance.{creator_group, created_by, effective_copy, waiting_copy, whole_copy};
 ghost use Rattle.sd_tree.specs.Inheritance.{is_split, to_object, to_container, pass_on, handed_on, dacl_of_row};
-ghost use Rattle.sd_tree.specs.Refusals.{dacl_size};
-ghost use Rattle.sd_tree.specs.Sizes.{IsSizeError};
+ghost use Rattle.sd_tree.specs.Whole.{whole_with};
 
 use crate::alike::inherits;
-use crate::node::{NodeKind, Row};
-use crate::refusal::TreeError;
+use crate::entries::Entries;
+use crate::node::{Node, NodeKind, Row};
 use crate::shared::Shared;
-use crate::whole::{Inherited, WholeDacl};
 use bitflags::Flags;
 use sd_acl::{Ace, AceFlags};
 use sd_sid::{GenericMapping, Sid};
@@ -206,52 +203,45 @@ fn hand_on(
     Ok(())
 }
 
-// ---- the DACL of a node
+// ---- what a node inherits
 
-/// What a parent with that DACL hands on to the node.
+/// Nothing.
+pub(crate) fn nothing(alloc: Global) -> Result<Shared<Entries>, AllocError>
+    ensures { IfOk result (λ inherited. inherited ≡ []) }
+{
+    Shared::new(alloc, Entries::new(Vec::new(alloc)))
+}
+
+/// What such a parent hands on to the node.
 fn handed_on(
     alloc: Global,
     mapping: &GenericMapping,
     row: &Row,
-    above: &WholeDacl,
-) -> Result<Inherited, AllocError>
-    ensures { IfOk result (λ handed. handed ≡ handed_on mapping.now row.now above.now) }
+    above: &Node,
+) -> Result<Shared<Entries>, AllocError>
+    ensures { IfOk result (λ handed. handed ≡ handed_on mapping.now row.now above.now.whole) }
 {
     let Some((own, inherited)) = above.parts() else {
-        return Inherited::none(alloc);
+        return nothing(alloc);
     };
     let mut handed = Vec::new(alloc);
     hand_on(&mut handed, mapping, row, own)?;
     hand_on(&mut handed, mapping, row, inherited)?;
-    Inherited::new(alloc, handed)
+    Shared::new(alloc, Entries::new(handed))
 }
 
-/// The whole DACL of a node below a parent with that DACL: its own entries, and what it inherits unless it is
-/// protected;
-/// `None` is a null one. `AclTooLarge` where it would take more than 65,535 bytes ([MS-DTYP] 2.4.5).
-pub(crate) fn dacl_of_row(
+/// What a node inherits below such a parent: nothing where its DACL is protected or a null one.
+pub(crate) fn inherited_below(
     alloc: Global,
     mapping: &GenericMapping,
-    row: &Shared<Row>,
-    above: &WholeDacl,
-) -> Result<WholeDacl, TreeError>
-    ensures dacl { IfOk result (λ dacl. dacl ≡ dacl_of_row mapping.now row.now above.now) }
-    ensures fits { OnOk result (dacl_size (dacl_of_row mapping.now row.now above.now) ≤ 65535) }
-    ensures refused { IfErr result (λ error. IsSizeError error (dacl_of_row mapping.now row.now above.now)) }
+    row: &Row,
+    above: &Node,
+) -> Result<Shared<Entries>, AllocError>
+    ensures { IfOk result (λ inherited. whole_with row.now inherited
+        ≡ dacl_of_row mapping.now row.now above.now.whole) }
 {
-    let inherited = if inherits(&row.get().dacl) {
-        handed_on(alloc, mapping, row.get(), above)?
-    } else {
-        Inherited::none(alloc)?
-    };
-    WholeDacl::new(row, inherited)
-}
-
-/// The same of the root, which stands below none.
-pub(crate) fn dacl_of_root(alloc: Global, row: &Shared<Row>) -> Result<WholeDacl, TreeError>
-    ensures dacl { IfOk result (λ dacl. (g : MappingValue) → dacl ≡ dacl_of_row g row.now None) }
-    ensures fits { (g : MappingValue) → OnOk result (dacl_size (dacl_of_row g row.now None) ≤ 65535) }
-    ensures refused { IfErr result (λ error. (g : MappingValue) → IsSizeError error (dacl_of_row g row.now None)) }
-{
-    WholeDacl::new(row, Inherited::none(alloc)?)
+    if !inherits(&row.dacl) {
+        return nothing(alloc);
+    }
+    handed_on(alloc, mapping, row, above)
 }

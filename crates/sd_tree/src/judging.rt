@@ -39,7 +39,7 @@ impl TreeView<'_> {
         ensures { result ≡ kind_at (tree_in self.now) path.now }
     {
         match node_at(self.nodes, path) {
-            Some(node) => Some(node.row.get().kind),
+            Some(node) => Some(node.row().kind),
             None => None,
         }
     }

@@ -5,24 +5,23 @@ ghost use Rattle.sd_tree.specs.Edits.{kept_dacl, keeping};
 ghost use Rattle.sd_tree.specs.declared.node.Row.{Row};
 
 use crate::entries::Entries;
-use crate::node::NodeDacl;
-use crate::whole::{WholeDacl, joined};
+use crate::node::{Node, NodeDacl};
 use sd_acl::{canonicalize, explicit_of};
 use std::alloc::{AllocError, Global};
 
-/// The DACL that a node with this whole DACL gets as its own when it is protected and keeps what it had inherited:
+/// The DACL that a node gets as its own when it is protected and keeps what it had inherited:
 /// all entries as explicit ones, in canonical order ([MS-DTYP] 2.4.6, control bit PD). `None` where it is a null one,
 /// which stays.
-pub(crate) fn kept_dacl(alloc: Global, whole: &WholeDacl) -> Result<Option<NodeDacl>, AllocError>
-    ensures kept { IfOk result (λ kept. kept ≡ option_map kept_dacl whole.now) }
+pub(crate) fn kept_dacl(alloc: Global, node: &Node) -> Result<Option<NodeDacl>, AllocError>
+    ensures kept { IfOk result (λ kept. kept ≡ option_map kept_dacl node.now.whole) }
     ensures keeping { IfOk result (λ kept. MatchOption kept
-        ((row : Row) → keeping whole.now row ≡ row)
-        (λ dacl. (row : Row) → keeping whole.now row ≡ record row { dacl = dacl })) }
+        ((row : Row) → keeping node.now.whole row ≡ row)
+        (λ dacl. (row : Row) → keeping node.now.whole row ≡ record row { dacl = dacl })) }
 {
-    let Some((own, inherited)) = whole.parts() else {
+    let Some(whole) = node.whole(alloc)? else {
         return Ok(None);
     };
-    let explicit = explicit_of(alloc, &joined(alloc, own, inherited)?)?;
+    let explicit = explicit_of(alloc, &whole)?;
     let ordered = canonicalize(alloc, &explicit)?;
     Ok(Some(NodeDacl::List {
         protected: true,

@@ -35,7 +35,6 @@ mod siblings;
 mod subtree;
 mod tree;
 mod tree_view;
-mod whole;
 
 pub use edit::Edit;
 pub use entries::Entries;

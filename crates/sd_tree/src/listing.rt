@@ -51,7 +51,7 @@ impl Tree {
             return None;
         }
         let node = node_in(nodes, index);
-        let row = node.row.get();
+        let row = node.row();
         Some(NodeRef {
             path: node.path.get(),
             kind: row.kind,
@@ -72,7 +72,7 @@ impl Tree {
         match node_at(view.nodes, &path.as_path_ref()) {
             None => Ok(None),
             Some(node) => {
-                let row = node.row.get();
+                let row = node.row();
                 Ok(Some((row.kind, own_descriptor_of_row(view.alloc, row)?)))
             }
         }

@@ -37,10 +37,9 @@ impl TreeView<'_> {
             Ok(_) => unreachable!(),
             Err(at) => {
                 let node = self.node(from);
-                let row = node.row.share()?;
-                let whole = self.whole_of(&target, at, &row)?;
-                let path = node.path.share()?;
-                let nodes = self.subtree(&source, from, Node { path, row, whole })?;
+                let inherited = self.inherited_at(&target, at, node.row())?;
+                let first = node.inheriting(inherited)?;
+                let nodes = self.subtree(&source, from, first)?;
                 let run = relocated(self.alloc, &nodes, &source, &target)?;
                 let to = if at <= from { at } else { at - run.len() };
                 Ok(Plan::Exchange { from, to, run })
@@ -68,9 +67,8 @@ fn relocated(
             return Err(TreeError::Refused(EditRefusal::TooDeep));
         }
         let path = Shared::new(alloc, node.path.get().moved(alloc, source, target)?)?;
-        let row = node.row.share()?;
-        let whole = node.whole.share()?;
-        run.push(Node { path, row, whole })?;
+        let next = node.at(path)?;
+        run.push(next)?;
     }
     Ok(run)
 }

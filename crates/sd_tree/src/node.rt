@@ -1,17 +1,20 @@
 //! What stands at a path.
 
-ghost use Rattle.std.specs.Prelude.{◌≡◌, IfOk};
+ghost use Rattle.std.specs.Prelude.{◌≡◌, ◌++◌, ◌≤◌, None, Some, MatchOption, IfOk, IfErr};
 ghost use Rattle.sd_tree.specs.Plans.{changed_row, is_of_trustee};
-ghost use Rattle.sd_tree.specs.Refusals.{own_entries};
+ghost use Rattle.sd_tree.specs.Refusals.{dacl_size, own_entries};
+ghost use Rattle.sd_tree.specs.Sizes.{IsSizeError};
+ghost use Rattle.sd_tree.specs.Whole.{whole_with};
 
 use crate::entries::Entries;
+use crate::refusal::{EditRefusal, TreeError};
 use crate::shared::Shared;
-use crate::whole::WholeDacl;
-use sd_acl::Ace;
+use sd_acl::{ACL_HEADER_BYTES, Ace, MAX_ACL_BYTES};
 use sd_blocks::TryCopy;
 use sd_path::{Path, PathRef};
 use sd_sid::Sid;
 use std::alloc::{AllocError, Global};
+use std::marker::Model;
 
 /// What a node is to inheritance ([MS-DTYP] 2.5.3.4): only a container has nodes below it.
 #[derive(Clone, Copy, Debug, PartialEq, Eq)]
@@ -120,29 +123,129 @@ impl Row {
     }
 }
 
-/// A node where it stands, with its whole DACL: its own entries and what it inherits, or None for a null one. All
-/// parts are shared, so a copy costs little.
+/// A node where it stands. Its parts are shared, what it inherits mostly by its siblings, so a copy costs little.
+/// Contracts see its path, its row and its whole DACL ([MS-DTYP] 2.5.3.4): the row's own entries and, after them, those
+/// that it inherits, or None for a null one.
 #[derive(Debug, Drop)]
 pub(crate) struct Node {
     pub path: Shared<Path>,
     pub row: Shared<Row>,
-    pub whole: WholeDacl,
+    inherited: Shared<Entries>,
+}
+
+impl Model for Node {
+    ghost use Rattle.std.specs.Prelude.{◌≤◌};
+    ghost use Rattle.sd_tree.specs.Refusals.{dacl_size};
+    ghost use Rattle.sd_tree.specs.Whole.{NodeValue, whole_with};
+
+    ghost Value = { NodeValue };
+
+    ghost view = { λ n. record { path = n.path; row = n.row; whole = whole_with n.row n.inherited } };
+
+    ghost invariant = { λ n. dacl_size (whole_with n.row n.inherited) ≤ 65535 };
 }
 
 impl Node {
-    /// The node's path.
+    /// The node of these parts; `AclTooLarge` where its whole DACL would take more than 65,535 bytes ([MS-DTYP] 2.4.5).
+    pub(crate) fn new(
+        path: Shared<Path>,
+        row: Shared<Row>,
+        inherited: Shared<Entries>,
+    ) -> Result<Node, TreeError>
+        ensures node { IfOk result
+            (λ node. node ≡ record { path = path; row = row; whole = whole_with row inherited }) }
+        ensures fits { IfOk result (λ node. dacl_size node.whole ≤ 65535) }
+        ensures refused { IfErr result (λ e. IsSizeError e (whole_with row inherited)) }
+    {
+        if let NodeDacl::List { entries, .. } = &row.get().dacl {
+            // Both sizes count a header.
+            let size = entries.size().saturating_add(inherited.get().size());
+            if size > MAX_ACL_BYTES + ACL_HEADER_BYTES {
+                return Err(TreeError::Refused(EditRefusal::AclTooLarge));
+            }
+        }
+        Ok(Node {
+            path,
+            row,
+            inherited,
+        })
+    }
+
+    /// The same node at another path.
+    pub(crate) fn at(&self, path: Shared<Path>) -> Result<Node, AllocError>
+        ensures { IfOk result (λ node. node ≡ record self.now { path = path }) }
+    {
+        let row = self.row.share()?;
+        let inherited = self.inherited.share()?;
+        Ok(Node {
+            path,
+            row,
+            inherited,
+        })
+    }
+
+    /// The same node, but for what it inherits; `AclTooLarge` as above.
+    pub(crate) fn inheriting(&self, inherited: Shared<Entries>) -> Result<Node, TreeError>
+        ensures node { IfOk result (λ node. node ≡ record self.now { whole = whole_with self.now.row inherited }) }
+        ensures fits { IfOk result (λ node. dacl_size node.whole ≤ 65535) }
+        ensures refused { IfErr result (λ e. IsSizeError e (whole_with self.now.row inherited)) }
+    {
+        Node::new(self.path.share()?, self.row.share()?, inherited)
+    }
+
+    /// Its path.
     pub(crate) fn path(&self) -> PathRef<'_>
         ensures { result ≡ self.now.path }
     {
         self.path.get().as_path_ref()
     }
+
+    /// Its row.
+    pub(crate) fn row(&self) -> &Row
+        ensures { result.now ≡ self.now.row }
+    {
+        self.row.get()
+    }
+
+    /// What it inherits.
+    pub(crate) fn inherited(&self) -> &Shared<Entries>
+        ensures { self.now.whole ≡ whole_with self.now.row result.now }
+    {
+        &self.inherited
+    }
+
+    /// Its own entries, and those that it inherits; `None` where its DACL is a null one.
+    pub(crate) fn parts(&self) -> Option<(&[Ace], &[Ace])>
+        ensures parts { MatchOption result (self.now.whole ≡ None)
+            (λ parts. self.now.whole ≡ Some (parts.0.now ++ parts.1.now)) }
+        ensures fits { dacl_size self.now.whole ≤ 65535 }
+    {
+        match &self.row.get().dacl {
+            NodeDacl::Null => None,
+            NodeDacl::List { entries, .. } => {
+                Some((entries.as_slice(), self.inherited.get().as_slice()))
+            }
+        }
+    }
+
+    /// Its whole DACL in a vector of its own; `None` where it is a null one.
+    pub(crate) fn whole(&self, alloc: Global) -> Result<Option<Vec<Ace>>, AllocError>
+        ensures whole { IfOk result (λ whole. MatchOption whole (self.now.whole ≡ None)
+            (λ entries. self.now.whole ≡ Some entries.items)) }
+        ensures fits { dacl_size self.now.whole ≤ 65535 }
+    {
+        let Some((own, inherited)) = self.parts() else {
+            return Ok(None);
+        };
+        let mut whole = Vec::with_capacity(alloc, own.len() + inherited.len())?;
+        whole.extend_from_slice(own)?;
+        whole.extend_from_slice(inherited)?;
+        Ok(Some(whole))
+    }
 }
 
 impl TryCopy for Node {
     fn try_copy(&self) -> Result<Node, AllocError> {
-        let path = self.path.share()?;
-        let row = self.row.share()?;
-        let whole = self.whole.share()?;
-        Ok(Node { path, row, whole })
+        self.at(self.path.share()?)
     }
 }

@@ -10,7 +10,6 @@ use crate::alike::{are_alike, inherits, trustees_matter};
 use crate::node::{Node, Row};
 use crate::nodes::locate;
 use crate::tree_view::TreeView;
-use crate::whole::WholeDacl;
 use sd_path::PathRef;
 
 /// How many siblings are looked at, the nearest first. A container that holds nodes of both kinds and of several owners
@@ -18,24 +17,24 @@ use sd_path::PathRef;
 const NEAR: usize = 8;
 
 impl TreeView<'_> {
-    /// Whether the node at a place is a sibling of what stands, or would stand, at the path below a parent with that
-    /// DACL, and inherits what the row does; `true` only where it does.
+    /// Whether the node at a place is a sibling of what stands, or would stand, at the path below that parent,
+    /// and inherits what the row does; `true` only where it does.
     fn is_sibling(
         &self,
         path: &PathRef<'_>,
         row: &Row,
-        above: &WholeDacl,
+        above: &Node,
         by_trustees: bool,
         at: usize,
         node: &Node,
     ) -> bool
         requires place { at < length self.now.nodes.now }
         requires node { (n : Node) → node.now ≡ slice_index_or self.now.nodes.now at n }
-        requires trustees { by_trustees ≡ false → trustees_matter above.now ≡ false }
-        ensures { result ≡ true → IsSibling self.now.nodes.now path.now row.now above.now at }
+        requires trustees { by_trustees ≡ false → trustees_matter above.now.whole ≡ false }
+        ensures { result ≡ true → IsSibling self.now.nodes.now path.now row.now above.now.whole at }
     {
         let beside = node.path();
-        if beside.is_root() || !are_alike(node.row.get(), row, by_trustees) {
+        if beside.is_root() || !are_alike(node.row(), row, by_trustees) {
             return false;
         }
         beside.depth() == path.depth() && beside.is_within(&path.parent())
@@ -73,15 +72,15 @@ impl TreeView<'_> {
         &self,
         path: &PathRef<'_>,
         row: &Row,
-        above: &WholeDacl,
+        above: &Node,
         by_trustees: bool,
         at: usize,
     ) -> Option<(usize, &Node)>
         requires standing { IsView self.now }
         requires place { at ≤ length self.now.nodes.now }
-        requires trustees { by_trustees ≡ false → trustees_matter above.now ≡ false }
+        requires trustees { by_trustees ≡ false → trustees_matter above.now.whole ≡ false }
         ensures sibling { IfSome result
-            (λ beside. IsSibling self.now.nodes.now path.now row.now above.now beside.0) }
+            (λ beside. IsSibling self.now.nodes.now path.now row.now above.now.whole beside.0) }
         ensures node { IfSome result
             (λ beside. (n : Node) → beside.1.now ≡ slice_index_or self.now.nodes.now beside.0 n) }
     {
@@ -103,13 +102,13 @@ impl TreeView<'_> {
         &self,
         path: &PathRef<'_>,
         row: &Row,
-        above: &WholeDacl,
+        above: &Node,
         at: usize,
     ) -> Option<(usize, &Node)>
         requires standing { IsView self.now }
         requires place { at ≤ length self.now.nodes.now }
         ensures sibling { IfSome result
-            (λ beside. IsSibling self.now.nodes.now path.now row.now above.now beside.0) }
+            (λ beside. IsSibling self.now.nodes.now path.now row.now above.now.whole beside.0) }
         ensures node { IfSome result
             (λ beside. (n : Node) → beside.1.now ≡ slice_index_or self.now.nodes.now beside.0 n) }
     {
@@ -130,7 +129,7 @@ impl TreeView<'_> {
         &'b self,
         path: &PathRef<'_>,
         row: &Row,
-        above: &WholeDacl,
+        above: &Node,
         at: usize,
         before: &'b Node,
     ) -> Option<(usize, &'b Node)>
@@ -139,7 +138,7 @@ impl TreeView<'_> {
         requires some { 0 < at }
         requires before { (n : Node) → before.now ≡ slice_index_or self.now.nodes.now (at - 1) n }
         ensures sibling { IfSome result
-            (λ beside. IsSibling self.now.nodes.now path.now row.now above.now beside.0) }
+            (λ beside. IsSibling self.now.nodes.now path.now row.now above.now.whole beside.0) }
         ensures node { IfSome result
             (λ beside. (n : Node) → beside.1.now ≡ slice_index_or self.now.nodes.now beside.0 n) }
     {
@@ -155,13 +154,13 @@ impl TreeView<'_> {
         &self,
         path: &PathRef<'_>,
         row: &Row,
-        above: &WholeDacl,
+        above: &Node,
         at: usize,
     ) -> Option<(usize, &Node)>
         requires standing { IsView self.now }
         requires place { at ≤ length self.now.nodes.now }
         ensures sibling { IfSome result
-            (λ beside. IsSibling self.now.nodes.now path.now row.now above.now beside.0) }
+            (λ beside. IsSibling self.now.nodes.now path.now row.now above.now.whole beside.0) }
         ensures node { IfSome result
             (λ beside. (n : Node) → beside.1.now ≡ slice_index_or self.now.nodes.now beside.0 n) }
     {

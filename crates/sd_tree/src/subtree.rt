@@ -13,13 +13,13 @@ ghost use Rattle.sd_tree.specs.Stored.{path_of_node};
 ghost use Rattle.sd_tree.specs.View.{IsView, tree_in};
 ghost use Rattle.sd_tree.specs.declared.node.Node.{Node};
 
-use crate::alike::are_one_dacl;
-use crate::inherit::dacl_of_row;
+use crate::alike::have_one_dacl;
+use crate::inherit::inherited_below;
 use crate::node::Node;
 use crate::nodes::Walk;
 use crate::refusal::TreeError;
 use crate::tree_view::TreeView;
-use crate::whole::WholeDacl;
+use sd_blocks::TryCopy;
 use sd_path::PathRef;
 
 impl TreeView<'_> {
@@ -48,7 +48,7 @@ impl TreeView<'_> {
         let old = self.node(at);
         // What stands below sees of all above it the node's whole DACL alone: where that stays, as it mostly does when
         // a node is renamed, theirs stay too.
-        let stays = are_one_dacl(&first.whole, &old.whole);
+        let stays = have_one_dacl(&first, old);
         run.push(first)?;
         let mut walk = Walk::new(self.nodes);
         let mut last = (at, old);
@@ -58,54 +58,51 @@ impl TreeView<'_> {
             // Mostly the parent of the node before, or that node.
             let parent = self.node_near(&node.path().parent(), last, k - 1);
             last = parent;
-            let above = &run[parent.0 - at].whole;
-            let whole = self.whole_in_run((at, k), before, node, above, stays, &run)?;
-            let path = node.path.share()?;
-            let row = node.row.share()?;
-            run.push(Node { path, row, whole })?;
+            let above = &run[parent.0 - at];
+            let next = self.node_in_run((at, k), before, node, above, stays, &run)?;
+            run.push(next)?;
             before = node;
         }
         Ok(run)
     }
 
-    /// The whole DACL of the node at the second place, of a run that begins at the first, below a parent with that one.
-    /// The node right before it is at hand. What is inherited is that of a near sibling whose list is made already,
-    /// where it is the same, or the node's own where that stays.
-    fn whole_in_run(
+    /// The node at the second place, of a run that begins at the first, below that parent. The node right before it is
+    /// at hand. What it inherits is that of a near sibling whose list is made already, where it is the same, or its own
+    /// where that stays.
+    fn node_in_run(
         &self,
         places: (usize, usize),
         before: &Node,
         node: &Node,
-        above: &WholeDacl,
+        above: &Node,
         stays: bool,
         made: &[Node],
-    ) -> Result<WholeDacl, TreeError>
+    ) -> Result<Node, TreeError>
         requires standing { IsView self.now }
         requires place { places.1 ≤ length self.now.nodes.now }
         requires some { 0 < places.1 }
         requires before { (n : Node) → before.now ≡ slice_index_or self.now.nodes.now (places.1 - 1) n }
-        requires stays { stays ≡ true → node.now.whole ≡ dacl_of_row self.now.mapping.now node.now.row above.now }
+        requires stays { stays ≡ true
+            → node.now.whole ≡ dacl_of_row self.now.mapping.now node.now.row above.now.whole }
         requires fits { dacl_size node.now.whole ≤ 65535 }
-        requires made { AreMadeFor self.now.mapping.now self.now.nodes.now node.now.path node.now.row above.now
+        requires made { AreMadeFor self.now.mapping.now self.now.nodes.now node.now.path node.now.row above.now.whole
             places.0 made.now }
-        ensures dacl { IfOk result (λ dacl. dacl ≡ dacl_of_row self.now.mapping.now node.now.row above.now) }
-        ensures fits { OnOk result (dacl_size (dacl_of_row self.now.mapping.now node.now.row above.now) ≤ 65535) }
+        ensures node { IfOk result (λ next. next ≡ record node.now
+            { whole = dacl_of_row self.now.mapping.now node.now.row above.now.whole }) }
+        ensures fits { IfOk result (λ next. dacl_size next.whole ≤ 65535) }
         ensures refused { IfErr result (λ e. IsSizeError e
-            (dacl_of_row self.now.mapping.now node.now.row above.now)) }
+            (dacl_of_row self.now.mapping.now node.now.row above.now.whole)) }
     {
         if stays {
-            return Ok(node.whole.share()?);
+            return Ok(node.try_copy()?);
         }
         let (at, k) = places;
-        let row = node.row.get();
-        if let Some((beside, sibling)) = self.sibling_behind(&node.path(), row, above, k, before) {
-            if at < beside && beside - at < made.len() {
-                if let Some(inherited) = made[beside - at].whole.behind(sibling.row.get()) {
-                    return WholeDacl::new(&node.row, inherited.share()?);
-                }
+        if let Some(beside) = self.sibling_behind(&node.path(), node.row(), above, k, before) {
+            if at < beside.0 && beside.0 - at < made.len() {
+                return node.inheriting(made[beside.0 - at].inherited().share()?);
             }
         }
-        dacl_of_row(self.alloc, self.mapping, &node.row, above)
+        node.inheriting(inherited_below(self.alloc, self.mapping, node.row(), above)?)
     }
 
     /// The end of the run of nodes that begins at a place and holds all that stands at or below its path.

@@ -14,7 +14,7 @@ ghost use Rattle.sd_tree.specs.View.{IsView, tree_in};
 
 use crate::describe::descriptor_of_node;
 use crate::edit::Edit;
-use crate::inherit::dacl_of_root;
+use crate::inherit::nothing;
 use crate::journal::{Edits, Journal};
 use crate::list_tests::list_refusal;
 use crate::node::{Node, NodeKind, Row};
@@ -154,9 +154,9 @@ impl Tree {
         match node_at(&self.nodes, &path.as_path_ref()) {
             None => CheckReply::NoNode,
             Some(node) => {
-                let owner = Some(node.row.get().owner);
+                let owner = Some(node.row().owner);
                 let mapping = &self.opening.mapping;
-                CheckReply::Verdict(match node.whole.parts() {
+                CheckReply::Verdict(match node.parts() {
                     None => check_parts(owner, DaclRef::Null, mapping, token, asked),
                     Some((own, inherited)) => {
                         check_joined(owner, own, inherited, mapping, token, asked)
@@ -174,7 +174,7 @@ impl Tree {
     {
         match node_at(&self.nodes, &path.as_path_ref()) {
             None => Ok(None),
-            Some(node) => Ok(Some(descriptor_of_node(self.alloc, node.row.get(), &node.whole)?)),
+            Some(node) => Ok(Some(descriptor_of_node(self.alloc, node)?)),
         }
     }
 
@@ -245,8 +245,10 @@ impl Tree {
 
 /// The node of the root.
 fn root_node(alloc: Global, mapping: &GenericMapping, root: &RootSpec) -> Result<Node, TreeError>
-    ensures node { IfOk result (λ n. (n.path ≡ []) × (n.row ≡ root_row root.now) ×
-        (n.whole ≡ dacl_of_row mapping.now (root_row root.now) None) × (dacl_size n.whole ≤ 65535)) }
+    ensures path { IfOk result (λ n. n.path ≡ []) }
+    ensures row { IfOk result (λ n. n.row ≡ root_row root.now) }
+    ensures whole { IfOk result (λ n. n.whole ≡ dacl_of_row mapping.now (root_row root.now) None) }
+    ensures fits { IfOk result (λ n. dacl_size n.whole ≤ 65535) }
     ensures refused { IfErr result (λ e. IsSizeError e (dacl_of_row mapping.now (root_row root.now) None)) }
 {
     let row = Row {
@@ -255,8 +257,8 @@ fn root_node(alloc: Global, mapping: &GenericMapping, root: &RootSpec) -> Result
         group: root.group,
         dacl: root.dacl.copy(alloc)?,
     };
-    let row = Shared::new(alloc, row)?;
-    let whole = dacl_of_root(alloc, &row)?;
     let path = Shared::new(alloc, Path::root(alloc))?;
-    Ok(Node { path, row, whole })
+    let row = Shared::new(alloc, row)?;
+    let inherited = nothing(alloc)?;
+    Node::new(path, row, inherited)
 }

@@ -1,27 +1,24 @@
 //! The nodes of a tree as they stand, for working out an edit.
 
-ghost use Rattle.std.specs.Prelude.{◌≡◌, ◌≤◌, ◌<◌, length, slice_index_or, true, false, IfOk, IfErr, OnOk, IsSome};
+ghost use Rattle.std.specs.Prelude.{◌≡◌, ◌≤◌, ◌<◌, length, slice_index_or, true, false, IfOk, IsSome};
 ghost use Rattle.std.specs.List.{HoldsAt};
 ghost use Rattle.std.specs.FinMap.{insert};
 ghost use Rattle.sd_path.specs.Names.{is_root, up};
-ghost use Rattle.sd_tree.specs.Inheritance.{dacl_of_row};
 ghost use Rattle.sd_tree.specs.Plain.{row_at, dacl_at};
-ghost use Rattle.sd_tree.specs.Refusals.{dacl_size};
-ghost use Rattle.sd_tree.specs.Sizes.{IsSizeError};
 ghost use Rattle.sd_tree.specs.Stored.{path_of_node};
 ghost use Rattle.sd_tree.specs.View.{IsView, tree_in};
+ghost use Rattle.sd_tree.specs.Whole.{whole_with};
 ghost use Rattle.sd_tree.specs.declared.node.Node.{Node};
 
-use crate::inherit::{dacl_of_root, dacl_of_row};
+use crate::entries::Entries;
+use crate::inherit::{inherited_below, nothing};
 use crate::node::{Node, Row};
 use crate::nodes::{locate, node_in};
-use crate::refusal::TreeError;
 use crate::shared::Shared;
-use crate::whole::WholeDacl;
 use sd_blocks::Blocks;
 use sd_path::PathRef;
 use sd_sid::GenericMapping;
-use std::alloc::Global;
+use std::alloc::{AllocError, Global};
 use std::cmp::Ordering;
 
 /// The nodes of a tree as they stand.
@@ -100,51 +97,27 @@ impl<'a> TreeView<'a> {
         self.place_of(path)
     }
 
-    /// The whole DACL that the node of a path would have with this row; the path stands, or would stand, at the place.
-    pub(crate) fn whole_of(
+    /// What the node of a path would inherit with this row; the path stands, or would stand, at the place. It is shared
+    /// with the node at the place or a near sibling, where that inherits the same.
+    pub(crate) fn inherited_at(
         &self,
         path: &PathRef<'_>,
         at: usize,
-        row: &Shared<Row>,
-    ) -> Result<WholeDacl, TreeError>
+        row: &Row,
+    ) -> Result<Shared<Entries>, AllocError>
         requires standing { IsView self.now }
         requires place { at ≤ length self.now.nodes.now }
         requires parent { is_root path.now ≡ false → IsSome (row_at (tree_in self.now) (up path.now)) }
-        ensures whole { IfOk result (λ whole. whole ≡ dacl_at self.now.mapping.now
+        ensures { IfOk result (λ inherited. whole_with row.now inherited ≡ dacl_at self.now.mapping.now
             (insert (tree_in self.now) path.now row.now) path.now) }
-        ensures fits { IfOk result (λ whole. dacl_size whole ≤ 65535) }
-        ensures refused { IfErr result (λ e. IsSizeError e
-            (dacl_at self.now.mapping.now (insert (tree_in self.now) path.now row.now) path.now)) }
     {
         if path.is_root() {
-            return dacl_of_root(self.alloc, row);
+            return nothing(self.alloc);
         }
-        let parent = self.node(self.place_of(&path.parent()));
-        self.whole_beside(path, at, row, &parent.whole)
-    }
-
-    /// The whole DACL below a parent with that one. What is inherited is the node's at the place or a near sibling's,
-    /// where it is the same.
-    fn whole_beside(
-        &self,
-        path: &PathRef<'_>,
-        at: usize,
-        row: &Shared<Row>,
-        above: &WholeDacl,
-    ) -> Result<WholeDacl, TreeError>
-        requires standing { IsView self.now }
-        requires place { at ≤ length self.now.nodes.now }
-        requires above { above.now ≡ dacl_at self.now.mapping.now (tree_in self.now) (up path.now) }
-        ensures dacl { IfOk result (λ dacl. dacl ≡ dacl_of_row self.now.mapping.now row.now above.now) }
-        ensures fits { OnOk result (dacl_size (dacl_of_row self.now.mapping.now row.now above.now) ≤ 65535) }
-        ensures refused { IfErr result (λ e. IsSizeError e (dacl_of_row self.now.mapping.now row.now above.now)) }
-    {
-        if let Some(beside) = self.sibling_around(path, row.get(), above, at) {
-            let sibling = beside.1;
-            if let Some(inherited) = sibling.whole.behind(sibling.row.get()) {
-                return WholeDacl::new(row, inherited.share()?);
-            }
+        let above = self.node(self.place_of(&path.parent()));
+        if let Some(beside) = self.sibling_around(path, row, above, at) {
+            return beside.1.inherited().share();
         }
-        dacl_of_row(self.alloc, self.mapping, row, above)
+        inherited_below(self.alloc, self.mapping, row, above)
     }
 }

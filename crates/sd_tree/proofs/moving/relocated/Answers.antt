@@ -3,6 +3,7 @@ use Rattle.std.proofs.lemmas.List.{map-append, take_more}
 use Rattle.std.proofs.lemmas.List.Elements.{All-push}
 use Rattle.sd_path.specs.Names.{is_within, moved_path}
 use Rattle.sd_tree.specs.Plans.{relocated}
+use Rattle.sd_tree.specs.Stored.{path_of_node}
 use Rattle.sd_tree.specs.declared.node.Node.{Node}
 use Rattle.sd_tree.proofs.Moves.{moved_length}
 use Rattle.sd_tree.proofs.moving.relocated.Goals as goal
@@ -18,15 +19,13 @@ loop-node-preserved c =
     let n = c.node-item.result in
     let i = c.loop-node.node-index in
     let f = relocated c.args.source.now c.args.target.now in
-    let new : Node = record { path = c.in_ok-path.path; row = c.in_ok-row.row; whole = c.in_ok-whole.whole } in
+    let new = c.in_ok-next.next in
     let inside : is_within c.args.source.now n.path ≡ true = ap (λ (m : Node). is_within c.args.source.now m.path) c.node-item.is ∙ c.requires i n c.loop-node-test.true in
-    let path-is : c.in_ok-path.path ≡ moved_path c.args.source.now c.args.target.now n.path = c.in_ok-path.ensures ∙ c.in_ok-moved.ensures ∙ ap (moved_path c.args.source.now c.args.target.now) c.get.ensures in
-    let row-is : c.in_ok-row.row ≡ n.row = c.in_ok-row.ensures in
-    let whole-is : c.in_ok-whole.whole ≡ n.whole = c.in_ok-whole.ensures in
-    let new-is : new ≡ f (get_or c.args.nodes.now i n) = (λ t. record { path = path-is t; row = row-is t; whole = whole-is t }) ∙ ap f c.node-item.is in
+    let path-is : c.in_ok-path.path ≡ moved_path c.args.source.now c.args.target.now n.path = c.in_ok-path.ensures ∙ c.in_ok-moved.ensures ∙ ap (moved_path c.args.source.now c.args.target.now) (c.get.ensures ∙ ap path_of_node c.node.view_is) in
+    let new-is : new ≡ f (get_or c.args.nodes.now i n) = c.in_ok-next.ensures ∙ ap (λ path. record n { path = path }) path-is ∙ ap f c.node-item.is in
     let size = moved_length c.args.source.now c.args.target.now n.path inside in
     let short : length new.path ≤ 64 =
-    omega (arith, size.0, size.1, ap length path-is, c.depth.ensures, c.depth-in-loop-node.ensures, c.depth-in-loop-node-2.ensures, ap length c.path.ensures, c.saturating_add.ensures, c.if-saturating_add-gt-MAX_DEPTH.false) in
+    omega (arith, size.0, size.1, ap length (ap path_of_node c.in_ok-next.ensures ∙ path-is), c.depth.ensures, c.depth-in-loop-node.ensures, c.depth-in-loop-node-2.ensures, ap length c.path.ensures, c.saturating_add.ensures, c.if-saturating_add-gt-MAX_DEPTH.false) in
     record {
       run =
           c.in_ok-push.ensures.items ∙ (λ t. c.loop-node.invariant.run t ++ new-is t ∷ [])

@@ -12,13 +12,13 @@ returns-in_err-node-clause-refused c =
 
 pub invariant_of-result : goal.invariant_of-result
 invariant_of-result c =
-    let n = c.in_ok-node.ensures.node in
-    let first = stored_first (opening_of c.args.mapping.now c.args.root.now) c.in_ok-node.node n.0 n.1 n.2 n.3 (sym c.in_default.ensures) in
+    let n = c.in_ok-node.ensures in
+    let first = stored_first (opening_of c.args.mapping.now c.args.root.now) c.in_ok-node.node n.path n.row n.whole n.fits (sym c.in_default.ensures) in
     let nodes : c.insert.new.self ≡ c.in_ok-node.node ∷ [] = c.in_ok-insert.ensures.done ∙ ap (λ ns. insert ns 0 c.in_ok-node.node) c.new-nodes.ensures in
     rw (c.in_ok-copy.ensures, c.new.ensures, nodes) first
 
 pub returns-clause-accepted : goal.returns-clause-accepted
 returns-clause-accepted c =
-    let n = c.in_ok-node.ensures.node in
+    let n = c.in_ok-node.ensures in
     let o = opening_of c.args.mapping.now c.args.root.now in
-    (stored_first o c.in_ok-node.node n.0 n.1 n.2 n.3 (sym c.in_default.ensures)).accepted
+    (stored_first o c.in_ok-node.node n.path n.row n.whole n.fits (sym c.in_default.ensures)).accepted

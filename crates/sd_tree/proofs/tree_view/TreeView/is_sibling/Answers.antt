@@ -38,6 +38,6 @@ returns-then-depth c held =
       parent = λ b. ap up (sym (path_is b)) ∙ same_parent _ c.args.path.now (sym c.if-is_root.ensures) (sym c.depth.ensures ∙ c.if-depth.true ∙ c.depth-2.ensures)
           (ap (λ t. is_within t c.path-beside.result) (sym c.parent.ensures) ∙ sym c.is_within.ensures ∙ held);
       alike = λ b.
-          let P : Row → Type 0 = λ row. InheritOne row c.args.row.now c.args.above.now in
-          subst P (c.get.ensures ∙ ap (λ (n : Node). n.row) (node_is b)) (alike_inherit_one _ _ c.args.above.now c.args.by_trustees (c.are_alike.ensures (search rules)) c.requires.trustees);
+          let P : Row → Type 0 = λ row. InheritOne row c.args.row.now c.args.above.now.whole in
+          subst P (c.row.ensures ∙ ap (λ (n : Node). n.row) (node_is b)) (alike_inherit_one _ _ c.args.above.now.whole c.args.by_trustees (c.are_alike.ensures (search rules)) c.requires.trustees);
     }

@@ -1,12 +1,18 @@
-use Rattle.std.proofs.Common.{◌≡◌, ◌+◌, ◌-◌, ◌<◌, Option, Some, None, length, get_or, inl, inr, sym, ap, ◌∙◌, arith}
+use Rattle.std.proofs.Common.{◌≡◌, ◌+◌, ◌-◌, ◌<◌, List, Option, Some, None, length, get_or, inl, inr, sym, ap, ◌∙◌, arith}
 use Rattle.std.proofs.lemmas.List.{length-map}
 use Rattle.std.proofs.lemmas.Result.{err_from_is_err_and}
-use Rattle.sd_path.specs.Names.{is_within}
+use Rattle.std.specs.FinMap.{insert}
+use Rattle.sd_sid.specs.Mapping.{MappingValue}
+use Rattle.sd_acl.specs.declared.ace.Ace.{Ace}
+use Rattle.sd_path.specs.Names.{Names, is_within}
 use Rattle.sd_tree.specs.Edits.{moved}
+use Rattle.sd_tree.specs.Plain.{dacl_at}
 use Rattle.sd_tree.specs.Stored.{path_of_node, tree_of}
+use Rattle.sd_tree.specs.Whole.{whole_with}
 use Rattle.sd_tree.specs.declared.node.Node.{Node}
 use Rattle.sd_tree.proofs.Moves.{first_refused, is_moved, gap_behind, plan_moved, deep_refused, none_too_deep, large_late}
 use Rattle.sd_tree.proofs.Rebuilding.{row_there}
+use Rattle.sd_tree.proofs.Wholes.{size_error}
 use Rattle.sd_tree.proofs.tree_view.TreeView.moving_plan.Goals.{then-at-from, else-at-from}
 use Rattle.sd_tree.proofs.tree_view.TreeView.moving_plan.Goals as goal
 
@@ -19,22 +25,31 @@ unreachable-requires c =
     let there = row_there c.args.self.now.nodes.now c.requires.standing.kept.order c.args.target.now c.in-Ok.field-0 found.0 (λ d. found.1 d ∙ c.as_path_ref-target.ensures) in
     not_both _ _ c.requires.movable.place.free there.1
 
-pub returns-in_err-whole-in-Err-clause-refused : goal.returns-in_err-whole-in-Err-clause-refused
-returns-in_err-whole-in-Err-clause-refused c =
-    let p = err_from_is_err_and c.from_residual-in_err-whole-in-Err.result c.from_residual-in_err-whole-in-Err.ensures.1 in
-    let refused = rw c.as_path_ref-target.ensures at c.in_err-whole-in-Err.ensures.refused in
-    rw (p.1, p.2) (large_late c.args.self.now.mapping.now c.args.self.now.nodes.now c.requires.standing c.args.source.now c.args.target.now c.requires.movable c.place_of-from.result c.place_of-from.ensures.within (λ d. c.place_of-from.ensures.stands d ∙ c.as_path_ref-source.ensures) c.in_err-whole-in-Err.field-0.0 (first_refused c.args.self.now.mapping.now c.args.self.now.nodes.now c.requires.standing c.args.source.now c.args.target.now c.requires.movable c.place_of-from.result c.place_of-from.ensures.within (λ d. c.place_of-from.ensures.stands d ∙ c.as_path_ref-source.ensures) c.in_ok-row-in-Err.row (λ b. c.in_ok-row-in-Err.ensures ∙ ap (λ (n : Node). n.row) (c.node-node.ensures b)) c.node-node.result.now c.in_err-whole-in-Err.field-0.0 refused))
+moved_whole : (g : MappingValue) (bs : List Node) (target : Names) (node first : Node) (inherited : List Ace) → first ≡ record node { whole = whole_with node.row inherited }
+    → whole_with node.row inherited ≡ dacl_at g (insert (tree_of bs) target node.row) target → first.whole ≡ dacl_at g (insert (tree_of bs) target first.row) target
+moved_whole g bs target node first inherited is whole =
+    ap (λ (n : Node). n.whole) is ∙ whole ∙ ap (λ (n : Node). dacl_at g (insert (tree_of bs) target n.row) target) (sym is)
+
+pub returns-in_err-first-in-Err-clause-refused : goal.returns-in_err-first-in-Err-clause-refused
+returns-in_err-first-in-Err-clause-refused c =
+    let p = err_from_is_err_and c.from_residual-in_err-first-in-Err.result c.from_residual-in_err-first-in-Err.ensures.1 in
+    let e = c.in_err-first-in-Err.field-0.0 in
+    let whole = rw (c.as_path_ref-target.ensures, c.row.ensures) at c.in_ok-inherited-in-Err.ensures in
+    let refused = size_error e _ _ whole c.in_err-first-in-Err.ensures.refused in
+    rw (p.1, p.2) (large_late c.args.self.now.mapping.now c.args.self.now.nodes.now c.requires.standing c.args.source.now c.args.target.now c.requires.movable c.place_of-from.result c.place_of-from.ensures.within (λ d. c.place_of-from.ensures.stands d ∙ c.as_path_ref-source.ensures) e (first_refused c.args.self.now.mapping.now c.args.self.now.nodes.now c.requires.standing c.args.source.now c.args.target.now c.requires.movable c.place_of-from.result c.place_of-from.ensures.within (λ d. c.place_of-from.ensures.stands d ∙ c.as_path_ref-source.ensures)
+    c.node-node.result.now.row (λ b. ap (λ (n : Node). n.row) (c.node-node.ensures b)) c.node-node.result.now e refused))
 
 pub subtree-requires-clause-first : goal.subtree-requires-clause-first
-subtree-requires-clause-first c = c.in_ok-path-in-Err.ensures ∙ ap path_of_node (c.node-node.ensures c.node-node.result.now) ∙ c.place_of-from.ensures.stands c.node-node.result.now
+subtree-requires-clause-first c = ap path_of_node c.in_ok-first-in-Err.ensures.node ∙ ap path_of_node (c.node-node.ensures c.node-node.result.now) ∙ c.place_of-from.ensures.stands c.node-node.result.now
 
 pub returns-in_err-nodes-in-Err-clause-refused : goal.returns-in_err-nodes-in-Err-clause-refused
 returns-in_err-nodes-in-Err-clause-refused c =
     let p = err_from_is_err_and c.from_residual-in_err-nodes-in-Err.result c.from_residual-in_err-nodes-in-Err.ensures.1 in
     let refused = rw c.as_path_ref-source.ensures at c.in_err-nodes-in-Err.ensures.refused in
-    let whole = rw c.as_path_ref-target.ensures at c.in_ok-whole-in-Err.ensures.whole in
+    let is = c.in_ok-first-in-Err.ensures.node in
+    let whole = moved_whole c.args.self.now.mapping.now c.args.self.now.nodes.now c.args.target.now c.node-node.result.now c.in_ok-first-in-Err.first c.in_ok-inherited-in-Err.inherited is (rw (c.as_path_ref-target.ensures, c.row.ensures) at c.in_ok-inherited-in-Err.ensures) in
     rw (p.1, p.2) (large_late c.args.self.now.mapping.now c.args.self.now.nodes.now c.requires.standing c.args.source.now c.args.target.now c.requires.movable c.place_of-from.result c.place_of-from.ensures.within (λ d. c.place_of-from.ensures.stands d ∙ c.as_path_ref-source.ensures) c.in_err-nodes-in-Err.field-0.0 (refused (moved (tree_of c.args.self.now.nodes.now) c.args.source.now c.args.target.now) c.args.target.now (is_moved c.args.self.now.mapping.now c.args.self.now.nodes.now c.requires.standing c.args.source.now c.args.target.now c.requires.movable c.place_of-from.result c.place_of-from.ensures.within (λ d. c.place_of-from.ensures.stands d ∙ c.as_path_ref-source.ensures)
-    (record { path = c.in_ok-path-in-Err.path; row = c.in_ok-row-in-Err.row; whole = c.in_ok-whole-in-Err.whole }) (λ b. c.in_ok-row-in-Err.ensures ∙ ap (λ (n : Node). n.row) (c.node-node.ensures b)) whole)))
+    c.in_ok-first-in-Err.first (λ b. ap (λ (n : Node). n.row) is ∙ ap (λ (n : Node). n.row) (c.node-node.ensures b)) whole)))
 
 pub relocated-requires : goal.relocated-requires
 relocated-requires c k d lt =
@@ -50,17 +65,19 @@ relocated-requires c k d lt =
 pub returns-in_err-run-in-Err-clause-refused : goal.returns-in_err-run-in-Err-clause-refused
 returns-in_err-run-in-Err-clause-refused c =
     let p = err_from_is_err_and c.from_residual-in_err-run-in-Err.result c.from_residual-in_err-run-in-Err.ensures.1 in
-    let whole = rw c.as_path_ref-target.ensures at c.in_ok-whole-in-Err.ensures.whole in
+    let is = c.in_ok-first-in-Err.ensures.node in
+    let whole = moved_whole c.args.self.now.mapping.now c.args.self.now.nodes.now c.args.target.now c.node-node.result.now c.in_ok-first-in-Err.first c.in_ok-inherited-in-Err.inherited is (rw (c.as_path_ref-target.ensures, c.row.ensures) at c.in_ok-inherited-in-Err.ensures) in
     let nodes = rw c.as_path_ref-source.ensures at c.in_ok-nodes-in-Err.ensures.nodes in
     let run = rw c.as_path_ref-source.ensures at c.in_ok-nodes-in-Err.ensures.run in
     let absent = rw c.as_path_ref-target.ensures at c.in-Err.ensures.absent in
     let refused = rw (c.as_path_ref-source.ensures, c.as_path_ref-target.ensures, c.deref.ensures.value) at c.in_err-run-in-Err.ensures.refused in
     rw (p.1, p.2) (deep_refused c.args.self.now.mapping.now c.args.self.now.nodes.now c.requires.standing c.args.source.now c.args.target.now c.requires.movable c.place_of-from.result c.place_of-from.ensures.within (λ d. c.place_of-from.ensures.stands d ∙ c.as_path_ref-source.ensures)
-    (record { path = c.in_ok-path-in-Err.path; row = c.in_ok-row-in-Err.row; whole = c.in_ok-whole-in-Err.whole }) (λ b. c.in_ok-row-in-Err.ensures ∙ ap (λ (n : Node). n.row) (c.node-node.ensures b)) whole c.in_ok-nodes-in-Err.nodes.items run nodes c.in-Err.at absent.0 absent.1 absent.2 c.in_err-run-in-Err.field-0.0 refused)
+    c.in_ok-first-in-Err.first (λ b. ap (λ (n : Node). n.row) is ∙ ap (λ (n : Node). n.row) (c.node-node.ensures b)) whole c.in_ok-nodes-in-Err.nodes.items run nodes c.in-Err.at absent.0 absent.1 absent.2 c.in_err-run-in-Err.field-0.0 refused)
 
 pub overflow_sub-to : goal.overflow_sub-to
 overflow_sub-to c =
-    let whole = rw c.as_path_ref-target.ensures at c.in_ok-whole-in-Err.ensures.whole in
+    let is = c.in_ok-first-in-Err.ensures.node in
+    let whole = moved_whole c.args.self.now.mapping.now c.args.self.now.nodes.now c.args.target.now c.node-node.result.now c.in_ok-first-in-Err.first c.in_ok-inherited-in-Err.inherited is (rw (c.as_path_ref-target.ensures, c.row.ensures) at c.in_ok-inherited-in-Err.ensures) in
     let nodes = rw c.as_path_ref-source.ensures at c.in_ok-nodes-in-Err.ensures.nodes in
     let run = rw c.as_path_ref-source.ensures at c.in_ok-nodes-in-Err.ensures.run in
     let absent = rw c.as_path_ref-target.ensures at c.in-Err.ensures.absent in
@@ -68,7 +85,7 @@ overflow_sub-to c =
     omega (
       arith,
       gap_behind c.args.self.now.mapping.now c.args.self.now.nodes.now c.requires.standing c.args.source.now c.args.target.now c.requires.movable c.place_of-from.result c.place_of-from.ensures.within (λ d. c.place_of-from.ensures.stands d ∙ c.as_path_ref-source.ensures)
-          (record { path = c.in_ok-path-in-Err.path; row = c.in_ok-row-in-Err.row; whole = c.in_ok-whole-in-Err.whole }) (λ b. c.in_ok-row-in-Err.ensures ∙ ap (λ (n : Node). n.row) (c.node-node.ensures b)) whole c.in_ok-nodes-in-Err.nodes.items run nodes c.in-Err.at absent.0 absent.1 absent.2 (omega (arith, c.if-at-from.false)),
+          c.in_ok-first-in-Err.first (λ b. ap (λ (n : Node). n.row) is ∙ ap (λ (n : Node). n.row) (c.node-node.ensures b)) whole c.in_ok-nodes-in-Err.nodes.items run nodes c.in-Err.at absent.0 absent.1 absent.2 (omega (arith, c.if-at-from.false)),
       size,
       c.len.ensures,
       c.in_ok-run-in-Err.run'.ok.0,
@@ -76,24 +93,26 @@ overflow_sub-to c =
 
 pub returns-clause-plan : goal.returns-clause-plan
 returns-clause-plan c =
-    let whole = rw c.as_path_ref-target.ensures at c.in_ok-whole-in-Err.ensures.whole in
+    let is = c.in_ok-first-in-Err.ensures.node in
+    let whole = moved_whole c.args.self.now.mapping.now c.args.self.now.nodes.now c.args.target.now c.node-node.result.now c.in_ok-first-in-Err.first c.in_ok-inherited-in-Err.inherited is (rw (c.as_path_ref-target.ensures, c.row.ensures) at c.in_ok-inherited-in-Err.ensures) in
     let nodes = rw c.as_path_ref-source.ensures at c.in_ok-nodes-in-Err.ensures.nodes in
     let run = rw c.as_path_ref-source.ensures at c.in_ok-nodes-in-Err.ensures.run in
     let absent = rw c.as_path_ref-target.ensures at c.in-Err.ensures.absent in
     let gone = rw (c.as_path_ref-source.ensures, c.as_path_ref-target.ensures, c.deref.ensures.value) at c.in_ok-run-in-Err.ensures.run in
     let size : length c.in_ok-run-in-Err.run'.items ≡ length c.in_ok-nodes-in-Err.nodes.items = ap length gone ∙ length-map _ _ in
     rw gone (plan_moved c.args.self.now.mapping.now c.args.self.now.nodes.now c.requires.standing c.args.source.now c.args.target.now c.requires.movable c.place_of-from.result c.place_of-from.ensures.within (λ d. c.place_of-from.ensures.stands d ∙ c.as_path_ref-source.ensures)
-    (record { path = c.in_ok-path-in-Err.path; row = c.in_ok-row-in-Err.row; whole = c.in_ok-whole-in-Err.whole }) (λ b. c.in_ok-row-in-Err.ensures ∙ ap (λ (n : Node). n.row) (c.node-node.ensures b)) whole c.in_ok-nodes-in-Err.nodes.items run nodes c.in-Err.at absent.0 absent.1 absent.2 c.if-at-from.to (elim c.if-at-from.branch [
+    c.in_ok-first-in-Err.first (λ b. ap (λ (n : Node). n.row) is ∙ ap (λ (n : Node). n.row) (c.node-node.ensures b)) whole c.in_ok-nodes-in-Err.nodes.items run nodes c.in-Err.at absent.0 absent.1 absent.2 c.if-at-from.to (elim c.if-at-from.branch [
       | then-at-from w ↦ inl (w.if-at-from.true, w.to-is)
       | else-at-from w ↦ inr (omega (arith, w.if-at-from.false), w.to-is ∙ ap (λ n. c.in-Err.at - n) (omega (arith, w.len.ensures, c.in_ok-run-in-Err.run'.ok.0, size)))
     ]))
 
 pub returns-clause-shallow : goal.returns-clause-shallow
 returns-clause-shallow c =
-    let whole = rw c.as_path_ref-target.ensures at c.in_ok-whole-in-Err.ensures.whole in
+    let is = c.in_ok-first-in-Err.ensures.node in
+    let whole = moved_whole c.args.self.now.mapping.now c.args.self.now.nodes.now c.args.target.now c.node-node.result.now c.in_ok-first-in-Err.first c.in_ok-inherited-in-Err.inherited is (rw (c.as_path_ref-target.ensures, c.row.ensures) at c.in_ok-inherited-in-Err.ensures) in
     let nodes = rw c.as_path_ref-source.ensures at c.in_ok-nodes-in-Err.ensures.nodes in
     let run = rw c.as_path_ref-source.ensures at c.in_ok-nodes-in-Err.ensures.run in
     let absent = rw c.as_path_ref-target.ensures at c.in-Err.ensures.absent in
     let gone = rw (c.as_path_ref-source.ensures, c.as_path_ref-target.ensures, c.deref.ensures.value) at c.in_ok-run-in-Err.ensures.run in
     none_too_deep c.args.self.now.mapping.now c.args.self.now.nodes.now c.requires.standing c.args.source.now c.args.target.now c.requires.movable c.place_of-from.result c.place_of-from.ensures.within (λ d. c.place_of-from.ensures.stands d ∙ c.as_path_ref-source.ensures)
-    (record { path = c.in_ok-path-in-Err.path; row = c.in_ok-row-in-Err.row; whole = c.in_ok-whole-in-Err.whole }) (λ b. c.in_ok-row-in-Err.ensures ∙ ap (λ (n : Node). n.row) (c.node-node.ensures b)) whole c.in_ok-nodes-in-Err.nodes.items run nodes c.in-Err.at absent.0 absent.1 absent.2 (rw gone at c.in_ok-run-in-Err.ensures.shallow)
+    c.in_ok-first-in-Err.first (λ b. ap (λ (n : Node). n.row) is ∙ ap (λ (n : Node). n.row) (c.node-node.ensures b)) whole c.in_ok-nodes-in-Err.nodes.items run nodes c.in-Err.at absent.0 absent.1 absent.2 (rw gone at c.in_ok-run-in-Err.ensures.shallow)

@@ -22,7 +22,7 @@ loop-k-init c =
       under = rw one (under_first c.args.self.now.mapping.now bs c.args.path.now c.args.at c.requires.stands c.args.first c.requires.first c.requires.fits);
       stay = λ same. rw one (λ j b d lt.
           let first : j ≡ 0 = omega arith in
-          ap (λ i. (get_or (c.args.first ∷ []) i d).whole) first ∙ c.are_one_dacl-stays.ensures same
+          ap (λ i. (get_or (c.args.first ∷ []) i d).whole) first ∙ c.have_one_dacl-stays.ensures same
           ∙ ap (λ (n : Node). n.whole) (c.node-old.ensures b) ∙ ap (λ i. (get_or bs i b).whole) (sym (add-zero c.args.at) ∙ ap (λ i. c.args.at + i) (sym first)));
     }
 
@@ -45,8 +45,8 @@ overflow_sub-parent c =
     (c.end_below-end.ensures.below k b (omega arith) (omega arith)) c.node_near-parent.result.0 c.node_near-parent.ensures.within
     (λ d. c.node_near-parent.ensures.stands d ∙ c.parent.ensures ∙ ap up (c.path.ensures ∙ ap path_of_node node))).0
 
-pub index-requires : goal.index-requires
-index-requires c =
+pub index-above-requires : goal.index-above-requires
+index-above-requires c =
     let bs = c.args.self.now.nodes.now in
     let b = c.node-node.result.now in
     let k = c.loop-k.k in
@@ -56,7 +56,7 @@ index-requires c =
     (λ d. c.node_near-parent.ensures.stands d ∙ c.parent.ensures ∙ ap up (c.path.ensures ∙ ap path_of_node node)) in
     omega (arith, place.0, place.1, c.loop-k.invariant.count, c.loop-k.run.ok.0)
 
-next : (c : goal.After-deref) → IsNext c.args.self.now.mapping.now c.args.self.now.nodes.now c.args.path.now c.args.at c.args.first c.loop-k.run.items c.loop-k.k c.node_near-parent.result.0 c.node-node.result.now c.index.result.now
+next : (c : goal.After-deref) → IsNext c.args.self.now.mapping.now c.args.self.now.nodes.now c.args.path.now c.args.at c.args.first c.loop-k.run.items c.loop-k.k c.node_near-parent.result.0 c.node-node.result.now c.index-above.result.now
 next c =
     let b = c.node-node.result.now in
     let node : (n : Node) → b ≡ get_or c.args.self.now.nodes.now c.loop-k.k n = λ n. c.node-node.ensures.node n ∙ ap (λ w. get_or w c.loop-k.k n) c.loop-k.invariant.walk in
@@ -71,30 +71,30 @@ next c =
       inside = c.end_below-end.ensures.below c.loop-k.k b (omega arith) (omega arith);
       in_p = c.node_near-parent.ensures.within;
       there = λ d. c.node_near-parent.ensures.stands d ∙ c.parent.ensures ∙ ap up c.path.ensures;
-      above_is = c.index.ensures;
+      above_is = c.index-above.ensures;
     }
 
-pub whole_in_run-requires-clause-stays : goal.whole_in_run-requires-clause-stays
-whole_in_run-requires-clause-stays c same =
+pub node_in_run-requires-clause-stays : goal.node_in_run-requires-clause-stays
+node_in_run-requires-clause-stays c same =
     next_stays c.args.self.now.mapping.now c.args.self.now.nodes.now c.args.path.now c.args.at c.args.first c.loop-k.run.items c.loop-k.k c.node_near-parent.result.0
-    c.node-node.result.now c.index.result.now (next c) (c.loop-k.invariant.stay same)
+    c.node-node.result.now c.index-above.result.now (next c) (c.loop-k.invariant.stay same)
 
-pub whole_in_run-requires-clause-fits : goal.whole_in_run-requires-clause-fits
-whole_in_run-requires-clause-fits c =
+pub node_in_run-requires-clause-fits : goal.node_in_run-requires-clause-fits
+node_in_run-requires-clause-fits c =
     let b = c.node-node.result.now in
     rw ((next c).node b) (c.requires.standing.kept.whole c.loop-k.k b (next c).in_bs).fits
 
-pub whole_in_run-requires-clause-made : goal.whole_in_run-requires-clause-made
-whole_in_run-requires-clause-made c =
+pub node_in_run-requires-clause-made : goal.node_in_run-requires-clause-made
+node_in_run-requires-clause-made c =
     rw c.deref.ensures.value (next_made c.args.self.now.mapping.now c.args.self.now.nodes.now c.args.path.now c.args.at c.args.first c.loop-k.run.items c.loop-k.k c.node_near-parent.result.0
-    c.node-node.result.now c.index.result.now (next c) c.end_below-end.result c.end_below-end.ensures.below (omega arith))
+    c.node-node.result.now c.index-above.result.now (next c) c.end_below-end.result c.end_below-end.ensures.below (omega arith))
 
-pub returns-in_err-whole-clause-refused : goal.returns-in_err-whole-clause-refused
-returns-in_err-whole-clause-refused c =
-    let p = err_from_is_err_and c.from_residual-in_err-whole.result c.from_residual-in_err-whole.ensures.1 in
+pub returns-in_err-next-clause-refused : goal.returns-in_err-next-clause-refused
+returns-in_err-next-clause-refused c =
+    let p = err_from_is_err_and c.from_residual-in_err-next.result c.from_residual-in_err-next.ensures.1 in
     let b = c.node-node.result.now in
     let node : (n : Node) → b ≡ get_or c.args.self.now.nodes.now c.loop-k.k n = λ n. c.node-node.ensures.node n ∙ ap (λ w. get_or w c.loop-k.k n) c.loop-k.invariant.walk in
-    let next : IsNext c.args.self.now.mapping.now c.args.self.now.nodes.now c.args.path.now c.args.at c.args.first c.loop-k.run.items c.loop-k.k c.node_near-parent.result.0 c.node-node.result.now c.index.result.now = record {
+    let next : IsNext c.args.self.now.mapping.now c.args.self.now.nodes.now c.args.path.now c.args.at c.args.first c.loop-k.run.items c.loop-k.k c.node_near-parent.result.0 c.node-node.result.now c.index-above.result.now = record {
       standing = c.requires.standing;
       stands = c.requires.stands;
       under = c.loop-k.invariant.under;
@@ -105,27 +105,23 @@ returns-in_err-whole-clause-refused c =
       inside = c.end_below-end.ensures.below c.loop-k.k b (omega arith) (omega arith);
       in_p = c.node_near-parent.ensures.within;
       there = λ d. c.node_near-parent.ensures.stands d ∙ c.parent.ensures ∙ ap up c.path.ensures;
-      above_is = c.index.ensures;
+      above_is = c.index-above.ensures;
     } in
     rw (p.1, p.2) (next_error c.args.self.now.mapping.now c.args.self.now.nodes.now c.args.path.now c.args.at c.args.first c.loop-k.run.items c.loop-k.k c.node_near-parent.result.0
-    c.node-node.result.now c.index.result.now next c.in_err-whole.field-0.0 c.in_err-whole.ensures.refused)
-
-pub returns-in_err-row-clause-refused : goal.returns-in_err-row-clause-refused
-returns-in_err-row-clause-refused c =
-    let p = err_from_is_err_and c.from_residual-in_err-row.result c.from_residual-in_err-row.ensures.1 in
-    rw (p.1, p.2) (λ after target taken. tt)
+    c.node-node.result.now c.index-above.result.now next c.in_err-next.field-0.0 c.in_err-next.ensures.refused)
 
 pub loop-k-preserved : goal.loop-k-preserved
 loop-k-preserved c =
     let bs = c.args.self.now.nodes.now in
     let run = c.loop-k.run.items in
     let i = c.loop-k.invariant in
-    let new : Node = record { path = c.in_ok-path.path; row = c.in_ok-row.row; whole = c.in_ok-whole.whole } in
+    let new = c.in_ok-next.next in
+    let is = c.in_ok-next.ensures.node in
     let back : c.loop-k.k ≡ c.loop-k.k + 1 - 1 = omega arith in
     let size = length-append run (new ∷ []) in
     let b = c.node-node.result.now in
     let node : (n : Node) → b ≡ get_or c.args.self.now.nodes.now c.loop-k.k n = λ n. c.node-node.ensures.node n ∙ ap (λ w. get_or w c.loop-k.k n) c.loop-k.invariant.walk in
-    let next : IsNext c.args.self.now.mapping.now c.args.self.now.nodes.now c.args.path.now c.args.at c.args.first c.loop-k.run.items c.loop-k.k c.node_near-parent.result.0 c.node-node.result.now c.index.result.now = record {
+    let next : IsNext c.args.self.now.mapping.now c.args.self.now.nodes.now c.args.path.now c.args.at c.args.first c.loop-k.run.items c.loop-k.k c.node_near-parent.result.0 c.node-node.result.now c.index-above.result.now = record {
       standing = c.requires.standing;
       stands = c.requires.stands;
       under = c.loop-k.invariant.under;
@@ -136,10 +132,10 @@ loop-k-preserved c =
       inside = c.end_below-end.ensures.below c.loop-k.k b (omega arith) (omega arith);
       in_p = c.node_near-parent.ensures.within;
       there = λ d. c.node_near-parent.ensures.stands d ∙ c.parent.ensures ∙ ap up c.path.ensures;
-      above_is = c.index.ensures;
+      above_is = c.index-above.ensures;
     } in
-    let more = next_more c.args.self.now.mapping.now bs c.args.path.now c.args.at c.args.first run c.loop-k.k c.node_near-parent.result.0 c.node-node.result.now c.index.result.now next
-    new c.in_ok-path.ensures c.in_ok-row.ensures c.in_ok-whole.ensures.dacl (rw c.in_ok-whole.ensures.dacl c.in_ok-whole.ensures.fits) in
+    let more = next_more c.args.self.now.mapping.now bs c.args.path.now c.args.at c.args.first run c.loop-k.k c.node_near-parent.result.0 c.node-node.result.now c.index-above.result.now next
+    new (ap path_of_node is) (ap (λ (m : Node). m.row) is) (ap (λ (m : Node). m.whole) is) c.in_ok-next.ensures.fits in
     record {
       within = c.node_near-parent.ensures.within;
       node = c.node_near-parent.ensures.node;
@@ -148,7 +144,7 @@ loop-k-preserved c =
       count = omega (arith, i.count, ap length c.in_ok-push-2.ensures.items, size);
       under = rw c.in_ok-push-2.ensures.items more;
       stay = λ same. rw c.in_ok-push-2.ensures.items (stays_more bs c.args.at run new (i.stay same) (λ n.
-          c.in_ok-whole.ensures.dacl
-          ∙ sym (next_stays c.args.self.now.mapping.now bs c.args.path.now c.args.at c.args.first run c.loop-k.k c.node_near-parent.result.0 c.node-node.result.now c.index.result.now next (i.stay same))
+          ap (λ (m : Node). m.whole) is
+          ∙ sym (next_stays c.args.self.now.mapping.now bs c.args.path.now c.args.at c.args.first run c.loop-k.k c.node_near-parent.result.0 c.node-node.result.now c.index-above.result.now next (i.stay same))
           ∙ ap (λ (m : Node). m.whole) (next.node n) ∙ ap (λ j. (get_or bs j n).whole) (sym i.count)));
     }
