@@ -13,7 +13,7 @@ abbrev pub is_protected : NodeDacl → Bool
 is_protected own.Null = false
 is_protected (own.List protected entries) = protected
 
--- the descriptor of a node with this DACL: of a list the automatic inheritance is told, of a null one no flag is set
+-- the descriptor of a node with this DACL: a list has the flag of automatic inheritance, a null one no flag
 abbrev pub descriptor_of_row : Row → Option (List Ace) → DescriptorValue
 descriptor_of_row row None = record {
   owner = Some row.owner;

@@ -115,18 +115,18 @@ pub record IsTaken (g : MappingValue) (before after : PlainTree) (source target 
 abbrev pub relocated : Names → Names → Node → Node
 relocated source target n = record n { path = moved_path source target n.path }
 
--- an error told of a run that goes elsewhere: some path would have more than 64 names, or memory was refused
+-- an error of a run that goes elsewhere: some path would have more than 64 names, or out of memory
 abbrev pub IsDepthError : Names → Names → List Node → TreeError → Type 0
 IsDepthError source target run (Refused refusal) = (refusal ≡ TooDeep) × (k : ℕ) × (k < length run)
     × ((b : Node) → 64 < length (moved_path source target (path_of_node (slice_index_or run k b))))
 IsDepthError source target run Memory = Unit {0}
 
--- an error told of a tree that an edit would make: some node's DACL takes too many bytes, or memory was refused
+-- an error of a tree that an edit would make: some node's DACL takes too many bytes, or out of memory
 abbrev pub IsLargeError : MappingValue → PlainTree → TreeError → Type 0
 IsLargeError g after (Refused refusal) = (refusal ≡ AclTooLarge) × (has_large_dacl g after ≡ true)
 IsLargeError g after Memory = Unit {0}
 
--- an error told of an edit that no test without memory refuses: the first refusal that fits, or memory was refused
+-- an error of an edit that no test without memory refuses: the first refusal that fits, or out of memory
 abbrev pub IsLateError : MappingValue → PlainTree → Edit → TreeError → Type 0
 IsLateError g t edit (Refused refusal) = (count : ℕ) → late_refusal g t count edit ≡ Some refusal
 IsLateError g t edit Memory = Unit {0}

@@ -6,7 +6,7 @@ use Rattle.sd_tree.specs.declared.refusal.TreeError.{TreeError}
 use Rattle.sd_tree.specs.declared.refusal.TreeError.TheVariants.{Refused, Memory}
 use Rattle.sd_tree.specs.declared.refusal.EditRefusal.TheVariants.{AclTooLarge}
 
--- an error told of a DACL: it takes too many bytes, or memory was refused
+-- an error of a DACL: it takes too many bytes, or out of memory
 abbrev pub IsSizeError : TreeError → Option (List Ace) → Type 0
 IsSizeError (Refused refusal) dacl = (refusal ≡ AclTooLarge) × (65535 < dacl_size dacl)
 IsSizeError Memory dacl = Unit {0}
