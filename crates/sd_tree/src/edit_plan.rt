@@ -36,9 +36,9 @@ impl TreeView<'_> {
             Ok(_) => unreachable!(),
             Err(at) => {
                 let inherited = self.inherited_at(&path.as_path_ref(), at, &row)?;
-                let path = Shared::new(self.alloc, path.copy(self.alloc)?)?;
+                let path = path.copy(self.alloc)?;
                 let row = Shared::new(self.alloc, row)?;
-                let node = Node::new(path, row, inherited)?;
+                let node = Node::new(self.alloc, path, row, inherited)?;
                 Ok(Plan::Insert { at, node })
             }
         }
@@ -57,9 +57,7 @@ impl TreeView<'_> {
         ensures refused { IfErr result (IsLargeError self.now.mapping.now (insert (tree_in self.now) path.now row)) }
     {
         let inherited = self.inherited_at(&path.as_path_ref(), at, row.get())?;
-        let old = self.node(at);
-        let path = old.path.share()?;
-        Node::new(path, row, inherited)
+        Node::new(self.alloc, path.copy(self.alloc)?, row, inherited)
     }
 
     /// The plan for a node that gets another row, where what it hands on changes with it.
@@ -183,7 +181,7 @@ impl TreeView<'_> {
         match kept_dacl(self.alloc, old)? {
             Some(dacl) => self.change_plan(path, RowChange::Dacl(dacl)),
             None => {
-                let row = old.row.share()?;
+                let row = old.shared_row().share()?;
                 self.one_node_plan(path, at, row)
             }
         }

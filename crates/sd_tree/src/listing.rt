@@ -53,7 +53,7 @@ impl Tree {
         let node = node_in(nodes, index);
         let row = node.row();
         Some(NodeRef {
-            path: node.path.get(),
+            path: node.stored_path(),
             kind: row.kind,
             owner: row.owner,
             group: row.group,

@@ -15,7 +15,6 @@ use crate::node::Node;
 use crate::nodes::locate;
 use crate::plan::Plan;
 use crate::refusal::{EditRefusal, TreeError};
-use crate::shared::Shared;
 use crate::tree_view::TreeView;
 use sd_path::{Path, PathRef};
 use std::alloc::Global;
@@ -66,8 +65,8 @@ fn relocated(
         if target.depth().saturating_add(below) > MAX_DEPTH {
             return Err(TreeError::Refused(EditRefusal::TooDeep));
         }
-        let path = Shared::new(alloc, node.path.get().moved(alloc, source, target)?)?;
-        let next = node.at(path)?;
+        let path = node.stored_path().moved(alloc, source, target)?;
+        let next = node.at(alloc, path)?;
         run.push(next)?;
     }
     Ok(run)

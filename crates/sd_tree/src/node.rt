@@ -123,13 +123,19 @@ impl Row {
     }
 }
 
+/// What stays of a node while what it inherits changes. A node that goes elsewhere shares its row alone.
+#[derive(Debug, Drop)]
+struct Placed {
+    path: Path,
+    row: Shared<Row>,
+}
+
 /// A node where it stands. Its parts are shared, what it inherits mostly by its siblings, so a copy costs little.
 /// Contracts see its path, its row and its whole DACL ([MS-DTYP] 2.5.3.4): the row's own entries and, after them, those
 /// that it inherits, or None for a null one.
 #[derive(Debug, Drop)]
 pub(crate) struct Node {
-    pub path: Shared<Path>,
-    pub row: Shared<Row>,
+    placed: Shared<Placed>,
     inherited: Shared<Entries>,
 }
 
@@ -140,15 +146,17 @@ impl Model for Node {
 
     ghost Value = { NodeValue };
 
-    ghost view = { λ n. record { path = n.path; row = n.row; whole = whole_with n.row n.inherited } };
+    ghost view = { λ n. record
+        { path = n.placed.path; row = n.placed.row; whole = whole_with n.placed.row n.inherited } };
 
-    ghost invariant = { λ n. dacl_size (whole_with n.row n.inherited) ≤ 65535 };
+    ghost invariant = { λ n. dacl_size (whole_with n.placed.row n.inherited) ≤ 65535 };
 }
 
 impl Node {
     /// The node of these parts; `AclTooLarge` where its whole DACL would take more than 65,535 bytes ([MS-DTYP] 2.4.5).
     pub(crate) fn new(
-        path: Shared<Path>,
+        alloc: Global,
+        path: Path,
         row: Shared<Row>,
         inherited: Shared<Entries>,
     ) -> Result<Node, TreeError>
@@ -157,31 +165,34 @@ impl Node {
         ensures fits { IfOk result (λ node. dacl_size node.whole ≤ 65535) }
         ensures refused { IfErr result (λ e. IsSizeError e (whole_with row inherited)) }
     {
-        if let NodeDacl::List { entries, .. } = &row.get().dacl {
+        Node::from_parts(Shared::new(alloc, Placed { path, row })?, inherited)
+    }
+
+    /// The same of parts of which some are shared.
+    fn from_parts(placed: Shared<Placed>, inherited: Shared<Entries>) -> Result<Node, TreeError>
+        ensures node { IfOk result (λ node. node
+            ≡ record { path = placed.path; row = placed.row; whole = whole_with placed.row inherited }) }
+        ensures fits { IfOk result (λ node. dacl_size node.whole ≤ 65535) }
+        ensures refused { IfErr result (λ e. IsSizeError e (whole_with placed.row inherited)) }
+    {
+        if let NodeDacl::List { entries, .. } = &placed.get().row.get().dacl {
             // Both sizes count a header.
             let size = entries.size().saturating_add(inherited.get().size());
             if size > MAX_ACL_BYTES + ACL_HEADER_BYTES {
                 return Err(TreeError::Refused(EditRefusal::AclTooLarge));
             }
         }
-        Ok(Node {
-            path,
-            row,
-            inherited,
-        })
+        Ok(Node { placed, inherited })
     }
 
     /// The same node at another path.
-    pub(crate) fn at(&self, path: Shared<Path>) -> Result<Node, AllocError>
+    pub(crate) fn at(&self, alloc: Global, path: Path) -> Result<Node, AllocError>
         ensures { IfOk result (λ node. node ≡ record self.now { path = path }) }
     {
-        let row = self.row.share()?;
+        let row = self.placed.get().row.share()?;
+        let placed = Shared::new(alloc, Placed { path, row })?;
         let inherited = self.inherited.share()?;
-        Ok(Node {
-            path,
-            row,
-            inherited,
-        })
+        Ok(Node { placed, inherited })
     }
 
     /// The same node, but for what it inherits; `AclTooLarge` as above.
@@ -190,21 +201,35 @@ impl Node {
         ensures fits { IfOk result (λ node. dacl_size node.whole ≤ 65535) }
         ensures refused { IfErr result (λ e. IsSizeError e (whole_with self.now.row inherited)) }
     {
-        Node::new(self.path.share()?, self.row.share()?, inherited)
+        Node::from_parts(self.placed.share()?, inherited)
     }
 
     /// Its path.
     pub(crate) fn path(&self) -> PathRef<'_>
         ensures { result ≡ self.now.path }
     {
-        self.path.get().as_path_ref()
+        self.stored_path().as_path_ref()
+    }
+
+    /// The same, as it is stored.
+    pub(crate) fn stored_path(&self) -> &Path
+        ensures { result.now ≡ self.now.path }
+    {
+        &self.placed.get().path
     }
 
     /// Its row.
     pub(crate) fn row(&self) -> &Row
         ensures { result.now ≡ self.now.row }
     {
-        self.row.get()
+        self.shared_row().get()
+    }
+
+    /// The same, to be shared.
+    pub(crate) fn shared_row(&self) -> &Shared<Row>
+        ensures { result.now ≡ self.now.row }
+    {
+        &self.placed.get().row
     }
 
     /// What it inherits.
@@ -220,7 +245,7 @@ impl Node {
             (λ parts. self.now.whole ≡ Some (parts.0.now ++ parts.1.now)) }
         ensures fits { dacl_size self.now.whole ≤ 65535 }
     {
-        match &self.row.get().dacl {
+        match &self.placed.get().row.get().dacl {
             NodeDacl::Null => None,
             NodeDacl::List { entries, .. } => {
                 Some((entries.as_slice(), self.inherited.get().as_slice()))
@@ -246,6 +271,8 @@ impl Node {
 
 impl TryCopy for Node {
     fn try_copy(&self) -> Result<Node, AllocError> {
-        self.at(self.path.share()?)
+        let placed = self.placed.share()?;
+        let inherited = self.inherited.share()?;
+        Ok(Node { placed, inherited })
     }
 }

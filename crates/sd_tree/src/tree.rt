@@ -257,8 +257,7 @@ fn root_node(alloc: Global, mapping: &GenericMapping, root: &RootSpec) -> Result
         group: root.group,
         dacl: root.dacl.copy(alloc)?,
     };
-    let path = Shared::new(alloc, Path::root(alloc))?;
     let row = Shared::new(alloc, row)?;
     let inherited = nothing(alloc)?;
-    Node::new(path, row, inherited)
+    Node::new(alloc, Path::root(alloc), row, inherited)
 }

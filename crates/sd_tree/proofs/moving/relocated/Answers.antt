@@ -21,7 +21,7 @@ loop-node-preserved c =
     let f = relocated c.args.source.now c.args.target.now in
     let new = c.in_ok-next.next in
     let inside : is_within c.args.source.now n.path ≡ true = ap (λ (m : Node). is_within c.args.source.now m.path) c.node-item.is ∙ c.requires i n c.loop-node-test.true in
-    let path-is : c.in_ok-path.path ≡ moved_path c.args.source.now c.args.target.now n.path = c.in_ok-path.ensures ∙ c.in_ok-moved.ensures ∙ ap (moved_path c.args.source.now c.args.target.now) (c.get.ensures ∙ ap path_of_node c.node.view_is) in
+    let path-is : c.in_ok-path.path ≡ moved_path c.args.source.now c.args.target.now n.path = c.in_ok-path.ensures ∙ ap (moved_path c.args.source.now c.args.target.now) c.stored_path.ensures in
     let new-is : new ≡ f (get_or c.args.nodes.now i n) = c.in_ok-next.ensures ∙ ap (λ path. record n { path = path }) path-is ∙ ap f c.node-item.is in
     let size = moved_length c.args.source.now c.args.target.now n.path inside in
     let short : length new.path ≤ 64 =

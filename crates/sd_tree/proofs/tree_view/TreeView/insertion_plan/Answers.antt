@@ -32,5 +32,5 @@ returns-clause-plan c =
     let whole = rw c.as_path_ref-in-Err.ensures at c.in_ok-inherited-in-Err.ensures in
     let is = c.in_ok-node-in-Err.ensures.node in
     insertion _ c.args.self.now.nodes.now c.requires.standing c.args.path.now c.args.row c.requires.addable c.in-Err.at a.0 a.1 a.2 c.in_ok-node-in-Err.node
-    (ap path_of_node is ∙ c.in_ok-path-in-Err.ensures ∙ c.in_ok-copy-in-Err.ensures) (ap (λ (m : Node). m.row) is ∙ c.in_ok-row-in-Err.ensures)
+    (ap path_of_node is ∙ c.in_ok-path-in-Err.ensures) (ap (λ (m : Node). m.row) is ∙ c.in_ok-row-in-Err.ensures)
     (ap (λ (m : Node). m.whole) is ∙ ap (λ (r : Row). whole_with r c.in_ok-inherited-in-Err.inherited) c.in_ok-row-in-Err.ensures ∙ whole) c.in_ok-node-in-Err.ensures.fits

@@ -13,10 +13,7 @@ inherited_at-requires-clause-parent c below =
     rw c.as_path_ref.ensures (parent_there (tree_of c.args.self.now.nodes.now) c.requires.standing.closed c.args.path.now there.0 there.1)
 
 pub returns-clause-path : goal.returns-clause-path
-returns-clause-path c =
-    let old = c.node-old.result.now in
-    let path = c.in_ok-path.ensures ∙ ap path_of_node c.old.view_is ∙ ap path_of_node (c.node-old.ensures old) ∙ c.requires.stands old in
-    IfOk-weaker c.new.result _ _ (λ n is. ap path_of_node is ∙ path) c.new.ensures.node
+returns-clause-path c = IfOk-weaker c.new.result _ _ (λ n is. ap path_of_node is ∙ c.in_ok-copy.ensures) c.new.ensures.node
 
 pub returns-clause-row : goal.returns-clause-row
 returns-clause-row c = IfOk-weaker c.new.result _ _ (λ n is. ap (λ (m : Node). m.row) is) c.new.ensures.node
