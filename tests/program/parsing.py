@@ -98,6 +98,8 @@ print -- D:
 --caret --json each print
 --caret rights FR
 --caret frombin 00
+--names frombin 00
+--names --mapping key frombin 00
 print --caret
 print -- -h
 print -- --
@@ -288,7 +290,6 @@ REJECTED = r"""
 3 MisplacedOption | --domain x --names tobin D:
 3 MisplacedOption | --domain --loose --base64 print D:
 1 MisplacedOption | --names tobin D:
-1 MisplacedOption | --names frombin 00
 1 MisplacedOption | --names each tobin
 1 MisplacedOption | --caret script
 1 MisplacedOption | --caret serve

@@ -11,7 +11,7 @@ use Rattle.sd_check.specs.declared.verdict.Verdict.{Verdict}
 use Rattle.sd_check.specs.declared.verdict.Verdict.TheVariants.{Granted, Denied, Reserved, EmptyRequest}
 use Rattle.sd_text.specs.Grammar.{Grammar, Spells, HasFault}
 use Rattle.sd_text.specs.Sid.{sid_text_in}
-use Rattle.sd_text.specs.Canon.{canon, canon_in}
+use Rattle.sd_text.specs.Canon.{canon_in}
 use Rattle.sd_text.specs.declared.fault.TextError.TheVariants.{Fault}
 use Rattle.sd_text.specs.declared.fault.TextFault.{TextFault}
 use Rattle.sd_wire.specs.Reading.{descriptor_read}
@@ -48,6 +48,7 @@ use Rattle.sd_commands.specs.declared.answer.Outcome.{Outcome}
 use Rattle.sd_commands.specs.declared.answer.Outcome.TheVariants.{Done, Refused}
 use Rattle.sd_commands.specs.declared.descriptor.Given.{Given}
 use Rattle.sd_commands.specs.declared.descriptor.Given.TheVariants as givens
+use Rattle.sd_answer.specs.declared.answer.Spelling.{Spelling}
 use Rattle.sd_commands.specs.declared.settings.Settings.{Settings}
 use Rattle.sd_commands.specs.declared.verdict.Form.{Form}
 use Rattle.sd_commands.specs.declared.verdict.Form.TheVariants.{Short, Explained}
@@ -219,15 +220,16 @@ AnswersVerdict settings form written arguments answer =
 -- ---- other forms
 
 -- the canonical text, or where masks are spelled by names, with those of their kind of object alone
-abbrev pub printed_line : Settings → DescriptorValue → List ℕ
-printed_line settings d = line (canon_in (right_names_of settings.spelling) d)
+abbrev pub printed_line : Spelling → DescriptorValue → List ℕ
+printed_line spelling d = line (canon_in (right_names_of spelling) d)
 
 abbrev pub AnswersPrint : Settings → List ℕ → AnswerValue → Type 0
-AnswersPrint settings written answer = AnswersOfText settings written (λ d. IsDone (printed_line settings d)) answer
+AnswersPrint settings written answer = AnswersOfText settings written
+    (λ d. IsDone (printed_line settings.spelling d)) answer
 
 -- the same with the DACL in canonical order; standard error says what moved
 abbrev pub IsSorted : Settings → DescriptorValue → AnswerValue → Type 0
-IsSorted settings d answer = (answer.printed ≡ printed_line settings (sorted_descriptor d))
+IsSorted settings d answer = (answer.printed ≡ printed_line settings.spelling (sorted_descriptor d))
     × (answer.told ≡ move_notes settings.spelling d.dacl) × (answer.outcome ≡ Done)
 
 abbrev pub AnswersSort : Settings → List ℕ → AnswerValue → Type 0
@@ -238,14 +240,14 @@ abbrev pub AnswersToBinary : Settings → List ℕ → AnswerValue → Type 0
 AnswersToBinary settings written answer = AnswersOfText settings written
     (λ d. IsDone (line (encode_lower (wire_of d)))) answer
 
--- the canonical text of a descriptor, where it doesn't lack the list that is required
-abbrev pub AnswersFit : Option (List ℕ) → DescriptorValue → AnswerValue → Type 0
-AnswersFit None d answer = IsDone (line (canon d)) answer
-AnswersFit (Some missing) d answer = IsMissingDacl (codes "BYTES") missing answer
+-- the printed text of a descriptor, where it doesn't lack the list that is required
+abbrev pub AnswersFit : Settings → Option (List ℕ) → DescriptorValue → AnswerValue → Type 0
+AnswersFit settings None d answer = IsDone (printed_line settings.spelling d) answer
+AnswersFit settings (Some missing) d answer = IsMissingDacl (codes "BYTES") missing answer
 
 -- the same of what bytes hold, or their fault
 abbrev pub AnswersRead : Settings → List ℕ → Result DescriptorValue WireFault → AnswerValue → Type 0
-AnswersRead settings bytes (Ok d) answer = AnswersFit (missing_dacl settings.require_dacl d.dacl) d answer
+AnswersRead settings bytes (Ok d) answer = AnswersFit settings (missing_dacl settings.require_dacl d.dacl) d answer
 AnswersRead settings bytes (Err fault) answer = IsFault (wire_fault_line fault)
     (told_line (codes "BYTES") (told_wire_fault bytes fault)) answer
 

@@ -4,7 +4,7 @@ ghost use Rattle.sd_acl.specs.Descriptor.{descriptor_of};
 ghost use Rattle.sd_answer.specs.Answer.{line};
 ghost use Rattle.sd_commands.specs.Told.{told_line, told_wire_fault, wire_fault_text};
 ghost use Rattle.sd_commands.specs.Answer.{AnswersPrint, AnswersToBinary, AnswersFromBinary, AnswersBytes, AnswersFit};
-ghost use Rattle.sd_commands.specs.Answer.{AnswersHeld, IsDone, IsFault, answer_of, wire_fault_line};
+ghost use Rattle.sd_commands.specs.Answer.{AnswersHeld, IsDone, IsFault, answer_of, printed_line, wire_fault_line};
 ghost use Rattle.sd_commands.specs.MissingDacl.{missing_dacl};
 
 use crate::answer::{Answer, Outcome, fault};
@@ -15,11 +15,24 @@ use crate::missing_dacl::{missing_dacl, missing_dacl_fault};
 use crate::settings::Settings;
 use crate::told::{text_at_byte, told_line};
 use sd_acl::Descriptor;
-use sd_text::{print_sddl, print_sddl_in};
+use sd_answer::Spelling;
+use sd_text::print_sddl_in;
 use sd_wire::{WireError, WireFault, read_descriptor, write_descriptor};
 use std::alloc::{AllocError, Global};
 
-/// The canonical text of a descriptor's text, or where masks are spelled by names, with those of their kind of object.
+/// A descriptor's text: the canonical one, or where masks are spelled by names, with those of their kind of object.
+fn printed_sddl(
+    alloc: Global,
+    spelling: Spelling,
+    descriptor: &Descriptor,
+) -> Result<Answer, AllocError>
+    ensures { IfOk result (λ answer. IsDone (printed_line spelling (descriptor_of descriptor.now)) (answer_of answer)) }
+{
+    let names = spelling.right_names();
+    printed(alloc, print_sddl_in(alloc, names, descriptor)?)
+}
+
+/// The printed text of a descriptor's text.
 pub(crate) fn answer_print(
     alloc: Global,
     settings: Settings,
@@ -31,8 +44,7 @@ pub(crate) fn answer_print(
         Given::Descriptor(read) => read,
         Given::Refused(answer) => return Ok(answer),
     };
-    let names = settings.spelling.right_names();
-    let answer = printed(alloc, print_sddl_in(alloc, names, &read.descriptor)?)?;
+    let answer = printed_sddl(alloc, settings.spelling, &read.descriptor)?;
     Ok(noting(alloc, "SDDL", read.left_out, answer)?)
 }
 
@@ -53,7 +65,7 @@ pub(crate) fn answer_to_binary(
     Ok(noting(alloc, "SDDL", read.left_out, answer)?)
 }
 
-/// The canonical text of the self-relative form, whose bytes the text spells.
+/// The printed text of the self-relative form, whose bytes the text spells.
 pub(crate) fn answer_from_binary(
     alloc: Global,
     settings: Settings,
@@ -84,7 +96,7 @@ fn answer_bytes(alloc: Global, settings: Settings, mut bytes: Vec<u8>) -> Result
     Ok(noting(alloc, "BYTES", left_out, answer)?)
 }
 
-/// The canonical text of what the bytes hold.
+/// The printed text of what the bytes hold.
 fn answer_held(alloc: Global, settings: Settings, bytes: &[u8]) -> Result<Answer, AllocError>
     ensures { IfOk result (λ answer. AnswersHeld settings bytes.now (answer_of answer)) }
 {
@@ -95,18 +107,19 @@ fn answer_held(alloc: Global, settings: Settings, bytes: &[u8]) -> Result<Answer
     }
 }
 
-/// The canonical text of a descriptor, if it has the list that is required.
+/// The printed text of a descriptor, if it has the list that is required.
 fn answer_fit(
     alloc: Global,
     settings: Settings,
     descriptor: &Descriptor,
 ) -> Result<Answer, AllocError>
     ensures { IfOk result
-        (λ answer. AnswersFit (missing_dacl settings.require_dacl descriptor.now.dacl) (descriptor_of descriptor.now)
-        (answer_of answer)) }
+        (λ answer. AnswersFit settings (missing_dacl settings.require_dacl descriptor.now.dacl)
+        (descriptor_of descriptor.now) (answer_of answer)) }
 {
+    let spelling = settings.spelling;
     match missing_dacl(settings, &descriptor.dacl) {
-        None => printed(alloc, print_sddl(alloc, descriptor)?),
+        None => printed_sddl(alloc, spelling, descriptor),
         Some(missing) => missing_dacl_fault(alloc, "BYTES", missing),
     }
 }

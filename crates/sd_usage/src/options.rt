@@ -41,10 +41,12 @@ pub(crate) const LINT_OPTIONS: &[OptionName] = &[
 
 pub(crate) const BYTES_OPTIONS: &[OptionName] = &[
     OptionName::Stdin,
+    OptionName::Names,
     OptionName::WithoutSacl,
     OptionName::RequireDacl,
     OptionName::Base64,
     OptionName::Loose,
+    OptionName::Mapping,
     OptionName::Json,
     OptionName::Caret,
 ];
