@@ -1,24 +1,22 @@
--- The run of nodes that stand at or below a path.
-use Rattle.std.proofs.Common.{◌≡◌, ℕ, ◌+◌, ◌<◌, true, false, List, Option, length, get_or, inl, inr, sym, ap, ◌∙◌, arith}
+-- The run of nodes that stand at or below a path, and its end by a binary search.
+use Rattle.std.proofs.Common.{◌≡◌, ℕ, ◌<◌, ◌≤◌, Bool, true, false, cond, List, length, get_or, inl, inr, refl, sym, ap, ◌∙◌, arith}
 use Rattle.std.proofs.lemmas.List.{get_or_default}
 use Rattle.std.specs.List.{HoldsAt, AllWithin}
-use Rattle.std.specs.declared.cmp.Ordering.TheVariants.{Less}
+use Rattle.std.specs.List.Sorted.{IsNonDecreasingBy, IsPartitionPoint}
+use Rattle.std.specs.Ordering.{ordering_index}
+use Rattle.std.specs.declared.cmp.Ordering.{Ordering}
+use Rattle.std.specs.declared.cmp.Ordering.TheVariants.{Less, Equal, Greater}
 use Rattle.std.proofs.lemmas.Bool.{cases_Bool, cases_lt, false≢true}
-use Rattle.sd_acl.specs.declared.ace.Ace.{Ace}
 use Rattle.sd_path.specs.Names.{Names, names_cmp, is_within}
-use Rattle.sd_tree.specs.Stored.{path_of_node, IsInOrder}
-use Rattle.sd_path.proofs.Paths.{within_itself, within_between}
+use Rattle.sd_tree.specs.Stored.{path_of_node, end_cmp, IsInOrder}
+use Rattle.sd_path.proofs.Paths.{names_cmp_total, within_itself, within_between}
+use Rattle.sd_tree.proofs.Kept.{a_node}
 use Rattle.sd_tree.proofs.Places.{paths_rise}
+use Rattle.sd_tree.proofs.Sorted.{greater_from_less}
 use Rattle.sd_tree.specs.declared.node.Node.{Node}
 
--- the path itself begins the run
-pub run_begins : (bs : List Node) (q : Names) (at : ℕ) → HoldsAt (λ c. path_of_node c ≡ q) bs at → AllWithin (λ b. is_within q (path_of_node b) ≡ true) bs at (at + 1)
-run_begins bs q at stands k d low high =
-    let here : k ≡ at = omega arith in
-    ap (is_within q) (ap (λ j. path_of_node (get_or bs j d)) here ∙ stands d) ∙ within_itself q
-
 -- behind a node that isn't in the run none is
-pub run_ends : (bs : List Node) → IsInOrder bs → (q : Names) (at end : ℕ) → HoldsAt (λ c. path_of_node c ≡ q) bs at → at < end → (b : Node)
+run_ends : (bs : List Node) → IsInOrder bs → (q : Names) (at end : ℕ) → HoldsAt (λ c. path_of_node c ≡ q) bs at → at < end → (b : Node)
     → is_within q (path_of_node (get_or bs end b)) ≡ false → AllWithin (λ c. is_within q (path_of_node c) ≡ false) bs end (length bs)
 run_ends bs order q at end stands lt b out k d low high = elim (cases_Bool (is_within q (path_of_node (get_or bs k d)))) [
   | inl inside ↦ elim (cases_lt end k) [
@@ -34,7 +32,77 @@ run_ends bs order q at end stands lt b out k d low high = elim (cases_Bool (is_w
   | inr outside ↦ outside
 ]
 
--- the whole DACLs of the first nodes of a run, as they stand
-pub record AreKept (bs : List Node) (at k : ℕ) (wholes : List (Option (List Ace))) : Type 0 where
-  pub count : at + length wholes ≡ k
-  pub each : (j : ℕ) (b : Node) (whole : Option (List Ace)) → j < length wholes → get_or wholes j whole ≡ (get_or bs (at + j) b).whole
+less_either : (b : Bool) (o : Ordering) → o ≡ Less → cond b Less o ≡ Less
+less_either true o h = refl
+less_either false o h = h
+
+module _ (bs : List Node) (order : IsInOrder bs) (q : Names) (at : ℕ) (in' : at < length bs) (stands : HoldsAt (λ c. path_of_node c ≡ q) bs at) where
+  at_itself : (d : Node) → is_within q (path_of_node (get_or bs at d)) ≡ true
+  at_itself d = ap (is_within q) (stands d) ∙ within_itself q
+
+  inside_less : (k : ℕ) (d : Node) → is_within q (path_of_node (get_or bs k d)) ≡ true → end_cmp q (path_of_node (get_or bs k d)) ≡ Less
+  inside_less k d inside = ap (λ b. cond b Less (names_cmp (path_of_node (get_or bs k d)) q)) inside
+
+  before_less : (k : ℕ) (d : Node) → k < at → end_cmp q (path_of_node (get_or bs k d)) ≡ Less
+  before_less k d lt =
+      let low : names_cmp (path_of_node (get_or bs k d)) q ≡ Less = rw (stands d) at (paths_rise bs order k at d lt in') in
+      less_either (is_within q (path_of_node (get_or bs k d))) _ low
+
+  outside_behind : (k : ℕ) (d : Node) → at ≤ k → is_within q (path_of_node (get_or bs k d)) ≡ false → at < k
+  outside_behind k d le out = elim (cases_lt at k) [
+    | inl lt ↦ lt
+    | inr ge ↦
+        let here : k ≡ at = omega arith in
+        absurd (false≢true (sym out ∙ ap (λ j. is_within q (path_of_node (get_or bs j d))) here ∙ at_itself d))
+  ]
+
+  behind_greater : (k : ℕ) (d : Node) → at ≤ k → k < length bs → is_within q (path_of_node (get_or bs k d)) ≡ false → end_cmp q (path_of_node (get_or bs k d)) ≡ Greater
+  behind_greater k d le lt out =
+      let high : names_cmp q (path_of_node (get_or bs k d)) ≡ Less = rw (stands d) at (paths_rise bs order at k d (outside_behind k d le out) lt) in
+      ap (λ b. cond b Less (names_cmp (path_of_node (get_or bs k d)) q)) out ∙ greater_from_less names_cmp_total q (path_of_node (get_or bs k d)) high
+
+  -- so a binary search finds its way
+  pub end_rises : IsNonDecreasingBy (λ b. ordering_index (end_cmp q (path_of_node b))) bs
+  end_rises i j d le lt = elim (cases_Bool (is_within q (path_of_node (get_or bs i d)))) [
+    | inl inside ↦ omega (arith, ap ordering_index (inside_less i d inside))
+    | inr out ↦ elim (cases_lt i at) [
+      | inl low ↦ omega (arith, ap ordering_index (before_less i d low))
+      | inr ge ↦
+          let more = run_ends bs order q at i stands (outside_behind i d ge out) d out j d le lt in
+          omega (arith, ap ordering_index (behind_greater i d ge (omega arith) out), ap ordering_index (behind_greater j d (omega arith) lt more))
+    ]
+  ]
+
+  -- and no node stands at the end
+  pub never_at_end : (k : ℕ) → k < length bs → HoldsAt (λ b. end_cmp q (path_of_node b) ≡ Equal) bs k → ⊥
+  never_at_end k lt tied =
+      let d = a_node bs at in' in
+      elim (cases_Bool (is_within q (path_of_node (get_or bs k d)))) [
+        | inl inside ↦ let e : Less ≡ Equal = sym (inside_less k d inside) ∙ tied d in absurd cc
+        | inr out ↦ elim (cases_lt k at) [
+          | inl low ↦ let e : Less ≡ Equal = sym (before_less k d low) ∙ tied d in absurd cc
+          | inr ge ↦ let e : Greater ≡ Equal = sym (behind_greater k d ge lt out) ∙ tied d in absurd cc
+        ]
+      ]
+
+  module _ (end : ℕ) (bound : end ≤ length bs) (parted : IsPartitionPoint (λ b. end_cmp q (path_of_node b) ≡ Less) (λ b. end_cmp q (path_of_node b) ≡ Greater) bs end) where
+    pub end_behind : at < end
+    end_behind = elim (cases_lt at end) [
+      | inl lt ↦ lt
+      | inr ge ↦
+          let d = a_node bs at in' in
+          let e : Less ≡ Greater = sym (inside_less at d (at_itself d)) ∙ parted.1 at d ge in' in
+          absurd cc
+    ]
+
+    pub end_inside : AllWithin (λ b. is_within q (path_of_node b) ≡ true) bs at end
+    end_inside k d low high = elim (cases_Bool (is_within q (path_of_node (get_or bs k d)))) [
+      | inl inside ↦ inside
+      | inr out ↦ let e : Less ≡ Greater = sym (parted.0 k d (omega arith) high) ∙ behind_greater k d low (omega arith) out in absurd cc
+    ]
+
+    pub end_beyond : AllWithin (λ b. is_within q (path_of_node b) ≡ false) bs end (length bs)
+    end_beyond k d low high = elim (cases_Bool (is_within q (path_of_node (get_or bs k d)))) [
+      | inl inside ↦ let e : Less ≡ Greater = sym (inside_less k d inside) ∙ parted.1 k d low high in absurd cc
+      | inr out ↦ out
+    ]

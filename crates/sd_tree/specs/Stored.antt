@@ -1,8 +1,10 @@
 -- How a tree is kept: its nodes in the order of their paths, each with its whole DACL. No public contract says so.
-use Rattle.std.specs.Prelude.{◌≡◌, ◌≤◌, List, ◌++◌, map, All, T, Option, Some, None}
+use Rattle.std.specs.Prelude.{◌≡◌, ◌≤◌, if◌then◌else◌, List, ◌++◌, map, All, T, Option, Some, None}
 use Rattle.std.specs.FinMap.{is_sorted, from_sorted}
+use Rattle.std.specs.declared.cmp.Ordering.{Ordering}
+use Rattle.std.specs.declared.cmp.Ordering.TheVariants.{Less}
 use Rattle.sd_sid.specs.Mapping.{MappingValue}
-use Rattle.sd_path.specs.Names.{Names, names_cmp}
+use Rattle.sd_path.specs.Names.{Names, names_cmp, is_within}
 use Rattle.sd_tree.specs.Plain.{PlainTree, row_at, dacl_at}
 use Rattle.sd_tree.specs.Refusals.{dacl_size}
 use Rattle.sd_tree.specs.Closed.{IsClosed}
@@ -22,6 +24,10 @@ entry_of n = (n.path, n.row)
 -- the paths rise
 abbrev pub IsInOrder : List Node → Type 0
 IsInOrder nodes = T (is_sorted names_cmp (map entry_of nodes))
+
+-- where a path stands to the end of all that stand at or below another
+abbrev pub end_cmp : Names → Names → Ordering
+end_cmp top path = if is_within top path then Less else names_cmp path top
 
 -- the tree that the nodes are
 unfoldable pub tree_of : List Node → PlainTree

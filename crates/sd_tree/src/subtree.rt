@@ -19,8 +19,9 @@ use crate::node::Node;
 use crate::nodes::Walk;
 use crate::refusal::TreeError;
 use crate::tree_view::TreeView;
-use sd_blocks::TryCopy;
+use sd_blocks::{Sought, TryCopy};
 use sd_path::PathRef;
+use std::cmp::Ordering;
 
 impl TreeView<'_> {
     /// The node at a place and those below it, in their order, once the first of them is this one, wherever that is to
@@ -115,15 +116,29 @@ impl TreeView<'_> {
         ensures beyond { AllWithin (λ b. is_within path.now (path_of_node b) ≡ false) self.now.nodes.now result
             (length self.now.nodes.now) }
     {
-        if path.is_root() {
-            return self.nodes.len();
+        match self.nodes.search(&End { path }) {
+            Ok(_) => unreachable!(),
+            Err(end) => end,
         }
-        let end = self.nodes.len();
-        for k in at + 1..end {
-            if !self.node(k).path().is_within(path) {
-                return k;
-            }
+    }
+}
+
+/// The end of all that stand at or below a path, sought among nodes.
+#[derive(Drop)]
+struct End<'a> {
+    path: &'a PathRef<'a>,
+}
+
+impl Sought<Node> for End<'_> {
+    ghost use Rattle.sd_tree.specs.Stored.{end_cmp};
+
+    ghost ord = { λ e n. end_cmp e.path.now n.path };
+
+    fn compare(&self, node: &Node) -> Ordering {
+        let path = node.path();
+        if path.is_within(self.path) {
+            return Ordering::Less;
         }
-        end
+        path.compare(self.path)
     }
 }

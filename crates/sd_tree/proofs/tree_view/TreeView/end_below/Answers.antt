@@ -1,22 +1,20 @@
-use Rattle.std.proofs.Common.{◌≡◌, true, sym, ap, ◌∙◌, arith, refl}
-use Rattle.sd_path.specs.Names.{Names, is_root, is_within}
-use Rattle.sd_path.proofs.Paths.{root_is_empty}
-use Rattle.sd_tree.specs.declared.node.Node.{Node}
-use Rattle.sd_tree.proofs.Runs.{run_begins, run_ends}
+use Rattle.sd_tree.proofs.Runs.{end_rises, never_at_end, end_behind, end_inside, end_beyond}
 use Rattle.sd_tree.proofs.tree_view.TreeView.end_below.Goals as goal
 
-pub loop-k-init : goal.loop-k-init
-loop-k-init c = run_begins _ _ _ c.requires.stands
+pub unreachable-requires : goal.unreachable-requires
+unreachable-requires c = never_at_end c.args.self.now.nodes.now c.requires.standing.kept.order c.args.path.now c.args.at c.requires.within c.requires.stands c.in-Ok.field-0 c.in-Ok.ensures.bound c.in-Ok.ensures.position
 
-pub returns-then-not-is_within-clause-beyond : goal.returns-then-not-is_within-clause-beyond
-returns-then-not-is_within-clause-beyond c =
-    let path-is = c.path.ensures ∙ ap (λ (n : Node). n.path) (c.node.ensures c.node.result.now) in
-    run_ends _ c.requires.standing.kept.order _ _ _ c.requires.stands (omega arith) c.node.result.now
-    (sym (c.if-not-is_within.ensures ∙ ap (is_within c.args.path.now) path-is))
+pub returns-clause-place : goal.returns-clause-place
+returns-clause-place c =
+    let rises = end_rises c.args.self.now.nodes.now c.requires.standing.kept.order c.args.path.now c.args.at c.requires.within c.requires.stands in
+    (end_behind c.args.self.now.nodes.now c.requires.standing.kept.order c.args.path.now c.args.at c.requires.within c.requires.stands c.in-Err.end c.in-Err.ensures.bound (c.in-Err.ensures.position rises), c.in-Err.ensures.bound)
 
--- all stands below the root
-within_root : (top path : Names) → is_root top ≡ true → is_within top path ≡ true
-within_root top path h = rw (root_is_empty top h) refl
+pub returns-clause-below : goal.returns-clause-below
+returns-clause-below c =
+    let rises = end_rises c.args.self.now.nodes.now c.requires.standing.kept.order c.args.path.now c.args.at c.requires.within c.requires.stands in
+    end_inside c.args.self.now.nodes.now c.requires.standing.kept.order c.args.path.now c.args.at c.requires.within c.requires.stands c.in-Err.end c.in-Err.ensures.bound (c.in-Err.ensures.position rises)
 
-pub returns-then-is_root-clause-below : goal.returns-then-is_root-clause-below
-returns-then-is_root-clause-below c k b low high = within_root c.args.path.now _ (sym c.if-is_root.ensures)
+pub returns-clause-beyond : goal.returns-clause-beyond
+returns-clause-beyond c =
+    let rises = end_rises c.args.self.now.nodes.now c.requires.standing.kept.order c.args.path.now c.args.at c.requires.within c.requires.stands in
+    end_beyond c.args.self.now.nodes.now c.requires.standing.kept.order c.args.path.now c.args.at c.requires.within c.requires.stands c.in-Err.end c.in-Err.ensures.bound (c.in-Err.ensures.position rises)
