@@ -1,5 +1,5 @@
 -- What is told of a failure.
-use Rattle.std.proofs.Common.{◌≡◌, ℕ, Bool, true, List, [], ◌++◌, ◌+◌, ◌∙◌, length, Option, Some, Result, Ok, Err, ap, subst, inl, inr, refl, arith}
+use Rattle.std.proofs.Common.{◌≡◌, ℕ, Bool, true, List, [], ◌+◌, ◌∙◌, length, Option, Some, Result, Ok, Err, ap, subst, inl, inr, refl, arith}
 use Rattle.std.specs.Prelude.{◌||◌, ◌⊎◌, IfErr, IfSome}
 use Rattle.std.proofs.lemmas.List.{length-append}
 use Rattle.std.specs.Io.KnownBytes.{Appends, Keeps}

@@ -1,6 +1,6 @@
 -- What the program prints for a command line, and whether it did what was asked for.
 use Rattle.std.specs.Prelude.{◌≡◌, ◌⊎◌, ℕ, Bool, true, false, MatchBool, List, [], ◌++◌, Option, Some, None}
-use Rattle.std.specs.Prelude.{IfSome, MatchOption, if◌then◌else◌, Result, Ok, Err, codes, string_bytes}
+use Rattle.std.specs.Prelude.{IfSome, if◌then◌else◌, Result, Ok, Err, codes, string_bytes}
 use Rattle.std.specs.Io.KnownBytes.{Appends}
 use Rattle.std.specs.Str.{IsUtf8}
 use Rattle.sd_answer.specs.Answer.{line, fault_line}
