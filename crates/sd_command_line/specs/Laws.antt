@@ -1,9 +1,9 @@
 -- What follows from the table of commands and from the parser of a command line.
-use Rattle.std.specs.Prelude.{◌≡◌, ℕ, ◌≤◌, List, [], ◌∷◌, length, map, Bool, true, false, not, ◌&&◌, Option, Some}
-use Rattle.std.specs.Prelude.{Ok, codes, bytes_eq}
-use Rattle.std.specs.List.{list_any}
+use Rattle.std.specs.Prelude.{◌≡◌, ℕ, ◌≤◌, List, [], ◌∷◌, length, map, Bool, true, false, Option, Some, Ok}
+use Rattle.std.specs.Prelude.{codes}
 use Rattle.std.specs.Option.{option_map_or}
 use Rattle.std.specs.Borrow.{Bor}
+use Rattle.sd_answer.specs.Laws.{are_distinct}
 use Rattle.sd_usage.specs.declared.row.Command.{Command}
 use Rattle.sd_usage.specs.declared.row.OptionName.TheVariants.{Domain, Names}
 use Rattle.sd_usage.specs.declared.row.Question.TheVariants as questions
@@ -14,11 +14,6 @@ use Rattle.sd_command_line.specs.CommandLine.{reading, request_on}
 use Rattle.sd_command_line.specs.Options.{no_options, with_value}
 use Rattle.sd_command_line.specs.declared.flags.GivenFlags.{GivenFlags}
 use Rattle.sd_command_line.specs.declared.flags.Lines.{Lines}
-
--- no text is there twice
-abbrev pub are_distinct : List (List ℕ) → Bool
-are_distinct [] = true
-are_distinct (text ∷ texts) = not (list_any (bytes_eq text) texts) && are_distinct texts
 
 -- no two commands have one name, and no two options
 abbrev pub CommandsAreDistinct : Type 0
