@@ -12,11 +12,10 @@ use Rattle.sd_usage.specs.declared.row.Command.{Command}
 use Rattle.sd_usage.specs.declared.row.Flag.{Flag}
 use Rattle.sd_usage.specs.declared.row.Question.{Question}
 use Rattle.sd_usage.specs.declared.row.Question.TheVariants as questions
-use Rattle.sd_command_line.specs.CommandLine.{AskedValue, CommandLineValue, InvocationValue, RequestValue, Ask, AskInput, Audit, Each, Help, Script, Serve, Version, after_options, arguments_in, asked_by, asked_with, command_in, each_in, input_request, line_request, miscounted, no_command, reading, request_after, request_by, request_on, with_options, workers_of}
+use Rattle.sd_command_line.specs.CommandLine.{AskedValue, CallValue, CommandLineValue, InvocationValue, RequestValue, Ask, AskInput, Audit, Each, Help, Script, Serve, Version, after_options, asked_by, asks, call_in, call_with, command_in, miscounted, no_command, reading, request_after, request_by, request_on, text_request, with_options, workers_of}
 use Rattle.sd_command_line.specs.Laws.{is_shown, shows, EachAsksTheCommand, InputAsksTheCommand, HelpStandsAlone, DashesKeepTexts, DashesKeepTextsOfWhy, OptionsKeepTexts}
 use Rattle.sd_command_line.specs.Flags.{flags_in, is_given, lines_by, no_flags, with_flag}
 use Rattle.sd_command_line.specs.Mistake.{map_read, then_read, word_at}
-use Rattle.sd_command_line.specs.declared.flags.GivenFlags.{GivenFlags}
 use Rattle.sd_command_line.specs.declared.flags.Lines.{Lines}
 use Rattle.sd_command_line.specs.declared.mistake.Mistake.{Mistake}
 use Rattle.sd_command_line.specs.Options.{OptionsValue, is_from_input, misplaced_in, no_options, options_in, with_value}
@@ -28,9 +27,6 @@ some_shown (Ok asked) = is_shown asked.invocation
 abbrev line_shown : Result CommandLineValue Mistake → Bool
 line_shown read = shows (result_ok read)
 
-abbrev asks : ℕ → InvocationValue → AskedValue
-asks named invocation = record { named = named; invocation = invocation }
-
 -- where a test decides whether something is asked for, it is no help if that isn't
 tested_runs : (test : Bool) (asked : Result AskedValue Mistake) (mistake : Mistake) → (some_shown asked ≡ true → ⊥)
     → some_shown (if test then asked else Err mistake) ≡ true → ⊥
@@ -38,59 +34,51 @@ tested_runs true asked mistake none h = none h
 tested_runs false asked mistake none h = cc
 
 -- what is asked of a text is neither help nor the version
-request_runs_so : (Invoked : RequestValue → InvocationValue) (command : Command) (named : ℕ) (request : Result RequestValue Mistake)
+text_runs : (Invoked : RequestValue → InvocationValue) (call : CallValue) (request : Result RequestValue Mistake)
     → ((given : RequestValue) → is_shown (Invoked given) ≡ true → ⊥)
-    → some_shown (map_read (λ (given : RequestValue). asks named (Invoked given)) request) ≡ true → ⊥
-request_runs_so Invoked command named (Err mistake) runs h = cc
-request_runs_so Invoked command named (Ok request) runs h = runs request h
+    → some_shown (map_read (λ (given : RequestValue). asks call (Invoked given)) request) ≡ true → ⊥
+text_runs Invoked call (Err mistake) runs h = cc
+text_runs Invoked call (Ok request) runs h = runs request h
 
-input_runs : (command : Command) (named : ℕ) (arguments : List (Bor (List ℕ))) → some_shown (input_request command named arguments) ≡ true → ⊥
-input_runs command named arguments h =
-    request_runs_so AskInput command named (request_after command.name command named arguments) (λ given shown. cc (shown)) h
+input_runs : (call : CallValue) → some_shown (text_request AskInput call) ≡ true → ⊥
+input_runs call h = text_runs AskInput call (request_after call.command.name call) (λ given shown. cc (shown)) h
 
-line_runs : (command : Command) (named : ℕ) (lines : Lines) (arguments : List (Bor (List ℕ))) → some_shown (line_request command named lines arguments) ≡ true → ⊥
-line_runs command named lines arguments h =
-    request_runs_so (Each lines) command named (request_after command.name command named arguments) (λ given shown. cc (shown)) h
+line_runs : (lines : Lines) (call : CallValue) → some_shown (text_request (Each lines) call) ≡ true → ⊥
+line_runs lines call h = text_runs (Each lines) call (request_after call.command.name call) (λ given shown. cc (shown)) h
 
--- nor is what a command asks for that is named, where it isn't
-named_runs : (found : Option Command) (mistake : Mistake) (asked : Command → Result AskedValue Mistake)
-    → ((command : Command) → some_shown (asked command) ≡ true → ⊥)
-    → some_shown (then_read asked (ok_or found mistake)) ≡ true → ⊥
-named_runs None mistake asked runs h = cc
-named_runs (Some command) mistake asked runs h = runs command h
-
-each_runs : (lines : Lines) (words : List (Bor (List ℕ))) → some_shown (each_in lines words) ≡ true → ⊥
-each_runs lines [] h = cc
-each_runs lines (word ∷ words) h = named_runs (command_named word.now) _ _ (λ command. line_runs command (length (word ∷ words)) lines (arguments_in words)) h
+-- nor is what a command asks for, where one is named
+called_runs : (call : Result CallValue Mistake) (asked : CallValue → Result AskedValue Mistake)
+    → ((call : CallValue) → some_shown (asked call) ≡ true → ⊥)
+    → some_shown (then_read asked call) ≡ true → ⊥
+called_runs (Err mistake) asked runs h = cc
+called_runs (Ok call) asked runs h = runs call h
 
 -- nor is an audit, whatever its number
-audit_runs : (command : Command) (named : ℕ) (workers : Option ℕ) (mistake : Mistake)
-    → some_shown (map_read (λ n. asks named (Audit n)) (ok_or workers mistake)) ≡ true → ⊥
-audit_runs command named (Some n) mistake h = cc
-audit_runs command named None mistake h = cc
+audit_runs : (call : CallValue) (workers : Option ℕ) (mistake : Mistake)
+    → some_shown (map_read (λ n. asks call (Audit n)) (ok_or workers mistake)) ≡ true → ⊥
+audit_runs call (Some n) mistake h = cc
+audit_runs call None mistake h = cc
 
 -- nor another command
-request_runs : (name : CommandName) (command : Command) (named : ℕ) (given : GivenFlags) (arguments : List (Bor (List ℕ)))
-    → some_shown (request_by name command named given arguments) ≡ true → ⊥
-request_runs (names.Ask question) command named given [] h = cc
-request_runs (names.Ask question) command named given (text ∷ arguments) h = cc
-request_runs names.Script command named given arguments h = cc
-request_runs names.Serve command named given arguments h = cc
-request_runs names.Audit command named given [] h = cc
-request_runs names.Audit command named given (workers ∷ arguments) h = audit_runs command named (workers_of workers.now) _ h
-request_runs names.Each command named given arguments h = each_runs (lines_by given) arguments h
+request_runs : (name : CommandName) (call : CallValue) (arguments : List (Bor (List ℕ)))
+    → some_shown (request_by name call arguments) ≡ true → ⊥
+request_runs (names.Ask question) call [] h = cc
+request_runs (names.Ask question) call (text ∷ arguments) h = cc
+request_runs names.Script call arguments h = cc
+request_runs names.Serve call arguments h = cc
+request_runs names.Audit call [] h = cc
+request_runs names.Audit call (workers ∷ arguments) h = audit_runs call (workers_of workers.now) _ h
+request_runs names.Each call arguments h =
+    called_runs (call_in arguments) (text_request (Each (lines_by call.given))) (line_runs (lines_by call.given)) h
 
-asked_with_runs : (from_input : Bool) (command : Command) (named : ℕ) (read : GivenFlags × List (Bor (List ℕ)))
-    → some_shown (asked_with from_input command named read) ≡ true → ⊥
-asked_with_runs true command named (given, words) h = input_runs command named (arguments_in words) h
-asked_with_runs false command named (given, words) h =
-    tested_runs (takes_count command (length (arguments_in words))) (request_by command.name command named given (arguments_in words)) _
-    (request_runs command.name command named given (arguments_in words)) h
+asked_runs : (from_input : Bool) (call : CallValue) → some_shown (asked_by from_input call) ≡ true → ⊥
+asked_runs true call h = input_runs call h
+asked_runs false call h =
+    tested_runs (takes_count call.command (length call.arguments)) (request_by call.command.name call call.arguments) _
+    (request_runs call.command.name call call.arguments) h
 
 command_runs : (from_input : Bool) (words : List (Bor (List ℕ))) → some_shown (command_in from_input words) ≡ true → ⊥
-command_runs from_input [] h = cc
-command_runs from_input (word ∷ words) h =
-    named_runs (command_named word.now) _ _ (λ command. asked_with_runs from_input command (length (word ∷ words)) (flags_in command no_flags words)) h
+command_runs from_input words h = called_runs (call_in words) (asked_by from_input) (asked_runs from_input) h
 
 -- nor is what follows options
 shown_or_not : (asked : Result AskedValue Mistake) (options : OptionsValue) (words : List (Bor (List ℕ)))
@@ -121,22 +109,25 @@ help_stands_alone (name ∷ word ∷ next ∷ other ∷ words) h =
 
 -- ---- texts after dashes
 
+abbrev called : Command → ℕ → List (Bor (List ℕ)) → CallValue
+called command named arguments = record { command = command; named = named; given = no_flags; arguments = arguments }
+
 -- a first `--` is dropped
 after_dashes : (command : Command) (named : ℕ) (dashes : Bor (List ℕ)) (rest : List (Bor (List ℕ)))
     → flag_named command dashes.now ≡ None → dashes.now ≡ codes "--"
-    → asked_by false command named (dashes ∷ rest) ≡ request_on command named no_flags rest
+    → call_with command named (flags_in command no_flags (dashes ∷ rest)) ≡ called command named rest
 after_dashes command named dashes rest plain dash =
-    subst (λ (found : Option Flag). asked_with false command named
+    subst (λ (found : Option Flag). call_with command named
     (elim found [
       | Some flag ↦ if is_given no_flags flag then (no_flags, dashes ∷ rest)
           else flags_in command (with_flag no_flags flag) rest
       | None ↦ (no_flags, dashes ∷ rest)
-    ]) ≡ request_on command named no_flags rest) (sym plain) (rw dash refl)
+    ]) ≡ called command named rest) (sym plain) (rw dash refl)
 
 -- as many arguments as a command takes
 taken : (command : Command) (named : ℕ) (rest : List (Bor (List ℕ)))
     → takes_count command (length rest) ≡ true
-    → request_on command named no_flags rest ≡ request_by command.name command named no_flags rest
+    → request_on (called command named rest) ≡ request_by command.name (called command named rest) rest
 taken command named rest takes = rw takes refl
 
 three_or_more : (command : Command) (sddl user mask : Bor (List ℕ)) (words : List (Bor (List ℕ)))
@@ -145,16 +136,16 @@ three_or_more : (command : Command) (sddl user mask : Bor (List ℕ)) (words : L
 three_or_more command sddl user mask words count more =
     rw (count, more, le-leb 3 (length (sddl ∷ user ∷ mask ∷ words)) (omega arith)) refl
 
-asked_of_three : (question : Question) (command : Command) (named : ℕ) (sddl : Bor (List ℕ)) (arguments : List (Bor (List ℕ)))
+asked_of_three : (question : Question) (command : Command) (call : CallValue) (sddl : Bor (List ℕ)) (arguments : List (Bor (List ℕ)))
     → command.name ≡ names.Ask question
-    → request_by command.name command named no_flags (sddl ∷ arguments)
-    ≡ Ok (asks named (Ask sddl.now (record { question = question; arguments = arguments })))
-asked_of_three question command named sddl arguments is = rw is refl
+    → request_by command.name call (sddl ∷ arguments)
+    ≡ Ok (asks call (Ask sddl.now (record { question = question; arguments = arguments })))
+asked_of_three question command call sddl arguments is = rw is refl
 
-goes_before : (named : ℕ) (options : OptionsValue) (all : List (Bor (List ℕ))) (invocation : InvocationValue)
-    → misplaced_in (word_at all named) named options all ≡ None
-    → with_options options all (asks named invocation) ≡ Ok (record { options = options; invocation = invocation })
-goes_before named options all invocation fits =
+goes_before : (call : CallValue) (options : OptionsValue) (all : List (Bor (List ℕ))) (invocation : InvocationValue)
+    → misplaced_in (word_at all call.named) call.named options all ≡ None
+    → with_options options all (asks call invocation) ≡ Ok (record { options = options; invocation = invocation })
+goes_before call options all invocation fits =
     subst (λ (found : Option Mistake). ◌≡◌ {A = Result CommandLineValue Mistake} (elim found [
       | Some wrong ↦ Err wrong
       | None ↦ Ok (record { options = options; invocation = invocation })
@@ -167,15 +158,18 @@ keeps : (question : Question) (command : Command) (options : OptionsValue) (foun
     → count_of command.arguments ≡ 3 → is_some command.repeated ≡ true
     → misplaced_in (word_at all named) named options all ≡ None
     → dashes.now ≡ codes "--"
-    → result_ok (then_read (with_options options all) (then_read (λ (c : Command). asked_by false c named (dashes ∷ sddl ∷ user ∷ mask ∷ words)) (ok_or found mistake)))
+    → result_ok (then_read (with_options options all) (then_read (asked_by false)
+    (map_read (λ (c : Command). call_with c named (flags_in c no_flags (dashes ∷ sddl ∷ user ∷ mask ∷ words))) (ok_or found mistake))))
     ≡ Some (record { options = options; invocation = Ask sddl.now (record { question = question; arguments = user ∷ mask ∷ words }) })
 keeps question command options found mistake all named dashes sddl user mask words is asked plain count more fits dash =
+    let call = called command named (sddl ∷ user ∷ mask ∷ words) in
     ap result_ok (ap (then_read (with_options options all))
-    (ap (λ (f : Option Command). then_read (λ (c : Command). asked_by false c named (dashes ∷ sddl ∷ user ∷ mask ∷ words)) (ok_or f mistake)) is
-    ∙ after_dashes command named dashes (sddl ∷ user ∷ mask ∷ words) plain dash
+    (ap (λ (f : Option Command). then_read (asked_by false)
+    (map_read (λ (c : Command). call_with c named (flags_in c no_flags (dashes ∷ sddl ∷ user ∷ mask ∷ words))) (ok_or f mistake))) is
+    ∙ ap (asked_by false) (after_dashes command named dashes (sddl ∷ user ∷ mask ∷ words) plain dash)
     ∙ taken command named (sddl ∷ user ∷ mask ∷ words) (three_or_more command sddl user mask words count more)
-    ∙ asked_of_three question command named sddl (user ∷ mask ∷ words) asked)
-    ∙ goes_before named options all (Ask sddl.now (record { question = question; arguments = user ∷ mask ∷ words })) fits)
+    ∙ asked_of_three question command call sddl (user ∷ mask ∷ words) asked)
+    ∙ goes_before call options all (Ask sddl.now (record { question = question; arguments = user ∷ mask ∷ words })) fits)
 
 -- the command's name is that of the argument from which on there are so many
 word_here : (word : Bor (List ℕ)) (words : List (Bor (List ℕ))) → word_at (word ∷ words) (length (word ∷ words)) ≡ word.now
@@ -253,49 +247,47 @@ request_of_asked other (Err mistake) = other
 request_of_asked other (Ok asked) = request_in other asked.invocation
 
 -- a command that asks this of a text which the arguments follow asks the same with the text before them
-by_test : (test : Bool) (command : Command) (named : ℕ) (text : List ℕ) (given request : RequestValue) (mistake : Mistake)
+by_test : (test : Bool) (call : CallValue) (text : List ℕ) (given request : RequestValue) (mistake : Mistake)
     → (if test then Ok given else Err mistake) ≡ Ok request
-    → (if test then Ok (asks named (Ask text given)) else Err mistake) ≡ Ok (asks named (Ask text request))
-by_test true command named text given request mistake is = cc
-by_test false command named text given request mistake is = cc
+    → (if test then Ok (asks call (Ask text given)) else Err mistake) ≡ Ok (asks call (Ask text request))
+by_test true call text given request mistake is = cc
+by_test false call text given request mistake is = cc
 
-by_command : (name : CommandName) (command : Command) (named : ℕ) (given : GivenFlags) (text : Bor (List ℕ))
-    (arguments : List (Bor (List ℕ))) (request : RequestValue)
-    → request_after name command named arguments ≡ Ok request
-    → (if takes_count command (length (text ∷ arguments)) then request_by name command named given (text ∷ arguments)
-    else Err (miscounted command named (length (text ∷ arguments))))
-    ≡ Ok (asks named (Ask text.now request))
-by_command (names.Ask question) command named given text arguments request is =
-    let more : 1 + length arguments ≡ suc (length arguments) = omega arith in
-    subst (λ n. (if takes_count command n then request_by (names.Ask question) command named given (text ∷ arguments)
-    else Err (miscounted command named n))
-    ≡ Ok (asks named (Ask text.now request))) more
-    (by_test (takes_count command (1 + length arguments)) command named text.now
-    (record { question = question; arguments = arguments }) request _ is)
-by_command names.Script command named given text arguments request is = cc
-by_command names.Serve command named given text arguments request is = cc
-by_command names.Audit command named given text arguments request is = cc
-by_command names.Each command named given text arguments request is = cc
+abbrev before : Bor (List ℕ) → CallValue → CallValue
+before text call = record call { arguments = text ∷ call.arguments }
+
+by_command : (name : CommandName) (call : CallValue) (text : Bor (List ℕ)) (request : RequestValue)
+    → request_after name call ≡ Ok request
+    → (if takes_count call.command (length (text ∷ call.arguments)) then request_by name (before text call) (text ∷ call.arguments)
+    else Err (miscounted (before text call) (length (text ∷ call.arguments))))
+    ≡ Ok (asks call (Ask text.now request))
+by_command (names.Ask question) call text request is =
+    let more : 1 + length call.arguments ≡ suc (length call.arguments) = omega arith in
+    subst (λ n. (if takes_count call.command n then request_by (names.Ask question) (before text call) (text ∷ call.arguments)
+    else Err (miscounted (before text call) n))
+    ≡ Ok (asks call (Ask text.now request))) more
+    (by_test (takes_count call.command (1 + length call.arguments)) call text.now
+    (record { question = question; arguments = call.arguments }) request _ is)
+by_command names.Script call text request is = cc
+by_command names.Serve call text request is = cc
+by_command names.Audit call text request is = cc
+by_command names.Each call text request is = cc
 
 -- what is asked of each line, and of the input
-each_request : (command : Command) (named : ℕ) (lines : Lines) (given : Result RequestValue Mistake) (request : RequestValue)
-    → map_read (λ (r : RequestValue). asks named (Each lines r)) given ≡ Ok (asks named (Each lines request))
+request_is : (Invoked : RequestValue → InvocationValue) (call : CallValue) (given : Result RequestValue Mistake) (request : RequestValue)
+    → ((asked : RequestValue) → request_in request (Invoked asked) ≡ asked)
+    → map_read (λ (r : RequestValue). asks call (Invoked r)) given ≡ Ok (asks call (Invoked request))
     → given ≡ Ok request
-each_request command named lines (Err mistake) request is = cc
-each_request command named lines (Ok given) request is = ap Ok (ap (request_of_asked given) is)
+request_is Invoked call (Err mistake) request back is = cc
+request_is Invoked call (Ok given) request back is =
+    ap Ok (sym (back given) ∙ ap (request_of_asked request) is ∙ back request)
 
 pub each_asks_the_command : EachAsksTheCommand
-each_asks_the_command command named lines given line arguments request is =
-    by_command command.name command named given line arguments request
-    (each_request command named lines (request_after command.name command named arguments) request is)
-
-input_request_is : (command : Command) (named : ℕ) (given : Result RequestValue Mistake) (request : RequestValue)
-    → map_read (λ (r : RequestValue). asks named (AskInput r)) given ≡ Ok (asks named (AskInput request))
-    → given ≡ Ok request
-input_request_is command named (Err mistake) request is = cc
-input_request_is command named (Ok given) request is = ap Ok (ap (request_of_asked given) is)
+each_asks_the_command call lines line request is =
+    by_command call.command.name call line request
+    (request_is (Each lines) call (request_after call.command.name call) request (λ asked. refl) is)
 
 pub input_asks_the_command : InputAsksTheCommand
-input_asks_the_command command named given text arguments request is =
-    by_command command.name command named given text arguments request
-    (input_request_is command named (request_after command.name command named arguments) request is)
+input_asks_the_command call text request is =
+    by_command call.command.name call text request
+    (request_is AskInput call (request_after call.command.name call) request (λ asked. refl) is)

@@ -14,6 +14,7 @@ use Rattle.sd_usage.specs.declared.row.CommandName.{CommandName}
 use Rattle.sd_usage.specs.declared.row.CommandName.TheVariants as names
 use Rattle.sd_usage.specs.declared.row.Question.{Question}
 use Rattle.sd_command_line.specs.declared.command_line.Asked.{Asked}
+use Rattle.sd_command_line.specs.declared.command_line.Call.{Call}
 use Rattle.sd_command_line.specs.declared.command_line.CommandLine.{CommandLine}
 use Rattle.sd_command_line.specs.declared.command_line.Request.{Request}
 use Rattle.sd_command_line.specs.declared.command_line.Invocation.{Invocation}
@@ -106,34 +107,46 @@ workers_of (ones ∷ []) = count_of 48 ones
 workers_of (tens ∷ ones ∷ []) = count_of tens ones
 workers_of (a ∷ b ∷ c ∷ rest) = None
 
--- ---- the command, with how many arguments there are from it on
+-- ---- a command, and what follows it
+
+-- with how many arguments there are from it on
+pub record CallValue : Type 0 where
+  pub command : Command
+  pub named : ℕ
+  pub given : GivenFlags
+  pub arguments : List (Bor (List ℕ))
+
+abbrev pub call_of : Call → CallValue
+call_of call = record {
+  command = call.command;
+  named = call.named;
+  given = call.given;
+  arguments = call.arguments.now;
+}
+
+abbrev pub asks : CallValue → InvocationValue → AskedValue
+asks call invocation = record { named = call.named; invocation = invocation }
 
 -- it takes another number of arguments than this: one that it requires is missing, or one is too many
-abbrev pub miscounted : Command → ℕ → ℕ → Mistake
-miscounted command named count =
-    elim (argument_at command.arguments count) [
-      | Some argument ↦ mistake 0 named (wrongs.MissingArgument argument command)
-      | None ↦ mistake (count - required_count command.arguments) named (wrongs.SurplusArgument command)
+abbrev pub miscounted : CallValue → ℕ → Mistake
+miscounted call count =
+    elim (argument_at call.command.arguments count) [
+      | Some argument ↦ mistake 0 call.named (wrongs.MissingArgument argument call.command)
+      | None ↦ mistake (count - required_count call.command.arguments) call.named (wrongs.SurplusArgument call.command)
     ]
 
--- what a command asks of a text that these arguments follow: one that answers a text, with as many as it takes
-abbrev pub request_after : CommandName → Command → ℕ → List (Bor (List ℕ)) → Result RequestValue Mistake
-request_after (names.Ask question) command named arguments =
-    if takes_count command (1 + length arguments) then Ok (record { question = question; arguments = arguments })
-    else Err (miscounted command named (1 + length arguments))
-request_after name command named arguments = Err (mistake named named wrongs.NoText)
+-- what it asks of a text that the arguments follow: a command that answers a text, with as many as it takes
+abbrev pub request_after : CommandName → CallValue → Result RequestValue Mistake
+request_after (names.Ask question) call =
+    if takes_count call.command (1 + length call.arguments)
+    then Ok (record { question = question; arguments = call.arguments })
+    else Err (miscounted call (1 + length call.arguments))
+request_after name call = Err (mistake call.named call.named wrongs.NoText)
 
--- what is asked of each line
-abbrev pub line_request : Command → ℕ → Lines → List (Bor (List ℕ)) → Result AskedValue Mistake
-line_request command named lines arguments =
-    map_read (λ request. record { named = named; invocation = Each lines request })
-    (request_after command.name command named arguments)
-
--- what is asked of the text that the input is
-abbrev pub input_request : Command → ℕ → List (Bor (List ℕ)) → Result AskedValue Mistake
-input_request command named arguments =
-    map_read (λ request. record { named = named; invocation = AskInput request })
-    (request_after command.name command named arguments)
+-- the same of each line, or of the text that the input is
+abbrev pub text_request : (RequestValue → InvocationValue) → CallValue → Result AskedValue Mistake
+text_request Invoked call =
+    map_read (λ request. asks call (Invoked request)) (request_after call.command.name call)
 
 -- the one argument after `help` names no command
 abbrev pub is_unknown : List (Bor (List ℕ)) → Bool
@@ -149,47 +162,41 @@ no_command (word ∷ words) =
     (if is_help word.now || is_help_flag word.now || is_version_flag word.now then wrongs.NotAlone
     else (if begins_with_hyphen word.now then wrongs.UnknownOption else wrongs.UnknownCommand))
 
-abbrev pub each_in : Lines → List (Bor (List ℕ)) → Result AskedValue Mistake
-each_in lines [] = Err (no_command [])
-each_in lines (word ∷ words) =
-    then_read (λ command. line_request command (length (word ∷ words)) lines (arguments_in words))
+-- the command that the arguments begin with, its own options, and its arguments
+abbrev pub call_with : Command → ℕ → GivenFlags × List (Bor (List ℕ)) → CallValue
+call_with command named (given, words) =
+    record { command = command; named = named; given = given; arguments = arguments_in words }
+
+abbrev pub call_in : List (Bor (List ℕ)) → Result CallValue Mistake
+call_in [] = Err (no_command [])
+call_in (word ∷ words) =
+    map_read (λ command. call_with command (length (word ∷ words)) (flags_in command no_flags words))
     (ok_or (command_named word.now) (no_command (word ∷ words)))
 
--- what a command asks for, with these own options and with these arguments, as many as it takes
-abbrev pub request_by : CommandName → Command → ℕ → GivenFlags → List (Bor (List ℕ)) → Result AskedValue Mistake
-request_by (names.Ask question) command named given (text ∷ arguments) =
-    Ok (record { named = named; invocation = Ask text.now (record { question = question; arguments = arguments }) })
-request_by names.Script command named given arguments =
-    Ok (record { named = named; invocation = Script })
-request_by names.Serve command named given arguments =
-    Ok (record { named = named; invocation = Serve given.ids })
-request_by names.Audit command named given (workers ∷ arguments) =
-    map_read (λ n. record { named = named; invocation = Audit n })
+-- what a command asks for with these arguments, as many as it takes
+abbrev pub request_by : CommandName → CallValue → List (Bor (List ℕ)) → Result AskedValue Mistake
+request_by (names.Ask question) call (text ∷ arguments) =
+    Ok (asks call (Ask text.now (record { question = question; arguments = arguments })))
+request_by names.Script call arguments = Ok (asks call Script)
+request_by names.Serve call arguments = Ok (asks call (Serve call.given.ids))
+request_by names.Audit call (workers ∷ arguments) =
+    map_read (λ n. asks call (Audit n))
     (ok_or (workers_of workers.now)
-    (mistake (length (workers ∷ arguments)) named (wrongs.NoWorkers command)))
-request_by names.Each command named given arguments = each_in (lines_by given) arguments
-request_by name command named given arguments = Err (miscounted command named (length arguments))
+    (mistake (length (workers ∷ arguments)) call.named (wrongs.NoWorkers call.command)))
+request_by names.Each call arguments = then_read (text_request (Each (lines_by call.given))) (call_in arguments)
+request_by name call arguments = Err (miscounted call (length arguments))
 
-abbrev pub request_on : Command → ℕ → GivenFlags → List (Bor (List ℕ)) → Result AskedValue Mistake
-request_on command named given arguments =
-    if takes_count command (length arguments) then request_by command.name command named given arguments
-    else Err (miscounted command named (length arguments))
+abbrev pub request_on : CallValue → Result AskedValue Mistake
+request_on call =
+    if takes_count call.command (length call.arguments) then request_by call.command.name call call.arguments
+    else Err (miscounted call (length call.arguments))
 
--- what a command asks for with what follows its own options, where the input is its first argument or isn't
-abbrev pub asked_with : Bool → Command → ℕ → GivenFlags × List (Bor (List ℕ)) → Result AskedValue Mistake
-asked_with from_input command named (given, words) =
-    if from_input then input_request command named (arguments_in words)
-    else request_on command named given (arguments_in words)
+-- what the command that the arguments begin with asks for, where the input is its first argument or isn't
+abbrev pub asked_by : Bool → CallValue → Result AskedValue Mistake
+asked_by from_input call = if from_input then text_request AskInput call else request_on call
 
-abbrev pub asked_by : Bool → Command → ℕ → List (Bor (List ℕ)) → Result AskedValue Mistake
-asked_by from_input command named words = asked_with from_input command named (flags_in command no_flags words)
-
--- the command that the arguments begin with, and what it asks for
 abbrev pub command_in : Bool → List (Bor (List ℕ)) → Result AskedValue Mistake
-command_in from_input [] = Err (no_command [])
-command_in from_input (word ∷ words) =
-    then_read (λ command. asked_by from_input command (length (word ∷ words)) words)
-    (ok_or (command_named word.now) (no_command (word ∷ words)))
+command_in from_input words = then_read (asked_by from_input) (call_in words)
 
 -- the same, where each option before it may go there
 abbrev pub with_options : OptionsValue → List (Bor (List ℕ)) → AskedValue → Result CommandLineValue Mistake

@@ -4,15 +4,13 @@ use Rattle.std.specs.Prelude.{codes}
 use Rattle.std.specs.Option.{option_map_or}
 use Rattle.std.specs.Borrow.{Bor}
 use Rattle.sd_answer.specs.Laws.{are_distinct}
-use Rattle.sd_usage.specs.declared.row.Command.{Command}
 use Rattle.sd_usage.specs.declared.row.OptionName.TheVariants.{Domain, Names}
 use Rattle.sd_usage.specs.declared.row.Question.TheVariants as questions
 use Rattle.sd_usage.specs.declared.table.TheConstants.{COMMANDS, OPTIONS}
 use Rattle.sd_command_line.specs.CommandLine.{InvocationValue, Ask, AskInput, Script, Serve, Audit, Each, Help}
-use Rattle.sd_command_line.specs.CommandLine.{Version, CommandLineValue, RequestValue, input_request, line_request}
-use Rattle.sd_command_line.specs.CommandLine.{reading, request_on}
+use Rattle.sd_command_line.specs.CommandLine.{Version, CommandLineValue, RequestValue, CallValue, asks, reading}
+use Rattle.sd_command_line.specs.CommandLine.{request_on, text_request}
 use Rattle.sd_command_line.specs.Options.{no_options, with_value}
-use Rattle.sd_command_line.specs.declared.flags.GivenFlags.{GivenFlags}
 use Rattle.sd_command_line.specs.declared.flags.Lines.{Lines}
 
 -- no two commands have one name, and no two options
@@ -68,18 +66,12 @@ OptionsKeepTexts = (name option domain sid word dashes sddl user mask : Bor (Lis
 
 -- what is asked of each line is what the command asks with the line as its first argument
 abbrev pub EachAsksTheCommand : Type 0
-EachAsksTheCommand = (command : Command) (named : ℕ) (lines : Lines) (given : GivenFlags) (line : Bor (List ℕ))
-    (arguments : List (Bor (List ℕ))) (request : RequestValue)
-    → line_request command named lines arguments
-    ≡ Ok (record { named = named; invocation = Each lines request })
-    → request_on command named given (line ∷ arguments)
-    ≡ Ok (record { named = named; invocation = Ask line.now request })
+EachAsksTheCommand = (call : CallValue) (lines : Lines) (line : Bor (List ℕ)) (request : RequestValue)
+    → text_request (Each lines) call ≡ Ok (asks call (Each lines request))
+    → request_on (record call { arguments = line ∷ call.arguments }) ≡ Ok (asks call (Ask line.now request))
 
 -- what is asked of the input is what the command asks with the input's text as its first argument
 abbrev pub InputAsksTheCommand : Type 0
-InputAsksTheCommand = (command : Command) (named : ℕ) (given : GivenFlags) (text : Bor (List ℕ))
-    (arguments : List (Bor (List ℕ))) (request : RequestValue)
-    → input_request command named arguments
-    ≡ Ok (record { named = named; invocation = AskInput request })
-    → request_on command named given (text ∷ arguments)
-    ≡ Ok (record { named = named; invocation = Ask text.now request })
+InputAsksTheCommand = (call : CallValue) (text : Bor (List ℕ)) (request : RequestValue)
+    → text_request AskInput call ≡ Ok (asks call (AskInput request))
+    → request_on (record call { arguments = text ∷ call.arguments }) ≡ Ok (asks call (Ask text.now request))

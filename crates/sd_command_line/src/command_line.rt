@@ -1,11 +1,11 @@
 //! The parser of a command line: what its arguments ask for, by the table of commands and options.
 ghost use Rattle.std.specs.Prelude.{◌≡◌, option_map};
-ghost use Rattle.sd_command_line.specs.CommandLine.{arguments_in, asked_by, asked_of, command_help, command_in};
-ghost use Rattle.sd_command_line.specs.CommandLine.{command_line_of, count_of, each_in, help_on, input_request};
-ghost use Rattle.sd_command_line.specs.CommandLine.{invocation_of, uses_input, line_request, miscounted, parsed};
-ghost use Rattle.sd_command_line.specs.CommandLine.{request_after, request_by, request_of, request_on, run_by};
-ghost use Rattle.sd_command_line.specs.CommandLine.{shown_by, with_options, workers_of};
-ghost use Rattle.sd_command_line.specs.Mistake.{map_read};
+ghost use Rattle.sd_command_line.specs.CommandLine.{AskInput, Each, arguments_in, asked_of, asks, call_in, call_of};
+ghost use Rattle.sd_command_line.specs.CommandLine.{command_help, command_in, command_line_of, count_of, help_on};
+ghost use Rattle.sd_command_line.specs.CommandLine.{invocation_of, miscounted, parsed, request_after, request_of};
+ghost use Rattle.sd_command_line.specs.CommandLine.{request_on, run_by, shown_by, text_request, uses_input};
+ghost use Rattle.sd_command_line.specs.CommandLine.{with_options, workers_of};
+ghost use Rattle.sd_command_line.specs.Mistake.{map_read, then_read};
 ghost use Rattle.sd_command_line.specs.Options.{options_of};
 
 use crate::flags::{GivenFlags, Lines, flags_in};
@@ -73,6 +73,59 @@ struct Asked<'a> {
     invocation: Invocation<'a>,
 }
 
+/// A command, and what follows it.
+#[derive(Clone, Copy)]
+struct Call<'a> {
+    command: Command,
+    /// How many arguments there are from the command on.
+    named: usize,
+    given: GivenFlags,
+    arguments: &'a [&'a str],
+}
+
+impl<'a> Call<'a> {
+    fn asks(self, invocation: Invocation<'a>) -> Asked<'a>
+        ensures { asked_of result ≡ asks (call_of self.entry) (invocation_of invocation.entry) }
+    {
+        Asked {
+            named: self.named,
+            invocation,
+        }
+    }
+
+    /// Of another number of arguments than the command takes: the one that is missing, or the first that is too many.
+    fn miscounted(self, count: usize) -> Mistake
+        ensures { result ≡ miscounted (call_of self.entry) count }
+    {
+        match self.command.arguments.at(count) {
+            Some(argument) => {
+                let wrong = Wrong::MissingArgument(argument, self.command);
+                Mistake::new(0, self.named, wrong)
+            }
+            None => {
+                let left = count.saturating_sub(self.command.arguments.count());
+                Mistake::new(left, self.named, Wrong::SurplusArgument(self.command))
+            }
+        }
+    }
+
+    /// What a command that answers a text asks of one that the arguments follow.
+    fn request_after(self) -> Result<Request<'a>, Mistake>
+        ensures { map_read request_of result ≡ request_after self.entry.command.name (call_of self.entry) }
+    {
+        let CommandName::Ask(question) = self.command.name else {
+            return Err(Mistake::new(self.named, self.named, Wrong::NoText));
+        };
+        if !self.command.takes_count(1 + self.arguments.len()) {
+            return Err(self.miscounted(1 + self.arguments.len()));
+        }
+        Ok(Request {
+            question,
+            arguments: self.arguments,
+        })
+    }
+}
+
 /// What the arguments ask for, of which the first is the program's name, or the first mistake in them.
 pub(crate) fn read_command_line<'a>(words: &'a [&'a str]) -> Result<CommandLine<'a>, Mistake>
     ensures { map_read command_line_of result ≡ parsed words.entry.now }
@@ -133,177 +186,94 @@ fn with_options<'a>(
     }
 }
 
-/// The command that the arguments begin with, and what it asks for.
+/// The command that the arguments begin with, and what it asks for: the input can be its first argument.
 fn command_in<'a>(from_input: bool, words: &'a [&'a str]) -> Result<Asked<'a>, Mistake>
     ensures { map_read asked_of result ≡ command_in from_input words.entry.now }
 {
-    match words {
-        [] => Err(no_command(words)),
-        [word, after @ ..] => match command_named(word) {
-            Some(command) => asked_by(from_input, command, words.len(), after),
-            None => Err(no_command(words)),
-        },
-    }
-}
-
-/// What a command asks for with what follows it: its own options first, then a first `--`, then its arguments, of which
-/// the input can be the first.
-fn asked_by<'a>(
-    from_input: bool,
-    command: Command,
-    named: usize,
-    words: &'a [&'a str],
-) -> Result<Asked<'a>, Mistake>
-    ensures { map_read asked_of result ≡ asked_by from_input command named words.entry.now }
-{
-    let (given, words) = flags_in(command, GivenFlags::none(), words);
-    let arguments = arguments_in(words);
-    if from_input {
-        input_request(command, named, arguments)
-    } else {
-        request_on(command, named, given, arguments)
-    }
-}
-
-/// What a command asks for with these arguments.
-fn request_on<'a>(
-    command: Command,
-    named: usize,
-    given: GivenFlags,
-    arguments: &'a [&'a str],
-) -> Result<Asked<'a>, Mistake>
-    ensures { map_read asked_of result ≡ request_on command named given arguments.entry.now }
-{
-    if !command.takes_count(arguments.len()) {
-        return Err(miscounted(command, named, arguments.len()));
-    }
-    request_by(command, named, given, arguments)
-}
-
-/// Of another number of arguments than the command takes: the one that is missing, or the first that is too many.
-fn miscounted(command: Command, named: usize, count: usize) -> Mistake
-    ensures { result ≡ miscounted command named count }
-{
-    match command.arguments.at(count) {
-        Some(argument) => Mistake::new(0, named, Wrong::MissingArgument(argument, command)),
-        None => {
-            let left = count.saturating_sub(command.arguments.count());
-            Mistake::new(left, named, Wrong::SurplusArgument(command))
+    match call_in(words) {
+        Ok(call) => {
+            if from_input {
+                input_request(call)
+            } else {
+                request_on(call)
+            }
         }
+        Err(mistake) => Err(mistake),
     }
 }
 
-/// The same of as many arguments as it takes.
-fn request_by<'a>(
-    command: Command,
-    named: usize,
-    given: GivenFlags,
-    arguments: &'a [&'a str],
-) -> Result<Asked<'a>, Mistake>
-    ensures { map_read asked_of result ≡ request_by command.name command named given arguments.entry.now }
+/// The command that the arguments begin with, and what follows it: its own options, a first `--`, and its arguments.
+fn call_in<'a>(words: &'a [&'a str]) -> Result<Call<'a>, Mistake>
+    ensures { map_read call_of result ≡ call_in words.entry.now }
 {
-    match (command.name, arguments) {
-        (CommandName::Ask(question), [text, arguments @ ..]) => Ok(Asked {
-            named,
-            invocation: Invocation::Ask {
-                text,
-                request: Request {
-                    question,
-                    arguments,
-                },
-            },
-        }),
-        (CommandName::Script, _) => Ok(Asked {
-            named,
-            invocation: Invocation::Script,
-        }),
-        (CommandName::Serve, _) => Ok(Asked {
-            named,
-            invocation: Invocation::Serve {
-                has_ids: given.has(Flag::Ids),
-            },
-        }),
+    let [word, after @ ..] = words else {
+        return Err(no_command(words));
+    };
+    let Some(command) = command_named(word) else {
+        return Err(no_command(words));
+    };
+    let (given, after) = flags_in(command, GivenFlags::none(), after);
+    Ok(Call {
+        command,
+        named: words.len(),
+        given,
+        arguments: arguments_in(after),
+    })
+}
+
+/// What a command asks for with its arguments, as many as it takes.
+fn request_on<'a>(call: Call<'a>) -> Result<Asked<'a>, Mistake>
+    ensures { map_read asked_of result ≡ request_on (call_of call.entry) }
+{
+    if !call.command.takes_count(call.arguments.len()) {
+        return Err(call.miscounted(call.arguments.len()));
+    }
+    match (call.command.name, call.arguments) {
+        (CommandName::Ask(question), [text, arguments @ ..]) => {
+            let request = Request {
+                question,
+                arguments,
+            };
+            Ok(call.asks(Invocation::Ask { text, request }))
+        }
+        (CommandName::Script, _) => Ok(call.asks(Invocation::Script)),
+        (CommandName::Serve, _) => {
+            let has_ids = call.given.has(Flag::Ids);
+            Ok(call.asks(Invocation::Serve { has_ids }))
+        }
         (CommandName::Audit, [workers, ..]) => match workers_in(workers) {
-            Some(workers) => Ok(Asked {
-                named,
-                invocation: Invocation::Audit { workers },
-            }),
+            Some(workers) => Ok(call.asks(Invocation::Audit { workers })),
             None => {
-                let wrong = Wrong::NoWorkers(command);
-                Err(Mistake::new(arguments.len(), named, wrong))
+                let wrong = Wrong::NoWorkers(call.command);
+                Err(Mistake::new(call.arguments.len(), call.named, wrong))
             }
         },
-        (CommandName::Each, words) => each_in(given.lines(), words),
-        _ => Err(miscounted(command, named, arguments.len())),
+        (CommandName::Each, words) => line_request(call.given.lines(), words),
+        _ => Err(call.miscounted(call.arguments.len())),
     }
 }
 
-/// The command for each line, and its arguments without the line.
-fn each_in<'a>(lines: Lines, words: &'a [&'a str]) -> Result<Asked<'a>, Mistake>
-    ensures { map_read asked_of result ≡ each_in lines words.entry.now }
+/// What is asked of each line, by the command and its arguments without the line.
+fn line_request<'a>(lines: Lines, words: &'a [&'a str]) -> Result<Asked<'a>, Mistake>
+    ensures { map_read asked_of result ≡ then_read (text_request (Each lines)) (call_in words.entry.now) }
 {
-    match words {
-        [] => Err(no_command(words)),
-        [word, after @ ..] => match command_named(word) {
-            Some(command) => line_request(command, words.len(), lines, arguments_in(after)),
-            None => Err(no_command(words)),
+    match call_in(words) {
+        Ok(call) => match call.request_after() {
+            Ok(request) => Ok(call.asks(Invocation::Each { lines, request })),
+            Err(mistake) => Err(mistake),
         },
-    }
-}
-
-/// What a command asks of each line, with these arguments after it.
-fn line_request<'a>(
-    command: Command,
-    named: usize,
-    lines: Lines,
-    arguments: &'a [&'a str],
-) -> Result<Asked<'a>, Mistake>
-    ensures { map_read asked_of result ≡ line_request command named lines arguments.entry.now }
-{
-    match request_after(command, named, arguments) {
-        Ok(request) => Ok(Asked {
-            named,
-            invocation: Invocation::Each { lines, request },
-        }),
         Err(mistake) => Err(mistake),
     }
 }
 
-/// What a command asks of the text that the input is, with these arguments after it.
-fn input_request<'a>(
-    command: Command,
-    named: usize,
-    arguments: &'a [&'a str],
-) -> Result<Asked<'a>, Mistake>
-    ensures { map_read asked_of result ≡ input_request command named arguments.entry.now }
+/// What a command asks of the text that the input is.
+fn input_request<'a>(call: Call<'a>) -> Result<Asked<'a>, Mistake>
+    ensures { map_read asked_of result ≡ text_request AskInput (call_of call.entry) }
 {
-    match request_after(command, named, arguments) {
-        Ok(request) => Ok(Asked {
-            named,
-            invocation: Invocation::AskInput { request },
-        }),
+    match call.request_after() {
+        Ok(request) => Ok(call.asks(Invocation::AskInput { request })),
         Err(mistake) => Err(mistake),
     }
-}
-
-/// What a command that answers a text asks of one that these arguments follow.
-fn request_after<'a>(
-    command: Command,
-    named: usize,
-    arguments: &'a [&'a str],
-) -> Result<Request<'a>, Mistake>
-    ensures { map_read request_of result ≡ request_after command.name command named arguments.entry.now }
-{
-    let CommandName::Ask(question) = command.name else {
-        return Err(Mistake::new(named, named, Wrong::NoText));
-    };
-    if !command.takes_count(1 + arguments.len()) {
-        return Err(miscounted(command, named, 1 + arguments.len()));
-    }
-    Ok(Request {
-        question,
-        arguments,
-    })
 }
 
 /// The help that a text after `help` asks for: on the command that it names, or, as `help` itself, on the program.
