@@ -1,11 +1,8 @@
 -- The chains of a token's index: one more group, one more SID at a place, and a walk along a chain.
-use Rattle.std.proofs.Common.{◌≡◌, ℕ, suc, zero, ◌+◌, ◌<◌, ◌≤◌, ◌⊎◌, inl, inr, Bool, true, false, ◌||◌, List, [], ◌∷◌, length, get_or, set, drop, refl, sym, ◌∙◌, ap, subst, arith, length-set, replicate}
-use Rattle.std.specs.List.{list_any}
-use Rattle.sd_check.proofs.Words.{cases_eq, cases_lt, SidValue, Deny, GroupState, counts}
-use Rattle.std.proofs.lemmas.List.{get_or-set_other, get_or-replicate, length-replicate}
+use Rattle.std.proofs.Common.{◌≡◌, ℕ, suc, zero, ◌+◌, ◌-◌, ◌<◌, ◌≤◌, ◌⊎◌, inl, inr, Bool, true, false, ◌&&◌, ◌||◌, List, [], ◌∷◌, length, get_or, set, drop, refl, sym, ◌∙◌, ap, subst, arith, length-set, replicate}
+use Rattle.sd_check.proofs.Words.{AceKind, a_group_stands_for, and_parts, cases_eq, cases_lt, false≢true, SidValue, same_sid, same_sid-true, Deny, GroupState, counts, list_any, false_from_ne_true, get_or_default, get_or-set_other, get_or-replicate, length-replicate, OnChain, here, behind, IsIndex, place_of, get_or-eq_default}
 use Rattle.std.proofs.lemmas.Grind.{get_or-set_at}
-use Rattle.std.proofs.Math.ListN.{get_or-eq_default}
-use Rattle.sd_check.specs.Index.{OnChain, here, behind, IsIndex, place_of}
+use Rattle.sd_check.proofs.Places.{counts_for_deny}
 
 -- ---- one chain
 
@@ -17,13 +14,13 @@ pub none_at_end : (nexts : List ℕ) {k : ℕ} → OnChain nexts zero k → ⊥
 none_at_end nexts h = elim h [ ]
 
 -- the user is the last of a chain
-pub user_is_last : (nexts : List ℕ) → ((j : ℕ) → get_or nexts j 0 ≤ j) → (link k : ℕ) → link ≤ 1 → OnChain nexts link (suc k) → ⊥
-user_is_last nexts back zero k le c = none_at_end nexts c
-user_is_last nexts back (suc zero) k le c = elim (next_on_chain nexts c) as (λ _. ⊥) [
-  | inl same ↦ omega (arith, same)
-  | inr further ↦ none_at_end nexts (subst (λ n. OnChain nexts n (suc k)) (let end : get_or nexts 0 0 ≡ 0 = omega (arith, back 0) in end) further)
+last_on_chain : (nexts : List ℕ) → ((j : ℕ) → get_or nexts j 0 ≤ j) → (link k : ℕ) → link ≤ 1 → OnChain nexts link k → (link ≡ 1) × (k ≡ 0)
+last_on_chain nexts back zero k le c = absurd (none_at_end nexts c)
+last_on_chain nexts back (suc zero) k le c = elim (next_on_chain nexts c) [
+  | inl same ↦ (refl, same)
+  | inr further ↦ absurd (none_at_end nexts (subst (λ n. OnChain nexts n k) (let end : get_or nexts 0 0 ≡ 0 = omega (arith, back 0) in end) further))
 ]
-user_is_last nexts back (suc (suc m)) k le c = omega (arith, le)
+last_on_chain nexts back (suc (suc m)) k le c = absurd (omega (arith, le))
 
 -- a chain stays where the next link of a later member is written
 kept_chain : (nexts : List ℕ) (m v : ℕ) → ((j : ℕ) → get_or nexts j 0 ≤ j) → {link k : ℕ} → link ≤ m → OnChain nexts link k → OnChain (set nexts m v) link k
@@ -132,7 +129,7 @@ module _ (user : SidValue) (groups : List (SidValue × GroupState)) where
     ];
   }
 
--- ---- the end of a walk
+-- ---- a walk along a chain
 
 -- where none of the first m passes the test, only the others can
 pub none_of_first : {A : Type 0} (p : A → Bool) (m : ℕ) (xs : List A) → ((k : ℕ) (d : A) → k < length xs → k < m → p (get_or xs k d) ≡ true → ⊥) → list_any p xs ≡ list_any p (drop m xs)
@@ -141,3 +138,51 @@ none_of_first p (suc m) [] h = refl
 none_of_first p (suc m) (x ∷ xs) h =
     let first : (b : Bool) → p x ≡ b → b ≡ false = λ b is. elim b as (λ v. p x ≡ v → v ≡ false) [ true ↦ λ yes. absurd (h 0 x (omega arith) (omega arith) yes) | false ↦ λ no. refl ] is in
     ap (λ t. t || list_any p xs) (first (p x) refl) ∙ none_of_first p m xs (λ k d low few yes. h (suc k) d (omega (arith, low)) (omega (arith, few)) yes)
+
+module _ (nexts : List ℕ) (user sid : SidValue) (groups : List (SidValue × GroupState)) (kind : AceKind) where
+  abbrev stands : SidValue × GroupState → Bool
+  stands g = same_sid g.0 sid && counts kind g.1
+
+  -- whether the token stands for the SID by this member
+  Stands : ℕ → Type 0
+  Stands zero = same_sid user sid ≡ true
+  Stands (suc k) = (d : SidValue × GroupState) × ((k < length groups) × ((k < 254) × (stands (get_or groups k d) ≡ true)))
+
+  -- each such member is on the chain from here
+  pub Leads : ℕ → Type 0
+  Leads link = (k : ℕ) → Stands k → OnChain nexts link k
+
+  pub leads_from : (heads : List ℕ) (at : ℕ) → at ≡ place_of sid → IsIndex heads nexts user groups (length groups) → Leads (get_or heads at 0)
+  unfolding Leads Stands
+  leads_from heads at is_at index zero same =
+      subst (λ p. OnChain nexts (get_or heads p 0) zero) (ap place_of (same_sid-true user sid same) ∙ sym is_at) index.to_user
+  leads_from heads at is_at index (suc k) (d, (low, (few, has))) =
+      let group = get_or groups k d in
+      let parts = and_parts (same_sid group.0 sid) (counts kind group.1) has in
+      subst (λ p. OnChain nexts (get_or heads p 0) (suc k)) (ap place_of (same_sid-true group.0 sid parts.0) ∙ sym is_at)
+      (index.to_group k d low few (counts_for_deny kind group.1 parts.1))
+
+  -- past a group by which it doesn't
+  pub leads_on : (link : ℕ) (e : SidValue × GroupState) → 1 < link → link - 2 < length groups → e ≡ get_or groups (link - 2) e
+      → (same_sid e.0 sid && counts kind e.1) ≡ false → Leads link → Leads (get_or nexts (link - 1) 0)
+  unfolding Leads Stands
+  leads_on link e more inside is fails leads k has =
+      let next : link ≡ suc (link - 1) = omega (arith, more) in
+      elim (next_on_chain nexts (subst (λ n. OnChain nexts n k) next (leads k has))) as (λ _. OnChain nexts (get_or nexts (link - 1) 0) k) [
+        | inl first ↦
+            let this : k ≡ suc (link - 2) = omega (arith, first, more) in
+            let same = subst Stands this has in
+            absurd (false≢true (sym fails ∙ ap stands (is ∙ get_or_default groups (link - 2) e same.0 inside) ∙ same.1.1.1))
+        | inr further ↦ further
+      ]
+
+  -- at the end
+  pub at_end : (link : ℕ) (r : Bool) → link ≤ 1 → ((j : ℕ) → get_or nexts j 0 ≤ j) → Leads link → (link ≡ 1 → same_sid user sid ≡ false)
+      → r ≡ a_group_stands_for (drop 254 groups) kind sid → r ≡ (same_sid user sid || a_group_stands_for groups kind sid)
+  unfolding Leads Stands
+  at_end link r last back leads none is =
+      let not_user = false_from_ne_true (same_sid user sid) (λ same.
+      false≢true (sym (none (last_on_chain nexts back link 0 last (leads 0 same)).0) ∙ same)) in
+      let of_others = none_of_first stands 254 groups (λ k d low few has.
+      let user = (last_on_chain nexts back link (suc k) last (leads (suc k) (d, (low, (few, has))))).1 in omega (arith, user)) in
+      grind (arith, is, not_user, of_others)

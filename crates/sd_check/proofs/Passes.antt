@@ -1,12 +1,7 @@
 -- What a pass comes to with one more entry, bit by bit.
 use Rattle.std.proofs.Common.{◌≡◌, ℕ, ◌<◌, ◌≤◌, ◌-◌, ◌++◌, length, map, take, drop, get_or, Bool, true, false, not, ◌&&◌, ◌||◌, ◌==◌, cond, List, [], ◌∷◌, Option, Some, None, refl, sym, ◌∙◌, ap, arith, subst, append-nil, append_assoc, eqb-true}
-use Rattle.std.specs.Option.{option_or, is_none}
-use Rattle.sd_check.proofs.Words.{or-false, bit_at-zero, holds, mask_of, MappingValue, mapped, SidValue, same_sid, owner_rights, holds_when, mask_of-alike, is_allow, is_inherit_only, applies, applies_again, applies_in, decides, first, is_allowed_by, is_limit, is_restricting_subject, limits_owner, stands_for_subject, subject, TokenValue, is_restricting, stands_for, Pass, First, Second, Ace, AceKind, IsTally, part_of}
-use Rattle.std.proofs.lemmas.List.Folds.{find-append, list_any-append}
+use Rattle.sd_check.proofs.Words.{or-false, bit_at-zero, holds, mask_of, MappingValue, mapped, SidValue, same_sid, owner_rights, holds_when, mask_of-alike, is_allow, is_inherit_only, applies, applies_again, applies_in, decides, first, is_allowed_by, is_limit, is_restricting_subject, limits_owner, stands_for_subject, subject, TokenValue, is_restricting, stands_for, Pass, First, Second, Ace, AceKind, IsTally, part_of, option_or, is_none, find-append, list_any-append, Tally, take_all, Asking, IsPass, IsSettled, TakesOn}
 use Rattle.sd_check.specs.declared.tally.Settled.{Settled}
-use Rattle.sd_check.specs.declared.tally.Tally.{Tally}
-use Rattle.std.proofs.lemmas.List.{take_all}
-use Rattle.sd_check.specs.Fold.{Asking, IsPass, IsSettled, TakesOn}
 use Rattle.sd_check.proofs.Answered.{stands}
 
 -- ---- a bit
@@ -66,7 +61,7 @@ module _ (g : MappingValue) (who : AceKind → SidValue → Bool) (bits owners :
       ∙ ap (λ t. holds s.allowed b || t) (holds_when (is_allow kind) d b ∙ ap (λ a. is_allow a && holds d b) is_kind ∙ ap (λ t. is_allow e.kind && t) (here b h)))
       (λ b h. ap (λ t. holds to.allowed b || t) (ap (λ n. holds n b) is_keeps ∙ holds_when (not (is_limit e)) k b))
 
-  pub pass_silent : (s : Settled) (k : ℕ) → part_of g who e ≡ 0 → is_limit e ≡ false → IsPass g who bits owners seen s k → IsPass g who bits owners (seen ++ e ∷ []) s k
+  pass_silent : (s : Settled) (k : ℕ) → part_of g who e ≡ 0 → is_limit e ≡ false → IsPass g who bits owners seen s k → IsPass g who bits owners (seen ++ e ∷ []) s k
   pass_silent s k none free =
       let no : (b : ℕ) → (decides g who b e && holds s.undecided b) ≡ false = λ b.
       ap (λ t. t && holds s.undecided b) (sym (holds_when (not (is_inherit_only e) && who e.kind e.sid) (mapped g e.mask) b) ∙ ap (λ n. holds n b) none ∙ ap (λ n. n == 1) (bit_at-zero b)) in
@@ -78,7 +73,7 @@ module _ (g : MappingValue) (who : AceKind → SidValue → Bool) (bits owners :
 
 -- ---- an entry that has no part
 
-takes_no_part : (g : MappingValue) (who : Option SidValue → Bool) (owner : Option SidValue) (e : Ace) → same_sid e.sid owner_rights ≡ false → who (Some e.sid) ≡ false
+pub takes_no_part : (g : MappingValue) (who : Option SidValue → Bool) (owner : Option SidValue) (e : Ace) → same_sid e.sid owner_rights ≡ false → who (Some e.sid) ≡ false
     → cond (not (is_inherit_only e) && who (subject owner e.sid)) (mapped g e.mask) 0 ≡ 0
 takes_no_part g who owner e other none = rw (other, none) (grind arith)
 
@@ -148,8 +143,6 @@ passes_grant first again free bits owners one two r is_one is_two is =
       stands (λ k. (holds bits k && again k) || (holds owners k && free)) two b h is_two,
     ))
 
--- ---- both passes
-
 -- ---- entries that take one tally to another
 
 -- a list that was taken apart
@@ -168,6 +161,14 @@ takes_next ace both q x xs d t u w some is one others seen comes =
 pub takes_none : {A : Type 0} (ace : A → Ace) (both : Bool) (q : Asking) (xs : List A) (t : Tally) → length xs < 1 → TakesOn both q (map ace xs) t t
 takes_none ace both q [] t none seen comes = subst (λ es. IsTally both q es t) (sym (append-nil seen)) comes
 takes_none ace both q (x ∷ xs) t none seen comes = absurd (omega (arith, none))
+
+-- an entry that takes part with nothing, and limits nobody
+pub tally_silent : (both : Bool) (q : Asking) (e : Ace) (t : Tally) → part_of q.mapping (applies q.token q.owner) e ≡ 0
+    → (both ≡ true → part_of q.mapping (applies_again q.token q.owner) e ≡ 0) → is_limit e ≡ false → TakesOn both q (e ∷ []) t t
+tally_silent both q e t none again free seen is = record {
+  first = pass_silent q.mapping (applies q.token q.owner) _ _ seen e t.first t.kept none free is.first;
+  second = λ yes. pass_silent q.mapping (applies_again q.token q.owner) _ _ seen e t.second t.kept (again yes) free (is.second yes);
+}
 
 pub tally_over : (both : Bool) (q : Asking) (seen es : List Ace) (t : Tally) → IsSettled t.first t.kept → (both ≡ true → IsSettled t.second t.kept)
     → IsTally both q seen t → IsTally both q (seen ++ es) t

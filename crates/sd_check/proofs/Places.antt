@@ -1,12 +1,7 @@
 -- That an index keeps the links of its places, and has one at the place of each SID that counts.
 use Rattle.std.proofs.Common.{◌≡◌, ℕ, ◌+◌, ◌<◌, Bool, true, not, ◌&&◌, ◌||◌, ◌==◌, List, [], length, get_or, set, take, refl, sym, ◌∙◌, ap, arith, length-set}
-use Rattle.std.specs.List.{list_any}
-use Rattle.sd_check.proofs.Words.{cases_eq, ne_eqb, SidValue, same_sid, owner_rights, same_sid-true, AceKind, Deny, GroupState, counts, a_group_stands_for}
-use Rattle.std.proofs.lemmas.Bool.{not_from_false}
-use Rattle.std.proofs.lemmas.List.{get_or-set_same, get_or-set_other}
-use Rattle.std.proofs.lemmas.List.Folds.{list_any_more}
+use Rattle.sd_check.proofs.Words.{cases_eq, ne_eqb, SidValue, same_sid, owner_rights, same_sid-true, AceKind, Deny, GroupState, counts, a_group_stands_for, list_any, not_from_false, get_or-set_same, get_or-set_other, list_any_more, IsIndexOfEach, HoldsEach, may_hold, place_of}
 use Rattle.sd_check.specs.declared.token.GroupState.TheVariants.{Enabled, DenyOnly, Disabled}
-use Rattle.sd_check.specs.Index.{IsIndexOfEach, HoldsEach, may_hold, place_of}
 
 -- ---- a link that is written
 

@@ -3,6 +3,8 @@
 ghost use Rattle.std.specs.Prelude.{◌≡◌, ◌==◌, ◌<◌, ◌≤◌, ◌^◌, ◌∷◌, length, [], ◌++◌, ◌&&◌, ◌||◌, not, false, true, map};
 ghost use Rattle.std.specs.Prelude.{Bool, List, Option, Some, None};
 ghost use Rattle.sd_sid.specs.Mask.{holds, mask_of};
+ghost use Rattle.sd_sid.specs.Sid.{same_sid, owner_rights};
+ghost use Rattle.sd_acl.specs.Ace.{is_inherit_only};
 ghost use Rattle.sd_acl.specs.declared.ace.Ace.{Ace};
 ghost use Rattle.sd_check.specs.Check.{is_given, is_granted, is_implied, is_listed, is_owner, limits_owner, most_of};
 ghost use Rattle.sd_check.specs.Check.{verdict};
@@ -83,10 +85,34 @@ impl<O: Trustee> Question<'_, O> {
             return (tally, false);
         }
         let limits = entry.trustee().is_owner_rights();
-        let applies = self.applies(entry);
-        if !BOTH && !applies && !limits {
-            return (tally, false);
+        if !BOTH && !limits {
+            if !entry.trustee().is_of(entry.kind(), self.token) {
+                return (tally, false);
+            }
+            // (inlined a second time, where both are known)
+            return self.decided::<BOTH, E>(tally, entry, true, false);
         }
+        let applies = self.applies(entry);
+        self.decided::<BOTH, E>(tally, entry, applies, limits)
+    }
+
+    /// The same of an entry that isn't inherit-only, by whether it applies in the first pass and limits the owner.
+    #[inline(always)]
+    fn decided<const BOTH: bool, E: Entry>(
+        &self,
+        tally: Tally,
+        entry: &E,
+        applies: bool,
+        limits: bool,
+    ) -> (Tally, bool)
+        requires in_force { is_inherit_only (E.ace entry.now) ≡ false }
+        requires applies { let q = asking O.sid self.now in
+            applies ≡ rules.applies q.token q.owner (E.ace entry.now).kind (E.ace entry.now).sid }
+        requires limits { limits ≡ same_sid (E.ace entry.now).sid owner_rights }
+        ensures takes { TakesOn BOTH (asking O.sid self.now) (E.ace entry.now ∷ []) tally result.0 }
+        ensures first { result.1 ≡ true → IsSettled result.0.first result.0.kept }
+        ensures second { result.1 ≡ true → BOTH ≡ true → IsSettled result.0.second result.0.kept }
+    {
         let kind = entry.kind();
         let mask = self.map(entry.mask());
         let first = tally.first.after(kind, mask.when(applies));

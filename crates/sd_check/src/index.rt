@@ -133,6 +133,10 @@ impl Index {
         ensures { result ≡ (same_sid user.now sid.now || a_group_stands_for groups.now kind sid.now) }
     {
         let mut link = self.heads[place_of(sid)] as usize;
+        // Most places with a link have one group and nothing else.
+        if link > 1 && self.nexts[link - 1] == 0 {
+            return stands_for(&groups[link - 2], kind, sid) || one_beyond_chains(groups, kind, sid);
+        }
         while link > 1 {
             if stands_for(&groups[link - 2], kind, sid) {
                 return true;

@@ -1,8 +1,5 @@
 use Rattle.std.proofs.Common.{◌-◌, drop, length, sym, ◌∙◌, ap, arith, List}
-use Rattle.std.proofs.Math.ListN.{drop_of_length-le}
-use Rattle.std.proofs.lemmas.Bool.{le-ltb}
-use Rattle.std.proofs.lemmas.List.{take_all, length-drop}
-use Rattle.sd_check.proofs.Words.{SidValue, GroupState, a_group_stands_for}
+use Rattle.sd_check.proofs.Words.{SidValue, GroupState, a_group_stands_for, le-ltb, take_all, length-drop, drop_of_length-le}
 use Rattle.sd_check.proofs.index.one_beyond_chains.Goals as goal
 
 pub returns-then-groups-gt-MAX_CHAINED : goal.returns-then-groups-gt-MAX_CHAINED

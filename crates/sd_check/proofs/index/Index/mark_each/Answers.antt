@@ -1,6 +1,5 @@
 use Rattle.std.proofs.Common.{subst}
-use Rattle.std.proofs.lemmas.List.{take_all}
-use Rattle.sd_check.specs.Index.{HoldsEach}
+use Rattle.sd_check.proofs.Words.{take_all, HoldsEach}
 use Rattle.sd_check.proofs.Places.{holds_each_of_more}
 use Rattle.sd_check.proofs.index.Index.mark_each.Goals as goal
 

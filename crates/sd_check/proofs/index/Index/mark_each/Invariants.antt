@@ -1,7 +1,6 @@
 -- The index so far keeps what it had, and has the SIDs so far.
 use Rattle.std.proofs.Common.{◌≡◌, ℕ, true, take, List}
-use Rattle.sd_check.proofs.Words.{SidValue, GroupState}
-use Rattle.sd_check.specs.Index.{HoldsEach, IsIndex, may_hold}
+use Rattle.sd_check.proofs.Words.{SidValue, GroupState, HoldsEach, IsIndex, may_hold}
 use Rattle.sd_check.proofs.index.Index.mark_each.Given as goal
 
 abbrev pub invariant-sids : goal.invariant-sids

@@ -1,7 +1,5 @@
 use Rattle.std.proofs.Common.{◌≡◌, true, get_or, sym, ◌∙◌, ap, subst}
-use Rattle.sd_check.proofs.Words.{false≢true, SidValue, owner_rights, GroupState, Deny, counts}
-use Rattle.std.proofs.lemmas.List.{take_all, get_or_default}
-use Rattle.sd_check.specs.Index.{IsIndexOfEach}
+use Rattle.sd_check.proofs.Words.{false≢true, SidValue, owner_rights, GroupState, Deny, counts, take_all, get_or_default, IsIndexOfEach}
 use Rattle.sd_check.proofs.Chains.{index_on}
 use Rattle.sd_check.proofs.Places.{each_of_user, each_of_more}
 use Rattle.sd_check.proofs.index.Index.new.Goals as goal

@@ -1,7 +1,6 @@
 -- The index so far is that of the user, the groups so far and OWNER RIGHTS.
 use Rattle.std.proofs.Common.{take, true, ◌≡◌}
-use Rattle.sd_sid.specs.Sid.{owner_rights}
-use Rattle.sd_check.specs.Index.{IsIndex, IsIndexOfEach, may_hold}
+use Rattle.sd_check.proofs.Words.{owner_rights, IsIndex, IsIndexOfEach, may_hold}
 use Rattle.sd_check.proofs.index.Index.new.Given as goal
 
 abbrev pub invariant-loop-number : goal.invariant-loop-number

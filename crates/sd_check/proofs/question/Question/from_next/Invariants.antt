@@ -1,7 +1,6 @@
 -- What the rest does to a tally, all entries do.
 use Rattle.std.proofs.Common.{◌≤◌, Bool, length, map}
-use Rattle.sd_check.specs.Fold.{asking, TakesOn}
-use Rattle.sd_check.specs.declared.tally.Tally.{Tally}
+use Rattle.sd_check.proofs.Words.{asking, TakesOn, Tally}
 use Rattle.sd_check.proofs.question.Question.from_next.Given as goal
 
 abbrev pub invariant-silent : goal.invariant-silent

@@ -1,7 +1,6 @@
 -- What the index has before the restricting SIDs, it has with them.
 use Rattle.std.proofs.Common.{subst, length}
-use Rattle.sd_sid.specs.Sid.{owner_rights}
-use Rattle.sd_check.specs.Index.{HoldsEach, IsIndex, IsIndexOfEach}
+use Rattle.sd_check.proofs.Words.{owner_rights, HoldsEach, IsIndex, IsIndexOfEach}
 use Rattle.sd_check.proofs.token.Token.restricted.Goals as goal
 
 pub invariant_of-result : goal.invariant_of-result
