@@ -1,5 +1,5 @@
 -- What a line asks for, from what its command's arguments ask for.
-use Rattle.std.proofs.Common.{◌≡◌, ℕ, List, Bool, true, false, Option, Some, None, Result, Ok, Err, inl, refl, subst, sym, ap, ◌∙◌}
+use Rattle.std.proofs.Common.{◌≡◌, ℕ, List, Bool, true, false, Option, Some, None, Result, Err, inl, refl, subst, sym, ap, ◌∙◌}
 use Rattle.std.specs.Prelude.{MatchBool}
 use Rattle.std.specs.Str.{IsUtf8}
 use Rattle.sd_script.specs.Command.{Arguments, Parses, asks, asks_where, command_of, is_untimely, line_asks, reads, reads_where}
@@ -24,13 +24,6 @@ module _ (notation : Notation) (is_open : Bool) (line text : List ℕ) (words ar
         utf8,
         subst (λ found. asks_where notation is_open found told) (found ∙ ap command_of (parted ∙ ap words_of same)) asked,
       )) read
-
-  -- the command doesn't take as many
-  pub line_miscounts : Parses notation (asks name arguments) None → UnlessMemory (line_asks notation is_open line) (Err (Fault faults.Words))
-  line_miscounts none = asks_as_command (Err (Fault faults.Words)) (miscounts (asks name arguments) none) where
-    miscounts : (asked : Option Arguments) → Parses notation asked None → reads_where notation is_open name asked (Err faults.Words)
-    miscounts None none = refl
-    miscounts (Some asked) none = absurd none
 
   -- it is for where no store is open, or for where one is
   pub line_untimely : (r : Result Asked Stop) → Parses notation (asks name arguments) (Some r) → is_untimely is_open name ≡ true

@@ -10,14 +10,12 @@ use Rattle.sd_tree.specs.declared.node.NodeKind.{NodeKind}
 use Rattle.sd_tree.specs.declared.opening.RootSpec.{RootSpec}
 use Rattle.sd_script.specs.Argument.{number, path, sid, mask, token, base, node, dacl, imported}
 use Rattle.sd_script.specs.Command.{Arguments, Asks, Number, Path, Sid, Mask, Token, Groups, Node, Dacl, Imported}
-use Rattle.sd_script.specs.Command.{asks, asks_where, command_of, imports, is_untimely, kind_named, line_asks, poses, reads, reads_where}
+use Rattle.sd_script.specs.Command.{asks, asks_where, command_of, imports, is_untimely, kind_named, line_asks, reads, reads_where}
 use Rattle.sd_script.specs.Fault.{Reading, Then}
 use Rattle.sd_script.specs.Lines.{words_of}
 use Rattle.sd_script.specs.Output.{is_open, line_asks_in}
 use Rattle.sd_script.specs.declared.asked.Asked.{Asked}
 use Rattle.sd_script.specs.declared.asked.Asked.TheVariants.{Opening, Asking, Explaining, Finding, Deleting, Viewing, Importing}
-use Rattle.sd_script.specs.declared.asked.Question.{Question}
-use Rattle.sd_script.specs.declared.asked.Question.TheVariants as questions
 use Rattle.sd_script.specs.declared.command.CommandName.{CommandName}
 use Rattle.sd_script.specs.declared.command.CommandName.TheVariants.{Open, AddContainer, AddObject, SetOwner, SetGroup, SetDacl, Remove, Protect, Move, Publish, Tell, Learn, Check, Why, Find, Show, ListNodes, Dump, Who, Review, ImportNode, Delete}
 use Rattle.sd_script.specs.declared.fault.LineFault.TheVariants as faults
@@ -82,11 +80,6 @@ all_given P notation (Imported word next) all a is = then_gives P (imported nota
 abbrev AllOf : (Asked → Type 0) → Option Arguments → Type 0
 AllOf P None = ⊤
 AllOf P (Some arguments) = All P arguments
-
-poses_nothing : (question : Question) (i : ℕ) (p : Names) (t : TokenValue) (m : ℕ) → opens (poses question i p t m) ≡ false
-poses_nothing questions.Check i p t m = refl
-poses_nothing questions.Why i p t m = refl
-poses_nothing questions.Find i p t m = refl
 
 imports_open : (at sddl : List ℕ) (kind : Option NodeKind) → AllOf (Opens false) (option_map (imports at sddl) kind)
 imports_open at sddl None = tt

@@ -118,6 +118,10 @@ deletes given =
 abbrev pub asks_delete : List (List ℕ) → Option Arguments
 asks_delete arguments = option_map deletes (user_given arguments)
 
+-- a node of this kind, with the descriptor of a text
+abbrev pub adds : NodeKind → List ℕ → List ℕ → Arguments
+adds kind at sddl = Path at (λ p. Node sddl (λ n. edit (addition kind p (row_of kind n))))
+
 -- what a node that comes from elsewhere asks for
 abbrev pub imports : List ℕ → List ℕ → NodeKind → Arguments
 imports at sddl kind =
@@ -138,10 +142,8 @@ asks_who arguments = option_map asks_groups (groups_given arguments)
 -- each other command on these arguments, where they are as many as it takes
 abbrev pub asks_taking : CommandName → List (List ℕ) → Option Arguments
 asks_taking Open (readers ∷ sddl ∷ []) = Some (Number readers (λ n. Node sddl (λ root. Asks (Opening n root))))
-asks_taking AddContainer (at ∷ sddl ∷ []) =
-    Some (Path at (λ p. Node sddl (λ n. edit (edits.AddContainer p n.owner n.group n.dacl))))
-asks_taking AddObject (at ∷ sddl ∷ []) =
-    Some (Path at (λ p. Node sddl (λ n. edit (edits.AddObject p n.owner n.group n.dacl))))
+asks_taking AddContainer (at ∷ sddl ∷ []) = Some (adds Container at sddl)
+asks_taking AddObject (at ∷ sddl ∷ []) = Some (adds Object at sddl)
 asks_taking SetOwner (at ∷ owner ∷ []) = Some (Path at (λ p. Sid owner (λ s. edit (edits.SetOwner p s))))
 asks_taking SetGroup (at ∷ group ∷ []) = Some (Path at (λ p. Sid group (λ s. edit (edits.SetGroup p s))))
 asks_taking SetDacl (at ∷ sddl ∷ []) = Some (Path at (λ p. Dacl sddl (λ d. edit (edits.SetDacl p d))))

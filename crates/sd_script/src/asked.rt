@@ -10,9 +10,7 @@ ghost use Rattle.sd_script.specs.declared.manner.Notation.{Notation as NotationV
 use crate::argument::{base_in, mask_in, node_in, number_in, sid_in, token_in};
 use crate::command::{Command, CommandName};
 use crate::deletion::deletion;
-use crate::edits::{
-    added_container, added_object, moved, protected, removed, set_dacl, set_group, set_owner,
-};
+use crate::edits::{added, moved, protected, removed, set_dacl, set_group, set_owner};
 use crate::fault::Stop;
 use crate::importing::importing;
 use crate::manner::Notation;
@@ -181,8 +179,14 @@ fn on_two(
 {
     match name {
         CommandName::Open => Some(opening(alloc, notation, first, second)),
-        CommandName::AddContainer => Some(added_container(alloc, notation, first, second)),
-        CommandName::AddObject => Some(added_object(alloc, notation, first, second)),
+        CommandName::AddContainer => Some(added(
+            alloc,
+            notation,
+            NodeKind::Container,
+            first,
+            second,
+        )),
+        CommandName::AddObject => Some(added(alloc, notation, NodeKind::Object, first, second)),
         CommandName::SetOwner => Some(set_owner(alloc, notation, first, second)),
         CommandName::SetGroup => Some(set_group(alloc, notation, first, second)),
         CommandName::SetDacl => Some(set_dacl(alloc, notation, first, second)),

@@ -1,7 +1,9 @@
 //! What a line that edits the tree asks for: its arguments, parsed from the left.
-ghost use Rattle.std.specs.Prelude.{◌∷◌, [], Some};
-ghost use Rattle.sd_script.specs.Command.{Parses, asks_taking};
-ghost use Rattle.sd_script.specs.declared.command.CommandName.TheVariants.{AddContainer, AddObject, SetOwner, SetGroup};
+ghost use Rattle.std.specs.Prelude.{◌≡◌, ◌∷◌, [], Some};
+ghost use Rattle.sd_script.specs.Addition.{addition as addition_of, row_of};
+ghost use Rattle.sd_script.specs.Command.{Parses, adds, asks_taking, reads};
+ghost use Rattle.sd_script.specs.Fault.{UnlessMemory};
+ghost use Rattle.sd_script.specs.declared.command.CommandName.TheVariants.{SetOwner, SetGroup};
 ghost use Rattle.sd_script.specs.declared.command.CommandName.TheVariants.{SetDacl, Remove, Protect, Move};
 
 use crate::argument::{dacl_in, node_in, sid_in};
@@ -10,45 +12,43 @@ use crate::fault::Stop;
 use crate::manner::Notation;
 use crate::paths::path_in;
 use sd_desk::Request;
-use sd_tree::{Edit, RootSpec};
+use sd_tree::{Edit, NodeKind, Path, RootSpec};
 use std::alloc::Global;
 
-/// A container with the descriptor of a text.
-pub(crate) fn added_container(
+/// A node of this kind with the descriptor of a text.
+pub(crate) fn added(
     alloc: Global,
     notation: Notation,
+    kind: NodeKind,
     path: &str,
     sddl: &str,
 ) -> Result<Asked, Stop>
-    ensures { Parses notation (asks_taking AddContainer (path.now ∷ sddl.now ∷ [])) (Some result) }
+    ensures { UnlessMemory (reads notation (adds kind path.now sddl.now)) result }
 {
     let path = path_in(alloc, notation.paths, path)?;
-    let RootSpec { owner, group, dacl } = node_in(alloc, notation, sddl)?;
-    Ok(Asked::Asking(Request::Edit(Edit::AddContainer {
-        path,
-        owner,
-        group,
-        dacl,
-    })))
+    let node = node_in(alloc, notation, sddl)?;
+    Ok(Asked::Asking(Request::Edit(addition(kind, path, node))))
 }
 
-/// An object with the descriptor of a text.
-pub(crate) fn added_object(
-    alloc: Global,
-    notation: Notation,
-    path: &str,
-    sddl: &str,
-) -> Result<Asked, Stop>
-    ensures { Parses notation (asks_taking AddObject (path.now ∷ sddl.now ∷ [])) (Some result) }
+/// The edit that adds a node of the kind with this of its own.
+pub(crate) fn addition(kind: NodeKind, path: Path, node: RootSpec) -> Edit
+    ensures { result ≡ addition_of kind path (row_of kind node) }
 {
-    let path = path_in(alloc, notation.paths, path)?;
-    let RootSpec { owner, group, dacl } = node_in(alloc, notation, sddl)?;
-    Ok(Asked::Asking(Request::Edit(Edit::AddObject {
-        path,
-        owner,
-        group,
-        dacl,
-    })))
+    let RootSpec { owner, group, dacl } = node;
+    match kind {
+        NodeKind::Container => Edit::AddContainer {
+            path,
+            owner,
+            group,
+            dacl,
+        },
+        NodeKind::Object => Edit::AddObject {
+            path,
+            owner,
+            group,
+            dacl,
+        },
+    }
 }
 
 /// Another owner of a node.

@@ -3,7 +3,6 @@ ghost use Rattle.std.specs.Prelude.{◌≡◌, IfOk, filter, string_bytes};
 ghost use Rattle.std.specs.Bool.{Decides};
 ghost use Rattle.sd_acl.specs.Canonical.{is_explicit, is_inherited};
 ghost use Rattle.sd_acl.specs.Descriptor.{descriptor_of};
-ghost use Rattle.sd_script.specs.Addition.{addition as addition_of, row_of};
 ghost use Rattle.sd_script.specs.Argument.{entries_in as entries_in_of, import_of as import_from, imported};
 ghost use Rattle.sd_script.specs.Argument.{imported_dacl as imported_dacl_of};
 ghost use Rattle.sd_script.specs.Command.{imports, reads};
@@ -15,6 +14,7 @@ ghost use Rattle.sd_tree.specs.Journal.{replay};
 
 use crate::argument::{descriptor_in, own_dacl};
 use crate::asked::Asked;
+use crate::edits::addition;
 use crate::fault::{LineFault, Stop};
 use crate::manner::Notation;
 use crate::paths::path_in;
@@ -111,27 +111,6 @@ fn explicit_in(alloc: Global, entries: &[Ace]) -> Result<Vec<Ace>, AllocError>
 {
     let explicit = entries.iter().filter(|entry| !entry.is_inherited());
     Ok(explicit.copied().collect(alloc)?)
-}
-
-/// The edit that adds a node of the kind with this of its own.
-fn addition(kind: NodeKind, path: Path, node: RootSpec) -> Edit
-    ensures { result ≡ addition_of kind path (row_of kind node) }
-{
-    let RootSpec { owner, group, dacl } = node;
-    match kind {
-        NodeKind::Container => Edit::AddContainer {
-            path,
-            owner,
-            group,
-            dacl,
-        },
-        NodeKind::Object => Edit::AddObject {
-            path,
-            owner,
-            group,
-            dacl,
-        },
-    }
 }
 
 /// The line of the reply to an edit that imports the node of a path. Of one that was accepted it says whether the node,

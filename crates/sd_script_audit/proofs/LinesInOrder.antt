@@ -5,17 +5,15 @@ use Rattle.std.specs.Str.Lines.{lines}
 use Rattle.sd_acl.specs.declared.ace.Ace.{Ace}
 use Rattle.sd_tree.specs.Names.{Names}
 use Rattle.sd_tree.specs.declared.edit.Edit.{Edit}
-use Rattle.sd_tree.specs.declared.opening.Opening.{Opening}
 use Rattle.sd_tree.specs.declared.opening.RootSpec.{RootSpec}
 use Rattle.sd_tree.specs.declared.refusal.EditRefusal.{EditRefusal}
-use Rattle.sd_desk.specs.Machine.{Machine, Steps, started}
+use Rattle.sd_desk.specs.Machine.{Machine, Steps}
 use Rattle.sd_versions.specs.Starts.{IsStartError}
 use Rattle.sd_desk.specs.declared.request.Reply.{Reply}
 use Rattle.sd_desk.specs.declared.request.Request.TheVariants as requests
 use Rattle.sd_versions.specs.declared.start.StartError.{StartError}
 use Rattle.sd_versions.specs.declared.start.StartError.TheVariants.{Readers, Root, Memory, Place}
 use Rattle.sd_store.specs.Errors.{IsStoreError}
-use Rattle.sd_store.specs.Sights.{StoreState}
 use Rattle.sd_store.specs.declared.query.Query.{Query}
 use Rattle.sd_script.specs.Importing.{IsImported}
 use Rattle.sd_script.specs.Lines.{is_silent}
@@ -29,7 +27,7 @@ use Rattle.sd_script.specs.declared.manner.Notation.{Notation}
 use Rattle.sd_script.specs.declared.session.Session.TheVariants.{Opened}
 use Rattle.sd_script.specs.declared.tally.Tally.{Tally}
 use Rattle.sd_script_audit.specs.Audit.{Audited, Progress, IsDoneInAudit, IsAnsweredInAudit, IsNextInAudit, AreAnsweredInAudit, unopened}
-use Rattle.sd_script_audit.specs.Parts.{IsOpenedAndAudited, OpensStore, machine_of}
+use Rattle.sd_script_audit.specs.Parts.{IsOpenedAndAudited, OpensStore}
 use Rattle.sd_script_audit.specs.declared.counted.Counted.{Counted}
 use Rattle.sd_script.proofs.NoId.{asks_and_expects_nothing}
 
@@ -41,7 +39,7 @@ done_answers bytes (Ok text) workers old new line asked loud asks done =
     rw (loud, asks_and_expects_nothing (manner_of old.store).notation (is_open old.store) line asked asks) (inl (asked, asks, done))
 done_answers bytes (Err e) workers old new line asked loud asks done = tt
 
--- an import is done as it is told
+-- an import is done as its line says
 pub import_done : {X E : Type 0} (bytes : X → List ℕ) (r : Result X E) (notation : Notation) (workers : ℕ) (old new : Machine) (queries : List Query)
     (e : Edit) (path : Names) (given : List Ace) (reply : Reply) → Steps old (requests.Edit e) reply new
     → IfOk r (λ text. IsImported new path given reply (bytes text))
@@ -100,11 +98,6 @@ module _ (whole : List ℕ → Tally → Type 0) (manner : Manner) (workers : �
         counted = held.2 ∙ ap (λ (c : Counted). tallied line held.0 c.tally) same;
       })
       (held.3 ∙ ap (λ (c : Counted). c.printed.items ++ held.0) same)
-
--- a writer that has just started stands for a machine that has
-pub machine_started : (notation : Notation) (o own : Opening) (n : ℕ) (w : StoreState) → o ≡ own → w.journal ≡ [] → w.pending ≡ []
-    → Opened notation (machine_of own n w) ≡ Opened notation (started o n)
-machine_started notation o own n w is journal pending = rw (is, journal, pending) refl
 
 -- an error with a line is one of a store of one thread
 pub told_error : (e : StartError) (n : ℕ) (due : Option EditRefusal) (text : List ℕ) → IsStoreError e n due → start_error_line e ≡ Some text → IsStartError e n due

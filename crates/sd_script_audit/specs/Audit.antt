@@ -34,12 +34,12 @@ pub record Progress : Type 0 where
 abbrev pub unopened : Manner → Progress
 unopened manner = record { store = Closed manner; queries = [] }
 
--- of what only a script does a fault is told
+-- what only a script does is a fault
 abbrev pub IsForScripts : Progress → List ℕ → Progress → Type 0
 IsForScripts old printed new = (printed ≡ fault_line (codes "audit")) × (new ≡ old)
 
 -- what is asked is done as in a script, but that a store is opened for the workers, that a check is kept, and that an
--- audit tells, teaches, shows, explains, finds and views nothing
+-- audit has no notices and no answers to readers, explains and finds nothing, and has no views
 abbrev pub IsDoneInAudit : ℕ → Progress → Asked → List ℕ → Progress → Type 0
 IsDoneInAudit workers old (Opens readers root) printed new = IsOpened
     (manner_of old.store) workers root printed new.store × (new.queries ≡ old.queries)
@@ -76,7 +76,8 @@ last_publish (edit ∷ edits) len = counted_line (codes "published") len
 abbrev pub answer_line : Opening → List Edit → Query → List ℕ
 answer_line opening journal query = seen_line (length journal) (check_line (reply_by opening journal query))
 
--- behind the last line: where a store is open, all that was accepted is published and told, and answers each query
+-- after the last line: where a store is open, all that was accepted is published, its length is printed, and it answers
+-- each query
 abbrev pub IsEnd : Session → List Query → List ℕ → Type 0
 IsEnd (Closed manner) queries printed = printed ≡ []
 IsEnd (Opened notation m) queries printed =

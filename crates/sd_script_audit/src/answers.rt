@@ -15,7 +15,7 @@ use std::alloc::{AllocError, Global};
 use std::sync::Wait;
 use std::thread::Threads;
 
-/// Publishes what waits, tells of it, and answers the queries by it.
+/// Publishes the pending edits, prints the journal's length, and answers the queries by it.
 pub(crate) fn publish_and_answer<J: Naming + Send + Sync, T: Threads + Wait + Sync, G: Gate + Sync>(
     rt: &T,
     alloc: Global,
@@ -39,7 +39,7 @@ pub(crate) fn publish_and_answer<J: Naming + Send + Sync, T: Threads + Wait + Sy
     }
 }
 
-/// Publishes what waits, where something does, and tells of all that is published.
+/// Publishes the pending edits, where there are some, and prints the journal's length.
 fn publish_and_tell<J: Naming, T: Wait>(
     rt: &T,
     alloc: Global,

@@ -115,7 +115,7 @@ fn answer_request<J: Naming, T: Wait>(
     }
 }
 
-/// What an import is answered by: the edit is made, and the tree of all edits that were accepted tells the rest.
+/// What an import is answered by: the edit is made, and the node is compared in the tree of all accepted edits.
 fn import<J: Naming>(
     alloc: Global,
     writer: &mut StoreWriter<J>,
@@ -132,7 +132,7 @@ fn import<J: Naming>(
     import_line(alloc, writer.draft(), path, given, &reply)
 }
 
-/// What is told of a command that only a script carries out.
+/// The line of a command that only a script carries out.
 pub(crate) fn only_in_scripts(alloc: Global) -> Result<String, AllocError>
     ensures { IfOk result (λ text. string_bytes text ≡ fault_line_of (codes "audit")) }
 {

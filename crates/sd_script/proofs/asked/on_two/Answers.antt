@@ -4,10 +4,10 @@ pub returns-in-Open : goal.returns-in-Open
 returns-in-Open c = rw (c.in-Open.is) c.opening.ensures
 
 pub returns-in-AddContainer : goal.returns-in-AddContainer
-returns-in-AddContainer c = rw (c.in-AddContainer.is) c.added_container.ensures
+returns-in-AddContainer c = rw (c.in-AddContainer.is) c.added.ensures
 
 pub returns-in-AddObject : goal.returns-in-AddObject
-returns-in-AddObject c = rw (c.in-AddObject.is) c.added_object.ensures
+returns-in-AddObject c = rw (c.in-AddObject.is) c.added-in-AddObject.ensures
 
 pub returns-in-SetOwner : goal.returns-in-SetOwner
 returns-in-SetOwner c = rw (c.in-SetOwner.is) c.set_owner.ensures
