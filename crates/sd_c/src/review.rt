@@ -18,6 +18,7 @@ use crate::answer::{Written, write};
 use crate::handle::{Handle, Kept};
 use crate::not_done::NotDone;
 use crate::views::not_told;
+use sd_answer::Spelling;
 use sd_path::Path;
 use sd_review::{Compared, Former, Review};
 use sd_sid::Mask;
@@ -294,7 +295,7 @@ fn changes_of(alloc: Global, compared: &Compared) -> Result<Changes, AllocError>
     ensures { (g : MappingValue) (x y : Option DescriptorValue) → IsOfBoth g x y (Some compared.now)
         → IfOk result (AreChangesOf g x y) }
 {
-    let lines = compared.lines(alloc, "")?;
+    let lines = compared.lines(alloc, Spelling::Number, "")?;
     let gained = bits_of(&compared.comparison.gained);
     let lost = bits_of(&compared.comparison.lost);
     Ok(Changes {

@@ -16,6 +16,7 @@ manner_of options settings = record {
   mapping = settings.mapping;
   notation = record {
     paths = paths_of options;
+    spelling = settings.spelling;
     aliases = settings.aliases;
     without_sacl = settings.without_sacl;
     is_json = is_json options;

@@ -118,6 +118,7 @@ impl<'a> Options<'a> {
             mapping: settings.mapping,
             notation: Notation {
                 paths: self.paths(),
+                spelling: settings.spelling,
                 aliases: settings.aliases,
                 without_sacl: settings.without_sacl,
                 is_json: self.is_json(),

@@ -2,12 +2,12 @@
 use Rattle.std.specs.Prelude.{ℕ, List}
 use Rattle.sd_acl.specs.Descriptor.{descriptor_of}
 use Rattle.sd_answer.specs.Compare.{gains_and_losses}
-use Rattle.sd_answer.specs.declared.answer.Spelling.TheVariants.{Number}
+use Rattle.sd_answer.specs.declared.answer.Spelling.{Spelling}
 use Rattle.sd_review.specs.Parts.{parts_in}
 use Rattle.sd_review.specs.declared.compared.Compared.{Compared}
 
 -- those of `compare`, each after a head
-abbrev pub lines : List ℕ → Compared → List ℕ
-lines head c =
-    gains_and_losses Number head (parts_in (descriptor_of c.before)) (parts_in (descriptor_of c.after))
+abbrev pub lines : Spelling → List ℕ → Compared → List ℕ
+lines spelling head c =
+    gains_and_losses spelling head (parts_in (descriptor_of c.before)) (parts_in (descriptor_of c.after))
     c.comparison.gained.items c.comparison.lost.items

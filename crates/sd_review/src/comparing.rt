@@ -6,7 +6,6 @@ ghost use Rattle.sd_analysis.specs.Compare.{AreGains};
 ghost use Rattle.sd_analysis.specs.Sufficient.{parts_of};
 ghost use Rattle.sd_check.specs.Check.{dacl_entries, entries_of};
 ghost use Rattle.sd_answer.specs.Compare.{gains_and_losses};
-ghost use Rattle.sd_answer.specs.declared.answer.Spelling.TheVariants.{Number};
 ghost use Rattle.sd_review.specs.Compared.{HasParts, IsOf, IsOfBoth, IsRight};
 ghost use Rattle.sd_review.specs.Lines.{lines};
 ghost use Rattle.sd_review.specs.Parts.{parts_in};
@@ -93,29 +92,30 @@ fn comparison_of(
 }
 
 impl Compared {
-    /// The lines of `compare` ([MS-DTYP] 2.5.3.2), each after a head: none where no token gains or loses a right. Fails
-    /// only out of memory.
-    pub fn lines(&self, alloc: Global, head: &str) -> Result<String, AllocError>
-        ensures { IfOk result (λ text. string_bytes text ≡ lines head.now self.now) }
+    /// The lines of `compare` ([MS-DTYP] 2.5.3.2), masks in this spelling, each after a head: none where no token gains
+    /// or loses a right. Fails only out of memory.
+    pub fn lines(&self, alloc: Global, spelling: Spelling, head: &str) -> Result<String, AllocError>
+        ensures { IfOk result (λ text. string_bytes text ≡ lines spelling head.now self.now) }
     {
         let old = looked_at(&self.before);
         let new = looked_at(&self.after);
-        let text = lines_between(alloc, head, &old, &new, &self.comparison)?;
+        let text = lines_between(alloc, spelling, head, &old, &new, &self.comparison)?;
         Ok(text)
     }
 }
 
 fn lines_between<'x>(
     alloc: Global,
+    spelling: Spelling,
     head: &str,
     old: &'x DescriptorRef<'x>,
     new: &'x DescriptorRef<'x>,
     comparison: &Comparison,
 ) -> Result<String, AllocError>
-    ensures { IfOk result (λ text. string_bytes text ≡ gains_and_losses Number head.now (parts_of old.now)
+    ensures { IfOk result (λ text. string_bytes text ≡ gains_and_losses spelling head.now (parts_of old.now)
         (parts_of new.now) comparison.now.gained.items comparison.now.lost.items) }
 {
-    gains_and_losses(alloc, Spelling::Number, head, old, new, comparison)
+    gains_and_losses(alloc, spelling, head, old, new, comparison)
 }
 
 /// A descriptor, as far as a check looks at it ([MS-DTYP] 2.5.3.2): its owner and its DACL.

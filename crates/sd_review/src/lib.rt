@@ -13,7 +13,7 @@
 //! }
 //! if let Some(compared) = &last {
 //!     // compared.comparison has the rights that some token gains, and those that some token loses
-//!     print(compared.lines(alloc, "/a ")?); // /a gained 0x2 by S-1-5-32-545
+//!     print(compared.lines(alloc, Spelling::Number, "/a ")?); // /a gained 0x2 by S-1-5-32-545
 //! }
 //! ```
 #![tactic(auto)]

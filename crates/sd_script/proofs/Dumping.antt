@@ -11,7 +11,6 @@ use Rattle.std.specs.Str.Lines.{lines, strip_carriage_return}
 use Rattle.std.proofs.Math.ListN.{drop_of_length-le}
 use Rattle.std.proofs.lemmas.Bool.{cases_lt, false≢true, lt-ltb}
 use Rattle.sd_acl.specs.Descriptor.{DescriptorValue}
-use Rattle.sd_text.specs.Canon.{canon}
 use Rattle.sd_tree.specs.Names.{Names, is_root, names_cmp}
 use Rattle.sd_tree.specs.Plain.{PlainTree, row_at}
 use Rattle.sd_tree.specs.Answers.{given_at}
@@ -25,10 +24,10 @@ use Rattle.sd_script.specs.Command.{line_asks}
 use Rattle.sd_script.specs.Dump.{adding_word, making, makings, making_line, IsAskedBy, AreAskedBy}
 use Rattle.sd_script.specs.Lines.{is_silent}
 use Rattle.sd_script.specs.Paths.{path_word}
+use Rattle.sd_script.specs.Reply.{shown_sddl}
 use Rattle.sd_script.specs.declared.asked.Asked.{Asked}
 use Rattle.sd_script.specs.declared.fault.LineFault.{LineFault}
 use Rattle.sd_script.specs.declared.manner.Notation.{Notation}
-use Rattle.sd_script.specs.declared.paths.PathSpelling.{PathSpelling}
 use Rattle.sd_script.proofs.Cutting.{feeds, lines_first, lines_whole}
 use Rattle.sd_script.proofs.OneReading.{line-one}
 
@@ -38,15 +37,15 @@ path_decides p q r is = (λ e. one_path p q (sym is ∙ e), λ e. is ∙ ap (eq_
 
 -- ---- the line of a node
 
-pub root_line : (paths : PathSpelling) (readers : ℕ) (path : Names) (row : Row) → is_root path ≡ true
-    → making_line paths readers path row ≡ line (codes "open " ++ decimal readers ++ codes " " ++ canon (own_descriptor_of_row row))
-root_line paths readers [] row is = refl
-root_line paths readers (name ∷ names) row is = absurd (cc (is))
+pub root_line : (notation : Notation) (readers : ℕ) (path : Names) (row : Row) → is_root path ≡ true
+    → making_line notation readers path row ≡ line (codes "open " ++ decimal readers ++ codes " " ++ shown_sddl notation.spelling (own_descriptor_of_row row))
+root_line notation readers [] row is = refl
+root_line notation readers (name ∷ names) row is = absurd (cc (is))
 
-pub adding_line : (paths : PathSpelling) (readers : ℕ) (path : Names) (row : Row) → is_root path ≡ false
-    → making_line paths readers path row ≡ line (adding_word row.kind ++ codes " " ++ path_word paths path ++ codes " " ++ canon (own_descriptor_of_row row))
-adding_line paths readers [] row is = absurd (cc (is))
-adding_line paths readers (name ∷ names) row is = refl
+pub adding_line : (notation : Notation) (readers : ℕ) (path : Names) (row : Row) → is_root path ≡ false
+    → making_line notation readers path row ≡ line (adding_word row.kind ++ codes " " ++ path_word notation.paths path ++ codes " " ++ shown_sddl notation.spelling (own_descriptor_of_row row))
+adding_line notation readers [] row is = absurd (cc (is))
+adding_line notation readers (name ∷ names) row is = refl
 
 -- ---- the nodes one after the other
 

@@ -14,7 +14,7 @@ use Rattle.sd_script.specs.declared.session.Session.TheVariants.{Opened}
 
 pub found_done : {A E : Type 0} (bytes : A → List ℕ) (r : Result A E) (notation : Notation) (old new : Machine) (reader : ℕ) (path copy : Names)
     (token : TokenValue) (asked : ℕ) (reply : Reply) → copy ≡ path → Steps old (Show reader copy) reply new
-    → IfOk r (λ a. found_reply notation.paths new path (Granting token asked) reply ≡ Some (bytes a))
+    → IfOk r (λ a. found_reply notation new path (Granting token asked) reply ≡ Some (bytes a))
     → IfOk r (λ a. IsDone (Opened notation old) (Finding reader path token asked) (bytes a) (Opened notation new))
 found_done bytes (Ok a) notation old new reader path copy token asked reply same steps text =
     (reply, new, subst (λ p. Steps old (Show reader p) reply new) same steps, text, refl)

@@ -9,7 +9,7 @@ use Rattle.sd_check.specs.declared.token.GroupState.{GroupState}
 use Rattle.sd_analysis.specs.Who.{AllBeyond, HasEachOnce, IsMost, IsWho}
 use Rattle.sd_analysis.specs.declared.who_has.Access.{Access}
 use Rattle.sd_answer.specs.Who.{who_text}
-use Rattle.sd_answer.specs.declared.answer.Spelling.TheVariants.{Number}
+use Rattle.sd_answer.specs.declared.answer.Spelling.{Spelling}
 use Rattle.sd_script.specs.Who.{IsWhoText, or_empty, rights_asked}
 
 -- what holds of a list, a base and rights holds of equal ones
@@ -17,12 +17,12 @@ moved : (P : Option (List Ace) → List (SidValue × GroupState) → ℕ → Typ
     → es ≡ fs → a ≡ b → r ≡ s → P es a r → P fs b s
 moved P es fs a b r s lists bases rights x = subst (λ z. P z b s) lists (subst (λ z. P es z s) bases (subst (λ z. P es a z) rights x))
 
-pub granted_lines : (g : MappingValue) (d : DescriptorValue) (asked : ℕ) (groups : List (SidValue × GroupState))
+pub granted_lines : (spelling : Spelling) (g : MappingValue) (d : DescriptorValue) (asked : ℕ) (groups : List (SidValue × GroupState))
     (es : Option (List Ace)) (base : List (SidValue × GroupState)) (rights : ℕ) (all : List Access) (text : List ℕ)
     → es ≡ dacl_entries d.dacl → base ≡ groups → rights ≡ rights_asked g asked
     → IsWho d.owner es g base rights all → IsMost d.owner es g base rights all → HasEachOnce rights all → AllBeyond base all
-    → text ≡ or_empty (who_text Number all) → IsWhoText g (Some d) asked groups text
-granted_lines g d asked groups es base rights all text lists bases same exact most each beyond is = (
+    → text ≡ or_empty (who_text spelling all) → IsWhoText spelling g (Some d) asked groups text
+granted_lines spelling g d asked groups es base rights all text lists bases same exact most each beyond is = (
   all,
   moved (λ es base rights. IsWho d.owner es g base rights all) es (dacl_entries d.dacl) base groups rights (rights_asked g asked) lists bases same exact,
   moved (λ es base rights. IsMost d.owner es g base rights all) es (dacl_entries d.dacl) base groups rights (rights_asked g asked) lists bases same most,

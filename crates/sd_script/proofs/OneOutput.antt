@@ -10,7 +10,6 @@ use Rattle.sd_sid.specs.Mapping.{MappingValue}
 use Rattle.sd_acl.specs.declared.ace.Ace.{Ace}
 use Rattle.sd_acl.specs.Descriptor.{DescriptorValue, descriptor_of}
 use Rattle.sd_acl.specs.declared.descriptor.Descriptor.{Descriptor}
-use Rattle.sd_text.specs.Canon.{canon}
 use Rattle.sd_tree.specs.Answers.{answer, descriptor_at, kind_at}
 use Rattle.sd_tree.specs.Journal.{replay}
 use Rattle.sd_tree.specs.Names.{Names}
@@ -37,13 +36,12 @@ use Rattle.sd_script.specs.Lines.{is_silent}
 use Rattle.sd_script.specs.Importing.{IsImported, imported_line}
 use Rattle.sd_lines.specs.Answers.{AreAnswered}
 use Rattle.sd_script.specs.Output.{is_open, manner_of, IsOpened, IsAnswered, IsDone, IsTold, IsNext, begun, closing_of}
-use Rattle.sd_script.specs.Reply.{check_line, counted_line, refused_line, reply_line, seen_line, shown_line, start_error_line}
+use Rattle.sd_script.specs.Reply.{check_line, counted_line, refused_line, reply_line, seen_line, shown_line, shown_sddl, start_error_line}
 use Rattle.sd_script.specs.declared.asked.Asked.{Asked}
 use Rattle.sd_script.specs.declared.asked.Asked.TheVariants.{Opening, Asking, Explaining, Finding, Deleting, Viewing, Importing}
 use Rattle.sd_script.specs.declared.carried.Carried.{Carried}
 use Rattle.sd_script.specs.declared.manner.Manner.{Manner}
 use Rattle.sd_script.specs.declared.manner.Notation.{Notation}
-use Rattle.sd_script.specs.declared.paths.PathSpelling.{PathSpelling}
 use Rattle.sd_script.specs.declared.session.Session.{Session}
 use Rattle.sd_script.specs.declared.session.Session.TheVariants.{Closed, Opened}
 use Rattle.sd_script.specs.Tally.{tallied}
@@ -53,7 +51,7 @@ use Rattle.sd_script.specs.declared.view.View.{View}
 use Rattle.sd_script.specs.declared.view.View.TheVariants.{List as Lists, Dump, Who, Review}
 use Rattle.sd_script.specs.Reply.{explained_reply, node_why_text}
 use Rattle.sd_answer.specs.Why.{why_text}
-use Rattle.sd_answer.specs.declared.answer.Spelling.TheVariants.{Number}
+use Rattle.sd_answer.specs.declared.answer.Spelling.{Spelling}
 use Rattle.sd_check.specs.Token.{TokenValue}
 use Rattle.sd_script.proofs.OneReading.{line-one}
 
@@ -73,24 +71,24 @@ abbrev pub edited : Machine → Edit → Option EditRefusal → List ℕ × Mach
 edited m e None = (line (codes "ok"), with_edit m e)
 edited m e (Some refusal) = (refused_line refusal, m)
 
-abbrev shown : Option DescriptorValue → List ℕ
-shown (Some d) = line (codes "shown " ++ canon d)
-shown None = line (codes "nonode")
+abbrev shown : Spelling → Option DescriptorValue → List ℕ
+shown spelling (Some d) = line (codes "shown " ++ shown_sddl spelling d)
+shown spelling None = line (codes "nonode")
 
-abbrev pub outcome : Machine → Request → List ℕ × Machine
-outcome m (requests.Edit e) = edited m e (due m e)
-outcome m requests.Publish = (counted_line (codes "published") (length (accepted m)), with_publish m)
-outcome m requests.Tell = (counted_line (codes "told") (length m.published), m)
-outcome m (requests.Learn reader len) = for_reader m reader
+abbrev pub outcome : Spelling → Machine → Request → List ℕ × Machine
+outcome spelling m (requests.Edit e) = edited m e (due m e)
+outcome spelling m requests.Publish = (counted_line (codes "published") (length (accepted m)), with_publish m)
+outcome spelling m requests.Tell = (counted_line (codes "told") (length m.published), m)
+outcome spelling m (requests.Learn reader len) = for_reader m reader
     (if nat_le len (length m.published) then learned m reader (longer (floor_of m reader) (take len m.published)) else (line (codes "nonotice"), m))
-outcome m (requests.Check reader names t asked) = for_reader m reader
-    (seen_line (length m.published) (check_line (answer m.opening m.published names t asked)), with_look m reader)
-outcome m (requests.Show reader names) = for_reader m reader
-    (seen_line (length m.published) (shown (descriptor_at m.opening.mapping (replay m.opening m.published) names)), with_look m reader)
+outcome spelling m (requests.Check reader names t asked) = for_reader m reader
+    (seen_line (length m.published) (check_line spelling (answer m.opening m.published names t asked)), with_look m reader)
+outcome spelling m (requests.Show reader names) = for_reader m reader
+    (seen_line (length m.published) (shown spelling (descriptor_at m.opening.mapping (replay m.opening m.published) names)), with_look m reader)
 
-shown_is : (d : Option Descriptor) → shown_line d ≡ shown (option_map descriptor_of d)
-shown_is (Some d) = refl
-shown_is None = refl
+shown_is : (spelling : Spelling) (d : Option Descriptor) → shown_line spelling d ≡ shown spelling (option_map descriptor_of d)
+shown_is spelling (Some d) = refl
+shown_is spelling None = refl
 
 printed_is : (xs ys : List ℕ) (m n : Machine) → Some xs ≡ Some ys → n ≡ m → pair ys n ≡ pair xs m
 printed_is xs ys m n text machine = let same : xs ≡ ys = cc (text) in rw (machine, same) refl
@@ -101,88 +99,90 @@ there m reader x low = rw (lt-ltb reader (length m.floors) low) refl
 absent : (m : Machine) (reader : ℕ) (x : List ℕ × Machine) → length m.floors ≤ reader → for_reader m reader x ≡ pair (line (codes "noreader")) m
 absent m reader x high = rw (le-ltb reader (length m.floors) high) refl
 
-pub one_step : (old : Machine) (r : Request) (reply : Reply) (new : Machine) (printed : List ℕ)
-    → Steps old r reply new → reply_line reply ≡ Some printed → pair printed new ≡ outcome old r
-one_step old (requests.Edit e) replies.Edited new printed is text = rw (is.0) (printed_is _ printed _ new text is.1)
-one_step old (requests.Edit e) (replies.Refused refusal) new printed is text = rw (is.0) (printed_is _ printed _ new text is.1)
-one_step old requests.Publish (replies.Published len) new printed is text = rw (← is.0) (printed_is _ printed _ new text is.1)
-one_step old requests.Tell (replies.Told len) new printed is text = rw (← is.0) (printed_is _ printed _ new text is.1)
-one_step old (requests.Learn reader len) replies.NoReader new printed is text =
+pub one_step : (spelling : Spelling) (old : Machine) (r : Request) (reply : Reply) (new : Machine) (printed : List ℕ)
+    → Steps old r reply new → reply_line spelling reply ≡ Some printed → pair printed new ≡ outcome spelling old r
+one_step spelling old (requests.Edit e) replies.Edited new printed is text = rw (is.0) (printed_is _ printed _ new text is.1)
+one_step spelling old (requests.Edit e) (replies.Refused refusal) new printed is text = rw (is.0) (printed_is _ printed _ new text is.1)
+one_step spelling old requests.Publish (replies.Published len) new printed is text = rw (← is.0) (printed_is _ printed _ new text is.1)
+one_step spelling old requests.Tell (replies.Told len) new printed is text = rw (← is.0) (printed_is _ printed _ new text is.1)
+one_step spelling old (requests.Learn reader len) replies.NoReader new printed is text =
     printed_is _ printed _ new text is.1 ∙ sym (absent old reader _ is.0)
-one_step old (requests.Learn reader len) replies.NoNotice new printed is text =
+one_step spelling old (requests.Learn reader len) replies.NoNotice new printed is text =
     printed_is _ printed _ new text is.2 ∙ sym (there old reader _ is.0 ∙ rw (lt-leb len (length old.published) is.1) refl)
-one_step old (requests.Learn reader len) (replies.Learned floor) new printed is text =
+one_step spelling old (requests.Learn reader len) (replies.Learned floor) new printed is text =
     printed_is _ printed _ new (ap (λ n. Some (counted_line (codes "learned") n)) (sym is.2) ∙ text) is.3
     ∙ sym (there old reader _ is.0 ∙ rw (le-leb len (length old.published) is.1) refl)
-one_step old (requests.Check reader names t asked) replies.NoReader new printed is text =
+one_step spelling old (requests.Check reader names t asked) replies.NoReader new printed is text =
     printed_is _ printed _ new text is.1 ∙ sym (absent old reader _ is.0)
-one_step old (requests.Check reader names t asked) (replies.Answered given) new printed is text =
-    printed_is _ printed _ new (ap (λ g. reply_line (replies.Answered g)) (sym is.1) ∙ text) is.2 ∙ sym (there old reader _ is.0)
-one_step old (requests.Show reader names) replies.NoReader new printed is text =
+one_step spelling old (requests.Check reader names t asked) (replies.Answered given) new printed is text =
+    printed_is _ printed _ new (ap (λ g. reply_line spelling (replies.Answered g)) (sym is.1) ∙ text) is.2 ∙ sym (there old reader _ is.0)
+one_step spelling old (requests.Show reader names) replies.NoReader new printed is text =
     printed_is _ printed _ new text is.1 ∙ sym (absent old reader _ is.0)
-one_step old (requests.Show reader names) (replies.Shown seen d) new printed is text =
-    printed_is _ printed _ new (ap (λ n. Some (seen_line n (shown (descriptor_at old.opening.mapping (replay old.opening old.published) names)))) (sym is.1)
-    ∙ ap (λ x. Some (seen_line seen (shown x))) (sym is.2) ∙ ap (λ x. Some (seen_line seen x)) (sym (shown_is d)) ∙ text) is.3 ∙ sym (there old reader _ is.0)
-one_step old (requests.Edit e) replies.Memory new printed is text = absurd (cc (text))
-one_step old requests.Publish replies.Memory new printed is text = absurd (cc (text))
-one_step old (requests.Show reader names) replies.Memory new printed is text = absurd (cc (text))
-one_step old r reply new printed is text = absurd is
+one_step spelling old (requests.Show reader names) (replies.Shown seen d) new printed is text =
+    printed_is _ printed _ new (ap (λ n. Some (seen_line n (shown spelling (descriptor_at old.opening.mapping (replay old.opening old.published) names)))) (sym is.1)
+    ∙ ap (λ x. Some (seen_line seen (shown spelling x))) (sym is.2) ∙ ap (λ x. Some (seen_line seen x)) (sym (shown_is spelling d)) ∙ text) is.3 ∙ sym (there old reader _ is.0)
+one_step spelling old (requests.Edit e) replies.Memory new printed is text = absurd (cc (text))
+one_step spelling old requests.Publish replies.Memory new printed is text = absurd (cc (text))
+one_step spelling old (requests.Show reader names) replies.Memory new printed is text = absurd (cc (text))
+one_step spelling old r reply new printed is text = absurd is
 
 -- what is told of why, and the machine then
-abbrev pub reasons : MappingValue → TokenValue → ℕ → Option DescriptorValue → List ℕ
-reasons g t asked (Some d) = why_text g Number d t asked
-reasons g t asked None = line (codes "nonode")
+abbrev pub reasons : Spelling → MappingValue → TokenValue → ℕ → Option DescriptorValue → List ℕ
+reasons spelling g t asked (Some d) = why_text g spelling d t asked
+reasons spelling g t asked None = line (codes "nonode")
 
-abbrev pub explained : Machine → ℕ → Names → TokenValue → ℕ → List ℕ × Machine
-explained m reader names t asked = for_reader m reader
-    (seen_line (length m.published) (reasons m.opening.mapping t asked (descriptor_at m.opening.mapping (replay m.opening m.published) names)), with_look m reader)
+abbrev pub explained : Spelling → Machine → ℕ → Names → TokenValue → ℕ → List ℕ × Machine
+explained spelling m reader names t asked = for_reader m reader
+    (seen_line (length m.published) (reasons spelling m.opening.mapping t asked (descriptor_at m.opening.mapping (replay m.opening m.published) names)), with_look m reader)
 
-reasons_are : (g : MappingValue) (t : TokenValue) (asked : ℕ) (d : Option Descriptor) → node_why_text g t asked d ≡ reasons g t asked (option_map descriptor_of d)
-reasons_are g t asked (Some d) = refl
-reasons_are g t asked None = refl
+reasons_are : (spelling : Spelling) (g : MappingValue) (t : TokenValue) (asked : ℕ) (d : Option Descriptor)
+    → node_why_text spelling g t asked d ≡ reasons spelling g t asked (option_map descriptor_of d)
+reasons_are spelling g t asked (Some d) = refl
+reasons_are spelling g t asked None = refl
 
-pub one_explained : (old : Machine) (reader : ℕ) (names : Names) (t : TokenValue) (asked : ℕ) (reply : Reply) (new : Machine) (printed : List ℕ)
-    → Steps old (requests.Show reader names) reply new → explained_reply old.opening.mapping t asked reply ≡ Some printed → pair printed new ≡ explained old reader names t asked
-one_explained old reader names t asked replies.NoReader new printed is text =
+pub one_explained : (spelling : Spelling) (old : Machine) (reader : ℕ) (names : Names) (t : TokenValue) (asked : ℕ) (reply : Reply) (new : Machine) (printed : List ℕ)
+    → Steps old (requests.Show reader names) reply new → explained_reply spelling old.opening.mapping t asked reply ≡ Some printed
+    → pair printed new ≡ explained spelling old reader names t asked
+one_explained spelling old reader names t asked replies.NoReader new printed is text =
     printed_is _ printed _ new text is.1 ∙ sym (absent old reader _ is.0)
-one_explained old reader names t asked (replies.Shown seen d) new printed is text =
-    printed_is _ printed _ new (ap (λ n. Some (seen_line n (reasons old.opening.mapping t asked (descriptor_at old.opening.mapping (replay old.opening old.published) names)))) (sym is.1)
-    ∙ ap (λ x. Some (seen_line seen (reasons old.opening.mapping t asked x))) (sym is.2) ∙ ap (λ x. Some (seen_line seen x)) (sym (reasons_are old.opening.mapping t asked d)) ∙ text) is.3 ∙ sym (there old reader _ is.0)
-one_explained old reader names t asked replies.Memory new printed is text = absurd (cc (text))
-one_explained old reader names t asked reply new printed is text = absurd is
+one_explained spelling old reader names t asked (replies.Shown seen d) new printed is text =
+    printed_is _ printed _ new (ap (λ n. Some (seen_line n (reasons spelling old.opening.mapping t asked (descriptor_at old.opening.mapping (replay old.opening old.published) names)))) (sym is.1)
+    ∙ ap (λ x. Some (seen_line seen (reasons spelling old.opening.mapping t asked x))) (sym is.2) ∙ ap (λ x. Some (seen_line seen x)) (sym (reasons_are spelling old.opening.mapping t asked d)) ∙ text) is.3 ∙ sym (there old reader _ is.0)
+one_explained spelling old reader names t asked replies.Memory new printed is text = absurd (cc (text))
+one_explained spelling old reader names t asked reply new printed is text = absurd is
 
 -- the nodes that are found, and the machine then
-abbrev found : PathSpelling → Machine → ℕ → Names → TokenValue → ℕ → List ℕ × Machine
-found paths m reader names t asked = for_reader m reader (
-  found_in paths m.opening.mapping (replay m.opening m.published) names (Granting t asked) (length m.published)
+abbrev found : Notation → Machine → ℕ → Names → TokenValue → ℕ → List ℕ × Machine
+found notation m reader names t asked = for_reader m reader (
+  found_in notation m.opening.mapping (replay m.opening m.published) names (Granting t asked) (length m.published)
       (kind_at (replay m.opening m.published) names),
   with_look m reader,
 )
 
-one_found : (paths : PathSpelling) (old : Machine) (reader : ℕ) (names : Names) (t : TokenValue) (asked : ℕ) (reply : Reply) (new : Machine) (printed : List ℕ)
-    → Steps old (requests.Show reader names) reply new → found_reply paths new names (Granting t asked) reply ≡ Some printed
-    → pair printed new ≡ found paths old reader names t asked
-one_found paths old reader names t asked replies.NoReader new printed is text =
+one_found : (notation : Notation) (old : Machine) (reader : ℕ) (names : Names) (t : TokenValue) (asked : ℕ) (reply : Reply) (new : Machine) (printed : List ℕ)
+    → Steps old (requests.Show reader names) reply new → found_reply notation new names (Granting t asked) reply ≡ Some printed
+    → pair printed new ≡ found notation old reader names t asked
+one_found notation old reader names t asked replies.NoReader new printed is text =
     printed_is _ printed _ new text is.1 ∙ sym (absent old reader _ is.0)
-one_found paths old reader names t asked (replies.Shown seen d) new printed is text =
-    printed_is _ printed _ new (ap (λ n. found_reply paths (with_look old reader) names (Granting t asked) (replies.Shown n d)) (sym is.1)
-    ∙ ap (λ n. found_reply paths n names (Granting t asked) (replies.Shown seen d)) (sym is.3) ∙ text) is.3 ∙ sym (there old reader _ is.0)
-one_found paths old reader names t asked replies.Memory new printed is text = absurd (cc (text))
-one_found paths old reader names t asked reply new printed is text = absurd is
+one_found notation old reader names t asked (replies.Shown seen d) new printed is text =
+    printed_is _ printed _ new (ap (λ n. found_reply notation (with_look old reader) names (Granting t asked) (replies.Shown n d)) (sym is.1)
+    ∙ ap (λ n. found_reply notation n names (Granting t asked) (replies.Shown seen d)) (sym is.3) ∙ text) is.3 ∙ sym (there old reader _ is.0)
+one_found notation old reader names t asked replies.Memory new printed is text = absurd (cc (text))
+one_found notation old reader names t asked reply new printed is text = absurd is
 
 -- whether a node may be deleted, and the machine then
 abbrev pub deleted : Machine → Bool → ℕ → Names → TokenValue → List ℕ × Machine
 deleted m by_parent reader names t = for_reader m reader
     (seen_line (length m.published) (deletion_line (answer m.opening m.published names t delete_right) by_parent), with_look m reader)
 
-pub one_deletion : (old : Machine) (by_parent : Bool) (reader : ℕ) (names : Names) (t : TokenValue) (reply : Reply) (new : Machine) (printed : List ℕ)
-    → Steps old (requests.Check reader names t delete_right) reply new → deletion_reply by_parent reply ≡ Some printed
+pub one_deletion : (spelling : Spelling) (old : Machine) (by_parent : Bool) (reader : ℕ) (names : Names) (t : TokenValue) (reply : Reply) (new : Machine) (printed : List ℕ)
+    → Steps old (requests.Check reader names t delete_right) reply new → deletion_reply spelling by_parent reply ≡ Some printed
     → pair printed new ≡ deleted old by_parent reader names t
-one_deletion old by_parent reader names t replies.NoReader new printed is text =
+one_deletion spelling old by_parent reader names t replies.NoReader new printed is text =
     printed_is _ printed _ new text is.1 ∙ sym (absent old reader _ is.0)
-one_deletion old by_parent reader names t (replies.Answered given) new printed is text =
-    printed_is _ printed _ new (ap (λ g. deletion_reply by_parent (replies.Answered g)) (sym is.1) ∙ text) is.2 ∙ sym (there old reader _ is.0)
-one_deletion old by_parent reader names t reply new printed is text = absurd is
+one_deletion spelling old by_parent reader names t (replies.Answered given) new printed is text =
+    printed_is _ printed _ new (ap (λ g. deletion_reply spelling by_parent (replies.Answered g)) (sym is.1) ∙ text) is.2 ∙ sym (there old reader _ is.0)
+one_deletion spelling old by_parent reader names t reply new printed is text = absurd is
 
 -- ---- openings
 
@@ -227,31 +227,31 @@ dump-one notation m p q (inr one) (inr other) = one.1 ∙ sym other.1
 
 -- ---- imports
 
-pub imported-one : (m : Machine) (path : Names) (given : List Ace) (p q : List ℕ)
-    → IsImported m path given replies.Edited p → IsImported m path given replies.Edited q → p ≡ q
-imported-one m path given p q one other =
+pub imported-one : (spelling : Spelling) (m : Machine) (path : Names) (given : List Ace) (p q : List ℕ)
+    → IsImported spelling m path given replies.Edited p → IsImported spelling m path given replies.Edited q → p ≡ q
+imported-one spelling m path given p q one other =
     let inherits = one_answer one.0 other.0 one.2 other.2 in
     let ordered = one_answer one.1 other.1 one.3 other.3 in
     one.4 ∙ ap (λ b. imported_line b one.1) inherits ∙ ap (imported_line other.0) ordered ∙ sym other.4
 
-step-one : (m : Machine) (e : Edit) (r s : Reply) (x y : Machine) (p q : List ℕ) (path : Names) (given : List Ace)
-    → Steps m (requests.Edit e) r x → Steps m (requests.Edit e) s y → IsImported x path given r p → IsImported y path given s q → (p ≡ q) × (x ≡ y)
-step-one m e replies.Edited replies.Edited x y p q path given one other first second =
+step-one : (spelling : Spelling) (m : Machine) (e : Edit) (r s : Reply) (x y : Machine) (p q : List ℕ) (path : Names) (given : List Ace)
+    → Steps m (requests.Edit e) r x → Steps m (requests.Edit e) s y → IsImported spelling x path given r p → IsImported spelling y path given s q → (p ≡ q) × (x ≡ y)
+step-one spelling m e replies.Edited replies.Edited x y p q path given one other first second =
     let same = one.1 ∙ sym other.1 in
-    (imported-one y path given p q (subst (λ n. IsImported n path given replies.Edited p) same first) second, same)
-step-one m e replies.Edited (replies.Refused refusal) x y p q path given one other first second = absurd (let no = sym one.0 ∙ other.0 in cc (no))
-step-one m e (replies.Refused refusal) replies.Edited x y p q path given one other first second = absurd (let no = sym one.0 ∙ other.0 in cc (no))
-step-one m e (replies.Refused refusal) (replies.Refused later) x y p q path given one other first second =
+    (imported-one spelling y path given p q (subst (λ n. IsImported spelling n path given replies.Edited p) same first) second, same)
+step-one spelling m e replies.Edited (replies.Refused refusal) x y p q path given one other first second = absurd (let no = sym one.0 ∙ other.0 in cc (no))
+step-one spelling m e (replies.Refused refusal) replies.Edited x y p q path given one other first second = absurd (let no = sym one.0 ∙ other.0 in cc (no))
+step-one spelling m e (replies.Refused refusal) (replies.Refused later) x y p q path given one other first second =
     let same = sym one.0 ∙ other.0 in
     let told : refusal ≡ later = cc (same) in
     let texts = sym first ∙ ap (λ r. Some (refused_line r)) told ∙ second in
     (cc (texts), one.1 ∙ sym other.1)
-step-one m e replies.Edited replies.Memory x y p q path given one other first second = absurd (cc (second))
-step-one m e (replies.Refused refusal) replies.Memory x y p q path given one other first second = absurd (cc (second))
-step-one m e replies.Memory s x y p q path given one other first second = absurd (cc (first))
-step-one m e replies.Edited s x y p q path given one other first second = absurd other
-step-one m e (replies.Refused refusal) s x y p q path given one other first second = absurd other
-step-one m e r s x y p q path given one other first second = absurd one
+step-one spelling m e replies.Edited replies.Memory x y p q path given one other first second = absurd (cc (second))
+step-one spelling m e (replies.Refused refusal) replies.Memory x y p q path given one other first second = absurd (cc (second))
+step-one spelling m e replies.Memory s x y p q path given one other first second = absurd (cc (first))
+step-one spelling m e replies.Edited s x y p q path given one other first second = absurd other
+step-one spelling m e (replies.Refused refusal) s x y p q path given one other first second = absurd other
+step-one spelling m e r s x y p q path given one other first second = absurd one
 
 -- ---- views
 
@@ -270,26 +270,26 @@ done-one : (old : Session) (asked : Asked) (p q : List ℕ) (x y : Session) → 
 done-one old (Opening readers root) p q x y one other =
     let same = opened-one (manner_of old) readers root p q x y one other in (λ plain. same.0, same.1)
 done-one (Opened notation m) (Asking r) p q x y one other =
-    let same = one_step m r one.0 one.1 p one.2 one.3 ∙ sym (one_step m r other.0 other.1 q other.2 other.3) in
+    let same = one_step notation.spelling m r one.0 one.1 p one.2 one.3 ∙ sym (one_step notation.spelling m r other.0 other.1 q other.2 other.3) in
     (λ plain. ap (λ (z : List ℕ × Machine). z.0) same, one.4 ∙ ap (λ (z : List ℕ × Machine). Opened notation z.1) same ∙ sym other.4)
 done-one (Closed manner) (Asking r) p q x y one other = absurd one
 done-one (Opened notation m) (Explaining reader names t asked) p q x y one other =
-    let same = one_explained m reader names t asked one.0 one.1 p one.2 one.3 ∙ sym (one_explained m reader names t asked other.0 other.1 q other.2 other.3) in
+    let same = one_explained notation.spelling m reader names t asked one.0 one.1 p one.2 one.3 ∙ sym (one_explained notation.spelling m reader names t asked other.0 other.1 q other.2 other.3) in
     (λ plain. ap (λ (z : List ℕ × Machine). z.0) same, one.4 ∙ ap (λ (z : List ℕ × Machine). Opened notation z.1) same ∙ sym other.4)
 done-one (Closed manner) (Explaining reader names t asked) p q x y one other = absurd one
 done-one (Opened notation m) (Finding reader names t asked) p q x y one other =
-    let same = one_found notation.paths m reader names t asked one.0 one.1 p one.2 one.3 ∙ sym (one_found notation.paths m reader names t asked other.0 other.1 q other.2 other.3) in
+    let same = one_found notation m reader names t asked one.0 one.1 p one.2 one.3 ∙ sym (one_found notation m reader names t asked other.0 other.1 q other.2 other.3) in
     (λ plain. ap (λ (z : List ℕ × Machine). z.0) same, one.4 ∙ ap (λ (z : List ℕ × Machine). Opened notation z.1) same ∙ sym other.4)
 done-one (Closed manner) (Finding reader names t asked) p q x y one other = absurd one
 done-one (Opened notation m) (Deleting reader names t) p q x y one other =
     let by_parent = parent_grants m.opening m.published names t in
-    let same = one_deletion m by_parent reader names t one.0 one.1 p one.2 one.3 ∙ sym (one_deletion m by_parent reader names t other.0 other.1 q other.2 other.3) in
+    let same = one_deletion notation.spelling m by_parent reader names t one.0 one.1 p one.2 one.3 ∙ sym (one_deletion notation.spelling m by_parent reader names t other.0 other.1 q other.2 other.3) in
     (λ plain. ap (λ (z : List ℕ × Machine). z.0) same, one.4 ∙ ap (λ (z : List ℕ × Machine). Opened notation z.1) same ∙ sym other.4)
 done-one (Closed manner) (Deleting reader names t) p q x y one other = absurd one
 done-one (Opened notation m) (Viewing view) p q x y one other = (λ plain. viewed-one notation m view p q plain one.0 other.0, one.1 ∙ sym other.1)
 done-one (Closed manner) (Viewing view) p q x y one other = absurd one
 done-one (Opened notation m) (Importing e path given) p q x y one other =
-    let stepped = step-one m e one.0 other.0 one.1 other.1 p q path given one.2 other.2 one.3 other.3 in
+    let stepped = step-one notation.spelling m e one.0 other.0 one.1 other.1 p q path given one.2 other.2 one.3 other.3 in
     (λ plain. stepped.0, one.4 ∙ ap (Opened notation) stepped.1 ∙ sym other.4)
 done-one (Closed manner) (Importing e path given) p q x y one other = absurd one
 

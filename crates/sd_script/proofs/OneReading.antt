@@ -1,6 +1,6 @@
 -- A line is read as one thing, or has one fault.
-use Rattle.std.proofs.Common.{◌≡◌, ℕ, Bool, true, false, List, Option, Some, None, Result, Ok, Err, inl, inr, sym, ◌∙◌, ap, subst}
-use Rattle.std.specs.Prelude.{MatchBool}
+use Rattle.std.proofs.Common.{◌≡◌, ℕ, Bool, true, false, List, [], ◌∷◌, Option, Some, None, Result, Ok, Err, inl, inr, sym, ◌∙◌, ap, subst}
+use Rattle.std.specs.Prelude.{MatchBool, bit_or}
 use Rattle.sd_sid.specs.Sid.{SidValue}
 use Rattle.sd_acl.specs.Descriptor.{DescriptorValue}
 use Rattle.sd_text.specs.Grammar.{Spells}
@@ -13,7 +13,11 @@ use Rattle.sd_text.specs.declared.fault.TextFault.{TextFault}
 use Rattle.sd_text.proofs.Engine.{one_value, no_fault, one_fault}
 use Rattle.sd_answer.proofs.OneToken.{groups_one, token_one}
 use Rattle.sd_answer.specs.Descriptor.{IsRead, IsUnreadAt}
+use Rattle.sd_answer.specs.Mask.{AreJoined, IsMaskIn, IsWordMask, between_pluses, rights_word}
 use Rattle.sd_answer.specs.Word.{AreGroups, IsToken}
+use Rattle.sd_answer.specs.declared.answer.Spelling.{Spelling}
+use Rattle.sd_answer.specs.declared.answer.Spelling.TheVariants as spellings
+use Rattle.sd_answer.specs.declared.names.ObjectKind.{ObjectKind}
 use Rattle.sd_tree.specs.Names.{Names}
 use Rattle.sd_script.specs.Argument.{IsNumber, number, path, sid, mask, token, base, descriptor, node, node_of, dacl, dacl_of, imported, import_of}
 use Rattle.sd_script.specs.Command.{Arguments, Asks, Number, Path, Sid, Mask, Token, Groups, Node, Dacl, Imported}
@@ -69,8 +73,25 @@ path-one paths word = SomeOr-one (IsPath paths word) faults.Path (one_path paths
 sid-one : (notation : Notation) (word : List ℕ) → IsOne (sid notation word)
 sid-one notation word = SomeOr-one (Spells (sid_text_in notation.aliases) word) faults.Sid (one_value (sid_text_in notation.aliases) word)
 
-mask-one : (word : List ℕ) → IsOne (mask word)
-mask-one word = SomeOr-one (Spells mask_text word) faults.Mask (one_value mask_text word)
+one_word : (kind : Option ObjectKind) (word : List ℕ) (a b : ℕ) → IsWordMask kind word a → IsWordMask kind word b → a ≡ b
+one_word kind word a b (inl x) (inl y) = let same = sym x ∙ y in cc (same)
+one_word kind word a b (inl x) (inr y) = absurd (let no = sym x ∙ y.0 in cc (no))
+one_word kind word a b (inr x) (inl y) = absurd (let no = sym x.0 ∙ y in cc (no))
+one_word kind word a b (inr x) (inr y) = one_value rights_word word a b x.1 y.1
+
+one_joined : (kind : Option ObjectKind) (bits : ℕ) (words : List (List ℕ)) (a b : ℕ) → AreJoined kind bits words a → AreJoined kind bits words b → a ≡ b
+one_joined kind bits [] a b x y = x ∙ sym y
+one_joined kind bits (word ∷ words) a b x y =
+    let same = one_word kind word x.0 y.0 x.1 y.1 in
+    one_joined kind (bit_or bits y.0) words a b (subst (λ m. AreJoined kind (bit_or bits m) words a) same x.2) y.2
+
+one_mask : (spelling : Spelling) (word : List ℕ) (a b : ℕ) → IsMaskIn spelling word a → IsMaskIn spelling word b → a ≡ b
+one_mask spellings.Number word a b x y = one_value mask_text word a b x y
+one_mask (spellings.Names kind) [] a b x y = x ∙ sym y
+one_mask (spellings.Names kind) (c ∷ word) a b x y = one_joined kind 0 (between_pluses (c ∷ word)) a b x y
+
+mask-one : (notation : Notation) (word : List ℕ) → IsOne (mask notation word)
+mask-one notation word = SomeOr-one (IsMaskIn notation.spelling word) faults.Mask (one_mask notation.spelling word)
 
 token-one : (notation : Notation) (user : SidValue) (words : List (List ℕ)) → IsOne (token notation user words)
 token-one notation user words = SomeOr-one (IsToken notation.aliases user words) faults.Token (token_one notation.aliases user words)
@@ -125,7 +146,7 @@ reads-one notation (Asks asked) = Just-one asked
 reads-one notation (Number word next) = Then-one (number word) (λ n. reads notation (next n)) (number-one word) (λ n. reads-one notation (next n))
 reads-one notation (Path word next) = Then-one (path notation.paths word) (λ p. reads notation (next p)) (path-one notation.paths word) (λ p. reads-one notation (next p))
 reads-one notation (Sid word next) = Then-one (sid notation word) (λ s. reads notation (next s)) (sid-one notation word) (λ s. reads-one notation (next s))
-reads-one notation (Mask word next) = Then-one (mask word) (λ m. reads notation (next m)) (mask-one word) (λ m. reads-one notation (next m))
+reads-one notation (Mask word next) = Then-one (mask notation word) (λ m. reads notation (next m)) (mask-one notation word) (λ m. reads-one notation (next m))
 reads-one notation (Token user words next) = Then-one (token notation user words) (λ t. reads notation (next t)) (token-one notation user words) (λ t. reads-one notation (next t))
 reads-one notation (Groups words next) = Then-one (base notation words) (λ groups. reads notation (next groups)) (base-one notation words) (λ groups. reads-one notation (next groups))
 reads-one notation (Node word next) = Then-one (node notation word) (λ n. reads notation (next n)) (node-one notation word) (λ n. reads-one notation (next n))

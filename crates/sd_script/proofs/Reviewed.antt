@@ -14,8 +14,9 @@ use Rattle.sd_review.specs.Parts.{parts_in}
 use Rattle.sd_review.specs.Review.{Trees, stands_in}
 use Rattle.sd_review.specs.declared.compared.Compared.{Compared}
 use Rattle.sd_review.proofs.RightOnes.{right_one}
+use Rattle.sd_answer.specs.declared.answer.Spelling.{Spelling}
 use Rattle.sd_script.specs.Review.{ArePrinted, IsChangeOf, IsChangeText, IsPrintedAt, IsReview, IsReviewOf, has_no_words, reviewed_line, trees_in}
-use Rattle.sd_script.specs.declared.paths.PathSpelling.{PathSpelling}
+use Rattle.sd_script.specs.declared.manner.Notation.{Notation}
 
 -- ---- what is printed of each
 
@@ -44,29 +45,29 @@ printed_all P xs i text before past =
 -- ---- what two descriptors change
 
 -- the lines of what was compared
-pub change_lines : (g : MappingValue) (c : Compared) (head word : List ℕ) (text : List ℕ) → IsRight g c → head ≡ word ++ codes " "
-    → text ≡ lines head c
-    → IsChangeText g (word ++ codes " ") (parts_in (descriptor_of c.before)) (parts_in (descriptor_of c.after)) text
-change_lines g c head word text right is_head is =
-    (c.comparison.gained.items, c.comparison.lost.items, right.2, right.3, is ∙ ap (λ (h : List ℕ). lines h c) is_head)
+pub change_lines : (spelling : Spelling) (g : MappingValue) (c : Compared) (head word : List ℕ) (text : List ℕ) → IsRight g c → head ≡ word ++ codes " "
+    → text ≡ lines spelling head c
+    → IsChangeText spelling g (word ++ codes " ") (parts_in (descriptor_of c.before)) (parts_in (descriptor_of c.after)) text
+change_lines spelling g c head word text right is_head is =
+    (c.comparison.gained.items, c.comparison.lost.items, right.2, right.3, is ∙ ap (λ (h : List ℕ). lines spelling h c) is_head)
 
 -- of two nodes that are there
-pub compared_lines : (g : MappingValue) (head : List ℕ) (x y : Option DescriptorValue) (c : Compared) (text : List ℕ) → IsOfBoth g x y (Some c)
-    → (IsRight g c → IsChangeText g head (parts_in (descriptor_of c.before)) (parts_in (descriptor_of c.after)) text) → IsChangeOf g head x y text
-compared_lines g head None y c text of is = absurd (cc (of))
-compared_lines g head (Some a) None c text of is = absurd (cc (of))
-compared_lines g head (Some a) (Some b) c text of is =
-    subst (λ (x : Parts). IsChangeText g head (parts_in a) x text) of.1 (subst (λ (x : Parts). IsChangeText g head x (parts_in (descriptor_of c.after)) text) of.0
+pub compared_lines : (spelling : Spelling) (g : MappingValue) (head : List ℕ) (x y : Option DescriptorValue) (c : Compared) (text : List ℕ) → IsOfBoth g x y (Some c)
+    → (IsRight g c → IsChangeText spelling g head (parts_in (descriptor_of c.before)) (parts_in (descriptor_of c.after)) text) → IsChangeOf spelling g head x y text
+compared_lines spelling g head None y c text of is = absurd (cc (of))
+compared_lines spelling g head (Some a) None c text of is = absurd (cc (of))
+compared_lines spelling g head (Some a) (Some b) c text of is =
+    subst (λ (x : Parts). IsChangeText spelling g head (parts_in a) x text) of.1 (subst (λ (x : Parts). IsChangeText spelling g head x (parts_in (descriptor_of c.after)) text) of.0
     (is (right_one g (parts_in a) (parts_in b) c of)))
 
 -- ---- the trees of a store
 
 -- a review of these trees is that of the store
-pub review_of : (paths : PathSpelling) (m : Machine) (ts : Trees) (xs ys : List Edit) (top : Names) (text : List ℕ) → ts ≡ trees_in m
+pub review_of : (notation : Notation) (m : Machine) (ts : Trees) (xs ys : List Edit) (top : Names) (text : List ℕ) → ts ≡ trees_in m
     → xs ≡ m.published → ys ≡ accepted m
-    → IsReviewOf paths ts top (reviewed_line (length xs) (length ys)) (stands_in ts top) (has_no_words paths ts) text
-    → IsReview paths m top text
-review_of paths m ts xs ys top text same is_xs is_ys is =
-    subst (λ zs. IsReviewOf paths (trees_in m) top (reviewed_line (length m.published) (length zs)) (stands_in (trees_in m) top) (has_no_words paths (trees_in m)) text) is_ys
-    (subst (λ zs. IsReviewOf paths (trees_in m) top (reviewed_line (length zs) (length ys)) (stands_in (trees_in m) top) (has_no_words paths (trees_in m)) text) is_xs
-    (subst (λ us. IsReviewOf paths us top (reviewed_line (length xs) (length ys)) (stands_in us top) (has_no_words paths us) text) same is))
+    → IsReviewOf notation ts top (reviewed_line (length xs) (length ys)) (stands_in ts top) (has_no_words notation.paths ts) text
+    → IsReview notation m top text
+review_of notation m ts xs ys top text same is_xs is_ys is =
+    subst (λ zs. IsReviewOf notation (trees_in m) top (reviewed_line (length m.published) (length zs)) (stands_in (trees_in m) top) (has_no_words notation.paths (trees_in m)) text) is_ys
+    (subst (λ zs. IsReviewOf notation (trees_in m) top (reviewed_line (length zs) (length ys)) (stands_in (trees_in m) top) (has_no_words notation.paths (trees_in m)) text) is_xs
+    (subst (λ us. IsReviewOf notation us top (reviewed_line (length xs) (length ys)) (stands_in us top) (has_no_words notation.paths us) text) same is))

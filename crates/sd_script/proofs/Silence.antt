@@ -1,5 +1,5 @@
 -- A review without lines: no check is answered otherwise.
-use Rattle.std.proofs.Common.{◌≡◌, ℕ, ◌+◌, Bool, true, false, not, ◌&&◌, ◌==◌, List, [], ◌∷◌, ◌++◌, length, get_or, Option, Some, None, inl, inr, refl, sym, ◌∙◌, ap, subst, cond, arith}
+use Rattle.std.proofs.Common.{◌≡◌, ℕ, Bool, true, false, not, ◌&&◌, ◌==◌, List, [], ◌∷◌, ◌++◌, length, get_or, Option, Some, None, inl, inr, refl, sym, ◌∙◌, ap, subst, cond, arith}
 use Rattle.std.specs.Prelude.{MatchBool, if◌then◌else◌, is_some, option_map, codes}
 use Rattle.std.specs.FinMap.{entries, find, get-entries}
 use Rattle.std.specs.List.{flat_map}
@@ -26,7 +26,7 @@ use Rattle.sd_analysis.specs.Compare.{AreGains}
 use Rattle.sd_analysis.specs.Sufficient.{Parts}
 use Rattle.sd_analysis.specs.declared.compare_report.Change.{Change}
 use Rattle.sd_answer.specs.Answer.{line}
-use Rattle.sd_answer.specs.declared.answer.Spelling.TheVariants.{Number}
+use Rattle.sd_answer.specs.declared.answer.Spelling.{Spelling}
 use Rattle.sd_answer.proofs.NoLines.{ended, no_gain_no_loss, parts_empty}
 use Rattle.sd_script.specs.Laws.{SilentNodeIsUnchanged, SilentReviewChangesNothing}
 use Rattle.sd_script.specs.Paths.{path_word}
@@ -35,7 +35,7 @@ use Rattle.sd_review.specs.Origin.{origin}
 use Rattle.sd_review.specs.Review.{Trees, former, former_by_edits, stands_in}
 use Rattle.sd_review.specs.declared.review.Former.TheVariants.{Same, Moved, New}
 use Rattle.sd_script.specs.Review.{ArePrinted, IsChangeOf, IsCompared, IsNodeReview, IsNodeText, IsReviewOf, gone_line, has_no_words, reviewed_line, trees_in}
-use Rattle.sd_script.specs.declared.paths.PathSpelling.{PathSpelling}
+use Rattle.sd_script.specs.declared.manner.Notation.{Notation}
 
 -- ---- verdicts
 
@@ -81,13 +81,13 @@ parts_there : (row : Row) (d : Option (List Ace)) → parts_in (descriptor_of_ro
 parts_there row None = refl
 parts_there row (Some es) = refl
 
-silent_rows : (g : MappingValue) (head : List ℕ) (r s : Row) (d e : Option (List Ace)) (token : TokenValue) (asked : ℕ) → holds asked 25 ≡ false
-    → IsChangeOf g head (Some (descriptor_of_row r d)) (Some (descriptor_of_row s e)) []
+silent_rows : (spelling : Spelling) (g : MappingValue) (head : List ℕ) (r s : Row) (d e : Option (List Ace)) (token : TokenValue) (asked : ℕ) → holds asked 25 ≡ false
+    → IsChangeOf spelling g head (Some (descriptor_of_row r d)) (Some (descriptor_of_row s e)) []
     → verdict (Some r.owner) d g token asked ≡ verdict (Some s.owner) e g token asked
-silent_rows g head r s d e token asked plain is =
+silent_rows spelling g head r s d e token asked plain is =
     let p = parts_in (descriptor_of_row r d) in
     let q = parts_in (descriptor_of_row s e) in
-    let none = no_gain_no_loss Number head p q is.0 is.1 is.2.some is.3.some (sym is.4) in
+    let none = no_gain_no_loss spelling head p q is.0 is.1 is.2.some is.3.some (sym is.4) in
     let alike : GrantsAlike g p q = silent_change g p q is.0 is.1 is.2 is.3 none in
     let there = subst (λ x. GrantsAlike g x q) (parts_there r d) alike in
     let both = subst (GrantsAlike g (record { owner = Some r.owner; dacl = d })) (parts_there s e) there in
@@ -102,22 +102,22 @@ nothing = []
 no_line : (text rest : List ℕ) → [] ≡ line text ++ rest → ⊥
 no_line text rest none = ended text 10 (parts_empty (line text) rest (sym none)).0
 
-no_text : (paths : PathSpelling) (ts : Trees) (path before : Names) (b : Bool) → IsNodeText paths ts path (if b then Moved before else New) [] → ⊥
-no_text paths ts path before true is = no_line (codes "moved " ++ path_word paths before ++ codes " " ++ path_word paths path) is.0 is.2
-no_text paths ts path before false is = ended (codes "new " ++ path_word paths path) 10 (sym is)
+no_text : (notation : Notation) (ts : Trees) (path before : Names) (b : Bool) → IsNodeText notation ts path (if b then Moved before else New) [] → ⊥
+no_text notation ts path before true is = no_line (codes "moved " ++ path_word notation.paths before ++ codes " " ++ path_word notation.paths path) is.0 is.2
+no_text notation ts path before false is = ended (codes "new " ++ path_word notation.paths path) 10 (sym is)
 
-not_arrived : (paths : PathSpelling) (ts : Trees) (path : Names) (place : Option Names) → IsNodeText paths ts path (former_by_edits ts.old place) [] → ⊥
-not_arrived paths ts path None is = ended (codes "new " ++ path_word paths path) 10 (sym is)
-not_arrived paths ts path (Some before) is = no_text paths ts path before (is_some (kind_at ts.old before)) is
+not_arrived : (notation : Notation) (ts : Trees) (path : Names) (place : Option Names) → IsNodeText notation ts path (former_by_edits ts.old place) [] → ⊥
+not_arrived notation ts path None is = ended (codes "new " ++ path_word notation.paths path) 10 (sym is)
+not_arrived notation ts path (Some before) is = no_text notation ts path before (is_some (kind_at ts.old before)) is
 
 -- a node without lines was at its path before
-was_there : (paths : PathSpelling) (ts : Trees) (path : Names) (is_there : Bool) → is_some (kind_at ts.old path) ≡ is_there
-    → IsNodeText paths ts path (former ts path) [] → (is_some (kind_at ts.old path) ≡ true) × IsCompared paths ts path path []
-was_there paths ts path true there is =
-    (there, subst (λ (b : Bool). IsNodeText paths ts path (if b then Same else former_by_edits ts.old (origin ts.pending path)) []) there is)
-was_there paths ts path false there is =
-    absurd (not_arrived paths ts path (origin ts.pending path)
-    (subst (λ (b : Bool). IsNodeText paths ts path (if b then Same else former_by_edits ts.old (origin ts.pending path)) []) there is))
+was_there : (notation : Notation) (ts : Trees) (path : Names) (is_there : Bool) → is_some (kind_at ts.old path) ≡ is_there
+    → IsNodeText notation ts path (former ts path) [] → (is_some (kind_at ts.old path) ≡ true) × IsCompared notation ts path path []
+was_there notation ts path true there is =
+    (there, subst (λ (b : Bool). IsNodeText notation ts path (if b then Same else former_by_edits ts.old (origin ts.pending path)) []) there is)
+was_there notation ts path false there is =
+    absurd (not_arrived notation ts path (origin ts.pending path)
+    (subst (λ (b : Bool). IsNodeText notation ts path (if b then Same else former_by_edits ts.old (origin ts.pending path)) []) there is))
 
 a_row : (row : Option Row) → is_some (option_map (λ (r : Row). r.kind) row) ≡ true → (r : Row) × (row ≡ Some r)
 a_row (Some r) is = (r, refl)
@@ -126,23 +126,23 @@ a_row None is = absurd (cc (is))
 abbrev Alike : Trees → Names → TokenValue → ℕ → Type 0
 Alike ts path token asked = reply_in ts.mapping ts.old path token asked ≡ reply_in ts.mapping ts.new path token asked
 
-compared_alike : (paths : PathSpelling) (ts : Trees) (path : Names) (r s : Row) (token : TokenValue) (asked : ℕ) → holds asked 25 ≡ false
-    → row_at ts.old path ≡ Some r → row_at ts.new path ≡ Some s → IsCompared paths ts path path [] → Alike ts path token asked
-compared_alike paths ts path r s token asked plain old new is =
+compared_alike : (notation : Notation) (ts : Trees) (path : Names) (r s : Row) (token : TokenValue) (asked : ℕ) → holds asked 25 ≡ false
+    → row_at ts.old path ≡ Some r → row_at ts.new path ≡ Some s → IsCompared notation ts path path [] → Alike ts path token asked
+compared_alike notation ts path r s token asked plain old new is =
     let d = dacl_at ts.mapping ts.old path in
     let e = dacl_at ts.mapping ts.new path in
-    let head = path_word paths path ++ codes " " in
-    let left = subst (λ x. IsChangeOf ts.mapping head (option_map (λ (row : Row). descriptor_of_row row d) x) (option_map (λ (row : Row). descriptor_of_row row e) (row_at ts.new path)) []) old is in
-    let both = subst (λ x. IsChangeOf ts.mapping head (Some (descriptor_of_row r d)) (option_map (λ (row : Row). descriptor_of_row row e) x) []) new left in
-    ap (reply_for ts.mapping d token asked) old ∙ ap Verdict (silent_rows ts.mapping head r s d e token asked plain both)
+    let head = path_word notation.paths path ++ codes " " in
+    let left = subst (λ x. IsChangeOf notation.spelling ts.mapping head (option_map (λ (row : Row). descriptor_of_row row d) x) (option_map (λ (row : Row). descriptor_of_row row e) (row_at ts.new path)) []) old is in
+    let both = subst (λ x. IsChangeOf notation.spelling ts.mapping head (Some (descriptor_of_row r d)) (option_map (λ (row : Row). descriptor_of_row row e) x) []) new left in
+    ap (reply_for ts.mapping d token asked) old ∙ ap Verdict (silent_rows notation.spelling ts.mapping head r s d e token asked plain both)
     ∙ sym (ap (reply_for ts.mapping e token asked) new)
 
 pub silent_node_is_unchanged : SilentNodeIsUnchanged
-silent_node_is_unchanged paths ts top path row token asked is within there plain =
-    let text = subst (λ b. MatchBool b (IsNodeText paths ts path (former ts path) []) (nothing ≡ nothing)) within is in
-    let was = was_there paths ts path (is_some (kind_at ts.old path)) refl text in
+silent_node_is_unchanged notation ts top path row token asked is within there plain =
+    let text = subst (λ b. MatchBool b (IsNodeText notation ts path (former ts path) []) (nothing ≡ nothing)) within is in
+    let was = was_there notation ts path (is_some (kind_at ts.old path)) refl text in
     let before = a_row (row_at ts.old path) was.0 in
-    compared_alike paths ts path before.0 row token asked plain before.1 there was.1
+    compared_alike notation ts path before.0 row token asked plain before.1 there was.1
 
 -- ---- all nodes
 
@@ -176,26 +176,26 @@ found_none f (e ∷ es) path row found none =
     ]
 
 -- where a node goes, its line is printed
-gone_there : (paths : PathSpelling) (ts : Trees) (top path : Names) (row : Row) → is_within top path ≡ true → row_at ts.new path ≡ None
-    → gone_line paths ts top (path, row) ≡ [] → ⊥
-gone_there paths ts top path row within none silent =
-    ended (codes "gone " ++ path_word paths path) 10 (
-    sym (ap (λ (b : Bool). if b then (if is_some (kind_at ts.new path) then [] else line (codes "gone " ++ path_word paths path)) else []) within
-    ∙ ap (λ (x : Option Row). if is_some (option_map (λ (r : Row). r.kind) x) then [] else line (codes "gone " ++ path_word paths path)) none) ∙ silent)
+gone_there : (notation : Notation) (ts : Trees) (top path : Names) (row : Row) → is_within top path ≡ true → row_at ts.new path ≡ None
+    → gone_line notation.paths ts top (path, row) ≡ [] → ⊥
+gone_there notation ts top path row within none silent =
+    ended (codes "gone " ++ path_word notation.paths path) 10 (
+    sym (ap (λ (b : Bool). if b then (if is_some (kind_at ts.new path) then [] else line (codes "gone " ++ path_word notation.paths path)) else []) within
+    ∙ ap (λ (x : Option Row). if is_some (option_map (λ (r : Row). r.kind) x) then [] else line (codes "gone " ++ path_word notation.paths path)) none) ∙ silent)
 
-each_alike : (paths : PathSpelling) (ts : Trees) (top path : Names) (token : TokenValue) (asked : ℕ)
-    → ArePrinted (IsNodeReview paths ts top) (entries ts.new) [] → flat_map (gone_line paths ts top) (entries ts.old) ≡ []
+each_alike : (notation : Notation) (ts : Trees) (top path : Names) (token : TokenValue) (asked : ℕ)
+    → ArePrinted (IsNodeReview notation ts top) (entries ts.new) [] → flat_map (gone_line notation.paths ts top) (entries ts.old) ≡ []
     → is_within top path ≡ true → holds asked 25 ≡ false → (old new : Option Row) → row_at ts.old path ≡ old → row_at ts.new path ≡ new
     → Alike ts path token asked
-each_alike paths ts top path token asked changes gone within plain old (Some row) was is =
-    silent_node_is_unchanged paths ts top path row token asked
-    (found_silent (IsNodeReview paths ts top) (entries ts.new) path row (sym (get-entries ts.new path) ∙ is) changes) within is plain
-each_alike paths ts top path token asked changes gone within plain None None was is =
+each_alike notation ts top path token asked changes gone within plain old (Some row) was is =
+    silent_node_is_unchanged notation ts top path row token asked
+    (found_silent (IsNodeReview notation ts top) (entries ts.new) path row (sym (get-entries ts.new path) ∙ is) changes) within is plain
+each_alike notation ts top path token asked changes gone within plain None None was is =
     ap (reply_for ts.mapping (dacl_at ts.mapping ts.old path) token asked) was
     ∙ sym (ap (reply_for ts.mapping (dacl_at ts.mapping ts.new path) token asked) is)
-each_alike paths ts top path token asked changes gone within plain (Some row) None was is =
-    absurd (gone_there paths ts top path row within is
-    (found_none (gone_line paths ts top) (entries ts.old) path row (sym (get-entries ts.old path) ∙ was) gone))
+each_alike notation ts top path token asked changes gone within plain (Some row) None was is =
+    absurd (gone_there notation ts top path row within is
+    (found_none (gone_line notation.paths ts top) (entries ts.old) path row (sym (get-entries ts.old path) ∙ was) gone))
 
 -- ---- the whole review
 
@@ -203,20 +203,20 @@ alone : (xs ys : List ℕ) → ys ≡ xs ++ ys → xs ≡ []
 alone [] ys is = refl
 alone (x ∷ xs) ys is = let long = length-append (x ∷ xs) ys in let same = ap length is in absurd (omega (arith, long, same))
 
-by_case : (paths : PathSpelling) (ts : Trees) (top path : Names) (token : TokenValue) (asked old new : ℕ) (stands lacks : Bool)
-    → IsReviewOf paths ts top (reviewed_line old new) stands lacks (reviewed_line old new)
+by_case : (notation : Notation) (ts : Trees) (top path : Names) (token : TokenValue) (asked old new : ℕ) (stands lacks : Bool)
+    → IsReviewOf notation ts top (reviewed_line old new) stands lacks (reviewed_line old new)
     → is_within top path ≡ true → holds asked 25 ≡ false → Alike ts path token asked
-by_case paths ts top path token asked old new false lacks is within plain =
+by_case notation ts top path token asked old new false lacks is within plain =
     absurd (let first : 114 ≡ 110 = ap (λ (xs : List ℕ). get_or xs 0 0) is in omega (arith, first))
-by_case paths ts top path token asked old new true true is within plain =
+by_case notation ts top path token asked old new true true is within plain =
     absurd (let first : 114 ≡ 102 = ap (λ (xs : List ℕ). get_or xs 0 0) is in omega (arith, first))
-by_case paths ts top path token asked old new true false is within plain =
-    let gone = flat_map (gone_line paths ts top) (entries ts.old) in
+by_case notation ts top path token asked old new true false is within plain =
+    let gone = flat_map (gone_line notation.paths ts top) (entries ts.old) in
     let none = parts_empty is.0 gone (alone (is.0 ++ gone) (reviewed_line old new) is.2) in
-    each_alike paths ts top path token asked (subst (ArePrinted (IsNodeReview paths ts top) (entries ts.new)) none.0 is.1) none.1 within plain
+    each_alike notation ts top path token asked (subst (ArePrinted (IsNodeReview notation ts top) (entries ts.new)) none.0 is.1) none.1 within plain
     (row_at ts.old path) (row_at ts.new path) refl refl
 
 pub silent_review_changes_nothing : SilentReviewChangesNothing
-silent_review_changes_nothing paths m top path token asked is within plain =
-    by_case paths (trees_in m) top path token asked (length m.published) (length (accepted m))
-    (stands_in (trees_in m) top) (has_no_words paths (trees_in m)) is within plain
+silent_review_changes_nothing notation m top path token asked is within plain =
+    by_case notation (trees_in m) top path token asked (length m.published) (length (accepted m))
+    (stands_in (trees_in m) top) (has_no_words notation.paths (trees_in m)) is within plain

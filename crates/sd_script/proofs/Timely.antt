@@ -70,7 +70,7 @@ all_given P notation (Asks asked) holds a is = let same : a ≡ asked = cc is in
 all_given P notation (Number word next) all a is = then_gives P (number word) (λ n. reads notation (next n)) (λ n. all_given P notation (next n) (all n)) a is
 all_given P notation (Path word next) all a is = then_gives P (path notation.paths word) (λ p. reads notation (next p)) (λ p. all_given P notation (next p) (all p)) a is
 all_given P notation (Sid word next) all a is = then_gives P (sid notation word) (λ s. reads notation (next s)) (λ s. all_given P notation (next s) (all s)) a is
-all_given P notation (Mask word next) all a is = then_gives P (mask word) (λ m. reads notation (next m)) (λ m. all_given P notation (next m) (all m)) a is
+all_given P notation (Mask word next) all a is = then_gives P (mask notation word) (λ m. reads notation (next m)) (λ m. all_given P notation (next m) (all m)) a is
 all_given P notation (Token user words next) all a is = then_gives P (token notation user words) (λ t. reads notation (next t)) (λ t. all_given P notation (next t) (all t)) a is
 all_given P notation (Groups words next) all a is = then_gives P (base notation words) (λ g. reads notation (next g)) (λ g. all_given P notation (next g) (all g)) a is
 all_given P notation (Node word next) all a is = then_gives P (node notation word) (λ n. reads notation (next n)) (λ n. all_given P notation (next n) (all n)) a is

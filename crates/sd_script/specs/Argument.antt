@@ -9,7 +9,6 @@ use Rattle.sd_acl.specs.Dacl.{Dacl}
 use Rattle.sd_acl.specs.declared.descriptor.DaclOf.TheVariants as dacls
 use Rattle.sd_text.specs.Grammar.{Spells}
 use Rattle.sd_text.specs.Sid.{sid_text_in}
-use Rattle.sd_text.specs.Rights.{mask_text}
 use Rattle.sd_text.specs.declared.fault.TextFault.{TextFault}
 use Rattle.sd_check.specs.Token.{TokenValue}
 use Rattle.sd_tree.specs.Names.{Names}
@@ -20,6 +19,7 @@ use Rattle.sd_script.specs.Fault.{Reading, SomeOr, Then}
 use Rattle.sd_script.specs.Paths.{IsPath}
 use Rattle.sd_check.specs.declared.token.GroupState.{GroupState}
 use Rattle.sd_answer.specs.Descriptor.{IsRead, IsUnreadAt}
+use Rattle.sd_answer.specs.Mask.{IsMaskIn}
 use Rattle.sd_answer.specs.Word.{AreGroups, IsToken}
 use Rattle.sd_script.specs.declared.fault.LineFault.{LineFault}
 use Rattle.sd_script.specs.declared.fault.LineFault.TheVariants.{Number, Path, Sid, Sddl, Parts, Mask, Token}
@@ -40,8 +40,8 @@ path paths word = SomeOr (IsPath paths word) Path
 abbrev pub sid : Notation → List ℕ → Reading SidValue
 sid notation word = SomeOr (Spells (sid_text_in notation.aliases) word) Sid
 
-abbrev pub mask : List ℕ → Reading ℕ
-mask word = SomeOr (Spells mask_text word) Mask
+abbrev pub mask : Notation → List ℕ → Reading ℕ
+mask notation word = SomeOr (IsMaskIn notation.spelling word) Mask
 
 -- the token of a user and words
 abbrev pub token : Notation → SidValue → List (List ℕ) → Reading TokenValue

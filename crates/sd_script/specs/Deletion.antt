@@ -12,6 +12,7 @@ use Rattle.sd_tree.specs.declared.tree.CheckReply.TheVariants.{Verdict, NoNode}
 use Rattle.sd_desk.specs.declared.request.Reply.{Reply}
 use Rattle.sd_desk.specs.declared.request.Reply.TheVariants.{Answered}
 use Rattle.sd_answer.specs.Answer.{line}
+use Rattle.sd_answer.specs.declared.answer.Spelling.{Spelling}
 use Rattle.sd_script.specs.Listing.{grants}
 use Rattle.sd_script.specs.Reply.{reply_line, seen_line}
 
@@ -42,6 +43,6 @@ deletion_line (Verdict verdict) by_parent =
     else line (codes "denied")
 
 -- of the reply to a reader who asks for that check
-abbrev pub deletion_reply : Bool → Reply → Option (List ℕ)
-deletion_reply by_parent (Answered given) = Some (seen_line given.seen (deletion_line given.reply by_parent))
-deletion_reply by_parent reply = reply_line reply
+abbrev pub deletion_reply : Spelling → Bool → Reply → Option (List ℕ)
+deletion_reply spelling by_parent (Answered given) = Some (seen_line given.seen (deletion_line given.reply by_parent))
+deletion_reply spelling by_parent reply = reply_line spelling reply

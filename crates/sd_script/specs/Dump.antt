@@ -5,7 +5,6 @@ use Rattle.std.specs.List.{flat_map}
 use Rattle.std.specs.Fmt.{decimal}
 use Rattle.std.specs.FinMap.{entries}
 use Rattle.std.specs.Str.Lines.{lines}
-use Rattle.sd_text.specs.Canon.{canon}
 use Rattle.sd_tree.specs.Names.{Names}
 use Rattle.sd_tree.specs.Plain.{PlainTree}
 use Rattle.sd_tree.specs.Descriptors.{own_descriptor_of_row}
@@ -21,10 +20,10 @@ use Rattle.sd_answer.specs.Answer.{line, fault_line}
 use Rattle.sd_script.specs.Command.{line_asks}
 use Rattle.sd_script.specs.Lines.{is_silent}
 use Rattle.sd_script.specs.Paths.{path_word}
+use Rattle.sd_script.specs.Reply.{shown_sddl}
 use Rattle.sd_script.specs.declared.asked.Asked.{Asked}
 use Rattle.sd_script.specs.declared.asked.Asked.TheVariants.{Opening, Asking}
 use Rattle.sd_script.specs.declared.manner.Notation.{Notation}
-use Rattle.sd_script.specs.declared.paths.PathSpelling.{PathSpelling}
 
 -- ---- what makes a node, and the line that asks for it
 
@@ -40,17 +39,18 @@ abbrev pub adding_word : NodeKind → List ℕ
 adding_word Container = codes "addc"
 adding_word Object = codes "addo"
 
-abbrev pub making_line : PathSpelling → ℕ → Names → Row → List ℕ
-making_line paths readers [] row = line
-    (codes "open " ++ decimal readers ++ codes " " ++ canon (own_descriptor_of_row row))
-making_line paths readers (name ∷ names) row =
-    line (adding_word row.kind ++ codes " " ++ path_word paths (name ∷ names) ++ codes " "
-    ++ canon (own_descriptor_of_row row))
+abbrev pub making_line : Notation → ℕ → Names → Row → List ℕ
+making_line notation readers [] row = line
+    (codes "open " ++ decimal readers ++ codes " " ++ shown_sddl notation.spelling (own_descriptor_of_row row))
+making_line notation readers (name ∷ names) row =
+    line (adding_word row.kind ++ codes " " ++ path_word notation.paths (name ∷ names) ++ codes " "
+    ++ shown_sddl notation.spelling (own_descriptor_of_row row))
 
 -- ---- the whole tree
 
-abbrev pub making_lines : PathSpelling → ℕ → List (Names × Row) → List ℕ
-making_lines paths readers nodes = flat_map (λ (node : Names × Row). making_line paths readers node.0 node.1) nodes
+abbrev pub making_lines : Notation → ℕ → List (Names × Row) → List ℕ
+making_lines notation readers nodes =
+    flat_map (λ (node : Names × Row). making_line notation readers node.0 node.1) nodes
 
 abbrev pub makings : ℕ → List (Names × Row) → List Asked
 makings readers nodes = map (λ (node : Names × Row). making readers node.0 node.1) nodes
@@ -69,7 +69,7 @@ AreAskedBy notation is_open (text ∷ texts) (asked ∷ more) = IsAskedBy notati
 
 -- the nodes' lines, and then the publish
 abbrev pub dump_text : Notation → ℕ → PlainTree → List ℕ
-dump_text notation readers t = making_lines notation.paths readers (entries t) ++ line (codes "publish")
+dump_text notation readers t = making_lines notation readers (entries t) ++ line (codes "publish")
 
 abbrev pub IsReadBack : Notation → ℕ → PlainTree → List ℕ → Type 0
 IsReadBack notation readers t text = AreAskedBy notation false (lines text)

@@ -15,17 +15,18 @@ use Rattle.sd_answer.specs.Answer.{line, fault_line}
 use Rattle.sd_script.specs.Listing.{lacks_words, line_below}
 use Rattle.sd_script.specs.Reply.{reply_line, seen_line}
 use Rattle.sd_script.specs.declared.listing.Which.{Which}
-use Rattle.sd_script.specs.declared.paths.PathSpelling.{PathSpelling}
+use Rattle.sd_script.specs.declared.manner.Notation.{Notation}
 
 -- by how long a journal, and the lines of the nodes; where none is at the path, the answer says so
-abbrev pub found_in : PathSpelling → MappingValue → PlainTree → Names → Which → ℕ → Option NodeKind → List ℕ
-found_in paths g t top which seen None = seen_line seen (line (codes "nonode"))
-found_in paths g t top which seen (Some kind) =
-    if lacks_words paths t top then fault_line (codes "name")
-    else seen_line seen (line (codes "found") ++ flat_map (line_below paths g t top which) (entries t))
+abbrev pub found_in : Notation → MappingValue → PlainTree → Names → Which → ℕ → Option NodeKind → List ℕ
+found_in notation g t top which seen None = seen_line seen (line (codes "nonode"))
+found_in notation g t top which seen (Some kind) =
+    if lacks_words notation.paths t top then fault_line (codes "name")
+    else seen_line seen (line (codes "found") ++ flat_map (line_below notation g t top which) (entries t))
 
 -- of the reply to a reader who asks for the descriptor of the node
-abbrev pub found_reply : PathSpelling → Machine → Names → Which → Reply → Option (List ℕ)
-found_reply paths m top which (Shown seen descriptor) =
-    let t = replay m.opening m.published in Some (found_in paths m.opening.mapping t top which seen (kind_at t top))
-found_reply paths m top which reply = reply_line reply
+abbrev pub found_reply : Notation → Machine → Names → Which → Reply → Option (List ℕ)
+found_reply notation m top which (Shown seen descriptor) =
+    let t = replay m.opening m.published in
+    Some (found_in notation m.opening.mapping t top which seen (kind_at t top))
+found_reply notation m top which reply = reply_line notation.spelling reply

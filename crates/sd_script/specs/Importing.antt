@@ -13,6 +13,7 @@ use Rattle.sd_desk.specs.Machine.{Machine, accepted}
 use Rattle.sd_desk.specs.declared.request.Reply.{Reply}
 use Rattle.sd_desk.specs.declared.request.Reply.TheVariants.{Edited}
 use Rattle.sd_answer.specs.Answer.{line}
+use Rattle.sd_answer.specs.declared.answer.Spelling.{Spelling}
 use Rattle.sd_script.specs.Argument.{entries_in}
 use Rattle.sd_script.specs.Reply.{reply_line}
 
@@ -39,10 +40,10 @@ imported_line false true = line (codes "ok differs")
 imported_line false false = line (codes "ok differs reordered")
 
 -- by the entries that were given; the node's are those in the tree of all accepted edits
-abbrev pub IsImported : Machine → Names → List Ace → Reply → List ℕ → Type 0
-IsImported m path given Edited printed =
+abbrev pub IsImported : Spelling → Machine → Names → List Ace → Reply → List ℕ → Type 0
+IsImported spelling m path given Edited printed =
     (inherits_alike : Bool) × (is_ordered_alike : Bool)
     × Decides inherits_alike (InheritAlike (entries_at m path) given)
     × Decides is_ordered_alike (AreOrderedAlike (entries_at m path) given)
     × (printed ≡ imported_line inherits_alike is_ordered_alike)
-IsImported m path given reply printed = reply_line reply ≡ Some printed
+IsImported spelling m path given reply printed = reply_line spelling reply ≡ Some printed

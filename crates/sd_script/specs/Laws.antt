@@ -10,7 +10,8 @@ use Rattle.sd_tree.specs.Plain.{row_at}
 use Rattle.sd_tree.specs.declared.node.Row.{Row}
 use Rattle.sd_desk.specs.Machine.{Machine, accepted}
 use Rattle.sd_desk.specs.declared.request.Request.TheVariants.{Check}
-use Rattle.sd_answer.specs.Answer.{line, mask_digits}
+use Rattle.sd_answer.specs.Answer.{line, spelled}
+use Rattle.sd_answer.specs.declared.answer.Spelling.{Spelling}
 use Rattle.sd_script.specs.Command.{line_asks}
 use Rattle.sd_script.specs.Deletion.{delete_right}
 use Rattle.sd_script.specs.Output.{IsAnswered, IsDone, Prints}
@@ -22,7 +23,6 @@ use Rattle.sd_script.specs.declared.asked.Asked.TheVariants.{Opening, Asking, Ex
 use Rattle.sd_script.specs.declared.asked.Asked.TheVariants.{Importing}
 use Rattle.sd_script.specs.declared.manner.Manner.{Manner}
 use Rattle.sd_script.specs.declared.manner.Notation.{Notation}
-use Rattle.sd_script.specs.declared.paths.PathSpelling.{PathSpelling}
 use Rattle.sd_script.specs.declared.session.Session.{Session}
 use Rattle.sd_script.specs.declared.session.Session.TheVariants.{Opened}
 use Rattle.sd_script.specs.declared.view.View.TheVariants.{List as Lists, Dump, Who, Review}
@@ -70,8 +70,9 @@ BeginsAsCheck =
     → ((reasons : List ℕ) × (explained ≡ checked ++ reasons)) × (other ≡ one)
 
 -- a check of a published tree of so many edits is answered by a grant
-abbrev pub IsGranted : ℕ → List ℕ → Type 0
-IsGranted len printed = (mask : ℕ) × (printed ≡ seen_line len (line (codes "granted " ++ mask_digits mask)))
+abbrev pub IsGranted : Spelling → ℕ → List ℕ → Type 0
+IsGranted spelling len printed =
+    (mask : ℕ) × (printed ≡ seen_line len (line (codes "granted " ++ spelled spelling mask)))
 
 abbrev pub by_node_line : ℕ → List ℕ
 by_node_line len = seen_line len (line (codes "granted by node"))
@@ -83,23 +84,23 @@ DeletesAsChecked =
     (checked deleted : List ℕ) (one other : Session)
     → IsDone (Opened notation old) (Asking (Check reader path token delete_right)) checked one
     → IsDone (Opened notation old) (Deleting reader path token) deleted other
-    → (IsGranted (length old.published) checked → deleted ≡ by_node_line (length old.published))
-    × (deleted ≡ by_node_line (length old.published) → IsGranted (length old.published) checked)
+    → (IsGranted notation.spelling (length old.published) checked → deleted ≡ by_node_line (length old.published))
+    × (deleted ≡ by_node_line (length old.published) → IsGranted notation.spelling (length old.published) checked)
     × (other ≡ one)
 
 -- a node of the new tree for which a review prints no line: no check of it is answered otherwise, whatever the token
 -- is. Each bit of a request counts; MAXIMUM_ALLOWED, place 25, is none that is granted
 abbrev pub SilentNodeIsUnchanged : Type 0
 SilentNodeIsUnchanged =
-    (paths : PathSpelling) (ts : Trees) (top path : Names) (row : Row) (token : TokenValue) (asked : ℕ)
-    → IsNodeReview paths ts top (path, row) [] → is_within top path ≡ true → row_at ts.new path ≡ Some row
+    (notation : Notation) (ts : Trees) (top path : Names) (row : Row) (token : TokenValue) (asked : ℕ)
+    → IsNodeReview notation ts top (path, row) [] → is_within top path ≡ true → row_at ts.new path ≡ Some row
     → holds asked 25 ≡ false
     → reply_in ts.mapping ts.old path token asked ≡ reply_in ts.mapping ts.new path token asked
 
 -- a review that prints its last line alone: no check at or below its path is
 abbrev pub SilentReviewChangesNothing : Type 0
 SilentReviewChangesNothing =
-    (paths : PathSpelling) (m : Machine) (top path : Names) (token : TokenValue) (asked : ℕ)
-    → IsReview paths m top (reviewed_line (length m.published) (length (accepted m)))
+    (notation : Notation) (m : Machine) (top path : Names) (token : TokenValue) (asked : ℕ)
+    → IsReview notation m top (reviewed_line (length m.published) (length (accepted m)))
     → is_within top path ≡ true → holds asked 25 ≡ false
     → answer m.opening m.published path token asked ≡ answer m.opening (accepted m) path token asked

@@ -5,7 +5,6 @@ use Rattle.std.specs.List.{flat_map, list_any}
 use Rattle.std.specs.FinMap.{entries}
 use Rattle.sd_sid.specs.Mapping.{MappingValue}
 use Rattle.sd_acl.specs.Descriptor.{DescriptorValue}
-use Rattle.sd_text.specs.Canon.{canon}
 use Rattle.sd_tree.specs.Names.{Names, is_within}
 use Rattle.sd_tree.specs.Plain.{PlainTree}
 use Rattle.sd_check.specs.declared.verdict.Verdict.TheVariants.{Granted, Denied, Reserved, EmptyRequest}
@@ -19,8 +18,10 @@ use Rattle.sd_tree.specs.declared.tree.CheckReply.TheVariants.{Verdict, NoNode}
 use Rattle.sd_desk.specs.Machine.{Machine}
 use Rattle.sd_answer.specs.Answer.{line, fault_line}
 use Rattle.sd_script.specs.Paths.{is_split, path_word}
+use Rattle.sd_script.specs.Reply.{shown_sddl}
 use Rattle.sd_script.specs.declared.listing.Which.{Which}
 use Rattle.sd_script.specs.declared.listing.Which.TheVariants.{All, Granting}
+use Rattle.sd_script.specs.declared.manner.Notation.{Notation}
 use Rattle.sd_script.specs.declared.paths.PathSpelling.{PathSpelling}
 use Rattle.sd_script.specs.declared.paths.PathSpelling.TheVariants.{Plain, Percent}
 
@@ -29,9 +30,10 @@ kind_word Container = codes "container"
 kind_word Object = codes "object"
 
 -- a node with its whole descriptor, as `show` prints that
-abbrev pub node_line : PathSpelling → NodeKind → Names → Option DescriptorValue → List ℕ
-node_line paths kind path None = []
-node_line paths kind path (Some d) = line (kind_word kind ++ codes " " ++ path_word paths path ++ codes " " ++ canon d)
+abbrev pub node_line : Notation → NodeKind → Names → Option DescriptorValue → List ℕ
+node_line notation kind path None = []
+node_line notation kind path (Some d) =
+    line (kind_word kind ++ codes " " ++ path_word notation.paths path ++ codes " " ++ shown_sddl notation.spelling d)
 
 -- a check is granted
 abbrev pub grants : CheckReply → Bool
@@ -42,13 +44,13 @@ grants (Verdict EmptyRequest) = false
 grants NoNode = false
 
 -- a node's line: of all nodes that with the descriptor; or of those whose check grants what is asked the path
-abbrev pub line_of : PathSpelling → MappingValue → PlainTree → Which → Names × Row → List ℕ
-line_of paths g t All node = node_line paths node.1.kind node.0 (descriptor_at g t node.0)
-line_of paths g t (Granting token asked) node =
-    if grants (reply_in g t node.0 token asked) then line (path_word paths node.0) else []
+abbrev pub line_of : Notation → MappingValue → PlainTree → Which → Names × Row → List ℕ
+line_of notation g t All node = node_line notation node.1.kind node.0 (descriptor_at g t node.0)
+line_of notation g t (Granting token asked) node =
+    if grants (reply_in g t node.0 token asked) then line (path_word notation.paths node.0) else []
 
-abbrev pub line_below : PathSpelling → MappingValue → PlainTree → Names → Which → Names × Row → List ℕ
-line_below paths g t top which node = if is_within top node.0 then line_of paths g t which node else []
+abbrev pub line_below : Notation → MappingValue → PlainTree → Names → Which → Names × Row → List ℕ
+line_below notation g t top which node = if is_within top node.0 then line_of notation g t which node else []
 
 -- the node stands at or below the path, and its own path would be more than one word
 abbrev pub is_split_below : Names → Names × Row → Bool
@@ -64,9 +66,10 @@ abbrev pub unless_none : Option NodeKind → List ℕ → List ℕ
 unless_none None text = line (codes "nonode")
 unless_none (Some kind) text = text
 
-abbrev pub listed_in : PathSpelling → MappingValue → PlainTree → Names → List ℕ
-listed_in paths g t top = unless_none (kind_at t top)
-    (if lacks_words paths t top then fault_line (codes "name") else flat_map (line_below paths g t top All) (entries t))
+abbrev pub listed_in : Notation → MappingValue → PlainTree → Names → List ℕ
+listed_in notation g t top = unless_none (kind_at t top)
+    (if lacks_words notation.paths t top then fault_line (codes "name")
+    else flat_map (line_below notation g t top All) (entries t))
 
-abbrev pub list_text : PathSpelling → Machine → Names → List ℕ
-list_text paths m top = listed_in paths m.opening.mapping (replay m.opening m.published) top
+abbrev pub list_text : Notation → Machine → Names → List ℕ
+list_text notation m top = listed_in notation m.opening.mapping (replay m.opening m.published) top

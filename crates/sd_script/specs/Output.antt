@@ -59,24 +59,26 @@ IsOpened manner readers root printed new =
 abbrev pub IsDone : Session → Asked → List ℕ → Session → Type 0
 IsDone old (Opens readers root) printed new = IsOpened (manner_of old) readers root printed new
 IsDone (Opened notation old) (Asking request) printed new =
-    (reply : Reply) × (machine : Machine) × Steps old request reply machine × (reply_line reply ≡ Some printed)
+    (reply : Reply) × (machine : Machine) × Steps old request reply machine
+    × (reply_line notation.spelling reply ≡ Some printed)
     × (new ≡ Opened notation machine)
 IsDone (Opened notation old) (Explaining reader path token asked) printed new =
     (reply : Reply) × (machine : Machine) × Steps old (Show reader path) reply machine
-    × (explained_reply old.opening.mapping token asked reply ≡ Some printed) × (new ≡ Opened notation machine)
+    × (explained_reply notation.spelling old.opening.mapping token asked reply ≡ Some printed)
+    × (new ≡ Opened notation machine)
 IsDone (Opened notation old) (Finding reader path token asked) printed new =
     (reply : Reply) × (machine : Machine) × Steps old (Show reader path) reply machine
-    × (found_reply notation.paths machine path (Granting token asked) reply ≡ Some printed)
+    × (found_reply notation machine path (Granting token asked) reply ≡ Some printed)
     × (new ≡ Opened notation machine)
 IsDone (Opened notation old) (Deleting reader path token) printed new =
     (reply : Reply) × (machine : Machine) × Steps old (Check reader path token delete_right) reply machine
-    × (deletion_reply (parent_grants old.opening old.published path token) reply ≡ Some printed)
+    × (deletion_reply notation.spelling (parent_grants old.opening old.published path token) reply ≡ Some printed)
     × (new ≡ Opened notation machine)
 IsDone (Opened notation old) (Viewing view) printed new =
     IsViewed notation old view printed × (new ≡ Opened notation old)
 IsDone (Opened notation old) (Importing edit path given) printed new =
     (reply : Reply) × (machine : Machine) × Steps old (Edits edit) reply machine
-    × IsImported machine path given reply printed × (new ≡ Opened notation machine)
+    × IsImported notation.spelling machine path given reply printed × (new ≡ Opened notation machine)
 IsDone old asked printed new = ⊥
 
 -- a line that isn't silent is answered by what it asks for, or by its fault

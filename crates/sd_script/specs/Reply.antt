@@ -1,11 +1,11 @@
 -- The line of each reply of a store.
 use Rattle.std.specs.Prelude.{ℕ, List, ◌++◌, Option, Some, None, codes}
 use Rattle.std.specs.Fmt.{decimal}
-use Rattle.sd_acl.specs.Descriptor.{descriptor_of}
+use Rattle.sd_acl.specs.Descriptor.{DescriptorValue, descriptor_of}
 use Rattle.sd_acl.specs.declared.descriptor.Descriptor.{Descriptor}
 use Rattle.sd_check.specs.Token.{TokenValue}
 use Rattle.sd_sid.specs.Mapping.{MappingValue}
-use Rattle.sd_text.specs.Canon.{canon}
+use Rattle.sd_text.specs.Canon.{canon_in}
 use Rattle.sd_tree.specs.Refusals.{number_of, name_of}
 use Rattle.sd_tree.specs.declared.refusal.EditRefusal.{EditRefusal}
 use Rattle.sd_tree.specs.declared.tree.CheckReply.{CheckReply}
@@ -15,9 +15,9 @@ use Rattle.sd_desk.specs.declared.request.Reply.TheVariants.{Edited, Refused, Pu
 use Rattle.sd_desk.specs.declared.request.Reply.TheVariants.{NoReader, NoNotice, Memory}
 use Rattle.sd_versions.specs.declared.start.StartError.{StartError}
 use Rattle.sd_versions.specs.declared.start.StartError.TheVariants as starts
-use Rattle.sd_answer.specs.Answer.{line, verdict_line}
+use Rattle.sd_answer.specs.Answer.{line, right_names_of, verdict_line}
 use Rattle.sd_answer.specs.Why.{why_text}
-use Rattle.sd_answer.specs.declared.answer.Spelling.TheVariants.{Number}
+use Rattle.sd_answer.specs.declared.answer.Spelling.{Spelling}
 
 abbrev pub refused_line : EditRefusal → List ℕ
 refused_line refusal = line (codes "refused " ++ decimal (number_of refusal) ++ codes " " ++ name_of refusal)
@@ -30,26 +30,30 @@ counted_line word n = line (word ++ codes " " ++ decimal n)
 abbrev pub seen_line : ℕ → List ℕ → List ℕ
 seen_line seen what = codes "seen " ++ decimal seen ++ codes " " ++ what
 
-abbrev pub check_line : CheckReply → List ℕ
-check_line (checks.Verdict verdict) = verdict_line Number verdict
-check_line checks.NoNode = line (codes "nonode")
+abbrev pub check_line : Spelling → CheckReply → List ℕ
+check_line spelling (checks.Verdict verdict) = verdict_line spelling verdict
+check_line spelling checks.NoNode = line (codes "nonode")
 
-abbrev pub shown_line : Option Descriptor → List ℕ
-shown_line (Some d) = line (codes "shown " ++ canon (descriptor_of d))
-shown_line None = line (codes "nonode")
+-- a descriptor's text: a mask is a number or a name of its kind of object, as the spelling has it
+abbrev pub shown_sddl : Spelling → DescriptorValue → List ℕ
+shown_sddl spelling d = canon_in (right_names_of spelling) d
+
+abbrev pub shown_line : Spelling → Option Descriptor → List ℕ
+shown_line spelling (Some d) = line (codes "shown " ++ shown_sddl spelling (descriptor_of d))
+shown_line spelling None = line (codes "nonode")
 
 -- out of memory has no line
-abbrev pub reply_line : Reply → Option (List ℕ)
-reply_line Edited = Some (line (codes "ok"))
-reply_line (Refused refusal) = Some (refused_line refusal)
-reply_line (Published len) = Some (counted_line (codes "published") len)
-reply_line (Told len) = Some (counted_line (codes "told") len)
-reply_line (Learned floor) = Some (counted_line (codes "learned") floor)
-reply_line (Answered answer) = Some (seen_line answer.seen (check_line answer.reply))
-reply_line (Shown seen descriptor) = Some (seen_line seen (shown_line descriptor))
-reply_line NoReader = Some (line (codes "noreader"))
-reply_line NoNotice = Some (line (codes "nonotice"))
-reply_line Memory = None
+abbrev pub reply_line : Spelling → Reply → Option (List ℕ)
+reply_line spelling Edited = Some (line (codes "ok"))
+reply_line spelling (Refused refusal) = Some (refused_line refusal)
+reply_line spelling (Published len) = Some (counted_line (codes "published") len)
+reply_line spelling (Told len) = Some (counted_line (codes "told") len)
+reply_line spelling (Learned floor) = Some (counted_line (codes "learned") floor)
+reply_line spelling (Answered answer) = Some (seen_line answer.seen (check_line spelling answer.reply))
+reply_line spelling (Shown seen descriptor) = Some (seen_line seen (shown_line spelling descriptor))
+reply_line spelling NoReader = Some (line (codes "noreader"))
+reply_line spelling NoNotice = Some (line (codes "nonotice"))
+reply_line spelling Memory = None
 
 -- nor has the error that a store of one thread never returns
 abbrev pub start_error_line : StartError → Option (List ℕ)
@@ -61,11 +65,11 @@ start_error_line starts.Place = None
 -- ---- why
 
 -- the explanation by the descriptor of a node, where there is one
-abbrev pub node_why_text : MappingValue → TokenValue → ℕ → Option Descriptor → List ℕ
-node_why_text g t asked None = line (codes "nonode")
-node_why_text g t asked (Some d) = why_text g Number (descriptor_of d) t asked
+abbrev pub node_why_text : Spelling → MappingValue → TokenValue → ℕ → Option Descriptor → List ℕ
+node_why_text spelling g t asked None = line (codes "nonode")
+node_why_text spelling g t asked (Some d) = why_text g spelling (descriptor_of d) t asked
 
 -- of the reply to a reader who asks for the descriptor of the node
-abbrev pub explained_reply : MappingValue → TokenValue → ℕ → Reply → Option (List ℕ)
-explained_reply g t asked (Shown seen d) = Some (seen_line seen (node_why_text g t asked d))
-explained_reply g t asked reply = reply_line reply
+abbrev pub explained_reply : Spelling → MappingValue → TokenValue → ℕ → Reply → Option (List ℕ)
+explained_reply spelling g t asked (Shown seen d) = Some (seen_line seen (node_why_text spelling g t asked d))
+explained_reply spelling g t asked reply = reply_line spelling reply

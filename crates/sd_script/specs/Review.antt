@@ -19,9 +19,10 @@ use Rattle.sd_review.specs.declared.review.Former.{Former}
 use Rattle.sd_review.specs.declared.review.Former.TheVariants.{Same, Moved, New}
 use Rattle.sd_answer.specs.Answer.{line, fault_line}
 use Rattle.sd_answer.specs.Compare.{gains_and_losses}
-use Rattle.sd_answer.specs.declared.answer.Spelling.TheVariants.{Number}
+use Rattle.sd_answer.specs.declared.answer.Spelling.{Spelling}
 use Rattle.sd_script.specs.Listing.{lacks_words}
 use Rattle.sd_script.specs.Paths.{path_word}
+use Rattle.sd_script.specs.declared.manner.Notation.{Notation}
 use Rattle.sd_script.specs.declared.paths.PathSpelling.{PathSpelling}
 
 abbrev pub trees_in : Machine → Trees
@@ -31,22 +32,24 @@ trees_in m = trees_after m.opening m.published m.pending
 
 -- what tokens gain and lose if the new descriptor takes the place of the old one: the lines of `compare`, each after a
 -- head. The base is empty, so these are all tokens
-abbrev pub IsChangeText : MappingValue → List ℕ → Parts → Parts → List ℕ → Type 0
-IsChangeText g head old new printed =
+abbrev pub IsChangeText : Spelling → MappingValue → List ℕ → Parts → Parts → List ℕ → Type 0
+IsChangeText spelling g head old new printed =
     (gained : List Change) × (lost : List Change)
     × AreGains g [] old new gained × AreGains g [] new old lost
-    × (printed ≡ gains_and_losses Number head old new gained lost)
+    × (printed ≡ gains_and_losses spelling head old new gained lost)
 
-abbrev pub IsChangeOf : MappingValue → List ℕ → Option DescriptorValue → Option DescriptorValue → List ℕ → Type 0
-IsChangeOf g head (Some old) (Some new) printed = IsChangeText g head (parts_in old) (parts_in new) printed
-IsChangeOf g head None new printed = printed ≡ []
-IsChangeOf g head (Some old) None printed = printed ≡ []
+abbrev pub IsChangeOf : Spelling → MappingValue → List ℕ → Option DescriptorValue → Option DescriptorValue → List ℕ
+    → Type 0
+IsChangeOf spelling g head (Some old) (Some new) printed =
+    IsChangeText spelling g head (parts_in old) (parts_in new) printed
+IsChangeOf spelling g head None new printed = printed ≡ []
+IsChangeOf spelling g head (Some old) None printed = printed ≡ []
 
 -- of the node at a path, beside the node at a path of the old tree
-abbrev pub IsCompared : PathSpelling → Trees → Names → Names → List ℕ → Type 0
-IsCompared paths ts before path printed =
-    IsChangeOf ts.mapping (path_word paths path ++ codes " ") (descriptor_at ts.mapping ts.old before)
-    (descriptor_at ts.mapping ts.new path) printed
+abbrev pub IsCompared : Notation → Trees → Names → Names → List ℕ → Type 0
+IsCompared notation ts before path printed =
+    IsChangeOf notation.spelling ts.mapping (path_word notation.paths path ++ codes " ")
+    (descriptor_at ts.mapping ts.old before) (descriptor_at ts.mapping ts.new path) printed
 
 abbrev pub new_line : PathSpelling → Names → List ℕ
 new_line paths path = line (codes "new " ++ path_word paths path)
@@ -55,16 +58,17 @@ abbrev pub moved_line : PathSpelling → Names → Names → List ℕ
 moved_line paths before path = line (codes "moved " ++ path_word paths before ++ codes " " ++ path_word paths path)
 
 -- the lines of a node of the new tree
-abbrev pub IsNodeText : PathSpelling → Trees → Names → Former → List ℕ → Type 0
-IsNodeText paths ts path Same printed = IsCompared paths ts path path printed
-IsNodeText paths ts path (Moved before) printed =
-    (changes : List ℕ) × IsCompared paths ts before path changes × (printed ≡ moved_line paths before path ++ changes)
-IsNodeText paths ts path New printed = printed ≡ new_line paths path
+abbrev pub IsNodeText : Notation → Trees → Names → Former → List ℕ → Type 0
+IsNodeText notation ts path Same printed = IsCompared notation ts path path printed
+IsNodeText notation ts path (Moved before) printed =
+    (changes : List ℕ) × IsCompared notation ts before path changes
+    × (printed ≡ moved_line notation.paths before path ++ changes)
+IsNodeText notation ts path New printed = printed ≡ new_line notation.paths path
 
 -- of one at or below the top
-abbrev pub IsNodeReview : PathSpelling → Trees → Names → Names × Row → List ℕ → Type 0
-IsNodeReview paths ts top node printed =
-    MatchBool (is_within top node.0) (IsNodeText paths ts node.0 (former ts node.0) printed) (printed ≡ [])
+abbrev pub IsNodeReview : Notation → Trees → Names → Names × Row → List ℕ → Type 0
+IsNodeReview notation ts top node printed =
+    MatchBool (is_within top node.0) (IsNodeText notation ts node.0 (former ts node.0) printed) (printed ≡ [])
 
 -- the line of a node of the old tree, if no node stands at its path in the new one
 abbrev pub gone_line : PathSpelling → Trees → Names → Names × Row → List ℕ
@@ -87,17 +91,17 @@ IsPrintedAt {A = A} P xs index printed = (x : A) → slice_get xs index ≡ Some
 abbrev pub reviewed_line : ℕ → ℕ → List ℕ
 reviewed_line old new = line (codes "reviewed " ++ decimal old ++ codes " " ++ decimal new)
 
-abbrev pub IsReviewOf : PathSpelling → Trees → Names → List ℕ → Bool → Bool → List ℕ → Type 0
-IsReviewOf paths ts top last false lacks printed = printed ≡ line (codes "nonode")
-IsReviewOf paths ts top last true true printed = printed ≡ fault_line (codes "name")
-IsReviewOf paths ts top last true false printed =
-    (changes : List ℕ) × ArePrinted (IsNodeReview paths ts top) (entries ts.new) changes
-    × (printed ≡ changes ++ flat_map (gone_line paths ts top) (entries ts.old) ++ last)
+abbrev pub IsReviewOf : Notation → Trees → Names → List ℕ → Bool → Bool → List ℕ → Type 0
+IsReviewOf notation ts top last false lacks printed = printed ≡ line (codes "nonode")
+IsReviewOf notation ts top last true true printed = printed ≡ fault_line (codes "name")
+IsReviewOf notation ts top last true false printed =
+    (changes : List ℕ) × ArePrinted (IsNodeReview notation ts top) (entries ts.new) changes
+    × (printed ≡ changes ++ flat_map (gone_line notation.paths ts top) (entries ts.old) ++ last)
 
 abbrev pub has_no_words : PathSpelling → Trees → Bool
 has_no_words paths ts = lacks_words paths ts.old [] || lacks_words paths ts.new []
 
-abbrev pub IsReview : PathSpelling → Machine → Names → List ℕ → Type 0
-IsReview paths m top printed =
-    IsReviewOf paths (trees_in m) top (reviewed_line (length m.published) (length (accepted m)))
-    (stands_in (trees_in m) top) (has_no_words paths (trees_in m)) printed
+abbrev pub IsReview : Notation → Machine → Names → List ℕ → Type 0
+IsReview notation m top printed =
+    IsReviewOf notation (trees_in m) top (reviewed_line (length m.published) (length (accepted m)))
+    (stands_in (trees_in m) top) (has_no_words notation.paths (trees_in m)) printed

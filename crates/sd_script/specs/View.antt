@@ -12,9 +12,9 @@ use Rattle.sd_script.specs.declared.view.View.{View}
 use Rattle.sd_script.specs.declared.view.View.TheVariants.{List as Lists, Dump, Who, Review}
 
 abbrev pub IsViewed : Notation → Machine → View → List ℕ → Type 0
-IsViewed notation m (Lists path) printed = printed ≡ list_text notation.paths m path
+IsViewed notation m (Lists path) printed = printed ≡ list_text notation m path
 IsViewed notation m Dump printed = IsDump notation m printed
 IsViewed notation m (Who path groups asked) printed =
-    IsWhoText m.opening.mapping
+    IsWhoText notation.spelling m.opening.mapping
     (descriptor_at m.opening.mapping (replay m.opening m.published) path) asked groups printed
-IsViewed notation m (Review path) printed = IsReview notation.paths m path printed
+IsViewed notation m (Review path) printed = IsReview notation m path printed

@@ -10,7 +10,7 @@ use Rattle.sd_analysis.specs.Who.{AllBeyond, HasEachOnce, IsMost, IsWho}
 use Rattle.sd_analysis.specs.declared.who_has.Access.{Access}
 use Rattle.sd_answer.specs.Answer.{line}
 use Rattle.sd_answer.specs.Who.{who_text}
-use Rattle.sd_answer.specs.declared.answer.Spelling.TheVariants.{Number}
+use Rattle.sd_answer.specs.declared.answer.Spelling.{Spelling}
 
 -- the rights that are asked about: those of the mask, generic ones mapped; with MAXIMUM_ALLOWED, place 25, all
 abbrev pub rights_asked : MappingValue → ℕ → ℕ
@@ -22,12 +22,13 @@ or_empty text = if length text == 0 then line (codes "empty") else text
 
 -- the lines of accesses that say exactly who is granted each right once: of tokens with the base, as `who` of
 -- sd_analysis promises. A node that isn't there has its own answer
-abbrev pub IsWhoText : MappingValue → Option DescriptorValue → ℕ → List (SidValue × GroupState) → List ℕ → Type 0
-IsWhoText g None asked base printed = printed ≡ line (codes "nonode")
-IsWhoText g (Some d) asked base printed =
+abbrev pub IsWhoText : Spelling → MappingValue → Option DescriptorValue → ℕ → List (SidValue × GroupState) → List ℕ
+    → Type 0
+IsWhoText spelling g None asked base printed = printed ≡ line (codes "nonode")
+IsWhoText spelling g (Some d) asked base printed =
     (all : List Access)
     × IsWho d.owner (dacl_entries d.dacl) g base (rights_asked g asked) all
     × IsMost d.owner (dacl_entries d.dacl) g base (rights_asked g asked) all
     × HasEachOnce (rights_asked g asked) all
     × AllBeyond base all
-    × (printed ≡ or_empty (who_text Number all))
+    × (printed ≡ or_empty (who_text spelling all))

@@ -10,10 +10,10 @@ use crate::fault::{LineFault, Stop};
 use crate::manner::Notation;
 use crate::view::Groups;
 use sd_acl::{Dacl, Descriptor};
-use sd_answer::{TokenError, read_base, read_sddl_argument, read_token};
+use sd_answer::{TokenError, read_base, read_mask_in, read_sddl_argument, read_token};
 use sd_check::Token;
 use sd_sid::{Mask, Sid};
-use sd_text::{TextError, WithoutSacl, read_mask, read_sid_text_in};
+use sd_text::{TextError, WithoutSacl, read_sid_text_in};
 use sd_tree::{Entries, NodeDacl, RootSpec};
 use std::alloc::{AllocError, Global};
 
@@ -40,11 +40,11 @@ pub(crate) fn sid_in(notation: Notation, word: &str) -> Result<Sid, LineFault>
     }
 }
 
-/// A rights field ([MS-DTYP] 2.5.1.1, ace-rights).
-pub(crate) fn mask_in(word: &str) -> Result<Mask, LineFault>
-    ensures { mask word.now result }
+/// A mask ([MS-DTYP] 2.4.3): a rights field, or names.
+pub(crate) fn mask_in(notation: Notation, word: &str) -> Result<Mask, LineFault>
+    ensures { mask notation word.now result }
 {
-    match read_mask(word) {
+    match read_mask_in(notation.spelling, word) {
         Ok(mask) => Ok(mask),
         Err(_) => Err(LineFault::Mask),
     }

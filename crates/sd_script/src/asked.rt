@@ -284,7 +284,7 @@ fn posed(
     let reader = number_in(reader)?;
     let path = path_in(alloc, notation.paths, path)?;
     let user = sid_in(notation, user)?;
-    let asked = mask_in(mask)?;
+    let asked = mask_in(notation, mask)?;
     let token = token_in(alloc, notation, user, words)?;
     Ok(question.about(reader, path, token, asked))
 }
@@ -341,7 +341,7 @@ fn granted(
     ensures { UnlessMemory (reads notation (asks_groups (path.now, mask.now, texts words.now))) result }
 {
     let path = path_in(alloc, notation.paths, path)?;
-    let asked = mask_in(mask)?;
+    let asked = mask_in(notation, mask)?;
     let groups = base_in(alloc, notation, words)?;
     Ok(Asked::Viewing(View::Who {
         path,

@@ -12,6 +12,7 @@ use crate::listing::grants;
 use crate::manner::Notation;
 use crate::paths::path_in;
 use crate::reply::{reply_line, seen_line};
+use sd_answer::Spelling;
 use sd_check::Token;
 use sd_desk::Reply;
 use sd_path::MAX_NAMES;
@@ -124,17 +125,18 @@ fn parent_of(alloc: Global, path: &Path) -> Result<Option<Path>, AllocError>
 /// grants the deletion; or the line of another reply.
 pub(crate) fn deletion_reply(
     alloc: Global,
+    spelling: Spelling,
     by_parent: bool,
     reply: &Reply,
 ) -> Result<String, AllocError>
-    ensures { IfOk result (λ text. deletion_reply by_parent reply.now ≡ Some (string_bytes text)) }
+    ensures { IfOk result (λ text. deletion_reply spelling by_parent reply.now ≡ Some (string_bytes text)) }
 {
     match reply {
         Reply::Answered(answer) => {
             let what = deletion_line(answer.reply, by_parent);
             seen_line(alloc, answer.seen, what)
         }
-        _ => reply_line(alloc, reply),
+        _ => reply_line(alloc, spelling, reply),
     }
 }
 

@@ -19,12 +19,12 @@ use crate::fault::Stop;
 use crate::line::read_line;
 use crate::lines::is_silent;
 use crate::manner::Notation;
-use crate::paths::{PathSpelling, path_word};
+use crate::paths::path_word;
+use crate::reply::shown_sddl;
 use crate::same::{is_making, is_publishing};
 use sd_acl::Descriptor;
 use sd_answer::fault_line;
 use sd_lines::{Ending, first_line};
-use sd_text::print_sddl;
 use sd_tree::{NodeKind, NodeRef, Tree};
 use std::alloc::{AllocError, Global};
 
@@ -39,7 +39,7 @@ pub(crate) fn dump_text(
     ensures { IfOk result
         (λ text. IsDumpOf notation readers (replay tree.now.opening tree.now.journal) (string_bytes text)) }
 {
-    let mut text = making_lines(alloc, notation.paths, tree, readers)?;
+    let mut text = making_lines(alloc, notation, tree, readers)?;
     text.push_str("publish\n")?;
     if is_read_back(alloc, notation, tree, readers, text.as_bytes())? {
         Ok(text)
@@ -51,16 +51,16 @@ pub(crate) fn dump_text(
 /// The line of each node.
 fn making_lines(
     alloc: Global,
-    paths: PathSpelling,
+    notation: Notation,
     tree: &Tree,
     readers: u64,
 ) -> Result<String, AllocError>
     ensures { IfOk result (λ text. string_bytes text
-        ≡ making_lines_of paths readers (entries (replay tree.now.opening tree.now.journal))) }
+        ≡ making_lines_of notation readers (entries (replay tree.now.opening tree.now.journal))) }
 {
     let mut text = String::new(alloc);
     for index in 0..tree.node_count() {
-        let line = line_at(alloc, paths, tree, readers, index)?;
+        let line = line_at(alloc, notation, tree, readers, index)?;
         text.push_str(&line)?;
     }
     Ok(text)
@@ -69,19 +69,19 @@ fn making_lines(
 /// The line that makes the node of a place.
 fn line_at(
     alloc: Global,
-    paths: PathSpelling,
+    notation: Notation,
     tree: &Tree,
     readers: u64,
     index: usize,
 ) -> Result<String, AllocError>
     requires { index < length (entries (replay tree.now.opening tree.now.journal)) }
     ensures { IfOk result (λ text. Some (string_bytes text) ≡ option_map
-        (λ node. making_line_of paths readers node.0 node.1)
+        (λ node. making_line_of notation readers node.0 node.1)
         (slice_get (entries (replay tree.now.opening tree.now.journal)) index)) }
 {
     match tree.node(index) {
         Some(node) => match tree.given(node.path)? {
-            Some((_, given)) => making_line(alloc, paths, readers, &node, &given),
+            Some((_, given)) => making_line(alloc, notation, readers, &node, &given),
             None => unreachable!(),
         },
         None => unreachable!(),
@@ -91,22 +91,22 @@ fn line_at(
 /// The line that makes a node with this descriptor of its own: an opening for the root, and else an addition.
 fn making_line(
     alloc: Global,
-    paths: PathSpelling,
+    notation: Notation,
     readers: u64,
     node: &NodeRef<'_>,
     given: &Descriptor,
 ) -> Result<String, AllocError>
     requires { descriptor_of given.now ≡ own_descriptor_of_row (listed node.now).1 }
     ensures { IfOk result (λ text. string_bytes text
-        ≡ making_line_of paths readers (listed node.now).0 (listed node.now).1) }
+        ≡ making_line_of notation readers (listed node.now).0 (listed node.now).1) }
 {
-    let sddl = print_sddl(alloc, given)?;
+    let sddl = shown_sddl(alloc, notation.spelling, given)?;
     if node.path.as_path_ref().is_root() {
         let text = format!(in alloc; "open {readers} {sddl}\n")?;
         return Ok(text);
     }
     let word = adding_word(node.kind);
-    let path = path_word(alloc, paths, node.path)?;
+    let path = path_word(alloc, notation.paths, node.path)?;
     let text = format!(in alloc; "{word} {path} {sddl}\n")?;
     Ok(text)
 }

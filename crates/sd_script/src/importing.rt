@@ -20,6 +20,7 @@ use crate::manner::Notation;
 use crate::paths::path_in;
 use crate::reply::reply_line;
 use sd_acl::{Ace, Dacl, Descriptor, canonicalize};
+use sd_answer::Spelling;
 use sd_desk::Reply;
 use sd_review::same_entries;
 use sd_tree::{Edit, Entries, NodeDacl, NodeKind, Path, RootSpec, Tree};
@@ -118,13 +119,14 @@ fn explicit_in(alloc: Global, entries: &[Ace]) -> Result<Vec<Ace>, AllocError>
 /// order that they had there. Out of memory has none.
 pub fn import_line(
     alloc: Global,
+    spelling: Spelling,
     tree: &Tree,
     path: &Path,
     given: &Entries,
     reply: &Reply,
 ) -> Result<String, AllocError>
     ensures { (m : Machine) → m.opening ≡ tree.now.opening → accepted m ≡ tree.now.journal
-        → IfOk result (λ text. IsImported m path.now given.now reply.now (string_bytes text)) }
+        → IfOk result (λ text. IsImported spelling m path.now given.now reply.now (string_bytes text)) }
 {
     match reply {
         Reply::Edited => {
@@ -133,7 +135,7 @@ pub fn import_line(
             let is_ordered_alike = are_ordered_alike(alloc, &stored, given.as_slice())?;
             String::from_str(alloc, imported_line(inherits_alike, is_ordered_alike))
         }
-        _ => reply_line(alloc, reply),
+        _ => reply_line(alloc, spelling, reply),
     }
 }
 

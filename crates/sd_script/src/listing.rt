@@ -12,12 +12,13 @@ ghost use Rattle.sd_script.specs.Listing.{is_split_below as is_split_below_of, k
 ghost use Rattle.sd_script.specs.Listing.{lacks_words as lacks_words_of, line_below as line_below_of};
 ghost use Rattle.sd_script.specs.Listing.{line_of as line_of_of, listed_in, node_line as node_line_of};
 
+use crate::manner::Notation;
 use crate::paths::{PathSpelling, is_split, path_word};
+use crate::reply::shown_sddl;
 use sd_acl::Descriptor;
 use sd_answer::fault_line;
 use sd_check::{Token, Verdict};
 use sd_sid::Mask;
-use sd_text::print_sddl;
 use sd_tree::{CheckReply, NodeKind, NodeRef, Path, Tree};
 use std::alloc::{AllocError, Global};
 
@@ -34,20 +35,20 @@ pub(crate) enum Which {
 /// `fault name` where the path of one would be more than one word.
 pub(crate) fn list_text(
     alloc: Global,
-    paths: PathSpelling,
+    notation: Notation,
     tree: &Tree,
     top: &Path,
 ) -> Result<String, AllocError>
     ensures { IfOk result (λ text. string_bytes text
-        ≡ listed_in paths tree.now.opening.mapping (replay tree.now.opening tree.now.journal) top.now) }
+        ≡ listed_in notation tree.now.opening.mapping (replay tree.now.opening tree.now.journal) top.now) }
 {
     if tree.lookup(top).is_none() {
         return String::from_str(alloc, "nonode\n");
     }
-    if lacks_words(alloc, paths, tree, top)? {
+    if lacks_words(alloc, notation.paths, tree, top)? {
         return fault_line(alloc, "name");
     }
-    lines_below(alloc, paths, tree, top, &Which::All)
+    lines_below(alloc, notation, tree, top, &Which::All)
 }
 
 /// Whether the path of some node at or below this one can't be printed.
@@ -102,18 +103,18 @@ fn is_split_below(alloc: Global, top: &Path, node: &NodeRef<'_>) -> Result<bool,
 /// The lines of the nodes that stand at or below the path, of those that have one.
 pub(crate) fn lines_below(
     alloc: Global,
-    paths: PathSpelling,
+    notation: Notation,
     tree: &Tree,
     top: &Path,
     which: &Which,
 ) -> Result<String, AllocError>
     ensures { IfOk result (λ text. string_bytes text ≡ flat_map
-        (line_below_of paths tree.now.opening.mapping (replay tree.now.opening tree.now.journal) top.now which.now)
+        (line_below_of notation tree.now.opening.mapping (replay tree.now.opening tree.now.journal) top.now which.now)
         (entries (replay tree.now.opening tree.now.journal))) }
 {
     let mut text = String::new(alloc);
     for index in 0..tree.node_count() {
-        let line = line_at(alloc, paths, tree, top, which, index)?;
+        let line = line_at(alloc, notation, tree, top, which, index)?;
         text.push_str(&line)?;
     }
     Ok(text)
@@ -122,7 +123,7 @@ pub(crate) fn lines_below(
 /// The line of the node of a place, where it stands at or below the path, and else nothing.
 fn line_at(
     alloc: Global,
-    paths: PathSpelling,
+    notation: Notation,
     tree: &Tree,
     top: &Path,
     which: &Which,
@@ -130,49 +131,49 @@ fn line_at(
 ) -> Result<String, AllocError>
     requires { index < length (entries (replay tree.now.opening tree.now.journal)) }
     ensures { IfOk result (λ text. Some (string_bytes text) ≡ option_map
-        (line_below_of paths tree.now.opening.mapping (replay tree.now.opening tree.now.journal) top.now which.now)
+        (line_below_of notation tree.now.opening.mapping (replay tree.now.opening tree.now.journal) top.now which.now)
         (slice_get (entries (replay tree.now.opening tree.now.journal)) index)) }
 {
     match tree.node(index) {
-        Some(node) => line_below(alloc, paths, tree, top, which, &node),
+        Some(node) => line_below(alloc, notation, tree, top, which, &node),
         None => unreachable!(),
     }
 }
 
 fn line_below(
     alloc: Global,
-    paths: PathSpelling,
+    notation: Notation,
     tree: &Tree,
     top: &Path,
     which: &Which,
     node: &NodeRef<'_>,
 ) -> Result<String, AllocError>
-    ensures { IfOk result (λ text. string_bytes text ≡ line_below_of paths tree.now.opening.mapping
+    ensures { IfOk result (λ text. string_bytes text ≡ line_below_of notation tree.now.opening.mapping
         (replay tree.now.opening tree.now.journal) top.now which.now (listed node.now)) }
 {
     if !node.path.as_path_ref().is_within(&top.as_path_ref()) {
         return Ok(String::new(alloc));
     }
-    line_of(alloc, paths, tree, which, node)
+    line_of(alloc, notation, tree, which, node)
 }
 
 fn line_of(
     alloc: Global,
-    paths: PathSpelling,
+    notation: Notation,
     tree: &Tree,
     which: &Which,
     node: &NodeRef<'_>,
 ) -> Result<String, AllocError>
-    ensures { IfOk result (λ text. string_bytes text ≡ line_of_of paths tree.now.opening.mapping
+    ensures { IfOk result (λ text. string_bytes text ≡ line_of_of notation tree.now.opening.mapping
         (replay tree.now.opening tree.now.journal) which.now (listed node.now)) }
 {
     match which {
         Which::All => {
             let descriptor = tree.descriptor(node.path)?;
-            node_line(alloc, paths, node.kind, node.path, &descriptor)
+            node_line(alloc, notation, node.kind, node.path, &descriptor)
         }
         Which::Granting { token, asked } if grants(tree.check(node.path, token, *asked)) => {
-            let mut line = path_word(alloc, paths, node.path)?;
+            let mut line = path_word(alloc, notation.paths, node.path)?;
             line.push_str("\n")?;
             Ok(line)
         }
@@ -190,20 +191,20 @@ pub(crate) fn grants(reply: CheckReply) -> bool
 /// The line of a node with this descriptor.
 fn node_line(
     alloc: Global,
-    paths: PathSpelling,
+    notation: Notation,
     kind: NodeKind,
     path: &Path,
     descriptor: &Option<Descriptor>,
 ) -> Result<String, AllocError>
     ensures { IfOk result (λ text. string_bytes text
-        ≡ node_line_of paths kind path.now (option_map descriptor_of descriptor.now)) }
+        ≡ node_line_of notation kind path.now (option_map descriptor_of descriptor.now)) }
 {
     match descriptor {
         None => Ok(String::new(alloc)),
         Some(descriptor) => {
             let word = kind_word(kind);
-            let path = path_word(alloc, paths, path)?;
-            let sddl = print_sddl(alloc, descriptor)?;
+            let path = path_word(alloc, notation.paths, path)?;
+            let sddl = shown_sddl(alloc, notation.spelling, descriptor)?;
             let text = format!(in alloc; "{word} {path} {sddl}\n")?;
             Ok(text)
         }

@@ -1,8 +1,10 @@
 //! How a script is carried out.
 ghost use Rattle.std.specs.Prelude.{◌≡◌, None, false};
 ghost use Rattle.sd_text.specs.Alias.{in_domain};
+ghost use Rattle.sd_answer.specs.declared.answer.Spelling.TheVariants.{Number};
 
 use crate::paths::PathSpelling;
+use sd_answer::Spelling;
 use sd_sid::GenericMapping;
 use sd_text::Aliases;
 
@@ -20,6 +22,8 @@ pub struct Manner {
 pub struct Notation {
     /// How paths are spelled, also in what is printed.
     pub paths: PathSpelling,
+    /// How masks are spelled, also in what is printed ([MS-DTYP] 2.4.3).
+    pub spelling: Spelling,
     /// Which aliases of SIDs an SDDL, a user and a word may have ([MS-DTYP] 2.5.1.1, sid-token).
     pub aliases: Aliases,
     /// Whether the section of a SACL is left out of an SDDL ([MS-DTYP] 2.5.1.1, sacl).
@@ -29,13 +33,20 @@ pub struct Notation {
 }
 
 impl Notation {
-    /// Paths are spelled so, no domain's alias and none of newer versions of Windows is known, a SACL is a fault, and
-    /// answers are printed as they are.
+    /// Paths are spelled so, and masks as numbers; no domain's alias and none of newer versions of Windows is known, a
+    /// SACL is a fault, and answers are printed as they are.
     pub fn plain(paths: PathSpelling) -> Notation
-        ensures { result ≡ record { paths = paths; aliases = in_domain None; without_sacl = false; is_json = false } }
+        ensures { result ≡ record {
+          paths = paths;
+          spelling = Number;
+          aliases = in_domain None;
+          without_sacl = false;
+          is_json = false;
+        } }
     {
         Notation {
             paths,
+            spelling: Spelling::Number,
             aliases: Aliases::in_domain(None),
             without_sacl: false,
             is_json: false,

@@ -1,21 +1,22 @@
 //! The line of each reply of a store.
 ghost use Rattle.std.specs.Prelude.{◌≡◌, Some, IfOk, codes, string_bytes};
+ghost use Rattle.sd_acl.specs.Descriptor.{descriptor_of};
 ghost use Rattle.sd_script.specs.Reply.{check_line, counted_line, explained_reply, node_why_text, refused_line};
-ghost use Rattle.sd_script.specs.Reply.{reply_line, seen_line, shown_line, start_error_line};
+ghost use Rattle.sd_script.specs.Reply.{reply_line, seen_line, shown_line, shown_sddl, start_error_line};
 
 use sd_acl::Descriptor;
 use sd_answer::{Spelling, verdict_line, why_text};
 use sd_check::Token;
 use sd_desk::Reply;
 use sd_sid::{GenericMapping, Mask};
-use sd_text::print_sddl;
+use sd_text::print_sddl_in;
 use sd_tree::{CheckReply, EditRefusal};
 use sd_versions::StartError;
 use std::alloc::{AllocError, Global};
 
-/// The line of a reply. Out of memory has none: it is an error.
-pub fn reply_line(alloc: Global, reply: &Reply) -> Result<String, AllocError>
-    ensures { IfOk result (λ text. reply_line reply.now ≡ Some (string_bytes text)) }
+/// The line of a reply, a mask in this spelling. Out of memory has none: it is an error.
+pub fn reply_line(alloc: Global, spelling: Spelling, reply: &Reply) -> Result<String, AllocError>
+    ensures { IfOk result (λ text. reply_line spelling reply.now ≡ Some (string_bytes text)) }
 {
     match reply {
         Reply::Edited => String::from_str(alloc, "ok\n"),
@@ -24,11 +25,11 @@ pub fn reply_line(alloc: Global, reply: &Reply) -> Result<String, AllocError>
         Reply::Told(len) => counted_line(alloc, "told", *len),
         Reply::Learned(floor) => counted_line(alloc, "learned", *floor),
         Reply::Answered(answer) => {
-            let what = check_line(alloc, answer.reply)?;
+            let what = check_line(alloc, spelling, answer.reply)?;
             seen_line(alloc, answer.seen, &what)
         }
         Reply::Shown { seen, descriptor } => {
-            let what = shown_line(alloc, descriptor)?;
+            let what = shown_line(alloc, spelling, descriptor)?;
             seen_line(alloc, *seen, &what)
         }
         Reply::NoReader => String::from_str(alloc, "noreader\n"),
@@ -73,22 +74,38 @@ pub(crate) fn seen_line(alloc: Global, seen: u64, what: &str) -> Result<String, 
     Ok(text)
 }
 
-fn check_line(alloc: Global, reply: CheckReply) -> Result<String, AllocError>
-    ensures { IfOk result (λ text. string_bytes text ≡ check_line reply) }
+fn check_line(alloc: Global, spelling: Spelling, reply: CheckReply) -> Result<String, AllocError>
+    ensures { IfOk result (λ text. string_bytes text ≡ check_line spelling reply) }
 {
     match reply {
-        CheckReply::Verdict(verdict) => verdict_line(alloc, Spelling::Number, verdict),
+        CheckReply::Verdict(verdict) => verdict_line(alloc, spelling, verdict),
         CheckReply::NoNode => String::from_str(alloc, "nonode\n"),
     }
 }
 
-fn shown_line(alloc: Global, descriptor: &Option<Descriptor>) -> Result<String, AllocError>
-    ensures { IfOk result (λ text. string_bytes text ≡ shown_line descriptor.now) }
+/// The text of a descriptor ([MS-DTYP] 2.5.1), whose masks have the names of their kind of object alone where the
+/// spelling has names.
+pub(crate) fn shown_sddl(
+    alloc: Global,
+    spelling: Spelling,
+    descriptor: &Descriptor,
+) -> Result<String, AllocError>
+    ensures { IfOk result (λ text. string_bytes text ≡ shown_sddl spelling (descriptor_of descriptor.now)) }
+{
+    print_sddl_in(alloc, spelling.right_names(), descriptor)
+}
+
+fn shown_line(
+    alloc: Global,
+    spelling: Spelling,
+    descriptor: &Option<Descriptor>,
+) -> Result<String, AllocError>
+    ensures { IfOk result (λ text. string_bytes text ≡ shown_line spelling descriptor.now) }
 {
     match descriptor {
         None => String::from_str(alloc, "nonode\n"),
         Some(descriptor) => {
-            let sddl = print_sddl(alloc, descriptor)?;
+            let sddl = shown_sddl(alloc, spelling, descriptor)?;
             format!(in alloc; "shown {sddl}\n")
         }
     }
@@ -98,34 +115,38 @@ fn shown_line(alloc: Global, descriptor: &Option<Descriptor>) -> Result<String, 
 /// explanation or `nonode`; or the line of another reply.
 pub(crate) fn explained_reply(
     alloc: Global,
+    spelling: Spelling,
     mapping: &GenericMapping,
     token: &Token,
     asked: Mask,
     reply: &Reply,
 ) -> Result<String, AllocError>
-    ensures { IfOk result (λ text. explained_reply mapping.now token.now asked reply.now ≡ Some (string_bytes text)) }
+    ensures { IfOk result
+        (λ text. explained_reply spelling mapping.now token.now asked reply.now ≡ Some (string_bytes text)) }
 {
     match reply {
         Reply::Shown { seen, descriptor } => {
-            let lines = node_why_text(alloc, mapping, token, asked, descriptor)?;
+            let lines = node_why_text(alloc, spelling, mapping, token, asked, descriptor)?;
             seen_line(alloc, *seen, &lines)
         }
-        _ => reply_line(alloc, reply),
+        _ => reply_line(alloc, spelling, reply),
     }
 }
 
 /// The lines of an explanation by the descriptor of a node, where there is one.
 fn node_why_text(
     alloc: Global,
+    spelling: Spelling,
     mapping: &GenericMapping,
     token: &Token,
     asked: Mask,
     descriptor: &Option<Descriptor>,
 ) -> Result<String, AllocError>
-    ensures { IfOk result (λ text. string_bytes text ≡ node_why_text mapping.now token.now asked descriptor.now) }
+    ensures { IfOk result
+        (λ text. string_bytes text ≡ node_why_text spelling mapping.now token.now asked descriptor.now) }
 {
     match descriptor {
         None => String::from_str(alloc, "nonode\n"),
-        Some(descriptor) => { why_text(alloc, mapping, Spelling::Number, descriptor, token, asked) }
+        Some(descriptor) => { why_text(alloc, mapping, spelling, descriptor, token, asked) }
     }
 }

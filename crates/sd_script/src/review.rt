@@ -16,6 +16,7 @@ ghost use Rattle.sd_script.specs.Review.{IsReview, IsReviewOf, gone_line, has_no
 ghost use Rattle.sd_script.specs.Review.{reviewed_line};
 
 use crate::listing::lacks_words;
+use crate::manner::Notation;
 use crate::paths::{PathSpelling, path_word};
 use sd_answer::fault_line;
 use sd_desk::Desk;
@@ -28,16 +29,16 @@ use std::alloc::{AllocError, Global};
 /// printed.
 pub(crate) fn review_text(
     alloc: Global,
-    paths: PathSpelling,
+    notation: Notation,
     desk: &Desk,
     top: &Path,
 ) -> Result<String, AllocError>
-    ensures { IfOk result (λ text. IsReview paths desk.now top.now (string_bytes text)) }
+    ensures { IfOk result (λ text. IsReview notation desk.now top.now (string_bytes text)) }
 {
     let old = desk.published();
     let new = desk.draft();
     let review = ReviewText {
-        paths,
+        notation,
         review: Review::of(old, new),
     };
     let text = review.text(alloc, top)?;
@@ -52,19 +53,20 @@ fn reviewed_line(alloc: Global, old: u64, new: u64) -> Result<String, AllocError
     Ok(text)
 }
 
-/// A review whose lines spell paths so.
+/// A review whose lines are written so.
 #[derive(Drop)]
 pub(crate) struct ReviewText<'a> {
-    paths: PathSpelling,
+    notation: Notation,
     review: Review<'a>,
 }
 
 impl ReviewText<'_> {
     /// The lines, and the last one.
     fn text(&self, alloc: Global, top: &Path) -> Result<String, AllocError>
-        ensures { IfOk result (λ text. IsReviewOf self.now.paths (trees_of self.now.review) top.now
+        ensures { IfOk result (λ text. IsReviewOf self.now.notation (trees_of self.now.review) top.now
             (reviewed_line (length self.now.review.old.now.journal) (length self.now.review.new.now.journal))
-            (stands_in (trees_of self.now.review) top.now) (has_no_words self.now.paths (trees_of self.now.review))
+            (stands_in (trees_of self.now.review) top.now)
+            (has_no_words self.now.notation.paths (trees_of self.now.review))
             (string_bytes text)) }
     {
         if !self.review.has(top) {
@@ -83,18 +85,18 @@ impl ReviewText<'_> {
 
     /// Whether the path of some node can't be printed.
     fn lacks_words(&self, alloc: Global) -> Result<bool, AllocError>
-        ensures { IfOk result (λ lacks. lacks ≡ has_no_words self.now.paths (trees_of self.now.review)) }
+        ensures { IfOk result (λ lacks. lacks ≡ has_no_words self.now.notation.paths (trees_of self.now.review)) }
     {
         let root = Path::root(alloc);
-        if lacks_words(alloc, self.paths, self.review.old, &root)? {
+        if lacks_words(alloc, self.notation.paths, self.review.old, &root)? {
             return Ok(true);
         }
-        lacks_words(alloc, self.paths, self.review.new, &root)
+        lacks_words(alloc, self.notation.paths, self.review.new, &root)
     }
 
     /// The lines of the nodes of the new tree.
     fn changes(&self, alloc: Global, top: &Path) -> Result<String, AllocError>
-        ensures { IfOk result (λ text. ArePrinted (IsNodeReview self.now.paths (trees_of self.now.review) top.now)
+        ensures { IfOk result (λ text. ArePrinted (IsNodeReview self.now.notation (trees_of self.now.review) top.now)
             (entries (trees_of self.now.review).new) (string_bytes text)) }
     {
         let mut text = String::new(alloc);
@@ -115,7 +117,8 @@ impl ReviewText<'_> {
         index: usize,
     ) -> Result<String, AllocError>
         requires { ForSome last.old (IsRight self.now.review.old.now.opening.mapping) }
-        ensures text { IfOk result (λ text. IsPrintedAt (IsNodeReview self.now.paths (trees_of self.now.review) top.now)
+        ensures text { IfOk result (λ text. IsPrintedAt
+            (IsNodeReview self.now.notation (trees_of self.now.review) top.now)
             (entries (trees_of self.now.review).new) index (string_bytes text)) }
         ensures right { OnOk result (ForSome last.new (IsRight self.now.review.old.now.opening.mapping)) }
     {
@@ -137,19 +140,19 @@ impl ReviewText<'_> {
         path: &Path,
     ) -> Result<String, AllocError>
         requires { ForSome last.old (IsRight self.now.review.old.now.opening.mapping) }
-        ensures text { IfOk result (λ text. IsNodeText self.now.paths (trees_of self.now.review) path.now
+        ensures text { IfOk result (λ text. IsNodeText self.now.notation (trees_of self.now.review) path.now
             (former (trees_of self.now.review) path.now) (string_bytes text)) }
         ensures right { OnOk result (ForSome last.new (IsRight self.now.review.old.now.opening.mapping)) }
     {
         match self.review.former(alloc, path)? {
             Former::Same => self.compared(alloc, last, path, path),
             Former::Moved(before) => {
-                let mut text = moved_line(alloc, self.paths, &before, path)?;
+                let mut text = moved_line(alloc, self.notation.paths, &before, path)?;
                 let changes = self.compared(alloc, last, &before, path)?;
                 text.push_str(&changes)?;
                 Ok(text)
             }
-            Former::New => new_line(alloc, self.paths, path),
+            Former::New => new_line(alloc, self.notation.paths, path),
         }
     }
 
@@ -162,14 +165,14 @@ impl ReviewText<'_> {
         path: &Path,
     ) -> Result<String, AllocError>
         requires { ForSome last.old (IsRight self.now.review.old.now.opening.mapping) }
-        ensures text { IfOk result (λ text. IsCompared self.now.paths (trees_of self.now.review) before.now path.now
+        ensures text { IfOk result (λ text. IsCompared self.now.notation (trees_of self.now.review) before.now path.now
             (string_bytes text)) }
         ensures right { OnOk result (ForSome last.new (IsRight self.now.review.old.now.opening.mapping)) }
     {
         self.review.compare(alloc, last, before, path)?;
         match &*last {
             Some(compared) => {
-                let text = change_text(alloc, self.paths, path, compared)?;
+                let text = change_text(alloc, self.notation, path, compared)?;
                 Ok(text)
             }
             None => Ok(String::new(alloc)),
@@ -179,7 +182,7 @@ impl ReviewText<'_> {
     /// The lines of the nodes of the old tree at whose paths none stands in the new one.
     fn gone(&self, alloc: Global, top: &Path) -> Result<String, AllocError>
         ensures { IfOk result (λ text. string_bytes text
-            ≡ flat_map (gone_line self.now.paths (trees_of self.now.review) top.now)
+            ≡ flat_map (gone_line self.now.notation.paths (trees_of self.now.review) top.now)
             (entries (trees_of self.now.review).old)) }
     {
         let mut text = String::new(alloc);
@@ -194,7 +197,7 @@ impl ReviewText<'_> {
     fn gone_at(&self, alloc: Global, top: &Path, index: usize) -> Result<String, AllocError>
         requires { index < length (entries (trees_of self.now.review).old) }
         ensures { IfOk result (λ text. Some (string_bytes text) ≡ option_map
-            (gone_line self.now.paths (trees_of self.now.review) top.now)
+            (gone_line self.now.notation.paths (trees_of self.now.review) top.now)
             (slice_get (entries (trees_of self.now.review).old) index)) }
     {
         match self.review.old.node(index) {
@@ -205,7 +208,7 @@ impl ReviewText<'_> {
 
     fn gone_line(&self, alloc: Global, top: &Path, node: &NodeRef<'_>) -> Result<String, AllocError>
         ensures { IfOk result (λ text. string_bytes text
-            ≡ gone_line self.now.paths (trees_of self.now.review) top.now (listed node.now)) }
+            ≡ gone_line self.now.notation.paths (trees_of self.now.review) top.now (listed node.now)) }
     {
         if !node.path.as_path_ref().is_within(&top.as_path_ref()) {
             return Ok(String::new(alloc));
@@ -213,7 +216,7 @@ impl ReviewText<'_> {
         if self.review.new.lookup(node.path).is_some() {
             return Ok(String::new(alloc));
         }
-        let path = path_word(alloc, self.paths, node.path)?;
+        let path = path_word(alloc, self.notation.paths, node.path)?;
         let path = path.as_str();
         let text = format!(in alloc; "gone {path}\n")?;
         Ok(text)
@@ -223,19 +226,19 @@ impl ReviewText<'_> {
 /// The lines of what tokens gain and lose at the node of a path: none where nothing changes.
 fn change_text(
     alloc: Global,
-    paths: PathSpelling,
+    notation: Notation,
     path: &Path,
     compared: &Compared,
 ) -> Result<String, AllocError>
     ensures { (g : MappingValue) → IsRight g compared.now
-        → IfOk result (λ text. IsChangeText g (path_word paths path.now ++ codes " ")
+        → IfOk result (λ text. IsChangeText notation.spelling g (path_word notation.paths path.now ++ codes " ")
         (parts_in (descriptor_of compared.now.before)) (parts_in (descriptor_of compared.now.after))
         (string_bytes text)) }
 {
-    let word = path_word(alloc, paths, path)?;
+    let word = path_word(alloc, notation.paths, path)?;
     let word = word.as_str();
     let head = format!(in alloc; "{word} ")?;
-    let text = compared.lines(alloc, head.as_str())?;
+    let text = compared.lines(alloc, notation.spelling, head.as_str())?;
     Ok(text)
 }
 

@@ -169,9 +169,9 @@ fn ask(alloc: Global, session: &mut Session, request: &Request) -> Result<String
     ensures failed { OnErr result (IsMade session.old (Asking request.now) session.new) }
 {
     match session {
-        Session::Opened(_, desk) => {
+        Session::Opened(notation, desk) => {
             let reply = desk.step(request);
-            reply_line(alloc, &reply)
+            reply_line(alloc, notation.spelling, &reply)
         }
         Session::Closed(_) => unreachable!(),
     }
@@ -194,9 +194,9 @@ fn explain(
 {
     let mapping = session.manner().mapping;
     match session {
-        Session::Opened(_, desk) => {
+        Session::Opened(notation, desk) => {
             let reply = desk.step(&Request::Show { reader, path });
-            explained_reply(alloc, &mapping, token, asked, &reply)
+            explained_reply(alloc, notation.spelling, &mapping, token, asked, &reply)
         }
         Session::Closed(_) => unreachable!(),
     }
@@ -223,14 +223,7 @@ fn find(
             let which = Which::Granting { token, asked };
             let copy = path.copy(alloc)?;
             let reply = desk.step(&Request::Show { reader, path: copy });
-            found_reply(
-                alloc,
-                notation.paths,
-                desk.published(),
-                &path,
-                &which,
-                &reply,
-            )
+            found_reply(alloc, *notation, desk.published(), &path, &which, &reply)
         }
         Session::Closed(_) => unreachable!(),
     }
@@ -252,7 +245,7 @@ fn delete(
         ⊎ IsMade session.old (Deleting reader path token) session.new) }
 {
     match session {
-        Session::Opened(_, desk) => {
+        Session::Opened(notation, desk) => {
             let by_parent = parent_grants(alloc, desk.published(), &path, &token)?;
             let reply = desk.step(&Request::Check {
                 reader,
@@ -260,7 +253,7 @@ fn delete(
                 token,
                 asked: DELETE,
             });
-            deletion_reply(alloc, by_parent, &reply)
+            deletion_reply(alloc, notation.spelling, by_parent, &reply)
         }
         Session::Closed(_) => unreachable!(),
     }
@@ -291,9 +284,9 @@ fn import(
     ensures failed { OnErr result (IsMade session.old (Importing edit path.now given.now) session.new) }
 {
     match session {
-        Session::Opened(_, desk) => {
+        Session::Opened(notation, desk) => {
             let reply = desk.step(&Request::Edit(edit));
-            import_line(alloc, desk.draft(), path, given, &reply)
+            import_line(alloc, notation.spelling, desk.draft(), path, given, &reply)
         }
         Session::Closed(_) => unreachable!(),
     }

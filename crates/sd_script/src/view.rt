@@ -76,13 +76,13 @@ pub(crate) fn view_text(
 {
     let tree = desk.published();
     match view {
-        View::List { path } => list_text(alloc, notation.paths, tree, path),
+        View::List { path } => list_text(alloc, notation, tree, path),
         View::Dump => dump_text(alloc, notation, tree, desk.readers()),
         View::Who {
             path,
             groups,
             asked,
-        } => node_who_text(alloc, tree, path, groups, *asked),
-        View::Review { path } => review_text(alloc, notation.paths, desk, path),
+        } => node_who_text(alloc, notation.spelling, tree, path, groups, *asked),
+        View::Review { path } => review_text(alloc, notation, desk, path),
     }
 }

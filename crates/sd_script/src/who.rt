@@ -19,19 +19,20 @@ use std::alloc::{AllocError, Global};
 /// groups ([MS-DTYP] 2.5.3.2). `nonode` where none stands there, and `empty` where no right is asked about.
 pub(crate) fn node_who_text(
     alloc: Global,
+    spelling: Spelling,
     tree: &Tree,
     path: &Path,
     groups: &Groups,
     asked: Mask,
 ) -> Result<String, AllocError>
-    ensures { IfOk result (λ text. IsWhoText tree.now.opening.mapping
+    ensures { IfOk result (λ text. IsWhoText spelling tree.now.opening.mapping
         (descriptor_at tree.now.opening.mapping (replay tree.now.opening tree.now.journal) path.now)
         asked groups.now (string_bytes text)) }
 {
     match tree.descriptor(path)? {
         None => String::from_str(alloc, "nonode\n"),
         Some(descriptor) => {
-            descriptor_who_text(alloc, tree.mapping(), &descriptor, groups, asked)
+            descriptor_who_text(alloc, spelling, tree.mapping(), &descriptor, groups, asked)
         }
     }
 }
@@ -39,12 +40,13 @@ pub(crate) fn node_who_text(
 /// The lines of a descriptor.
 fn descriptor_who_text(
     alloc: Global,
+    spelling: Spelling,
     mapping: &GenericMapping,
     descriptor: &Descriptor,
     groups: &Groups,
     asked: Mask,
 ) -> Result<String, AllocError>
-    ensures { IfOk result (λ text. IsWhoText mapping.now (Some (descriptor_of descriptor.now)) asked groups.now
+    ensures { IfOk result (λ text. IsWhoText spelling mapping.now (Some (descriptor_of descriptor.now)) asked groups.now
         (string_bytes text)) }
 {
     let base = Base {
@@ -53,7 +55,7 @@ fn descriptor_who_text(
     let dacl = borrowed(&descriptor.dacl);
     let rights = rights_asked(mapping, asked);
     let accesses = who(alloc, descriptor.owner, dacl, mapping, &base, rights)?;
-    let text = who_text(alloc, Spelling::Number, &accesses)?;
+    let text = who_text(alloc, spelling, &accesses)?;
     let lines = or_empty(alloc, text)?;
     Ok(lines)
 }

@@ -42,7 +42,7 @@ done_answers bytes (Err e) workers old new line asked loud asks done = tt
 -- an import is done as its line says
 pub import_done : {X E : Type 0} (bytes : X → List ℕ) (r : Result X E) (notation : Notation) (workers : ℕ) (old new : Machine) (queries : List Query)
     (e : Edit) (path : Names) (given : List Ace) (reply : Reply) → Steps old (requests.Edit e) reply new
-    → IfOk r (λ text. IsImported new path given reply (bytes text))
+    → IfOk r (λ text. IsImported notation.spelling new path given reply (bytes text))
     → IfOk r (λ text. IsDoneInAudit workers (record { store = Opened notation old; queries = queries }) (Importing e path given) (bytes text)
     (record { store = Opened notation new; queries = queries }))
 import_done bytes (Ok text) notation workers old new queries e path given reply steps told = ((reply, new, steps, told, refl), refl)

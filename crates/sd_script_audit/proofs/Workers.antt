@@ -27,6 +27,7 @@ use Rattle.sd_script.specs.Output.{IsDone, IsOpened, line_asks_in}
 use Rattle.sd_script.specs.Reply.{counted_line, refused_line, start_error_line}
 use Rattle.sd_script.specs.declared.asked.Asked.{Asked}
 use Rattle.sd_script.specs.declared.asked.Asked.TheVariants.{Opening as Opens, Asking, Explaining, Finding, Deleting, Viewing, Importing}
+use Rattle.sd_answer.specs.declared.answer.Spelling.{Spelling}
 use Rattle.sd_script.specs.declared.fault.LineFault.{LineFault}
 use Rattle.sd_script.specs.declared.manner.Manner.{Manner}
 use Rattle.sd_script.specs.declared.manner.Notation.{Notation}
@@ -52,33 +53,34 @@ edited_unread m e None = refl
 edited_unread m e (Some refusal) = refl
 
 -- one request of two such machines
-same_outcome : (x y : Machine) (r : Request) → unread_after (outcome x r) ≡ unread_after (outcome (unread x) r)
-    → unread_after (outcome y r) ≡ unread_after (outcome (unread y) r) → unread x ≡ unread y → unread_after (outcome x r) ≡ unread_after (outcome y r)
-same_outcome x y r one other alike = one ∙ ap (λ m. unread_after (outcome m r)) alike ∙ sym other
+same_outcome : (spelling : Spelling) (x y : Machine) (r : Request) → unread_after (outcome spelling x r) ≡ unread_after (outcome spelling (unread x) r)
+    → unread_after (outcome spelling y r) ≡ unread_after (outcome spelling (unread y) r) → unread x ≡ unread y
+    → unread_after (outcome spelling x r) ≡ unread_after (outcome spelling y r)
+same_outcome spelling x y r one other alike = one ∙ ap (λ m. unread_after (outcome spelling m r)) alike ∙ sym other
 
 -- ---- imports into such machines
 
-same_import : (a b : Machine) (e : Edit) (r s : Reply) (x y : Machine) (p q : List ℕ) (path : Names) (given : List Ace) → unread a ≡ unread b
-    → Steps a (requests.Edit e) r x → Steps b (requests.Edit e) s y → IsImported x path given r p → IsImported y path given s q
+same_import : (spelling : Spelling) (a b : Machine) (e : Edit) (r s : Reply) (x y : Machine) (p q : List ℕ) (path : Names) (given : List Ace) → unread a ≡ unread b
+    → Steps a (requests.Edit e) r x → Steps b (requests.Edit e) s y → IsImported spelling x path given r p → IsImported spelling y path given s q
     → (p ≡ q) × (unread x ≡ unread y)
-same_import a b e replies.Edited replies.Edited x y p q path given alike one other first second =
+same_import spelling a b e replies.Edited replies.Edited x y p q path given alike one other first second =
     let same : unread x ≡ unread y = ap unread one.1 ∙ ap (λ m. unread (with_edit m e)) alike ∙ sym (ap unread other.1) in
-    (imported-one y path given p q (subst (λ m. IsImported m path given replies.Edited p) same first) second, same)
-same_import a b e replies.Edited (replies.Refused later) x y p q path given alike one other first second =
+    (imported-one spelling y path given p q (subst (λ m. IsImported spelling m path given replies.Edited p) same first) second, same)
+same_import spelling a b e replies.Edited (replies.Refused later) x y p q path given alike one other first second =
     absurd (let no = sym one.0 ∙ ap (λ m. due m e) alike ∙ other.0 in cc (no))
-same_import a b e (replies.Refused refusal) replies.Edited x y p q path given alike one other first second =
+same_import spelling a b e (replies.Refused refusal) replies.Edited x y p q path given alike one other first second =
     absurd (let no = sym one.0 ∙ ap (λ m. due m e) alike ∙ other.0 in cc (no))
-same_import a b e (replies.Refused refusal) (replies.Refused later) x y p q path given alike one other first second =
+same_import spelling a b e (replies.Refused refusal) (replies.Refused later) x y p q path given alike one other first second =
     let same = sym one.0 ∙ ap (λ m. due m e) alike ∙ other.0 in
     let told : refusal ≡ later = cc (same) in
     let texts = sym first ∙ ap (λ r. Some (refused_line r)) told ∙ second in
     (cc (texts), ap unread one.1 ∙ alike ∙ sym (ap unread other.1))
-same_import a b e replies.Edited replies.Memory x y p q path given alike one other first second = absurd (cc (second))
-same_import a b e (replies.Refused refusal) replies.Memory x y p q path given alike one other first second = absurd (cc (second))
-same_import a b e replies.Memory s x y p q path given alike one other first second = absurd (cc (first))
-same_import a b e replies.Edited s x y p q path given alike one other first second = absurd other
-same_import a b e (replies.Refused refusal) s x y p q path given alike one other first second = absurd other
-same_import a b e r s x y p q path given alike one other first second = absurd one
+same_import spelling a b e replies.Edited replies.Memory x y p q path given alike one other first second = absurd (cc (second))
+same_import spelling a b e (replies.Refused refusal) replies.Memory x y p q path given alike one other first second = absurd (cc (second))
+same_import spelling a b e replies.Memory s x y p q path given alike one other first second = absurd (cc (first))
+same_import spelling a b e replies.Edited s x y p q path given alike one other first second = absurd other
+same_import spelling a b e (replies.Refused refusal) s x y p q path given alike one other first second = absurd other
+same_import spelling a b e r s x y p q path given alike one other first second = absurd one
 
 -- ---- stores that differ in their readers alone
 
@@ -94,15 +96,15 @@ pub record AreAlike (a b : Progress) : Type 0 where
 
 module _ (a b : Progress) (alike : AreAlike a b) where
   -- a request of both stores
-  step_alike : (r : Request) (p q : List ℕ) (c d : Progress) → ((m : Machine) → unread_after (outcome m r) ≡ unread_after (outcome (unread m) r))
+  step_alike : (r : Request) (p q : List ℕ) (c d : Progress) → ((m : Machine) → unread_after (outcome alike.notation.spelling m r) ≡ unread_after (outcome alike.notation.spelling (unread m) r))
       → IsDone a.store (Asking r) p c.store × (c.queries ≡ a.queries) → IsDone b.store (Asking r) q d.store × (d.queries ≡ b.queries)
       → (p ≡ q) × AreAlike c d
   step_alike r p q c d blind one other =
       let first = subst (λ s. IsDone s (Asking r) p c.store) alike.one_is one.0 in
       let second = subst (λ s. IsDone s (Asking r) q d.store) alike.other_is other.0 in
-      let same = ap unread_after (one_step alike.one r first.0 first.1 p first.2 first.3)
-      ∙ same_outcome alike.one alike.other r (blind alike.one) (blind alike.other) alike.alike
-      ∙ sym (ap unread_after (one_step alike.other r second.0 second.1 q second.2 second.3)) in (
+      let same = ap unread_after (one_step alike.notation.spelling alike.one r first.0 first.1 p first.2 first.3)
+      ∙ same_outcome alike.notation.spelling alike.one alike.other r (blind alike.one) (blind alike.other) alike.alike
+      ∙ sym (ap unread_after (one_step alike.notation.spelling alike.other r second.0 second.1 q second.2 second.3)) in (
         ap (λ (x : List ℕ × Machine). x.0) same,
         record {
           notation = alike.notation;
@@ -122,7 +124,7 @@ module _ (a b : Progress) (alike : AreAlike a b) where
   imports_alike e path given p q c d one other =
       let first = subst (λ s. IsDone s (Importing e path given) p c.store) alike.one_is one.0 in
       let second = subst (λ s. IsDone s (Importing e path given) q d.store) alike.other_is other.0 in
-      let same = same_import alike.one alike.other e first.0 second.0 first.1 second.1 p q path given alike.alike first.2 second.2 first.3 second.3 in (
+      let same = same_import alike.notation.spelling alike.one alike.other e first.0 second.0 first.1 second.1 p q path given alike.alike first.2 second.2 first.3 second.3 in (
         same.0,
         record {
           notation = alike.notation;
@@ -215,18 +217,18 @@ module _ (n m : ℕ) (text : List ℕ) where
   by_silence true a b p q c d alike one other = stay_alike a b alike [] p q c d one other
   by_silence false a b p q c d alike one other = by_expectation (expects text) a b p q c d alike one other
 
-abbrev end_of : Machine → List Query → List ℕ
-end_of x queries =
+abbrev end_of : Spelling → Machine → List Query → List ℕ
+end_of spelling x queries =
     last_publish x.pending (length (x.published ++ x.pending)) ++ counted_line (codes "told") (length (x.published ++ x.pending))
-    ++ flat_map (answer_line x.opening (x.published ++ x.pending)) queries
+    ++ flat_map (answer_line spelling x.opening (x.published ++ x.pending)) queries
 
 -- what is printed from an open store on
 all_alike : (n m : ℕ) (texts : List (List ℕ)) (a b : Audited) (p q : List ℕ) (x y : Tally) → AreAlike a.progress b.progress
     → AreAnsweredInAudit n a texts p x → AreAnsweredInAudit m b texts q y → p ≡ q
 all_alike n m [] a b p q x y alike one other =
-    let first : p ≡ end_of alike.one a.progress.queries = subst (λ s. IsEnd s a.progress.queries p) alike.one_is one.0 in
-    let second : q ≡ end_of alike.other b.progress.queries = subst (λ s. IsEnd s b.progress.queries q) alike.other_is other.0 in
-    first ∙ ap (λ x. end_of x a.progress.queries) alike.alike ∙ ap (end_of alike.other) alike.queries ∙ sym second
+    let first : p ≡ end_of alike.notation.spelling alike.one a.progress.queries = subst (λ s. IsEnd s a.progress.queries p) alike.one_is one.0 in
+    let second : q ≡ end_of alike.notation.spelling alike.other b.progress.queries = subst (λ s. IsEnd s b.progress.queries q) alike.other_is other.0 in
+    first ∙ ap (λ x. end_of alike.notation.spelling x a.progress.queries) alike.alike ∙ ap (end_of alike.notation.spelling alike.other) alike.queries ∙ sym second
 all_alike n m (text ∷ texts) a b p q x y alike one other =
     let first = by_silence n m text (is_silent text) a.progress b.progress one.0 other.0 one.1.progress other.1.progress alike one.3.answered other.3.answered in
     let rest = all_alike n m texts one.1 other.1 one.2 other.2 x y first.1 one.4 other.4 in

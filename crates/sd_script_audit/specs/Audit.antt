@@ -10,6 +10,7 @@ use Rattle.sd_desk.specs.declared.request.Request.TheVariants.{Check, Tell, Lear
 use Rattle.sd_store.specs.Audits.{reply_by}
 use Rattle.sd_store.specs.declared.query.Query.{Query}
 use Rattle.sd_answer.specs.Answer.{fault_line}
+use Rattle.sd_answer.specs.declared.answer.Spelling.{Spelling}
 use Rattle.sd_script.specs.Expect.{expects}
 use Rattle.sd_script.specs.Fault.{line_of_fault}
 use Rattle.sd_script.specs.Lines.{is_silent}
@@ -73,8 +74,9 @@ last_publish [] len = []
 last_publish (edit ∷ edits) len = counted_line (codes "published") len
 
 -- the answer to a query by a journal
-abbrev pub answer_line : Opening → List Edit → Query → List ℕ
-answer_line opening journal query = seen_line (length journal) (check_line (reply_by opening journal query))
+abbrev pub answer_line : Spelling → Opening → List Edit → Query → List ℕ
+answer_line spelling opening journal query =
+    seen_line (length journal) (check_line spelling (reply_by opening journal query))
 
 -- after the last line: where a store is open, all that was accepted is published, its length is printed, and it answers
 -- each query
@@ -82,7 +84,7 @@ abbrev pub IsEnd : Session → List Query → List ℕ → Type 0
 IsEnd (Closed manner) queries printed = printed ≡ []
 IsEnd (Opened notation m) queries printed =
     printed ≡ last_publish m.pending (length (accepted m)) ++ counted_line (codes "told") (length (accepted m))
-    ++ flat_map (answer_line m.opening (accepted m)) queries
+    ++ flat_map (answer_line notation.spelling m.opening (accepted m)) queries
 
 -- ---- an audit, as far as it is carried out
 

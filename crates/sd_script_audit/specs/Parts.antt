@@ -8,6 +8,7 @@ use Rattle.sd_desk.specs.Machine.{Machine}
 use Rattle.sd_versions.specs.declared.answer.Answer.{Answer}
 use Rattle.sd_store.specs.Sights.{StoreState}
 use Rattle.sd_store.specs.declared.query.Query.{Query}
+use Rattle.sd_answer.specs.declared.answer.Spelling.{Spelling}
 use Rattle.sd_script.specs.Command.{line_asks}
 use Rattle.sd_script.specs.Lines.{is_silent}
 use Rattle.sd_script.specs.Output.{IsOpened}
@@ -72,8 +73,8 @@ last_lines writer =
     (length (writer.journal ++ writer.pending))
 
 -- the lines of answers by journals of this length
-abbrev pub given_line : ℕ → Answer → List ℕ
-given_line seen given = seen_line seen (check_line given.reply)
+abbrev pub given_line : Spelling → ℕ → Answer → List ℕ
+given_line spelling seen given = seen_line seen (check_line spelling given.reply)
 
-abbrev pub given_lines : ℕ → List Answer → List ℕ
-given_lines seen answers = flat_map (given_line seen) answers
+abbrev pub given_lines : Spelling → ℕ → List Answer → List ℕ
+given_lines spelling seen answers = flat_map (given_line spelling seen) answers

@@ -186,6 +186,7 @@ fn collect_and_answer<J: Naming + Send + Sync, T: Threads + Wait + Sync, G: Gate
     publish_and_answer(
         rt,
         alloc,
+        notation,
         writer,
         checkers,
         &queries,

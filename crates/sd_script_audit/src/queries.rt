@@ -6,7 +6,6 @@ ghost use Rattle.sd_desk.specs.Machine.{Steps};
 ghost use Rattle.sd_desk.specs.declared.request.Request.TheVariants as asked;
 ghost use Rattle.sd_script_audit.specs.Audit.{AreAnsweredInAudit, IsAnsweredInAudit, IsDoneInAudit};
 ghost use Rattle.sd_script_audit.specs.Parts.{audited, machine_of, progress};
-ghost use Rattle.sd_script.specs.declared.manner.Notation.{Notation as NotationValue};
 ghost use Rattle.sd_script.specs.declared.tally.Tally.{Tally};
 ghost use Rattle.sd_store.specs.declared.query.Query.{Query as Kept};
 ghost use Rattle.sd_answer.specs.Answer.{fault_line as fault_line_of};
@@ -73,8 +72,12 @@ fn answer_line<J: Naming, T: Wait>(
         return only_in_scripts(alloc);
     }
     match read_line(alloc, notation, true, line) {
-        Ok(Asked::Asking(request)) => answer_request(rt, alloc, writer, queries, request),
-        Ok(Asked::Importing { edit, path, given }) => import(alloc, writer, &edit, &path, &given),
+        Ok(Asked::Asking(request)) => {
+            answer_request(rt, alloc, notation, writer, queries, request)
+        }
+        Ok(Asked::Importing { edit, path, given }) => {
+            import(alloc, notation, writer, &edit, &path, &given)
+        }
         Ok(
             Asked::Explaining { .. }
             | Asked::Finding { .. }
@@ -91,17 +94,18 @@ fn answer_line<J: Naming, T: Wait>(
 fn answer_request<J: Naming, T: Wait>(
     rt: &T,
     alloc: Global,
+    notation: Notation,
     writer: &mut StoreWriter<J>,
     queries: &mut Vec<Query>,
     request: Request,
 ) -> Result<String, AllocError>
-    ensures { (notation : NotationValue) (workers : ℕ) → IfOk result (λ text. IsDoneInAudit workers
+    ensures { (workers : ℕ) → IfOk result (λ text. IsDoneInAudit workers
         (progress notation J.opening workers writer.old queries.old.items) (Asking request) (string_bytes text)
         (progress notation J.opening workers writer.new queries.new.items)) }
 {
     match request {
-        Request::Edit(edit) => reply_line(alloc, &edit_reply(writer, &edit)),
-        Request::Publish => reply_line(alloc, &publish_reply(rt, writer)),
+        Request::Edit(edit) => reply_line(alloc, notation.spelling, &edit_reply(writer, &edit)),
+        Request::Publish => reply_line(alloc, notation.spelling, &publish_reply(rt, writer)),
         Request::Check {
             reader: _,
             path,
@@ -118,18 +122,26 @@ fn answer_request<J: Naming, T: Wait>(
 /// What an import is answered by: the edit is made, and the node is compared in the tree of all accepted edits.
 fn import<J: Naming>(
     alloc: Global,
+    notation: Notation,
     writer: &mut StoreWriter<J>,
     edit: &Edit,
     path: &Path,
     given: &Entries,
 ) -> Result<String, AllocError>
-    ensures { (notation : NotationValue) (workers : ℕ) (queries : List Kept) → IfOk result (λ text. IsDoneInAudit
+    ensures { (workers : ℕ) (queries : List Kept) → IfOk result (λ text. IsDoneInAudit
         workers (progress notation J.opening workers writer.old queries) (Importing edit.now path.now given.now)
         (string_bytes text)
         (progress notation J.opening workers writer.new queries)) }
 {
     let reply = edit_reply(writer, edit);
-    import_line(alloc, writer.draft(), path, given, &reply)
+    import_line(
+        alloc,
+        notation.spelling,
+        writer.draft(),
+        path,
+        given,
+        &reply,
+    )
 }
 
 /// The line of a command that only a script carries out.

@@ -1,8 +1,6 @@
 -- A text with a fault is no mask.
-use Rattle.std.proofs.Common.{Err, ap, refl}
-use Rattle.sd_text.specs.Rights.{mask_text}
-use Rattle.sd_answer.proofs.Words.{not_spelled}
+use Rattle.std.proofs.Common.{refl}
 use Rattle.sd_script.proofs.argument.mask_in.Goals as goal
 
 pub returns-in-Err : goal.returns-in-Err
-returns-in-Err c = (not_spelled mask_text c.args.word.now c.in-Err.field-0 c.in-Err.ensures.fault (λ memory. c.in-Err.ensures.no_memory (ap Err memory)), refl)
+returns-in-Err c = (λ mask is. let no = c.in-Err.ensures.spelled mask is in cc (no), refl)

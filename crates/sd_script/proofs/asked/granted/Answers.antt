@@ -18,7 +18,7 @@ returns-in_err-groups c =
     let p = err_from_is_err_and c.from_residual-in_err-groups.result c.from_residual-in_err-groups.ensures.1 in
     rw (p.1, p.2) (
     Then-value (path notation.paths c.args.path.now) (λ p. reads notation (Mask c.args.mask.now (λ m. Groups words (λ groups. view (Who p groups m))))) at (Err stop) c.in_ok-path.ensures (
-    Then-value (mask c.args.mask.now) (λ m. reads notation (Groups words (λ groups. view (Who at groups m)))) asked (Err stop) c.in_ok-asked.ensures (
+    Then-value (mask notation c.args.mask.now) (λ m. reads notation (Groups words (λ groups. view (Who at groups m)))) asked (Err stop) c.in_ok-asked.ensures (
     Then-stop (base notation words) (λ groups. reads notation (view (Who at groups asked))) stop c.in_err-groups.ensures)))
 
 pub returns : goal.returns

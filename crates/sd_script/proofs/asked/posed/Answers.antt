@@ -36,7 +36,7 @@ returns-in_err-asked c =
     Then-value (number c.args.reader.now) (λ i. reads notation (Path c.args.path.now (λ p. Sid c.args.user.now (λ s. Mask c.args.mask.now (λ m. Token s words (λ t. Asks (poses q i p t m))))))) i (Err (Fault fault)) c.in_ok-reader.ensures (
     Then-value (path notation.paths c.args.path.now) (λ p. reads notation (Sid c.args.user.now (λ s. Mask c.args.mask.now (λ m. Token s words (λ t. Asks (poses q i p t m)))))) at (Err (Fault fault)) c.in_ok-path.ensures (
     Then-value (sid notation c.args.user.now) (λ s. reads notation (Mask c.args.mask.now (λ m. Token s words (λ t. Asks (poses q i at t m))))) user (Err (Fault fault)) c.in_ok-user.ensures (
-    Then-fault (mask c.args.mask.now) (λ m. reads notation (Token user words (λ t. Asks (poses q i at t m)))) fault c.in_err-asked.ensures))))
+    Then-fault (mask notation c.args.mask.now) (λ m. reads notation (Token user words (λ t. Asks (poses q i at t m)))) fault c.in_err-asked.ensures))))
 
 pub returns-in_err-token : goal.returns-in_err-token
 returns-in_err-token c =
@@ -53,7 +53,7 @@ returns-in_err-token c =
     Then-value (number c.args.reader.now) (λ i. reads notation (Path c.args.path.now (λ p. Sid c.args.user.now (λ s. Mask c.args.mask.now (λ m. Token s words (λ t. Asks (poses q i p t m))))))) i (Err stop) c.in_ok-reader.ensures (
     Then-value (path notation.paths c.args.path.now) (λ p. reads notation (Sid c.args.user.now (λ s. Mask c.args.mask.now (λ m. Token s words (λ t. Asks (poses q i p t m)))))) at (Err stop) c.in_ok-path.ensures (
     Then-value (sid notation c.args.user.now) (λ s. reads notation (Mask c.args.mask.now (λ m. Token s words (λ t. Asks (poses q i at t m))))) user (Err stop) c.in_ok-user.ensures (
-    Then-value (mask c.args.mask.now) (λ m. reads notation (Token user words (λ t. Asks (poses q i at t m)))) asked (Err stop) c.in_ok-asked.ensures (
+    Then-value (mask notation c.args.mask.now) (λ m. reads notation (Token user words (λ t. Asks (poses q i at t m)))) asked (Err stop) c.in_ok-asked.ensures (
     Then-stop (token notation user words) (λ t. reads notation (Asks (poses q i at t asked))) stop c.in_err-token.ensures)))))
 
 pub returns : goal.returns

@@ -13,9 +13,9 @@ line_at-requires c = below_count _ _ _ c.node_count-index-end.ensures c.loop-ind
 pub loop-index-preserved : goal.loop-index-preserved
 loop-index-preserved c =
     let es = entries (replay c.args.tree.now.opening c.args.tree.now.journal) in
-    piece_more (λ (node : Names × Row). making_line c.args.paths c.args.readers node.0 node.1) es c.loop-index.index (string_bytes c.loop-index.text) (string_bytes c.in_ok-line.line) _
-    (making_lines c.args.paths c.args.readers es) c.in_ok-line.ensures
+    piece_more (λ (node : Names × Row). making_line c.args.notation c.args.readers node.0 node.1) es c.loop-index.index (string_bytes c.loop-index.text) (string_bytes c.in_ok-line.line) _
+    (making_lines c.args.notation c.args.readers es) c.in_ok-line.ensures
     (c.in_ok-push_str.ensures.bytes ∙ ap (λ xs. string_bytes c.loop-index.text ++ xs) c.deref.ensures) c.loop-index.invariant
 
 pub returns : goal.returns
-returns c = none_left (λ (node : Names × Row). making_line c.args.paths c.args.readers node.0 node.1) _ _ _ _ _ (sym c.node_count-index-end.ensures) c.loop-index-test.false c.loop-index.invariant
+returns c = none_left (λ (node : Names × Row). making_line c.args.notation c.args.readers node.0 node.1) _ _ _ _ _ (sym c.node_count-index-end.ensures) c.loop-index-test.false c.loop-index.invariant

@@ -7,5 +7,5 @@ use Rattle.sd_script.proofs.dump.making_lines.Given as goal
 
 abbrev pub invariant-loop-index : goal.invariant-loop-index
 invariant-loop-index l =
-    string_bytes l.text ++ making_lines l.paths l.readers (drop l.index (entries (replay l.tree.opening l.tree.journal)))
-    ≡ making_lines l.paths l.readers (entries (replay l.tree.opening l.tree.journal))
+    string_bytes l.text ++ making_lines l.notation l.readers (drop l.index (entries (replay l.tree.opening l.tree.journal)))
+    ≡ making_lines l.notation l.readers (entries (replay l.tree.opening l.tree.journal))

@@ -12,11 +12,11 @@ line_at-requires c = below_count _ _ _ c.node_count-index-end.ensures c.loop-ind
 pub loop-index-preserved : goal.loop-index-preserved
 loop-index-preserved c =
     let t = replay c.args.tree.now.opening c.args.tree.now.journal in
-    let f = line_below c.args.paths c.args.tree.now.opening.mapping t c.args.top.now c.args.which.now in
+    let f = line_below c.args.notation c.args.tree.now.opening.mapping t c.args.top.now c.args.which.now in
     piece_more f (entries t) c.loop-index.index (string_bytes c.loop-index.text) (string_bytes c.in_ok-line.line) _ (flat_map f (entries t)) c.in_ok-line.ensures
     (c.in_ok-push_str.ensures.bytes ∙ ap (λ xs. string_bytes c.loop-index.text ++ xs) c.deref.ensures) c.loop-index.invariant
 
 pub returns : goal.returns
 returns c =
     let t = replay c.args.tree.now.opening c.args.tree.now.journal in
-    none_left (line_below c.args.paths c.args.tree.now.opening.mapping t c.args.top.now c.args.which.now) t _ _ _ _ (sym c.node_count-index-end.ensures) c.loop-index-test.false c.loop-index.invariant
+    none_left (line_below c.args.notation c.args.tree.now.opening.mapping t c.args.top.now c.args.which.now) t _ _ _ _ (sym c.node_count-index-end.ensures) c.loop-index-test.false c.loop-index.invariant

@@ -8,5 +8,5 @@ use Rattle.sd_script.proofs.listing.lines_below.Given as goal
 
 abbrev pub invariant-loop-index : goal.invariant-loop-index
 invariant-loop-index l =
-    string_bytes l.text ++ flat_map (line_below l.paths l.tree.opening.mapping (replay l.tree.opening l.tree.journal) l.top l.which) (drop l.index (entries (replay l.tree.opening l.tree.journal)))
-    ≡ flat_map (line_below l.paths l.tree.opening.mapping (replay l.tree.opening l.tree.journal) l.top l.which) (entries (replay l.tree.opening l.tree.journal))
+    string_bytes l.text ++ flat_map (line_below l.notation l.tree.opening.mapping (replay l.tree.opening l.tree.journal) l.top l.which) (drop l.index (entries (replay l.tree.opening l.tree.journal)))
+    ≡ flat_map (line_below l.notation l.tree.opening.mapping (replay l.tree.opening l.tree.journal) l.top l.which) (entries (replay l.tree.opening l.tree.journal))

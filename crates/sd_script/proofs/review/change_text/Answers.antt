@@ -6,6 +6,6 @@ use Rattle.sd_script.proofs.review.change_text.Goals as goal
 
 pub returns : goal.returns
 returns c = λ g right.
-    change_lines g c.args.compared.now c.as_str.result.now (path_word c.args.paths c.args.path.now) _ right
+    change_lines c.args.notation.spelling g c.args.compared.now c.as_str.result.now (path_word c.args.notation.paths c.args.path.now) _ right
     (c.as_str.ensures.value ∙ c.in_ok-head.ensures.ok ∙ ap (λ w. w ++ codes " ") (c.as_str-word.ensures.value ∙ c.in_ok-word.ensures))
     c.in_ok-text.ensures

@@ -9,7 +9,7 @@ pub returns-in-Ok-Asking : goal.returns-in-Ok-Asking
 returns-in-Ok-Asking g c = λ workers.
     let asked = rw (c.in-Ok-Asking.field-0-is) at c.in-Ok-Asking.ensures in
     done_answers string_bytes c.answer_request.result workers _ _ c.args.line.now (Asking c.in-Ok-Asking.request)
-    (sym c.is_silent.ensures ∙ c.if-is_silent.false) asked (c.answer_request.ensures c.args.notation workers)
+    (sym c.is_silent.ensures ∙ c.if-is_silent.false) asked (c.answer_request.ensures workers)
 
 pub returns-in-Ok-Importing : goal.returns-in-Ok-Importing
 returns-in-Ok-Importing g c = λ workers.
@@ -18,7 +18,7 @@ returns-in-Ok-Importing g c = λ workers.
     (progress c.args.notation g.J.Naming.opening workers c.args.writer.now c.args.queries.now.items)
     (progress c.args.notation g.J.Naming.opening workers c.import.new.writer c.args.queries.now.items)
     c.args.line.now (Importing c.in-Ok-Importing.edit c.in-Ok-Importing.path c.in-Ok-Importing.given)
-    (sym c.is_silent.ensures ∙ c.if-is_silent.false) asked (c.import.ensures c.args.notation workers c.args.queries.now.items)
+    (sym c.is_silent.ensures ∙ c.if-is_silent.false) asked (c.import.ensures workers c.args.queries.now.items)
 
 impossible : true ≡ false → ⊥
 impossible is = absurd (cc (is))

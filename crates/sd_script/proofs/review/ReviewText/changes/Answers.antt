@@ -1,4 +1,4 @@
-use Rattle.std.proofs.Common.{rules, ◌++◌, ◌∙◌, ap, string_bytes, sym}
+use Rattle.std.proofs.Common.{rules, ◌++◌, ◌∙◌, ap, string_bytes}
 use Rattle.std.specs.FinMap.{entries}
 use Rattle.sd_script.specs.Review.{IsNodeReview}
 use Rattle.sd_review.specs.Review.{trees_of}
@@ -9,7 +9,7 @@ use Rattle.sd_script.proofs.review.ReviewText.changes.Goals as goal
 pub loop-index-preserved : goal.loop-index-preserved
 loop-index-preserved c =
     let ts = trees_of c.args.self.now.review in (
-      printed_next (IsNodeReview c.args.self.now.paths ts c.args.top.now) (entries ts.new) c.loop-index.index (string_bytes c.loop-index.text)
+      printed_next (IsNodeReview c.args.self.now.notation ts c.args.top.now) (entries ts.new) c.loop-index.index (string_bytes c.loop-index.text)
           (string_bytes c.in_ok-lines.lines) _ c.loop-index.invariant.0 c.in_ok-lines.ensures.text
           (below_count _ _ _ c.node_count-index-end.ensures c.loop-index-test.true)
           (c.in_ok-push_str.ensures.bytes ∙ ap (λ xs. string_bytes c.loop-index.text ++ xs) c.deref.ensures),
@@ -19,5 +19,5 @@ loop-index-preserved c =
 pub returns : goal.returns
 returns c =
     let ts = trees_of c.args.self.now.review in
-    printed_all (IsNodeReview c.args.self.now.paths ts c.args.top.now) (entries ts.new) c.loop-index.index (string_bytes c.loop-index.text)
+    printed_all (IsNodeReview c.args.self.now.notation ts c.args.top.now) (entries ts.new) c.loop-index.index (string_bytes c.loop-index.text)
     c.loop-index.invariant.0 (past_count _ _ _ c.node_count-index-end.ensures c.loop-index-test.false)

@@ -10,5 +10,5 @@ use Rattle.sd_script.proofs.review.ReviewText.changes.Given as goal
 
 abbrev pub invariant-loop-index : goal.invariant-loop-index
 invariant-loop-index l =
-    ArePrintedTo (IsNodeReview l.self.paths (trees_of l.self.review) l.top) (entries (trees_of l.self.review).new) l.index (string_bytes l.text)
+    ArePrintedTo (IsNodeReview l.self.notation (trees_of l.self.review) l.top) (entries (trees_of l.self.review).new) l.index (string_bytes l.text)
     × ForSome l.last (IsRight l.self.review.old.now.opening.mapping)

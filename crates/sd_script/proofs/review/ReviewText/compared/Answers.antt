@@ -12,6 +12,6 @@ returns-in_ok-text-in-Some-clause-text c =
     let ts = trees_of c.args.self.now.review in
     let x = descriptor_at ts.mapping ts.old c.args.before.now in
     let y = descriptor_at ts.mapping ts.new c.args.path.now in
-    compared_lines ts.mapping (path_word c.args.self.now.paths c.args.path.now ++ codes " ") x y c.in-Some.compared
+    compared_lines c.args.self.now.notation.spelling ts.mapping (path_word c.args.self.now.notation.paths c.args.path.now ++ codes " ") x y c.in-Some.compared
     (string_bytes c.in_ok-text-in-Some.text) (subst (IsOfBoth ts.mapping x y) c.in-Some.is c.in_ok-compare.ensures.compared)
     (λ right. c.in_ok-text-in-Some.ensures ts.mapping right)

@@ -12,11 +12,11 @@ gone_at-requires c = below_count _ _ _ c.node_count-index-end.ensures c.loop-ind
 pub loop-index-preserved : goal.loop-index-preserved
 loop-index-preserved c =
     let ts = trees_of c.args.self.now.review in
-    let f = gone_line c.args.self.now.paths ts c.args.top.now in
+    let f = gone_line c.args.self.now.notation.paths ts c.args.top.now in
     piece_more f (entries ts.old) c.loop-index.index (string_bytes c.loop-index.text) (string_bytes c.in_ok-line.line) _ (flat_map f (entries ts.old)) c.in_ok-line.ensures
     (c.in_ok-push_str.ensures.bytes ∙ ap (λ xs. string_bytes c.loop-index.text ++ xs) c.deref.ensures) c.loop-index.invariant
 
 pub returns : goal.returns
 returns c =
     let ts = trees_of c.args.self.now.review in
-    none_left (gone_line c.args.self.now.paths ts c.args.top.now) ts.old _ _ _ _ (sym c.node_count-index-end.ensures) c.loop-index-test.false c.loop-index.invariant
+    none_left (gone_line c.args.self.now.notation.paths ts c.args.top.now) ts.old _ _ _ _ (sym c.node_count-index-end.ensures) c.loop-index-test.false c.loop-index.invariant

@@ -8,5 +8,5 @@ use Rattle.sd_script.proofs.review.ReviewText.gone.Given as goal
 
 abbrev pub invariant-loop-index : goal.invariant-loop-index
 invariant-loop-index l =
-    string_bytes l.text ++ flat_map (gone_line l.self.paths (trees_of l.self.review) l.top) (drop l.index (entries (trees_of l.self.review).old))
-    ≡ flat_map (gone_line l.self.paths (trees_of l.self.review) l.top) (entries (trees_of l.self.review).old)
+    string_bytes l.text ++ flat_map (gone_line l.self.notation.paths (trees_of l.self.review) l.top) (drop l.index (entries (trees_of l.self.review).old))
+    ≡ flat_map (gone_line l.self.notation.paths (trees_of l.self.review) l.top) (entries (trees_of l.self.review).old)
