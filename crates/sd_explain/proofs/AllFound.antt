@@ -17,12 +17,8 @@ pub record IsFound (g : MappingValue) (who : AceKind → SidValue → Bool) (es 
 
 module _ (g : MappingValue) (who : AceKind → SidValue → Bool) (es : List Ace) (bits : ℕ) where
   pub found_none : (fs : List Finding) → length fs ≡ 32 → ((b : ℕ) → b < 32 → get_or fs b NoEntry ≡ NoEntry) → IsFound g who es fs bits bits 0
-  found_none fs size empty = record {
-    size = size;
-    left = λ b h want is. from_the_first (decides g who b) es;
-    none = λ b h want is. empty b h;
-    done = λ b h want is. absurd cc;
-  }
+  found_none fs size empty =
+      record { size = size; left = λ b h want is. from_the_first (decides g who b) es; none = λ b h want is. empty b h; done = λ b h want is. absurd cc }
 
   -- the mask that an entry takes part with holds the bits that the entry settles
   at_mask : (e : Ace) (m b : ℕ) → m ≡ part_of g who e → holds m b ≡ decides g who b e
@@ -59,18 +55,9 @@ module _ (g : MappingValue) (who : AceKind → SidValue → Bool) (es : List Ace
     none = λ b h want un.
         grind (arith, un, still u d v m b h is_d is_v, stands (λ k. holds m k && holds u k) d b h is_d, noted b h, found.none b h want);
     done = λ b h want gone.
-        grind (
-          arith,
-          gone,
-          still u d v m b h is_d is_v,
-          stands (λ k. holds m k && holds u k) d b h is_d,
-          noted b h,
-          at_mask e m b is_m,
-          is_f,
-          found.done b h want,
-          found.left b h want,
-          settled (decides g who b) es i e low is,
-        );
+        let part = stands (λ k. holds m k && holds u k) d b h is_d in
+        let first = settled (decides g who b) es i e low is in
+        grind (arith, gone, still u d v m b h is_d is_v, part, noted b h, at_mask e m b is_m, is_f, found.done b h want, found.left b h want, first);
   }
 
   -- where the walk ends: at the end of the list, or where no bit is undecided

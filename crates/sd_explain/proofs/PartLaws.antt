@@ -89,17 +89,10 @@ module _ (reasons : ℕ → Option Reason) where
   part_parts b (Some reason) part is =
       let made : Part = record { mask = bits_of (shares.Because reason.cause) reasons 32; cause = reason.cause } in
       let parts = taken (bits_of (shares.Because reason.cause) reasons b == 0) made part is in
-      let cause : reason.cause ≡ part.cause = ap (λ (x : Part). x.cause) parts.1 in (
-        reason,
-        (
-          refl,
-          (
-            cause,
-            ap (λ x. bits_of (shares.Because x) reasons b == 0) (sym cause) ∙ parts.0,
-            ap (λ (x : Part). x.mask) (sym parts.1) ∙ ap (λ x. bits_of (shares.Because x) reasons 32) cause,
-          ),
-        ),
-      )
+      let cause : reason.cause ≡ part.cause = ap (λ (x : Part). x.cause) parts.1 in
+      let below = ap (λ x. bits_of (shares.Because x) reasons b == 0) (sym cause) ∙ parts.0 in
+      let mask = ap (λ (x : Part). x.mask) (sym parts.1) ∙ ap (λ x. bits_of (shares.Because x) reasons 32) cause in
+      (reason, (refl, (cause, below, mask)))
 
   -- a bit of a part has its cause
   bit_of_part : (place b : ℕ) (part : Part) → part_at reasons place ≡ Some part → b < 32 → holds part.mask b ≡ true → because part.cause b ≡ true
@@ -134,14 +127,8 @@ module _ (reasons : ℕ → Option Reason) where
         | inr below ↦
             let found = least (because reason.cause) b below in
             let first = has_reason (reasons found.0) reason.cause found.1.1.0 in
-            record {
-              place = found.0;
-              part = _;
-              begins = omega (arith, found.1.0);
-              is_part = part_there found.0 first.0 reason.cause first.1.0 first.1.1 found.1.1.1;
-              has_bit = held;
-              tells = refl;
-            }
+            let there = part_there found.0 first.0 reason.cause first.1.0 first.1.1 found.1.1.1 in
+            record { place = found.0; part = _; begins = omega (arith, found.1.0); is_part = there; has_bit = held; tells = refl }
       ]
 
   pub are_apart : (j k b : ℕ) (one other : Part) → part_at reasons j ≡ Some one → part_at reasons k ≡ Some other → j ≢ k

@@ -28,12 +28,8 @@ same_bits share some others same = mask_of-alike _ _ 32 (λ b h. ap (is_of_share
 
 pub told_alike : (some others : ℕ → Option Reason) → ((b : ℕ) → b < 32 → some b ≡ others b) → told_verdict some ≡ told_verdict others
 told_alike some others same =
-    rw (
-      same_bits shares.Reserved some others same,
-      same_bits shares.Missing some others same,
-      same_bits shares.Granted some others same,
-      same_bits shares.Unnamed some others same,
-    ) refl
+    let alike = λ (share : Share). same_bits share some others same in
+    rw (alike shares.Reserved, alike shares.Missing, alike shares.Granted, alike shares.Unnamed) refl
 
 -- ---- what they come to
 

@@ -16,11 +16,8 @@ pub record IsWritten {A : Type 0} (none : A) (xs : List A) (old : ℕ → A) (ma
 
 pub written_from : {A : Type 0} (none : A) (xs : List A) (mask : ℕ) (new : ℕ → A) (i : ℕ) → length xs ≡ 32 → ((b : ℕ) → b < i → holds mask b ≡ false)
     → IsWritten none xs (λ b. get_or xs b none) mask new i
-written_from none xs mask new i size empty = record {
-  size = size;
-  done = λ b h. sym (ap (λ t. cond t (new b) (get_or xs b none)) (empty b h));
-  rest = λ b h j. get_or xs b none;
-}
+written_from none xs mask new i size empty =
+    record { size = size; done = λ b h. sym (ap (λ t. cond t (new b) (get_or xs b none)) (empty b h)); rest = λ b h j. get_or xs b none }
 
 module _ {A : Type 0} (none : A) (old : ℕ → A) (mask : ℕ) (new : ℕ → A) where
   pub written_here : (xs : List A) (x : A) (i : ℕ) → i < 32 → holds mask i ≡ true → x ≡ new i → IsWritten none xs old mask new i → IsWritten none (set xs i x) old mask new (i + 1)
@@ -34,11 +31,8 @@ module _ {A : Type 0} (none : A) (old : ℕ → A) (mask : ℕ) (new : ℕ → A
   }
 
   pub written_not : (xs : List A) (i : ℕ) → holds mask i ≡ false → IsWritten none xs old mask new i → IsWritten none xs old mask new (i + 1)
-  written_not xs i is written = record {
-    size = written.size;
-    done = λ b h. grind (arith, cases_eq b i, is, written.rest b, written.done b, h);
-    rest = λ b h. written.rest b (omega (arith, h));
-  }
+  written_not xs i is written =
+      record { size = written.size; done = λ b h. grind (arith, cases_eq b i, is, written.rest b, written.done b, h); rest = λ b h. written.rest b (omega (arith, h)) }
 
   -- where the mask holds no place from i on, all is written
   pub written_all : (xs : List A) (i b : ℕ) → ((k : ℕ) → i ≤ k → holds mask k ≡ false) → IsWritten none xs old mask new i → get_or xs b none ≡ cond (holds mask b) (new b) (old b)

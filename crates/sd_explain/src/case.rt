@@ -3,7 +3,7 @@
 ghost use Rattle.std.specs.Prelude.{◌≡◌, ◌<◌, ◌≤◌, ℕ, true, false, length, replicate, slice_index_or, None};
 ghost use Rattle.std.specs.Prelude.{if◌then◌else◌};
 ghost use Rattle.sd_acl.specs.Ace.{is_allow};
-ghost use Rattle.sd_check.specs.Check.{without_maximum, entries_of, applies_in, implied_of, applies_again};
+ghost use Rattle.sd_check.specs.Check.{without_maximum, entries_of, applies_in, implied_of};
 ghost use Rattle.sd_sid.specs.Mapping.{mapped};
 ghost use Rattle.sd_sid.specs.Mask.{holds};
 ghost use Rattle.sd_check.specs.Fold.{rights_in, wanted_bits, part_of};
@@ -148,18 +148,6 @@ impl Case<'_> {
         }
     }
 
-    /// What the second pass finds; nothing for a token that isn't restricted.
-    fn find_again(&self, bits: Mask, findings: &mut [Finding; 32])
-        requires { findings.old ≡ replicate 32 Finding.NoEntry }
-        ensures { let applies = applies_again self.now.question.token.now self.now.question.owner.now in
-            is_restricted self.now.question.token.now ≡ true
-            → IsFoundIn self.now.question.mapping.now applies (entries_of self.now.dacl) bits findings.new }
-    {
-        if self.question.token.is_restricted() {
-            self.find(Pass::Second, bits, findings);
-        }
-    }
-
     /// Writes the reasons of all bits, where there are none yet.
     pub(crate) fn write_reasons(&self, reasons: &mut [Option<Reason>; 32])
         requires { reasons.old ≡ replicate 32 None }
@@ -169,9 +157,11 @@ impl Case<'_> {
         let mut first = [Finding::NoEntry; 32];
         let mut second = [Finding::NoEntry; 32];
         self.find(Pass::First, rights, &mut first);
-        self.find_again(rights, &mut second);
+        // (of no bit for a token that isn't restricted)
+        let again = rights.when(self.question.token.is_restricted());
+        self.find(Pass::Second, again, &mut second);
         let wanted = self.question.wanted();
-        let given = self.given();
+        let given = self.question.implied(self.dacl);
         let answered = self.answered();
         let (lowest, end) = span(answered);
         for place in lowest..end {
@@ -193,13 +183,6 @@ impl Case<'_> {
         } else {
             Cause::Listed(found)
         }
-    }
-
-    /// What is granted without an entry.
-    fn given(&self) -> Implied
-        ensures { result ≡ given_to self.now }
-    {
-        self.question.implied(self.dacl)
     }
 
     /// The rights that the list is asked for.

@@ -22,8 +22,7 @@ loop-place-preserved-then-not-holds c =
 pub returns : goal.returns
 returns c =
     let reason = of_case reason_at c.args.self.now c.args.self.now.question.asked in
-    fill_by_all reason c.loop-place.reasons 32 None c.loop-place.invariant.size (λ k h.
-    grind (
+    fill_by_all reason c.loop-place.reasons 32 None c.loop-place.invariant.size (λ k h. grind (
       arith,
       written_all None _ c.answered-answered.result reason c.loop-place.reasons c.loop-place.place k
           (λ j high. c.span-lowest.ensures.above j (omega (arith, high, c.loop-place-test.false))) c.loop-place.invariant,
