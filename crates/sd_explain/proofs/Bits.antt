@@ -1,5 +1,5 @@
 -- Masks that are gathered place by place.
-use Rattle.std.proofs.Common.{◌≡◌, ℕ, ◌+◌, ◌*◌, ◌%◌, ◌^◌, ◌<◌, ◌≤◌, Bool, ◌&&◌, ◌||◌, nat_lt, cond, refl, sym, ◌∙◌, arith}
+use Rattle.std.proofs.Common.{◌≡◌, ℕ, ◌+◌, ◌*◌, ◌%◌, ◌^◌, ◌<◌, ◌≤◌, Bool, false, ◌&&◌, ◌||◌, nat_lt, cond, refl, sym, ◌∙◌, arith}
 use Rattle.sd_check.proofs.Words.{cases_eq, nat_tests, bit_at-pow_same, bit_at-pow_other, holds, mask_of, mask_of-lt, holds-mask_of, holds_when, mask_of-alike, is_mask_of}
 use Rattle.std.proofs.lemmas.Nat.{pow_below}
 use Rattle.std.proofs.Math.Nat.{one-mul}
@@ -26,6 +26,12 @@ one_more p k bits one more test low is_bits is_test is_one is_more =
     is_more
     ∙ mask_of-alike _ (λ b. nat_lt b (k + 1) && p b) 32 (λ b h.
     grind (arith, is_bits, is_test, is_one, one_place k low, holds-mask_of p k b, holds_when (p k) (2 ^ k) b, place_more p k b))
+    ∙ sym (narrow p (k + 1) (omega arith))
+
+-- and one that isn't in the mask
+pub no_more : (p : ℕ → Bool) (k bits : ℕ) → k < 32 → bits ≡ mask_of p k → p k ≡ false → bits ≡ mask_of p (k + 1)
+no_more p k bits low is_bits none =
+    is_bits ∙ narrow p k (omega arith) ∙ mask_of-alike _ (λ b. nat_lt b (k + 1) && p b) 32 (λ b h. grind (arith, nat_tests, cases_eq b k, none))
     ∙ sym (narrow p (k + 1) (omega arith))
 
 -- a mask is that of its own places

@@ -137,15 +137,24 @@ impl Explanation {
     pub fn verdict(&self) -> Verdict
         ensures { result ≡ told_verdict (reason_in self.now.reasons) }
     {
-        let reserved = self.bits(Share::Reserved);
+        // (one loop takes half the time of three)
+        let mut reserved = Mask(0);
+        let mut missing = Mask(0);
+        let mut granted = Mask(0);
+        for place in 0..PLACES {
+            if let Some(reason) = self.reasons[place as usize] {
+                let bit = Mask(1 << place);
+                reserved = reserved.union(bit.when(reason.belongs(Share::Reserved)));
+                missing = missing.union(bit.when(reason.belongs(Share::Missing)));
+                granted = granted.union(bit.when(reason.belongs(Share::Granted)));
+            }
+        }
         if !reserved.is_empty() {
             return Verdict::Reserved(reserved);
         }
-        let missing = self.bits(Share::Missing);
         if !missing.is_empty() {
             return Verdict::Denied { missing };
         }
-        let granted = self.bits(Share::Granted);
         if !granted.is_empty() {
             return Verdict::Granted(granted);
         }
