@@ -210,4 +210,4 @@ closed_edited g t (Move source target) fits closed = closed_moved t source targe
 
 -- the tree of each lawful journal
 pub closed_replay : (o : Opening) (journal : List Edit) → IsLawful o journal → IsClosed (replay o journal)
-closed_replay o = holds_of_lawful o IsClosed (closed_opened o) (λ t count e closed fits. closed_edited o.mapping t e (not_refused o.mapping t count e fits).0 closed)
+closed_replay o = holds_of_lawful o IsClosed (closed_opened o) (λ t count e closed fits. closed_edited o.mapping t e (not_refused o.limits o.mapping t count e fits).0 closed)

@@ -7,6 +7,7 @@ use Rattle.std.specs.FinMap.{len-entries}
 use Rattle.std.proofs.lemmas.Bool.Decides.{nat_tests}
 use Rattle.std.proofs.lemmas.List.{length-map}
 use Rattle.sd_sid.specs.Mapping.{MappingValue}
+use Rattle.sd_tree.specs.Limits.{LimitsValue}
 use Rattle.sd_tree.specs.Plain.{PlainTree, dacl_at}
 use Rattle.sd_tree.specs.Edits.{edited}
 use Rattle.sd_tree.specs.Refusals.{first_fit, early_refusal, refusal_in, room_tests, dacl_size, has_large_dacl}
@@ -43,19 +44,19 @@ no_large_planned g bs kept after plan h =
 
 -- ---- the refusal, put together
 
-pub refusal_by_parts : (g : MappingValue) (t : PlainTree) (n : ℕ) (e : Edit) (r : Option EditRefusal) → early_refusal t e ≡ None → has_large_dacl g (edited g t e) ≡ false
-    → r ≡ first_fit (room_tests t e ++ (nat_le 1048576 n, JournalFull) ∷ []) → refusal_in g t n e ≡ r
-refusal_by_parts g t n e r early large limits =
-    let rest = first_fit (room_tests t e ++ (nat_le 1048576 n, JournalFull) ∷ []) in
+pub refusal_by_parts : (limits : LimitsValue) (g : MappingValue) (t : PlainTree) (n : ℕ) (e : Edit) (r : Option EditRefusal) → early_refusal t e ≡ None → has_large_dacl g (edited g t e) ≡ false
+    → r ≡ first_fit (room_tests limits t e ++ (nat_le limits.edits n, JournalFull) ∷ []) → refusal_in limits g t n e ≡ r
+refusal_by_parts limits g t n e r early large rest-is =
+    let rest = first_fit (room_tests limits t e ++ (nat_le limits.edits n, JournalFull) ∷ []) in
     ap (λ o. option_or o (cond (has_large_dacl g (edited g t e)) (Some AclTooLarge) rest)) early
-    ∙ ap (λ b. cond b (Some AclTooLarge) rest) large ∙ sym limits
+    ∙ ap (λ b. cond b (Some AclTooLarge) rest) large ∙ sym rest-is
 
 -- how many nodes there are
 pub nodes_count : (bs : List Node) (g : MappingValue) → AreNodes g bs → finite.len (tree_of bs) ≡ length bs
 nodes_count bs g kept = len-entries (tree_of bs) ∙ ap length (entries_kept bs kept.order) ∙ length-map bs entry_of
 
-pub room_full : (a n : ℕ) (x y : Option EditRefusal) → a ≤ 64 → 65536 ≤ n → y ≡ cond (ltb 64 a) x (cond (leb 65536 n) y None)
-room_full a n x y deep full = grind (arith, nat_tests)
+pub room_full : (most a n : ℕ) (x y : Option EditRefusal) → a ≤ 64 → most ≤ n → y ≡ cond (ltb 64 a) x (cond (leb most n) y None)
+room_full most a n x y deep full = grind (arith, nat_tests)
 
-pub room_left : (a n : ℕ) (x y : Option EditRefusal) → a ≤ 64 → n < 65536 → None ≡ cond (ltb 64 a) x (cond (leb 65536 n) y None)
-room_left a n x y deep few = grind (arith, nat_tests)
+pub room_left : (most a n : ℕ) (x y : Option EditRefusal) → a ≤ 64 → n < most → None ≡ cond (ltb 64 a) x (cond (leb most n) y None)
+room_left most a n x y deep few = grind (arith, nat_tests)

@@ -81,7 +81,7 @@ lawful_last o journal e lawful =
 
 -- what holds of the opening, and stays so under each edit that isn't refused, holds of the tree of each lawful journal
 pub holds_of_lawful : (o : Opening) (P : PlainTree → Type 0) → P (opened o)
-    → ((t : PlainTree) (count : ℕ) (e : Edit) → P t → refusal_in o.mapping t count e ≡ None → P (edited o.mapping t e))
+    → ((t : PlainTree) (count : ℕ) (e : Edit) → P t → refusal_in o.limits o.mapping t count e ≡ None → P (edited o.mapping t e))
     → (journal : List Edit) → IsLawful o journal → P (replay o journal)
 holds_of_lawful o P start step =
     by_last (λ journal. IsLawful o journal → P (replay o journal)) (λ _. rw (replay-none o) start)
@@ -98,12 +98,12 @@ last_test (test ∷ tests) b x h = last_test tests b x (passed test.0 h)
     passed true h = absurd cc
     passed false h = h
 
-below_limit : (n : ℕ) → nat_le 1048576 n ≡ false → n < 1048576
-below_limit n h = grind (arith, nat_tests)
+below_limit : (most n : ℕ) → nat_le most n ≡ false → n < most
+below_limit most n h = grind (arith, nat_tests)
 
-pub lawful_short : (o : Opening) (journal : List Edit) → IsLawful o journal → length journal ≤ 1048576
-lawful_short o = by_last (λ journal. IsLawful o journal → length journal ≤ 1048576) (λ _. omega arith) (λ journal e before lawful.
+pub lawful_short : (o : Opening) (journal : List Edit) → IsLawful o journal → length journal ≤ o.limits.edits
+lawful_short o = by_last (λ journal. IsLawful o journal → length journal ≤ o.limits.edits) (λ _. omega arith) (λ journal e before lawful.
     let t = replay o journal in
-    let late = (not_refused o.mapping t (length journal) e (lawful_last o journal e lawful)).1 in
-    let full = last_test ((has_large_dacl o.mapping (edited o.mapping t e), AclTooLarge) ∷ room_tests t e) (nat_le 1048576 (length journal)) JournalFull late in
-    omega (arith, below_limit (length journal) full, length-append journal (e ∷ [])))
+    let late = (not_refused o.limits o.mapping t (length journal) e (lawful_last o journal e lawful)).1 in
+    let full = last_test ((has_large_dacl o.mapping (edited o.mapping t e), AclTooLarge) ∷ room_tests o.limits t e) (nat_le o.limits.edits (length journal)) JournalFull late in
+    omega (arith, below_limit o.limits.edits (length journal) full, length-append journal (e ∷ [])))

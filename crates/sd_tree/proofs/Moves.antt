@@ -47,7 +47,7 @@ module _ (g : MappingValue) (bs : List Node) (standing : AreStanding g bs) (sour
   after = moved (tree_of bs) source target
 
   pub large_late : (e : TreeError) → IsLargeError g after e → IsLateError g (tree_of bs) (Move source target) e
-  large_late (Refused refusal) h = λ count. rw (h.1, h.0) refl
+  large_late (Refused refusal) h = λ limits count. rw (h.1, h.0) refl
   large_late Memory h = tt
 
   -- ---- the first of the run
@@ -134,7 +134,7 @@ module _ (g : MappingValue) (bs : List Node) (standing : AreStanding g bs) (sour
           deep_is n lt = grind (arith, nat_tests)
 
       pub deep_refused : (e : TreeError) → IsDepthError source target run e → IsLateError g (tree_of bs) (Move source target) e
-      deep_refused (Refused refusal) h = λ count. rw (no_large_moved, too_deep h.1 h.2 h.3, h.0) refl
+      deep_refused (Refused refusal) h = λ limits count. rw (no_large_moved, too_deep h.1 h.2 h.3, h.0) refl
       deep_refused Memory h = tt
 
       -- a run none of whose paths is too long is all that goes

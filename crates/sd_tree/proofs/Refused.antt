@@ -3,6 +3,7 @@ use Rattle.std.proofs.Common.{◌≡◌, ℕ, Bool, true, false, cond, List, [],
 use Rattle.std.specs.List.{AllByRecursion}
 use Rattle.std.specs.Option.{option_or}
 use Rattle.sd_sid.specs.Mapping.{MappingValue}
+use Rattle.sd_tree.specs.Limits.{LimitsValue}
 use Rattle.sd_tree.specs.Plain.{PlainTree}
 use Rattle.sd_tree.specs.Refusals.{first_fit, early_refusal, late_refusal, refusal_in}
 use Rattle.sd_tree.specs.declared.edit.Edit.{Edit}
@@ -22,9 +23,9 @@ neither None b e = (refl, e)
 neither (Some x) b e = absurd cc
 
 -- an edit that isn't refused is refused neither early nor late
-pub not_refused : (g : MappingValue) (t : PlainTree) (count : ℕ) (e : Edit) → refusal_in g t count e ≡ None
-    → (early_refusal t e ≡ None) × (late_refusal g t count e ≡ None)
-not_refused g t count e h = neither (early_refusal t e) (late_refusal g t count e) h
+pub not_refused : (limits : LimitsValue) (g : MappingValue) (t : PlainTree) (count : ℕ) (e : Edit) → refusal_in limits g t count e ≡ None
+    → (early_refusal t e ≡ None) × (late_refusal limits g t count e ≡ None)
+not_refused limits g t count e h = neither (early_refusal t e) (late_refusal limits g t count e) h
 
 -- tests in two lists, one behind the other
 pub fits_first : (xs ys : List (Bool × EditRefusal)) (refusal : EditRefusal) → first_fit xs ≡ Some refusal → first_fit (xs ++ ys) ≡ Some refusal

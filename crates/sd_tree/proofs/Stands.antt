@@ -5,6 +5,7 @@ use Rattle.std.specs.FinMap.{entries-insert, len-entries, len-empty, put}
 use Rattle.sd_sid.specs.Mapping.{MappingValue}
 use Rattle.sd_path.specs.Names.{names_cmp}
 use Rattle.sd_tree.specs.Inheritance.{dacl_of_row}
+use Rattle.sd_tree.specs.Limits.{LimitsValue}
 use Rattle.sd_tree.specs.Plain.{PlainTree, row_at, dacl_here, dacl_at}
 use Rattle.sd_tree.specs.Edits.{edited}
 use Rattle.std.specs.List.{list_any}
@@ -44,26 +45,26 @@ standing_from_stored o journal bs s = record {
 
 -- ---- what is planned of the nodes is planned of the tree
 
-same_refusal : (o : Opening) (journal : List Edit) (g : MappingValue) (t : PlainTree) (n : ℕ) (e : Edit) → g ≡ o.mapping → t ≡ replay o journal → n ≡ length journal → refusal_in g t n e ≡ refusal o journal e
-same_refusal o journal g t n e same-g same-t same-n = λ i. refusal_in (same-g i) (same-t i) (same-n i) e
+same_refusal : (o : Opening) (journal : List Edit) (l : LimitsValue) (g : MappingValue) (t : PlainTree) (n : ℕ) (e : Edit) → l ≡ o.limits → g ≡ o.mapping → t ≡ replay o journal → n ≡ length journal → refusal_in l g t n e ≡ refusal o journal e
+same_refusal o journal l g t n e same-l same-g same-t same-n = λ i. refusal_in (same-l i) (same-g i) (same-t i) (same-n i) e
 
-pub planned_of_tree : (o : Opening) (journal : List Edit) (g : MappingValue) (t : PlainTree) (n : ℕ) (e : Edit) (r : Result Plan TreeError)
-    → g ≡ o.mapping → t ≡ replay o journal → n ≡ length journal
-    → IfOk r (IsPlan g t (edited g t e)) → IfOk r (λ _. refusal_in g t n e ≡ None) → IfOk r (IsPlanned o journal e)
-planned_of_tree o journal g t n e (Err x) same-g same-t same-n plan accepted = tt
-planned_of_tree o journal g t n e (Ok p) same-g same-t same-n plan accepted = record {
-  accepted = sym (same_refusal o journal g t n e same-g same-t same-n) ∙ accepted;
+pub planned_of_tree : (o : Opening) (journal : List Edit) (l : LimitsValue) (g : MappingValue) (t : PlainTree) (n : ℕ) (e : Edit) (r : Result Plan TreeError)
+    → l ≡ o.limits → g ≡ o.mapping → t ≡ replay o journal → n ≡ length journal
+    → IfOk r (IsPlan g t (edited g t e)) → IfOk r (λ _. refusal_in l g t n e ≡ None) → IfOk r (IsPlanned o journal e)
+planned_of_tree o journal l g t n e (Err x) same-l same-g same-t same-n plan accepted = tt
+planned_of_tree o journal l g t n e (Ok p) same-l same-g same-t same-n plan accepted = record {
+  accepted = sym (same_refusal o journal l g t n e same-l same-g same-t same-n) ∙ accepted;
   planned =
       let P : MappingValue → Type 0 = λ h. IsPlan h t (edited h t e) p in
       let Q : PlainTree → Type 0 = λ u. IsPlan o.mapping u (edited o.mapping u e) p in
       subst Q same-t (subst P same-g plan);
 }
 
-pub refused_of_tree : (o : Opening) (journal : List Edit) (g : MappingValue) (t : PlainTree) (n : ℕ) (e : Edit) (r : Result Plan TreeError)
-    → g ≡ o.mapping → t ≡ replay o journal → n ≡ length journal
-    → IfErr r (λ x. IsError x (refusal_in g t n e)) → IfErr r (λ x. IsError x (refusal o journal e))
-refused_of_tree o journal g t n e r same-g same-t same-n h =
-    let P : Option EditRefusal → Type 0 = λ due. IfErr r (λ x. IsError x due) in subst P (same_refusal o journal g t n e same-g same-t same-n) h
+pub refused_of_tree : (o : Opening) (journal : List Edit) (l : LimitsValue) (g : MappingValue) (t : PlainTree) (n : ℕ) (e : Edit) (r : Result Plan TreeError)
+    → l ≡ o.limits → g ≡ o.mapping → t ≡ replay o journal → n ≡ length journal
+    → IfErr r (λ x. IsError x (refusal_in l g t n e)) → IfErr r (λ x. IsError x (refusal o journal e))
+refused_of_tree o journal l g t n e r same-l same-g same-t same-n h =
+    let P : Option EditRefusal → Type 0 = λ due. IfErr r (λ x. IsError x due) in subst P (same_refusal o journal l g t n e same-l same-g same-t same-n) h
 
 -- ---- a plan is carried out
 

@@ -2,6 +2,7 @@
 use Rattle.std.specs.Prelude.{◌≡◌, ℕ, List, [], ◌∷◌, ◌++◌, length, take, Option, Some, None, slice_get}
 use Rattle.std.specs.FinMap as map
 use Rattle.sd_sid.specs.Mapping.{MappingValue}
+use Rattle.sd_tree.specs.Limits.{LimitsValue, standard_limits}
 use Rattle.sd_tree.specs.Plain.{PlainTree}
 use Rattle.sd_tree.specs.Edits.{edited}
 use Rattle.sd_tree.specs.Refusals.{first_fit, list_tests, has_large_dacl, refusal_in}
@@ -13,8 +14,13 @@ use Rattle.sd_tree.specs.declared.edit.Edit.{Edit}
 use Rattle.sd_tree.specs.declared.refusal.EditRefusal.{EditRefusal}
 use Rattle.sd_tree.specs.declared.refusal.EditRefusal.TheVariants.{AclTooLarge}
 
+-- what a tree begins with
+abbrev pub opening_within : MappingValue → RootSpec → LimitsValue → Opening
+opening_within mapping root limits = record { mapping = mapping; root = root; limits = limits }
+
+-- the same within the standard limits
 abbrev pub opening_of : MappingValue → RootSpec → Opening
-opening_of mapping root = record { mapping = mapping; root = root }
+opening_of mapping root = opening_within mapping root standard_limits
 
 -- the root is a container
 abbrev pub root_row : RootSpec → Row
@@ -34,7 +40,8 @@ replay opening journal = edited_by opening.mapping (opened opening) journal
 
 -- why an edit is refused after a journal, if it is
 abbrev pub refusal : Opening → List Edit → Edit → Option EditRefusal
-refusal opening journal edit = refusal_in opening.mapping (replay opening journal) (length journal) edit
+refusal opening journal edit =
+    refusal_in opening.limits opening.mapping (replay opening journal) (length journal) edit
 
 -- why a root is refused, if it is
 abbrev pub root_refusal : Opening → Option EditRefusal

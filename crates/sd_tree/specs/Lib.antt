@@ -5,6 +5,7 @@ pub mod Edits
 pub mod History
 pub mod Inheritance
 pub mod Journal
+pub mod Limits
 pub mod Listing
 pub mod Plain
 pub mod Plans

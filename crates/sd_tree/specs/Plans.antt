@@ -5,6 +5,7 @@ use Rattle.std.specs.List.{AllWithin, insert, remove}
 use Rattle.std.specs.FinMap as finite
 use Rattle.sd_sid.specs.Mapping.{MappingValue}
 use Rattle.sd_path.specs.Names.{Names, is_within, moved_path}
+use Rattle.sd_tree.specs.Limits.{LimitsValue}
 use Rattle.sd_tree.specs.Plain.{PlainTree, row_at, dacl_below, dacl_at}
 use Rattle.sd_tree.specs.Refusals.{dacl_size, has_large_dacl, late_refusal}
 use Rattle.sd_tree.specs.Stored.{path_of_node, entry_of, tree_of, IsWhole}
@@ -128,7 +129,8 @@ IsLargeError g after Memory = Unit {0}
 
 -- an error of an edit that no test without memory refuses: the first refusal that fits, or out of memory
 abbrev pub IsLateError : MappingValue → PlainTree → Edit → TreeError → Type 0
-IsLateError g t edit (Refused refusal) = (count : ℕ) → late_refusal g t count edit ≡ Some refusal
+IsLateError g t edit (Refused refusal) =
+    (limits : LimitsValue) (count : ℕ) → late_refusal limits g t count edit ≡ Some refusal
 IsLateError g t edit Memory = Unit {0}
 
 -- ---- a plan that waits to be carried out

@@ -10,6 +10,7 @@ use Rattle.sd_acl.specs.Ace.{acl_size_of}
 use Rattle.sd_acl.specs.Canonical.{is_inherited, deny_behind_allow}
 use Rattle.sd_acl.specs.declared.ace.Ace.{Ace}
 use Rattle.sd_path.specs.Names.{Names, names_cmp, up, is_root, is_within, moved_path}
+use Rattle.sd_tree.specs.Limits.{LimitsValue}
 use Rattle.sd_tree.specs.Plain.{PlainTree, row_at, dacl_at}
 use Rattle.sd_tree.specs.Edits.{edited}
 use Rattle.sd_tree.specs.declared.node.Row.{Row}
@@ -111,33 +112,34 @@ moves_too_deep t (Remove path) = false
 moves_too_deep t (ProtectKeeping path) = false
 moves_too_deep t (Move source target) = list_any (goes_too_deep source target) (map.keys t)
 
--- one more node: its path has at most 64 names, and there are at most 65,536 nodes
-abbrev pub room_tests : PlainTree → Edit → List (Bool × EditRefusal)
-room_tests t (AddContainer path owner group dacl) = (nat_lt 64 (length path), TooDeep)
-    ∷ (nat_le 65536 (map.len t), NodesFull) ∷ []
-room_tests t (AddObject path owner group dacl) = (nat_lt 64 (length path), TooDeep)
-    ∷ (nat_le 65536 (map.len t), NodesFull) ∷ []
-room_tests t (SetOwner path owner) = []
-room_tests t (SetGroup path group) = []
-room_tests t (SetDacl path dacl) = []
-room_tests t (Remove path) = []
-room_tests t (ProtectKeeping path) = []
-room_tests t (Move source target) = (moves_too_deep t (Move source target), TooDeep) ∷ []
+-- one more node: its path has at most 64 names, and the limits allow it
+abbrev pub room_tests : LimitsValue → PlainTree → Edit → List (Bool × EditRefusal)
+room_tests limits t (AddContainer path owner group dacl) = (nat_lt 64 (length path), TooDeep)
+    ∷ (nat_le limits.nodes (map.len t), NodesFull) ∷ []
+room_tests limits t (AddObject path owner group dacl) = (nat_lt 64 (length path), TooDeep)
+    ∷ (nat_le limits.nodes (map.len t), NodesFull) ∷ []
+room_tests limits t (SetOwner path owner) = []
+room_tests limits t (SetGroup path group) = []
+room_tests limits t (SetDacl path dacl) = []
+room_tests limits t (Remove path) = []
+room_tests limits t (ProtectKeeping path) = []
+room_tests limits t (Move source target) = (moves_too_deep t (Move source target), TooDeep) ∷ []
 
--- the tests that may take memory; a journal has at most 1,048,576 edits
-abbrev pub late_tests : MappingValue → PlainTree → ℕ → Edit → List (Bool × EditRefusal)
-late_tests g t count edit =
-    (has_large_dacl g (edited g t edit), AclTooLarge) ∷ (room_tests t edit ++ (nat_le 1048576 count, JournalFull) ∷ [])
+-- the tests that may take memory; the last is whether the limits allow one more edit
+abbrev pub late_tests : LimitsValue → MappingValue → PlainTree → ℕ → Edit → List (Bool × EditRefusal)
+late_tests limits g t count edit =
+    (has_large_dacl g (edited g t edit), AclTooLarge)
+    ∷ (room_tests limits t edit ++ (nat_le limits.edits count, JournalFull) ∷ [])
 
 abbrev pub early_refusal : PlainTree → Edit → Option EditRefusal
 early_refusal t edit = first_fit (early_tests t edit)
 
-abbrev pub late_refusal : MappingValue → PlainTree → ℕ → Edit → Option EditRefusal
-late_refusal g t count edit = first_fit (late_tests g t count edit)
+abbrev pub late_refusal : LimitsValue → MappingValue → PlainTree → ℕ → Edit → Option EditRefusal
+late_refusal limits g t count edit = first_fit (late_tests limits g t count edit)
 
 -- why the edit of this tree is refused, after so many edits, if it is
-abbrev pub refusal_in : MappingValue → PlainTree → ℕ → Edit → Option EditRefusal
-refusal_in g t count edit = option_or (early_refusal t edit) (late_refusal g t count edit)
+abbrev pub refusal_in : LimitsValue → MappingValue → PlainTree → ℕ → Edit → Option EditRefusal
+refusal_in limits g t count edit = option_or (early_refusal t edit) (late_refusal limits g t count edit)
 
 -- ---- what a caller is told
 

@@ -34,7 +34,7 @@ impl Edits {
 
     /// How many there are.
     pub(crate) fn len(&self) -> usize
-        requires { length (edits_in self.now) ≤ 1048576 }
+        requires { length (edits_in self.now) ≤ 4294967296 }
         ensures { result ≡ length (edits_in self.now) }
     {
         self.kept.len() + self.last.len()

@@ -15,6 +15,7 @@ ghost use Rattle.sd_tree.specs.declared.refusal.EditRefusal.TheVariants.{NotEmpt
 ghost use Rattle.sd_tree.specs.declared.refusal.EditRefusal.TheVariants.{JournalFull};
 
 use crate::edit::Edit;
+use crate::limits::Limits;
 use crate::list_tests::list_refusal;
 use crate::node::{NodeDacl, NodeKind};
 use crate::nodes::{locate, node_at};
@@ -25,12 +26,6 @@ use sd_path::{Path, PathRef};
 
 /// The most names of a node's path, a choice of this profile: it bounds how many levels down an edit reaches.
 pub(crate) const MAX_DEPTH: u64 = 64;
-
-/// The most nodes of a tree, the root counted, a choice of this profile: it bounds how many DACLs one edit builds.
-const MAX_NODES: usize = 0x1_0000;
-
-/// The most edits of a journal, a choice of this profile: it bounds what a replay and a copy of a tree go through.
-const MAX_EDITS: usize = 0x10_0000;
 
 impl TreeView<'_> {
     /// The kind of the node of a path.
@@ -161,54 +156,60 @@ impl TreeView<'_> {
         }
     }
 
-    /// Why one more node can't be had at the path.
-    fn room_refusal(&self, path: &Path) -> Option<EditRefusal>
+    /// Why one more node can't be had at the path, in a tree of so many nodes at most.
+    fn room_refusal(&self, path: &Path, most: u64) -> Option<EditRefusal>
         requires { IsView self.now }
         ensures { result ≡ first_fit ((nat_lt 64 (length path.now), TooDeep) ∷
-            (nat_le 65536 (len (tree_in self.now)), NodesFull) ∷ []) }
+            (nat_le most (len (tree_in self.now)), NodesFull) ∷ []) }
     {
         if path.as_path_ref().depth() > MAX_DEPTH {
             return Some(EditRefusal::TooDeep);
         }
-        if self.nodes.len() >= MAX_NODES {
+        if self.nodes.len() as u64 >= most {
             return Some(EditRefusal::NodesFull);
         }
         None
     }
 
     /// Why an edit is refused by the limits, after so many edits; a move that goes too deep has no plan.
-    fn limit_refusal(&self, edit: &Edit, edits: usize) -> Option<EditRefusal>
+    fn limit_refusal(&self, edit: &Edit, edits: u64, limits: Limits) -> Option<EditRefusal>
         requires standing { IsView self.now }
         requires shallow { moves_too_deep (tree_in self.now) edit.now ≡ false }
-        ensures { result ≡ first_fit (room_tests (tree_in self.now) edit.now ++ (nat_le 1048576 edits, JournalFull)
-            ∷ []) }
+        ensures { result ≡ first_fit (room_tests limits (tree_in self.now) edit.now
+            ++ (nat_le limits.edits edits, JournalFull) ∷ []) }
     {
         let room = match edit {
-            Edit::AddContainer { path, .. } => self.room_refusal(path),
-            Edit::AddObject { path, .. } => self.room_refusal(path),
+            Edit::AddContainer { path, .. } => self.room_refusal(path, limits.nodes()),
+            Edit::AddObject { path, .. } => self.room_refusal(path, limits.nodes()),
             _ => None,
         };
         match room {
             Some(refusal) => Some(refusal),
-            None if edits >= MAX_EDITS => Some(EditRefusal::JournalFull),
+            None if edits >= limits.edits() => Some(EditRefusal::JournalFull),
             None => None,
         }
     }
 
-    /// The plan of an edit after so many edits, or why it is refused.
-    pub(crate) fn plan_or_refusal(&self, edit: &Edit, edits: usize) -> Result<Plan, TreeError>
+    /// The plan of an edit after so many edits, or why it is refused within these limits.
+    pub(crate) fn plan_or_refusal(
+        &self,
+        edit: &Edit,
+        edits: u64,
+        limits: Limits,
+    ) -> Result<Plan, TreeError>
         requires { IsView self.now }
         ensures plan { IfOk result (IsPlan self.now.mapping.now (tree_in self.now)
             (edited self.now.mapping.now (tree_in self.now) edit.now)) }
-        ensures accepted { IfOk result (λ _. refusal_in self.now.mapping.now (tree_in self.now) edits edit.now ≡ None) }
+        ensures accepted { IfOk result (λ _.
+            refusal_in limits self.now.mapping.now (tree_in self.now) edits edit.now ≡ None) }
         ensures refused { IfErr result (λ e. IsError e
-            (refusal_in self.now.mapping.now (tree_in self.now) edits edit.now)) }
+            (refusal_in limits self.now.mapping.now (tree_in self.now) edits edit.now)) }
     {
         if let Some(refusal) = self.early_refusal(edit) {
             return Err(TreeError::Refused(refusal));
         }
         let plan = self.plan(edit)?;
-        match self.limit_refusal(edit, edits) {
+        match self.limit_refusal(edit, edits, limits) {
             Some(refusal) => Err(TreeError::Refused(refusal)),
             None => Ok(plan),
         }

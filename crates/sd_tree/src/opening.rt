@@ -2,6 +2,7 @@
 
 ghost use Rattle.std.specs.Prelude.{◌≡◌, IfOk};
 
+use crate::limits::Limits;
 use crate::node::NodeDacl;
 use sd_sid::{GenericMapping, Sid};
 use std::alloc::{AllocError, Global};
@@ -14,11 +15,12 @@ pub struct RootSpec {
     pub dacl: NodeDacl,
 }
 
-/// The generic mapping of a tree's nodes ([MS-DTYP] 2.4.3), and its root before any edit.
+/// The generic mapping of a tree's nodes ([MS-DTYP] 2.4.3), its root before any edit, and its limits.
 #[derive(Debug, Drop)]
 pub struct Opening {
     pub mapping: GenericMapping,
     pub root: RootSpec,
+    pub limits: Limits,
 }
 
 impl RootSpec {
@@ -44,6 +46,7 @@ impl Opening {
         Ok(Opening {
             mapping: self.mapping,
             root,
+            limits: self.limits,
         })
     }
 }

@@ -40,11 +40,11 @@ pub enum EditRefusal {
     /// The path has more than 64 names.
     #[error("the path has more than 64 names")]
     TooDeep,
-    /// The tree has 65,536 nodes, the root counted.
-    #[error("the tree has 65536 nodes")]
+    /// The tree has as many nodes as its limits allow, the root counted.
+    #[error("the tree has as many nodes as its limits allow")]
     NodesFull,
-    /// The journal has 1,048,576 edits.
-    #[error("the journal has 1048576 edits")]
+    /// The journal has as many edits as its limits allow.
+    #[error("the journal has as many edits as its limits allow")]
     JournalFull,
     /// The node would go below itself. It is judged behind `IsRoot`.
     #[error("a node can't go below itself")]

@@ -4,7 +4,7 @@ ghost use Rattle.std.specs.Prelude.{◌≡◌, ◌≤◌, [], ◌∷◌, ◌++�
 ghost use Rattle.std.specs.Prelude.{MatchResult, option_map};
 ghost use Rattle.sd_acl.specs.Descriptor.{descriptor_of};
 ghost use Rattle.sd_tree.specs.Answers.{answer, kind_at, descriptor_at, IsError};
-ghost use Rattle.sd_tree.specs.Journal.{opening_of, root_row, replay, refusal, root_refusal, IsLawful};
+ghost use Rattle.sd_tree.specs.Journal.{opening_of, opening_within, root_row, replay, refusal, root_refusal, IsLawful};
 ghost use Rattle.sd_tree.specs.Plain.{row_at};
 ghost use Rattle.sd_tree.specs.Plans.{IsPlanned};
 ghost use Rattle.sd_tree.specs.Refusals.{is_early, dacl_size};
@@ -16,6 +16,7 @@ use crate::describe::descriptor_of_node;
 use crate::edit::Edit;
 use crate::inherit::nothing;
 use crate::journal::{Edits, Journal};
+use crate::limits::Limits;
 use crate::list_tests::list_refusal;
 use crate::node::{Node, NodeKind, Row};
 use crate::nodes::node_at;
@@ -75,6 +76,21 @@ impl Tree {
         ensures accepted { IfOk result (λ _. root_refusal (opening_of mapping.now root.now) ≡ None) }
         ensures refused { IfErr result (λ e. IsError e (root_refusal (opening_of mapping.now root.now))) }
     {
+        Tree::opening_within(alloc, mapping, root, Limits::standard())
+    }
+
+    /// The same, of a tree within these limits.
+    pub fn opening_within(
+        alloc: Global,
+        mapping: &GenericMapping,
+        root: &RootSpec,
+        limits: Limits,
+    ) -> Result<Tree, TreeError>
+        ensures opening { IfOk result (λ t. t.opening ≡ opening_within mapping.now root.now limits) }
+        ensures journal { IfOk result (λ t. t.journal ≡ []) }
+        ensures accepted { IfOk result (λ _. root_refusal (opening_within mapping.now root.now limits) ≡ None) }
+        ensures refused { IfErr result (λ e. IsError e (root_refusal (opening_within mapping.now root.now limits))) }
+    {
         if let Some(refusal) = list_refusal(&root.dacl) {
             return Err(TreeError::Refused(refusal));
         }
@@ -82,6 +98,7 @@ impl Tree {
         let opening = Opening {
             mapping: *mapping,
             root: root.copy(alloc)?,
+            limits,
         };
         let mut nodes = Blocks::new(alloc);
         nodes.insert(alloc, 0, node)?;
@@ -137,7 +154,16 @@ impl Tree {
         ensures accepted { root_refusal self.now.opening ≡ None }
         ensures lawful { IsLawful self.now.opening self.now.journal }
     {
+        // Limits allow at most 2^32 edits, so that they can be counted.
+        let _ = self.opening.limits.edits();
         self.journal.len() as u64
+    }
+
+    /// How large it may grow.
+    pub fn limits(&self) -> Limits
+        ensures { result ≡ self.now.opening.limits }
+    {
+        self.opening.limits
     }
 
     /// The kind of the node of a path, if there is one. Takes no memory.
@@ -226,7 +252,8 @@ impl Tree {
         ensures plan { IfOk result (IsPlanned self.now.opening self.now.journal edit.now) }
         ensures refused { IfErr result (λ e. IsError e (refusal self.now.opening self.now.journal edit.now)) }
     {
-        self.view().plan_or_refusal(edit, self.journal.len())
+        self.view()
+            .plan_or_refusal(edit, self.len(), self.opening.limits)
     }
 
     /// The nodes as they stand.

@@ -1,6 +1,9 @@
+use Rattle.std.proofs.Common.{arith}
 use Rattle.sd_tree.specs.Stored.{edits_in}
 use Rattle.sd_tree.proofs.Journals.{lawful_short}
 use Rattle.sd_tree.proofs.tree.Tree.len.Goals as goal
 
 pub len-requires : goal.len-requires
-len-requires c = lawful_short c.self.inside.opening (edits_in c.self.inside.journal) c.self.invariant.lawful
+len-requires c =
+    let short = lawful_short c.self.inside.opening (edits_in c.self.inside.journal) c.self.invariant.lawful in
+    omega (arith, short, c.edits.ensures.known.edits)

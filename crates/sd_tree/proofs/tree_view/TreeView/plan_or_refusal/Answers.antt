@@ -9,11 +9,11 @@ returns-in-Some-limit_refusal-clause-refused c =
     let g = c.args.self.now.mapping.now in
     let bs = c.args.self.now.nodes.now in
     let early : early_refusal (tree_of bs) c.args.edit.now ≡ None = sym c.in_default.ensures in
-    refusal_by_parts g (tree_of bs) c.args.edits c.args.edit.now _ early (no_large_planned g bs c.requires.kept _ c.in_ok-plan.plan c.in_ok-plan.ensures.plan) (sym c.in-Some-limit_refusal.is ∙ c.limit_refusal.ensures)
+    refusal_by_parts c.args.limits g (tree_of bs) c.args.edits c.args.edit.now _ early (no_large_planned g bs c.requires.kept _ c.in_ok-plan.plan c.in_ok-plan.ensures.plan) (sym c.in-Some-limit_refusal.is ∙ c.limit_refusal.ensures)
 
 pub returns-in-None-clause-accepted : goal.returns-in-None-clause-accepted
 returns-in-None-clause-accepted c =
     let g = c.args.self.now.mapping.now in
     let bs = c.args.self.now.nodes.now in
     let early : early_refusal (tree_of bs) c.args.edit.now ≡ None = sym c.in_default.ensures in
-    refusal_by_parts g (tree_of bs) c.args.edits c.args.edit.now _ early (no_large_planned g bs c.requires.kept _ c.in_ok-plan.plan c.in_ok-plan.ensures.plan) (sym c.in-None.is ∙ c.limit_refusal.ensures)
+    refusal_by_parts c.args.limits g (tree_of bs) c.args.edits c.args.edit.now _ early (no_large_planned g bs c.requires.kept _ c.in_ok-plan.plan c.in_ok-plan.ensures.plan) (sym c.in-None.is ∙ c.limit_refusal.ensures)

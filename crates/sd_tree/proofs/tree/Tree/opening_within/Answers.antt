@@ -1,24 +1,24 @@
 use Rattle.std.proofs.Common.{◌≡◌, [], ◌∷◌, sym, ap, ◌∙◌}
 use Rattle.std.specs.List.{insert}
 use Rattle.std.proofs.lemmas.Result.{err_from_is_err_and}
-use Rattle.sd_tree.specs.Journal.{opening_of}
+use Rattle.sd_tree.specs.Journal.{opening_within}
 use Rattle.sd_tree.proofs.Stands.{stored_first, root_error}
-use Rattle.sd_tree.proofs.tree.Tree.opening.Goals as goal
+use Rattle.sd_tree.proofs.tree.Tree.opening_within.Goals as goal
 
 pub returns-in_err-node-clause-refused : goal.returns-in_err-node-clause-refused
 returns-in_err-node-clause-refused c =
     let p = err_from_is_err_and c.from_residual.result c.from_residual.ensures.1 in
-    rw (p.1, p.2) (root_error (opening_of c.args.mapping.now c.args.root.now) c.in_err-node.field-0.0 (sym c.in_default.ensures) c.in_err-node.ensures.refused)
+    rw (p.1, p.2) (root_error (opening_within c.args.mapping.now c.args.root.now c.args.limits) c.in_err-node.field-0.0 (sym c.in_default.ensures) c.in_err-node.ensures.refused)
 
 pub invariant_of-result : goal.invariant_of-result
 invariant_of-result c =
     let n = c.in_ok-node.ensures in
-    let first = stored_first (opening_of c.args.mapping.now c.args.root.now) c.in_ok-node.node n.path n.row n.whole n.fits (sym c.in_default.ensures) in
+    let first = stored_first (opening_within c.args.mapping.now c.args.root.now c.args.limits) c.in_ok-node.node n.path n.row n.whole n.fits (sym c.in_default.ensures) in
     let nodes : c.insert.new.self ≡ c.in_ok-node.node ∷ [] = c.in_ok-insert.ensures.done ∙ ap (λ ns. insert ns 0 c.in_ok-node.node) c.new-nodes.ensures in
     rw (c.in_ok-copy.ensures, c.new.ensures, nodes) first
 
 pub returns-clause-accepted : goal.returns-clause-accepted
 returns-clause-accepted c =
     let n = c.in_ok-node.ensures in
-    let o = opening_of c.args.mapping.now c.args.root.now in
+    let o = opening_within c.args.mapping.now c.args.root.now c.args.limits in
     (stored_first o c.in_ok-node.node n.path n.row n.whole n.fits (sym c.in_default.ensures)).accepted
