@@ -77,7 +77,7 @@ pub accepted_can : (opening : Opening) (journal : List Edit) (source target : Na
     → refusal opening journal (Move source target) ≡ None → IsMovable (replay opening journal) source target
 accepted_can opening journal source target lawful accepted =
     movable (replay opening journal) source target (closed_replay opening journal lawful)
-    (not_refused opening.mapping (replay opening journal) (length journal) (Move source target) accepted).0
+    (not_refused opening.limits opening.mapping (replay opening journal) (length journal) (Move source target) accepted).0
 
 pub move_carries_the_subtree : MoveCarriesTheSubtree
 move_carries_the_subtree opening journal source target lawful accepted =

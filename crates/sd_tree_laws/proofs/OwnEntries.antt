@@ -121,7 +121,7 @@ sound_opened o fits =
 pub sound_replay : (o : Opening) (journal : List Edit) → root_refusal o ≡ None → IsLawful o journal → AllSound (replay o journal)
 sound_replay o journal fits =
     holds_of_lawful o AllSound (sound_opened o fits)
-    (λ t count e before accepted. sound_edited o.mapping t e (not_refused o.mapping t count e accepted).0 before) journal
+    (λ t count e before accepted. sound_edited o.mapping t e (not_refused o.limits o.mapping t count e accepted).0 before) journal
 
 -- ---- the laws
 
