@@ -2,6 +2,7 @@
 use Rattle.std.proofs.Common.{◌≡◌, ◌≢◌, ℕ, Bool, true, false, cond, List, [], ◌∷◌, ◌++◌, length, Option, Some, None, refl, ap, ◌∙◌, nat_le}
 use Rattle.std.specs.Option.{option_or}
 use Rattle.sd_sid.specs.Mapping.{MappingValue}
+use Rattle.sd_tree.specs.Limits.{LimitsValue}
 use Rattle.sd_tree.specs.Plain.{PlainTree}
 use Rattle.sd_tree.specs.Answers.{kind_at, descriptor_at, reply_in}
 use Rattle.sd_tree.specs.Edits.{edited}
@@ -31,17 +32,17 @@ behind None a b x h k later = later h k
 behind (Some y) a b x h k later = refl
 
 -- the refusal by two lengths of a journal
-by_length : (g : MappingValue) (t : PlainTree) (n m : ℕ) (e : Edit) → refusal_in g t n e ≢ Some JournalFull → refusal_in g t m e ≢ Some JournalFull → refusal_in g t m e ≡ refusal_in g t n e
-by_length g t n m e h k =
-    let tests = (has_large_dacl g (edited g t e), AclTooLarge) ∷ room_tests t e in
-    behind (early_refusal t e) _ _ JournalFull h k (last_test tests (nat_le 1048576 n) (nat_le 1048576 m) JournalFull)
+by_length : (l : LimitsValue) (g : MappingValue) (t : PlainTree) (n m : ℕ) (e : Edit) → refusal_in l g t n e ≢ Some JournalFull → refusal_in l g t m e ≢ Some JournalFull → refusal_in l g t m e ≡ refusal_in l g t n e
+by_length l g t n m e h k =
+    let tests = (has_large_dacl g (edited g t e), AclTooLarge) ∷ room_tests l t e in
+    behind (early_refusal t e) _ _ JournalFull h k (last_test tests (nat_le l.edits n) (nat_le l.edits m) JournalFull)
 
 pub same_tree_answers_alike : SameTreeAnswersAlike
-same_tree_answers_alike o o' journal journal' mapping tree = record {
+same_tree_answers_alike o o' journal journal' mapping limits tree = record {
   answers = λ path token asked i. reply_in (mapping i) (tree i) path token asked;
   descriptors = λ path i. descriptor_at (mapping i) (tree i) path;
   kinds = λ path. ap (λ t. kind_at t path) tree;
   refusals = λ edit h k.
-      let same : refusal o' journal' edit ≡ refusal_in o.mapping (replay o journal) (length journal') edit = λ i. refusal_in (mapping i) (tree i) (length journal') edit in
-      same ∙ by_length o.mapping (replay o journal) (length journal) (length journal') edit h (λ e. k (same ∙ e));
+      let same : refusal o' journal' edit ≡ refusal_in o.limits o.mapping (replay o journal) (length journal') edit = λ i. refusal_in (limits i) (mapping i) (tree i) (length journal') edit in
+      same ∙ by_length o.limits o.mapping (replay o journal) (length journal) (length journal') edit h (λ e. k (same ∙ e));
 }

@@ -9,6 +9,7 @@ use Rattle.std.proofs.lemmas.List.{length-drop, length-map}
 use Rattle.sd_sid.specs.Mapping.{MappingValue}
 use Rattle.sd_path.specs.Names.{Names, names_cmp, is_within, moved_path}
 use Rattle.sd_path.proofs.Paths.{names_cmp_total, moved_path-outside}
+use Rattle.sd_tree.specs.Limits.{LimitsValue}
 use Rattle.sd_tree.specs.Plain.{PlainTree, row_at, dacl_at}
 use Rattle.sd_tree.specs.Edits.{keeping, changed_where, changed, edited, moved_entry, moved}
 use Rattle.sd_tree.specs.Journal.{opened, root_row, replay, root_refusal, IsLawful}
@@ -92,20 +93,20 @@ shallow_moved t source target tests before q r e =
     found_low source target q r (finite.entries t) tests (λ k d lt. before (get_or (finite.entries t) k d).0 (get_or (finite.entries t) k d).1 (entry_there t k d lt))
     (sym (row_at-moved t source target q) ∙ e)
 
-shallow_edited : (g : MappingValue) (t : PlainTree) (count : ℕ) (e : Edit) → late_refusal g t count e ≡ None → AllShallow t → AllShallow (edited g t e)
-shallow_edited g t count (AddContainer path owner group dacl) fits before =
-    let tests = none_fits (late_tests g t count (AddContainer path owner group dacl)) fits in
+shallow_edited : (limits : LimitsValue) (g : MappingValue) (t : PlainTree) (count : ℕ) (e : Edit) → late_refusal limits g t count e ≡ None → AllShallow t → AllShallow (edited g t e)
+shallow_edited limits g t count (AddContainer path owner group dacl) fits before =
+    let tests = none_fits (late_tests limits g t count (AddContainer path owner group dacl)) fits in
     shallow_inserted t path _ (not_deep _ tests.1.0) before
-shallow_edited g t count (AddObject path owner group dacl) fits before =
-    let tests = none_fits (late_tests g t count (AddObject path owner group dacl)) fits in
+shallow_edited limits g t count (AddObject path owner group dacl) fits before =
+    let tests = none_fits (late_tests limits g t count (AddObject path owner group dacl)) fits in
     shallow_inserted t path _ (not_deep _ tests.1.0) before
-shallow_edited g t count (SetOwner path owner) fits before = shallow_changed t path _ before
-shallow_edited g t count (SetGroup path group) fits before = shallow_changed t path _ before
-shallow_edited g t count (SetDacl path dacl) fits before = shallow_changed t path _ before
-shallow_edited g t count (Remove path) fits before = shallow_removed t path before
-shallow_edited g t count (ProtectKeeping path) fits before = shallow_changed t path (keeping (dacl_at g t path)) before
-shallow_edited g t count (Move source target) fits before =
-    let tests = none_fits (late_tests g t count (Move source target)) fits in
+shallow_edited limits g t count (SetOwner path owner) fits before = shallow_changed t path _ before
+shallow_edited limits g t count (SetGroup path group) fits before = shallow_changed t path _ before
+shallow_edited limits g t count (SetDacl path dacl) fits before = shallow_changed t path _ before
+shallow_edited limits g t count (Remove path) fits before = shallow_removed t path before
+shallow_edited limits g t count (ProtectKeeping path) fits before = shallow_changed t path (keeping (dacl_at g t path)) before
+shallow_edited limits g t count (Move source target) fits before =
+    let tests = none_fits (late_tests limits g t count (Move source target)) fits in
     shallow_moved t source target tests.1.0 before
 
 shallow_opened : (o : Opening) → AllShallow (opened o)
@@ -114,85 +115,86 @@ shallow_opened o = shallow_inserted finite.empty [] (root_row o.root) (omega ari
 pub shallow_replay : (o : Opening) (journal : List Edit) → IsLawful o journal → AllShallow (replay o journal)
 shallow_replay o journal =
     holds_of_lawful o AllShallow (shallow_opened o)
-    (λ t count e before accepted. shallow_edited o.mapping t count e (not_refused o.mapping t count e accepted).1 before) journal
+    (λ t count e before accepted. shallow_edited o.limits o.mapping t count e (not_refused o.limits o.mapping t count e accepted).1 before) journal
 
 -- ---- the nodes of a tree
 
-abbrev pub IsFew : PlainTree → Type 0
-IsFew t = finite.len t ≤ 65536
+module _ (limits : LimitsValue) where
+  abbrev pub IsFew : PlainTree → Type 0
+  IsFew t = finite.len t ≤ limits.nodes
 
-not_full : (n : ℕ) → nat_le 65536 n ≡ false → n < 65536
-not_full n h = leb-false 65536 n h
+  not_full : (n : ℕ) → nat_le limits.nodes n ≡ false → n < limits.nodes
+  not_full n h = leb-false limits.nodes n h
 
-few_more : (b : Bool) (m : ℕ) → m < 65536 → cond b m (m + 1) ≤ 65536
-few_more true m h = omega (arith, h)
-few_more false m h = omega (arith, h)
+  few_more : (b : Bool) (m : ℕ) → m < limits.nodes → cond b m (m + 1) ≤ limits.nodes
+  few_more true m h = omega (arith, h)
+  few_more false m h = omega (arith, h)
 
-few_inserted : (t : PlainTree) (path : Names) (row : Row) → finite.len t < 65536 → IsFew (finite.insert t path row)
-few_inserted t path row lt = rw (len-insert names_cmp_total t path row) (few_more (finite.contains_key t path) (finite.len t) lt)
+  few_inserted : (t : PlainTree) (path : Names) (row : Row) → finite.len t < limits.nodes → IsFew (finite.insert t path row)
+  few_inserted t path row lt = rw (len-insert names_cmp_total t path row) (few_more (finite.contains_key t path) (finite.len t) lt)
 
-few_less : (b : Bool) (m : ℕ) → m ≤ 65536 → cond b (m - 1) m ≤ 65536
-few_less true m h = omega (arith, h)
-few_less false m h = h
+  few_less : (b : Bool) (m : ℕ) → m ≤ limits.nodes → cond b (m - 1) m ≤ limits.nodes
+  few_less true m h = omega (arith, h)
+  few_less false m h = h
 
-few_removed : (t : PlainTree) (path : Names) → IsFew t → IsFew (finite.remove t path)
-few_removed t path few = rw (len-remove names_cmp_total t path) (few_less (finite.contains_key t path) (finite.len t) few)
+  few_removed : (t : PlainTree) (path : Names) → IsFew t → IsFew (finite.remove t path)
+  few_removed t path few = rw (len-remove names_cmp_total t path) (few_less (finite.contains_key t path) (finite.len t) few)
 
-few_where : (t : PlainTree) (path : Names) (change : Row → Row) (o : Option Row) → row_at t path ≡ o → IsFew t → IsFew (changed_where t path change o)
-few_where t path change None is few = few
-few_where t path change (Some row) is few =
-    let size : finite.len (finite.insert t path (change row)) ≡ finite.len t = len-insert names_cmp_total t path (change row) ∙ ap (λ o. cond (is_some o) (finite.len t) (finite.len t + 1)) is in
-    omega (arith, size, few)
+  few_where : (t : PlainTree) (path : Names) (change : Row → Row) (o : Option Row) → row_at t path ≡ o → IsFew t → IsFew (changed_where t path change o)
+  few_where t path change None is few = few
+  few_where t path change (Some row) is few =
+      let size : finite.len (finite.insert t path (change row)) ≡ finite.len t = len-insert names_cmp_total t path (change row) ∙ ap (λ o. cond (is_some o) (finite.len t) (finite.len t + 1)) is in
+      omega (arith, size, few)
 
-few_changed : (t : PlainTree) (path : Names) (change : Row → Row) → IsFew t → IsFew (changed t path change)
-few_changed t path change few = few_where t path change (row_at t path) refl few
+  few_changed : (t : PlainTree) (path : Names) (change : Row → Row) → IsFew t → IsFew (changed t path change)
+  few_changed t path change few = few_where t path change (row_at t path) refl few
 
-few_moved : (t : PlainTree) (source target : Names) → IsFew t → IsFew (moved t source target)
-unfolding moved
-few_moved t source target few =
-    let es = finite.entries t in
-    let most = few_entries (map (moved_entry source target) es) in
-    let size = length-map es (moved_entry source target) in
-    let was = len-entries t in
-    omega (arith, most, size, was, few)
+  few_moved : (t : PlainTree) (source target : Names) → IsFew t → IsFew (moved t source target)
+  unfolding moved
+  few_moved t source target few =
+      let es = finite.entries t in
+      let most = few_entries (map (moved_entry source target) es) in
+      let size = length-map es (moved_entry source target) in
+      let was = len-entries t in
+      omega (arith, most, size, was, few)
 
-few_edited : (g : MappingValue) (t : PlainTree) (count : ℕ) (e : Edit) → late_refusal g t count e ≡ None → IsFew t → IsFew (edited g t e)
-few_edited g t count (AddContainer path owner group dacl) fits before =
-    let tests = none_fits (late_tests g t count (AddContainer path owner group dacl)) fits in
-    few_inserted t path _ (not_full _ tests.1.1.0)
-few_edited g t count (AddObject path owner group dacl) fits before =
-    let tests = none_fits (late_tests g t count (AddObject path owner group dacl)) fits in
-    few_inserted t path _ (not_full _ tests.1.1.0)
-few_edited g t count (SetOwner path owner) fits before = few_changed t path _ before
-few_edited g t count (SetGroup path group) fits before = few_changed t path _ before
-few_edited g t count (SetDacl path dacl) fits before = few_changed t path _ before
-few_edited g t count (Remove path) fits before = few_removed t path before
-few_edited g t count (ProtectKeeping path) fits before = few_changed t path (keeping (dacl_at g t path)) before
-few_edited g t count (Move source target) fits before = few_moved t source target before
+  few_edited : (g : MappingValue) (t : PlainTree) (count : ℕ) (e : Edit) → late_refusal limits g t count e ≡ None → IsFew t → IsFew (edited g t e)
+  few_edited g t count (AddContainer path owner group dacl) fits before =
+      let tests = none_fits (late_tests limits g t count (AddContainer path owner group dacl)) fits in
+      few_inserted t path _ (not_full _ tests.1.1.0)
+  few_edited g t count (AddObject path owner group dacl) fits before =
+      let tests = none_fits (late_tests limits g t count (AddObject path owner group dacl)) fits in
+      few_inserted t path _ (not_full _ tests.1.1.0)
+  few_edited g t count (SetOwner path owner) fits before = few_changed t path _ before
+  few_edited g t count (SetGroup path group) fits before = few_changed t path _ before
+  few_edited g t count (SetDacl path dacl) fits before = few_changed t path _ before
+  few_edited g t count (Remove path) fits before = few_removed t path before
+  few_edited g t count (ProtectKeeping path) fits before = few_changed t path (keeping (dacl_at g t path)) before
+  few_edited g t count (Move source target) fits before = few_moved t source target before
 
-few_opened : (o : Opening) → IsFew (opened o)
-few_opened o = few_inserted finite.empty [] (root_row o.root) (let none = len-empty names_cmp Row in omega (arith, none))
+  few_opened : 0 < limits.nodes → (o : Opening) → IsFew (opened o)
+  few_opened root o = few_inserted finite.empty [] (root_row o.root) (let none = len-empty names_cmp Row in omega (arith, none, root))
 
-pub few_replay : (o : Opening) (journal : List Edit) → IsLawful o journal → IsFew (replay o journal)
-few_replay o journal =
-    holds_of_lawful o IsFew (few_opened o)
-    (λ t count e before accepted. few_edited o.mapping t count e (not_refused o.mapping t count e accepted).1 before) journal
+pub few_replay : (o : Opening) (journal : List Edit) → 0 < o.limits.nodes → IsLawful o journal → IsFew o.limits (replay o journal)
+few_replay o journal root =
+    holds_of_lawful o (IsFew o.limits) (few_opened o.limits root o)
+    (λ t count e before accepted. few_edited o.limits o.mapping t count e (not_refused o.limits o.mapping t count e accepted).1 before) journal
 
--- all but the root take at most 65,535 additions
-pub few_additions : (o : Opening) (journal edits : List Edit) → IsLawful o journal
-    → edits ≡ map addition (drop 1 (finite.entries (replay o journal))) → length edits ≤ 65535
-few_additions o journal edits lawful is =
+-- all but the root take fewer additions than there may be nodes
+pub few_additions : (o : Opening) (journal edits : List Edit) → 0 < o.limits.nodes → IsLawful o journal
+    → edits ≡ map addition (drop 1 (finite.entries (replay o journal))) → length edits < o.limits.nodes
+few_additions o journal edits root lawful is =
     let es = finite.entries (replay o journal) in
-    let few : finite.len (replay o journal) ≤ 65536 = few_replay o journal lawful in
-    omega (arith, few, len-entries (replay o journal), ap length is, length-map (drop 1 es) addition, length-drop 1 es)
+    let few : finite.len (replay o journal) ≤ o.limits.nodes = few_replay o journal root lawful in
+    omega (arith, root, few, len-entries (replay o journal), ap length is, length-map (drop 1 es) addition, length-drop 1 es)
 
 -- ---- the bytes of a list
 
-large_edited : (g : MappingValue) (t : PlainTree) (count : ℕ) (e : Edit) → late_refusal g t count e ≡ None → has_large_dacl g (edited g t e) ≡ false
-large_edited g t count e fits = (none_fits (late_tests g t count e) fits).0
+large_edited : (limits : LimitsValue) (g : MappingValue) (t : PlainTree) (count : ℕ) (e : Edit) → late_refusal limits g t count e ≡ None → has_large_dacl g (edited g t e) ≡ false
+large_edited limits g t count e fits = (none_fits (late_tests limits g t count e) fits).0
 
 pub small_replay : (o : Opening) (journal : List Edit) → root_refusal o ≡ None → IsLawful o journal → has_large_dacl o.mapping (replay o journal) ≡ false
 small_replay o journal fits =
     let tests = none_fits (list_tests o.root.dacl ++ (has_large_dacl o.mapping (opened o), AclTooLarge) ∷ []) fits in
     holds_of_lawful o (λ t. has_large_dacl o.mapping t ≡ false) tests.1.1.0
-    (λ t count e before accepted. large_edited o.mapping t count e (not_refused o.mapping t count e accepted).1) journal
+    (λ t count e before accepted. large_edited o.limits o.mapping t count e (not_refused o.limits o.mapping t count e accepted).1) journal

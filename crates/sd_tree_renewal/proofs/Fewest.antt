@@ -1,5 +1,5 @@
 -- An edit adds at most one node, so a journal has no fewer edits than its tree has nodes below the root.
-use Rattle.std.proofs.Common.{◌≡◌, ℕ, ◌+◌, ◌-◌, ◌≤◌, Bool, true, false, cond, List, [], ◌∷◌, length, map, Option, Some, None, refl, sym, ap, ◌∙◌, arith}
+use Rattle.std.proofs.Common.{ℕ, ◌+◌, ◌-◌, ◌≤◌, Bool, true, false, cond, List, [], ◌∷◌, length, map, Option, Some, None, ap, ◌∙◌, arith}
 use Rattle.std.specs.Prelude.{drop}
 use Rattle.std.specs.FinMap as finite
 use Rattle.std.specs.FinMap.{len-entries, len-empty, len-insert, len-remove}
@@ -8,14 +8,13 @@ use Rattle.sd_sid.specs.Mapping.{MappingValue}
 use Rattle.sd_path.specs.Names.{Names, names_cmp}
 use Rattle.sd_path.proofs.Paths.{names_cmp_total}
 use Rattle.sd_tree.specs.Plain.{PlainTree, row_at, dacl_at}
-use Rattle.sd_tree.specs.Edits.{edited, changed, changed_where, moved, moved_entry, keeping}
+use Rattle.sd_tree.specs.Edits.{edited, changed_where, moved, moved_entry, keeping}
 use Rattle.sd_tree.specs.Journal.{opened, edited_by, replay, root_row}
 use Rattle.sd_tree.specs.declared.node.Row.{Row}
 use Rattle.sd_tree.specs.declared.opening.Opening.{Opening}
-use Rattle.sd_tree.specs.declared.opening.RootSpec.{RootSpec}
 use Rattle.sd_tree.specs.declared.edit.Edit.{Edit}
 use Rattle.sd_tree.specs.declared.edit.Edit.TheVariants.{AddContainer, AddObject, SetOwner, SetGroup, SetDacl, Remove, ProtectKeeping, Move}
-use Rattle.sd_tree_renewal.specs.Renewal.{addition, IsShortest, NoJournalIsShorter}
+use Rattle.sd_tree_renewal.specs.Renewal.{addition, NoJournalIsShorter}
 
 one_more : (b : Bool) (n : ℕ) → cond b n (n + 1) ≤ n + 1
 one_more true n = omega arith
@@ -62,7 +61,7 @@ edits_add g t (edit ∷ edits) =
     let rest = edits_add g (edited g t edit) edits in
     omega arith
 
-journal_adds : (opening : Opening) (journal : List Edit) → finite.len (replay opening journal) ≤ length journal + 1
+pub journal_adds : (opening : Opening) (journal : List Edit) → finite.len (replay opening journal) ≤ length journal + 1
 unfolding replay
 journal_adds opening journal =
     let all = edits_add opening.mapping (opened opening) journal in

@@ -1,5 +1,5 @@
 -- The additions of a tree's nodes, in the order of their paths, are accepted one after the other and make the tree.
-use Rattle.std.proofs.Common.{◌≡◌, ℕ, zero, suc, ◌<◌, ◌≤◌, Bool, true, false, cond, not, ◌&&◌, ◌||◌, List, [], ◌∷◌, ◌++◌, length, map, get_or, Option, Some, None, option_map, is_some, inl, inr, refl, sym, ap, subst, ◌∙◌, append_assoc, append-nil, arith, nat_lt, nat_le}
+use Rattle.std.proofs.Common.{◌≡◌, ℕ, zero, suc, ◌+◌, ◌<◌, ◌≤◌, Bool, true, false, cond, not, ◌&&◌, ◌||◌, List, [], ◌∷◌, ◌++◌, length, map, get_or, Option, Some, None, option_map, is_some, inl, inr, refl, sym, ap, subst, ◌∙◌, append_assoc, append-nil, arith, nat_lt, nat_le}
 use Rattle.std.specs.Prelude.{T, drop}
 use Rattle.std.specs.List.{list_any, AllByRecursion}
 use Rattle.std.specs.FinMap as finite
@@ -12,9 +12,10 @@ use Rattle.sd_sid.specs.Mapping.{MappingValue}
 use Rattle.sd_path.specs.Names.{Names, names_cmp, up, is_root, is_within}
 use Rattle.sd_path.proofs.Paths.{names_cmp_total, names_cmp_antisymmetric, within_before, within_itself, up_before}
 use Rattle.sd_tree.specs.Closed.{IsClosed}
+use Rattle.sd_tree.specs.Limits.{LimitsValue}
 use Rattle.sd_tree.specs.Plain.{PlainTree, row_at, dacl_at}
 use Rattle.sd_tree.specs.Edits.{edited}
-use Rattle.sd_tree.specs.Journal.{opening_of, opened, replay, refusal, root_refusal, IsLawful}
+use Rattle.sd_tree.specs.Journal.{opening_within, opened, replay, refusal, root_refusal, IsLawful}
 use Rattle.sd_tree.specs.Refusals.{first_fit, early_tests, list_tests, addition_tests, is_object, is_object_kind, room_tests, refusal_in, has_large_dacl, dacl_size}
 use Rattle.sd_tree.specs.declared.node.Row.{Row}
 use Rattle.sd_tree.specs.declared.node.NodeKind.{NodeKind}
@@ -27,30 +28,33 @@ use Rattle.sd_tree.specs.declared.refusal.EditRefusal.TheVariants.{AclTooLarge, 
 use Rattle.sd_tree.proofs.Closed.{closed_replay}
 use Rattle.sd_tree.proofs.Dacls.{dacl_at_alike}
 use Rattle.sd_tree.proofs.Fitting.{refusal_by_parts}
-use Rattle.sd_tree.proofs.Journals.{replay-none, replay-push, lawful_none, lawful_push}
+use Rattle.sd_tree.proofs.Journals.{replay-none, replay-push, lawful_none, lawful_push, lawful_short}
 use Rattle.sd_tree.proofs.Lists.{by_last}
 use Rattle.sd_tree.proofs.Moved.{entry_there}
 use Rattle.sd_tree.proofs.Rows.{same_or_other, one_path}
 use Rattle.sd_tree_laws.proofs.OwnEntries.{AllSound, sound_replay}
 use Rattle.sd_tree_renewal.specs.Renewal.{addition_of, addition, spec_of, IsShortest, Makes}
 use Rattle.sd_tree_renewal.proofs.Fronts.{Entry, below_trans, below_next, find_below, find_front, found_below, next_free, before_next, few_entries}
+use Rattle.sd_tree_renewal.proofs.Fewest.{journal_adds}
 use Rattle.sd_tree_renewal.proofs.Bounded.{AllShallow, IsFew, shallow_replay, few_replay, small_replay}
 
 -- what holds of the tree of each lawful journal
-pub record IsWithinLimits (g : MappingValue) (t : PlainTree) : Type 0 where
+pub record IsWithinLimits (limits : LimitsValue) (g : MappingValue) (t : PlainTree) : Type 0 where
   pub closed : IsClosed t
   pub sound : AllSound t
   pub small : has_large_dacl g t ≡ false
   pub shallow : AllShallow t
-  pub few : IsFew t
+  pub few : IsFew limits t
+  pub short : finite.len t ≤ limits.edits + 1
 
-within_limits : (o : Opening) (journal : List Edit) → root_refusal o ≡ None → IsLawful o journal → IsWithinLimits o.mapping (replay o journal)
-within_limits o journal fits lawful = record {
+within_limits : (o : Opening) (journal : List Edit) → 0 < o.limits.nodes → root_refusal o ≡ None → IsLawful o journal → IsWithinLimits o.limits o.mapping (replay o journal)
+within_limits o journal root fits lawful = record {
   closed = closed_replay o journal lawful;
   sound = sound_replay o journal fits lawful;
   small = small_replay o journal fits lawful;
   shallow = shallow_replay o journal lawful;
-  few = few_replay o journal lawful;
+  few = few_replay o journal root lawful;
+  short = let most = journal_adds o journal in let fits = lawful_short o journal lawful in omega (arith, most, fits);
 }
 
 -- ---- the tree of a front of the entries
@@ -123,10 +127,10 @@ early_addition : (t : PlainTree) (path : Names) (row : Row) (kind : NodeKind) �
 early_addition t path row Container h = h
 early_addition t path row Object h = h
 
-limits_addition : (t : PlainTree) (n : ℕ) (path : Names) (row : Row) (kind : NodeKind) → length path ≤ 64 → finite.len t < 65536 → n < 1048576
-    → None ≡ first_fit (room_tests t (addition_of kind path row) ++ (nat_le 1048576 n, JournalFull) ∷ [])
-limits_addition t n path row Container low few short = sym (all_pass (room_tests t (addition_of Container path row) ++ (nat_le 1048576 n, JournalFull) ∷ []) (le-ltb 64 _ low, (lt-leb 65536 _ few, (lt-leb 1048576 n short, tt))))
-limits_addition t n path row Object low few short = sym (all_pass (room_tests t (addition_of Object path row) ++ (nat_le 1048576 n, JournalFull) ∷ []) (le-ltb 64 _ low, (lt-leb 65536 _ few, (lt-leb 1048576 n short, tt))))
+limits_addition : (limits : LimitsValue) (t : PlainTree) (n : ℕ) (path : Names) (row : Row) (kind : NodeKind) → length path ≤ 64 → finite.len t < limits.nodes → n < limits.edits
+    → None ≡ first_fit (room_tests limits t (addition_of kind path row) ++ (nat_le limits.edits n, JournalFull) ∷ [])
+limits_addition limits t n path row Container low few short = sym (all_pass (room_tests limits t (addition_of Container path row) ++ (nat_le limits.edits n, JournalFull) ∷ []) (le-ltb 64 _ low, (lt-leb limits.nodes _ few, (lt-leb limits.edits n short, tt))))
+limits_addition limits t n path row Object low few short = sym (all_pass (room_tests limits t (addition_of Object path row) ++ (nat_le limits.edits n, JournalFull) ∷ []) (le-ltb 64 _ low, (lt-leb limits.nodes _ few, (lt-leb limits.edits n short, tt))))
 
 pub a_container : (o : Option Row) → option_map (λ (r : Row). r.kind) o ≡ Some Container → (row : Row) × (o ≡ Some row) × (row.kind ≡ Container)
 a_container None e = absurd cc
@@ -143,9 +147,9 @@ here t xs e ys parts =
     subst P at (entry_there t (length xs) e (omega (arith, longer, count)))
 
 -- the next node may be added to the tree of those before it, if the root is among these
-next_accepted : (g : MappingValue) (t : PlainTree) → IsWithinLimits g t → (root : Row) (xs : List Entry) (e : Entry) (ys : List Entry) → xs ++ e ∷ ys ≡ finite.entries t
-    → find names_cmp [] xs ≡ Some root → (n : ℕ) → n < 1048576 → (refusal_in g (front xs) n (addition e) ≡ None) × (edited g (front xs) (addition e) ≡ front (xs ++ e ∷ []))
-next_accepted g t ok root xs e ys parts rooted n short =
+next_accepted : (limits : LimitsValue) (g : MappingValue) (t : PlainTree) → IsWithinLimits limits g t → (root : Row) (xs : List Entry) (e : Entry) (ys : List Entry) → xs ++ e ∷ ys ≡ finite.entries t
+    → find names_cmp [] xs ≡ Some root → (n : ℕ) → n < limits.edits → (refusal_in limits g (front xs) n (addition e) ≡ None) × (edited g (front xs) (addition e) ≡ front (xs ++ e ∷ []))
+next_accepted limits g t ok root xs e ys parts rooted n short =
     let path = e.0 in
     let row = e.1 in
     let order = sorted_parts t xs (e ∷ ys) parts in
@@ -173,8 +177,8 @@ next_accepted g t ok root xs e ys parts rooted n short =
     let count = ap (λ (zs : List Entry). length zs) parts in
     let most = few_entries xs in
     let size = len-entries t in
-    let few : finite.len u < 65536 = omega (arith, longer, count, most, size, ok.few) in
-    (refusal_by_parts g u n (addition e) None (early_addition u path row row.kind early) large (limits_addition u n path row row.kind (ok.shallow path row there) few short), made)
+    let few : finite.len u < limits.nodes = omega (arith, longer, count, most, size, ok.few) in
+    (refusal_by_parts limits g u n (addition e) None (early_addition u path row row.kind early) large (limits_addition limits u n path row row.kind (ok.shallow path row there) few short), made)
   where
     not_root : (path : Names) (root : Row) (xs : List Entry) → find names_cmp path xs ≡ None → find names_cmp [] xs ≡ Some root → is_root path ≡ false
     not_root [] root xs none found = absurd cc
@@ -193,16 +197,16 @@ first_entry t root there = by_first (finite.entries t) (entries_sorted t) (sym (
         let none = find_below [] es (below_trans [] (name ∷ path) es refl (below_next (name ∷ path, row) es order)) in
         absurd cc
 
-opened_root : (g : MappingValue) (row : Row) → row.kind ≡ Container → opened (opening_of g (spec_of row)) ≡ front (([], row) ∷ [])
-opened_root g row is = λ i. finite.insert finite.empty [] (record { kind = sym is i; owner = row.owner; group = row.group; dacl = row.dacl })
+opened_root : (limits : LimitsValue) (g : MappingValue) (row : Row) → row.kind ≡ Container → opened (opening_within g (spec_of row) limits) ≡ front (([], row) ∷ [])
+opened_root limits g row is = λ i. finite.insert finite.empty [] (record { kind = sym is i; owner = row.owner; group = row.group; dacl = row.dacl })
 
-made_by : (g : MappingValue) (t : PlainTree) → IsWithinLimits g t → (root : Row) → root.kind ≡ Container → (rest : List Entry) → ([], root) ∷ rest ≡ finite.entries t
+made_by : (limits : LimitsValue) (g : MappingValue) (t : PlainTree) → IsWithinLimits limits g t → (root : Row) → root.kind ≡ Container → (rest : List Entry) → ([], root) ∷ rest ≡ finite.entries t
     → (xs ys : List Entry) → xs ++ ys ≡ rest
-    → IsLawful (opening_of g (spec_of root)) (map addition xs) × (replay (opening_of g (spec_of root)) (map addition xs) ≡ front (([], root) ∷ xs))
-made_by g t ok root is rest begins = by_last P (λ ys parts. (lawful_none o, replay-none o ∙ opened_root g root is)) more
+    → IsLawful (opening_within g (spec_of root) limits) (map addition xs) × (replay (opening_within g (spec_of root) limits) (map addition xs) ≡ front (([], root) ∷ xs))
+made_by limits g t ok root is rest begins = by_last P (λ ys parts. (lawful_none o, replay-none o ∙ opened_root limits g root is)) more
   where
     o : Opening
-    o = opening_of g (spec_of root)
+    o = opening_within g (spec_of root) limits
 
     P : List Entry → Type 0
     P xs = (ys : List Entry) → xs ++ ys ≡ rest → IsLawful o (map addition xs) × (replay o (map addition xs) ≡ front (([], root) ∷ xs))
@@ -217,9 +221,9 @@ made_by g t ok root is rest begins = by_last P (λ ys parts. (lawful_none o, rep
         let count = ap (λ (zs : List Entry). length zs) all in
         let mapped = length-map xs addition in
         let size = len-entries t in
-        let short : length edits < 1048576 = omega (arith, longer, count, mapped, size, ok.few) in
-        let next = next_accepted g t ok root (([], root) ∷ xs) e ys all refl (length edits) short in
-        let fits : refusal o edits (addition e) ≡ None = ap (λ u. refusal_in g u (length edits) (addition e)) ih.1 ∙ next.0 in
+        let short : length edits < limits.edits = omega (arith, longer, count, mapped, size, ok.short) in
+        let next = next_accepted limits g t ok root (([], root) ∷ xs) e ys all refl (length edits) short in
+        let fits : refusal o edits (addition e) ≡ None = ap (λ u. refusal_in limits g u (length edits) (addition e)) ih.1 ∙ next.0 in
         let grown : map addition (xs ++ e ∷ []) ≡ edits ++ addition e ∷ [] = map-append addition xs (e ∷ []) in (
           subst (IsLawful o) (sym grown) (lawful_push o edits (addition e) ih.0 fits),
           ap (replay o) grown ∙ replay-push o edits (addition e) ∙ ap (λ u. edited g u (addition e)) ih.1 ∙ next.1,
@@ -228,35 +232,35 @@ made_by g t ok root is rest begins = by_last P (λ ys parts. (lawful_none o, rep
 front_is_tree : (t : PlainTree) → front (finite.entries t) ≡ t
 front_is_tree t = same_map names_cmp_total names_cmp_antisymmetric (front (finite.entries t)) t (λ q. get-from_entries names_cmp_total (finite.entries t) q ∙ sym (get-entries t q))
 
-root_accepted : (g : MappingValue) (t : PlainTree) → IsWithinLimits g t → (root : Row) → root.kind ≡ Container → row_at t [] ≡ Some root → (rest : List Entry) → ([], root) ∷ rest ≡ finite.entries t
-    → root_refusal (opening_of g (spec_of root)) ≡ None
-root_accepted g t ok root is there rest begins =
+root_accepted : (limits : LimitsValue) (g : MappingValue) (t : PlainTree) → IsWithinLimits limits g t → (root : Row) → root.kind ≡ Container → row_at t [] ≡ Some root → (rest : List Entry) → ([], root) ∷ rest ≡ finite.entries t
+    → root_refusal (opening_within g (spec_of root) limits) ≡ None
+root_accepted limits g t ok root is there rest begins =
     let sound = ok.sound [] root there in
-    let large = ap (has_large_dacl g) (opened_root g root is) ∙ small_front g t (([], root) ∷ []) rest ok.small begins in
-    all_pass (list_tests root.dacl ++ (has_large_dacl g (opened (opening_of g (spec_of root))), AclTooLarge) ∷ []) (sound.explicit, (sound.ordered, (large, tt)))
+    let large = ap (has_large_dacl g) (opened_root limits g root is) ∙ small_front g t (([], root) ∷ []) rest ok.small begins in
+    all_pass (list_tests root.dacl ++ (has_large_dacl g (opened (opening_within g (spec_of root) limits)), AclTooLarge) ∷ []) (sound.explicit, (sound.ordered, (large, tt)))
 
-shortest_makes : (g : MappingValue) (t : PlainTree) → IsWithinLimits g t → (spec : RootSpec) (edits : List Edit) → IsShortest t spec edits → Makes (opening_of g spec) edits t
-shortest_makes g t ok spec edits is =
+shortest_makes : (limits : LimitsValue) (g : MappingValue) (t : PlainTree) → IsWithinLimits limits g t → (spec : RootSpec) (edits : List Edit) → IsShortest t spec edits → Makes (opening_within g spec limits) edits t
+shortest_makes limits g t ok spec edits is =
     let held = a_container (row_at t []) ok.closed.root in
     let root = held.0 in
     let first = first_entry t root held.1 in
     let rest = first.0 in
     let same_spec : spec ≡ spec_of root = inside _ _ (is.root_is ∙ ap (option_map spec_of) held.1) in
     let same_edits : edits ≡ map addition rest = is.edits_are ∙ ap (λ es. map addition (drop 1 es)) (sym first.1) in
-    let all = made_by g t ok root held.2 rest first.1 rest [] (append-nil rest) in
-    let made : Makes (opening_of g (spec_of root)) (map addition rest) t = record {
-      accepted = root_accepted g t ok root held.2 held.1 rest first.1;
+    let all = made_by limits g t ok root held.2 rest first.1 rest [] (append-nil rest) in
+    let made : Makes (opening_within g (spec_of root) limits) (map addition rest) t = record {
+      accepted = root_accepted limits g t ok root held.2 held.1 rest first.1;
       lawful = all.0;
       made = all.1 ∙ ap front first.1 ∙ front_is_tree t;
     } in
-    let P : RootSpec → Type 0 = λ s. Makes (opening_of g s) (map addition rest) t in
-    let Q : List Edit → Type 0 = λ es. Makes (opening_of g spec) es t in
+    let P : RootSpec → Type 0 = λ s. Makes (opening_within g s limits) (map addition rest) t in
+    let Q : List Edit → Type 0 = λ es. Makes (opening_within g spec limits) es t in
     subst Q (sym same_edits) (subst P (sym same_spec) made)
   where
     inside : (a b : RootSpec) → Some a ≡ Some b → a ≡ b
     inside a b e = cc
 
 -- the shortest opening and edits of a lawful journal's tree are accepted, and make it
-pub shortest_of_lawful : (o : Opening) (journal : List Edit) → root_refusal o ≡ None → IsLawful o journal
-    → (spec : RootSpec) (edits : List Edit) → IsShortest (replay o journal) spec edits → Makes (opening_of o.mapping spec) edits (replay o journal)
-shortest_of_lawful o journal fits lawful = shortest_makes o.mapping (replay o journal) (within_limits o journal fits lawful)
+pub shortest_of_lawful : (o : Opening) (journal : List Edit) → 0 < o.limits.nodes → root_refusal o ≡ None → IsLawful o journal
+    → (spec : RootSpec) (edits : List Edit) → IsShortest (replay o journal) spec edits → Makes (opening_within o.mapping spec o.limits) edits (replay o journal)
+shortest_of_lawful o journal root fits lawful = shortest_makes o.limits o.mapping (replay o journal) (within_limits o journal root fits lawful)

@@ -47,11 +47,11 @@ pub record AnswerAlike (o : Opening) (journal : List Edit) (o' : Opening) (journ
   pub refusals : (edit : Edit) → refusal o journal edit ≢ Some JournalFull → refusal o' journal' edit ≢ Some JournalFull
       → refusal o' journal' edit ≡ refusal o journal edit
 
--- of one mapping, and of journals that make one tree
+-- of one mapping, within the same limits, and of journals that make one tree
 abbrev pub SameTreeAnswersAlike : Type 0
 SameTreeAnswersAlike =
-    (o o' : Opening) (journal journal' : List Edit) → o'.mapping ≡ o.mapping → replay o' journal' ≡ replay o journal
-    → AnswerAlike o journal o' journal'
+    (o o' : Opening) (journal journal' : List Edit) → o'.mapping ≡ o.mapping → o'.limits ≡ o.limits
+    → replay o' journal' ≡ replay o journal → AnswerAlike o journal o' journal'
 
 -- no opening and journal that make a tree have fewer edits than its shortest, not even with edits that are refused
 abbrev pub NoJournalIsShorter : Type 0

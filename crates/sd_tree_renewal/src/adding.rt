@@ -1,8 +1,8 @@
 //! The compact opening and journal of a tree.
 
-ghost use Rattle.std.specs.Prelude.{◌≡◌, ◌<◌, ◌≤◌, length, map, drop, [], Some, IfOk, option_map, slice_get};
+ghost use Rattle.std.specs.Prelude.{◌≡◌, ◌<◌, length, map, drop, [], Some, IfOk, option_map, slice_get};
 ghost use Rattle.std.specs.FinMap.{entries};
-ghost use Rattle.sd_tree.specs.Journal.{opening_of, replay};
+ghost use Rattle.sd_tree.specs.Journal.{opening_within, replay};
 ghost use Rattle.sd_tree.specs.Listing.{listed};
 ghost use Rattle.sd_tree.specs.Plain.{row_at};
 ghost use Rattle.sd_tree_renewal.specs.Renewal.{addition, spec_of, IsShortest, Makes, NoJournalIsShorter};
@@ -17,15 +17,17 @@ pub struct Beginning {
     pub edits: Vec<Edit>,
 }
 
-/// The root of a tree and one addition for each other node, parents first: at most 65,535 edits. The root is accepted,
-/// each edit is accepted at its place, and together they make the tree.
+/// The root of a tree and one addition for each other node, parents first: fewer edits than the limits allow nodes.
+/// Within the same limits the root is accepted, each edit is accepted at its place, and together they make the tree.
 pub fn shortest(tree: &Tree, alloc: Global) -> Result<Beginning, AllocError>
     ensures shortest { IfOk result (λ s. IsShortest (replay tree.now.opening tree.now.journal) s.root s.edits.items) }
-    ensures makes { IfOk result (λ s. Makes (opening_of tree.now.opening.mapping s.root) s.edits.items
+    ensures makes { IfOk result (λ s. Makes
+        (opening_within tree.now.opening.mapping s.root tree.now.opening.limits) s.edits.items
         (replay tree.now.opening tree.now.journal)) }
-    ensures few { IfOk result (λ s. length s.edits.items ≤ 65535) }
+    ensures few { IfOk result (λ s. length s.edits.items < tree.now.opening.limits.nodes) }
 {
     let _ = tree.len();
+    let _ = tree.limits().nodes();
     let root = root_spec(tree, alloc)?;
     let edits = additions(tree, alloc)?;
     Ok(Beginning { root, edits })

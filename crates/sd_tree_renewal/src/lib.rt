@@ -1,7 +1,7 @@
 //! Compaction: a compact opening and journal that make the same tree, and the tree of these.
 //!
-//! A journal has at most 1,048,576 edits. The tree that it made needs only one addition for each of its nodes, so a
-//! service that runs for years starts over from these. docs/STORE.md says how.
+//! A journal has as many edits as its limits allow. The tree that it made needs only one addition for each of its
+//! nodes, so a service that runs for years starts over from these. docs/STORE.md says how.
 //!
 //! ```text
 //! let Beginning { root, edits } = shortest(&tree, alloc)?;
