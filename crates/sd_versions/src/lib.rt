@@ -5,7 +5,7 @@
 //! A snapshot is shared and not copied, and never changes.
 //!
 //! ```text
-//! let mut tree = Versions::opening(alloc, &mapping, &root)?;
+//! let mut tree = Versions::opening(alloc, &mapping, &root, Limits::standard())?;
 //! tree.edit(&edit)?;
 //! tree.publish();
 //! let snapshot = tree.snapshot()?;

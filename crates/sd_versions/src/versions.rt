@@ -2,11 +2,11 @@
 
 ghost use Rattle.std.specs.Prelude.{◌≡◌, [], ◌∷◌, ◌++◌, IfErr, IfOk, MatchResult, None, OnOk};
 ghost use Rattle.sd_tree.specs.Answers.{IsError};
-ghost use Rattle.sd_tree.specs.Journal.{opening_of, refusal, root_refusal};
+ghost use Rattle.sd_tree.specs.Journal.{opening_within, refusal, root_refusal};
 ghost use Rattle.sd_versions.specs.Versions.{accepted};
 
 use sd_sid::GenericMapping;
-use sd_tree::{Edit, RootSpec, Shared, Tree, TreeError};
+use sd_tree::{Edit, Limits, RootSpec, Shared, Tree, TreeError};
 use std::alloc::{AllocError, Global};
 use std::marker::Model;
 
@@ -33,18 +33,20 @@ impl Model for Versions {
 }
 
 impl Versions {
-    /// The tree of the root alone, or the root's first refusal, as `Tree::opening`.
+    /// The tree of the root alone, or the root's first refusal, as `Tree::opening_within`.
     pub fn opening(
         alloc: Global,
         mapping: &GenericMapping,
         root: &RootSpec,
+        limits: Limits,
     ) -> Result<Versions, TreeError>
-        ensures opening { IfOk result (λ v. v.opening ≡ opening_of mapping.now root.now) }
+        ensures opening { IfOk result (λ v. v.opening ≡ opening_within mapping.now root.now limits) }
         ensures journal { IfOk result (λ v. (v.published ≡ []) × (v.pending ≡ [])) }
-        ensures accepted { IfOk result (λ _. root_refusal (opening_of mapping.now root.now) ≡ None) }
-        ensures refused { IfErr result (λ e. IsError e (root_refusal (opening_of mapping.now root.now))) }
+        ensures accepted { IfOk result (λ _. root_refusal (opening_within mapping.now root.now limits) ≡ None) }
+        ensures refused { IfErr result (λ e. IsError e (root_refusal (opening_within mapping.now root.now limits))) }
     {
-        match Shared::try_new(alloc, Tree::opening(alloc, mapping, root)?) {
+        let tree = Tree::opening_within(alloc, mapping, root, limits)?;
+        match Shared::try_new(alloc, tree) {
             Ok(tree) => Ok(Versions::of(alloc, tree)),
             Err(_) => Err(TreeError::Memory),
         }
