@@ -1,8 +1,10 @@
--- What `who` prints: rights, whom an alternative grants them to, and unless which SIDs are in the token. Rights with
--- the same alternative are in one line, the lines are in the order of their lowest rights, and for the same one in the
--- order of the alternatives.
+-- What `who` is asked about, and what it prints: rights, whom an alternative grants them to, and unless which SIDs are
+-- in the token. Rights with the same alternative are in one line, the lines are in the order of their lowest rights,
+-- and for the same one in the order of the alternatives.
 use Rattle.std.specs.Prelude.{ℕ, ◌==◌, if◌then◌else◌, List, [], ◌++◌, fold, length, take, codes}
 use Rattle.std.specs.List.{flat_map}
+use Rattle.sd_sid.specs.Mapping.{MappingValue, mapped}
+use Rattle.sd_sid.specs.Mask.{holds}
 use Rattle.sd_sid.specs.Sid.{SidValue}
 use Rattle.sd_text.specs.Canon.{full_canon}
 use Rattle.sd_analysis.specs.declared.who_has.Access.{Access}
@@ -11,6 +13,10 @@ use Rattle.sd_analysis.specs.declared.who_has.Holder.{Holder}
 use Rattle.sd_analysis.specs.declared.who_has.Holder.TheVariants.{Everyone, Sid, Owner}
 use Rattle.sd_answer.specs.Lines.{LineValue, joined, lines_text}
 use Rattle.sd_answer.specs.declared.answer.Spelling.{Spelling}
+
+-- the rights that are asked about: those of the mask, generic ones mapped; with MAXIMUM_ALLOWED, place 25, all
+abbrev pub rights_asked : MappingValue → ℕ → ℕ
+rights_asked g asked = if holds asked 25 then 0x001FFFFF else mapped g asked
 
 abbrev pub holder_text : Holder → List ℕ
 holder_text Everyone = codes "everyone"

@@ -33,6 +33,6 @@ pub use lint::lint_text;
 pub use mask::read_mask_in;
 pub use names::ObjectKind;
 pub use rights::rights_line;
-pub use who::who_text;
+pub use who::{rights_asked, who_text};
 pub use why::why_text;
 pub use word::{TokenError, read_base, read_token};

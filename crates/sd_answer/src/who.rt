@@ -1,16 +1,30 @@
-//! The lines of `who`: rights, and whom they are granted to.
+//! The rights that `who` is asked about, and its lines: rights, and whom they are granted to.
 ghost use Rattle.std.specs.Prelude.{◌≡◌, ◌++◌, IfOk, OnOk, List, codes, fold, string_bytes, take};
 ghost use Rattle.sd_text.specs.Canon.{full_canon};
 ghost use Rattle.sd_analysis.specs.declared.who_has.Alternative.{Alternative as AlternativeValue};
 ghost use Rattle.sd_answer.specs.Lines.{LineValue, joined, values};
-ghost use Rattle.sd_answer.specs.Who.{alternative_text, holder_text, sids_text, unless_text, who_text, with_access};
+ghost use Rattle.sd_answer.specs.Who.{alternative_text, holder_text, rights_asked, sids_text, unless_text, who_text};
+ghost use Rattle.sd_answer.specs.Who.{with_access};
 
 use crate::answer::Spelling;
 use crate::lines::{BitsLine, join, push_lines};
 use sd_analysis::{Access, Alternative, Holder};
-use sd_sid::{Mask, Sid};
+use sd_check::MAXIMUM_PLACE;
+use sd_sid::{GenericMapping, Mask, OBJECT_RIGHTS, Sid};
 use sd_text::print_full_sid;
 use std::alloc::{AllocError, Global};
+
+/// The rights that are asked about: those of the mask, generic ones mapped, or all of an object where it has
+/// MAXIMUM_ALLOWED ([MS-DTYP] 2.4.3).
+pub fn rights_asked(mapping: &GenericMapping, asked: Mask) -> Mask
+    ensures { result ≡ rights_asked mapping.now asked }
+{
+    if asked.holds(MAXIMUM_PLACE) {
+        OBJECT_RIGHTS
+    } else {
+        mapping.map(asked)
+    }
+}
 
 /// The lines of accesses, as `0x120000 to S-1-1-0 unless S-1-5-32-546`: rights with the same alternative are in one
 /// line, and the lines are in the order of their lowest rights. The only error is out of memory.
