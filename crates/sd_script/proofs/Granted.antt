@@ -8,9 +8,9 @@ use Rattle.sd_check.specs.Check.{dacl_entries}
 use Rattle.sd_check.specs.declared.token.GroupState.{GroupState}
 use Rattle.sd_analysis.specs.Who.{AllBeyond, HasEachOnce, IsMost, IsWho}
 use Rattle.sd_analysis.specs.declared.who_has.Access.{Access}
-use Rattle.sd_answer.specs.Who.{who_text}
+use Rattle.sd_answer.specs.Who.{rights_asked, who_text}
 use Rattle.sd_answer.specs.declared.answer.Spelling.{Spelling}
-use Rattle.sd_script.specs.Who.{IsWhoText, or_empty, rights_asked}
+use Rattle.sd_script.specs.Who.{IsWhoText, or_empty}
 
 -- what holds of a list, a base and rights holds of equal ones
 moved : (P : Option (List Ace) → List (SidValue × GroupState) → ℕ → Type 0) (es fs : Option (List Ace)) (a b : List (SidValue × GroupState)) (r s : ℕ)

@@ -1,7 +1,6 @@
 -- What `who` prints of a node: whom its descriptor grants which rights, of all tokens that have a base.
 use Rattle.std.specs.Prelude.{◌≡◌, ℕ, ◌==◌, List, length, Option, Some, None, if◌then◌else◌, codes}
-use Rattle.sd_sid.specs.Mapping.{MappingValue, mapped}
-use Rattle.sd_sid.specs.Mask.{holds}
+use Rattle.sd_sid.specs.Mapping.{MappingValue}
 use Rattle.sd_sid.specs.Sid.{SidValue}
 use Rattle.sd_acl.specs.Descriptor.{DescriptorValue}
 use Rattle.sd_check.specs.Check.{dacl_entries}
@@ -9,12 +8,8 @@ use Rattle.sd_check.specs.declared.token.GroupState.{GroupState}
 use Rattle.sd_analysis.specs.Who.{AllBeyond, HasEachOnce, IsMost, IsWho}
 use Rattle.sd_analysis.specs.declared.who_has.Access.{Access}
 use Rattle.sd_answer.specs.Answer.{line}
-use Rattle.sd_answer.specs.Who.{who_text}
+use Rattle.sd_answer.specs.Who.{rights_asked, who_text}
 use Rattle.sd_answer.specs.declared.answer.Spelling.{Spelling}
-
--- the rights that are asked about: those of the mask, generic ones mapped; with MAXIMUM_ALLOWED, place 25, all
-abbrev pub rights_asked : MappingValue → ℕ → ℕ
-rights_asked g asked = if holds asked 25 then 0x001FFFFF else mapped g asked
 
 -- where no right is asked about, the answer says so: none is an empty line alone
 abbrev pub or_empty : List ℕ → List ℕ

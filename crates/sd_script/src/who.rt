@@ -3,15 +3,14 @@ ghost use Rattle.std.specs.Prelude.{◌≡◌, IfOk, Some, string_bytes};
 ghost use Rattle.sd_acl.specs.Descriptor.{descriptor_of};
 ghost use Rattle.sd_tree.specs.Answers.{descriptor_at};
 ghost use Rattle.sd_tree.specs.Journal.{replay};
-ghost use Rattle.sd_script.specs.Who.{IsWhoText, or_empty, rights_asked};
+ghost use Rattle.sd_script.specs.Who.{IsWhoText, or_empty};
 
 use crate::view::Groups;
 use sd_acl::Descriptor;
 use sd_analysis::{Base, who};
-use sd_answer::{Spelling, who_text};
-use sd_check::MAXIMUM_PLACE;
+use sd_answer::{Spelling, rights_asked, who_text};
 use sd_review::borrowed;
-use sd_sid::{GenericMapping, Mask, OBJECT_RIGHTS};
+use sd_sid::{GenericMapping, Mask};
 use sd_tree::{Path, Tree};
 use std::alloc::{AllocError, Global};
 
@@ -68,16 +67,5 @@ fn or_empty(alloc: Global, text: String) -> Result<String, AllocError>
         String::from_str(alloc, "empty\n")
     } else {
         Ok(text)
-    }
-}
-
-/// The rights that are asked about: those of the mask, or all where it has MAXIMUM_ALLOWED ([MS-DTYP] 2.4.3).
-fn rights_asked(mapping: &GenericMapping, asked: Mask) -> Mask
-    ensures { result ≡ rights_asked mapping.now asked }
-{
-    if asked.holds(MAXIMUM_PLACE) {
-        OBJECT_RIGHTS
-    } else {
-        mapping.map(asked)
     }
 }
