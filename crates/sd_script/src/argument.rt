@@ -18,7 +18,7 @@ use sd_tree::{Entries, NodeDacl, RootSpec};
 use std::alloc::{AllocError, Global};
 
 /// A run of decimal digits with a value below 2^64.
-pub(crate) fn number_in(word: &str) -> Result<u64, LineFault>
+pub fn number_in(word: &str) -> Result<u64, LineFault>
     ensures { number word.now result }
 {
     if word.starts_with('+') {

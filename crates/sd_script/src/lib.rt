@@ -44,6 +44,7 @@ mod tally;
 mod view;
 mod who;
 
+pub use argument::number_in;
 pub use asked::Asked;
 pub use carried::Carried;
 pub use expect::{LastAnswer, expects};
