@@ -5,7 +5,6 @@ pub mod Deleted
 pub mod DeletedAsChecked
 pub mod Dumping
 pub mod Found
-pub mod Granted
 pub mod NoId
 pub mod OneOutput
 pub mod OneReading
