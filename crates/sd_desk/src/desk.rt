@@ -1,14 +1,14 @@
 //! The machine of one thread.
 
 ghost use Rattle.std.specs.Prelude.{◌≡◌, ◌≢◌, ◌<◌, None, IfOk, IfErr, length};
-ghost use Rattle.sd_tree.specs.Journal.{opening_of, root_refusal, IsLawful};
+ghost use Rattle.sd_tree.specs.Journal.{opening_of, opening_within, root_refusal, IsLawful};
 ghost use Rattle.sd_desk.specs.Machine.{Steps, Runs, started, accepted, with_look};
 ghost use Rattle.sd_versions.specs.Starts.{IsReaderCount, IsStartError};
 
 use crate::request::{Reply, Request};
 use sd_check::Token;
 use sd_sid::{GenericMapping, Mask};
-use sd_tree::{Edit, Journal, Path, RootSpec, Tree, TreeError};
+use sd_tree::{Edit, Journal, Limits, Path, RootSpec, Tree, TreeError};
 use sd_versions::{Answer, MAX_READERS, StartError, Versions};
 use std::alloc::{AllocError, Global};
 use std::marker::Model;
@@ -50,12 +50,30 @@ impl Desk {
             (root_refusal (opening_of mapping.now root.now) ≡ None)) }
         ensures refused { IfErr result (λ e. IsStartError e readers (root_refusal (opening_of mapping.now root.now))) }
     {
+        Desk::start_within(alloc, mapping, root, Limits::standard(), readers)
+    }
+
+    /// The same, of a desk whose tree is within these limits.
+    pub fn start_within(
+        alloc: Global,
+        mapping: &GenericMapping,
+        root: &RootSpec,
+        limits: Limits,
+        readers: u64,
+    ) -> Result<Desk, StartError>
+        ensures started { IfOk result
+            (λ desk. desk ≡ started (opening_within mapping.now root.now limits) readers) }
+        ensures accepted { IfOk result (λ _. IsReaderCount readers ×
+            (root_refusal (opening_within mapping.now root.now limits) ≡ None)) }
+        ensures refused { IfErr result
+            (λ e. IsStartError e readers (root_refusal (opening_within mapping.now root.now limits))) }
+    {
         if readers < 1 || MAX_READERS < readers {
             return Err(StartError::Readers);
         }
         Ok(Desk {
             alloc,
-            tree: Versions::opening(alloc, mapping, root)?,
+            tree: Versions::opening(alloc, mapping, root, limits)?,
             floors: vec![in alloc; 0; readers as usize]?,
         })
     }

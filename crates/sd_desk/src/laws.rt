@@ -9,7 +9,7 @@ pub fn runs_are_sound()
     ensures { RunsAreSound }
 {}
 
-/// No request changes the mapping or the root that a desk started with.
+/// No request changes the mapping, the root or the limits that a desk started with.
 pub fn opening_stays()
     ensures { OpeningStays }
 {}

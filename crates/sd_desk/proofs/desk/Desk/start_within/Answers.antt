@@ -1,5 +1,5 @@
 use Rattle.sd_desk.proofs.Keeping.{started_is}
-use Rattle.sd_desk.proofs.desk.Desk.start.Goals as goal
+use Rattle.sd_desk.proofs.desk.Desk.start_within.Goals as goal
 
 pub returns-clause-started : goal.returns-clause-started
 returns-clause-started c =
