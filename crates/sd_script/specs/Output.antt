@@ -2,7 +2,8 @@
 use Rattle.std.specs.Prelude.{◌≡◌, ◌⊎◌, ℕ, Bool, true, false, List, [], ◌∷◌, ◌++◌, Option, Some, None, Ok, Err}
 use Rattle.std.specs.Prelude.{MatchBool, if◌then◌else◌, codes}
 use Rattle.std.specs.Str.Lines.{lines}
-use Rattle.sd_tree.specs.Journal.{opening_of, root_refusal}
+use Rattle.sd_tree.specs.Journal.{opening_within, root_refusal}
+use Rattle.sd_tree.specs.declared.opening.Opening.{Opening}
 use Rattle.sd_tree.specs.declared.opening.RootSpec.{RootSpec}
 use Rattle.sd_desk.specs.Machine.{Machine, Steps, started}
 use Rattle.sd_versions.specs.Starts.{IsReaderCount, IsStartError}
@@ -40,7 +41,12 @@ is_open (Opened notation m) = true
 -- in which manner a store is opened, or is open
 abbrev pub manner_of : Session → Manner
 manner_of (Closed manner) = manner
-manner_of (Opened notation m) = record { mapping = m.opening.mapping; notation = notation }
+manner_of (Opened notation m) =
+    record { mapping = m.opening.mapping; limits = m.opening.limits; notation = notation }
+
+-- what a store with this root begins with that is opened in this manner
+abbrev pub opening_in : Manner → RootSpec → Opening
+opening_in manner root = opening_within manner.mapping root manner.limits
 
 -- what a line asks for where this stands
 abbrev pub line_asks_in : Session → List ℕ → Reading Asked
@@ -49,10 +55,10 @@ line_asks_in s line = line_asks (manner_of s).notation (is_open s) line
 -- a store with this root is opened in this manner for so many readers, or refused; after a refusal none is open
 abbrev pub IsOpened : Manner → ℕ → RootSpec → List ℕ → Session → Type 0
 IsOpened manner readers root printed new =
-    (IsReaderCount readers × (root_refusal (opening_of manner.mapping root) ≡ None)
+    (IsReaderCount readers × (root_refusal (opening_in manner root) ≡ None)
     × (printed ≡ counted_line (codes "opened") readers)
-    × (new ≡ Opened manner.notation (started (opening_of manner.mapping root) readers)))
-    ⊎ ((error : StartError) × IsStartError error readers (root_refusal (opening_of manner.mapping root))
+    × (new ≡ Opened manner.notation (started (opening_in manner root) readers)))
+    ⊎ ((error : StartError) × IsStartError error readers (root_refusal (opening_in manner root))
     × (start_error_line error ≡ Some printed) × (new ≡ Closed manner))
 
 -- what is asked of a store that is open is done: what is printed, and what stands then
@@ -117,8 +123,8 @@ pub record IsNext (old : Carried) (line printed : List ℕ) (new : Carried) : Ty
 -- what is asked is done, whatever is printed. No line asks to open a store where one is open
 abbrev pub IsMade : Session → Asked → Session → Type 0
 IsMade old (Opens readers root) new =
-    (IsReaderCount readers × (root_refusal (opening_of (manner_of old).mapping root) ≡ None)
-    × (new ≡ Opened (manner_of old).notation (started (opening_of (manner_of old).mapping root) readers)))
+    (IsReaderCount readers × (root_refusal (opening_in (manner_of old) root) ≡ None)
+    × (new ≡ Opened (manner_of old).notation (started (opening_in (manner_of old) root) readers)))
     ⊎ (new ≡ Closed (manner_of old))
 IsMade (Opened notation old) (Asking request) new =
     (reply : Reply) × (machine : Machine) × Steps old request reply machine × (new ≡ Opened notation machine)

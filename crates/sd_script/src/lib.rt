@@ -8,7 +8,8 @@
 //! ```text
 //! let text = b"open 1 O:BAG:SYD:\naddo /a O:BAG:SYD:(A;;FR;;;SY)\npublish\ncheck 0 /a SY 0x1\n";
 //! let (mut reader, mut writer) = (Watched::new(text.as_slice()), Watched::new(Vec::new(alloc)));
-//! let manner = Manner { mapping: GenericMapping::file(), notation: Notation::plain(PathSpelling::Plain) };
+//! let (mapping, limits) = (GenericMapping::file(), Limits::standard());
+//! let manner = Manner { mapping, limits, notation: Notation::plain(PathSpelling::Plain) };
 //! let tally = run(alloc, &manner, &mut reader, &mut writer)?;
 //! // the writer holds "opened 1\nok\npublished 1\nseen 1 granted 0x1\n", and tally.first_fault is None
 //! ```

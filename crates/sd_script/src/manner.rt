@@ -7,12 +7,15 @@ use crate::paths::PathSpelling;
 use sd_answer::Spelling;
 use sd_sid::GenericMapping;
 use sd_text::Aliases;
+use sd_tree::Limits;
 
 /// How a script is carried out, whatever its lines say.
 #[derive(Clone, Copy, Debug)]
 pub struct Manner {
     /// How the store that it opens maps generic rights ([MS-DTYP] 2.4.3).
     pub mapping: GenericMapping,
+    /// The most nodes and edits of the store that it opens.
+    pub limits: Limits,
     /// How its lines are written.
     pub notation: Notation,
 }

@@ -150,7 +150,7 @@ fn open_store(
     ensures failed { OnErr result (IsMade session.old (Opening readers root.now) session.new) }
 {
     let manner = session.manner();
-    match Desk::start(alloc, &manner.mapping, root, readers) {
+    match Desk::start_within(alloc, &manner.mapping, root, manner.limits, readers) {
         Ok(desk) => {
             *session = Session::Opened(manner.notation, desk);
             counted_line(alloc, "opened", readers)

@@ -30,6 +30,7 @@ impl Session {
             Session::Closed(manner) => *manner,
             Session::Opened(notation, desk) => Manner {
                 mapping: *desk.published().mapping(),
+                limits: desk.published().limits(),
                 notation: *notation,
             },
         }
