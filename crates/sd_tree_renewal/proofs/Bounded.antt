@@ -120,20 +120,21 @@ shallow_replay o journal =
 -- ---- the nodes of a tree
 
 module _ (limits : LimitsValue) where
+  -- without the root, which is there whatever the limits are
   abbrev pub IsFew : PlainTree → Type 0
-  IsFew t = finite.len t ≤ limits.nodes
+  IsFew t = finite.len t - 1 ≤ limits.nodes - 1
 
-  not_full : (n : ℕ) → nat_le limits.nodes n ≡ false → n < limits.nodes
-  not_full n h = leb-false limits.nodes n h
+  not_full : (n : ℕ) → nat_le limits.nodes n ≡ false → n ≤ limits.nodes - 1
+  not_full n h = let less = leb-false limits.nodes n h in omega (arith, less)
 
-  few_more : (b : Bool) (m : ℕ) → m < limits.nodes → cond b m (m + 1) ≤ limits.nodes
+  few_more : (b : Bool) (m : ℕ) → m ≤ limits.nodes - 1 → cond b m (m + 1) - 1 ≤ limits.nodes - 1
   few_more true m h = omega (arith, h)
   few_more false m h = omega (arith, h)
 
-  few_inserted : (t : PlainTree) (path : Names) (row : Row) → finite.len t < limits.nodes → IsFew (finite.insert t path row)
-  few_inserted t path row lt = rw (len-insert names_cmp_total t path row) (few_more (finite.contains_key t path) (finite.len t) lt)
+  few_inserted : (t : PlainTree) (path : Names) (row : Row) → finite.len t ≤ limits.nodes - 1 → IsFew (finite.insert t path row)
+  few_inserted t path row le = rw (len-insert names_cmp_total t path row) (few_more (finite.contains_key t path) (finite.len t) le)
 
-  few_less : (b : Bool) (m : ℕ) → m ≤ limits.nodes → cond b (m - 1) m ≤ limits.nodes
+  few_less : (b : Bool) (m : ℕ) → m - 1 ≤ limits.nodes - 1 → cond b (m - 1) m - 1 ≤ limits.nodes - 1
   few_less true m h = omega (arith, h)
   few_less false m h = h
 
@@ -172,12 +173,12 @@ module _ (limits : LimitsValue) where
   few_edited g t count (ProtectKeeping path) fits before = few_changed t path (keeping (dacl_at g t path)) before
   few_edited g t count (Move source target) fits before = few_moved t source target before
 
-  few_opened : 0 < limits.nodes → (o : Opening) → IsFew (opened o)
-  few_opened root o = few_inserted finite.empty [] (root_row o.root) (let none = len-empty names_cmp Row in omega (arith, none, root))
+  few_opened : (o : Opening) → IsFew (opened o)
+  few_opened o = few_inserted finite.empty [] (root_row o.root) (let none = len-empty names_cmp Row in omega (arith, none))
 
-pub few_replay : (o : Opening) (journal : List Edit) → 0 < o.limits.nodes → IsLawful o journal → IsFew o.limits (replay o journal)
-few_replay o journal root =
-    holds_of_lawful o (IsFew o.limits) (few_opened o.limits root o)
+pub few_replay : (o : Opening) (journal : List Edit) → IsLawful o journal → IsFew o.limits (replay o journal)
+few_replay o journal =
+    holds_of_lawful o (IsFew o.limits) (few_opened o.limits o)
     (λ t count e before accepted. few_edited o.limits o.mapping t count e (not_refused o.limits o.mapping t count e accepted).1 before) journal
 
 -- all but the root take fewer additions than there may be nodes
@@ -185,7 +186,7 @@ pub few_additions : (o : Opening) (journal edits : List Edit) → 0 < o.limits.n
     → edits ≡ map addition (drop 1 (finite.entries (replay o journal))) → length edits < o.limits.nodes
 few_additions o journal edits root lawful is =
     let es = finite.entries (replay o journal) in
-    let few : finite.len (replay o journal) ≤ o.limits.nodes = few_replay o journal root lawful in
+    let few = few_replay o journal lawful in
     omega (arith, root, few, len-entries (replay o journal), ap length is, length-map (drop 1 es) addition, length-drop 1 es)
 
 -- ---- the bytes of a list

@@ -47,13 +47,13 @@ pub record IsWithinLimits (limits : LimitsValue) (g : MappingValue) (t : PlainTr
   pub few : IsFew limits t
   pub short : finite.len t ≤ limits.edits + 1
 
-within_limits : (o : Opening) (journal : List Edit) → 0 < o.limits.nodes → root_refusal o ≡ None → IsLawful o journal → IsWithinLimits o.limits o.mapping (replay o journal)
-within_limits o journal root fits lawful = record {
+within_limits : (o : Opening) (journal : List Edit) → root_refusal o ≡ None → IsLawful o journal → IsWithinLimits o.limits o.mapping (replay o journal)
+within_limits o journal fits lawful = record {
   closed = closed_replay o journal lawful;
   sound = sound_replay o journal fits lawful;
   small = small_replay o journal fits lawful;
   shallow = shallow_replay o journal lawful;
-  few = few_replay o journal root lawful;
+  few = few_replay o journal lawful;
   short = let most = journal_adds o journal in let fits = lawful_short o journal lawful in omega (arith, most, fits);
 }
 
@@ -177,12 +177,16 @@ next_accepted limits g t ok root xs e ys parts rooted n short =
     let count = ap (λ (zs : List Entry). length zs) parts in
     let most = few_entries xs in
     let size = len-entries t in
-    let few : finite.len u < limits.nodes = omega (arith, longer, count, most, size, ok.few) in
+    let few : finite.len u < limits.nodes = omega (arith, longer, count, most, size, some_entry root xs rooted, ok.few) in
     (refusal_by_parts limits g u n (addition e) None (early_addition u path row row.kind early) large (limits_addition limits u n path row row.kind (ok.shallow path row there) few short), made)
   where
     not_root : (path : Names) (root : Row) (xs : List Entry) → find names_cmp path xs ≡ None → find names_cmp [] xs ≡ Some root → is_root path ≡ false
     not_root [] root xs none found = absurd cc
     not_root (name ∷ path) root xs none found = refl
+
+    some_entry : (root : Row) (xs : List Entry) → find names_cmp [] xs ≡ Some root → 0 < length xs
+    some_entry root [] found = absurd cc
+    some_entry root (x ∷ xs) found = omega arith
 
 -- ---- all of them
 
@@ -261,6 +265,6 @@ shortest_makes limits g t ok spec edits is =
     inside a b e = cc
 
 -- the shortest opening and edits of a lawful journal's tree are accepted, and make it
-pub shortest_of_lawful : (o : Opening) (journal : List Edit) → 0 < o.limits.nodes → root_refusal o ≡ None → IsLawful o journal
+pub shortest_of_lawful : (o : Opening) (journal : List Edit) → root_refusal o ≡ None → IsLawful o journal
     → (spec : RootSpec) (edits : List Edit) → IsShortest (replay o journal) spec edits → Makes (opening_within o.mapping spec o.limits) edits (replay o journal)
-shortest_of_lawful o journal root fits lawful = shortest_makes o.limits o.mapping (replay o journal) (within_limits o journal root fits lawful)
+shortest_of_lawful o journal fits lawful = shortest_makes o.limits o.mapping (replay o journal) (within_limits o journal fits lawful)
