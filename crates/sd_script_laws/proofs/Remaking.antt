@@ -6,7 +6,7 @@ use Rattle.std.proofs.lemmas.List.{length-replicate}
 use Rattle.sd_sid.specs.Mapping.{MappingValue}
 use Rattle.sd_tree.specs.Names.{Names}
 use Rattle.sd_tree.specs.Plain.{row_at}
-use Rattle.sd_tree.specs.Journal.{opening_of, replay, refusal, root_refusal, IsLawful}
+use Rattle.sd_tree.specs.Journal.{replay, refusal, root_refusal, IsLawful}
 use Rattle.sd_tree.specs.declared.edit.Edit.{Edit}
 use Rattle.sd_tree.specs.declared.node.NodeKind.{NodeKind}
 use Rattle.sd_tree.specs.declared.node.NodeKind.TheVariants.{Container, Object}
@@ -22,7 +22,7 @@ use Rattle.sd_desk.specs.declared.request.Reply.TheVariants as replies
 use Rattle.sd_answer.specs.Answer.{line}
 use Rattle.sd_script.specs.Addition.{addition}
 use Rattle.sd_script.specs.Dump.{makings, root_of, dump_text, IsAskedBy, AreAskedBy, IsReadBack}
-use Rattle.sd_script.specs.Output.{is_open, manner_of, IsAnswered, IsDone, IsTold, closing_of}
+use Rattle.sd_script.specs.Output.{is_open, manner_of, opening_in, IsAnswered, IsDone, IsTold, closing_of}
 use Rattle.sd_script.specs.Reply.{counted_line}
 use Rattle.sd_script.specs.declared.asked.Asked.{Asked}
 use Rattle.sd_script.specs.declared.asked.Asked.TheVariants.{Opening as Opens, Asking}
@@ -114,17 +114,17 @@ module _ (notation : Notation) (o : Opening) (n : ℕ) where
 
 -- ---- the whole tree
 
-opens : (manner : Manner) (n : ℕ) (row : Row) → IsReaderCount n → root_refusal (opening_of manner.mapping (root_of row)) ≡ None
-    → IsDone (Closed manner) (Opens n (root_of row)) (counted_line (codes "opened") n) (Opened manner.notation (waiting (opening_of manner.mapping (root_of row)) n []))
+opens : (manner : Manner) (n : ℕ) (row : Row) → IsReaderCount n → root_refusal (opening_in manner (root_of row)) ≡ None
+    → IsDone (Closed manner) (Opens n (root_of row)) (counted_line (codes "opened") n) (Opened manner.notation (waiting (opening_in manner (root_of row)) n []))
 opens manner n row count fits = inl (count, fits, refl, refl)
 
 lines_reach : (manner : Manner) (n : ℕ) (row : Row) (nodes : List (Names × Row)) (texts : List (List ℕ)) → IsReaderCount n
-    → root_refusal (opening_of manner.mapping (root_of row)) ≡ None → IsLawful (opening_of manner.mapping (root_of row)) (map added nodes)
+    → root_refusal (opening_in manner (root_of row)) ≡ None → IsLawful (opening_in manner (root_of row)) (map added nodes)
     → AreAskedBy manner.notation false texts (makings n (([], row) ∷ nodes) ++ Asking requests.Publish ∷ [])
-    → Reaches (Closed manner) texts (Opened manner.notation (shown (opening_of manner.mapping (root_of row)) n (map added nodes)))
+    → Reaches (Closed manner) texts (Opened manner.notation (shown (opening_in manner (root_of row)) n (map added nodes)))
 lines_reach manner n row nodes [] count fits lawful are = absurd are
 lines_reach manner n row nodes (text ∷ texts) count fits lawful are =
-    let o = opening_of manner.mapping (root_of row) in
+    let o = opening_in manner (root_of row) in
     goes_on (Closed manner) (Opened manner.notation (waiting o n [])) (Opened manner.notation (shown o n (map added nodes))) text _ texts (Opens n (root_of row)) are.0 (opens manner n row count fits)
     (nodes_reach manner.notation o n [] nodes texts lawful are.1)
 
@@ -144,11 +144,10 @@ remade : (notation : Notation) (m : Machine) (text : List ℕ) → IsSound m →
 remade notation m text sound back =
     let t = replay m.opening m.published in
     let n = length m.floors in
-    let g = m.opening.mapping in
     let held = a_container (row_at t []) (closed_replay m.opening m.published sound.lawful).root in
     let row = held.0 in
     let first = first_entry t row held.1 in
-    let o = opening_of g (root_of row) in
+    let o = opening_in (same_manner notation m) (root_of row) in
     let edits = map added first.0 in
     let shortest : IsShortest t (spec_of row) edits = record {
       root_is = ap (λ (x : Option Row). option_map spec_of x) (sym held.1);
@@ -158,7 +157,7 @@ remade notation m text sound back =
     let are = subst (λ (es : List (Names × Row)). AreAskedBy notation false (lines text) (makings n es ++ Asking requests.Publish ∷ [])) (sym first.1) back in
     let reach = lines_reach (same_manner notation m) n row first.0 (lines text) sound.readers makes.accepted makes.lawful are in (
       shown o n edits,
-      record { mapping = refl; tree = makes.made; nothing_waits = refl; readers = length-replicate n [] },
+      record { mapping = refl; limits = refl; tree = makes.made; nothing_waits = refl; readers = length-replicate n [] },
       reach,
       λ other reaches. one_end (Closed (same_manner notation m)) (lines text) other (Opened notation (shown o n edits)) reaches reach,
     )

@@ -27,16 +27,17 @@ pub record IsSound (m : Machine) : Type 0 where
   pub accepted : root_refusal m.opening ≡ None
   pub lawful : IsLawful m.opening m.published
 
--- a store with the same published tree, for as many readers, without pending edits
+-- a store with the same published tree, within the same limits, for as many readers, without pending edits
 pub record IsSameAgain (m again : Machine) : Type 0 where
   pub mapping : again.opening.mapping ≡ m.opening.mapping
+  pub limits : again.opening.limits ≡ m.opening.limits
   pub tree : replay again.opening again.published ≡ replay m.opening m.published
   pub nothing_waits : again.pending ≡ []
   pub readers : length again.floors ≡ length m.floors
 
--- no store is open yet, and lines are written as in the dump
+-- no store is open yet. One that is opened has the same mapping and limits, and lines are written as in the dump
 abbrev pub same_manner : Notation → Machine → Manner
-same_manner notation m = record { mapping = m.opening.mapping; notation = notation }
+same_manner notation m = record { mapping = m.opening.mapping; limits = m.opening.limits; notation = notation }
 
 -- unless the fault is what is printed
 abbrev pub DumpMakesTheTreeAgain : Type 0
