@@ -5,17 +5,20 @@
 mod audits;
 mod decoder;
 mod each;
+mod limits;
 mod serving;
 mod streams;
 mod trees;
 
 use sd_script::{Manner, Notation, PathSpelling};
 use sd_sid::GenericMapping;
+use sd_tree::Limits;
 
-/// With the generic rights of files, and lines as they are.
+/// With the generic rights of files, the standard limits, and lines as they are.
 fn plain() -> Manner {
     Manner {
         mapping: GenericMapping::file(),
+        limits: Limits::standard(),
         notation: Notation::plain(PathSpelling::Plain),
     }
 }

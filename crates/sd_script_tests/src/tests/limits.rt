@@ -1,0 +1,37 @@
+//! What a store within limits answers.
+use super::plain;
+use sd_script::{Carried, Manner, answer_line};
+use sd_tree::Limits;
+use std::process::Abort;
+
+/// Lines, each with its answer, of a store of at most 2 nodes and 2 edits.
+const ANSWERED: [(&str, &str); 6] = [
+    ("open 1 O:BAG:SYD:", "opened 1\n"),
+    ("addo /a O:BAG:SYD:", "ok\n"),
+    ("addo /b O:BAG:SYD:", "refused 11 NodesFull\n"),
+    ("remove /a", "ok\n"),
+    ("addo /b O:BAG:SYD:", "refused 12 JournalFull\n"),
+    ("publish", "published 2\n"),
+];
+
+/// Stops the test unless the line is answered so.
+fn answers(rt: &(impl Abort + AllocGlobal), carried: &mut Carried, line: &str, wanted: &str) {
+    let told = answer_line(rt.alloc(), carried, line.as_bytes()).expect(rt, "memory");
+    assert_eq!(rt; told.as_str(), wanted, "{line}");
+}
+
+#[test]
+fn a_store_grows_within_its_limits(rt: HostRuntime) {
+    let Manner {
+        mapping, notation, ..
+    } = plain();
+    let manner = Manner {
+        mapping,
+        limits: Limits::new(2, 2).expect(&rt, "limits"),
+        notation,
+    };
+    let mut carried = Carried::begun(&manner);
+    for (line, wanted) in ANSWERED {
+        answers(&rt, &mut carried, line, wanted);
+    }
+}
