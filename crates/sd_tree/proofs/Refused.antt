@@ -3,11 +3,18 @@ use Rattle.std.proofs.Common.{◌≡◌, ℕ, Bool, true, false, cond, List, [],
 use Rattle.std.specs.List.{AllByRecursion}
 use Rattle.std.specs.Option.{option_or}
 use Rattle.sd_sid.specs.Mapping.{MappingValue}
+use Rattle.sd_tree.specs.Answers.{IsError}
 use Rattle.sd_tree.specs.Limits.{LimitsValue}
 use Rattle.sd_tree.specs.Plain.{PlainTree}
-use Rattle.sd_tree.specs.Refusals.{first_fit, early_refusal, late_refusal, refusal_in}
+use Rattle.sd_tree.specs.Plans.{IsLateError}
+use Rattle.sd_tree.specs.Refusals.{first_fit, early_refusal, late_refusal, refusal_in, late_tests, is_early}
+use Rattle.sd_tree.specs.Refusals.{is_without_memory}
 use Rattle.sd_tree.specs.declared.edit.Edit.{Edit}
+use Rattle.sd_tree.specs.declared.edit.Edit.TheVariants.{AddContainer, AddObject, SetOwner, SetGroup, SetDacl, Remove}
+use Rattle.sd_tree.specs.declared.edit.Edit.TheVariants.{ProtectKeeping, Move}
 use Rattle.sd_tree.specs.declared.refusal.EditRefusal.{EditRefusal}
+use Rattle.sd_tree.specs.declared.refusal.TreeError.{TreeError}
+use Rattle.sd_tree.specs.declared.refusal.TreeError.TheVariants.{Refused, Memory}
 
 passed : (b : Bool) (x : EditRefusal) (rest : Option EditRefusal) → cond b (Some x) rest ≡ None → (b ≡ false) × (rest ≡ None)
 passed true x rest e = absurd cc
@@ -42,3 +49,31 @@ fits_later [] ys e = refl
 fits_later (x ∷ xs) ys e =
     let parts = passed x.0 x.1 (first_fit xs) e in
     ap (λ b. cond b (Some x.1) (first_fit (xs ++ ys))) parts.0 ∙ fits_later xs ys parts.1
+
+-- no test that may take memory has a refusal that is found without
+late_refused : (tests : List (Bool × EditRefusal)) → AllByRecursion (λ test. is_without_memory test.1 ≡ false) tests → is_early (first_fit tests) ≡ false
+late_refused [] h = refl
+late_refused (test ∷ tests) h = by_test test.0 h.0 (late_refused tests h.1)
+  where
+    by_test : (b : Bool) → is_without_memory test.1 ≡ false → is_early (first_fit tests) ≡ false → is_early (cond b (Some test.1) (first_fit tests)) ≡ false
+    by_test true h rest = h
+    by_test false h rest = rest
+
+are_late : (l : LimitsValue) (g : MappingValue) (t : PlainTree) (n : ℕ) (e : Edit)
+    → AllByRecursion (λ test. is_without_memory test.1 ≡ false) (late_tests l g t n e)
+are_late l g t n (AddContainer path owner group dacl) = (refl, (refl, (refl, (refl, tt))))
+are_late l g t n (AddObject path owner group dacl) = (refl, (refl, (refl, (refl, tt))))
+are_late l g t n (SetOwner path owner) = (refl, (refl, tt))
+are_late l g t n (SetGroup path group) = (refl, (refl, tt))
+are_late l g t n (SetDacl path dacl) = (refl, (refl, tt))
+are_late l g t n (Remove path) = (refl, (refl, tt))
+are_late l g t n (ProtectKeeping path) = (refl, (refl, tt))
+are_late l g t n (Move source target) = (refl, (refl, (refl, tt)))
+
+-- the error of a plan, where no test without memory refuses
+pub late_error : (l : LimitsValue) (g : MappingValue) (t : PlainTree) (n : ℕ) (e : Edit) (x : TreeError)
+    → early_refusal t e ≡ None → IsLateError g t e x → IsError x (refusal_in l g t n e)
+late_error l g t n e (Refused r) early h = ap (λ o. option_or o (late_refusal l g t n e)) early ∙ h l n
+late_error l g t n e Memory early h =
+    ap (λ o. is_early (option_or o (late_refusal l g t n e))) early
+    ∙ late_refused (late_tests l g t n e) (are_late l g t n e)

@@ -48,19 +48,19 @@ standing_from_stored o journal bs s = record {
 same_refusal : (o : Opening) (journal : List Edit) (l : LimitsValue) (g : MappingValue) (t : PlainTree) (n : ℕ) (e : Edit) → l ≡ o.limits → g ≡ o.mapping → t ≡ replay o journal → n ≡ length journal → refusal_in l g t n e ≡ refusal o journal e
 same_refusal o journal l g t n e same-l same-g same-t same-n = λ i. refusal_in (same-l i) (same-g i) (same-t i) (same-n i) e
 
-pub planned_of_tree : (o : Opening) (journal : List Edit) (l : LimitsValue) (g : MappingValue) (t : PlainTree) (n : ℕ) (e : Edit) (r : Result Plan TreeError)
+pub planned_of_tree : (o : Opening) (journal : List Edit) (l : LimitsValue) (g : MappingValue) (t : PlainTree) (n : ℕ) (e : Edit) (r : Result (Edit × Plan) TreeError)
     → l ≡ o.limits → g ≡ o.mapping → t ≡ replay o journal → n ≡ length journal
-    → IfOk r (IsPlan g t (edited g t e)) → IfOk r (λ _. refusal_in l g t n e ≡ None) → IfOk r (IsPlanned o journal e)
+    → IfOk r (λ p. IsPlan g t (edited g t e) p.1) → IfOk r (λ _. refusal_in l g t n e ≡ None) → IfOk r (λ p. IsPlanned o journal e p.1)
 planned_of_tree o journal l g t n e (Err x) same-l same-g same-t same-n plan accepted = tt
 planned_of_tree o journal l g t n e (Ok p) same-l same-g same-t same-n plan accepted = record {
   accepted = sym (same_refusal o journal l g t n e same-l same-g same-t same-n) ∙ accepted;
   planned =
-      let P : MappingValue → Type 0 = λ h. IsPlan h t (edited h t e) p in
-      let Q : PlainTree → Type 0 = λ u. IsPlan o.mapping u (edited o.mapping u e) p in
+      let P : MappingValue → Type 0 = λ h. IsPlan h t (edited h t e) p.1 in
+      let Q : PlainTree → Type 0 = λ u. IsPlan o.mapping u (edited o.mapping u e) p.1 in
       subst Q same-t (subst P same-g plan);
 }
 
-pub refused_of_tree : (o : Opening) (journal : List Edit) (l : LimitsValue) (g : MappingValue) (t : PlainTree) (n : ℕ) (e : Edit) (r : Result Plan TreeError)
+pub refused_of_tree : (o : Opening) (journal : List Edit) (l : LimitsValue) (g : MappingValue) (t : PlainTree) (n : ℕ) (e : Edit) (r : Result (Edit × Plan) TreeError)
     → l ≡ o.limits → g ≡ o.mapping → t ≡ replay o journal → n ≡ length journal
     → IfErr r (λ x. IsError x (refusal_in l g t n e)) → IfErr r (λ x. IsError x (refusal o journal e))
 refused_of_tree o journal l g t n e r same-l same-g same-t same-n h =

@@ -1,7 +1,7 @@
 -- A node that hands on what it did changes the DACL of no other node; so another owner or group of it changes none.
 use Rattle.std.proofs.Common.{◌≡◌, ◌≢◌, ℕ, Bool, true, false, cond, List, [], ◌∷◌, ◌++◌, length, Option, Some, None, option_map, refl, sym, ◌∙◌, ap, ap₂, inl, inr, append-nil, length-append, arith}
 use Rattle.std.specs.List.{flat_map}
-use Rattle.std.proofs.lemmas.Bool.{cases_Bool}
+use Rattle.std.proofs.lemmas.Bool.{cases_Bool, false≢true}
 use Rattle.std.proofs.lemmas.Grind.{flat_map-append}
 use Rattle.sd_sid.specs.Mapping.{MappingValue}
 use Rattle.sd_sid.specs.Sid.{SidValue}
@@ -11,8 +11,10 @@ use Rattle.sd_path.proofs.Paths.{within_rest}
 use Rattle.sd_path.proofs.PathBytes.{length-up}
 use Rattle.sd_tree.specs.Inheritance.{object_inherit, container_inherit, no_propagate, effective_copy, waiting_copy, whole_copy, is_split, pass_on, handed_on, dacl_under, dacl_of_row}
 use Rattle.sd_tree.specs.Plain.{PlainTree, row_at, dacl_at, dacl_here, dacl_below}
+use Rattle.sd_tree.specs.Closed.{IsClosed}
 use Rattle.sd_tree.specs.Edits.{changed}
 use Rattle.sd_tree.specs.Plans.{changed_row, is_of_trustee, ChangesOneNode}
+use Rattle.sd_tree.specs.Refusals.{has_child}
 use Rattle.sd_tree.specs.declared.node.Row.{Row}
 use Rattle.sd_tree.specs.declared.node.RowChange.{RowChange}
 use Rattle.sd_tree.specs.declared.node.RowChange.TheVariants.{Owner, Group, Dacl}
@@ -20,6 +22,7 @@ use Rattle.sd_tree.specs.declared.node.NodeKind.{NodeKind}
 use Rattle.sd_tree.specs.declared.node.NodeKind.TheVariants.{Container, Object}
 use Rattle.sd_tree.specs.declared.node.NodeDacl.{NodeDacl}
 use Rattle.sd_tree.specs.declared.node.NodeDacl.TheVariants.{Null, List as Entries}
+use Rattle.sd_tree.proofs.Adding.{nothing_below_childless}
 use Rattle.sd_tree.proofs.Rows.{row_at-changed_same, row_at-changed_other}
 use Rattle.sd_tree.proofs.Dacls.{dacl_at_here, dacl_over, dacl_at-append, below_alike, dacl_at_outside}
 use Rattle.sd_tree.proofs.HandedOn.{effective_hands_nothing, once}
@@ -162,6 +165,22 @@ trustee_stays g t path (Owner owner) h q ne =
 trustee_stays g t path (Group group) h q ne =
     others_stay g t path (changed_row (Group group)) (λ row r above. row_alike g r row.kind row.owner group row.owner row.group row.dacl above) q ne
 trustee_stays g t path (Dacl dacl) h q ne = absurd cc
+
+-- nothing below a node without children is there to change
+pub childless_stays : (g : MappingValue) (t : PlainTree) → IsClosed t → (path : Names) (change : Row → Row) → has_child t path ≡ false → ChangesOneNode g t (changed t path change) path
+childless_stays g t closed path change none q ne = elim (cases_Bool (is_within path q)) [
+  | inl within ↦ empty_stays (row_at t q) refl within
+  | inr outside ↦ dacl_at_outside g u t path q (λ p other. row_at-changed_other t path p change other) outside
+]
+  where
+    u : PlainTree
+    u = changed t path change
+
+    empty_stays : (o : Option Row) → row_at t q ≡ o → is_within path q ≡ true → dacl_at g u q ≡ dacl_at g t q
+    empty_stays None nothing within =
+        dacl_at_here g u q ∙ ap (λ o. dacl_here g o (dacl_over g u q)) (row_at-changed_other t path q change ne ∙ nothing)
+        ∙ sym (dacl_at_here g t q ∙ ap (λ o. dacl_here g o (dacl_over g t q)) nothing)
+    empty_stays (Some row) there within = absurd (false≢true (sym (nothing_below_childless t closed path q row none there ne) ∙ within))
 
 pub same_row_stays : (g : MappingValue) (t : PlainTree) (path : Names) → ChangesOneNode g t (changed t path (λ row. row)) path
 same_row_stays g t path q ne = others_stay g t path (λ row. row) (λ row r above. refl) q ne

@@ -6,7 +6,7 @@ ghost use Rattle.sd_tree.specs.Sharing.{names_creator, trustees_matter, AreAlike
 ghost use Rattle.sd_tree.specs.Whole.{inherits};
 
 use crate::inherit::{is_creator_group, is_creator_owner};
-use crate::node::{Node, NodeDacl, Row};
+use crate::node::{Node, NodeDacl, RowRef};
 use sd_acl::Ace;
 
 /// Whether a node with this DACL inherits: it is neither null nor protected.
@@ -38,13 +38,13 @@ pub(crate) fn trustees_matter(above: &Node) -> bool
 
 /// Whether both rows inherit, and nothing tells them apart in what they do; `true` only where nothing does. Owner and
 /// group are compared where the caller says so.
-pub(crate) fn are_alike(one: &Row, other: &Row, by_trustees: bool) -> bool
+pub(crate) fn are_alike(one: &RowRef<'_>, other: &RowRef<'_>, by_trustees: bool) -> bool
     ensures { result ≡ true → AreAlike one.now other.now by_trustees }
 {
-    if one.kind != other.kind || !inherits(&one.dacl) || !inherits(&other.dacl) {
+    if one.kind != other.kind || !inherits(one.dacl) || !inherits(other.dacl) {
         return false;
     }
-    !by_trustees || (one.owner.is(&other.owner) && one.group.is(&other.group))
+    !by_trustees || (one.owner.is(other.owner) && one.group.is(other.group))
 }
 
 /// Whether both nodes have one DACL, entry by entry, own ones and inherited ones; `true` only where they have.

@@ -6,7 +6,7 @@ ghost use Rattle.sd_acl.specs.Descriptor.{descriptor_of};
 ghost use Rattle.sd_tree.specs.Descriptors.{is_protected, descriptor_of_row, own_descriptor_of_row, own_list};
 ghost use Rattle.sd_tree.specs.Refusals.{own_entries};
 
-use crate::node::{Node, NodeDacl, Row};
+use crate::node::{Node, NodeDacl, RowRef};
 use sd_acl::{Ace, AceList, Dacl, Descriptor};
 use std::alloc::{AllocError, Global};
 
@@ -17,11 +17,11 @@ pub(crate) fn descriptor_of_node(alloc: Global, node: &Node) -> Result<Descripto
     let row = node.row();
     let (dacl, protected, auto_inherited) = match node.whole(alloc)? {
         None => (Dacl::Null, false, false),
-        Some(entries) => (Dacl::List(list_of(entries)), is_protected(&row.dacl), true),
+        Some(entries) => (Dacl::List(list_of(entries)), is_protected(row.dacl), true),
     };
     Ok(Descriptor {
-        owner: Some(row.owner),
-        group: Some(row.group),
+        owner: Some(*row.owner),
+        group: Some(*row.group),
         dacl,
         protected,
         auto_req: false,
@@ -41,15 +41,18 @@ fn list_of(entries: Vec<Ace>) -> AceList
 }
 
 /// The descriptor that was given to a node: without what it inherits.
-pub(crate) fn own_descriptor_of_row(alloc: Global, row: &Row) -> Result<Descriptor, AllocError>
+pub(crate) fn own_descriptor_of_row(
+    alloc: Global,
+    row: &RowRef<'_>,
+) -> Result<Descriptor, AllocError>
     requires { acl_size_of (own_entries row.now.dacl) ≤ 65535 }
     ensures { IfOk result (λ descriptor. descriptor_of descriptor ≡ own_descriptor_of_row row.now) }
 {
     Ok(Descriptor {
-        owner: Some(row.owner),
-        group: Some(row.group),
-        dacl: own_list(alloc, &row.dacl)?,
-        protected: is_protected(&row.dacl),
+        owner: Some(*row.owner),
+        group: Some(*row.group),
+        dacl: own_list(alloc, row.dacl)?,
+        protected: is_protected(row.dacl),
         auto_req: false,
         auto_inherited: false,
     })

@@ -1,8 +1,10 @@
 //! Edits of a tree.
 
 ghost use Rattle.std.specs.Prelude.{◌≡◌, IfOk};
+ghost use Rattle.sd_tree.specs.View.{proposed};
 
 use crate::node::NodeDacl;
+use crate::shared::Shared;
 use sd_path::Path;
 use sd_sid::Sid;
 use std::alloc::{AllocError, Global};
@@ -105,6 +107,37 @@ impl Edit {
                 source: source.copy(alloc)?,
                 target: target.copy(alloc)?,
             }),
+        }
+    }
+}
+
+/// An edit that a tree is to accept.
+#[derive(Clone, Copy)]
+pub(crate) enum ProposedEdit<'a> {
+    /// One that the tree copies.
+    Borrowed(&'a Edit),
+    /// One that the tree shares.
+    Kept(&'a Shared<Edit>),
+}
+
+impl ProposedEdit<'_> {
+    /// The edit.
+    pub(crate) fn get(&self) -> &Edit
+        ensures { result.now ≡ proposed self.now }
+    {
+        match self {
+            ProposedEdit::Borrowed(edit) => edit,
+            ProposedEdit::Kept(edit) => edit.get(),
+        }
+    }
+
+    /// The edit, for the journal.
+    pub(crate) fn share(&self, alloc: Global) -> Result<Shared<Edit>, AllocError>
+        ensures { IfOk result (λ edit. edit ≡ proposed self.now) }
+    {
+        match self {
+            ProposedEdit::Borrowed(edit) => Shared::new(alloc, edit.copy(alloc)?),
+            ProposedEdit::Kept(edit) => edit.share(),
         }
     }
 }

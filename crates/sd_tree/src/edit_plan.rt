@@ -12,40 +12,40 @@ ghost use Rattle.sd_tree.specs.Stored.{path_of_node, IsNodeAt};
 ghost use Rattle.sd_tree.specs.View.{IsView, tree_in};
 ghost use Rattle.sd_tree.specs.Plans.{IsPlan, IsLargeError, IsLateError, ChangesOneNode, changed_row};
 
+use crate::addition::Addition;
 use crate::edit::Edit;
 use crate::keep::kept_dacl;
-use crate::node::{Node, NodeDacl, NodeKind, Row, RowChange};
+use crate::node::{Node, Row, RowChange};
 use crate::nodes::locate;
 use crate::plan::Plan;
 use crate::refusal::TreeError;
 use crate::shared::Shared;
 use crate::tree_view::TreeView;
 use sd_path::Path;
-use sd_sid::Sid;
 
 impl TreeView<'_> {
     /// The plan for one more node, where none stands.
-    fn insertion_plan(&self, path: &Path, row: Row) -> Result<Plan, TreeError>
+    fn insertion_plan(&self, addition: Addition) -> Result<Plan, TreeError>
         requires standing { IsView self.now }
-        requires addable { IsAddable (tree_in self.now) path.now }
+        requires addable { IsAddable (tree_in self.now) addition.path }
         ensures plan { IfOk result (IsPlan self.now.mapping.now (tree_in self.now)
-            (insert (tree_in self.now) path.now row)) }
-        ensures refused { IfErr result (IsLargeError self.now.mapping.now (insert (tree_in self.now) path.now row)) }
+            (insert (tree_in self.now) addition.path addition.row)) }
+        ensures refused { IfErr result (IsLargeError self.now.mapping.now
+            (insert (tree_in self.now) addition.path addition.row)) }
     {
-        match locate(self.nodes, &path.as_path_ref()) {
+        let path = addition.path().as_path_ref();
+        match locate(self.nodes, &path) {
             Ok(_) => unreachable!(),
             Err(at) => {
-                let inherited = self.inherited_at(&path.as_path_ref(), at, &row)?;
-                let path = path.copy(self.alloc)?;
-                let row = Shared::new(self.alloc, row)?;
-                let node = Node::new(self.alloc, path, row, inherited)?;
+                let inherited = self.inherited_at(&path, at, &addition.row())?;
+                let node = Node::new(addition, inherited)?;
                 Ok(Plan::Insert { at, node })
             }
         }
     }
 
     /// The node at a place, with another row.
-    fn node_with(&self, path: &Path, at: usize, row: Shared<Row>) -> Result<Node, TreeError>
+    fn node_with(&self, path: &Path, at: usize, row: Row) -> Result<Node, TreeError>
         requires standing { IsView self.now }
         requires within { at < length self.now.nodes.now }
         requires stands { HoldsAt (λ b. path_of_node b ≡ path.now) self.now.nodes.now at }
@@ -56,12 +56,13 @@ impl TreeView<'_> {
         ensures fits { IfOk result (λ node. dacl_size node.whole ≤ 65535) }
         ensures refused { IfErr result (IsLargeError self.now.mapping.now (insert (tree_in self.now) path.now row)) }
     {
-        let inherited = self.inherited_at(&path.as_path_ref(), at, row.get())?;
-        Node::new(self.alloc, path.copy(self.alloc)?, row, inherited)
+        let addition = Addition::new(self.alloc, path.copy(self.alloc)?, row)?;
+        let inherited = self.inherited_at(&path.as_path_ref(), at, &addition.row())?;
+        Node::new(addition, inherited)
     }
 
     /// The plan for a node that gets another row, where what it hands on changes with it.
-    fn run_plan(&self, path: &Path, at: usize, row: Shared<Row>) -> Result<Plan, TreeError>
+    fn run_plan(&self, path: &Path, at: usize, row: Row) -> Result<Plan, TreeError>
         requires standing { IsView self.now }
         requires within { at < length self.now.nodes.now }
         requires stands { HoldsAt (λ b. path_of_node b ≡ path.now) self.now.nodes.now at }
@@ -79,7 +80,7 @@ impl TreeView<'_> {
     }
 
     /// The plan for a node that gets another row, where no other node's DACL changes with it.
-    fn one_node_plan(&self, path: &Path, at: usize, row: Shared<Row>) -> Result<Plan, TreeError>
+    fn one_node_plan(&self, path: &Path, at: usize, row: Row) -> Result<Plan, TreeError>
         requires standing { IsView self.now }
         requires within { at < length self.now.nodes.now }
         requires stands { HoldsAt (λ b. path_of_node b ≡ path.now) self.now.nodes.now at }
@@ -105,37 +106,8 @@ impl TreeView<'_> {
         (at, self.node(at))
     }
 
-    /// The plan for a node of a kind that is added.
-    fn addition_plan(
-        &self,
-        kind: NodeKind,
-        path: &Path,
-        trustees: (Sid, Sid),
-        dacl: &NodeDacl,
-    ) -> Result<Plan, TreeError>
-        requires standing { IsView self.now }
-        requires addable { IsAddable (tree_in self.now) path.now }
-        ensures plan { IfOk result (IsPlan self.now.mapping.now (tree_in self.now)
-            (insert (tree_in self.now) path.now
-            (record { kind = kind; owner = trustees.0; group = trustees.1; dacl = dacl.now }))) }
-        ensures refused { IfErr result (IsLargeError self.now.mapping.now
-            (insert (tree_in self.now) path.now
-            (record { kind = kind; owner = trustees.0; group = trustees.1; dacl = dacl.now }))) }
-    {
-        let dacl = dacl.copy(self.alloc)?;
-        let (owner, group) = trustees;
-        self.insertion_plan(
-            path,
-            Row {
-                kind,
-                owner,
-                group,
-                dacl,
-            },
-        )
-    }
-
-    /// The plan for a node that stays where it is. Its owner and its group go no further than the node's own DACL.
+    /// The plan for a node that stays where it is. Its owner and its group go no further than the node's own DACL, and
+    /// nothing does where no node stands below it.
     fn change_plan(&self, path: &Path, change: RowChange) -> Result<Plan, TreeError>
         requires standing { IsView self.now }
         requires there { IsSome (row_at (tree_in self.now) path.now) }
@@ -145,9 +117,8 @@ impl TreeView<'_> {
             (changed (tree_in self.now) path.now (changed_row change))) }
     {
         let (at, old) = self.node_of(path);
-        let alone = change.is_of_trustee();
+        let alone = change.is_of_trustee() || !self.has_child(&path.as_path_ref(), at);
         let row = old.row().with(self.alloc, change)?;
-        let row = Shared::new(self.alloc, row)?;
         if alone {
             self.one_node_plan(path, at, row)
         } else {
@@ -181,14 +152,14 @@ impl TreeView<'_> {
         match kept_dacl(self.alloc, old)? {
             Some(dacl) => self.change_plan(path, RowChange::Dacl(dacl)),
             None => {
-                let row = old.shared_row().share()?;
+                let row = old.row().copy(self.alloc)?;
                 self.one_node_plan(path, at, row)
             }
         }
     }
 
-    /// The plan of an edit that no test without memory refuses.
-    pub(crate) fn plan(&self, edit: &Edit) -> Result<Plan, TreeError>
+    /// The plan of an edit that no test without memory refuses. A node that it adds shares it.
+    pub(crate) fn plan(&self, edit: &Shared<Edit>) -> Result<Plan, TreeError>
         requires standing { IsView self.now }
         requires accepted { early_refusal (tree_in self.now) edit.now ≡ None }
         ensures plan { IfOk result (IsPlan self.now.mapping.now (tree_in self.now)
@@ -196,19 +167,10 @@ impl TreeView<'_> {
         ensures shallow { OnOk result (moves_too_deep (tree_in self.now) edit.now ≡ false) }
         ensures refused { IfErr result (IsLateError self.now.mapping.now (tree_in self.now) edit.now) }
     {
-        match edit {
-            Edit::AddContainer {
-                path,
-                owner,
-                group,
-                dacl,
-            } => self.addition_plan(NodeKind::Container, path, (*owner, *group), dacl),
-            Edit::AddObject {
-                path,
-                owner,
-                group,
-                dacl,
-            } => self.addition_plan(NodeKind::Object, path, (*owner, *group), dacl),
+        match edit.get() {
+            Edit::AddContainer { .. } | Edit::AddObject { .. } => {
+                self.insertion_plan(Addition::of(edit.share()?))
+            }
             Edit::SetOwner { path, owner } => self.change_plan(path, RowChange::Owner(*owner)),
             Edit::SetGroup { path, group } => self.change_plan(path, RowChange::Group(*group)),
             Edit::SetDacl { path, dacl } => {

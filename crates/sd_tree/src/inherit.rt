@@ -10,7 +10,7 @@ ghost use Rattle.sd_tree.specs.Whole.{whole_with};
 
 use crate::alike::inherits;
 use crate::entries::Entries;
-use crate::node::{Node, NodeKind, Row};
+use crate::node::{Node, NodeKind, RowRef};
 use crate::shared::Shared;
 use bitflags::Flags;
 use sd_acl::{Ace, AceFlags};
@@ -54,13 +54,13 @@ pub(crate) fn is_creator_group(sid: &Sid) -> bool
 }
 
 /// Whom the SID stands for in this child.
-fn created_by(row: &Row, sid: Sid) -> Sid
+fn created_by(row: &RowRef<'_>, sid: Sid) -> Sid
     ensures { result ≡ created_by row.now.owner row.now.group sid }
 {
     if is_creator_owner(&sid) {
-        row.owner
+        *row.owner
     } else if is_creator_group(&sid) {
-        row.group
+        *row.group
     } else {
         sid
     }
@@ -81,7 +81,7 @@ fn lasting_flags() -> AceFlags
 }
 
 /// The copy that counts for the child alone.
-fn effective_copy(mapping: &GenericMapping, row: &Row, entry: &Ace) -> Ace
+fn effective_copy(mapping: &GenericMapping, row: &RowRef<'_>, entry: &Ace) -> Ace
     ensures { result ≡ effective_copy mapping.now row.now.owner row.now.group entry.now }
 {
     Ace {
@@ -134,7 +134,7 @@ fn is_split(entry: &Ace) -> bool
 fn to_object(
     handed: &mut Vec<Ace>,
     mapping: &GenericMapping,
-    row: &Row,
+    row: &RowRef<'_>,
     entry: &Ace,
 ) -> Result<(), AllocError>
     ensures { OnOk result (handed.new.items ≡ handed.old.items
@@ -150,7 +150,7 @@ fn to_object(
 fn to_container(
     handed: &mut Vec<Ace>,
     mapping: &GenericMapping,
-    row: &Row,
+    row: &RowRef<'_>,
     entry: &Ace,
 ) -> Result<(), AllocError>
     ensures { OnOk result (handed.new.items ≡ handed.old.items
@@ -175,7 +175,7 @@ fn to_container(
 fn pass_on(
     handed: &mut Vec<Ace>,
     mapping: &GenericMapping,
-    row: &Row,
+    row: &RowRef<'_>,
     entry: &Ace,
 ) -> Result<(), AllocError>
     ensures { OnOk result (handed.new.items ≡ handed.old.items
@@ -191,7 +191,7 @@ fn pass_on(
 fn hand_on(
     handed: &mut Vec<Ace>,
     mapping: &GenericMapping,
-    row: &Row,
+    row: &RowRef<'_>,
     above: &[Ace],
 ) -> Result<(), AllocError>
     ensures { OnOk result (handed.new.items ≡ handed.old.items ++ flat_map
@@ -216,7 +216,7 @@ pub(crate) fn nothing(alloc: Global) -> Result<Shared<Entries>, AllocError>
 fn handed_on(
     alloc: Global,
     mapping: &GenericMapping,
-    row: &Row,
+    row: &RowRef<'_>,
     above: &Node,
 ) -> Result<Shared<Entries>, AllocError>
     ensures { IfOk result (λ handed. handed ≡ handed_on mapping.now row.now above.now.whole) }
@@ -234,13 +234,13 @@ fn handed_on(
 pub(crate) fn inherited_below(
     alloc: Global,
     mapping: &GenericMapping,
-    row: &Row,
+    row: &RowRef<'_>,
     above: &Node,
 ) -> Result<Shared<Entries>, AllocError>
     ensures { IfOk result (λ inherited. whole_with row.now inherited
         ≡ dacl_of_row mapping.now row.now above.now.whole) }
 {
-    if !inherits(&row.dacl) {
+    if !inherits(row.dacl) {
         return nothing(alloc);
     }
     handed_on(alloc, mapping, row, above)

@@ -10,17 +10,18 @@ ghost use Rattle.sd_tree.specs.Plans.{IsPlan};
 ghost use Rattle.sd_tree.specs.Refusals.{early_refusal, first_fit, place_tests, addition_tests, move_tests};
 ghost use Rattle.sd_tree.specs.Refusals.{moves_too_deep, node_tests, room_tests, has_child, refusal_in};
 ghost use Rattle.sd_tree.specs.Stored.{path_of_node};
-ghost use Rattle.sd_tree.specs.View.{IsView, tree_in};
+ghost use Rattle.sd_tree.specs.View.{IsView, proposed, tree_in};
 ghost use Rattle.sd_tree.specs.declared.refusal.EditRefusal.TheVariants.{NotEmpty, IsRoot, TooDeep, NodesFull};
 ghost use Rattle.sd_tree.specs.declared.refusal.EditRefusal.TheVariants.{JournalFull};
 
-use crate::edit::Edit;
+use crate::edit::{Edit, ProposedEdit};
 use crate::limits::Limits;
 use crate::list_tests::list_refusal;
 use crate::node::{NodeDacl, NodeKind};
 use crate::nodes::{locate, node_at};
 use crate::plan::Plan;
 use crate::refusal::{EditRefusal, TreeError};
+use crate::shared::Shared;
 use crate::tree_view::TreeView;
 use sd_path::{Path, PathRef};
 
@@ -81,7 +82,7 @@ impl TreeView<'_> {
     }
 
     /// Whether a node stands right below the one at a place: then the next in order does.
-    fn has_child(&self, path: &PathRef<'_>, at: usize) -> bool
+    pub(crate) fn has_child(&self, path: &PathRef<'_>, at: usize) -> bool
         requires standing { IsView self.now }
         requires within { at < length self.now.nodes.now }
         requires stands { HoldsAt (λ b. path_of_node b ≡ path.now) self.now.nodes.now at }
@@ -190,28 +191,31 @@ impl TreeView<'_> {
         }
     }
 
-    /// The plan of an edit after so many edits, or why it is refused within these limits.
+    /// An edit after so many edits, as the journal is to keep it, and its plan; or why it is refused within these
+    /// limits.
     pub(crate) fn plan_or_refusal(
         &self,
-        edit: &Edit,
+        edit: &ProposedEdit<'_>,
         edits: u64,
         limits: Limits,
-    ) -> Result<Plan, TreeError>
+    ) -> Result<(Shared<Edit>, Plan), TreeError>
         requires { IsView self.now }
-        ensures plan { IfOk result (IsPlan self.now.mapping.now (tree_in self.now)
-            (edited self.now.mapping.now (tree_in self.now) edit.now)) }
+        ensures edit { IfOk result (λ planned. planned.0 ≡ proposed edit.now) }
+        ensures plan { IfOk result (λ planned. IsPlan self.now.mapping.now (tree_in self.now)
+            (edited self.now.mapping.now (tree_in self.now) (proposed edit.now)) planned.1) }
         ensures accepted { IfOk result (λ _.
-            refusal_in limits self.now.mapping.now (tree_in self.now) edits edit.now ≡ None) }
+            refusal_in limits self.now.mapping.now (tree_in self.now) edits (proposed edit.now) ≡ None) }
         ensures refused { IfErr result (λ e. IsError e
-            (refusal_in limits self.now.mapping.now (tree_in self.now) edits edit.now)) }
+            (refusal_in limits self.now.mapping.now (tree_in self.now) edits (proposed edit.now))) }
     {
-        if let Some(refusal) = self.early_refusal(edit) {
+        if let Some(refusal) = self.early_refusal(edit.get()) {
             return Err(TreeError::Refused(refusal));
         }
-        let plan = self.plan(edit)?;
-        match self.limit_refusal(edit, edits, limits) {
+        let edit = edit.share(self.alloc)?;
+        let plan = self.plan(&edit)?;
+        match self.limit_refusal(edit.get(), edits, limits) {
             Some(refusal) => Err(TreeError::Refused(refusal)),
-            None => Ok(plan),
+            None => Ok((edit, plan)),
         }
     }
 }

@@ -13,6 +13,7 @@
 //! ```
 #![tactic(auto)]
 
+mod addition;
 mod alike;
 mod describe;
 mod edit;

@@ -55,9 +55,9 @@ impl Tree {
         Some(NodeRef {
             path: node.stored_path(),
             kind: row.kind,
-            owner: row.owner,
-            group: row.group,
-            dacl: &row.dacl,
+            owner: *row.owner,
+            group: *row.group,
+            dacl: row.dacl,
         })
     }
 
@@ -73,7 +73,7 @@ impl Tree {
             None => Ok(None),
             Some(node) => {
                 let row = node.row();
-                Ok(Some((row.kind, own_descriptor_of_row(view.alloc, row)?)))
+                Ok(Some((row.kind, own_descriptor_of_row(view.alloc, &row)?)))
             }
         }
     }

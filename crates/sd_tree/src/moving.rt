@@ -36,7 +36,7 @@ impl TreeView<'_> {
             Ok(_) => unreachable!(),
             Err(at) => {
                 let node = self.node(from);
-                let inherited = self.inherited_at(&target, at, node.row())?;
+                let inherited = self.inherited_at(&target, at, &node.row())?;
                 let first = node.inheriting(inherited)?;
                 let nodes = self.subtree(&source, from, first)?;
                 let run = relocated(self.alloc, &nodes, &source, &target)?;

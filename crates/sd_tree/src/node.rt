@@ -2,10 +2,11 @@
 
 ghost use Rattle.std.specs.Prelude.{◌≡◌, ◌++◌, ◌≤◌, None, Some, MatchOption, IfOk, IfErr};
 ghost use Rattle.sd_tree.specs.Plans.{changed_row, is_of_trustee};
-ghost use Rattle.sd_tree.specs.Refusals.{dacl_size, own_entries};
+ghost use Rattle.sd_tree.specs.Refusals.{dacl_size};
 ghost use Rattle.sd_tree.specs.Sizes.{IsSizeError};
 ghost use Rattle.sd_tree.specs.Whole.{whole_with};
 
+use crate::addition::Addition;
 use crate::entries::Entries;
 use crate::refusal::{EditRefusal, TreeError};
 use crate::shared::Shared;
@@ -49,13 +50,69 @@ impl NodeDacl {
     }
 }
 
-/// A node without its path and without what it inherits.
+/// A node without its path and without what it inherits. It is public for the definitions of other crates alone.
 #[derive(Debug, Drop)]
-pub(crate) struct Row {
+pub struct Row {
     pub kind: NodeKind,
     pub owner: Sid,
     pub group: Sid,
     pub dacl: NodeDacl,
+}
+
+/// The same, borrowed. Contracts see the row.
+#[derive(Drop)]
+pub(crate) struct RowRef<'a> {
+    pub kind: NodeKind,
+    pub owner: &'a Sid,
+    pub group: &'a Sid,
+    pub dacl: &'a NodeDacl,
+}
+
+impl<'a> Model for RowRef<'a> {
+    ghost use Rattle.sd_tree.specs.declared.node.Row.{Row};
+
+    ghost Value = { Row };
+
+    ghost view = { λ r. record { kind = r.kind; owner = r.owner.now; group = r.group.now; dacl = r.dacl.now } };
+}
+
+impl RowRef<'_> {
+    /// An equal row.
+    pub(crate) fn copy(&self, alloc: Global) -> Result<Row, AllocError>
+        ensures { IfOk result (λ row. row ≡ self.now) }
+    {
+        let dacl = self.dacl.copy(alloc)?;
+        Ok(self.with_dacl(dacl))
+    }
+
+    /// One that is equal but for the DACL.
+    fn with_dacl(&self, dacl: NodeDacl) -> Row
+        ensures { result ≡ record self.now { dacl = dacl } }
+    {
+        Row {
+            kind: self.kind,
+            owner: *self.owner,
+            group: *self.group,
+            dacl,
+        }
+    }
+
+    /// One that is equal but for the change.
+    pub(crate) fn with(&self, alloc: Global, change: RowChange) -> Result<Row, AllocError>
+        ensures { IfOk result (λ row. row ≡ changed_row change self.now) }
+    {
+        Ok(match change {
+            RowChange::Owner(owner) => Row {
+                owner,
+                ..self.copy(alloc)?
+            },
+            RowChange::Group(group) => Row {
+                group,
+                ..self.copy(alloc)?
+            },
+            RowChange::Dacl(dacl) => self.with_dacl(dacl),
+        })
+    }
 }
 
 /// What changes of a node that stays where it is.
@@ -78,64 +135,12 @@ impl RowChange {
     }
 }
 
-impl Row {
-    /// The node's own entries: none where its DACL is a null one.
-    pub(crate) fn own_entries(&self) -> &[Ace]
-        ensures { result.now ≡ own_entries self.now.dacl }
-    {
-        match &self.dacl {
-            NodeDacl::Null => &[],
-            NodeDacl::List { entries, .. } => entries.as_slice(),
-        }
-    }
-
-    /// One that is equal but for the change.
-    pub(crate) fn with(&self, alloc: Global, change: RowChange) -> Result<Row, AllocError>
-        ensures { IfOk result (λ row. row ≡ changed_row change self.now) }
-    {
-        let (kind, owner, group) = (self.kind, self.owner, self.group);
-        match change {
-            RowChange::Owner(owner) => {
-                let dacl = self.dacl.copy(alloc)?;
-                Ok(Row {
-                    kind,
-                    owner,
-                    group,
-                    dacl,
-                })
-            }
-            RowChange::Group(group) => {
-                let dacl = self.dacl.copy(alloc)?;
-                Ok(Row {
-                    kind,
-                    owner,
-                    group,
-                    dacl,
-                })
-            }
-            RowChange::Dacl(dacl) => Ok(Row {
-                kind,
-                owner,
-                group,
-                dacl,
-            }),
-        }
-    }
-}
-
-/// What stays of a node while what it inherits changes. A node that goes elsewhere shares its row alone.
-#[derive(Debug, Drop)]
-struct Placed {
-    path: Path,
-    row: Shared<Row>,
-}
-
-/// A node where it stands. Its parts are shared, what it inherits mostly by its siblings, so a copy costs little.
-/// Contracts see its path, its row and its whole DACL ([MS-DTYP] 2.5.3.4): the row's own entries and, after them, those
-/// that it inherits, or None for a null one.
+/// A node where it stands. It mostly shares its addition with the journal, and what it inherits with its siblings, so
+/// it takes little. Contracts see its path, its row and its whole DACL ([MS-DTYP] 2.5.3.4): the row's own entries and,
+/// after them, those that it inherits, or None for a null one.
 #[derive(Debug, Drop)]
 pub(crate) struct Node {
-    placed: Shared<Placed>,
+    addition: Addition,
     inherited: Shared<Entries>,
 }
 
@@ -147,52 +152,42 @@ impl Model for Node {
     ghost Value = { NodeValue };
 
     ghost view = { λ n. record
-        { path = n.placed.path; row = n.placed.row; whole = whole_with n.placed.row n.inherited } };
+        { path = n.addition.path; row = n.addition.row; whole = whole_with n.addition.row n.inherited } };
 
-    ghost invariant = { λ n. dacl_size (whole_with n.placed.row n.inherited) ≤ 65535 };
+    ghost invariant = { λ n. dacl_size (whole_with n.addition.row n.inherited) ≤ 65535 };
 }
 
 impl Node {
     /// The node of these parts; `AclTooLarge` where its whole DACL would take more than 65,535 bytes ([MS-DTYP] 2.4.5).
-    pub(crate) fn new(
-        alloc: Global,
-        path: Path,
-        row: Shared<Row>,
-        inherited: Shared<Entries>,
-    ) -> Result<Node, TreeError>
-        ensures node { IfOk result
-            (λ node. node ≡ record { path = path; row = row; whole = whole_with row inherited }) }
+    pub(crate) fn new(addition: Addition, inherited: Shared<Entries>) -> Result<Node, TreeError>
+        ensures node { IfOk result (λ node. node ≡ record
+            { path = addition.path; row = addition.row; whole = whole_with addition.row inherited }) }
         ensures fits { IfOk result (λ node. dacl_size node.whole ≤ 65535) }
-        ensures refused { IfErr result (λ e. IsSizeError e (whole_with row inherited)) }
+        ensures refused { IfErr result (λ e. IsSizeError e (whole_with addition.row inherited)) }
     {
-        Node::from_parts(Shared::new(alloc, Placed { path, row })?, inherited)
-    }
-
-    /// The same of parts of which some are shared.
-    fn from_parts(placed: Shared<Placed>, inherited: Shared<Entries>) -> Result<Node, TreeError>
-        ensures node { IfOk result (λ node. node
-            ≡ record { path = placed.path; row = placed.row; whole = whole_with placed.row inherited }) }
-        ensures fits { IfOk result (λ node. dacl_size node.whole ≤ 65535) }
-        ensures refused { IfErr result (λ e. IsSizeError e (whole_with placed.row inherited)) }
-    {
-        if let NodeDacl::List { entries, .. } = &placed.get().row.get().dacl {
+        if let NodeDacl::List { entries, .. } = addition.row().dacl {
             // Both sizes count a header.
             let size = entries.size().saturating_add(inherited.get().size());
             if size > MAX_ACL_BYTES + ACL_HEADER_BYTES {
                 return Err(TreeError::Refused(EditRefusal::AclTooLarge));
             }
         }
-        Ok(Node { placed, inherited })
+        Ok(Node {
+            addition,
+            inherited,
+        })
     }
 
     /// The same node at another path.
     pub(crate) fn at(&self, alloc: Global, path: Path) -> Result<Node, AllocError>
         ensures { IfOk result (λ node. node ≡ record self.now { path = path }) }
     {
-        let row = self.placed.get().row.share()?;
-        let placed = Shared::new(alloc, Placed { path, row })?;
+        let addition = Addition::new(alloc, path, self.row().copy(alloc)?)?;
         let inherited = self.inherited.share()?;
-        Ok(Node { placed, inherited })
+        Ok(Node {
+            addition,
+            inherited,
+        })
     }
 
     /// The same node, but for what it inherits; `AclTooLarge` as above.
@@ -201,7 +196,7 @@ impl Node {
         ensures fits { IfOk result (λ node. dacl_size node.whole ≤ 65535) }
         ensures refused { IfErr result (λ e. IsSizeError e (whole_with self.now.row inherited)) }
     {
-        Node::from_parts(self.placed.share()?, inherited)
+        Node::new(self.addition.share()?, inherited)
     }
 
     /// Its path.
@@ -215,21 +210,14 @@ impl Node {
     pub(crate) fn stored_path(&self) -> &Path
         ensures { result.now ≡ self.now.path }
     {
-        &self.placed.get().path
+        self.addition.path()
     }
 
     /// Its row.
-    pub(crate) fn row(&self) -> &Row
-        ensures { result.now ≡ self.now.row }
+    pub(crate) fn row(&self) -> RowRef<'_>
+        ensures { result ≡ self.now.row }
     {
-        self.shared_row().get()
-    }
-
-    /// The same, to be shared.
-    pub(crate) fn shared_row(&self) -> &Shared<Row>
-        ensures { result.now ≡ self.now.row }
-    {
-        &self.placed.get().row
+        self.addition.row()
     }
 
     /// What it inherits.
@@ -245,7 +233,7 @@ impl Node {
             (λ parts. self.now.whole ≡ Some (parts.0.now ++ parts.1.now)) }
         ensures fits { dacl_size self.now.whole ≤ 65535 }
     {
-        match &self.placed.get().row.get().dacl {
+        match self.row().dacl {
             NodeDacl::Null => None,
             NodeDacl::List { entries, .. } => {
                 Some((entries.as_slice(), self.inherited.get().as_slice()))
@@ -271,8 +259,11 @@ impl Node {
 
 impl TryCopy for Node {
     fn try_copy(&self) -> Result<Node, AllocError> {
-        let placed = self.placed.share()?;
+        let addition = self.addition.share()?;
         let inherited = self.inherited.share()?;
-        Ok(Node { placed, inherited })
+        Ok(Node {
+            addition,
+            inherited,
+        })
     }
 }

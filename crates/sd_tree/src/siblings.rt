@@ -7,7 +7,7 @@ ghost use Rattle.sd_tree.specs.View.{IsView};
 ghost use Rattle.sd_tree.specs.declared.node.Node.{Node};
 
 use crate::alike::{are_alike, inherits, trustees_matter};
-use crate::node::{Node, Row};
+use crate::node::{Node, RowRef};
 use crate::nodes::locate;
 use crate::tree_view::TreeView;
 use sd_path::PathRef;
@@ -22,7 +22,7 @@ impl TreeView<'_> {
     fn is_sibling(
         &self,
         path: &PathRef<'_>,
-        row: &Row,
+        row: &RowRef<'_>,
         above: &Node,
         by_trustees: bool,
         at: usize,
@@ -34,7 +34,7 @@ impl TreeView<'_> {
         ensures { result ≡ true → IsSibling self.now.nodes.now path.now row.now above.now.whole at }
     {
         let beside = node.path();
-        if beside.is_root() || !are_alike(node.row(), row, by_trustees) {
+        if beside.is_root() || !are_alike(&node.row(), row, by_trustees) {
             return false;
         }
         beside.depth() == path.depth() && beside.is_within(&path.parent())
@@ -71,7 +71,7 @@ impl TreeView<'_> {
     fn sibling_among(
         &self,
         path: &PathRef<'_>,
-        row: &Row,
+        row: &RowRef<'_>,
         above: &Node,
         by_trustees: bool,
         at: usize,
@@ -101,7 +101,7 @@ impl TreeView<'_> {
     pub(crate) fn sibling_with(
         &self,
         path: &PathRef<'_>,
-        row: &Row,
+        row: &RowRef<'_>,
         above: &Node,
         at: usize,
     ) -> Option<(usize, &Node)>
@@ -112,7 +112,7 @@ impl TreeView<'_> {
         ensures node { IfSome result
             (λ beside. (n : Node) → beside.1.now ≡ slice_index_or self.now.nodes.now beside.0 n) }
     {
-        if !inherits(&row.dacl) {
+        if !inherits(row.dacl) {
             return None;
         }
         if let Some(found) = self.sibling_among(path, row, above, true, at) {
@@ -128,7 +128,7 @@ impl TreeView<'_> {
     pub(crate) fn sibling_behind<'b>(
         &'b self,
         path: &PathRef<'_>,
-        row: &Row,
+        row: &RowRef<'_>,
         above: &Node,
         at: usize,
         before: &'b Node,
@@ -153,7 +153,7 @@ impl TreeView<'_> {
     pub(crate) fn sibling_around(
         &self,
         path: &PathRef<'_>,
-        row: &Row,
+        row: &RowRef<'_>,
         above: &Node,
         at: usize,
     ) -> Option<(usize, &Node)>

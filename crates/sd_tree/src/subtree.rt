@@ -98,12 +98,12 @@ impl TreeView<'_> {
             return Ok(node.try_copy()?);
         }
         let (at, k) = places;
-        if let Some(beside) = self.sibling_behind(&node.path(), node.row(), above, k, before) {
+        if let Some(beside) = self.sibling_behind(&node.path(), &node.row(), above, k, before) {
             if at < beside.0 && beside.0 - at < made.len() {
                 return node.inheriting(made[beside.0 - at].inherited().share()?);
             }
         }
-        node.inheriting(inherited_below(self.alloc, self.mapping, node.row(), above)?)
+        node.inheriting(inherited_below(self.alloc, self.mapping, &node.row(), above)?)
     }
 
     /// The end of the run of nodes that begins at a place and holds all that stands at or below its path.

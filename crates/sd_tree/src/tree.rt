@@ -10,10 +10,11 @@ ghost use Rattle.sd_tree.specs.Plans.{IsPlanned};
 ghost use Rattle.sd_tree.specs.Refusals.{is_early, dacl_size};
 ghost use Rattle.sd_tree.specs.Inheritance.{dacl_of_row};
 ghost use Rattle.sd_tree.specs.Sizes.{IsSizeError};
-ghost use Rattle.sd_tree.specs.View.{IsView, tree_in};
+ghost use Rattle.sd_tree.specs.View.{IsView, proposed, tree_in};
 
+use crate::addition::Addition;
 use crate::describe::descriptor_of_node;
-use crate::edit::Edit;
+use crate::edit::{Edit, ProposedEdit};
 use crate::inherit::nothing;
 use crate::journal::{Edits, Journal};
 use crate::limits::Limits;
@@ -119,8 +120,7 @@ impl Tree {
         ensures accepted { OnOk result (refusal self.old.opening self.old.journal edit.now ≡ None) }
         ensures refused { IfErr result (λ e. IsError e (refusal self.old.opening self.old.journal edit.now)) }
     {
-        let plan = self.plan_or_refusal(edit)?;
-        let edit = Shared::new(self.alloc, edit.copy(self.alloc)?)?;
+        let (edit, plan) = self.plan_or_refusal(&ProposedEdit::Borrowed(edit))?;
         self.accept(edit, plan)?;
         Ok(())
     }
@@ -133,8 +133,7 @@ impl Tree {
         ensures accepted { OnOk result (refusal self.old.opening self.old.journal edit.now ≡ None) }
         ensures refused { IfErr result (λ e. IsError e (refusal self.old.opening self.old.journal edit.now)) }
     {
-        let plan = self.plan_or_refusal(edit.get())?;
-        let edit = edit.share()?;
+        let (edit, plan) = self.plan_or_refusal(&ProposedEdit::Kept(edit))?;
         self.accept(edit, plan)?;
         Ok(())
     }
@@ -180,7 +179,7 @@ impl Tree {
         match node_at(&self.nodes, &path.as_path_ref()) {
             None => CheckReply::NoNode,
             Some(node) => {
-                let owner = Some(node.row().owner);
+                let owner = Some(*node.row().owner);
                 let mapping = &self.opening.mapping;
                 CheckReply::Verdict(match node.parts() {
                     None => check_parts(owner, DaclRef::Null, mapping, token, asked),
@@ -210,7 +209,7 @@ impl Tree {
         ensures due { IfOk result (λ due. due ≡ refusal self.now.opening self.now.journal edit.now) }
         ensures memory { IfErr result (λ _. is_early (refusal self.now.opening self.now.journal edit.now) ≡ false) }
     {
-        match self.plan_or_refusal(edit) {
+        match self.plan_or_refusal(&ProposedEdit::Borrowed(edit)) {
             Ok(_) => Ok(None),
             Err(TreeError::Refused(refusal)) => Ok(Some(refusal)),
             Err(TreeError::Memory) => Err(AllocError),
@@ -247,10 +246,13 @@ impl Tree {
         Ok(())
     }
 
-    /// The plan of an edit, or why it is refused.
-    fn plan_or_refusal(&self, edit: &Edit) -> Result<Plan, TreeError>
-        ensures plan { IfOk result (IsPlanned self.now.opening self.now.journal edit.now) }
-        ensures refused { IfErr result (λ e. IsError e (refusal self.now.opening self.now.journal edit.now)) }
+    /// An edit, as the journal is to keep it, and its plan; or why it is refused.
+    fn plan_or_refusal(&self, edit: &ProposedEdit<'_>) -> Result<(Shared<Edit>, Plan), TreeError>
+        ensures edit { IfOk result (λ planned. planned.0 ≡ proposed edit.now) }
+        ensures plan { IfOk result (λ planned.
+            IsPlanned self.now.opening self.now.journal (proposed edit.now) planned.1) }
+        ensures refused { IfErr result (λ e.
+            IsError e (refusal self.now.opening self.now.journal (proposed edit.now))) }
     {
         self.view()
             .plan_or_refusal(edit, self.len(), self.opening.limits)
@@ -284,7 +286,7 @@ fn root_node(alloc: Global, mapping: &GenericMapping, root: &RootSpec) -> Result
         group: root.group,
         dacl: root.dacl.copy(alloc)?,
     };
-    let row = Shared::new(alloc, row)?;
+    let addition = Addition::new(alloc, Path::root(alloc), row)?;
     let inherited = nothing(alloc)?;
-    Node::new(alloc, Path::root(alloc), row, inherited)
+    Node::new(addition, inherited)
 }

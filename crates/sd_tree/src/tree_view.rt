@@ -12,7 +12,7 @@ ghost use Rattle.sd_tree.specs.declared.node.Node.{Node};
 
 use crate::entries::Entries;
 use crate::inherit::{inherited_below, nothing};
-use crate::node::{Node, Row};
+use crate::node::{Node, RowRef};
 use crate::nodes::{locate, node_in};
 use crate::shared::Shared;
 use sd_blocks::Blocks;
@@ -103,7 +103,7 @@ impl<'a> TreeView<'a> {
         &self,
         path: &PathRef<'_>,
         at: usize,
-        row: &Row,
+        row: &RowRef<'_>,
     ) -> Result<Shared<Entries>, AllocError>
         requires standing { IsView self.now }
         requires place { at ≤ length self.now.nodes.now }

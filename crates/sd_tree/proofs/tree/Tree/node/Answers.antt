@@ -1,4 +1,4 @@
-use Rattle.std.proofs.Common.{arith}
+use Rattle.std.proofs.Common.{◌∙◌, arith}
 use Rattle.sd_tree.proofs.Listed.{listed_here, listed_past}
 use Rattle.sd_tree.proofs.tree.Tree.node.Goals as goal
 
@@ -12,4 +12,4 @@ returns c =
     let v = c.view.result in
     let n = c.node_in-node.result.now in
     listed_here v.nodes.now c.view.ensures.standing.kept.order _ c.view.ensures.tree c.args.index (omega (arith, c.len.ensures, c.if-index-len.false)) n (c.node_in-node.ensures n) _
-    (λ i. (c.stored_path.ensures i, c.row-row.ensures i))
+    (λ i. (c.stored_path.ensures i, (c.row.view_is ∙ c.row-row.ensures) i))

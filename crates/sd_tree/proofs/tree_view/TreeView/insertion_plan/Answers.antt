@@ -1,9 +1,7 @@
 use Rattle.std.proofs.Common.{◌≡◌, Option, Some, None, sym, ap, ◌∙◌}
 use Rattle.std.proofs.lemmas.Result.{err_from_is_err_and}
 use Rattle.sd_tree.specs.Stored.{path_of_node}
-use Rattle.sd_tree.specs.Whole.{whole_with}
 use Rattle.sd_tree.specs.declared.node.Node.{Node}
-use Rattle.sd_tree.specs.declared.node.Row.{Row}
 use Rattle.sd_tree.proofs.Rows.{row_at-insert_same}
 use Rattle.sd_tree.proofs.Adding.{insertion}
 use Rattle.sd_tree.proofs.Rebuilding.{large_error, row_there}
@@ -16,21 +14,20 @@ not_both o x none some = let e : None ≡ Some x = sym none ∙ some in absurd c
 pub unreachable-requires : goal.unreachable-requires
 unreachable-requires c =
     let found = c.in-Ok.ensures.found in
-    let there = row_there c.args.self.now.nodes.now c.requires.standing.kept.order c.args.path.now c.in-Ok.field-0 found.0 (λ d. found.1 d ∙ c.as_path_ref.ensures) in
+    let there = row_there c.args.self.now.nodes.now c.requires.standing.kept.order c.args.addition.path c.in-Ok.field-0 found.0 (λ d. found.1 d ∙ c.as_path_ref-path.ensures ∙ c.path.ensures) in
     not_both _ _ c.requires.addable.free there.1
 
 pub returns-in_err-node-in-Err-clause-refused : goal.returns-in_err-node-in-Err-clause-refused
 returns-in_err-node-in-Err-clause-refused c =
     let p = err_from_is_err_and c.from_residual-in_err-node-in-Err.result c.from_residual-in_err-node-in-Err.ensures.1 in
-    let whole = rw c.as_path_ref-in-Err.ensures at c.in_ok-inherited-in-Err.ensures in
-    let refused = size_error c.in_err-node-in-Err.field-0.0 _ _ (ap (λ (r : Row). whole_with r c.in_ok-inherited-in-Err.inherited) c.in_ok-row-in-Err.ensures ∙ whole) c.in_err-node-in-Err.ensures.refused in
-    rw (p.1, p.2) (large_error _ _ c.args.path.now c.args.row c.in_err-node-in-Err.field-0.0 (row_at-insert_same _ _ _) refused)
+    let whole = rw (c.as_path_ref-path.ensures ∙ c.path.ensures, c.row.ensures) at c.in_ok-inherited-in-Err.ensures in
+    let refused = size_error c.in_err-node-in-Err.field-0.0 _ _ whole c.in_err-node-in-Err.ensures.refused in
+    rw (p.1, p.2) (large_error _ _ c.args.addition.path c.args.addition.row c.in_err-node-in-Err.field-0.0 (row_at-insert_same _ _ _) refused)
 
 pub returns-clause-plan : goal.returns-clause-plan
 returns-clause-plan c =
-    let a = rw c.as_path_ref.ensures at c.in-Err.ensures.absent in
-    let whole = rw c.as_path_ref-in-Err.ensures at c.in_ok-inherited-in-Err.ensures in
+    let a = rw (c.as_path_ref-path.ensures ∙ c.path.ensures) at c.in-Err.ensures.absent in
+    let whole = rw (c.as_path_ref-path.ensures ∙ c.path.ensures, c.row.ensures) at c.in_ok-inherited-in-Err.ensures in
     let is = c.in_ok-node-in-Err.ensures.node in
-    insertion _ c.args.self.now.nodes.now c.requires.standing c.args.path.now c.args.row c.requires.addable c.in-Err.at a.0 a.1 a.2 c.in_ok-node-in-Err.node
-    (ap path_of_node is ∙ c.in_ok-path-in-Err.ensures) (ap (λ (m : Node). m.row) is ∙ c.in_ok-row-in-Err.ensures)
-    (ap (λ (m : Node). m.whole) is ∙ ap (λ (r : Row). whole_with r c.in_ok-inherited-in-Err.inherited) c.in_ok-row-in-Err.ensures ∙ whole) c.in_ok-node-in-Err.ensures.fits
+    insertion _ c.args.self.now.nodes.now c.requires.standing c.args.addition.path c.args.addition.row c.requires.addable c.in-Err.at a.0 a.1 a.2 c.in_ok-node-in-Err.node
+    (ap path_of_node is) (ap (λ (m : Node). m.row) is) (ap (λ (m : Node). m.whole) is ∙ whole) c.in_ok-node-in-Err.ensures.fits

@@ -1,7 +1,12 @@
-use Rattle.std.proofs.Common.{ap, ◌∙◌}
+use Rattle.std.proofs.Common.{◌≡◌, ap, ◌∙◌}
 use Rattle.std.proofs.lemmas.Result.{IfOk-weaker, IfErr-weaker}
+use Rattle.std.specs.FinMap.{insert}
+use Rattle.sd_tree.specs.Additions.{AdditionValue}
+use Rattle.sd_tree.specs.Plain.{dacl_at}
 use Rattle.sd_tree.specs.Stored.{tree_of, path_of_node}
+use Rattle.sd_tree.specs.Whole.{whole_with}
 use Rattle.sd_tree.specs.declared.node.Node.{Node}
+use Rattle.sd_tree.specs.declared.node.Row.{Row}
 use Rattle.sd_tree.proofs.Rows.{row_at-insert_same}
 use Rattle.sd_tree.proofs.Rebuilding.{large_error, parent_there, row_there}
 use Rattle.sd_tree.proofs.Wholes.{size_error}
@@ -12,18 +17,21 @@ inherited_at-requires-clause-parent c below =
     let there = row_there c.args.self.now.nodes.now c.requires.standing.kept.order c.args.path.now c.args.at c.requires.within c.requires.stands in
     rw c.as_path_ref.ensures (parent_there (tree_of c.args.self.now.nodes.now) c.requires.standing.closed c.args.path.now there.0 there.1)
 
+-- the node's whole DACL, by what it inherits
+whole : (c : goal.After-new-2) → whole_with c.in_ok-addition.addition.row c.in_ok-inherited.inherited ≡ dacl_at c.args.self.now.mapping.now (insert (tree_of c.args.self.now.nodes.now) c.args.path.now c.args.row) c.args.path.now
+whole c =
+    let row-is : c.in_ok-addition.addition.row ≡ c.args.row = ap (λ (a : AdditionValue). a.row) c.in_ok-addition.ensures in
+    ap (λ (r : Row). whole_with r c.in_ok-inherited.inherited) row-is ∙ (rw (c.as_path_ref.ensures, c.row.ensures ∙ row-is) at c.in_ok-inherited.ensures)
+
 pub returns-clause-path : goal.returns-clause-path
-returns-clause-path c = IfOk-weaker c.new.result _ _ (λ n is. ap path_of_node is ∙ c.in_ok-copy.ensures) c.new.ensures.node
+returns-clause-path c = IfOk-weaker c.new-2.result _ _ (λ n is. ap path_of_node is ∙ ap (λ (a : AdditionValue). a.path) c.in_ok-addition.ensures ∙ c.in_ok-copy.ensures) c.new-2.ensures.node
 
 pub returns-clause-row : goal.returns-clause-row
-returns-clause-row c = IfOk-weaker c.new.result _ _ (λ n is. ap (λ (m : Node). m.row) is) c.new.ensures.node
+returns-clause-row c = IfOk-weaker c.new-2.result _ _ (λ n is. ap (λ (m : Node). m.row) is ∙ ap (λ (a : AdditionValue). a.row) c.in_ok-addition.ensures) c.new-2.ensures.node
 
 pub returns-clause-whole : goal.returns-clause-whole
-returns-clause-whole c =
-    let whole = rw (c.as_path_ref.ensures, c.get.ensures) at c.in_ok-inherited.ensures in
-    IfOk-weaker c.new.result _ _ (λ n is. ap (λ (m : Node). m.whole) is ∙ whole) c.new.ensures.node
+returns-clause-whole c = IfOk-weaker c.new-2.result _ _ (λ n is. ap (λ (m : Node). m.whole) is ∙ whole c) c.new-2.ensures.node
 
 pub returns-clause-refused : goal.returns-clause-refused
 returns-clause-refused c =
-    let whole = rw (c.as_path_ref.ensures, c.get.ensures) at c.in_ok-inherited.ensures in
-    IfErr-weaker c.new.result _ _ (λ e refused. large_error _ _ c.args.path.now c.args.row e (row_at-insert_same _ _ _) (size_error e _ _ whole refused)) c.new.ensures.refused
+    IfErr-weaker c.new-2.result _ _ (λ e refused. large_error _ _ c.args.path.now c.args.row e (row_at-insert_same _ _ _) (size_error e _ _ (whole c) refused)) c.new-2.ensures.refused
