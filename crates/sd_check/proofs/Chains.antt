@@ -1,8 +1,23 @@
 -- The chains of a token's index: one more group, one more SID at a place, and a walk along a chain.
-use Rattle.std.proofs.Common.{◌≡◌, ℕ, suc, zero, ◌+◌, ◌-◌, ◌<◌, ◌≤◌, ◌⊎◌, inl, inr, Bool, true, false, ◌&&◌, ◌||◌, List, [], ◌∷◌, length, get_or, set, drop, refl, sym, ◌∙◌, ap, subst, arith, length-set, replicate}
-use Rattle.sd_check.proofs.Words.{AceKind, a_group_stands_for, and_parts, cases_eq, cases_lt, false≢true, SidValue, same_sid, same_sid-true, Deny, GroupState, counts, list_any, false_from_ne_true, get_or_default, get_or-set_other, get_or-replicate, length-replicate, OnChain, here, behind, IsIndex, place_of, get_or-eq_default}
+use Rattle.std.proofs.Common.{◌≡◌, ℕ, suc, zero, ◌+◌, ◌-◌, ◌<◌, ◌≤◌, ◌⊎◌, inl, inr, Bool, true, false, ◌&&◌, ◌||◌, List, [], ◌∷◌, length, get_or, set, take, drop, refl, sym, ◌∙◌, ap, subst, arith, length-set, replicate}
+use Rattle.sd_check.proofs.Words.{AceKind, a_group_stands_for, and_parts, cases_eq, cases_lt, false≢true, SidValue, same_sid, same_sid-true, Deny, GroupState, counts, list_any, list_any_more, false_from_ne_true, get_or_default, get_or-set_other, get_or-replicate, length-replicate, OnChain, here, behind, IsIndex, IsMarked, Keeps, MarksEach, owner_rights, or_cases, list_any_at, eqb-true, may_hold, place_of, get_or-eq_default}
 use Rattle.std.proofs.lemmas.Grind.{get_or-set_at}
-use Rattle.sd_check.proofs.Places.{counts_for_deny}
+use Rattle.sd_check.specs.declared.token.GroupState.TheVariants.{Enabled, DenyOnly, Disabled}
+
+-- what counts for anything counts for a deny
+pub counts_for_deny : (kind : AceKind) (state : GroupState) → counts kind state ≡ true → counts Deny state ≡ true
+counts_for_deny kind Enabled h = refl
+counts_for_deny kind DenyOnly h = refl
+counts_for_deny kind Disabled h = absurd cc
+
+-- what follows where one of the first passes a test, and where the next does, follows where one of them does
+pub one_of_more : {A : Type 0} (P : Type 0) (test : A → Bool) (xs : List A) (i : ℕ) (x : A) → i < length xs → x ≡ get_or xs i x
+    → (list_any test (take i xs) ≡ true → P) → (test x ≡ true → P) → list_any test (take (i + 1) xs) ≡ true → P
+one_of_more P test xs i x low is before this one =
+    elim (or_cases (list_any test (take i xs)) (test x) (ap (λ y. list_any test (take i xs) || test y) is ∙ sym (list_any_more test xs i x low) ∙ one)) [
+      | inl b ↦ before b
+      | inr t ↦ this t
+    ]
 
 -- ---- one chain
 
@@ -53,6 +68,9 @@ at_most xs at v n fits small all p = grind (arith, cases_eq p at, get_or-set_at 
 links_back : (xs : List ℕ) (at v j : ℕ) → at < length xs → v ≤ at → get_or xs j 0 ≤ j → get_or (set xs at v) j 0 ≤ j
 links_back xs at v j fits small back = grind (arith, cases_eq j at, get_or-set_at xs at j v 0, get_or-set_other xs at j v 0, fits, small, back)
 
+pub mark_here : (heads nexts : List ℕ) (at : ℕ) → at < length heads → (s : SidValue) → at ≡ place_of s → IsMarked (set heads at 1) nexts s
+mark_here heads nexts at fits s is_at = subst (λ n. OnChain nexts n 0) (sym (get_or-set_at heads at (place_of s) 1 0 (sym is_at) fits)) here
+
 -- ---- the index
 
 zeros : (n p : ℕ) → get_or {A = ℕ} (replicate n 0) p 0 ≡ 0
@@ -61,45 +79,55 @@ zeros n p = elim (cases_lt p n) as (λ _. get_or {A = ℕ} (replicate n 0) p 0 �
   | inr high ↦ get_or-eq_default {A = ℕ} (replicate n 0) 0 (let long : length {A = ℕ} (replicate n 0) ≤ p = omega (arith, length-replicate {A = ℕ} n 0, high) in long)
 ]
 
--- of the user alone
-pub index_of_user : (user : SidValue) (groups : List (SidValue × GroupState)) (at : ℕ) → at < 1024 → at ≡ place_of user
-    → IsIndex (set (set (replicate 1024 0) 4 1) at 1) (replicate 255 0) user groups 0
-index_of_user user groups at fits is_at =
-    let none : List ℕ = replicate 1024 0 in
-    let one : List ℕ = set none 4 1 in
-    let size : length none ≡ 1024 = length-replicate {A = ℕ} 1024 0 in
-    let size_one : length one ≡ 1024 = length-set none 4 1 ∙ size in
-    let inside : at < length one = omega (arith, size_one, fits) in
-    let least : (p : ℕ) → get_or none p 0 ≤ 1 = λ p. omega (arith, zeros 1024 p) in
-    let least_one : (p : ℕ) → get_or one p 0 ≤ 1 = at_most none 4 1 1 (omega (arith, size)) (omega arith) least in
-    let least_two : (p : ℕ) → get_or (set one at 1) p 0 ≤ 1 = at_most one at 1 1 inside (omega arith) least_one in
-    let link : 1 ≡ get_or (set one at 1) (place_of user) 0 = sym (get_or-set_at one at (place_of user) 1 0 (sym is_at) inside) in
-    record {
-      places = length-set one at 1 ∙ size_one;
-      room = length-replicate {A = ℕ} 255 0;
-      starts = λ p. omega (arith, least_two p);
-      within = λ p. omega (arith, least_two p);
-      goes_back = λ i. omega (arith, zeros 255 i);
-      to_user = subst (λ n. OnChain (replicate 255 0) n 0) link here;
-      to_group = λ k d low. absurd (omega (arith, low));
-    }
+-- without links
+pub index_of_nobody : (groups : List (SidValue × GroupState)) → IsIndex (replicate 1024 0) (replicate 255 0) groups 0
+index_of_nobody groups = record {
+  places = length-replicate {A = ℕ} 1024 0;
+  room = length-replicate {A = ℕ} 255 0;
+  starts = λ p. omega (arith, zeros 1024 p);
+  within = λ p. omega (arith, zeros 1024 p);
+  goes_back = λ i. omega (arith, zeros 255 i);
+  to_group = λ k d none. absurd (omega (arith, none));
+}
 
-module _ (user : SidValue) (groups : List (SidValue × GroupState)) where
+-- where a place is marked before any group is added
+pub keeps_marked : (heads nexts : List ℕ) (at : ℕ) → at < length heads → Keeps heads nexts (set heads at 1) nexts
+keeps_marked heads nexts at fits = (
+  λ groups index. record {
+    places = length-set heads at 1 ∙ index.places;
+    room = index.room;
+    starts = at_most heads at 1 1 fits (omega arith) index.starts;
+    within = at_most heads at 1 255 fits (omega arith) index.within;
+    goes_back = index.goes_back;
+    to_group = λ k d none. absurd (omega (arith, none));
+  },
+  λ s marked. elim (cases_eq (place_of s) at) as (λ _. IsMarked (set heads at 1) nexts s) [
+    | inl e ↦ mark_here heads nexts at fits s (sym e)
+    | inr ne ↦ subst (λ n. OnChain nexts n 0) (sym (get_or-set_other heads at (place_of s) 1 0 ne)) marked
+  ],
+)
+
+module _ (groups : List (SidValue × GroupState)) where
+  -- with one more group each place's chain leads where it led
+  pub led : (heads nexts : List ℕ) (i at v : ℕ) → i < 254 → at < 1024 → v ≡ i + 2 → IsIndex heads nexts groups i
+      → (q k : ℕ) → OnChain nexts (get_or heads q 0) k → OnChain (set nexts (i + 1) (get_or heads at 0)) (get_or (set heads at v) q 0) k
+  led heads nexts i at v low place is_v index =
+      linked heads nexts at (i + 1) v (omega (arith, index.places, place)) (omega (arith, index.room, low)) (let e : v ≡ suc (i + 1) = omega (arith, is_v) in e) index.goes_back index.starts
+
   -- with one more group, which counts
   pub index_more : (heads nexts : List ℕ) (i at v : ℕ) (sid : SidValue) → i < 254 → at < 1024 → at ≡ place_of sid → v ≡ i + 2
       → ((d : SidValue × GroupState) → (get_or groups i d).0 ≡ sid)
-      → IsIndex heads nexts user groups i → IsIndex (set heads at v) (set nexts (i + 1) (get_or heads at 0)) user groups (i + 1)
+      → IsIndex heads nexts groups i → IsIndex (set heads at v) (set nexts (i + 1) (get_or heads at 0)) groups (i + 1)
   index_more heads nexts i at v sid low place is_at is_v is index =
       let fits : at < length heads = omega (arith, index.places, place) in
       let room : i + 1 < length nexts = omega (arith, index.room, low) in
-      let led = linked heads nexts at (i + 1) v fits room (let e : v ≡ suc (i + 1) = omega (arith, is_v) in e) index.goes_back index.starts in
+      let led = led heads nexts i at v low place is_v index in
       record {
         places = length-set heads at v ∙ index.places;
         room = length-set nexts (i + 1) (get_or heads at 0) ∙ index.room;
         starts = at_most heads at v (i + 1 + 1) fits (omega (arith, is_v)) (λ p. omega (arith, index.starts p));
         within = at_most heads at v 255 fits (omega (arith, is_v, low)) index.within;
         goes_back = λ j. links_back nexts (i + 1) (get_or heads at 0) j room (index.starts at) (index.goes_back j);
-        to_user = led (place_of user) 0 index.to_user;
         to_group = λ k d below few counted.
             let P : ℕ → ℕ → Type 0 = λ link k. OnChain (set nexts (i + 1) (get_or heads at 0)) link (suc k) in
             let q = place_of (get_or groups k d).0 in
@@ -115,14 +143,13 @@ module _ (user : SidValue) (groups : List (SidValue × GroupState)) where
 
   -- with one more group that no chain has to lead to
   pub index_on : (heads nexts : List ℕ) (i : ℕ) → ((d : SidValue × GroupState) → i < 254 → counts Deny (get_or groups i d).1 ≡ true → ⊥)
-      → IsIndex heads nexts user groups i → IsIndex heads nexts user groups (i + 1)
+      → IsIndex heads nexts groups i → IsIndex heads nexts groups (i + 1)
   index_on heads nexts i none index = record {
     places = index.places;
     room = index.room;
     starts = λ p. omega (arith, index.starts p);
     within = index.within;
     goes_back = index.goes_back;
-    to_user = index.to_user;
     to_group = λ k d below few counted. elim (cases_eq k i) as (λ _. OnChain nexts (get_or heads (place_of (get_or groups k d).0) 0) (suc k)) [
       | inl e ↦ absurd (none d (omega (arith, few, e)) (ap (λ n. counts Deny (get_or groups n d).1) (sym e) ∙ counted))
       | inr ne ↦ index.to_group k d (omega (arith, below, ne)) few counted
@@ -152,11 +179,11 @@ module _ (nexts : List ℕ) (user sid : SidValue) (groups : List (SidValue × Gr
   pub Leads : ℕ → Type 0
   Leads link = (k : ℕ) → Stands k → OnChain nexts link k
 
-  pub leads_from : (heads : List ℕ) (at : ℕ) → at ≡ place_of sid → IsIndex heads nexts user groups (length groups) → Leads (get_or heads at 0)
+  pub leads_from : (heads : List ℕ) (at : ℕ) → at ≡ place_of sid → IsIndex heads nexts groups (length groups) → IsMarked heads nexts user → Leads (get_or heads at 0)
   unfolding Leads Stands
-  leads_from heads at is_at index zero same =
-      subst (λ p. OnChain nexts (get_or heads p 0) zero) (ap place_of (same_sid-true user sid same) ∙ sym is_at) index.to_user
-  leads_from heads at is_at index (suc k) (d, (low, (few, has))) =
+  leads_from heads at is_at index to_user zero same =
+      subst (λ p. OnChain nexts (get_or heads p 0) zero) (ap place_of (same_sid-true user sid same) ∙ sym is_at) to_user
+  leads_from heads at is_at index to_user (suc k) (d, (low, (few, has))) =
       let group = get_or groups k d in
       let parts = and_parts (same_sid group.0 sid) (counts kind group.1) has in
       subst (λ p. OnChain nexts (get_or heads p 0) (suc k)) (ap place_of (same_sid-true group.0 sid parts.0) ∙ sym is_at)
@@ -186,3 +213,72 @@ module _ (nexts : List ℕ) (user sid : SidValue) (groups : List (SidValue × Gr
       let of_others = none_of_first stands 254 groups (λ k d low few has.
       let user = (last_on_chain nexts back link (suc k) last (leads (suc k) (d, (low, (few, has))))).1 in omega (arith, user)) in
       grind (arith, is, not_user, of_others)
+
+-- ---- what one look shows
+
+none_of_three : (a b c : Bool) → (a || b || c) ≡ false → (a ≡ false) × (b ≡ false) × (c ≡ false)
+none_of_three a b c none = (grind (arith, none), grind (arith, none), grind (arith, none))
+
+module _ (heads nexts : List ℕ) (user : SidValue) (groups : List (SidValue × GroupState)) (restricting : List SidValue) (s : SidValue)
+    (marks : MarksEach heads nexts groups restricting) (kind : AceKind) where
+  -- where the place isn't marked, the SID is no other that matters
+  pub known_there : (r : Bool) → (IsMarked heads nexts s → ⊥)
+      → (a_group_stands_for (drop 254 groups) kind s ≡ false → (same_sid user s || a_group_stands_for groups kind s) ≡ r)
+      → ((same_sid user s || a_group_stands_for groups kind s) ≡ r) × (list_any (λ one. same_sid one s) restricting ≡ false) × (same_sid s owner_rights ≡ false)
+  known_there r unmarked known =
+      let out = none_of_three (same_sid s owner_rights) (list_any (λ one. same_sid one s) restricting) (a_group_stands_for (drop 254 groups) kind s)
+      (false_from_ne_true _ (λ yes. unmarked (marks kind s yes))) in
+      (known out.2, out.1, out.0)
+
+  -- where it has no link, nobody has the SID
+  pub nobody_there : IsIndex heads nexts groups (length groups) → IsMarked heads nexts user → may_hold heads s ≡ false
+      → ((same_sid user s || a_group_stands_for groups kind s) ≡ false) × (list_any (λ one. same_sid one s) restricting ≡ false) × (same_sid s owner_rights ≡ false)
+  nobody_there index to_user empty =
+      let link = get_or heads (place_of s) 0 in
+      let end : link ≡ 0 = eqb-true link 0 (grind (arith, empty)) in
+      known_there false (λ marked. none_at_end nexts (subst (λ n. OnChain nexts n 0) end marked)) (λ beyond.
+      sym (at_end nexts user s groups kind link false (omega (arith, end)) index.goes_back
+      (leads_from nexts user s groups kind heads (place_of s) refl index to_user) (λ one. absurd (omega (arith, one, end))) (sym beyond)))
+
+-- the chain of a place whose one link is a group's leads to nobody else
+pub alone_unmarked : (heads nexts : List ℕ) (s : SidValue) (at : ℕ) → at ≡ place_of s → 1 < get_or heads at 0 → get_or nexts (get_or heads at 0 - 1) 0 ≡ 0
+    → IsMarked heads nexts s → ⊥
+alone_unmarked heads nexts s at is_at more last marked =
+    let link = get_or heads at 0 in
+    let next : link ≡ suc (link - 1) = omega (arith, more) in
+    let here : OnChain nexts (suc (link - 1)) 0 = subst (λ n. OnChain nexts n 0) next (subst (λ p. OnChain nexts (get_or heads p 0) 0) (sym is_at) marked) in
+    elim (next_on_chain nexts here) [
+      | inl same ↦ omega (arith, same, more)
+      | inr further ↦ none_at_end nexts (subst (λ n. OnChain nexts n 0) last further)
+    ]
+
+pub alone_stands : (heads nexts : List ℕ) (user : SidValue) (groups : List (SidValue × GroupState)) (s : SidValue) (kind : AceKind) (at : ℕ)
+    (group : SidValue × GroupState) (r : Bool) → at ≡ place_of s → IsIndex heads nexts groups (length groups) → IsMarked heads nexts user → 1 < get_or heads at 0
+    → get_or nexts (get_or heads at 0 - 1) 0 ≡ 0 → group ≡ get_or groups (get_or heads at 0 - 2) group → r ≡ (same_sid group.0 s && counts kind group.1)
+    → a_group_stands_for (drop 254 groups) kind s ≡ false → (same_sid user s || a_group_stands_for groups kind s) ≡ r
+alone_stands heads nexts user groups s kind at group r is_at index to_user more last is is_r beyond =
+    let link = get_or heads at 0 in
+    let inside : link - 2 < length groups = omega (arith, index.starts at, more) in
+    let leads = leads_from nexts user s groups kind heads at is_at index to_user in
+    let fails : r ≡ false → (same_sid user s || a_group_stands_for groups kind s) ≡ false = λ no.
+    sym (at_end nexts user s groups kind (get_or nexts (link - 1) 0) false (omega (arith, last)) index.goes_back
+    (leads_on nexts user s groups kind link group more inside is (sym is_r ∙ no) leads) (λ one. absurd (omega (arith, one, last))) (sym beyond)) in
+    let holds : r ≡ true → a_group_stands_for groups kind s ≡ true = λ yes.
+    list_any_at (λ (g : SidValue × GroupState). same_sid g.0 s && counts kind g.1) groups (link - 2) group inside
+    (ap (λ (g : SidValue × GroupState). same_sid g.0 s && counts kind g.1) (sym is) ∙ sym is_r ∙ yes) in
+    grind (arith, fails, holds)
+
+-- what the parts of an index mark, it marks
+pub marks_each : (heads nexts : List ℕ) (groups : List (SidValue × GroupState)) (restricting : List SidValue) (beyond : List (SidValue × GroupState))
+    → beyond ≡ drop 254 groups → IsMarked heads nexts owner_rights
+    → ((s : SidValue) → list_any (λ one. same_sid one s) restricting ≡ true → IsMarked heads nexts s)
+    → ((kind : AceKind) (s : SidValue) → a_group_stands_for beyond kind s ≡ true → IsMarked heads nexts s)
+    → MarksEach heads nexts groups restricting
+marks_each heads nexts groups restricting beyond is owners each others kind s one =
+    elim (or_cases (same_sid s owner_rights || list_any (λ one. same_sid one s) restricting) _ one) [
+      | inl known ↦ elim (or_cases (same_sid s owner_rights) _ known) [
+        | inl of_owner ↦ subst (IsMarked heads nexts) (sym (same_sid-true s owner_rights of_owner)) owners
+        | inr of_each ↦ each s of_each
+      ]
+      | inr of_other ↦ others kind s (ap (λ (gs : List (SidValue × GroupState)). a_group_stands_for gs kind s) is ∙ of_other)
+    ]

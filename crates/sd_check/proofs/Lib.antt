@@ -1,7 +1,6 @@
 pub mod Words
 pub mod LowMasks
 pub mod Given
-pub mod Places
 pub mod Chains
 pub mod Answered
 pub mod Passes

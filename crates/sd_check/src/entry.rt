@@ -1,6 +1,6 @@
 //! What a check asks of an entry, wherever it is stored: an `Ace`, or an `AceRef`, whose SID stays in its bytes.
 
-ghost use Rattle.std.specs.Prelude.{◌≡◌, ◌-◌, length, slice_index};
+ghost use Rattle.std.specs.Prelude.{◌≡◌, ◌-◌, false, length, slice_index, IfSome};
 ghost use Rattle.sd_sid.specs.Sid.{SidValue, same_sid, owner_rights};
 ghost use Rattle.sd_acl.specs.Ace.{is_inherit_only};
 ghost use Rattle.sd_acl.specs.declared.ace.Ace.{Ace};
@@ -28,6 +28,11 @@ pub trait Trustee {
     fn is_of(&self, kind: AceKind, token: &Token) -> bool
         ensures { result ≡ stands_for token.now kind (sid self.now) };
 
+    /// The same, where one look shows it, and that it is neither OWNER RIGHTS nor a restricting SID.
+    fn is_alone_of(&self, kind: AceKind, token: &Token) -> Option<bool>
+        ensures { IfSome result (λ stands. (stands_for token.now kind (sid self.now) ≡ stands)
+            × (is_restricting token.now (sid self.now) ≡ false) × (same_sid (sid self.now) owner_rights ≡ false)) };
+
     /// Whether it is a restricting SID of the token.
     fn restricts(&self, token: &Token) -> bool
         ensures { result ≡ is_restricting token.now (sid self.now) };
@@ -52,6 +57,11 @@ impl Trustee for Sid {
     }
 
     #[inline(always)]
+    fn is_alone_of(&self, kind: AceKind, token: &Token) -> Option<bool> {
+        token.lone(kind, self)
+    }
+
+    #[inline(always)]
     fn restricts(&self, token: &Token) -> bool {
         token.is_restricting(self)
     }
@@ -73,6 +83,11 @@ impl<'a> Trustee for SidRef<'a> {
     #[inline(always)]
     fn is_of(&self, kind: AceKind, token: &Token) -> bool {
         token.has(kind, &self.copied())
+    }
+
+    #[inline(always)]
+    fn is_alone_of(&self, kind: AceKind, token: &Token) -> Option<bool> {
+        token.lone(kind, &self.copied())
     }
 
     #[inline(always)]

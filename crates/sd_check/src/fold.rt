@@ -84,14 +84,14 @@ impl<O: Trustee> Question<'_, O> {
         if entry.is_inherit_only() {
             return (tally, false);
         }
-        let limits = entry.trustee().is_owner_rights();
-        if !BOTH && !limits {
-            if !entry.trustee().is_of(entry.kind(), self.token) {
+        if let Some(stands) = entry.trustee().is_alone_of(entry.kind(), self.token) {
+            if !stands {
                 return (tally, false);
             }
             // (inlined a second time, where both are known)
             return self.decided::<BOTH, E>(tally, entry, true, false);
         }
+        let limits = entry.trustee().is_owner_rights();
         let applies = self.applies(entry);
         self.decided::<BOTH, E>(tally, entry, applies, limits)
     }
@@ -306,6 +306,7 @@ impl<O: Trustee> Question<'_, O> {
 
 /// What the privileges grant.
 #[inline(always)]
+#[tactic(auto, using(crate::proofs::Given::privileged_is))]
 fn privileged(privileges: Privileges) -> Mask
     ensures { result ≡ mask_of (is_implied false privileges.take_ownership privileges.security) 32 }
 {

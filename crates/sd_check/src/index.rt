@@ -1,11 +1,13 @@
 //! Finds an entry's SID among those of a token. Each SID has one of 1,024 places. Most entries' SIDs have a place that
 //! no SID of the token has; any other is compared with those of its place alone.
 
-ghost use Rattle.std.specs.Prelude.{◌≡◌, ◌<◌, ◌+◌, ◌-◌, ◌||◌, ◌&&◌, true, List, ℕ, length, drop, slice_index};
-ghost use Rattle.std.specs.Prelude.{slice_index_or};
+ghost use Rattle.std.specs.Prelude.{◌≡◌, ◌<◌, ◌+◌, ◌-◌, ◌||◌, ◌&&◌, true, false, List, length, drop, slice_index};
+ghost use Rattle.std.specs.Prelude.{slice_index_or, IfSome};
+ghost use Rattle.std.specs.List.{list_any};
 ghost use Rattle.sd_sid.specs.Sid.{SidValue, same_sid, owner_rights};
+ghost use Rattle.sd_acl.specs.declared.ace.AceKind.{AceKind};
 ghost use Rattle.sd_check.specs.declared.token.GroupState.{GroupState};
-ghost use Rattle.sd_check.specs.Index.{HoldsEach, IsIndex, IsIndexOfEach, may_hold, place_of};
+ghost use Rattle.sd_check.specs.Index.{IsIndex, IsMarked, Keeps, MarksEach, may_hold, place_of};
 ghost use Rattle.sd_check.specs.Token.{a_group_stands_for, counts};
 
 use crate::entry::Trustee;
@@ -22,9 +24,12 @@ const MAX_CHAINED: usize = 254;
 /// The place of OWNER RIGHTS, S-1-3-4 ([MS-DTYP] 2.4.2.4).
 const OWNER_RIGHTS_PLACE: usize = 4;
 
+/// A group, and how it counts.
+type Group = (Sid, GroupState);
+
 /// For each place a chain of the groups whose SIDs have it, the last first, and then the user. A link is 0 at the end
-/// of a chain, 1 for the user, and a group's number and 2 for a group. The place of OWNER RIGHTS, of a restricting SID
-/// or of a group beyond the first 254 has the link 1, unless it has another.
+/// of a chain, 1 for the user, and a group's number and 2 for a group. The places of OWNER RIGHTS, of restricting SIDs
+/// and of groups beyond the first 254 are marked: their chains end with the user too.
 #[derive(Clone, Copy, Debug)]
 pub(crate) struct Index {
     /// For each place the first link of its chain.
@@ -34,82 +39,75 @@ pub(crate) struct Index {
 }
 
 impl Index {
-    /// The index of a user, of the groups that count for anything, and of OWNER RIGHTS, which an entry may name whoever
-    /// asks.
-    pub(crate) fn new(user: &Sid, groups: &[(Sid, GroupState)]) -> Index
-        ensures chains { IsIndex result.heads result.nexts user.now groups.now (length groups.now) }
-        ensures token { IsIndexOfEach result.heads user.now groups.now }
-        ensures owner_rights { may_hold result.heads owner_rights ≡ true }
+    /// The index of a user, of the groups that count for anything, of restricting SIDs and of OWNER RIGHTS.
+    pub(crate) fn new(user: &Sid, groups: &[Group], restricting: &[Sid]) -> Index
+        ensures chains { IsIndex result.heads result.nexts groups.now (length groups.now) }
+        ensures user { IsMarked result.heads result.nexts user.now }
+        ensures marks { MarksEach result.heads result.nexts groups.now restricting.now }
     {
-        let mut index = Index::of_user(user);
+        let mut index = Index {
+            heads: [0; 1024],
+            nexts: [0; 255],
+        };
+        index.mark(OWNER_RIGHTS_PLACE);
+        index.mark(place_of(user));
+        index.mark_each(restricting);
+        index.mark_groups(beyond_chains(groups));
         for (number, group_state) in groups.iter().enumerate() {
             let (group, state) = group_state;
-            if state.counts(AceKind::Deny) {
+            if number < MAX_CHAINED && state.counts(AceKind::Deny) {
                 index.add(number, group);
             }
         }
         index
     }
 
-    /// The index of a user and of OWNER RIGHTS.
-    fn of_user(user: &Sid) -> Index
-        ensures chains { (groups : List (SidValue × GroupState)) → IsIndex result.heads result.nexts user.now groups 0 }
-        ensures user { may_hold result.heads user.now ≡ true }
-        ensures owner_rights { may_hold result.heads owner_rights ≡ true }
-    {
-        let place = place_of(user);
-        let mut heads = [0; 1024];
-        heads[OWNER_RIGHTS_PLACE] = 1;
-        heads[place] = 1;
-        Index {
-            heads,
-            nexts: [0; 255],
-        }
-    }
-
     /// Adds the group of this number, after all those before it.
     fn add(&mut self, number: usize, group: &Sid)
-        ensures chains { (user : SidValue) (groups : List (SidValue × GroupState))
+        requires { number < 254 }
+        ensures chains { (groups : List (SidValue × GroupState))
             → ((d : SidValue × GroupState) → (slice_index_or groups number d).0 ≡ group.now)
-            → IsIndex self.old.heads self.old.nexts user groups number
-            → IsIndex self.new.heads self.new.nexts user groups (number + 1) }
-        ensures here { may_hold self.new.heads group.now ≡ true }
-        ensures kept { (s : SidValue) → may_hold self.old.heads s ≡ true → may_hold self.new.heads s ≡ true }
+            → IsIndex self.old.heads self.old.nexts groups number
+            → IsIndex self.new.heads self.new.nexts groups (number + 1) }
+        ensures marks { (groups : List (SidValue × GroupState)) (s : SidValue)
+            → IsIndex self.old.heads self.old.nexts groups number
+            → IsMarked self.old.heads self.old.nexts s → IsMarked self.new.heads self.new.nexts s }
     {
-        if number < MAX_CHAINED {
-            let place = place_of(group);
-            self.nexts[number + 1] = self.heads[place];
-            self.heads[place] = number as u8 + 2;
-        } else {
-            self.mark(group);
-        }
+        let place = place_of(group);
+        self.nexts[number + 1] = self.heads[place];
+        self.heads[place] = number as u8 + 2;
     }
 
-    /// Adds SIDs to which no chain leads.
-    pub(crate) fn mark_each(&mut self, sids: &[Sid])
-        ensures chains { (user : SidValue) (groups : List (SidValue × GroupState)) (n : ℕ)
-            → IsIndex self.old.heads self.old.nexts user groups n
-            → IsIndex self.new.heads self.new.nexts user groups n }
-        ensures here { HoldsEach self.new.heads sids.now }
-        ensures kept { (s : SidValue) → may_hold self.old.heads s ≡ true → may_hold self.new.heads s ≡ true }
+    /// Marks the places of restricting SIDs.
+    fn mark_each(&mut self, sids: &[Sid])
+        ensures kept { Keeps self.old.heads self.old.nexts self.new.heads self.new.nexts }
+        ensures here { (s : SidValue) → list_any (λ one. same_sid one s) sids.now ≡ true
+            → IsMarked self.new.heads self.new.nexts s }
     {
         'sids: for sid in sids {
-            self.mark(sid);
+            self.mark(place_of(sid));
         }
     }
 
-    /// Adds a SID to which no chain leads.
-    fn mark(&mut self, sid: &Sid)
-        ensures chains { (user : SidValue) (groups : List (SidValue × GroupState)) (n : ℕ)
-            → IsIndex self.old.heads self.old.nexts user groups n
-            → IsIndex self.new.heads self.new.nexts user groups n }
-        ensures here { may_hold self.new.heads sid.now ≡ true }
-        ensures kept { (s : SidValue) → may_hold self.old.heads s ≡ true → may_hold self.new.heads s ≡ true }
+    /// Marks the places of groups that no chain leads to.
+    fn mark_groups(&mut self, groups: &[Group])
+        ensures kept { Keeps self.old.heads self.old.nexts self.new.heads self.new.nexts }
+        ensures here { (kind : AceKind) (s : SidValue) → a_group_stands_for groups.now kind s ≡ true
+            → IsMarked self.new.heads self.new.nexts s }
     {
-        let place = place_of(sid);
-        if self.heads[place] == 0 {
-            self.heads[place] = 1;
+        'groups: for place in groups {
+            self.mark(place_of(&place.0));
         }
+    }
+
+    /// Marks a place, before any group is added.
+    #[tactic(auto, using(crate::proofs::Chains::mark_here))]
+    fn mark(&mut self, place: usize)
+        requires { place < 1024 }
+        ensures kept { Keeps self.old.heads self.old.nexts self.new.heads self.new.nexts }
+        ensures here { (s : SidValue) → place ≡ place_of s → IsMarked self.new.heads self.new.nexts s }
+    {
+        self.heads[place] = 1;
     }
 
     /// Whether the SID's place has a link.
@@ -120,23 +118,36 @@ impl Index {
         self.heads[sid.last_sub() as usize % PLACES] != 0
     }
 
-    /// Whether the user has the SID, or a group that counts for an entry of the kind.
+    /// As `stands_for`, where the SID's place has one group and isn't marked, as most places with a link.
     #[inline(always)]
-    pub(crate) fn stands_for(
+    pub(crate) fn lone(
         &self,
         user: &Sid,
-        groups: &[(Sid, GroupState)],
+        groups: &[Group],
         kind: AceKind,
         sid: &Sid,
-    ) -> bool
-        requires { IsIndex self.now.heads self.now.nexts user.now groups.now (length groups.now) }
+    ) -> Option<bool>
+        requires chains { IsIndex self.now.heads self.now.nexts groups.now (length groups.now) }
+        requires user { IsMarked self.now.heads self.now.nexts user.now }
+        ensures { IfSome result (λ stands. (IsMarked self.now.heads self.now.nexts sid.now → ⊥)
+            × (a_group_stands_for (drop 254 groups.now) kind sid.now ≡ false
+            → (same_sid user.now sid.now || a_group_stands_for groups.now kind sid.now) ≡ stands)) }
+    {
+        let link = self.heads[place_of(sid)] as usize;
+        if link > 1 && self.nexts[link - 1] == 0 {
+            return Some(stands_for(&groups[link - 2], kind, sid));
+        }
+        None
+    }
+
+    /// Whether the user has the SID, or a group that counts for an entry of the kind.
+    #[inline(always)]
+    pub(crate) fn stands_for(&self, user: &Sid, groups: &[Group], kind: AceKind, sid: &Sid) -> bool
+        requires chains { IsIndex self.now.heads self.now.nexts groups.now (length groups.now) }
+        requires user { IsMarked self.now.heads self.now.nexts user.now }
         ensures { result ≡ (same_sid user.now sid.now || a_group_stands_for groups.now kind sid.now) }
     {
         let mut link = self.heads[place_of(sid)] as usize;
-        // Most places with a link have one group and nothing else.
-        if link > 1 && self.nexts[link - 1] == 0 {
-            return stands_for(&groups[link - 2], kind, sid) || one_beyond_chains(groups, kind, sid);
-        }
         while link > 1 {
             if stands_for(&groups[link - 2], kind, sid) {
                 return true;
@@ -165,17 +176,30 @@ pub(crate) fn last_sub(sid: &Sid) -> u32
     subs[subs.len() - 1]
 }
 
-/// Whether one of the groups that no chain leads to has the SID, and counts for an entry of the kind.
+/// The groups that no chain leads to.
 #[inline(always)]
-fn one_beyond_chains(groups: &[(Sid, GroupState)], kind: AceKind, sid: &Sid) -> bool
+fn beyond_chains(groups: &[Group]) -> &[Group]
+    ensures { result.now ≡ drop 254 groups.now }
+{
+    if groups.len() > MAX_CHAINED {
+        &groups[MAX_CHAINED..]
+    } else {
+        &[]
+    }
+}
+
+/// Whether one of them has the SID, and counts for an entry of the kind.
+#[inline(always)]
+fn one_beyond_chains(groups: &[Group], kind: AceKind, sid: &Sid) -> bool
     ensures { result ≡ a_group_stands_for (drop 254 groups.now) kind sid.now }
 {
-    groups.len() > MAX_CHAINED && a_group_stands_for(&groups[MAX_CHAINED..], kind, sid)
+    let beyond = beyond_chains(groups);
+    !beyond.is_empty() && a_group_stands_for(beyond, kind, sid)
 }
 
 /// Whether one of the groups has the SID, and counts for an entry of the kind.
 #[inline(never)]
-fn a_group_stands_for(groups: &[(Sid, GroupState)], kind: AceKind, sid: &Sid) -> bool
+fn a_group_stands_for(groups: &[Group], kind: AceKind, sid: &Sid) -> bool
     ensures { result ≡ a_group_stands_for groups.now kind sid.now }
 {
     groups.iter().any(|place| stands_for(place, kind, sid))
@@ -183,7 +207,7 @@ fn a_group_stands_for(groups: &[(Sid, GroupState)], kind: AceKind, sid: &Sid) ->
 
 /// Whether the group has the SID, and counts for an entry of the kind.
 #[inline(always)]
-fn stands_for(place: &(Sid, GroupState), kind: AceKind, sid: &Sid) -> bool
+fn stands_for(place: &Group, kind: AceKind, sid: &Sid) -> bool
     ensures { result ≡ (same_sid place.now.0 sid.now && counts kind place.now.1) }
 {
     let (group, state) = place;

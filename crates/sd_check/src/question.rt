@@ -38,6 +38,7 @@ pub struct Question<'a, O> {
 impl<O: Trustee> Question<'_, O> {
     /// What the entry decides in the pass where no earlier one does: its mapped mask, or nothing ([MS-DTYP] 2.5.3.2).
     #[inline(always)]
+    #[tactic(auto, using(crate::proofs::Passes::none_in))]
     pub fn part<E: Entry>(&self, pass: Pass, entry: &E) -> Mask
         ensures { let q = asking O.sid self.now in
             result ≡ part_of q.mapping (applies_in pass q.token q.owner) (E.ace entry.now) }
@@ -161,6 +162,7 @@ impl<O: Trustee> Question<'_, O> {
 
     /// The mapped mask: most have no generic right, and stay as they are.
     #[inline(always)]
+    #[tactic(auto, using(crate::proofs::LowMasks::mapped_is_itself))]
     pub(crate) fn map(&self, mask: Mask) -> Mask
         ensures { result ≡ mapped self.now.mapping.now mask }
     {

@@ -13,6 +13,7 @@ use sd_sid::{GenericMapping, Mask, Sid};
 pub type DaclRef<'a> = DaclOf<&'a [Ace]>;
 
 /// The verdict on a request, for a descriptor ([MS-DTYP] 2.5.3.2). Takes no memory.
+#[tactic(auto, using(crate::proofs::Owned::owned_list))]
 pub fn check(
     descriptor: &Descriptor,
     mapping: &GenericMapping,
@@ -35,6 +36,7 @@ pub fn check(
 }
 
 /// The same for a descriptor in parts: its owner, and its DACL.
+#[tactic(auto, using(crate::proofs::Owned::owned_list))]
 pub fn check_parts(
     owner: Option<Sid>,
     dacl: DaclRef<'_>,
@@ -59,6 +61,7 @@ pub fn check_parts(
 
 /// The same for a list in two parts, as a node's own entries and those that it inherits: the first before the second,
 /// and neither copied.
+#[tactic(auto, using(crate::proofs::Owned::owned_lists))]
 pub fn check_joined(
     owner: Option<Sid>,
     front: &[Ace],

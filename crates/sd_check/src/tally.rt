@@ -28,6 +28,7 @@ impl Settled {
     /// Whether an entry further on can change nothing: no bit is undecided, nor any that the owner keeps and isn't
     /// allowed.
     #[inline]
+    #[tactic(auto, using(crate::proofs::Passes::nothing_hangs))]
     fn is_over(&self, kept: Mask) -> bool
         ensures { result ≡ true → IsSettled self.now kept }
     {

@@ -1,6 +1,6 @@
 //! Who asks.
 
-ghost use Rattle.std.specs.Prelude.{◌≡◌, false, not, ◌||◌, ◌&&◌, []};
+ghost use Rattle.std.specs.Prelude.{◌≡◌, false, not, ◌||◌, ◌&&◌, [], IfSome};
 ghost use Rattle.sd_sid.specs.Sid.{same_sid, owner_rights};
 ghost use Rattle.sd_acl.specs.declared.ace.AceKind.{AceKind};
 ghost use Rattle.sd_check.specs.Token.{stands_for, a_group_stands_for, counts, is_restricted, is_restricting};
@@ -62,9 +62,8 @@ impl Model for Token {
 
     ghost Value = { TokenValue };
 
-    ghost use Rattle.std.specs.Prelude.{◌≡◌, true, length};
-    ghost use Rattle.sd_sid.specs.Sid.{owner_rights};
-    ghost use Rattle.sd_check.specs.Index.{HoldsEach, IsIndex, IsIndexOfEach, may_hold};
+    ghost use Rattle.std.specs.Prelude.{length};
+    ghost use Rattle.sd_check.specs.Index.{IsIndex, IsMarked, MarksEach};
 
     ghost view = { λ t. record {
       user = t.user;
@@ -73,9 +72,9 @@ impl Model for Token {
       privileges = t.privileges;
     } };
 
-    ghost invariant = { λ t. IsIndexOfEach t.index.heads t.user t.groups.items
-        × HoldsEach t.index.heads t.restricting.items × (may_hold t.index.heads owner_rights ≡ true)
-        × IsIndex t.index.heads t.index.nexts t.user t.groups.items (length t.groups.items) };
+    ghost invariant = { λ t. IsIndex t.index.heads t.index.nexts t.groups.items (length t.groups.items)
+        × IsMarked t.index.heads t.index.nexts t.user
+        × MarksEach t.index.heads t.index.nexts t.groups.items t.restricting.items };
 }
 
 impl GroupState {
@@ -117,8 +116,7 @@ impl Token {
           privileges = privileges;
         } }
     {
-        let mut index = Index::new(&user, &groups);
-        index.mark_each(&restricting);
+        let index = Index::new(&user, &groups, &restricting);
         Token {
             user,
             groups,
@@ -161,8 +159,17 @@ impl Token {
         self.restricting.iter().any(|one| one.is(sid))
     }
 
-    /// Whether the user has the SID, or a group that counts for an entry of the kind.
+    /// As `has`, where one look shows it, and that the SID is neither OWNER RIGHTS nor a restricting one.
     #[inline(always)]
+    pub(crate) fn lone(&self, kind: AceKind, sid: &Sid) -> Option<bool>
+        ensures { IfSome result (λ stands. (stands_for self.now kind sid.now ≡ stands)
+            × (is_restricting self.now sid.now ≡ false) × (same_sid sid.now owner_rights ≡ false)) }
+    {
+        self.index.lone(&self.user, &self.groups, kind, sid)
+    }
+
+    /// Whether the user has the SID, or a group that counts for an entry of the kind.
+    #[inline(never)]
     pub(crate) fn has(&self, kind: AceKind, sid: &Sid) -> bool
         ensures { result ≡ stands_for self.now kind sid.now }
     {

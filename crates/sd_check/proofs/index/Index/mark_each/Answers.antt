@@ -1,22 +1,15 @@
-use Rattle.std.proofs.Common.{subst}
-use Rattle.sd_check.proofs.Words.{take_all, HoldsEach}
-use Rattle.sd_check.proofs.Places.{holds_each_of_more}
+use Rattle.std.proofs.Common.{ap, sym, ◌∙◌, List}
+use Rattle.sd_check.proofs.Words.{SidValue, IsMarked, list_any, place_of, same_sid, same_sid-true, take_all}
+use Rattle.sd_check.proofs.Chains.{one_of_more}
 use Rattle.sd_check.proofs.index.Index.mark_each.Goals as goal
 
 pub sids-preserved : goal.sids-preserved
 sids-preserved c = (
-  holds_each_of_more c.sids.self.heads c.mark.new.self.heads c.args.sids.now c.sids.sid-index c.sid-item.result c.sids-test.true c.sid-item.is
-      c.sids.invariant.0 c.mark.ensures.kept c.mark.ensures.here,
-  λ s held. c.mark.ensures.kept s (c.sids.invariant.1 s held),
-  λ user groups n index. c.mark.ensures.chains user groups n (c.sids.invariant.2 user groups n index),
+  (λ groups index. c.mark.ensures.kept.0 groups (c.sids.invariant.0.0 groups index), λ s held. c.mark.ensures.kept.1 s (c.sids.invariant.0.1 s held)),
+  λ s. one_of_more (IsMarked c.mark.new.self.heads c.mark.new.self.nexts s) (λ one. same_sid one s) c.args.sids.now c.sids.sid-index c.sid-item.result c.sids-test.true c.sid-item.is
+      (λ held. c.mark.ensures.kept.1 s (c.sids.invariant.1 s held)) (λ same. c.mark.ensures.here s (c.place_of.ensures.place ∙ ap place_of (same_sid-true _ s same))),
 )
 
 pub returns-clause-here : goal.returns-clause-here
-returns-clause-here c =
-    subst (λ sids. HoldsEach c.sids.self.heads sids) (take_all c.sids.sid-index c.args.sids.now c.sids-test.false) c.sids.invariant.0
-
-pub returns-clause-kept : goal.returns-clause-kept
-returns-clause-kept c = c.sids.invariant.1
-
-pub returns-clause-chains : goal.returns-clause-chains
-returns-clause-chains c = c.sids.invariant.2
+returns-clause-here c = λ s one.
+    c.sids.invariant.1 s (ap (λ (sids : List SidValue). list_any (λ one. same_sid one s) sids) (take_all c.sids.sid-index c.args.sids.now c.sids-test.false) ∙ one)

@@ -1,43 +1,41 @@
-use Rattle.std.proofs.Common.{◌≡◌, true, get_or, sym, ◌∙◌, ap, subst}
-use Rattle.sd_check.proofs.Words.{false≢true, SidValue, owner_rights, GroupState, Deny, counts, take_all, get_or_default, IsIndexOfEach}
-use Rattle.sd_check.proofs.Chains.{index_on}
-use Rattle.sd_check.proofs.Places.{each_of_user, each_of_more}
+use Rattle.std.proofs.Common.{◌≡◌, true, arith, refl, get_or, sym, ◌∙◌, ap}
+use Rattle.sd_check.proofs.Words.{false≢true, owner_rights, SidValue, GroupState, Deny, counts, get_or_default}
+use Rattle.sd_check.proofs.Chains.{index_of_nobody, index_on, marks_each}
 use Rattle.sd_check.proofs.index.Index.new.Goals as goal
-use Rattle.sd_check.proofs.index.Index.new.Goals.{then-counts, else-counts}
+use Rattle.sd_check.proofs.index.Index.new.Goals.{then-number-lt-MAX_CHAINED+then-counts, else-number-lt-MAX_CHAINED, else-number-lt-MAX_CHAINED-via-then-number-lt-MAX_CHAINED+else-counts, else-number-lt-MAX_CHAINED-via-else-number-lt-MAX_CHAINED}
 
 pub loop-number-init : goal.loop-number-init
-loop-number-init c = (
-  c.of_user-index.ensures.chains c.args.groups.now,
-  each_of_user c.of_user-index.result.heads c.args.user.now c.of_user-index.ensures.user,
-  c.of_user-index.ensures.owner_rights,
-)
+loop-number-init c =
+    let groups = c.args.groups.now in
+    let kept = c.mark_groups.ensures.kept in
+    let each = c.mark_each.ensures in (
+      kept.0 groups (each.kept.0 groups (c.mark-2.ensures.kept.0 groups (c.mark.ensures.kept.0 groups (index_of_nobody groups)))),
+      kept.1 c.args.user.now (each.kept.1 c.args.user.now (c.mark-2.ensures.here c.args.user.now c.place_of.ensures.place)),
+      marks_each c.mark_groups.new.self.heads c.mark_groups.new.self.nexts groups c.args.restricting.now c.beyond_chains.result.now c.beyond_chains.ensures
+          (kept.1 owner_rights (each.kept.1 owner_rights (c.mark-2.ensures.kept.1 owner_rights (c.mark.ensures.here owner_rights refl))))
+          (λ s one. kept.1 s (each.here s one)) c.mark_groups.ensures.here,
+    )
 
 pub loop-number-preserved : goal.loop-number-preserved
 loop-number-preserved c =
-    let heads = c.loop-number.index.heads in
-    let user = c.args.user.now in
+    let index = c.loop-number.index in
     let groups = c.args.groups.now in
     let number = c.loop-number.number in
     let group = c.index-groups-number.result in
-    let inside = c.loop-number-test.true in
-    let is = c.index-groups-number.is in
-    let same : (d : SidValue × GroupState) → get_or groups number d ≡ group = λ d. get_or_default groups number d group inside ∙ sym is in
-    elim c.if-counts.branch [
-      | then-counts w ↦ rw w.index-is (
-        w.add.ensures.chains user groups (λ d. ap (λ (g : SidValue × GroupState). g.0) (same d)) c.loop-number.invariant.0,
-        each_of_more heads w.add.new.self.heads user groups number group inside is c.loop-number.invariant.1 w.add.ensures.kept (λ h. w.add.ensures.here),
-        w.add.ensures.kept owner_rights c.loop-number.invariant.2,
+    let same : (d : SidValue × GroupState) → get_or groups number d ≡ group = λ d. get_or_default groups number d group c.loop-number-test.true ∙ sym c.index-groups-number.is in
+    elim c.if-number-lt-MAX_CHAINED.branch [
+      | then-number-lt-MAX_CHAINED+then-counts w ↦ rw w.index-is (
+        w.add.ensures.chains groups (λ d. ap (λ (g : SidValue × GroupState). g.0) (same d)) c.loop-number.invariant.0,
+        w.add.ensures.marks groups c.args.user.now c.loop-number.invariant.0 c.loop-number.invariant.1,
+        λ kind s one. w.add.ensures.marks groups s c.loop-number.invariant.0 (c.loop-number.invariant.2 kind s one),
       )
-      | else-counts w ↦
-          let not_counted : counts Deny group.1 ≡ true → ⊥ = λ h. false≢true (sym (sym c.counts.ensures ∙ w.if-counts.false) ∙ h) in
-          rw w.index-is (
-            index_on user groups heads c.loop-number.index.nexts number (λ d _ h. not_counted (ap (λ (g : SidValue × GroupState). counts Deny g.1) (sym (same d)) ∙ h)) c.loop-number.invariant.0,
-            each_of_more heads heads user groups number group inside is c.loop-number.invariant.1 (λ s h. h) (λ h. absurd (not_counted h)),
-            c.loop-number.invariant.2,
-          )
+      | else-number-lt-MAX_CHAINED w ↦ rw w.index-is (
+        index_on groups index.heads index.nexts number (λ d few counted. elim w.else-number-lt-MAX_CHAINED.branch [
+          | else-number-lt-MAX_CHAINED-via-then-number-lt-MAX_CHAINED+else-counts v ↦
+              false≢true (sym (sym v.counts.ensures ∙ v.if-counts.false) ∙ ap (λ (g : SidValue × GroupState). counts Deny g.1) (sym (same d)) ∙ counted)
+          | else-number-lt-MAX_CHAINED-via-else-number-lt-MAX_CHAINED v ↦ omega (arith, few, v.if-number-lt-MAX_CHAINED.false)
+        ]) c.loop-number.invariant.0,
+        c.loop-number.invariant.1,
+        c.loop-number.invariant.2,
+      )
     ]
-
-pub returns-clause-token : goal.returns-clause-token
-returns-clause-token c =
-    subst (λ groups. IsIndexOfEach c.loop-number.index.heads c.args.user.now groups)
-    (take_all c.loop-number.number c.args.groups.now c.loop-number-test.false) c.loop-number.invariant.1

@@ -1,10 +1,9 @@
--- The index so far is that of the user, the groups so far and OWNER RIGHTS.
-use Rattle.std.proofs.Common.{take, true, ◌≡◌}
-use Rattle.sd_check.proofs.Words.{owner_rights, IsIndex, IsIndexOfEach, may_hold}
+-- The index so far is that of the user and the groups so far, with the places of all others marked.
+use Rattle.sd_check.proofs.Words.{IsIndex, IsMarked, MarksEach}
 use Rattle.sd_check.proofs.index.Index.new.Given as goal
 
 abbrev pub invariant-loop-number : goal.invariant-loop-number
 invariant-loop-number l =
-    IsIndex l.index.heads l.index.nexts l.user l.groups l.number
-    × IsIndexOfEach l.index.heads l.user (take l.number l.groups)
-    × (may_hold l.index.heads owner_rights ≡ true)
+    IsIndex l.index.heads l.index.nexts l.groups l.number
+    × IsMarked l.index.heads l.index.nexts l.user
+    × MarksEach l.index.heads l.index.nexts l.groups l.restricting

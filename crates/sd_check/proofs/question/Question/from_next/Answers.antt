@@ -13,9 +13,3 @@ silent-preserved g c = (
       (takes_next g.E.Entry.ace both _ c.entry-item.result c.silent.rest.now _ tally tally to c.in-len1-up.len_at_least c.entry-item.is (c.is_silent.ensures c.if-not-is_silent.false both tally) rest),
   omega (arith, c.silent.invariant.1, length-drop 1 c.silent.rest.now, length-take-le (length c.silent.rest.now - 1) (drop 1 c.silent.rest.now) (omega (arith, length-drop 1 c.silent.rest.now))),
 )
-
-pub returns-then-not-is_silent-clause-same : goal.returns-then-not-is_silent-clause-same
-returns-then-not-is_silent-clause-same g c = c.silent.invariant.0
-
-pub returns-clause-same : goal.returns-clause-same
-returns-clause-same g c = c.silent.invariant.0
