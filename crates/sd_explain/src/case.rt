@@ -96,6 +96,7 @@ fn span(mask: Mask) -> (u32, u32)
 }
 
 /// Writes the finding at the places that were decided.
+#[tactic(auto, using(crate::proofs::Written::written_from, crate::proofs::Written::written_all))]
 fn note(findings: &mut [Finding; 32], decided: Mask, finding: Finding)
     requires { length findings.old ≡ 32 }
     ensures size { length findings.new ≡ 32 }
@@ -193,6 +194,7 @@ impl Case<'_> {
     }
 
     /// The bits that have a part in the answer.
+    #[tactic(auto, using(crate::proofs::Asked::no_reason, crate::proofs::Asked::no_reserved))]
     fn answered(&self) -> Mask
         ensures { (b : ℕ) → b < 32 → holds result b ≡ false
             → of_case reason_at self.now self.now.question.asked b ≡ None }
@@ -252,6 +254,7 @@ impl Case<'_> {
 
     /// The reason of the bit in the answer to the request, where it has a part in it. `first` and `second` are what the
     /// passes find for the bits that the list is asked for.
+    #[tactic(auto, using(crate::proofs::Asked::named_is_asked, crate::proofs::Asked::maximum_is_asked))]
     fn reason(
         &self,
         wanted: Mask,

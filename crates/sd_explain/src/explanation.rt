@@ -114,6 +114,7 @@ impl Explanation {
 
     /// The bits of the share at the places below the end.
     #[inline(always)]
+    #[tactic(auto, using(crate::proofs::Bits::one_more), unfolding(sd_sid::specs::Mask::mask_of))]
     fn bits_below(&self, share: Share, end: u32) -> Mask
         requires { end ≤ 32 }
         ensures { result ≡ bits_of share (reason_in self.now.reasons) end }
