@@ -44,6 +44,6 @@ pub use error::{AuditError, EditError, Gone, PublishError, ShowError};
 pub use gate::{Gate, OpenGate};
 pub use naming::Naming;
 pub use notice::Notice;
-pub use opening::start;
+pub use opening::{start, start_within};
 pub use query::Query;
 pub use writer::StoreWriter;

@@ -15,6 +15,7 @@ pub trait Naming: Chain {
 /// Any value: a caller picks the one that it has.
 impl Naming for Brand {
     ghost use Rattle.std.specs.Prelude.{[]};
+    ghost use Rattle.sd_tree.specs.Limits.{standard_limits};
     ghost use Rattle.sd_tree.specs.declared.node.NodeDacl.TheVariants.{Null};
 
     ghost opening = { record {
@@ -24,5 +25,6 @@ impl Naming for Brand {
         group = record { authority = 0; subs = [] };
         dacl = Null;
       };
+      limits = standard_limits;
     } };
 }

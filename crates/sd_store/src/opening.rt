@@ -2,7 +2,7 @@
 
 ghost use Rattle.std.specs.Prelude.{◌≡◌, ◌⊎◌, ◌∷◌, ◌<◌, ◌≤◌, [], None, drop, IfOk, IfErr, All, vec_len};
 ghost use Rattle.left_right.specs.Sides.{view};
-ghost use Rattle.sd_tree.specs.Journal.{opening_of, root_refusal};
+ghost use Rattle.sd_tree.specs.Journal.{opening_of, opening_within, root_refusal};
 ghost use Rattle.sd_history.specs.Chains.{items_from};
 ghost use Rattle.sd_versions.specs.Starts.{IsReaderCount};
 ghost use Rattle.sd_versions.specs.declared.start.StartError.TheVariants.{Memory, Place};
@@ -17,14 +17,14 @@ use crate::rule::Cell;
 use crate::writer::StoreWriter;
 use sd_history::{Front, Opened};
 use sd_sid::GenericMapping;
-use sd_tree::{Edit, RootSpec, Shared, Tree};
+use sd_tree::{Edit, Limits, RootSpec, Shared, Tree};
 use sd_versions::{MAX_READERS, StartError, Versions};
 use std::alloc::{AllocError, Global};
 use std::sync::Wait;
 
 /// A store with no edit yet: its writer, and 1 to 64 checkers, which have seen none. It is of the history that it
 /// takes, a new one. `Readers` for another number, and else the root's first refusal. It may wait where it answers
-/// `Place`.
+/// `Place`. Its tree has at most 65,536 nodes and 1,048,576 edits.
 pub fn start<J: Naming, R: Wait>(
     rt: &R,
     alloc: Global,
@@ -43,10 +43,35 @@ pub fn start<J: Naming, R: Wait>(
         All (λ checker. (checker.floor ≡ []) × (checker.view ≡ newcomer)) store.1.items) }
     ensures refused { IfErr result (λ e. IsStoreError e readers (root_refusal (opening_of mapping.now root.now))) }
 {
+    let limits = Limits::standard();
+    start_within::<J, R>(rt, alloc, history, mapping, root, limits, readers)
+}
+
+/// The same, of a store whose tree is within these limits.
+pub fn start_within<J: Naming, R: Wait>(
+    rt: &R,
+    alloc: Global,
+    history: Opened<Edit>,
+    mapping: &GenericMapping,
+    root: &RootSpec,
+    limits: Limits,
+    readers: u64,
+) -> Result<(StoreWriter<J>, Vec<Checker<J>>), StartError>
+    requires history { (history.book ≡ J.book) × (history.first ≡ J.first) }
+    requires opening { opening_within mapping.now root.now limits ≡ J.opening }
+    ensures accepted { IfOk result (λ _. IsReaderCount readers
+        × (root_refusal (opening_within mapping.now root.now limits) ≡ None)) }
+    ensures count { IfOk result (λ store. vec_len store.1 ≡ readers) }
+    ensures writer { IfOk result (λ store. (store.0.journal ≡ []) × (store.0.marks ≡ 0 ∷ []) × (store.0.pending ≡ [])) }
+    ensures checkers { IfOk result (λ store.
+        All (λ checker. (checker.floor ≡ []) × (checker.view ≡ newcomer)) store.1.items) }
+    ensures refused { IfErr result (λ e.
+        IsStoreError e readers (root_refusal (opening_within mapping.now root.now limits))) }
+{
     if readers < 1 || MAX_READERS < readers {
         return Err(StartError::Readers);
     }
-    let versions = Versions::opening(alloc, mapping, root)?;
+    let versions = Versions::opening(alloc, mapping, root, limits)?;
     let tree = versions.snapshot()?;
     let pencil = history.named::<J>();
     let front = pencil.front();
