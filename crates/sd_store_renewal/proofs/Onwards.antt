@@ -25,7 +25,7 @@ replay-append o journal more = edited_by-append o.mapping (opened o) journal mor
 pub same_tree_goes_on_alike : SameTreeGoesOnAlike
 same_tree_goes_on_alike o o' journal journal' same more =
     let step : edited_by o'.mapping (replay o' journal') more ≡ edited_by o.mapping (replay o journal) more = λ i. edited_by (same.mapping i) (same.tree i) more in
-    same_tree_answers_alike o o' (journal ++ more) (journal' ++ more) same.mapping
+    same_tree_answers_alike o o' (journal ++ more) (journal' ++ more) same.mapping same.limits
     (replay-append o' journal' more ∙ step ∙ sym (replay-append o journal more))
 
 -- an answer by a journal that extends the next store's first one

@@ -13,9 +13,10 @@ pub record Turn : Type 0 where
   pub last : List Edit
   pub first : List Edit
 
--- two journals that make one tree, with one mapping
+-- two journals that make one tree, with one mapping and the same limits
 pub record IsSameTree (o : Opening) (journal : List Edit) (o' : Opening) (journal' : List Edit) : Type 0 where
   pub mapping : o'.mapping ≡ o.mapping
+  pub limits : o'.limits ≡ o.limits
   pub tree : replay o' journal' ≡ replay o journal
 
 -- whatever edits follow in both, no answer differs, but for the room that the journals have left

@@ -1,7 +1,7 @@
 //! How the next store starts.
 
 ghost use Rattle.std.specs.Prelude.{◌≡◌, ◌∷◌, [], None, length, IfOk, IfErr, OnOk, All, vec_len};
-ghost use Rattle.sd_tree.specs.Journal.{opening_of, replay, IsLawful};
+ghost use Rattle.sd_tree.specs.Journal.{opening_within, replay, IsLawful};
 ghost use Rattle.sd_versions.specs.Starts.{IsReaderCount};
 ghost use Rattle.sd_store.specs.Errors.{IsStoreError};
 ghost use Rattle.sd_store.specs.Rules.{newcomer};
@@ -10,7 +10,7 @@ ghost use Rattle.sd_store_renewal.specs.Successions.{GoesOnAlike};
 
 use crate::succession::Succession;
 use sd_history::Opened;
-use sd_store::{Checker, EditError, Naming, StoreWriter, start};
+use sd_store::{Checker, EditError, Naming, StoreWriter, start_within};
 use sd_tree::Edit;
 use sd_tree_renewal::Beginning;
 use sd_versions::StartError;
@@ -18,8 +18,8 @@ use std::alloc::{AllocError, Global};
 use std::sync::Wait;
 
 /// A store that starts with the tree that another one has published, of which `shortest` returned a compact journal.
-/// The old store continues; its checkers are moved by the succession. For 1 to 64 checkers; errors are those of
-/// `start`, without `Root`.
+/// It has the limits of the old one, which continues; the old checkers are moved by the succession. For 1 to 64
+/// checkers; errors are those of `start`, without `Root`.
 pub fn succeed<J: Naming, K: Naming, R: Wait>(
     rt: &R,
     alloc: Global,
@@ -29,7 +29,7 @@ pub fn succeed<J: Naming, K: Naming, R: Wait>(
     readers: u64,
 ) -> Result<(StoreWriter<K>, Vec<Checker<K>>, Succession<J, K>), StartError>
     requires history { (history.book ≡ K.book) × (history.first ≡ K.first) }
-    requires opening { opening_of J.opening.mapping beginning.now.root ≡ K.opening }
+    requires opening { opening_within J.opening.mapping beginning.now.root J.opening.limits ≡ K.opening }
     requires makes { Makes K.opening beginning.now.edits.items (replay J.opening old.old.journal) }
     ensures old { old.new ≡ old.old }
     ensures accepted { OnOk result (IsReaderCount readers) }
@@ -42,13 +42,14 @@ pub fn succeed<J: Naming, K: Naming, R: Wait>(
     ensures alike { IfOk result (λ next. GoesOnAlike J.opening old.old.journal K.opening next.0.journal) }
     ensures refused { IfErr result (λ e. IsStoreError e readers None) }
 {
-    let mapping = old.draft().mapping();
-    let (mut writer, checkers) = start::<K, R>(
+    let tree = old.draft();
+    let (mut writer, checkers) = start_within::<K, R>(
         rt,
         alloc,
         history,
-        mapping,
+        tree.mapping(),
         &beginning.root,
+        tree.limits(),
         readers,
     )?;
     if filled(rt, &mut writer, &beginning.edits).is_err() {
