@@ -52,7 +52,7 @@ import_done bytes (Err error) notation workers old new queries e path given repl
 abbrev pub before_opening : Manner → Tally → Audited
 before_opening manner tally = record { progress = unopened manner; tally = tally }
 
-module _ (whole : List ℕ → Tally → Type 0) (manner : Manner) (workers : ℕ) where
+module _ (whole : List ℕ → Tally → Type 0) (workers : ℕ) where
   -- what the lines after a line add to what is printed, the line adds with them
   pub more_answered : (rest after line : List ℕ) (old new : Audited) (out answer grown : List ℕ)
       → ((back : List ℕ) (tally : Tally) → AreAnsweredInAudit workers old (lines rest) back tally → whole (out ++ back) tally)
@@ -69,11 +69,11 @@ module _ (whole : List ℕ → Tally → Type 0) (manner : Manner) (workers : �
   all_answered (x ∷ rest) out old so_far none back tally end = absurd (omega (arith, none))
 
   -- an opening line, and all after it
-  pub opened_whole : (rest after line : List ℕ) (root : RootSpec) (old now new : Counted)
+  pub opened_whole : (manner : Manner) (rest after line : List ℕ) (root : RootSpec) (old now new : Counted)
       → ((back : List ℕ) (tally : Tally) → AreAnsweredInAudit workers (before_opening manner old.tally) (lines rest) back tally → whole (old.printed.items ++ back) tally)
       → lines rest ≡ line ∷ lines after → OpensStore manner.notation line root → now ≡ old
       → IsOpenedAndAudited manner workers root line after true now new → whole new.printed.items new.tally
-  opened_whole rest after line root old now new so_far cut opens same held =
+  opened_whole manner rest after line root old now new so_far cut opens same held =
       let opened : Progress = record { store = Opened manner.notation held.1; queries = [] } in
       let none = asks_and_expects_nothing manner.notation false line (Opens opens.1.0 root) opens.1.1 in
       let is : IsAnsweredInAudit workers (unopened manner) line held.0 opened = rw (opens.0, none) (inl (Opens opens.1.0 root, opens.1.1, (held.3, refl))) in
@@ -85,12 +85,12 @@ module _ (whole : List ℕ → Tally → Type 0) (manner : Manner) (workers : �
       rw (held.5, same, append_assoc) (so_far (held.0 ++ held.2) new.tally (rw cut (held.0, between, held.2, next, held.4, refl)))
 
   -- an opening line that is refused
-  pub opened_refused : (rest after line : List ℕ) (root : RootSpec) (old now new : Counted)
+  pub opened_refused : (manner : Manner) (rest after line : List ℕ) (root : RootSpec) (old now new : Counted)
       → ((back : List ℕ) (tally : Tally) → AreAnsweredInAudit workers (before_opening manner old.tally) (lines rest) back tally → whole (old.printed.items ++ back) tally)
       → lines rest ≡ line ∷ lines after → OpensStore manner.notation line root → now ≡ old
       → IsOpenedAndAudited manner workers root line after false now new
       → (back : List ℕ) (tally : Tally) → AreAnsweredInAudit workers (before_opening manner new.tally) (lines after) back tally → whole (new.printed.items ++ back) tally
-  opened_refused rest after line root old now new so_far cut opens same held =
+  opened_refused manner rest after line root old now new so_far cut opens same held =
       let none = asks_and_expects_nothing manner.notation false line (Opens opens.1.0 root) opens.1.1 in
       more_answered rest after line (before_opening manner old.tally) (before_opening manner new.tally) old.printed.items held.0 new.printed.items so_far cut
       (record {

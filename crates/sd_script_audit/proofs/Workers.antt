@@ -4,7 +4,6 @@ use Rattle.std.specs.Prelude.{MatchBool, codes}
 use Rattle.std.specs.List.{flat_map}
 use Rattle.std.specs.Str.Lines.{lines}
 use Rattle.sd_acl.specs.declared.ace.Ace.{Ace}
-use Rattle.sd_tree.specs.Journal.{opening_of}
 use Rattle.sd_tree.specs.Names.{Names}
 use Rattle.sd_tree.specs.declared.edit.Edit.{Edit}
 use Rattle.sd_tree.specs.declared.opening.RootSpec.{RootSpec}
@@ -23,7 +22,7 @@ use Rattle.sd_script.specs.Expect.{expects}
 use Rattle.sd_script.specs.Fault.{line_of_fault}
 use Rattle.sd_script.specs.Importing.{IsImported}
 use Rattle.sd_script.specs.Lines.{is_silent}
-use Rattle.sd_script.specs.Output.{IsDone, IsOpened, line_asks_in}
+use Rattle.sd_script.specs.Output.{IsDone, IsOpened, line_asks_in, opening_in}
 use Rattle.sd_script.specs.Reply.{counted_line, refused_line, start_error_line}
 use Rattle.sd_script.specs.declared.asked.Asked.{Asked}
 use Rattle.sd_script.specs.declared.asked.Asked.TheVariants.{Opening as Opens, Asking, Explaining, Finding, Deleting, Viewing, Importing}
@@ -263,8 +262,8 @@ module _ (manner : Manner) (n m : ℕ) (some : IsReaderCount n) (others : IsRead
     other.2,
     record {
       notation = manner.notation;
-      one = started (opening_of manner.mapping root) n;
-      other = started (opening_of manner.mapping root) m;
+      one = started (opening_in manner root) n;
+      other = started (opening_in manner root) m;
       one_is = one.3;
       other_is = other.3;
       alike = refl;

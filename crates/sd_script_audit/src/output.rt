@@ -1,7 +1,7 @@
 //! The whole output of an audit.
 
 ghost use Rattle.std.specs.Prelude.{◌≡◌, ◌⊎◌, ◌++◌, ◌<◌, ◌≤◌, ℕ, List, [], length, IfErr, IfNone, IfOk, IfSome};
-ghost use Rattle.sd_tree.specs.Journal.{opening_of};
+ghost use Rattle.sd_script.specs.Output.{opening_in};
 ghost use Rattle.sd_script.specs.Tally.{tallied};
 ghost use Rattle.sd_script_audit.specs.Audit.{AreAnsweredInAudit, IsAnsweredInAudit, PrintsAuditAndCounts, unopened};
 ghost use Rattle.sd_script_audit.specs.Parts.{audited, IsOpenedAndAudited, OpensStore};
@@ -16,7 +16,7 @@ use sd_script::{
     Asked, Manner, Notation, Stop, Tally, counted_line, expects, is_silent, line_of_fault,
     read_line, start_error_line,
 };
-use sd_store::{Checker, Gate, Naming, StoreWriter, start};
+use sd_store::{Checker, Gate, Naming, StoreWriter, start_within};
 use sd_stream::RunError;
 use sd_tree::{Edit, RootSpec};
 use sd_versions::StartError;
@@ -120,13 +120,14 @@ fn open_and_audit<J: Naming + Send + Sync, T: Threads + Wait + Sync, G: Gate + S
     counted: &mut Counted,
 ) -> Result<bool, RunError>
     requires history { (history.book ≡ J.book) × (history.first ≡ J.first) }
-    requires opening { opening_of manner.now.mapping root.now ≡ J.opening }
+    requires opening { opening_in manner.now root.now ≡ J.opening }
     ensures audited { IfOk result (λ is_open.
         IsOpenedAndAudited manner.now workers root.now line.now after.now is_open counted.old counted.new) }
     ensures failed { IfErr result (λ e. (e ≡ RunError.Memory) ⊎ (e ≡ RunError.Thread)) }
 {
     let opened = counted_line(alloc, "opened", workers)?;
-    match start::<J, T>(rt, alloc, history, &manner.mapping, root, workers) {
+    let limits = manner.limits;
+    match start_within::<J, T>(rt, alloc, history, &manner.mapping, root, limits, workers) {
         Ok((mut writer, mut checkers)) => {
             let answered = collect_and_answer(
                 rt,

@@ -2,14 +2,14 @@
 -- is about: the one with that root, of the history that it takes.
 use Rattle.std.proofs.Common.{ℕ, List, ◌++◌, length}
 use Rattle.std.specs.Str.Lines.{lines}
+use Rattle.sd_script.specs.Output.{opening_in}
 use Rattle.sd_script.specs.declared.tally.Tally.{Tally}
 use Rattle.sd_script_audit.specs.Audit.{AreAnsweredInAudit, PrintsAuditAndCounts}
-use Rattle.sd_tree.specs.Journal.{opening_of}
 use Rattle.sd_script_audit.proofs.LinesInOrder.{before_opening}
 use Rattle.sd_script_audit.proofs.output.audit_output.Given as goal
 
 abbrev pub ghosts-open_and_audit-J-Naming : goal.ghosts-open_and_audit-J-Naming
-ghosts-open_and_audit-J-Naming g a = record { opening = opening_of a.manner.now.mapping a.root.now }
+ghosts-open_and_audit-J-Naming g a = record { opening = opening_in a.manner.now a.root.now }
 
 abbrev pub ghosts-open_and_audit-J-Chain : goal.ghosts-open_and_audit-J-Chain
 ghosts-open_and_audit-J-Chain g a = record { book = a.history.book; first = a.history.first }
