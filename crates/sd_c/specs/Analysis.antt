@@ -1,8 +1,8 @@
 -- What `hudarin_who` and `hudarin_compare` return: who is granted rights, and what a change of a descriptor grants and
 -- takes away, of all tokens that have a base.
-use Rattle.std.specs.Prelude.{◌≡◌, ◌⊎◌, ◌<◌, ℕ, List, [], length, Result, Ok, Err, IsOk, if◌then◌else◌}
-use Rattle.sd_sid.specs.Mapping.{MappingValue, mapped}
-use Rattle.sd_sid.specs.Mask.{holds, mask_of}
+use Rattle.std.specs.Prelude.{◌≡◌, ◌⊎◌, ◌<◌, ℕ, List, [], length, Result, Ok, Err, IsOk}
+use Rattle.sd_sid.specs.Mapping.{MappingValue}
+use Rattle.sd_sid.specs.Mask.{mask_of}
 use Rattle.sd_sid.specs.Sid.{SidValue}
 use Rattle.sd_acl.specs.Descriptor.{DescriptorValue}
 use Rattle.sd_check.specs.Check.{dacl_entries}
@@ -13,7 +13,7 @@ use Rattle.sd_analysis.specs.declared.compare_report.Change.{Change}
 use Rattle.sd_analysis.specs.declared.who_has.Access.{Access}
 use Rattle.sd_review.specs.Parts.{parts_in}
 use Rattle.sd_answer.specs.Compare.{compare_text}
-use Rattle.sd_answer.specs.Who.{who_text}
+use Rattle.sd_answer.specs.Who.{rights_asked, who_text}
 use Rattle.sd_answer.specs.declared.answer.Spelling.TheVariants.{Number}
 use Rattle.sd_c.specs.declared.analysis.CompareAnswer.{CompareAnswer}
 use Rattle.sd_c.specs.declared.analysis.WhoAnswer.{WhoAnswer}
@@ -77,10 +77,6 @@ why_not (stops.NotRead why) = not_read why
 why_not stops.Memory = check_memory
 
 -- ---- who
-
--- the rights that are asked about: those of the mask, generic ones mapped; with MAXIMUM_ALLOWED, place 25, all
-abbrev pub rights_asked : MappingValue → ℕ → ℕ
-rights_asked g asked = if holds asked 25 then 0x001FFFFF else mapped g asked
 
 -- the lines of accesses that say exactly who is granted each right once, of the tokens with the base
 abbrev pub IsWhoText : DescriptorValue → BaseValue → ℕ → List ℕ → Type 0

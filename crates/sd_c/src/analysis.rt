@@ -4,7 +4,7 @@ ghost use Rattle.std.specs.Prelude.{◌≡◌, IfErr, IfOk, string_bytes};
 ghost use Rattle.sd_acl.specs.Descriptor.{descriptor_of as descriptor_value};
 ghost use Rattle.sd_c.specs.Analysis.{AnswersCompare, AnswersWho, IsCompareOf, IsCompareText, IsWhoOf, IsWhoText};
 ghost use Rattle.sd_c.specs.Analysis.{Stops, bits_of, both_kept, descriptors_in, kept_in, no_accesses, no_comparison};
-ghost use Rattle.sd_c.specs.Analysis.{rights_asked, why_not};
+ghost use Rattle.sd_c.specs.Analysis.{why_not};
 ghost use Rattle.sd_c.specs.Kept.{Stays, descriptor_in};
 
 use crate::answer::{CheckAnswer, MEMORY, Written, not_read, not_written, unread, write};
@@ -14,10 +14,10 @@ use crate::request::{groups_of, mapping_of};
 use crate::stop::{NotRead, Stop};
 use sd_acl::Descriptor;
 use sd_analysis::{Base, Change, compare, who};
-use sd_answer::{Spelling, compare_text, who_text};
-use sd_check::{GroupState, MAXIMUM_PLACE};
+use sd_answer::{Spelling, compare_text, rights_asked, who_text};
+use sd_check::GroupState;
 use sd_review::{borrowed, looked_at};
-use sd_sid::{GenericMapping, Mask, OBJECT_RIGHTS, Sid};
+use sd_sid::{GenericMapping, Mask, Sid};
 use std::alloc::{AllocError, Global};
 
 /// The answer of `hudarin_who`.
@@ -191,17 +191,6 @@ fn who_lines(
     let rights = rights_asked(mapping, asked);
     let accesses = who(alloc, descriptor.owner, dacl, mapping, &base, rights)?;
     who_text(alloc, Spelling::Number, &accesses)
-}
-
-/// The rights that are asked about: those of the mask, or all where it has MAXIMUM_ALLOWED ([MS-DTYP] 2.4.3).
-fn rights_asked(mapping: &GenericMapping, asked: Mask) -> Mask
-    ensures { result ≡ rights_asked mapping.now asked }
-{
-    if asked.holds(MAXIMUM_PLACE) {
-        OBJECT_RIGHTS
-    } else {
-        mapping.map(asked)
-    }
 }
 
 /// The lines of a comparison, and the bits of its changes.
