@@ -89,7 +89,9 @@ typedef enum hudarin_status {
     /* A SID is no domain's, which is S-1-5-21 and three more sub-authorities. */
     HUDARIN_DOMAIN = 17,
     /* The descriptor has no owner, no group, or no entry at the index. */
-    HUDARIN_NO_PART = 18
+    HUDARIN_NO_PART = 18,
+    /* A limit of the store is out of range: the fault is HUDARIN_LIMITS_... */
+    HUDARIN_LIMITS = 19
 } hudarin_status;
 
 /* ---- Faults of a text (HUDARIN_TEXT) */
@@ -155,6 +157,15 @@ typedef enum hudarin_refusal {
     HUDARIN_REFUSED_INTO_ITSELF = 13
 } hudarin_refusal;
 
+/* ---- Faults of a store's limits (HUDARIN_LIMITS) */
+
+typedef enum hudarin_limits_fault {
+    /* The root is a node too. */
+    HUDARIN_LIMITS_NO_NODES = 1,
+    HUDARIN_LIMITS_TOO_MANY_NODES = 2,
+    HUDARIN_LIMITS_TOO_MANY_EDITS = 3
+} hudarin_limits_fault;
+
 /* ---- Arguments of a check: the number of the invalid one, in an answer's `argument` */
 
 typedef enum hudarin_argument {
@@ -174,7 +185,10 @@ typedef enum hudarin_argument {
     HUDARIN_ARGUMENT_PATH = 12,
     HUDARIN_ARGUMENT_VALUE = 13,
     /* The handle of hudarin_compare's new descriptor. */
-    HUDARIN_ARGUMENT_NEW_DESCRIPTOR = 14
+    HUDARIN_ARGUMENT_NEW_DESCRIPTOR = 14,
+    /* The limits of hudarin_store_open_within. */
+    HUDARIN_ARGUMENT_NODES = 15,
+    HUDARIN_ARGUMENT_EDITS = 16
 } hudarin_argument;
 
 /* ---- Verdicts */
@@ -333,13 +347,13 @@ typedef struct hudarin_mapping {
 #define HUDARIN_SERVICE_MAPPING { 0x0002008du, 0x00020002u, 0x00020170u, 0x000f01ffu }
 #define HUDARIN_PROCESS_MAPPING { 0x00020410u, 0x00020beau, 0x00121001u, 0x001fffffu }
 
-/* The answer of a check, an edit, hudarin_keep_token and hudarin_store_open. `place` is, of HUDARIN_SID and
+/* The answer of a check, an edit, hudarin_keep_token and a call that opens a store. `place` is, of HUDARIN_SID and
  * HUDARIN_STATE, the index of the group or restricting SID, from 0; of HUDARIN_BEHIND_GROUPS the number of states; of
  * HUDARIN_UTF8 the number of valid bytes at the front of the path. */
 typedef struct hudarin_verdict {
     uint32_t status;   /* HUDARIN_OK, or why there is no verdict, or the edit isn't made */
     uint32_t argument; /* the invalid argument: HUDARIN_ARGUMENT_.., else 0 */
-    uint32_t fault;    /* HUDARIN_WIRE_.., HUDARIN_SID_.., HUDARIN_PATH_.. or HUDARIN_REFUSED_.., else 0 */
+    uint32_t fault;    /* HUDARIN_WIRE_.., _SID_.., _PATH_.., _REFUSED_.. or _LIMITS_.., else 0 */
     uint32_t kind;     /* with HUDARIN_OK the verdict: HUDARIN_GRANTED .., else 0 */
     uint64_t place;    /* as above, else 0 */
     uint32_t mask;     /* of the verdict */
@@ -773,11 +787,26 @@ typedef enum hudarin_edit {
     HUDARIN_EDIT_MOVE = 8
 } hudarin_edit;
 
+/* The limits of what hudarin_store_open opens: the most nodes of the tree, the root counted, and the most edits of the
+ * journal. An edit beyond them is HUDARIN_REFUSED_NODES_FULL or HUDARIN_REFUSED_JOURNAL_FULL. */
+#define HUDARIN_NODES 65536u
+#define HUDARIN_EDITS 1048576u
+/* The largest limits. */
+#define HUDARIN_NODES_MAX 16777216u
+#define HUDARIN_EDITS_MAX 4294967296u
+
 /* Opens a store whose tree is the root alone: a container with the descriptor's owner, group and own DACL. The
  * mapping is that of all nodes. With HUDARIN_OK the answer's `kind` and `mask` are 0. */
 HUDARIN_ANSWERS hudarin_verdict hudarin_store_open(const void *root, size_t root_length, hudarin_mapping mapping,
                                                    hudarin_store *store)
     HUDARIN_NONNULL(4);
+
+/* The same within limits: from 1 to HUDARIN_NODES_MAX nodes, and at most HUDARIN_EDITS_MAX edits. The root is parsed
+ * first, then the mapping is tested, then the nodes, then the edits. */
+HUDARIN_ANSWERS hudarin_verdict hudarin_store_open_within(const void *root, size_t root_length,
+                                                          hudarin_mapping mapping, uint64_t nodes, uint64_t edits,
+                                                          hudarin_store *store)
+    HUDARIN_NONNULL(6);
 
 /* Makes an edit: HUDARIN_EDIT_.., the path of its node, and its value. It joins the store's journal, and is in no
  * view before the next publish. Unless the status is HUDARIN_OK nothing has changed. */
@@ -796,7 +825,7 @@ HUDARIN_ANSWERS hudarin_written hudarin_store_publish(hudarin_store *store, huda
 
 /* Makes the store's tree and journal those of the view again; `length` is the number of its edits, and later ones are
  * gone. With the last published view this makes several edits all or none. A view of another store brings that
- * store's root and mapping too. Unless the status is HUDARIN_OK nothing has changed. */
+ * store's root, mapping and limits too. Unless the status is HUDARIN_OK nothing has changed. */
 HUDARIN_ANSWERS hudarin_written hudarin_store_revert(hudarin_store *store, hudarin_view *view)
     HUDARIN_NONNULL(1, 2);
 

@@ -94,6 +94,7 @@ STATUSES = {
     16: "no node",
     17: "domain",
     18: "no part",
+    19: "limits",
 }
 VERDICTS = {1: "granted", 2: "denied", 3: "reserved", 4: "empty"}
 ARGUMENTS = {
@@ -111,6 +112,8 @@ ARGUMENTS = {
     12: "path",
     13: "value",
     14: "new descriptor",
+    15: "nodes",
+    16: "edits",
 }
 
 CAUSES = {
@@ -138,7 +141,7 @@ PROCESSES = (0x20410, 0x20BEA, 0x121001, 0x1FFFFF)
 
 _MAXIMUM_ALLOWED = 0x02000000
 _MEMORY, _ROOM, _TEXT, _HANDLE, _NO_NODE, _NO_PART = 1, 2, 4, 11, 16, 18
-_WITH_FAULTS = (_TEXT, 5, 6, 13, 15)
+_WITH_FAULTS = (_TEXT, 5, 6, 13, 15, 19)
 _CONTAINER = 1
 _DESCRIPTOR_BYTES = 65688
 _LIST, _ALLOW, _PROTECTED = 3, 1, 0x1000
@@ -299,7 +302,7 @@ def _load() -> ctypes.CDLL:
         "who": ([kept] + groups + request + buffer, _Accesses),
         "compare": ([kept, kept] + groups + [_Mapping] + buffer, _Comparison),
         "share": ([kept, kept], _Written),
-        "store_open": (given + [_Mapping, kept], _Verdict),
+        "store_open_within": (given + [_Mapping, _U64, _U64, kept], _Verdict),
         "store_edit": ([kept, _U32] + given * 2, _Verdict),
         "store_judge": ([kept, _U32] + given * 2, _Verdict),
         "store_publish": ([kept, kept], _Written),
@@ -337,7 +340,8 @@ def _fault_names(status: int) -> Iterator[str]:
 
 
 #: The names of faults, by status and in the order of their numbers, which count from 1: of a text (SDDL, a SID or a
-#: mask), of a descriptor's bytes, of a SID's bytes, of a path, and of an edit that the tree refuses.
+#: mask), of a descriptor's bytes, of a SID's bytes, of a path, of an edit that the tree refuses, and of the limits of a
+#: store.
 FAULTS = {STATUSES[status]: tuple(_fault_names(status)) for status in _WITH_FAULTS}
 
 
@@ -1251,12 +1255,16 @@ class Store(_Held, _Edits):
 
     _argument = "store"
 
-    def __init__(self, root: Descriptor, mapping: Iterable[Mask] = FILES) -> None:
-        """The tree of the root alone: a container with the descriptor's owner, group and own DACL."""
+    def __init__(
+        self, root: Descriptor, mapping: Iterable[Mask] = FILES, *, nodes: int = 65536, edits: int = 1048576
+    ) -> None:
+        """The tree of the root alone: a container with the descriptor's owner, group and own DACL. It takes at most so
+        many nodes, the root counted, from 1 to 16777216, and so many edits, up to 4294967296."""
         given = bytes(_of_type(root, Descriptor, "root"))
-        masks = _mapping(mapping)
+        request = _mapping(mapping), _number(nodes, "nodes", 64), _number(edits, "edits", 64)
         with self._turn:
-            _checked(_library.hudarin_store_open(given, len(given), masks, self._kept), argument=self._argument)
+            opened = _library.hudarin_store_open_within(given, len(given), *request, self._kept)
+            _checked(opened, argument=self._argument)
 
     def _edit(self, edit: int, path: str, value: bytes = b"") -> None:
         self._call(_library.hudarin_store_edit, edit, path, value)

@@ -45,6 +45,7 @@ full: str = user.full if descriptor.is_protected else str(user)
 trimmed: Descriptor = Descriptor.from_sddl("S:", leaves_sacl=True)
 blob: Tuple[Descriptor, int] = Descriptor.from_blob(memoryview(b""), 0, leaves_sacl=True)
 copied: Descriptor = Descriptor(descriptor, leaves_sacl=True)
+small: Store = Store(descriptor, FILES, nodes=2, edits=3)
 
 with Token(user, [user], restricting=[user]) as token, KeptDescriptor(descriptor) as kept, Store(descriptor) as store:
     by: Verdict = kept.check(token.share(), "FR") if descriptor.check_by(token, 0x1) else kept.share().check(token, 0)
@@ -75,6 +76,7 @@ sid: Sid = descriptor.owner  # type: ignore
 copied.owner = user  # type: ignore
 mask(1)  # type: ignore
 store.add_object("/a", "D:")  # type: ignore
+Store(descriptor, nodes=2.0)  # type: ignore
 store.revert(token)  # type: ignore
 store.review("/")  # type: ignore
 view.check("/a", user)  # type: ignore

@@ -291,4 +291,26 @@ with Store(ROOT) as store, Token(USER) as token:
 gives("a store that was closed", ("handle", None, "store"), lambda: refusal(lambda: store.remove("/b")))
 gives("a root without an owner", ("parts", None, "value"), lambda: refusal(lambda: Store(HELD)))
 
+# The limits of a store: numbers of 64 bits, of which the library refuses those beyond its own; and what is within them.
+for number, wanted in [(-1, ValueError), (1 << 64, ValueError), (True, TypeError), (1.0, TypeError), ("1", TypeError)]:
+    raises(f"nodes {number!r}", wanted, lambda: Store(ROOT, nodes=number))
+    raises(f"edits {number!r}", wanted, lambda: Store(ROOT, edits=number))
+raises("limits by position", TypeError, lambda: Store(ROOT, FILES, 2, 3))
+for nodes, edits, name, argument in [
+    (0, 3, "NoNodes", "nodes"),
+    ((1 << 24) + 1, 3, "TooManyNodes", "nodes"),
+    ((1 << 64) - 1, (1 << 64) - 1, "TooManyNodes", "nodes"),
+    (2, (1 << 32) + 1, "TooManyEdits", "edits"),
+]:
+    limits = ("limits", name, argument)
+    gives(f"{nodes} nodes, {edits} edits", limits, lambda: refusal(lambda: Store(ROOT, nodes=nodes, edits=edits)))
+with Store(ROOT, nodes=1 << 24, edits=1 << 32) as store:
+    gives("the largest limits", 0, lambda: len(store))
+with Store(ROOT, nodes=2, edits=3) as store:
+    store.add_object("/a", NODE)
+    gives("a third node", ("refused", "NodesFull", None), lambda: refusal(lambda: store.add_object("/b", NODE)))
+    store.move("/a", "/b")
+    store.remove("/b")
+    gives("a fourth edit", ("refused", "JournalFull", None), lambda: refusal(lambda: store.add_object("/a", NODE)))
+
 sys.exit(close())

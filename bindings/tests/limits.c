@@ -1,4 +1,5 @@
-/* Arguments at their limits: nothing at all, rooms that just fit, each bit of a state, a privilege and a mapping. */
+/* Arguments at their limits: nothing at all, rooms that just fit, each bit of a state, a privilege and a mapping; and the limits of a
+ * store. */
 #include "rooms.h"
 
 static const hudarin_mapping files = HUDARIN_FILE_MAPPING;
@@ -367,6 +368,96 @@ static void over_bytes(void)
     hudarin_free(&token.kept);
 }
 
+/* The limits that aren't accepted; of several the first from the left, behind the handle, the root and the mapping. */
+static void limits_refused(void)
+{
+    static const struct {
+        uint64_t nodes, edits;
+        uint32_t argument, fault;
+    } rows[] = {
+        { 0, HUDARIN_EDITS, HUDARIN_ARGUMENT_NODES, HUDARIN_LIMITS_NO_NODES },
+        { 0, UINT64_MAX, HUDARIN_ARGUMENT_NODES, HUDARIN_LIMITS_NO_NODES },
+        { HUDARIN_NODES_MAX + 1, HUDARIN_EDITS, HUDARIN_ARGUMENT_NODES, HUDARIN_LIMITS_TOO_MANY_NODES },
+        { UINT64_MAX, UINT64_MAX, HUDARIN_ARGUMENT_NODES, HUDARIN_LIMITS_TOO_MANY_NODES },
+        { HUDARIN_NODES, HUDARIN_EDITS_MAX + 1, HUDARIN_ARGUMENT_EDITS, HUDARIN_LIMITS_TOO_MANY_EDITS },
+        { 1, UINT64_MAX, HUDARIN_ARGUMENT_EDITS, HUDARIN_LIMITS_TOO_MANY_EDITS },
+    };
+    const hudarin_mapping wide = { 0, 0, 0, 0x200000 };
+    hudarin_store store = HUDARIN_NOTHING;
+    hudarin_verdict answer;
+    size_t at;
+    for (at = 0; at < sizeof rows / sizeof rows[0]; at++) {
+        answer = hudarin_store_open_within(worked, sizeof worked, files, rows[at].nodes, rows[at].edits, &store);
+        HOLDS(is_unread(answer, HUDARIN_LIMITS, rows[at].argument, rows[at].fault, 0) && keeps(&store.kept, 0));
+        answer = hudarin_store_open_within(worked, sizeof worked, wide, rows[at].nodes, rows[at].edits, &store);
+        HOLDS(is_unread(answer, HUDARIN_MAPPING, HUDARIN_ARGUMENT_MAPPING, 0, 0));
+        answer = hudarin_store_open_within(NULL, 0, wide, rows[at].nodes, rows[at].edits, &store);
+        HOLDS(is_unread(answer, HUDARIN_WIRE, HUDARIN_ARGUMENT_VALUE, HUDARIN_WIRE_SHORT, 0));
+    }
+    answer = hudarin_store_open_within(worked, sizeof worked, files, HUDARIN_NODES_MAX, HUDARIN_EDITS_MAX, &store);
+    HOLDS(is_unread(answer, HUDARIN_OK, 0, 0, 0) && keeps(&store.kept, 1));
+    answer = hudarin_store_open_within(NULL, 0, wide, 0, UINT64_MAX, &store);
+    HOLDS(is_unread(answer, HUDARIN_HANDLE, HUDARIN_ARGUMENT_STORE, 0, 0) && keeps(&store.kept, 1));
+    hudarin_free(&store.kept);
+}
+
+static hudarin_verdict added(hudarin_store *store, const char *path)
+{
+    return hudarin_store_edit(store, HUDARIN_EDIT_ADD_OBJECT, path, strlen(path), worked, sizeof worked);
+}
+
+static hudarin_verdict removed(hudarin_store *store, const char *path)
+{
+    return hudarin_store_edit(store, HUDARIN_EDIT_REMOVE, path, strlen(path), NULL, 0);
+}
+
+/* Two nodes and three edits; and limits that leave no room beside the root. */
+static void within_limits(void)
+{
+    hudarin_store store = HUDARIN_NOTHING, alone = HUDARIN_NOTHING, unedited = HUDARIN_NOTHING, other = HUDARIN_NOTHING;
+    hudarin_view view = HUDARIN_NOTHING;
+    HOLDS(hudarin_store_open_within(worked, sizeof worked, files, 2, 3, &store).status == HUDARIN_OK);
+    HOLDS(hudarin_store_publish(&store, &view).status == HUDARIN_OK);
+    HOLDS(is_unread(added(&store, "/a"), HUDARIN_OK, 0, 0, 0));
+    HOLDS(is_unread(added(&store, "/b"), HUDARIN_REFUSED, 0, HUDARIN_REFUSED_NODES_FULL, 0));
+    HOLDS(is_unread(removed(&store, "/a"), HUDARIN_OK, 0, 0, 0) && is_unread(added(&store, "/b"), HUDARIN_OK, 0, 0, 0));
+    HOLDS(is_unread(added(&store, "/c"), HUDARIN_REFUSED, 0, HUDARIN_REFUSED_NODES_FULL, 0));
+    HOLDS(is_unread(removed(&store, "/b"), HUDARIN_REFUSED, 0, HUDARIN_REFUSED_JOURNAL_FULL, 0));
+    HOLDS(hudarin_journal_length(&store.kept).length == 3);
+    HOLDS(hudarin_store_open_within(worked, sizeof worked, files, 1, 1, &alone).status == HUDARIN_OK);
+    HOLDS(added(&alone, "/a").fault == HUDARIN_REFUSED_NODES_FULL);
+    HOLDS(hudarin_store_open_within(worked, sizeof worked, files, 2, 0, &unedited).status == HUDARIN_OK);
+    HOLDS(added(&unedited, "/a").fault == HUDARIN_REFUSED_JOURNAL_FULL);
+    /* The limits of a view of another store come with it. */
+    HOLDS(hudarin_store_open(worked, sizeof worked, files, &other).status == HUDARIN_OK);
+    HOLDS(added(&other, "/a").status == HUDARIN_OK && added(&other, "/b").status == HUDARIN_OK);
+    HOLDS(hudarin_store_revert(&other, &view).status == HUDARIN_OK && added(&other, "/a").status == HUDARIN_OK);
+    HOLDS(added(&other, "/b").fault == HUDARIN_REFUSED_NODES_FULL);
+    hudarin_free(&store.kept);
+    hudarin_free(&alone.kept);
+    hudarin_free(&unedited.kept);
+    hudarin_free(&other.kept);
+    hudarin_free(&view.kept);
+}
+
+/* The standard limits, and a node more: the last node of each is added, and one more isn't. */
+static void standard_limits(void)
+{
+    hudarin_store store = HUDARIN_NOTHING, larger = HUDARIN_NOTHING;
+    char path[16];
+    int at, are_added = 1;
+    HOLDS(hudarin_store_open(worked, sizeof worked, files, &store).status == HUDARIN_OK);
+    HOLDS(hudarin_store_open_within(worked, sizeof worked, files, HUDARIN_NODES + 1, HUDARIN_EDITS, &larger).status == HUDARIN_OK);
+    for (at = 1; at < (int)HUDARIN_NODES; at++) {
+        snprintf(path, sizeof path, "/%05d", at);
+        are_added = are_added && added(&store, path).status == HUDARIN_OK && added(&larger, path).status == HUDARIN_OK;
+    }
+    HOLDS(are_added && added(&store, "/x").fault == HUDARIN_REFUSED_NODES_FULL && added(&larger, "/x").status == HUDARIN_OK);
+    HOLDS(added(&larger, "/y").fault == HUDARIN_REFUSED_NODES_FULL);
+    hudarin_free(&store.kept);
+    hudarin_free(&larger.kept);
+}
+
 int main(void)
 {
     open_rooms();
@@ -380,5 +471,8 @@ int main(void)
     restricting();
     handles();
     over_bytes();
+    limits_refused();
+    within_limits();
+    standard_limits();
     return close_tally();
 }

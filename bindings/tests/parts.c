@@ -235,6 +235,7 @@ static const struct {
     { HUDARIN_REFUSED,
       { "NoParent", "ParentIsObject", "Exists", "NoNode", "NotEmpty", "IsRoot", "InheritedEntry", "NotCanonical",
         "AclTooLarge", "TooDeep", "NodesFull", "JournalFull", "IntoItself" } },
+    { HUDARIN_LIMITS, { "NoNodes", "TooManyNodes", "TooManyEdits" } },
 };
 
 static void names(void)
@@ -255,7 +256,7 @@ static void names(void)
     WRITES(hudarin_status_text(HUDARIN_MEMORY, room, length), "out of memory", 13);
     WRITES(hudarin_status_text(HUDARIN_REFUSED, room, length), "the tree refuses the edit", 25);
     /* Each status has a text of its own, and no other number has one. */
-    for (status = 0; status <= HUDARIN_NO_PART; status++) {
+    for (status = 0; status <= HUDARIN_LIMITS; status++) {
         hudarin_written answer = hudarin_status_text(status, one, sizeof one);
         HOLDS(answer.status == HUDARIN_OK && answer.length > 0);
         for (before = 0; before < status; before++) {
@@ -263,7 +264,7 @@ static void names(void)
             HOLDS(earlier.length != answer.length || memcmp(one, other, (size_t)answer.length) != 0);
         }
     }
-    HOLDS(is_unwritten(hudarin_status_text(HUDARIN_NO_PART + 1, one, sizeof one), HUDARIN_OK));
+    HOLDS(is_unwritten(hudarin_status_text(HUDARIN_LIMITS + 1, one, sizeof one), HUDARIN_OK));
     HOLDS(is_unwritten(hudarin_status_text(UINT32_MAX, one, sizeof one), HUDARIN_OK));
 }
 

@@ -9,7 +9,10 @@ use Rattle.sd_text.specs.declared.fault.TextFault.TheVariants as texts
 use Rattle.sd_wire.specs.Fault.{wire_fault_name, wire_fault_number}
 use Rattle.sd_wire.specs.declared.fault.WireFault.{WireFault}
 use Rattle.sd_wire.specs.declared.fault.WireFault.TheVariants as wires
+use Rattle.sd_tree.specs.Limits.{limits_error_name, limits_error_number}
 use Rattle.sd_tree.specs.Refusals.{name_of as refusal_name, number_of as refusal_number}
+use Rattle.sd_tree.specs.declared.limits.LimitsError.{LimitsError}
+use Rattle.sd_tree.specs.declared.limits.LimitsError.TheVariants as limits
 use Rattle.sd_tree.specs.declared.refusal.EditRefusal.{EditRefusal}
 use Rattle.sd_tree.specs.declared.refusal.EditRefusal.TheVariants as refusals
 
@@ -35,6 +38,7 @@ status_text n =
     else if n == 16 then codes "there is no node at the path"
     else if n == 17 then codes "the SID is no domain's"
     else if n == 18 then codes "the descriptor has no such part"
+    else if n == 19 then codes "a limit of the store is out of range"
     else []
 
 -- ---- the fault with a number
@@ -97,6 +101,13 @@ refusal_of n =
     else if n == 13 then Some refusals.IntoItself
     else None
 
+abbrev pub limits_fault : ℕ → Option LimitsError
+limits_fault n =
+    if n == 1 then Some limits.NoNodes
+    else if n == 2 then Some limits.TooManyNodes
+    else if n == 3 then Some limits.TooManyEdits
+    else None
+
 -- ---- its name
 
 -- nothing where there is no such fault
@@ -111,6 +122,7 @@ fault_name status n =
     else if status == 6 then name_or_nothing sid_error_name (sid_fault n)
     else if status == 13 then path_fault_name n
     else if status == 15 then name_or_nothing refusal_name (refusal_of n)
+    else if status == 19 then name_or_nothing limits_error_name (limits_fault n)
     else []
 
 -- each fault has its name at its number
@@ -120,3 +132,4 @@ FaultsHaveNames =
     × ((f : WireFault) → fault_name 5 (wire_fault_number f) ≡ wire_fault_name f)
     × (fault_name 6 (sid_error_number sids.Short) ≡ sid_error_name sids.Short)
     × ((r : EditRefusal) → fault_name 15 (refusal_number r) ≡ refusal_name r)
+    × ((l : LimitsError) → fault_name 19 (limits_error_number l) ≡ limits_error_name l)

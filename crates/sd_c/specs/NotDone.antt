@@ -3,19 +3,28 @@ use Rattle.std.specs.Prelude.{ℕ}
 use Rattle.sd_sid.specs.Sid.{sid_error_number}
 use Rattle.sd_wire.specs.Fault.{wire_fault_number}
 use Rattle.sd_path.specs.PathText.{path_error_number}
+use Rattle.sd_tree.specs.Limits.{limits_error_number}
 use Rattle.sd_tree.specs.Refusals.{number_of}
+use Rattle.sd_tree.specs.declared.limits.LimitsError.{LimitsError}
+use Rattle.sd_tree.specs.declared.limits.LimitsError.TheVariants as limits
 use Rattle.sd_c.specs.declared.answer.CheckAnswer.{CheckAnswer}
 use Rattle.sd_c.specs.declared.not_done.PathArgument.{PathArgument}
 use Rattle.sd_c.specs.declared.not_done.PathArgument.TheVariants as arguments
 use Rattle.sd_c.specs.declared.not_done.NotDone.{NotDone}
 use Rattle.sd_c.specs.declared.not_done.NotDone.TheVariants.{Memory, StoreHandle, ViewHandle, TokenHandle, MappingBits}
 use Rattle.sd_c.specs.declared.not_done.NotDone.TheVariants.{EditKind, Utf8, Path, Descriptor, Parts, Sid, Refused}
-use Rattle.sd_c.specs.declared.not_done.NotDone.TheVariants.{NoNode}
+use Rattle.sd_c.specs.declared.not_done.NotDone.TheVariants.{Limits, NoNode}
 use Rattle.sd_c.specs.Answer.{unread}
 
 abbrev pub argument_number : PathArgument → ℕ
 argument_number arguments.Path = 12
 argument_number arguments.Target = 13
+
+-- the nodes or the edits
+abbrev pub limits_argument : LimitsError → ℕ
+limits_argument limits.NoNodes = 15
+limits_argument limits.TooManyNodes = 15
+limits_argument limits.TooManyEdits = 16
 
 -- the status, the argument, the number of the fault or the refusal, and how many bytes of a path are UTF-8
 abbrev pub not_done : NotDone → CheckAnswer
@@ -24,6 +33,7 @@ not_done StoreHandle = unread 11 9 0 0
 not_done ViewHandle = unread 11 10 0 0
 not_done TokenHandle = unread 11 8 0 0
 not_done MappingBits = unread 10 7 0 0
+not_done (Limits fault) = unread 19 (limits_argument fault) (limits_error_number fault) 0
 not_done EditKind = unread 12 11 0 0
 not_done (Utf8 argument place) = unread 3 (argument_number argument) 0 place
 not_done (Path argument fault) = unread 13 (argument_number argument) (path_error_number fault) 0

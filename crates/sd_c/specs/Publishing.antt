@@ -1,9 +1,12 @@
 -- The answers of the calls over stores, and the content of the handles afterwards.
-use Rattle.std.specs.Prelude.{◌≡◌, ◌⊎◌, ℕ, List, [], ◌∷◌, ◌++◌, length, Option, Some, None, IsSome, Ok, Err}
+use Rattle.std.specs.Prelude.{◌≡◌, ◌⊎◌, ℕ, List, [], ◌∷◌, ◌++◌, length, Option, Some, None, IsSome, Result, Ok, Err}
+use Rattle.std.specs.Prelude.{IsOk}
 use Rattle.sd_tree.specs.Answers.{IsError}
 use Rattle.sd_tree.specs.History.{History}
 use Rattle.sd_tree.specs.Journal.{refusal, root_refusal}
+use Rattle.sd_tree.specs.Limits.{LimitsValue}
 use Rattle.sd_tree.specs.declared.edit.Edit.{Edit}
+use Rattle.sd_tree.specs.declared.limits.LimitsError.{LimitsError}
 use Rattle.sd_tree.specs.declared.opening.Opening.{Opening}
 use Rattle.sd_tree.specs.declared.refusal.EditRefusal.{EditRefusal}
 use Rattle.sd_tree.specs.declared.refusal.TreeError.{TreeError}
@@ -40,29 +43,37 @@ IsTreeReason due why = (error : TreeError) × IsError error due × (why ≡ tree
 
 -- ---- opening
 
--- the bytes hold the root of a tree with this mapping
-abbrev pub IsOpening : List ℕ → Mapping → Opening → Type 0
-IsOpening root mapping opening =
-    (mapping_read mapping ≡ Ok opening.mapping) × IsNode root opening.root.owner opening.root.group opening.root.dacl
+-- limits, or why the given numbers are none
+abbrev pub Limited : Type 0
+Limited = Result LimitsValue LimitsError
+
+-- the bytes hold the root of a tree with this mapping and these limits
+abbrev pub IsOpening : List ℕ → Mapping → Limited → Opening → Type 0
+IsOpening root mapping limits opening =
+    IsNode root opening.root.owner opening.root.group opening.root.dacl × (mapping_read mapping ≡ Ok opening.mapping)
+    × (limits ≡ Ok opening.limits)
 
 -- a store of the root alone
-abbrev pub IsBegun : List ℕ → Mapping → Kept → Type 0
-IsBegun root mapping kept =
-    (opening : Opening) × IsOpening root mapping opening × (root_refusal opening ≡ None)
+abbrev pub IsBegun : List ℕ → Mapping → Limited → Kept → Type 0
+IsBegun root mapping limits kept =
+    (opening : Opening) × IsOpening root mapping limits opening × (root_refusal opening ≡ None)
     × (store_in kept ≡ Some (record { opening = opening; published = []; pending = [] }))
 
 -- why there is none: the first of these that holds
-abbrev pub IsNotBegun : List ℕ → Mapping → NotDone → Type 0
-IsNotBegun root mapping why =
+abbrev pub IsNotBegun : List ℕ → Mapping → Limited → NotDone → Type 0
+IsNotBegun root mapping limits why =
     IsNoNode root why
     ⊎ (HasNode root × (mapping_read mapping ≡ Err MappingBits) × (why ≡ reasons.MappingBits))
-    ⊎ ((opening : Opening) × IsOpening root mapping opening × IsTreeReason (root_refusal opening) why)
+    ⊎ ((fault : LimitsError) × HasNode root × IsOk (mapping_read mapping) × (limits ≡ Err fault)
+    × (why ≡ reasons.Limits fault))
+    ⊎ ((opening : Opening) × IsOpening root mapping limits opening × IsTreeReason (root_refusal opening) why)
 
 -- an empty handle keeps a store of the root, or nothing, and why is returned; one in use is unchanged
-abbrev pub Begins : List ℕ → Mapping → Handle → Handle → CheckAnswer → Type 0
-Begins root mapping old new answer =
-    ((old.is_there ≡ 0) × (new.is_there ≡ 1) × IsBegun root mapping new.seal.kept × (answer ≡ unread 0 0 0 0))
-    ⊎ ((why : NotDone) × (old.is_there ≡ 0) × IsNotBegun root mapping why × (new ≡ old) × (answer ≡ not_done why))
+abbrev pub Begins : List ℕ → Mapping → Limited → Handle → Handle → CheckAnswer → Type 0
+Begins root mapping limits old new answer =
+    ((old.is_there ≡ 0) × (new.is_there ≡ 1) × IsBegun root mapping limits new.seal.kept × (answer ≡ unread 0 0 0 0))
+    ⊎ ((why : NotDone) × (old.is_there ≡ 0) × IsNotBegun root mapping limits why × (new ≡ old)
+    × (answer ≡ not_done why))
     ⊎ ((old.is_there ≡ 1) × (new ≡ old) × (answer ≡ not_done reasons.StoreHandle))
 
 -- ---- edits
@@ -129,7 +140,7 @@ Publishes store later old new answer =
 
 -- ---- going back
 
--- the store has what the view has, of a view of another store the root and the mapping too, and nothing is pending
+-- the store has what the view has, of a view of another store its opening too, and nothing is pending
 abbrev pub IsReverted : Kept → Kept → Kept → ℕ → Type 0
 IsReverted old new view told =
     (h : History) × IsSome (store_in old) × (view_in view ≡ Some h) × (store_in new ≡ Some (published_only h))

@@ -48,6 +48,8 @@ pub const NO_NODE: u32 = 16;
 pub const DOMAIN: u32 = 17;
 /// A descriptor has no owner, no group or no entry at an index.
 pub const NO_PART: u32 = 18;
+/// Numbers are no limits of a store; the fault is one of those of `LimitsError`.
+pub const LIMITS: u32 = 19;
 
 /// The answer of a check: a verdict and its mask, or which argument is invalid.
 #[repr(C)]

@@ -60,8 +60,8 @@ pub use over_bytes::hudarin_check_bytes;
 pub use review::{ReviewAnswer, hudarin_store_review};
 pub use sharing::hudarin_share;
 pub use stores::{
-    hudarin_store_edit, hudarin_store_judge, hudarin_store_open, hudarin_store_publish,
-    hudarin_store_revert,
+    hudarin_store_edit, hudarin_store_judge, hudarin_store_open, hudarin_store_open_within,
+    hudarin_store_publish, hudarin_store_revert,
 };
 pub use text::{
     hudarin_mask_from_text, hudarin_mask_to_text, hudarin_sddl_canonical, hudarin_sddl_to_bytes,

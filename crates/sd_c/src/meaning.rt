@@ -1,17 +1,17 @@
 //! What the statuses and faults of an answer mean, in words.
 
 ghost use Rattle.std.specs.Prelude.{◌≡◌};
-ghost use Rattle.sd_c.specs.Meaning.{FaultsHaveNames, fault_name, path_fault_name, refusal_of, sid_fault, status_text};
-ghost use Rattle.sd_c.specs.Meaning.{text_fault, wire_fault};
+ghost use Rattle.sd_c.specs.Meaning.{FaultsHaveNames, fault_name, limits_fault, path_fault_name, refusal_of, sid_fault};
+ghost use Rattle.sd_c.specs.Meaning.{status_text, text_fault, wire_fault};
 ghost use Rattle.sd_c.specs.Written.{Writes};
 
 use crate::answer::{
-    BEHIND_GROUPS, DOMAIN, EDIT, HANDLE, MAPPING, MEMORY, NO_NODE, NO_PART, OK, PARTS, PATH,
-    PRIVILEGES, REFUSED, ROOM, SID, STATE, TEXT, UTF8, WIRE, Written, write,
+    BEHIND_GROUPS, DOMAIN, EDIT, HANDLE, LIMITS, MAPPING, MEMORY, NO_NODE, NO_PART, OK, PARTS,
+    PATH, PRIVILEGES, REFUSED, ROOM, SID, STATE, TEXT, UTF8, WIRE, Written, write,
 };
 use sd_sid::SidError;
 use sd_text::TextFault;
-use sd_tree::EditRefusal;
+use sd_tree::{EditRefusal, LimitsError};
 use sd_wire::WireFault;
 
 /// Writes what a status means into the buffer; of a number that is no status nothing. Takes no memory.
@@ -58,6 +58,7 @@ fn status_text(status: u32) -> &'static str
         NO_NODE => "there is no node at the path",
         DOMAIN => "the SID is no domain's",
         NO_PART => "the descriptor has no such part",
+        LIMITS => "a limit of the store is out of range",
         _ => "",
     }
 }
@@ -81,6 +82,10 @@ fn fault_name(status: u32, fault: u32) -> &'static str
         PATH => path_fault_name(fault),
         REFUSED => match refusal_of(fault) {
             Some(refusal) => refusal.name(),
+            None => "",
+        },
+        LIMITS => match limits_fault(fault) {
+            Some(fault) => fault.name(),
             None => "",
         },
         _ => "",
@@ -161,6 +166,17 @@ fn refusal_of(number: u32) -> Option<EditRefusal>
         11 => Some(EditRefusal::NodesFull),
         12 => Some(EditRefusal::JournalFull),
         13 => Some(EditRefusal::IntoItself),
+        _ => None,
+    }
+}
+
+fn limits_fault(number: u32) -> Option<LimitsError>
+    ensures { result ≡ limits_fault number }
+{
+    match number {
+        1 => Some(LimitsError::NoNodes),
+        2 => Some(LimitsError::TooManyNodes),
+        3 => Some(LimitsError::TooManyEdits),
         _ => None,
     }
 }

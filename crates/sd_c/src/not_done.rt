@@ -1,16 +1,16 @@
 //! Why a call over a store or a view did nothing.
 
 ghost use Rattle.std.specs.Prelude.{◌≡◌};
-ghost use Rattle.sd_c.specs.declared.not_done.NotDone.TheVariants.{Memory};
-ghost use Rattle.sd_c.specs.NotDone.{argument_number, not_done};
+ghost use Rattle.sd_c.specs.declared.not_done.NotDone.TheVariants.{Limits, Memory};
+ghost use Rattle.sd_c.specs.NotDone.{argument_number, limits_argument, not_done};
 
 use crate::answer::{
-    CheckAnswer, EDIT, HANDLE, MAPPING, MEMORY, NO_NODE, PARTS, PATH, REFUSED, SID, UTF8, WIRE,
-    unread,
+    CheckAnswer, EDIT, HANDLE, LIMITS, MAPPING, MEMORY, NO_NODE, PARTS, PATH, REFUSED, SID, UTF8,
+    WIRE, unread,
 };
 use sd_path::PathError;
 use sd_sid::SidError;
-use sd_tree::EditRefusal;
+use sd_tree::{EditRefusal, LimitsError};
 use sd_wire::WireFault;
 use std::alloc::AllocError;
 
@@ -48,6 +48,8 @@ pub enum NotDone {
     TokenHandle,
     /// A mask of the mapping has a bit beyond 0x001FFFFF.
     MappingBits,
+    /// The numbers are no limits of a store.
+    Limits(LimitsError),
     /// The number is no edit's, or the edit takes no value and has one.
     EditKind,
     /// The path isn't UTF-8 from this byte on.
@@ -80,6 +82,24 @@ impl From<AllocError> for NotDone {
     }
 }
 
+impl From<LimitsError> for NotDone {
+    ghost from_gives = { λ fault why. why ≡ Limits fault };
+
+    fn from(fault: LimitsError) -> NotDone {
+        NotDone::Limits(fault)
+    }
+}
+
+/// The number of the argument that is no limit.
+fn limits_argument(fault: LimitsError) -> u32
+    ensures { result ≡ limits_argument fault }
+{
+    match fault {
+        LimitsError::NoNodes | LimitsError::TooManyNodes => 15,
+        LimitsError::TooManyEdits => 16,
+    }
+}
+
 /// The answer that says why nothing was done.
 pub(crate) fn not_done(why: NotDone) -> CheckAnswer
     ensures { result ≡ not_done why }
@@ -90,6 +110,7 @@ pub(crate) fn not_done(why: NotDone) -> CheckAnswer
         NotDone::ViewHandle => unread(HANDLE, 10, 0, 0),
         NotDone::TokenHandle => unread(HANDLE, 8, 0, 0),
         NotDone::MappingBits => unread(MAPPING, 7, 0, 0),
+        NotDone::Limits(fault) => unread(LIMITS, limits_argument(fault), fault.number(), 0),
         NotDone::EditKind => unread(EDIT, 11, 0, 0),
         NotDone::Utf8 { argument, place } => unread(UTF8, argument.number(), 0, place),
         NotDone::Path { argument, fault } => unread(PATH, argument.number(), fault.number(), 0),

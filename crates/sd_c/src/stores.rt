@@ -1,6 +1,7 @@
 //! The calls over a store, which has one writer.
 
-ghost use Rattle.std.specs.Prelude.{◌≡◌, ◌⊎◌, None, Some, IfErr, IfOk, IsSome, MatchOption, MatchResult, OnOk};
+ghost use Rattle.std.specs.Prelude.{◌≡◌, ◌⊎◌, None, Ok, Some, IfErr, IfOk, IsSome, MatchOption, MatchResult, OnOk};
+ghost use Rattle.sd_tree.specs.Limits.{limits_of, standard_limits};
 ghost use Rattle.sd_c.specs.Kept.{IsSame, Stays, store_in, view_in};
 ghost use Rattle.sd_c.specs.Publishing.{Begins, Edits, IsAllowed, IsBegun, IsEdited, IsNotBegun, IsNotEdited};
 ghost use Rattle.sd_c.specs.Publishing.{IsReverted, IsViewOf, Judges, Publishes, Reverts, tree_reason};
@@ -11,7 +12,7 @@ use crate::handle::{Handle, Kept};
 use crate::mapping::Mapping;
 use crate::not_done::{NotDone, not_done};
 use crate::request::mapping_of;
-use sd_tree::TreeError;
+use sd_tree::{Limits, LimitsError, TreeError};
 use sd_versions::Versions;
 use std::alloc::{AllocError, Global};
 
@@ -25,12 +26,40 @@ pub extern "C" fn hudarin_store_open(
     mapping: Mapping,
     store: &mut Handle,
 ) -> CheckAnswer
-    ensures { Begins root.now mapping store.old store.new result }
+    ensures { Begins root.now mapping (Ok standard_limits) store.old store.new result }
+{
+    begun(alloc, root, mapping, Ok(Limits::standard()), store)
+}
+
+/// The same within limits: at most so many nodes, the root counted, and so many edits. Refused also if they are no
+/// limits of a tree.
+#[unsafe(no_mangle)]
+pub extern "C" fn hudarin_store_open_within(
+    alloc: Global,
+    root: &[u8],
+    mapping: Mapping,
+    nodes: u64,
+    edits: u64,
+    store: &mut Handle,
+) -> CheckAnswer
+    ensures { Begins root.now mapping (limits_of nodes edits) store.old store.new result }
+{
+    begun(alloc, root, mapping, Limits::new(nodes, edits), store)
+}
+
+fn begun(
+    alloc: Global,
+    root: &[u8],
+    mapping: Mapping,
+    limits: Result<Limits, LimitsError>,
+    store: &mut Handle,
+) -> CheckAnswer
+    ensures { Begins root.now mapping limits store.old store.new result }
 {
     if store.is_there == 1 {
         return not_done(NotDone::StoreHandle);
     }
-    match opened(alloc, root, mapping) {
+    match opened(alloc, root, mapping, limits) {
         Ok(kept) => {
             store.put(kept);
             unread(OK, 0, 0, 0)
@@ -39,15 +68,20 @@ pub extern "C" fn hudarin_store_open(
     }
 }
 
-fn opened(alloc: Global, root: &[u8], mapping: Mapping) -> Result<Box<Kept>, NotDone>
-    ensures ok { IfOk result (λ kept. IsBegun root.now mapping kept.value) }
-    ensures err { IfErr result (λ why. IsNotBegun root.now mapping why) }
+fn opened(
+    alloc: Global,
+    root: &[u8],
+    mapping: Mapping,
+    limits: Result<Limits, LimitsError>,
+) -> Result<Box<Kept>, NotDone>
+    ensures ok { IfOk result (λ kept. IsBegun root.now mapping limits kept.value) }
+    ensures err { IfErr result (λ why. IsNotBegun root.now mapping limits why) }
 {
     let root = node_of(alloc, root)?;
     let Ok(mapping) = mapping_of(mapping) else {
         return Err(NotDone::MappingBits);
     };
-    match Versions::opening(alloc, &mapping, &root) {
+    match Versions::opening(alloc, &mapping, &root, limits?) {
         Ok(versions) => Ok(boxed_store(alloc, versions)?),
         Err(e) => Err(reason_of(e)),
     }
@@ -199,8 +233,8 @@ fn published(alloc: Global, kept: &mut Kept) -> Result<Option<(Box<Kept>, u64)>,
 }
 
 /// Makes the store's tree that of the view, with its edits alone, of which none is pending; `length` is their number. A
-/// view of another store brings that store's root and mapping too. Refused if `store` keeps no store or `view` no view,
-/// or out of memory; then the store is unchanged.
+/// view of another store brings that store's root, mapping and limits too. Refused if `store` keeps no store or `view`
+/// no view, or out of memory; then the store is unchanged.
 #[unsafe(no_mangle)]
 pub extern "C" fn hudarin_store_revert(
     alloc: Global,
