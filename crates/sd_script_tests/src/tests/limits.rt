@@ -23,7 +23,9 @@ fn answers(rt: &(impl Abort + AllocGlobal), carried: &mut Carried, line: &str, w
 #[test]
 fn a_store_grows_within_its_limits(rt: HostRuntime) {
     let Manner {
-        mapping, notation, ..
+        mapping,
+        notation,
+        ..
     } = plain();
     let manner = Manner {
         mapping,
