@@ -105,5 +105,6 @@ fn value_name(value: Value) -> &'static str {
     match value {
         Value::Sid => "SID",
         Value::Kind => "KIND",
+        Value::Number => "N",
     }
 }

@@ -203,6 +203,7 @@ none. 'why', 'find', 'list', 'dump', 'who' and 'review' have several, the last o
 
 Generic rights are mapped by '--mapping KIND' before 'script', and without it as those of a file:
 'sdstore help verdict' lists the kinds. With '--percent' before 'script' paths are percent-encoded.
+'--nodes N' and '--edits N' before 'script' limit the tree and its journal.
 
 Statuses:
   0  the script was carried out to its end, even with faults and refusals

@@ -56,6 +56,8 @@ pub(crate) const SCRIPT_OPTIONS: &[OptionName] = &[
     OptionName::WithoutSacl,
     OptionName::Percent,
     OptionName::Strict,
+    OptionName::Nodes,
+    OptionName::Edits,
     OptionName::Domain,
     OptionName::Aliases,
     OptionName::Mapping,

@@ -81,6 +81,10 @@ pub enum OptionName {
     Percent,
     /// `--strict`.
     Strict,
+    /// `--nodes`.
+    Nodes,
+    /// `--edits`.
+    Edits,
     /// `--domain`.
     Domain,
     /// `--aliases`.
@@ -94,7 +98,7 @@ pub enum OptionName {
 }
 
 /// How many options there are.
-pub const OPTION_COUNT: usize = 14;
+pub const OPTION_COUNT: usize = 16;
 
 /// A command, and what follows it.
 #[derive(Clone, Copy)]
@@ -180,6 +184,8 @@ pub enum Value {
     Sid,
     /// `KIND`: a generic mapping ([MS-DTYP] 2.4.3).
     Kind,
+    /// `N`: a number in decimal digits.
+    Number,
 }
 
 /// The command that the text names.

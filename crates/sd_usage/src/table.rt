@@ -282,6 +282,24 @@ the status is 1 if a line has a fault or is refused, or an import isn't answered
 error reports the first line of each kind",
     ),
     (
+        "--nodes",
+        ProgramOption {
+            name: OptionName::Nodes,
+            value: Some(Value::Number),
+            excludes: None,
+        },
+        "the most nodes of the tree, the root counted: 1 to 16777216, by default 65536",
+    ),
+    (
+        "--edits",
+        ProgramOption {
+            name: OptionName::Edits,
+            value: Some(Value::Number),
+            excludes: None,
+        },
+        "the most edits of its journal: 0 to 4294967296, by default 1048576",
+    ),
+    (
         "--domain",
         ProgramOption {
             name: OptionName::Domain,
