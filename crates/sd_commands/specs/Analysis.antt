@@ -1,8 +1,7 @@
 -- What `who` and `compare` are asked and find: the base that every token in question has, the rights, whom they are
 -- granted to, and what a change of a descriptor grants and takes.
 use Rattle.std.specs.Prelude.{◌==◌, ◌&&◌, ℕ, if◌then◌else◌, List, length}
-use Rattle.sd_sid.specs.Mask.{holds}
-use Rattle.sd_sid.specs.Mapping.{MappingValue, mapped}
+use Rattle.sd_sid.specs.Mapping.{MappingValue}
 use Rattle.sd_sid.specs.Sid.{SidValue}
 use Rattle.sd_acl.specs.Descriptor.{DescriptorValue}
 use Rattle.sd_check.specs.Check.{dacl_entries}
@@ -13,10 +12,6 @@ use Rattle.sd_analysis.specs.declared.compare_report.Change.{Change}
 use Rattle.sd_analysis.specs.declared.who_has.Access.{Access}
 use Rattle.sd_commands.specs.declared.answer.Outcome.{Outcome}
 use Rattle.sd_commands.specs.declared.answer.Outcome.TheVariants.{Done, Refused}
-
--- the rights that are asked about: all, for MAXIMUM_ALLOWED, or those of the mapped mask
-abbrev pub rights_asked : MappingValue → ℕ → ℕ
-rights_asked g asked = if holds asked 25 then 0x1FFFFF else mapped g asked
 
 -- these are whom the rights are granted to
 pub record AreAccesses (g : MappingValue) (d : DescriptorValue) (base : List (SidValue × GroupState)) (rights : ℕ)

@@ -4,7 +4,7 @@ ghost use Rattle.sd_acl.specs.Descriptor.{descriptor_of};
 ghost use Rattle.sd_analysis.specs.Sufficient.{parts_of};
 ghost use Rattle.sd_answer.specs.Word.{IsFirstNoGroup, texts};
 ghost use Rattle.sd_check.specs.Check.{dacl_entries, entries_of};
-ghost use Rattle.sd_commands.specs.Analysis.{compare_outcome, parts_in, rights_asked};
+ghost use Rattle.sd_commands.specs.Analysis.{compare_outcome, parts_in};
 ghost use Rattle.sd_commands.specs.Answer.{AnswersCompare, AnswersCompareOf, AnswersNew, AnswersOfBase};
 ghost use Rattle.sd_commands.specs.Answer.{AnswersWho, AnswersWhoMask, AnswersWhoOf, IsGroupFault, PrintsComparison};
 ghost use Rattle.sd_commands.specs.Answer.{PrintsWho, answer_of};
@@ -16,16 +16,11 @@ use crate::told::{state_reason, told_line, word_argument};
 use crate::words::{argument, arguments_from};
 use sd_acl::{Dacl, Descriptor};
 use sd_analysis::{Base, Comparison, DescriptorRef, compare, who};
-use sd_answer::{TokenError, compare_text, read_base, read_mask_in, who_text};
+use sd_answer::{TokenError, compare_text, read_base, read_mask_in, rights_asked, who_text};
 use sd_check::{DaclRef, GroupState};
-use sd_sid::{GenericMapping, Mask, Sid};
+use sd_sid::{Mask, Sid};
 use sd_text::TextError;
 use std::alloc::{AllocError, Global};
-
-/// MAXIMUM_ALLOWED's place in a mask, and all rights of an object ([MS-DTYP] 2.4.3).
-const MAXIMUM_ALLOWED: u32 = 25;
-
-const OBJECT_RIGHTS: Mask = Mask(0x001F_FFFF);
 
 /// Whom rights are granted to by a descriptor's text, where the mask and the base are the arguments after it; or the
 /// fault of the first from the left that is invalid.
@@ -111,17 +106,6 @@ fn who_lines(
     let rights = rights_asked(&settings.mapping, asked);
     let accesses = who(alloc, owner, dacl, &settings.mapping, &base, rights)?;
     Ok(Answer::done(alloc, who_text(alloc, settings.spelling, &accesses)?))
-}
-
-/// The rights that are asked about: all, for MAXIMUM_ALLOWED.
-fn rights_asked(mapping: &GenericMapping, asked: Mask) -> Mask
-    ensures { result ≡ rights_asked mapping.now asked }
-{
-    if asked.holds(MAXIMUM_ALLOWED) {
-        OBJECT_RIGHTS
-    } else {
-        mapping.map(asked)
-    }
 }
 
 /// The answer to words of which the one at the place is the first that is no group.
