@@ -44,7 +44,7 @@ manner_of (Closed manner) = manner
 manner_of (Opened notation m) =
     record { mapping = m.opening.mapping; limits = m.opening.limits; notation = notation }
 
--- what a store with this root begins with that is opened in this manner
+-- the opening of a store with this root, in this manner
 abbrev pub opening_in : Manner → RootSpec → Opening
 opening_in manner root = opening_within manner.mapping root manner.limits
 
