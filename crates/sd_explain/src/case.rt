@@ -114,7 +114,7 @@ fn note(findings: &mut [Finding; 32], decided: Mask, finding: Finding)
 
 impl Case<'_> {
     // What is found and the reasons are written where the caller has them: each array that a function returns is
-    // cleared and copied.
+    // cleared and copied. Where the reasons were written inline, two more would be.
 
     /// Writes what the pass over the entries finds for each of the bits, in one walk, where nothing is found yet.
     fn find_in(&self, entries: &[Ace], pass: Pass, bits: Mask, findings: &mut [Finding; 32])
@@ -150,6 +150,8 @@ impl Case<'_> {
     }
 
     /// Writes the reasons of all bits, where there are none yet.
+    #[inline(never)]
+    #[tactic(auto, using(crate::proofs::Written::written_from))]
     pub(crate) fn write_reasons(&self, reasons: &mut [Option<Reason>; 32])
         requires { reasons.old ≡ replicate 32 None }
         ensures { reasons.new ≡ of_case reasons_of self.now self.now.question.asked }

@@ -4,11 +4,8 @@ use Rattle.std.proofs.lemmas.List.FromFn.{fill_by_all}
 use Rattle.sd_explain.specs.Findings.{of_case}
 use Rattle.sd_explain.specs.Reasons.{reason_at}
 use Rattle.sd_explain.specs.declared.reason.Reason.{Reason}
-use Rattle.sd_explain.proofs.Written.{written_from, written_here, written_not, written_all}
+use Rattle.sd_explain.proofs.Written.{written_here, written_not, written_all}
 use Rattle.sd_explain.proofs.case.Case.write_reasons.Goals as goal
-
-pub loop-place-init : goal.loop-place-init
-loop-place-init c = written_from None c.args.reasons.now c.answered-answered.result _ _ (ap length c.requires) c.span-lowest.ensures.below
 
 pub loop-place-preserved : goal.loop-place-preserved
 loop-place-preserved c =
