@@ -13,6 +13,8 @@ use sd_wire::{DaclPlace, EntryPlaces, Parts, WireFault, read_entry, read_parts};
 
 /// The verdict on a request ([MS-DTYP] 2.5.3.2), for the descriptor that the bytes hold, or the first test that they
 /// don't pass ([MS-DTYP] 2.4.6): what `read_descriptor` and then `check` answer where there is memory. Takes none.
+// (in a call the walk has its registers to itself)
+#[inline(never)]
 pub fn check_bytes(
     bytes: &[u8],
     mapping: &GenericMapping,
