@@ -100,7 +100,7 @@ def takes_json(arguments):
         return False
     words = iter(word.decode("utf-8", "replace") for word in arguments)
     for word in words:
-        if word in ("--domain", "--mapping"):
+        if word in ("--domain", "--mapping", "--nodes", "--edits"):
             next(words, None)
         elif word == "--json" or not word.startswith("--"):
             return word in COMMANDS

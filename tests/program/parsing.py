@@ -20,6 +20,9 @@ each -0 -- print
 --strict --percent serve
 --mapping key --strict audit 1
 --mapping key script
+--nodes 2 script
+--edits 0 --nodes 1 serve --ids
+--nodes --edits --edits --nodes audit 1
 --domain S-1-5-21-1-2-3 --aliases --without-sacl script
 --without-sacl --aliases serve --ids
 --domain S-1-5-21-1-2-3 --percent audit 1
@@ -190,6 +193,7 @@ REJECTED = r"""
 2 RepeatedOption | --aliases --aliases print D:
 2 RepeatedOption | --base64 --base64 frombin 00
 3 RepeatedOption | --mapping key --mapping key lint D:
+3 RepeatedOption | --nodes 1 --nodes 1 script
 3 UnknownCommand | --mapping lint D:
 2 NoCommand | --names
 2 UnknownCommand | --names ''
@@ -200,6 +204,8 @@ REJECTED = r"""
 1 UnknownOption | --name why D: SY 0x1
 1 NoValue | --domain
 3 NoCommand | --domain x
+1 NoValue | --nodes
+3 NoCommand | --edits 1
 3 UnknownCommand | --domain print D:
 3 RepeatedOption | --domain x --domain y print D:
 4 MissingArgument | --domain x print
@@ -278,6 +284,8 @@ REJECTED = r"""
 2 NotAlone | --names --version
 1 MisplacedOption | --percent print D:
 1 MisplacedOption | --strict each print
+1 MisplacedOption | --nodes 2 print D:
+1 MisplacedOption | --edits 2 each print
 1 MisplacedOption | --require-dacl script
 1 MisplacedOption | --aliases frombin 00
 1 MisplacedOption | --loose script

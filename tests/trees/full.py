@@ -1,5 +1,6 @@
 #!/usr/bin/env python3
-"""Trees with as many nodes as one may have, 65,536 with the root: `full.py PROGRAM`. The last line is 'N passed, M failed'."""
+"""Trees with as many nodes as one may have, by default 65,536 with the root: `full.py PROGRAM`. The last line is
+'N passed, M failed'."""
 import resource
 import subprocess
 import sys
@@ -19,6 +20,14 @@ ROWS = (
     ("publish", "published 65538"),
     ("show 0 /200/x", "seen 65538 shown O:BAG:SYD:AI(A;ID;FR;;;BU)"),
     ("check 0 /255/256 %s FR BU" % USER, "seen 65538 granted 0x120089"),
+)
+
+# The same tree where it may have one node more.
+MORE_ROWS = (
+    ("addo /200/x O:BAG:SYD:", "ok"),
+    ("addo /200/y O:BAG:SYD:", "refused 11 NodesFull"),
+    ("publish", "published 65536"),
+    ("check 0 /200/x %s FR BU" % USER, "seen 65536 granted 0x120089"),
 )
 
 # The lists of a root whose children share what they inherit: 800 entries are 58 KB, and for each child by itself 3.7 GB.
@@ -60,11 +69,12 @@ def limited():
     resource.setrlimit(resource.RLIMIT_AS, (MEMORY, MEMORY))
 
 
-def tried(name, lines, rows, before=None):
+def tried(name, lines, rows, options=(), before=None):
     """How many lines of the script, and of the rows after it, were answered as wanted, and whether all were."""
     wanted = ["opened 1"] + ["ok"] * (len(lines) - 1) + [answer for _, answer in rows]
     script = "\n".join(lines + [command for command, _ in rows]) + "\n"
-    done = subprocess.run([PROGRAM, "script"], input=script, capture_output=True, text=True, check=False, preexec_fn=before)
+    command = [PROGRAM, *options, "script"]
+    done = subprocess.run(command, input=script, capture_output=True, text=True, check=False, preexec_fn=before)
     found = done.stdout.split("\n")
     is_so = (found, done.returncode) == (wanted + [""], 0)
     if not is_so:
@@ -74,7 +84,11 @@ def tried(name, lines, rows, before=None):
 
 
 def main():
-    results = [tried("a full tree", folders(), ROWS), tried("65,535 siblings", siblings(), SIBLING_ROWS, limited)]
+    results = [
+        tried("a full tree", folders(), ROWS),
+        tried("a tree of 65,537 nodes", folders(), MORE_ROWS, ["--nodes", "65537"]),
+        tried("65,535 siblings", siblings(), SIBLING_ROWS, before=limited),
+    ]
     passed = sum(count for count, _ in results)
     failed = sum(not is_so for _, is_so in results)
     print("%d passed, %d failed" % (passed, failed))

@@ -7,23 +7,21 @@ use Rattle.std.specs.Borrow.{Bor}
 use Rattle.sd_stream.specs.Whole.{AppendsBeginning, ReadsPart}
 use Rattle.sd_stream.specs.declared.error.RunError.{RunError}
 use Rattle.sd_stream.specs.declared.error.RunError.TheVariants.{Read, TooLong, Write, Memory, Thread}
-use Rattle.sd_script.specs.Output.{PrintsAndCounts}
-use Rattle.sd_script.specs.Printed.{PrintsAndCountsServed, PrintsAs}
 use Rattle.sd_lines.specs.Output.{AppendsOutput, IsOutput, LeavesAnswers, LeavesOutput}
+use Rattle.sd_script.specs.declared.manner.Manner.{Manner}
 use Rattle.sd_script.specs.declared.tally.Tally.{Tally}
-use Rattle.sd_script_audit.specs.Audit.{PrintsAuditAndCounts}
 use Rattle.sd_script.specs.declared.ids.TheConstants.{LINES}
 use Rattle.sd_commands.specs.Answer.{AnswerValue}
-use Rattle.sd_command_line.specs.Answer.{Answers, AnswersInput, IsBadValue, shown_answer}
+use Rattle.sd_command_line.specs.Answer.{Answers, AnswersInput, AnswersScript, IsBadValue, shown_answer}
 use Rattle.sd_command_line.specs.CommandLine.{CommandLineValue, InvocationValue, RequestValue, IsAudit, Ask, AskInput, Script, Serve, Audit, Each, Help, Version, mistake_in, reading, runs_script}
 use Rattle.sd_command_line.specs.Mistake.{message}
 use Rattle.sd_command_line.specs.declared.mistake.Mistake.{Mistake}
-use Rattle.sd_command_line.specs.Options.{AreSettings, HasBadValue, OptionsValue, is_json, is_strict}
+use Rattle.sd_command_line.specs.Options.{AreSettings, GivesManner, HasBadValue, IsManner, OptionsValue, is_strict}
 use Rattle.sd_commands.specs.declared.answer.Outcome.{Outcome}
 use Rattle.sd_command_line.specs.declared.options.BadValue.{BadValue}
 use Rattle.sd_commands.specs.declared.settings.Settings.{Settings}
 use Rattle.sd_command_line.specs.Output.{AppendsAnswerTo, AppendsPartOfAnswer, IsDue, LeavesAfter, LeavesAfterFailure, LeavesAnswerTo, LeavesAtFailure, LeavesByLine, blames_reader, blames_writer, error_line, failure_text}
-use Rattle.sd_command_line.specs.Scripts.{IsToldOfScript, manner_of, script_outcome}
+use Rattle.sd_command_line.specs.Scripts.{IsToldOfScript, script_outcome}
 use Rattle.sd_commands.specs.Answer.{outcome_status}
 use Rattle.sd_command_line.specs.Status.{failure_status}
 use Rattle.sd_command_line.specs.declared.perform.Ended.{Ended}
@@ -82,53 +80,44 @@ mistaken (Unread reason) status words input left old new errors grown text leave
     let said = leaves.2 in (said.0, said.1, rw (← said.2, ← line) begun)
 mistaken (Run error) status words input left old new errors grown text leaves is line begun ended = absurd (omega arith)
 
--- ---- an output that is the answer to a line
+-- ---- a script's output, which is the answer to its line
 
-module _ (line : CommandLineValue) (counts : List ℕ → List ℕ → Tally → Type 0) (strict : Bool) (input : Option (List ℕ))
-    (answers : (tally : Tally) (printed told : List ℕ) → IsOutput (λ text printed. counts text printed tally) input printed → IsToldOfScript strict tally told
-    → Answers input line (record { printed = printed; told = told; outcome = script_outcome strict tally })) where
-  pub output_answers : (tally : Tally) (told : List ℕ) (old new : Option (List ℕ)) → IsToldOfScript strict tally told
-      → AppendsOutput (λ text printed. counts text printed tally) input old new → AppendsAnswerTo line input old new told (outcome_status (script_outcome strict tally))
+module _ (line : CommandLineValue) (manner : Manner) (said : IsManner line.options manner)
+    (Prints : Manner → List ℕ → List ℕ → Tally → Type 0) (input : Option (List ℕ))
+    (answers : (answer : AnswerValue) → AnswersScript Prints input line.options answer → Answers input line answer) where
+  answered : (tally : Tally) (printed told : List ℕ) → IsOutput (λ text bytes. Prints manner text bytes tally) input printed
+      → IsToldOfScript (is_strict line.options) tally told
+      → Answers input line (record { printed = printed; told = told; outcome = script_outcome (is_strict line.options) tally })
+  answered tally printed told is says = answers _ (Ok manner, said, (tally, is, says, refl))
+
+  pub output_answers : (tally : Tally) (told : List ℕ) (old new : Option (List ℕ))
+      → IsToldOfScript (is_strict line.options) tally told
+      → AppendsOutput (λ text printed. Prints manner text printed tally) input old new
+      → AppendsAnswerTo line input old new told (outcome_status (script_outcome (is_strict line.options) tally))
   output_answers tally told old new says out = record {
     text = out.printed;
-    outcome = script_outcome strict tally;
-    answers = answers tally out.printed told out.output says;
+    outcome = script_outcome (is_strict line.options) tally;
+    answers = answered tally out.printed told out.output says;
     ended = refl;
     appended = out.appended;
   }
 
   -- what an error leaves of the output, it leaves of the answer
-  pub output_leaves : (old new : Option (List ℕ)) (error : RunError) → LeavesOutput (λ text printed. (tally : Tally) × counts text printed tally) input old new error
+  pub output_leaves : (old new : Option (List ℕ)) (error : RunError)
+      → LeavesOutput (λ text printed. (tally : Tally) × Prints manner text printed tally) input old new error
       → LeavesAnswerTo line input old new error
   output_leaves old new Read leaves = leaves
   output_leaves old new TooLong leaves = leaves
   output_leaves old new Write part =
       let text = part.output.0 in
       let tally = part.output.2.0 in record {
-        answer = record { printed = part.printed; told = []; outcome = script_outcome strict tally };
-        answers = answers tally part.printed [] (text, part.output.1, part.output.2.1) (inr refl);
+        answer =
+            record { printed = part.printed; told = []; outcome = script_outcome (is_strict line.options) tally };
+        answers = answered tally part.printed [] (text, part.output.1, part.output.2.1) (inr refl);
         beginning = part.beginning;
       }
   output_leaves old new Memory leaves = leaves
   output_leaves old new Thread leaves = leaves
-
-module _ (options : OptionsValue) (settings : Settings) (said : AreSettings options settings) (input : Option (List ℕ)) where
-  pub script_answers : (tally : Tally) (printed told : List ℕ) → IsOutput (λ text printed. PrintsAs (is_json options) (PrintsAndCounts (manner_of options settings)) text printed tally) input printed
-      → IsToldOfScript (is_strict options) tally told
-      → Answers input (record { options = options; invocation = Script }) (record { printed = printed; told = told; outcome = script_outcome (is_strict options) tally })
-  script_answers tally printed told is says = (Ok settings, said, (tally, is, says, refl))
-
-  pub served_answers : (has_ids : Bool) (tally : Tally) (printed told : List ℕ)
-      → IsOutput (λ text printed. PrintsAndCountsServed has_ids (is_json options) (manner_of options settings) text printed tally) input printed
-      → IsToldOfScript (is_strict options) tally told
-      → Answers input (record { options = options; invocation = Serve has_ids })
-      (record { printed = printed; told = told; outcome = script_outcome (is_strict options) tally })
-  served_answers has_ids tally printed told is says = (Ok settings, said, (tally, is, says, refl))
-
-  pub audit_answers : (workers : ℕ) (tally : Tally) (printed told : List ℕ)
-      → IsOutput (λ text printed. PrintsAs (is_json options) (PrintsAuditAndCounts (manner_of options settings) workers) text printed tally) input printed → IsToldOfScript (is_strict options) tally told
-      → Answers input (record { options = options; invocation = Audit workers }) (record { printed = printed; told = told; outcome = script_outcome (is_strict options) tally })
-  audit_answers workers tally printed told is says = (Ok settings, said, (tally, is, says, refl))
 
 -- ---- an answer that is printed
 
@@ -166,9 +155,9 @@ pub bad_input : (input : Option (List ℕ)) (options : OptionsValue) (request : 
     → Answers input (record { options = options; invocation = AskInput request }) answer
 bad_input input options request bad plain answer has is printed = (plain, (Err bad, has, is), printed)
 
--- a script whose mapping isn't read
+-- a script with an option whose value isn't read
 pub bad_answers : (input : Option (List ℕ)) (options : OptionsValue) (invocation : InvocationValue) (bad : BadValue) (plain answer : AnswerValue)
-    → runs_script invocation ≡ true → HasBadValue options bad → IsBadValue bad plain → answer ≡ shown_answer options plain
+    → runs_script invocation ≡ true → GivesManner options (Err bad) → IsBadValue bad plain → answer ≡ shown_answer options plain
     → Answers input (record { options = options; invocation = invocation }) answer
 bad_answers input options Script bad plain answer runs has is printed = (Err bad, has, (plain, is, printed))
 bad_answers input options (Serve has_ids) bad plain answer runs has is printed = (Err bad, has, (plain, is, printed))

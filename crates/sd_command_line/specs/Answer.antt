@@ -15,7 +15,7 @@ use Rattle.sd_lines.specs.Answers.{PrintsAndLeaves}
 use Rattle.sd_stream.specs.Decoder.{decoded}
 use Rattle.sd_lines.specs.declared.ending.Ending.{Ending}
 use Rattle.sd_lines.specs.declared.form.Form.{Form as LineForm}
-use Rattle.sd_command_line.specs.Scripts.{IsToldOfScript, manner_of, script_outcome}
+use Rattle.sd_command_line.specs.Scripts.{IsToldOfScript, script_outcome}
 use Rattle.sd_json.specs.Text.{printed_as}
 use Rattle.sd_json.specs.declared.tagging.Tagging.{Tagging}
 use Rattle.sd_json.specs.declared.tagging.Tagging.TheVariants.{Key, Nothing}
@@ -29,14 +29,14 @@ use Rattle.sd_command_line.specs.Input.{is_blank, is_utf16, without_end}
 use Rattle.sd_command_line.specs.declared.flags.Lines.{Lines}
 use Rattle.sd_command_line.specs.declared.each.Progress.{Progress}
 use Rattle.sd_command_line.specs.declared.each.Progress.TheVariants.{NoLine}
-use Rattle.sd_command_line.specs.Options.{OptionsValue, GivesSettings, is_json, is_strict}
+use Rattle.sd_command_line.specs.Options.{OptionsValue, GivesManner, GivesSettings, is_json, is_strict}
 use Rattle.sd_text.specs.Alias.{in_domain}
 use Rattle.sd_commands.specs.Answer.{AnswerValue, AnswersQuestion, IsDone, IsFault, is_refusal}
 use Rattle.sd_commands.specs.Told.{told_line, IsSidReason}
 use Rattle.sd_commands.specs.declared.answer.Outcome.TheVariants.{Done}
 use Rattle.sd_command_line.specs.declared.options.BadValue.{BadValue}
 use Rattle.sd_command_line.specs.declared.shown.Shown.{Shown}
-use Rattle.sd_command_line.specs.declared.options.BadValue.TheVariants.{NoDomain, NoMapping}
+use Rattle.sd_command_line.specs.declared.options.BadValue.TheVariants.{NoDomain, NoEdits, NoMapping, NoNodes}
 use Rattle.sd_commands.specs.declared.settings.Settings.{Settings}
 use Rattle.sd_command_line.specs.declared.version.TheConstants.{VERSION, KIT}
 
@@ -59,12 +59,16 @@ AnswersUnder settings (AsksAudit workers) answer = ⊥
 AnswersUnder settings (AsksEach lines request) answer = ⊥
 
 -- the value of an option isn't read
+abbrev pub IsBadOption : List ℕ → List ℕ → AnswerValue → Type 0
+IsBadOption name reason answer = IsFault (fault_line name) (told_line (codes "--" ++ name) reason) answer
+
 abbrev pub IsBadValue : BadValue → AnswerValue → Type 0
 IsBadValue (NoDomain text points) answer =
     (reason : List ℕ) × IsSidReason points (in_domain None) (codes "no domain") text.now reason
-    × IsFault (fault_line (codes "domain")) (told_line (codes "--domain") reason) answer
-IsBadValue NoMapping answer = IsFault (fault_line (codes "mapping"))
-    (told_line (codes "--mapping") (codes "no such mapping")) answer
+    × IsBadOption (codes "domain") reason answer
+IsBadValue NoMapping answer = IsBadOption (codes "mapping") (codes "no such mapping") answer
+IsBadValue NoNodes answer = IsBadOption (codes "nodes") (codes "no number of nodes, 1 to 16777216") answer
+IsBadValue NoEdits answer = IsBadOption (codes "edits") (codes "no number of edits, 0 to 4294967296") answer
 
 -- an answer under these settings, or to a value of an option that isn't read
 abbrev pub AnswersBy : (Settings → AnswerValue → Type 0) → Result Settings BadValue → AnswerValue → Type 0
@@ -128,18 +132,16 @@ AnswersGiven input request settings answer =
 
 -- the output of the script on the input, as this is printed and counted; or a value of an option isn't read
 abbrev pub AnswersScriptBy : (Manner → List ℕ → List ℕ → Tally → Type 0) → Option (List ℕ) → OptionsValue
-    → Result Settings BadValue → AnswerValue → Type 0
-AnswersScriptBy Prints input options (Ok settings) answer =
-    (tally : Tally) × IsOutput
-    (λ text printed. Prints (manner_of options settings) text printed tally) input answer.printed
+    → Result Manner BadValue → AnswerValue → Type 0
+AnswersScriptBy Prints input options (Ok manner) answer =
+    (tally : Tally) × IsOutput (λ text printed. Prints manner text printed tally) input answer.printed
     × IsToldOfScript (is_strict options) tally answer.told × (answer.outcome ≡ script_outcome (is_strict options) tally)
 AnswersScriptBy Prints input options (Err bad) answer = Shows options (IsBadValue bad) answer
 
 abbrev pub AnswersScript : (Manner → List ℕ → List ℕ → Tally → Type 0) → Option (List ℕ) → OptionsValue → AnswerValue
     → Type 0
 AnswersScript Prints input options answer =
-    (settings : Result Settings BadValue) × GivesSettings options settings
-    × AnswersScriptBy Prints input options settings answer
+    (manner : Result Manner BadValue) × GivesManner options manner × AnswersScriptBy Prints input options manner answer
 
 -- ---- of each line
 
@@ -231,11 +233,12 @@ abbrev pub AnswersInvocation : Option (List ℕ) → OptionsValue → Invocation
 AnswersInvocation input options (AskInput request) answer =
     Shows options (AnswersWith options (AnswersGiven input request)) answer
 AnswersInvocation input options AsksScript answer =
-    AnswersScript (λ manner. PrintsAs (is_json options) (PrintsAndCounts manner)) input options answer
+    AnswersScript (λ manner. PrintsAs manner.notation.is_json (PrintsAndCounts manner)) input options answer
 AnswersInvocation input options (AsksServe has_ids) answer =
-    AnswersScript (PrintsAndCountsServed has_ids (is_json options)) input options answer
+    AnswersScript (λ manner. PrintsAndCountsServed has_ids manner.notation.is_json manner) input options answer
 AnswersInvocation input options (AsksAudit workers) answer =
-    AnswersScript (λ manner. PrintsAs (is_json options) (PrintsAuditAndCounts manner workers)) input options answer
+    AnswersScript (λ manner. PrintsAs manner.notation.is_json (PrintsAuditAndCounts manner workers)) input options
+    answer
 AnswersInvocation input options (AsksEach lines request) answer = AnswersEach options lines request input answer
 AnswersInvocation input options invocation answer = Shows options (AnswersArguments options invocation) answer
 

@@ -1,21 +1,24 @@
 -- The options of a command line: what may stand between the program's name and the command, and what they say.
 use Rattle.std.specs.Prelude.{◌≡◌, ℕ, List, [], ◌∷◌, length, map, replicate, get_or, slice_set, Bool, true, false, not}
-use Rattle.std.specs.Prelude.{⊤, is_some, if◌then◌else◌, Option, Some, None, option_map, Result, Ok, Err}
+use Rattle.std.specs.Prelude.{⊤, ◌⊎◌, is_some, if◌then◌else◌, Option, Some, None, option_map, Result, Ok, Err}
 use Rattle.std.specs.Option.{option_map_or}
 use Rattle.std.specs.Borrow.{Bor}
 use Rattle.sd_text.specs.Domain.{domain_sid}
 use Rattle.sd_text.specs.Grammar.{Spells}
 use Rattle.sd_text.specs.Sid.{sid_text}
 use Rattle.sd_text.specs.declared.domain.Domain.{Domain as DomainValue}
+use Rattle.sd_tree.specs.Limits.{IsLimits, LimitsValue, standard_limits}
+use Rattle.sd_script.specs.Argument.{IsNumber}
+use Rattle.sd_script.specs.declared.manner.Manner.{Manner}
 use Rattle.sd_script.specs.declared.paths.PathSpelling.{PathSpelling}
 use Rattle.sd_script.specs.declared.paths.PathSpelling.TheVariants as paths
 use Rattle.sd_answer.specs.declared.answer.Spelling.{Spelling}
 use Rattle.sd_answer.specs.declared.answer.Spelling.TheVariants.{Number, Names as ByNames}
 use Rattle.sd_usage.specs.Table.{option_named, place, takes_option}
 use Rattle.sd_usage.specs.declared.row.OptionName.{OptionName}
-use Rattle.sd_usage.specs.declared.row.OptionName.TheVariants.{Aliases, Base64, Caret, Domain, Json, Loose}
-use Rattle.sd_usage.specs.declared.row.OptionName.TheVariants.{Mapping, Names, Percent, RequireDacl, Risks}
-use Rattle.sd_usage.specs.declared.row.OptionName.TheVariants.{Stdin, Strict, WithoutSacl}
+use Rattle.sd_usage.specs.declared.row.OptionName.TheVariants.{Aliases, Base64, Caret, Domain, Edits, Json}
+use Rattle.sd_usage.specs.declared.row.OptionName.TheVariants.{Loose, Mapping, Names, Nodes, Percent, RequireDacl}
+use Rattle.sd_usage.specs.declared.row.OptionName.TheVariants.{Risks, Stdin, Strict, WithoutSacl}
 use Rattle.sd_usage.specs.declared.row.ProgramOption.{ProgramOption}
 use Rattle.sd_usage.specs.declared.row.TheConstants.{OPTION_COUNT}
 use Rattle.sd_commands.specs.Mapping.{GivesMapping, GivesNoMapping, kind_given}
@@ -27,7 +30,7 @@ use Rattle.sd_command_line.specs.declared.mistake.Wrong.{Wrong}
 use Rattle.sd_command_line.specs.declared.mistake.Wrong.TheVariants.{ExcludedOption, MisplacedOption, NoValue}
 use Rattle.sd_command_line.specs.declared.mistake.Wrong.TheVariants.{RepeatedOption}
 use Rattle.sd_command_line.specs.declared.options.BadValue.{BadValue}
-use Rattle.sd_command_line.specs.declared.options.BadValue.TheVariants.{NoDomain, NoMapping}
+use Rattle.sd_command_line.specs.declared.options.BadValue.TheVariants.{NoDomain, NoEdits, NoMapping, NoNodes}
 use Rattle.sd_command_line.specs.declared.options.Options.{Options}
 use Rattle.sd_commands.specs.declared.settings.Settings.{Settings}
 
@@ -160,8 +163,53 @@ HasBadValue options (NoDomain text points) =
     (given options Domain ≡ Some text.now) × IsNoDomain text.now × (points ≡ has options Caret)
 HasBadValue options NoMapping = ((domain : Option DomainValue) × GivesDomain (given options Domain) domain)
     × GivesNoMapping (given options Mapping)
+HasBadValue options NoNodes = ⊥
+HasBadValue options NoEdits = ⊥
 
 -- these settings, or this value that isn't read
 abbrev pub GivesSettings : OptionsValue → Result Settings BadValue → Type 0
 GivesSettings options (Ok settings) = AreSettings options settings
 GivesSettings options (Err bad) = HasBadValue options bad
+
+-- ---- what they say of a script
+
+-- the number that an option's value writes in decimal digits, and without the option the standard one
+abbrev pub GivesNumber : Option (List ℕ) → ℕ → ℕ → Type 0
+GivesNumber None standard n = n ≡ standard
+GivesNumber (Some text) standard n = IsNumber text n
+
+-- limits of as many nodes as the options say, and of as many edits
+abbrev pub HasNodes : OptionsValue → LimitsValue → Type 0
+HasNodes options limits = IsLimits limits × GivesNumber (given options Nodes) standard_limits.nodes limits.nodes
+
+abbrev pub HasEdits : OptionsValue → LimitsValue → Type 0
+HasEdits options limits = IsLimits limits × GivesNumber (given options Edits) standard_limits.edits limits.edits
+
+-- no limits have so many nodes, or else none so many edits
+abbrev pub HasBadLimit : OptionsValue → BadValue → Type 0
+HasBadLimit options NoNodes = (limits : LimitsValue) → HasNodes options limits → ⊥
+HasBadLimit options NoEdits = ((limits : LimitsValue) × HasNodes options limits)
+    × ((limits : LimitsValue) → HasEdits options limits → ⊥)
+HasBadLimit options bad = ⊥
+
+-- these limits, or this value that isn't read
+abbrev pub GivesLimits : OptionsValue → Result LimitsValue BadValue → Type 0
+GivesLimits options (Ok limits) = HasNodes options limits × HasEdits options limits
+GivesLimits options (Err bad) = HasBadLimit options bad
+
+-- how a script is carried out
+pub record IsManner (options : OptionsValue) (manner : Manner) : Type 0 where
+  pub mapping : GivesMapping (given options Mapping) manner.mapping
+  pub limits : GivesLimits options (Ok manner.limits)
+  pub paths : manner.notation.paths ≡ paths_of options
+  pub spelling : manner.notation.spelling ≡ spelling_of options
+  pub domain : GivesDomain (given options Domain) manner.notation.aliases.domain
+  pub later : manner.notation.aliases.later ≡ has options Aliases
+  pub without_sacl : manner.notation.without_sacl ≡ has options WithoutSacl
+  pub is_json : manner.notation.is_json ≡ is_json options
+
+-- in this manner, or this value that isn't read: a limit's only where the others' are
+abbrev pub GivesManner : OptionsValue → Result Manner BadValue → Type 0
+GivesManner options (Ok manner) = IsManner options manner
+GivesManner options (Err bad) =
+    HasBadValue options bad ⊎ (((settings : Settings) × AreSettings options settings) × HasBadLimit options bad)

@@ -7,6 +7,7 @@ use Rattle.sd_stream.specs.declared.error.RunError.{RunError}
 use Rattle.sd_stream.specs.declared.error.RunError.TheVariants.{Read, TooLong, Write, Memory, Thread}
 use Rattle.sd_answer.specs.Answer.{line}
 use Rattle.sd_script.specs.Printed.{PrintsServed}
+use Rattle.sd_script.specs.declared.manner.Manner.{Manner}
 use Rattle.sd_script.specs.declared.ids.TheConstants.{LINES}
 use Rattle.sd_lines.specs.Answers.{Prints}
 use Rattle.sd_lines.specs.Output.{LeavesAnswers}
@@ -17,10 +18,9 @@ use Rattle.sd_command_line.specs.CommandLine.{CommandLineValue, RequestValue, Ea
 use Rattle.sd_command_line.specs.CommandLine.{mistake_in}
 use Rattle.sd_command_line.specs.Mistake.{message}
 use Rattle.sd_command_line.specs.declared.mistake.Mistake.{Mistake}
-use Rattle.sd_command_line.specs.Options.{AreSettings, GivesSettings, OptionsValue, is_json}
+use Rattle.sd_command_line.specs.Options.{GivesSettings, IsManner, OptionsValue, is_json}
 use Rattle.sd_command_line.specs.declared.options.BadValue.{BadValue}
 use Rattle.sd_command_line.specs.declared.each.Progress.TheVariants.{NoLine}
-use Rattle.sd_command_line.specs.Scripts.{manner_of}
 use Rattle.sd_commands.specs.declared.answer.Outcome.{Outcome}
 use Rattle.sd_commands.specs.declared.settings.Settings.{Settings}
 use Rattle.sd_command_line.specs.declared.failure.Failure.{Failure}
@@ -54,12 +54,11 @@ LeavesAnswerTo line input old new Thread = Keeps old new
 -- line by line, what was answered until then
 pub record LeavesServed (line : CommandLineValue) (input left old new : Option (List ℕ))
     (error : RunError) : Type 0 where
-  pub settings : Settings
+  pub manner : Manner
   pub has_ids : Bool
   pub asked : line.invocation ≡ Serve has_ids
-  pub said : AreSettings line.options settings
-  pub answers : LeavesAnswers LINES (PrintsServed has_ids (is_json line.options) (manner_of line.options settings))
-      input left old new error
+  pub said : IsManner line.options manner
+  pub answers : LeavesAnswers LINES (PrintsServed has_ids manner.notation.is_json manner) input left old new error
 
 -- the answers to the lines of an input, as far as it came
 abbrev pub LeavesEachAnswers : OptionsValue → Lines → RequestValue → Option (List ℕ) → Option (List ℕ)

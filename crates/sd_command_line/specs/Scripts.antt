@@ -2,26 +2,10 @@
 use Rattle.std.specs.Prelude.{◌≡◌, ◌⊎◌, ℕ, ◌==◌, Bool, ◌&&◌, ◌||◌, is_some, List, [], ◌++◌, Option, Some, None}
 use Rattle.std.specs.Prelude.{if◌then◌else◌, codes}
 use Rattle.std.specs.Fmt.{decimal}
-use Rattle.sd_script.specs.declared.manner.Manner.{Manner}
 use Rattle.sd_script.specs.declared.tally.Tally.{Tally}
 use Rattle.sd_commands.specs.Told.{told_line}
 use Rattle.sd_commands.specs.declared.answer.Outcome.{Outcome}
 use Rattle.sd_commands.specs.declared.answer.Outcome.TheVariants.{Done, Refused}
-use Rattle.sd_command_line.specs.Options.{OptionsValue, is_json, paths_of}
-use Rattle.sd_commands.specs.declared.settings.Settings.{Settings}
-
--- the manner in which it is carried out
-abbrev pub manner_of : OptionsValue → Settings → Manner
-manner_of options settings = record {
-  mapping = settings.mapping;
-  notation = record {
-    paths = paths_of options;
-    spelling = settings.spelling;
-    aliases = settings.aliases;
-    without_sacl = settings.without_sacl;
-    is_json = is_json options;
-  };
-}
 
 -- what is told of a line, where there is one
 abbrev pub line_note : List ℕ → Option ℕ → List ℕ

@@ -1,7 +1,8 @@
 //! The answer to a command line that needs no input.
 ghost use Rattle.std.specs.Prelude.{◌≡◌, ℕ, List, Option, false, IfOk};
 ghost use Rattle.sd_commands.specs.Answer.{answer_of};
-ghost use Rattle.sd_command_line.specs.Answer.{Answers, AnswersArguments, AnswersUnder, IsBadValue, shown_of};
+ghost use Rattle.sd_command_line.specs.Answer.{Answers, AnswersArguments, AnswersUnder, IsBadOption};
+ghost use Rattle.sd_command_line.specs.Answer.{IsBadValue, shown_of};
 ghost use Rattle.sd_command_line.specs.CommandLine.{command_line_of, invocation_of, uses_input};
 ghost use Rattle.sd_command_line.specs.Options.{options_of};
 
@@ -70,16 +71,19 @@ pub(crate) fn bad_value(alloc: Global, bad: BadValue<'_>) -> Result<Answer, Allo
                 later: false,
             };
             let reason = sid_reason(alloc, points, known, "no domain", text)?;
-            fault(
-                alloc,
-                "domain",
-                told_line(alloc, "--domain", reason.as_str())?,
-            )
+            bad_option(alloc, "domain", reason.as_str())
         }
-        BadValue::NoMapping => fault(
-            alloc,
-            "mapping",
-            told_line(alloc, "--mapping", "no such mapping")?,
-        ),
+        BadValue::NoMapping => bad_option(alloc, "mapping", "no such mapping"),
+        BadValue::NoNodes => bad_option(alloc, "nodes", "no number of nodes, 1 to 16777216"),
+        BadValue::NoEdits => bad_option(alloc, "edits", "no number of edits, 0 to 4294967296"),
     }
+}
+
+/// The answer to the option of this name, whose value isn't read for this reason.
+fn bad_option(alloc: Global, name: &str, reason: &str) -> Result<Answer, AllocError>
+    ensures { IfOk result (λ answer. IsBadOption name.now reason.now (answer_of answer)) }
+{
+    let option = format!(in alloc; "--{name}")?;
+    let told = told_line(alloc, option.as_str(), reason)?;
+    fault(alloc, name, told)
 }

@@ -1,21 +1,21 @@
 //! What may stand between the program's name and the command, and what it says.
-ghost use Rattle.std.specs.Prelude.{◌≡◌, IfErr, IfNone, IfOk, IfSome, false, option_map};
+ghost use Rattle.std.specs.Prelude.{◌≡◌, ◌⊎◌, ℕ, IfErr, IfNone, IfOk, IfSome, false, option_map};
 ghost use Rattle.std.specs.Option.{option_map_or};
 ghost use Rattle.sd_text.specs.Domain.{domain_sid};
 ghost use Rattle.sd_text.specs.Grammar.{Spells};
 ghost use Rattle.sd_text.specs.Sid.{sid_text};
-ghost use Rattle.sd_command_line.specs.Scripts.{manner_of};
-ghost use Rattle.sd_command_line.specs.Options.{GivesDomain, GivesSettings, HasBadValue, IsNoDomain, byte_form_of};
-ghost use Rattle.sd_command_line.specs.Options.{given, has, is_from_input, is_json, is_strict, misplaced_in};
-ghost use Rattle.sd_command_line.specs.Options.{no_options, options_in, options_of, parted, paths_of, spelling_of};
-ghost use Rattle.sd_command_line.specs.Options.{with_option, with_value, wrong_option};
+ghost use Rattle.sd_command_line.specs.Options.{GivesDomain, GivesLimits, GivesManner, GivesNumber, GivesSettings};
+ghost use Rattle.sd_command_line.specs.Options.{HasBadValue, IsNoDomain, byte_form_of, given, has, is_from_input};
+ghost use Rattle.sd_command_line.specs.Options.{is_json, is_strict, misplaced_in, no_options, options_in, options_of};
+ghost use Rattle.sd_command_line.specs.Options.{parted, paths_of, spelling_of, with_option, with_value, wrong_option};
 ghost use Rattle.sd_command_line.specs.Mistake.{map_read};
 
 use crate::mistake::{Mistake, Wrong};
 use sd_answer::Spelling;
 use sd_commands::{ByteForm, Settings, kind_given, mapping_given};
-use sd_script::{Manner, Notation, PathSpelling};
+use sd_script::{Manner, Notation, PathSpelling, number_in};
 use sd_text::{Aliases, Domain, read_sid_text};
+use sd_tree::{Limits, LimitsError};
 use sd_usage::{OPTION_COUNT, OptionName, ProgramOption, option_named, takes_option};
 
 /// The value of an option that isn't read.
@@ -25,6 +25,10 @@ pub(crate) enum BadValue<'a> {
     NoDomain { text: &'a str, points: bool },
     /// The value of `--mapping` is no mapping.
     NoMapping,
+    /// The value of `--nodes` is no number of nodes that limits allow.
+    NoNodes,
+    /// The value of `--edits` is no number of edits that limits allow.
+    NoEdits,
 }
 
 /// The options of a command line, which go before the command, each at most once.
@@ -110,12 +114,16 @@ impl<'a> Options<'a> {
         })
     }
 
-    /// How a script is carried out, under these settings.
-    pub(crate) fn manner(self, settings: &Settings) -> Manner
-        ensures { result ≡ manner_of (options_of self.entry) settings.now }
+    /// How they have a script carried out, or whose value isn't read: first those of `settings`, then `--nodes`'s and
+    /// `--edits`'s.
+    pub(crate) fn manner(self) -> Result<Manner, BadValue<'a>>
+        ensures { GivesManner (options_of self.entry) result }
     {
-        Manner {
+        let settings = self.settings()?;
+        let limits = self.limits()?;
+        Ok(Manner {
             mapping: settings.mapping,
+            limits,
             notation: Notation {
                 paths: self.paths(),
                 spelling: settings.spelling,
@@ -123,6 +131,20 @@ impl<'a> Options<'a> {
                 without_sacl: settings.without_sacl,
                 is_json: self.is_json(),
             },
+        })
+    }
+
+    /// The limits of the store that a script opens, or whose value isn't read: first `--nodes`'s.
+    fn limits(self) -> Result<Limits, BadValue<'a>>
+        ensures { GivesLimits (options_of self.entry) result }
+    {
+        let standard = Limits::standard();
+        let nodes = number_given(self.given(OptionName::Nodes), standard.nodes());
+        let edits = number_given(self.given(OptionName::Edits), standard.edits());
+        match Limits::new(nodes, edits) {
+            Ok(limits) => Ok(limits),
+            Err(LimitsError::NoNodes | LimitsError::TooManyNodes) => Err(BadValue::NoNodes),
+            Err(LimitsError::TooManyEdits) => Err(BadValue::NoEdits),
         }
     }
 
@@ -256,6 +278,19 @@ fn domain_in(text: &str) -> Option<Domain>
     match read_sid_text(text) {
         Ok(sid) => Domain::new(&sid),
         Err(_) => None,
+    }
+}
+
+/// The number that an option's value writes in decimal digits, or without the option the standard one. A text that is
+/// no number below 2^64 gives the greatest, which is above all limits.
+fn number_given(text: Option<&str>, standard: u64) -> u64
+    ensures given { (n : ℕ) → GivesNumber (option_map (λ text. text.now) text.entry) standard n → result ≡ n }
+    ensures other { GivesNumber (option_map (λ text. text.now) text.entry) standard result
+        ⊎ (result ≡ 0xFFFFFFFFFFFFFFFF) }
+{
+    match text {
+        None => standard,
+        Some(text) => number_in(text).unwrap_or(u64::MAX),
     }
 }
 

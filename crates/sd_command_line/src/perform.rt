@@ -6,7 +6,7 @@ ghost use Rattle.sd_stream.specs.Whole.{AppendsBeginning, ReadsPart, is_read_err
 ghost use Rattle.sd_commands.specs.Answer.{outcome_status};
 ghost use Rattle.sd_command_line.specs.CommandLine.{AskInput, Audit, Each, command_line_of, invocation_of, uses_input};
 ghost use Rattle.sd_command_line.specs.CommandLine.{request_of, runs_script};
-ghost use Rattle.sd_command_line.specs.Options.{AreSettings, is_strict, options_of};
+ghost use Rattle.sd_command_line.specs.Options.{IsManner, is_strict, options_of};
 ghost use Rattle.sd_command_line.specs.Output.{AppendsAnswerTo, LeavesAfter, LeavesAfterFailure, blames_reader};
 ghost use Rattle.sd_command_line.specs.Output.{blames_writer};
 ghost use Rattle.sd_command_line.specs.Scripts.{IsToldOfScript, script_outcome};
@@ -20,8 +20,8 @@ use crate::input::answer_input;
 use crate::options::Options;
 use crate::scripts::{script_outcome, told_of_script};
 use crate::shown::Shown;
-use sd_commands::{Outcome, Settings};
-use sd_script::{Tally, run, serve};
+use sd_commands::Outcome;
+use sd_script::{Manner, Tally, run, serve};
 use sd_script_audit::run_audit;
 use sd_store::OpenGate;
 use sd_stream::{RunError, Watched, read_whole, write_whole};
@@ -135,9 +135,9 @@ fn perform_script<T: Threads + Wait + Sync, R: Read, W: Write>(
     ensures thread { result ≡ Err (Failure.Run RunError.Thread)
         → (workers : ℕ) × (invocation_of line.entry.invocation ≡ Audit workers) }
 {
-    match line.options.settings() {
-        Ok(settings) => {
-            let tally = run_under(rt, alloc, &settings, line, reader, writer)?;
+    match line.options.manner() {
+        Ok(manner) => {
+            let tally = run_in(rt, alloc, &manner, line, reader, writer)?;
             let is_strict = line.options.is_strict();
             Ok(Ended {
                 told: told_of_script(alloc, is_strict, &tally),
@@ -151,16 +151,16 @@ fn perform_script<T: Threads + Wait + Sync, R: Read, W: Write>(
     }
 }
 
-/// Runs a script under these settings, which are those of the line.
-fn run_under<T: Threads + Wait + Sync, R: Read, W: Write>(
+/// Runs a script in this manner, which is that of the line.
+fn run_in<T: Threads + Wait + Sync, R: Read, W: Write>(
     rt: &T,
     alloc: Global,
-    settings: &Settings,
+    manner: &Manner,
     line: CommandLine<'_>,
     reader: &mut Watched<R>,
     writer: &mut Watched<W>,
 ) -> Result<Tally, RunError>
-    requires said { AreSettings (options_of line.options) settings.now }
+    requires said { IsManner (options_of line.options) manner.now }
     requires script { runs_script (invocation_of line.invocation) ≡ true }
     ensures ok { IfOk result (λ tally. (told : List ℕ)
         → IsToldOfScript (is_strict (options_of line.entry.options)) tally told
@@ -177,12 +177,11 @@ fn run_under<T: Threads + Wait + Sync, R: Read, W: Write>(
     ensures thread { result ≡ Err RunError.Thread → (workers : ℕ)
         × (invocation_of line.entry.invocation ≡ Audit workers) }
 {
-    let manner = line.options.manner(settings);
     match line.invocation {
-        Invocation::Script => run(alloc, &manner, reader, writer),
-        Invocation::Serve { has_ids } => serve(alloc, &manner, has_ids, reader, writer),
+        Invocation::Script => run(alloc, manner, reader, writer),
+        Invocation::Serve { has_ids } => serve(alloc, manner, has_ids, reader, writer),
         Invocation::Audit { workers } => {
-            run_audit(rt, alloc, workers, &manner, reader, writer, &OpenGate)
+            run_audit(rt, alloc, workers, manner, reader, writer, &OpenGate)
         }
         _ => unreachable!(),
     }

@@ -1,13 +1,13 @@
-use Rattle.std.proofs.Common.{ap, codes, string_bytes, ◌∙◌}
+-- The reason is that of the SID.
+use Rattle.std.proofs.Common.{codes, string_bytes, subst}
 use Rattle.std.proofs.lemmas.Result.{IfOk-weaker}
-use Rattle.sd_commands.specs.Told.{told_line}
+use Rattle.sd_commands.specs.Answer.{answer_of}
+use Rattle.sd_command_line.specs.Answer.{IsBadOption}
 use Rattle.sd_command_line.proofs.answer.bad_value.Goals as goal
 
-pub returns-in_ok-told_line-in-NoDomain : goal.returns-in_ok-told_line-in-NoDomain
-returns-in_ok-told_line-in-NoDomain c =
-    rw (c.in-NoDomain.is) (IfOk-weaker c.fault.result _ _ (λ answer is. (
-      string_bytes c.in_ok-reason-in-NoDomain.reason,
-      c.in_ok-reason-in-NoDomain.ensures,
-      (is.0, is.1 ∙ c.in_ok-told_line-in-NoDomain.ensures ∙ ap (told_line (codes "--domain")) c.as_str.ensures.value, is.2),
-    ))
-    c.fault.ensures)
+pub returns-in_ok-reason-in-NoDomain : goal.returns-in_ok-reason-in-NoDomain
+returns-in_ok-reason-in-NoDomain c = rw (c.in-NoDomain.is) (IfOk-weaker c.bad_option.result _ _ (λ answer is. (
+  string_bytes c.in_ok-reason-in-NoDomain.reason,
+  c.in_ok-reason-in-NoDomain.ensures,
+  subst (λ reason. IsBadOption (codes "domain") reason (answer_of answer)) c.as_str.ensures.value is,
+)) c.bad_option.ensures)
