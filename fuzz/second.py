@@ -111,6 +111,8 @@ def path_word(path, percent, at_will=lambda: False):
 class Tree:
     nodes: dict
     length: int = 0
+    most_nodes: int = 65536
+    most_edits: int = 1048576
 
     def dacl(self, path):
         node = self.nodes[path]
@@ -177,14 +179,16 @@ class Tree:
             return "AclTooLarge"
         if any(len(other) > 64 for other in after.nodes):
             return "TooDeep"
-        if len(after.nodes) > 65536:
+        if len(after.nodes) > self.most_nodes:
             return "NodesFull"
+        if self.length >= self.most_edits:
+            return "JournalFull"
         self.nodes = after.nodes
         self.length += 1
         return None
 
     def copy(self):
-        return Tree(dict(self.nodes), self.length)
+        return replace(self, nodes=dict(self.nodes))
 
     def shown(self, path):
         node = self.nodes[path]
