@@ -42,7 +42,7 @@ static hudarin_verdict made(hudarin_store *store, const row *row)
     return hudarin_store_edit(store, row->edit, row->path, strlen(row->path), value, length);
 }
 
-static hudarin_verdict opened(hudarin_store *store, const char *sddl)
+static inline hudarin_verdict opened(hudarin_store *store, const char *sddl)
 {
     unsigned char root[200];
     size_t length = (size_t)hudarin_sddl_to_bytes(sddl, strlen(sddl), root, sizeof root).length;
@@ -55,7 +55,7 @@ static int is_made(hudarin_verdict answer)
 }
 
 /* Whether both views show the same text at each of these paths, and are of the same length. */
-static int alike(hudarin_view *one, hudarin_view *other)
+static inline int alike(hudarin_view *one, hudarin_view *other)
 {
     static const char *const paths[] = { "/", "/a", "/a/o", "/b", "/b/c", "/b/c/o", "/b/o", "/b/q" };
     size_t at;
