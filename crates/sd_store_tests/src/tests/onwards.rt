@@ -1,7 +1,7 @@
 //! A reader that moves from a store to the next one, in a thread of its own on both sides.
 
 ghost use Rattle.std.specs.Prelude.{◌≡◌};
-ghost use Rattle.sd_tree.specs.Journal.{opening_of, replay};
+ghost use Rattle.sd_tree.specs.Journal.{opening_within, replay};
 ghost use Rattle.sd_tree_renewal.specs.Renewal.{Makes};
 
 use super::store::{Play, is_right};
@@ -115,7 +115,7 @@ fn next_store<
     beginning: &Beginning,
 ) -> Option<bool>
     requires history { (history.book ≡ K.book) × (history.first ≡ K.first) }
-    requires opening { opening_of J.opening.mapping beginning.now.root ≡ K.opening }
+    requires opening { opening_within J.opening.mapping beginning.now.root J.opening.limits ≡ K.opening }
     requires makes { Makes K.opening beginning.now.edits.items (replay J.opening old.old.journal) }
 {
     let thread = away(rt, alloc, checkers.pop()?, answered(LAST, GRANTED))?;
