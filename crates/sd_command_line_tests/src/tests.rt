@@ -7,6 +7,7 @@ use sd_command_line::{
     GenericMapping, Manner, Notation, OpenGate, PathSpelling, RunError, Tally, Watched, drive,
     run_audit,
 };
+use sd_tree::Limits;
 use std::alloc::Global;
 use std::io;
 use std::io::{Read, Write};

@@ -94,6 +94,7 @@ impl Way {
 fn plain() -> Manner {
     Manner {
         mapping: GenericMapping::file(),
+        limits: Limits::standard(),
         notation: Notation::plain(PathSpelling::Plain),
     }
 }
