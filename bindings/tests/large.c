@@ -32,15 +32,16 @@ static void grow(hudarin_store *store)
     row added = { HUDARIN_EDIT_ADD_CONTAINER, "", NODE, DONE };
     size_t length = value_of(&added, value, sizeof value);
     char path[32];
-    int folder, object;
+    int folder, object, all = 1;
     for (folder = 0; folder < FOLDERS; folder++) {
         int size = snprintf(path, sizeof path, "/folder%04d", folder);
-        HOLDS(is_made(hudarin_store_edit(store, HUDARIN_EDIT_ADD_CONTAINER, path, (size_t)size, value, length)));
+        all &= is_made(hudarin_store_edit(store, HUDARIN_EDIT_ADD_CONTAINER, path, (size_t)size, value, length));
         for (object = 0; object < OBJECTS; object++) {
             size = snprintf(path, sizeof path, "/folder%04d/%03d", folder, object);
-            HOLDS(is_made(hudarin_store_edit(store, HUDARIN_EDIT_ADD_OBJECT, path, (size_t)size, value, length)));
+            all &= is_made(hudarin_store_edit(store, HUDARIN_EDIT_ADD_OBJECT, path, (size_t)size, value, length));
         }
     }
+    HOLDS(all);
     edits = NODES - 1;
 }
 
