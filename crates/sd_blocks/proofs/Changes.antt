@@ -1,5 +1,5 @@
 -- What a split, an insertion and a removal do to the blocks.
-use Rattle.std.proofs.Common.{◌≡◌, ℕ, zero, suc, ◌+◌, ◌-◌, ◌<◌, ◌≤◌, List, [], ◌∷◌, ◌++◌, length, get_or, take, drop, map, refl, arith, ap, sym, ◌∙◌, length-append, append_assoc, add-one}
+use Rattle.std.proofs.Common.{◌≡◌, ℕ, zero, suc, ◌+◌, ◌-◌, ◌<◌, ◌≤◌, List, [], ◌∷◌, ◌++◌, length, get_or, take, drop, map, refl, arith, ap, sym, ◌∙◌, length-append, append_assoc, add-one, Result, Ok, Err, OnOk, OnErr}
 use Rattle.std.proofs.Math.ListN.{set}
 use Rattle.std.specs.List.{insert, remove}
 use Rattle.std.proofs.lemmas.List.{take-append-drop, drop-set-lt, get_or-drop, length-drop, nil_from_length}
@@ -93,6 +93,10 @@ module _ {T : Type 0} where
   same_joined bs k b b' h is same =
       let e1 : b.1 ≡ (get_or bs k b).1 = ap (λ (y : ℕ × List T). y.1) is in
       joined_set bs k b' h ∙ ap (λ ys. joined (take k bs) ++ (ys ++ joined (drop (suc k) bs))) (same ∙ e1) ∙ sym (joined_round bs k b h)
+
+  pub same_err : {E R : Type 0} (r : Result R E) (bs : List (ℕ × List T)) (k : ℕ) (b b' : ℕ × List T) → k < length bs → b ≡ get_or bs k b → OnErr r (b'.1 ≡ b.1) → OnErr r (joined (set bs k b') ≡ joined bs)
+  same_err (Ok _) bs k b b' h is same = tt
+  same_err (Err _) bs k b b' h is same = same_joined bs k b b' h is same
 
   pub same_starts : (bs : List (ℕ × List T)) (k : ℕ) (b b' : ℕ × List T) → StartFrom 0 bs → k < length bs → b ≡ get_or bs k b → b'.0 ≡ b.0 → b'.1 ≡ b.1 → StartFrom 0 (set bs k b')
   same_starts bs k b b' s h is start same =
@@ -190,3 +194,48 @@ module _ {T : Type 0} where
 
   pub emptied_joined : (bs : List (ℕ × List T)) (k : ℕ) (b' : ℕ × List T) → k < length bs → length b'.1 ≡ 0 → joined (remove (take (k + 1) (set bs k b') ++ map down (drop (k + 1) (set bs k b'))) k) ≡ joined (take (k + 1) (set bs k b') ++ map down (drop (k + 1) (set bs k b')))
   emptied_joined bs k b' h none = rw add-one (emptied_joined_suc bs k b' h none)
+
+  -- an element that gives way to another, which comes in first
+  later_suc : (xs : List T) (from to : ℕ) (x : T) → from ≤ to → to < length xs → remove (insert xs (suc to) x) from ≡ insert (remove xs from) to x
+  later_suc [] from to x order h = absurd (omega arith)
+  later_suc (y ∷ ys) zero to x order h = refl
+  later_suc (y ∷ ys) (suc from) zero x order h = absurd (omega arith)
+  later_suc (y ∷ ys) (suc from) (suc to) x order h = ap (λ l. y ∷ l) (later_suc ys from to x (omega arith) (omega arith))
+
+  earlier_suc : (xs : List T) (from to : ℕ) (x : T) → to ≤ from → from < length xs → remove (insert xs to x) (suc from) ≡ insert (remove xs from) to x
+  earlier_suc [] from to x order h = absurd (omega arith)
+  earlier_suc (y ∷ ys) from zero x order h = refl
+  earlier_suc (y ∷ ys) zero (suc to) x order h = absurd (omega arith)
+  earlier_suc (y ∷ ys) (suc from) (suc to) x order h = ap (λ l. y ∷ l) (earlier_suc ys from to x (omega arith) (omega arith))
+
+  pub later : (xs : List T) (from to : ℕ) (x : T) → from < to → to < length xs → remove (insert xs (to + 1) x) from ≡ insert (remove xs from) to x
+  later xs from to x order h = rw add-one (later_suc xs from to x (omega arith) h)
+
+  pub earlier : (xs : List T) (from to : ℕ) (x : T) → to ≤ from → from < length xs → remove (insert xs to x) (from + 1) ≡ insert (remove xs from) to x
+  earlier xs from to x order h = rw add-one (earlier_suc xs from to x order h)
+
+  exchange_middle : (xs ys zs : List T) (i j : ℕ) (x : T) → i < length ys → j < length ys → insert (remove (xs ++ (ys ++ zs)) (length xs + i)) (length xs + j) x ≡ xs ++ (insert (remove ys i) j x ++ zs)
+  exchange_middle xs ys zs i j x hi hj =
+      ap (λ l. insert l (length xs + j) x) (remove_middle xs ys zs i hi)
+      ∙ insert_middle xs (remove ys i) zs j x (omega (arith, length-remove ys i hi))
+
+  -- the list once an element of a block gives way to another in the same block
+  exchanged_joined : (bs : List (ℕ × List T)) (from to k : ℕ) (b b' : ℕ × List T) (start : ℕ) (x : T) → IsBlockOf bs from k → IsBlockOf bs to k → from < length (joined bs) → to < length (joined bs) → b ≡ get_or bs k b → start ≡ b.0 → b'.1 ≡ insert (remove b.1 (from - start)) (to - start) x → joined (set bs k b') ≡ insert (remove (joined bs) from) to x
+  exchanged_joined bs from to k b b' start x source target from_in to_in is starts wrote =
+      let e0 : b.0 ≡ (get_or bs k b).0 = ap (λ (y : ℕ × List T). y.0) is in
+      let e1 : b.1 ≡ (get_or bs k b).1 = ap (λ (y : ℕ × List T). y.1) is in
+      let before = joined (take k bs) in
+      let one : from - start < length (get_or bs k b).1 = omega (arith, source.from b, source.before_end b from_in) in
+      let other : to - start < length (get_or bs k b).1 = omega (arith, target.from b, target.before_end b to_in) in
+      let one_place : length before + (from - start) ≡ from = omega (arith, source.first b, source.from b) in
+      let other_place : length before + (to - start) ≡ to = omega (arith, target.first b, target.from b) in
+      joined_set bs k b' source.inside
+      ∙ ap (λ ys. before ++ (ys ++ joined (drop (suc k) bs))) (wrote ∙ ap (λ ys. insert (remove ys (from - start)) (to - start) x) e1)
+      ∙ sym (exchange_middle before (get_or bs k b).1 (joined (drop (suc k) bs)) (from - start) (to - start) x one other)
+      ∙ ap (λ l. insert (remove l (length before + (from - start))) (length before + (to - start)) x) (sym (joined_round bs k b source.inside))
+      ∙ ap (λ i. insert (remove (joined bs) i) (length before + (to - start)) x) one_place
+      ∙ ap (λ i. insert (remove (joined bs) from) i x) other_place
+
+  pub exchanged_ok : {E R : Type 0} (r : Result R E) (bs : List (ℕ × List T)) (from to k : ℕ) (b b' : ℕ × List T) (start : ℕ) (x : T) → IsBlockOf bs from k → IsBlockOf bs to k → from < length (joined bs) → to < length (joined bs) → b ≡ get_or bs k b → start ≡ b.0 → OnOk r (b'.1 ≡ insert (remove b.1 (from - start)) (to - start) x) → OnOk r (joined (set bs k b') ≡ insert (remove (joined bs) from) to x)
+  exchanged_ok (Ok _) bs from to k b b' start x source target from_in to_in is starts wrote = exchanged_joined bs from to k b b' start x source target from_in to_in is starts wrote
+  exchanged_ok (Err _) bs from to k b b' start x source target from_in to_in is starts wrote = tt

@@ -3,7 +3,7 @@ use Rattle.std.proofs.Common.{◌≡◌, ℕ, ◌+◌, ◌-◌, ◌<◌, ◌≤�
 use Rattle.std.specs.List.{insert, remove}
 use Rattle.std.proofs.lemmas.List.{take-append-drop, take_at, drop_at, drop-drop, get_or-drop, get_or-append_right, length-take, length-drop, take_more}
 use Rattle.std.proofs.lemmas.List.Edits.{remove-append_right}
-use Rattle.sd_blocks.specs.Runs.{run_at, without_run, with_run}
+use Rattle.sd_blocks.specs.Runs.{without_run, with_run}
 
 module _ {T : Type 0} where
   front_length : (n : ℕ) (xs : List T) → n ≤ length xs → length (take n xs) ≡ n
@@ -18,27 +18,9 @@ module _ {T : Type 0} where
       ∙ ap (λ n. take from xs ++ remove (drop (from + i) xs) n) at
       ∙ ap (λ ys. take from xs ++ ys) (drop-drop 1 (from + i) xs ∙ ap (λ n. drop n xs) on)
 
-  -- and it is the run's next
-  taken_more : (from i : ℕ) (xs run : List T) (item : T) → from + i < length xs → run ≡ run_at from i xs → item ≡ get_or (without_run from i xs) from item → run ++ item ∷ [] ≡ run_at from (i + 1) xs
-  taken_more from i xs run item h is here =
-      let at : from - from ≡ 0 = omega arith in
-      let none : (from + i) + 0 ≡ from + i = omega arith in
-      let there : item ≡ get_or (drop from xs) i item = here
-      ∙ get_or-append_right (take from xs) (drop (from + i) xs) from from item (front_length from xs (omega arith)) (omega arith)
-      ∙ ap (λ n. get_or (drop (from + i) xs) n item) at
-      ∙ get_or-drop (from + i) xs 0 item
-      ∙ ap (λ n. get_or xs n item) none
-      ∙ sym (get_or-drop from xs i item) in
-      ap (λ ys. ys ++ item ∷ []) is ∙ ap (λ x. take i (drop from xs) ++ x ∷ []) there
-      ∙ sym (take_more (drop from xs) i item (omega (arith, length-drop from xs)))
-
   pub removed_step : (from i n : ℕ) (xs ys zs : List T) → from + i < length xs → n ≡ i + 1 → ys ≡ without_run from i xs → zs ≡ remove ys from → zs ≡ without_run from n xs
   removed_step from i n xs ys zs h next is removed =
       removed ∙ ap (λ l. remove l from) is ∙ removed_more from i xs h ∙ ap (λ m. without_run from m xs) (sym next)
-
-  pub taken_step : (from i n : ℕ) (xs ys run more : List T) (item : T) → from + i < length xs → n ≡ i + 1 → ys ≡ without_run from i xs → run ≡ run_at from i xs → item ≡ get_or ys from item → more ≡ run ++ item ∷ [] → more ≡ run_at from n xs
-  taken_step from i n xs ys run more item h next is taken here pushed =
-      pushed ∙ taken_more from i xs run item h taken (here ∙ ap (λ l. get_or l from item) is) ∙ ap (λ m. run_at from m xs) (sym next)
 
   pub without_none : (from : ℕ) (xs : List T) → without_run from 0 xs ≡ xs
   without_none from xs =

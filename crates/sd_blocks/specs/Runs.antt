@@ -6,16 +6,17 @@ pub record IsRunAt {T : Type 0} (xs : List T) (at : ℕ) (ys : List T) : Type 0 
   pub some : 0 < length ys
   pub elements : ys ≡ take (length ys) (drop at xs)
 
--- the run of so many from a position on, and the list without it
-abbrev pub run_at : {T : Type 0} → ℕ → ℕ → List T → List T
-run_at from count xs = take count (drop from xs)
-
+-- the list without so many from a position on
 abbrev pub without_run : {T : Type 0} → ℕ → ℕ → List T → List T
 without_run from count xs = take from xs ++ drop (from + count) xs
 
 -- the list with a run inserted before a position
 abbrev pub with_run : {T : Type 0} → ℕ → List T → List T → List T
 with_run at ys xs = take at xs ++ (ys ++ drop at xs)
+
+-- so many from the one position on give way, and a run stands at the other, which is counted among those that stay
+abbrev pub exchanged : {T : Type 0} → ℕ → ℕ → ℕ → List T → List T → List T
+exchanged from count to ys xs = with_run to ys (without_run from count xs)
 
 -- the list with a run in place of as many elements
 abbrev pub written : {T : Type 0} → ℕ → List T → List T → List T

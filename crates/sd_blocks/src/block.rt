@@ -68,6 +68,14 @@ impl<T, R: Run<T>> Block<T, R> {
         self.run.get(at)
     }
 
+    /// The first element.
+    pub(crate) fn first(&self) -> &T
+        requires { 0 < length self.now.1 }
+        ensures { result.now ≡ slice_index_or self.now.1 0 result.now }
+    {
+        self.run.first()
+    }
+
     /// Some elements from a position on.
     pub(crate) fn run_from(&self, at: usize) -> &[T]
         requires { at < length self.now.1 }
@@ -154,6 +162,24 @@ impl<T, R: Run<T>> Block<T, R> {
         ensures refused { OnErr result (self.new.1 ≡ self.old.1) }
     {
         self.run.remove(alloc, at)
+    }
+
+    /// The element at the one position gives way to the item, which goes to the other, counted among those that stay.
+    pub(crate) fn exchange(
+        &mut self,
+        alloc: Global,
+        from: usize,
+        to: usize,
+        item: T,
+    ) -> Result<(), AllocError>
+        requires from { from < length self.old.1 }
+        requires to { to < length self.old.1 }
+        ensures start { self.new.0 ≡ self.old.0 }
+        ensures len { length self.new.1 ≡ length self.old.1 }
+        ensures done { OnOk result (self.new.1 ≡ insert (remove self.old.1 from) to item) }
+        ensures refused { OnErr result (self.new.1 ≡ self.old.1) }
+    {
+        self.run.exchange(alloc, from, to, item)
     }
 
     /// The block as two, where its run is long.

@@ -1,6 +1,7 @@
 //! A run in one vector.
 
-ghost use Rattle.std.specs.Prelude.{◌≡◌, ◌+◌, ◌≤◌, [], ◌∷◌, length, IfOk, OnOk};
+ghost use Rattle.std.specs.Prelude.{◌≡◌, ◌+◌, ◌<◌, ◌≤◌, [], ◌∷◌, length, IfOk, OnOk, OnErr};
+ghost use Rattle.std.specs.List.{insert, remove};
 ghost use Rattle.std.specs.Arc.{arc_value};
 ghost use Rattle.sd_blocks.specs.Runs.{written};
 
@@ -44,6 +45,10 @@ impl<T: TryCopy> Run<T> for Leaf<T> {
 
     fn get(&self, at: usize) -> &T {
         &self.items[at]
+    }
+
+    fn first(&self) -> &T {
+        &self.items[0]
     }
 
     fn run_from(&self, at: usize) -> &[T] {
@@ -108,6 +113,20 @@ impl<T: TryCopy> Run<T> for Leaf<T> {
         }
     }
 
+    fn exchange(
+        &mut self,
+        alloc: Global,
+        from: usize,
+        to: usize,
+        item: T,
+    ) -> Result<(), AllocError> {
+        own(alloc, &mut self.items)?;
+        match Arc::get_mut(&mut self.items) {
+            Some(items) => exchange(items, from, to, item),
+            None => Err(AllocError),
+        }
+    }
+
     fn split(&self, alloc: Global) -> Result<Option<(Leaf<T>, Leaf<T>)>, AllocError> {
         let items = self.items.as_slice();
         if items.len() < MAX_ITEMS {
@@ -134,6 +153,25 @@ fn put_over<T: Drop>(old: &mut Vec<T>, at: usize, mut items: Vec<T>)
 {
     let end = at + items.len();
     old[at..end].swap_with_slice(items.as_mut_slice());
+}
+
+/// The element at the one position gives way to the item, which goes to the other, counted among those that stay. The
+/// item comes in first, since only that may fail.
+fn exchange<T: Drop>(items: &mut Vec<T>, from: usize, to: usize, item: T) -> Result<(), AllocError>
+    requires from { from < length items.old.items }
+    requires to { to < length items.old.items }
+    ensures len { length items.new.items ≡ length items.old.items }
+    ensures done { OnOk result (items.new.items ≡ insert (remove items.old.items from) to item) }
+    ensures refused { OnErr result (items.new.items ≡ items.old.items) }
+{
+    if from < to {
+        items.insert(to + 1, item)?;
+        let _gone = items.remove(from);
+    } else {
+        items.insert(to, item)?;
+        let _gone = items.remove(from + 1);
+    }
+    Ok(())
 }
 
 /// Replaces the vector by a copy where another list shares it.

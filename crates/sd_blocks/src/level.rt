@@ -70,6 +70,14 @@ impl<T: Drop, R: Run<T>> Level<T, R> {
         Some(block.get(within))
     }
 
+    /// The first element.
+    pub(crate) fn first(&self) -> &T
+        requires { 0 < length self.now }
+        ensures { result.now ≡ slice_index_or self.now 0 result.now }
+    {
+        self.blocks[0].first()
+    }
+
     /// Some elements from a position on, at least one, side by side in memory: an iteration takes the next run where
     /// this one ends.
     pub fn run_from(&self, at: usize) -> &[T]

@@ -38,5 +38,6 @@ pub use run::Run;
 pub use search::Sought;
 pub use try_copy::TryCopy;
 
-/// A list in blocks of blocks: two levels serve some millions of elements. Contracts see the list of its elements.
-pub type Blocks<T> = Level<T, Nested<T, Leaf<T>>>;
+/// A list in blocks of blocks: with three levels the longest vector of a list of ten million has some hundred places.
+/// Contracts see the list of its elements.
+pub type Blocks<T> = Level<T, Nested<T, Nested<T, Leaf<T>>>>;

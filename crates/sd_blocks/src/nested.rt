@@ -44,6 +44,10 @@ impl<T: Drop, R: Run<T>> Run<T> for Nested<T, R> {
         }
     }
 
+    fn first(&self) -> &T {
+        self.list.first()
+    }
+
     fn run_from(&self, at: usize) -> &[T] {
         self.list.run_from(at)
     }
@@ -89,6 +93,20 @@ impl<T: Drop, R: Run<T>> Run<T> for Nested<T, R> {
         own(alloc, &mut self.list)?;
         match Arc::get_mut(&mut self.list) {
             Some(list) => list.remove(alloc, at),
+            None => Err(AllocError),
+        }
+    }
+
+    fn exchange(
+        &mut self,
+        alloc: Global,
+        from: usize,
+        to: usize,
+        item: T,
+    ) -> Result<(), AllocError> {
+        own(alloc, &mut self.list)?;
+        match Arc::get_mut(&mut self.list) {
+            Some(list) => list.exchange(alloc, from, to, item),
             None => Err(AllocError),
         }
     }

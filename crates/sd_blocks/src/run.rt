@@ -29,6 +29,11 @@ pub trait Run<T>: Sized + Drop {
         requires { at < length (elements self.now) }
         ensures { result.now ≡ slice_index_or (elements self.now) at result.now };
 
+    /// The first element, which is found in fewer steps than another.
+    fn first(&self) -> &T
+        requires { 0 < length (elements self.now) }
+        ensures { result.now ≡ slice_index_or (elements self.now) 0 result.now };
+
     /// Some elements from a position on, at least one, side by side in memory.
     fn run_from(&self, at: usize) -> &[T]
         requires { at < length (elements self.now) }
@@ -67,6 +72,14 @@ pub trait Run<T>: Sized + Drop {
         requires { at < length (elements self.old) }
         ensures value { IfOk result (λ item. item ≡ slice_index_or (elements self.old) at item) }
         ensures done { OnOk result (elements self.new ≡ remove (elements self.old) at) }
+        ensures refused { OnErr result (elements self.new ≡ elements self.old) };
+
+    /// The element at the one position gives way to the item, which goes to the other, counted among those that stay.
+    fn exchange(&mut self, alloc: Global, from: usize, to: usize, item: T) -> Result<(), AllocError>
+        requires from { from < length (elements self.old) }
+        requires to { to < length (elements self.old) }
+        ensures len { length (elements self.new) ≡ length (elements self.old) }
+        ensures done { OnOk result (elements self.new ≡ insert (remove (elements self.old) from) to item) }
         ensures refused { OnErr result (elements self.new ≡ elements self.old) };
 
     /// The run as two, where it is so long that the next insertion should find a shorter one.

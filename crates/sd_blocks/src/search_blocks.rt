@@ -27,7 +27,7 @@ pub(crate) fn search_blocks<T: Drop, R: Run<T>, S: Sought<T>>(
     while high - low > 1 {
         let middle = low + (high - low) / 2;
         let block = &blocks[middle];
-        match sought.compare(block.get(0)) {
+        match sought.compare(block.first()) {
             Ordering::Less => low = middle,
             Ordering::Equal => return Ok(block.start()),
             Ordering::Greater => high = middle,

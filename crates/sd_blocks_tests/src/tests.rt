@@ -10,6 +10,9 @@ use std::test::*;
 /// More elements than a hundred blocks have.
 const MANY: u64 = 20_000;
 
+/// More elements than the blocks of two levels have.
+const A_MILLION: u64 = 1_100_000;
+
 /// A number that is sought among others.
 #[derive(Drop)]
 struct Number(u64);
@@ -175,7 +178,7 @@ fn all_found(alloc: Global, count: u64) -> Result<bool, AllocError> {
 
 #[test]
 fn each_element_is_found(rt: HostRuntime) {
-    for count in [0, 1, 127, 128, 129, MANY] {
+    for count in [0, 1, 127, 128, 129, MANY, A_MILLION] {
         assert!(rt;
             all_found(rt.alloc(), count).expect(&rt, "memory"),
             "of {count}"
@@ -194,20 +197,6 @@ fn list_of(alloc: Global, numbers: &[u64]) -> Result<Blocks<u64>, AllocError> {
     Ok(list)
 }
 
-/// Removes a run, where the list has it.
-fn remove_run(
-    alloc: Global,
-    list: &mut Blocks<u64>,
-    from: usize,
-    count: usize,
-) -> Option<Vec<u64>> {
-    let len = list.len();
-    if from > len || count > len - from {
-        return None;
-    }
-    list.remove_run(alloc, from, count).ok()
-}
-
 /// Inserts a run. Whether the position is in the list.
 fn insert_run(alloc: Global, list: &mut Blocks<u64>, at: usize, run: Vec<u64>) -> bool {
     if at > list.len() {
@@ -216,27 +205,72 @@ fn insert_run(alloc: Global, list: &mut Blocks<u64>, at: usize, run: Vec<u64>) -
     list.insert_run(alloc, at, run).is_ok()
 }
 
-/// Writes a run. Whether the list has as many elements from the position on.
-fn write_run(alloc: Global, list: &mut Blocks<u64>, at: usize, run: Vec<u64>) -> bool {
-    let len = list.len();
-    if at > len || run.len() > len - at {
+/// Exchanges a run for as many elements. Whether the list has both places.
+fn exchange_run(
+    alloc: Global,
+    list: &mut Blocks<u64>,
+    from: usize,
+    to: usize,
+    run: Vec<u64>,
+) -> bool {
+    let Some(last) = list.len().checked_sub(run.len()) else {
+        return false;
+    };
+    if from > last || to > last {
         return false;
     }
-    list.write_run(alloc, at, run).is_ok()
+    list.exchange_run(alloc, from, to, run).is_ok()
 }
 
 #[test]
-fn runs_are_removed_inserted_and_written(rt: HostRuntime) {
+fn runs_are_exchanged_and_inserted(rt: HostRuntime) {
     let alloc = rt.alloc();
     let mut list = list_of(alloc, &[0, 1, 2, 3, 4, 5, 6, 7]).expect(&rt, "memory");
-    let run = remove_run(alloc, &mut list, 2, 3).expect(&rt, "a run");
-    assert_eq!(rt; run.as_slice(), [2, 3, 4].as_slice());
-    assert!(rt; is_same(&list, &[0, 1, 5, 6, 7]));
-    assert!(rt; insert_run(alloc, &mut list, 4, run));
-    assert!(rt; is_same(&list, &[0, 1, 5, 6, 2, 3, 4, 7]));
+    let run = vec![in alloc; 10, 11, 12].expect(&rt, "memory");
+    assert!(rt; exchange_run(alloc, &mut list, 1, 4, run));
+    assert!(rt; is_same(&list, &[0, 4, 5, 6, 10, 11, 12, 7]));
     let run = vec![in alloc; 8, 9].expect(&rt, "memory");
-    assert!(rt; write_run(alloc, &mut list, 3, run));
-    assert!(rt; is_same(&list, &[0, 1, 5, 8, 9, 3, 4, 7]));
+    assert!(rt; exchange_run(alloc, &mut list, 2, 2, run));
+    assert!(rt; is_same(&list, &[0, 4, 8, 9, 10, 11, 12, 7]));
+    let run = vec![in alloc; 13].expect(&rt, "memory");
+    assert!(rt; exchange_run(alloc, &mut list, 7, 0, run));
+    assert!(rt; is_same(&list, &[13, 0, 4, 8, 9, 10, 11, 12]));
+    let run = vec![in alloc; 14, 15].expect(&rt, "memory");
+    assert!(rt; insert_run(alloc, &mut list, 8, run));
+    assert!(rt; is_same(&list, &[13, 0, 4, 8, 9, 10, 11, 12, 14, 15]));
+}
+
+/// Whether elements go from random places to others as in a vector, within a block and from one to another, while a
+/// snapshot stays.
+fn moved(alloc: Global) -> Result<bool, AllocError> {
+    let (mut list, mut items) = evens(alloc, MANY)?;
+    let snapshot = list.copy(alloc)?;
+    let (_, before) = evens(alloc, MANY)?;
+    let mut x = 1;
+    for number in 0..MANY {
+        x = next(x);
+        let from = (x >> 33) as usize % 20_000;
+        let to = if number % 2 == 0 {
+            from ^ 7
+        } else {
+            (x >> 17) as usize % 20_000
+        };
+        let run = vec![in alloc; number]?;
+        if !exchange_run(alloc, &mut list, from, to, run) || from >= items.len() {
+            return Ok(false);
+        }
+        let _gone = items.remove(from);
+        if to > items.len() {
+            return Ok(false);
+        }
+        items.insert(to, number)?;
+    }
+    Ok(is_same(&list, &items) && is_same(&snapshot, &before))
+}
+
+#[test]
+fn elements_move_as_in_a_vector(rt: HostRuntime) {
+    assert!(rt; moved(rt.alloc()).expect(&rt, "memory"));
 }
 
 /// A list may be read by several threads, and dropped by any.

@@ -2,8 +2,8 @@ use Rattle.std.proofs.Common.{arith, ◌<◌, ◌+◌, ◌-◌, ◌/◌, length,
 use Rattle.sd_blocks.proofs.Searched.{some_at, block_end, step_below, step_above, found_first, end_found, end_absent}
 use Rattle.sd_blocks.proofs.search_blocks.search_blocks.Goals as goal
 
-pub get-requires : goal.get-requires
-get-requires g c =
+pub first-requires : goal.first-requires
+first-requires g c =
     let inside : (c.loop-high.low + (c.loop-high.high - c.loop-high.low) / 2) < length c.args.blocks.now = omega arith in
     let some = some_at 0 c.args.blocks.now (c.loop-high.low + (c.loop-high.high - c.loop-high.low) / 2) c.index-blocks-middle.result c.requires.starts inside c.index-blocks-middle.is in
     some
@@ -11,22 +11,22 @@ get-requires g c =
 pub loop-high-preserved-in-Less : goal.loop-high-preserved-in-Less
 loop-high-preserved-in-Less g c =
     let inside : (c.loop-high.low + (c.loop-high.high - c.loop-high.low) / 2) < length c.args.blocks.now = omega arith in
-    record { order = omega arith; inside = omega arith; below = step_below (λ y. g.S.Sought.ord c.args.sought.now y) c.args.blocks.now (c.loop-high.low + (c.loop-high.high - c.loop-high.low) / 2) c.index-blocks-middle.result c.index-blocks-middle.result.1 c.get.result.now c.requires.starts inside c.index-blocks-middle.is refl c.get.ensures c.in-Less.ensures; above = c.loop-high.invariant.above }
+    record { order = omega arith; inside = omega arith; below = step_below (λ y. g.S.Sought.ord c.args.sought.now y) c.args.blocks.now (c.loop-high.low + (c.loop-high.high - c.loop-high.low) / 2) c.index-blocks-middle.result c.index-blocks-middle.result.1 c.first.result.now c.requires.starts inside c.index-blocks-middle.is refl c.first.ensures c.in-Less.ensures; above = c.loop-high.invariant.above }
 
 pub loop-high-preserved : goal.loop-high-preserved
 loop-high-preserved g c =
     let inside : (c.loop-high.low + (c.loop-high.high - c.loop-high.low) / 2) < length c.args.blocks.now = omega arith in
-    record { order = omega arith; inside = omega arith; below = c.loop-high.invariant.below; above = step_above (λ y. g.S.Sought.ord c.args.sought.now y) c.args.blocks.now (c.loop-high.low + (c.loop-high.high - c.loop-high.low) / 2) c.index-blocks-middle.result c.index-blocks-middle.result.1 c.get.result.now c.requires.starts inside c.index-blocks-middle.is refl c.get.ensures c.in-Greater.ensures }
+    record { order = omega arith; inside = omega arith; below = c.loop-high.invariant.below; above = step_above (λ y. g.S.Sought.ord c.args.sought.now y) c.args.blocks.now (c.loop-high.low + (c.loop-high.high - c.loop-high.low) / 2) c.index-blocks-middle.result c.index-blocks-middle.result.1 c.first.result.now c.requires.starts inside c.index-blocks-middle.is refl c.first.ensures c.in-Greater.ensures }
 
 pub returns-in-Equal-clause-bound : goal.returns-in-Equal-clause-bound
 returns-in-Equal-clause-bound g c =
     let inside : (c.loop-high.low + (c.loop-high.high - c.loop-high.low) / 2) < length c.args.blocks.now = omega arith in
-    (found_first (λ y. g.S.Sought.ord c.args.sought.now y) c.args.blocks.now (c.loop-high.low + (c.loop-high.high - c.loop-high.low) / 2) c.index-blocks-middle.result c.index-blocks-middle.result.1 c.get.result.now c.start.result c.requires.starts inside c.index-blocks-middle.is c.start.ensures refl c.get.ensures c.in-Equal.ensures).0
+    (found_first (λ y. g.S.Sought.ord c.args.sought.now y) c.args.blocks.now (c.loop-high.low + (c.loop-high.high - c.loop-high.low) / 2) c.index-blocks-middle.result c.index-blocks-middle.result.1 c.first.result.now c.start.result c.requires.starts inside c.index-blocks-middle.is c.start.ensures refl c.first.ensures c.in-Equal.ensures).0
 
 pub returns-in-Equal-clause-position : goal.returns-in-Equal-clause-position
 returns-in-Equal-clause-position g c =
     let inside : (c.loop-high.low + (c.loop-high.high - c.loop-high.low) / 2) < length c.args.blocks.now = omega arith in
-    (found_first (λ y. g.S.Sought.ord c.args.sought.now y) c.args.blocks.now (c.loop-high.low + (c.loop-high.high - c.loop-high.low) / 2) c.index-blocks-middle.result c.index-blocks-middle.result.1 c.get.result.now c.start.result c.requires.starts inside c.index-blocks-middle.is c.start.ensures refl c.get.ensures c.in-Equal.ensures).1
+    (found_first (λ y. g.S.Sought.ord c.args.sought.now y) c.args.blocks.now (c.loop-high.low + (c.loop-high.high - c.loop-high.low) / 2) c.index-blocks-middle.result c.index-blocks-middle.result.1 c.first.result.now c.start.result c.requires.starts inside c.index-blocks-middle.is c.start.ensures refl c.first.ensures c.in-Equal.ensures).1
 
 pub overflow_add-result : goal.overflow_add-result
 overflow_add-result g c =

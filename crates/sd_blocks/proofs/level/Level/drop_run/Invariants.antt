@@ -1,0 +1,7 @@
+-- So many elements are removed.
+use Rattle.std.proofs.Common.{◌≡◌}
+use Rattle.sd_blocks.specs.Runs.{without_run}
+use Rattle.sd_blocks.proofs.level.Level.drop_run.Given as goal
+
+abbrev pub invariant-loop : goal.invariant-loop
+invariant-loop g l = l.self ≡ without_run l.from l.counter l.initial.self
