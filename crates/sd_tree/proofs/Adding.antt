@@ -16,7 +16,8 @@ use Rattle.sd_tree.specs.Plain.{PlainTree, row_at, dacl_at}
 use Rattle.sd_tree.specs.Closed.{IsClosed, IsAddable}
 use Rattle.sd_tree.specs.Refusals.{dacl_size, has_child}
 use Rattle.sd_tree.specs.Stored.{path_of_node, entry_of, tree_of, IsWhole, AreStanding}
-use Rattle.sd_tree.specs.Plans.{IsExchange, exchanged}
+use Rattle.sd_blocks.specs.Runs.{exchanged}
+use Rattle.sd_tree.specs.Plans.{IsExchange}
 use Rattle.sd_tree.specs.Edits.{changed, changed_where}
 use Rattle.sd_tree.specs.declared.node.Row.{Row}
 use Rattle.sd_tree.proofs.Lists.{by_last, all_one}

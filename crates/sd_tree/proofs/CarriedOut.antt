@@ -10,7 +10,8 @@ use Rattle.std.specs.FinMap.{is_sorted, entries_sorted, same_entries_map}
 use Rattle.sd_sid.specs.Mapping.{MappingValue}
 use Rattle.sd_path.specs.Names.{Names, names_cmp}
 use Rattle.sd_tree.specs.Plain.{PlainTree, dacl_at}
-use Rattle.sd_tree.specs.Plans.{beside_run, exchanged, IsExchange, IsPlan, carried}
+use Rattle.sd_blocks.specs.Runs.{without_run, exchanged}
+use Rattle.sd_tree.specs.Plans.{IsExchange, IsPlan, carried}
 use Rattle.sd_tree.specs.Stored.{path_of_node, entry_of, IsInOrder, tree_of, IsWhole, AreNodes}
 use Rattle.sd_tree.specs.declared.node.Row.{Row}
 use Rattle.sd_tree.specs.declared.plan.Plan.{Plan}
@@ -47,13 +48,13 @@ whole_still g before after b e w = record { is = w.is ∙ sym e; fits = w.fits }
 
 -- ---- some nodes give way to others
 
-map-beside : {A B : Type 0} (f : A → B) (at count : ℕ) (xs : List A) → map f (beside_run at count xs) ≡ beside_run at count (map f xs)
+map-beside : {A B : Type 0} (f : A → B) (at count : ℕ) (xs : List A) → map f (without_run at count xs) ≡ without_run at count (map f xs)
 map-beside f at count xs = map-append f (take at xs) (drop (at + count) xs) ∙ sym (λ i. take-map f at xs i ++ drop-map f (at + count) xs i)
 
 map-exchanged : {A B : Type 0} (f : A → B) (from count to : ℕ) (run xs : List A) → map f (exchanged from count to run xs) ≡ exchanged from count to (map f run) (map f xs)
 map-exchanged f from count to run xs =
-    let rest = beside_run from count xs in
-    let beside : map f rest ≡ beside_run from count (map f xs) = map-beside f from count xs in
+    let rest = without_run from count xs in
+    let beside : map f rest ≡ without_run from count (map f xs) = map-beside f from count xs in
     map-append f (take to rest) (run ++ drop to rest)
     ∙ ap (λ ys. map f (take to rest) ++ ys) (map-append f run (drop to rest))
     ∙ sym (λ i. take-map f to rest i ++ (map f run ++ drop-map f to rest i))
@@ -82,7 +83,7 @@ module _ (g : MappingValue) (bs : List Node) (kept : AreNodes g bs) (after : Pla
 
   whole : All (IsWhole g after) (exchanged from count to run bs)
   whole =
-      let rest = beside_run from count bs in
+      let rest = without_run from count bs in
       let all : All (IsWhole g after) rest = All-append (IsWhole g after) (take from bs) (drop (from + count) bs) low high in
       All-append (IsWhole g after) (take to rest) (run ++ drop to rest) (All-take (IsWhole g after) to rest all)
       (All-append (IsWhole g after) run (drop to rest) h.whole (All-drop (IsWhole g after) to rest all))

@@ -14,7 +14,8 @@ use Rattle.sd_path.specs.Names.{Names, names_cmp, is_within, moved_path}
 use Rattle.sd_tree.specs.Closed.{IsMovable}
 use Rattle.sd_tree.specs.Edits.{moved_entry, moved}
 use Rattle.sd_tree.specs.Plain.{PlainTree, dacl_at}
-use Rattle.sd_tree.specs.Plans.{beside_run, exchanged, IsExchange, IsRunBelow, AreUnder, IsTaken, relocated}
+use Rattle.sd_blocks.specs.Runs.{without_run, exchanged}
+use Rattle.sd_tree.specs.Plans.{IsExchange, IsRunBelow, AreUnder, IsTaken, relocated}
 use Rattle.sd_tree.specs.Stored.{path_of_node, entry_of, tree_of, AreStanding}
 use Rattle.sd_path.proofs.Paths.{names_cmp_total, names_cmp_antisymmetric, names_cmp_prefix, within_rest, within-append, within_before, within_between, moved_path-append, moved_path-outside}
 use Rattle.sd_tree.proofs.Below.{nothing_below}
@@ -71,7 +72,7 @@ module _ (g : MappingValue) (bs : List Node) (standing : AreStanding g bs) (sour
     es = map entry_of bs
 
     abbrev pub rest : List Entry
-    rest = beside_run from count es
+    rest = without_run from count es
 
     front_length : length (take from es) ≡ from
     front_length = taken from es (omega (arith, length-map bs entry_of))

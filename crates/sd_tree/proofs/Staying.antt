@@ -7,7 +7,8 @@ use Rattle.std.proofs.lemmas.List.{length-map, get_or-map, get_or-take, get_or-d
 use Rattle.sd_sid.specs.Mapping.{MappingValue}
 use Rattle.sd_path.specs.Names.{Names, names_cmp}
 use Rattle.sd_tree.specs.Plain.{dacl_at}
-use Rattle.sd_tree.specs.Plans.{exchanged, IsExchange, ChangesOneNode, IsRunBelow, AreUnder, IsTaken}
+use Rattle.sd_blocks.specs.Runs.{exchanged}
+use Rattle.sd_tree.specs.Plans.{IsExchange, ChangesOneNode, IsRunBelow, AreUnder, IsTaken}
 use Rattle.sd_tree.specs.Refusals.{dacl_size}
 use Rattle.sd_tree.specs.Stored.{path_of_node, entry_of, tree_of, IsWhole, AreStanding}
 use Rattle.sd_tree.specs.declared.node.Node.{Node}

@@ -3,6 +3,7 @@ use Rattle.std.specs.Prelude.{◌≡◌, ◌≢◌, ◌⊎◌, Bool, true, false
 use Rattle.std.specs.Prelude.{drop, map, All, slice_index_or, slice_set, None, Some}
 use Rattle.std.specs.List.{AllWithin, insert, remove}
 use Rattle.std.specs.FinMap as finite
+use Rattle.sd_blocks.specs.Runs.{exchanged}
 use Rattle.sd_sid.specs.Mapping.{MappingValue}
 use Rattle.sd_path.specs.Names.{Names, is_within, moved_path}
 use Rattle.sd_tree.specs.Limits.{LimitsValue}
@@ -42,15 +43,6 @@ abbrev pub ChangesOneNode : MappingValue → PlainTree → PlainTree → Names �
 ChangesOneNode g before after path = (other : Names) → other ≢ path → dacl_at g after other ≡ dacl_at g before other
 
 -- ---- the plan for an edit that makes `after` of `before`, by the places of the paths
-
--- all but the run of so many from a place on
-abbrev pub beside_run : {X : Type 0} → ℕ → ℕ → List X → List X
-beside_run from count xs = take from xs ++ drop (from + count) xs
-
--- so many from the one place on give way, and this run stands at the other, which is counted among those beside them
-abbrev pub exchanged : {X : Type 0} → ℕ → ℕ → ℕ → List X → List X → List X
-exchanged from count to run xs =
-    take to (beside_run from count xs) ++ (run ++ drop to (beside_run from count xs))
 
 -- so many nodes give way to these, and no other node's DACL changes
 pub record IsExchange (g : MappingValue) (before after : PlainTree) (from count to : ℕ) (run : List Node) : Type 0 where

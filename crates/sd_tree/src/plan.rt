@@ -1,8 +1,8 @@
 //! What an accepted edit does to the nodes of a tree: worked out first, then carried out.
 
-ghost use Rattle.std.specs.Prelude.{◌≡◌, ◌≤◌, ◌<◌, ◌+◌, length, vec_len, OnOk, OnErr};
+ghost use Rattle.std.specs.Prelude.{◌≡◌, ◌<◌, length, OnOk, OnErr};
 ghost use Rattle.std.specs.List.{remove};
-ghost use Rattle.sd_tree.specs.Plans.{CanCarryOut, carried, exchanged};
+ghost use Rattle.sd_tree.specs.Plans.{CanCarryOut, carried};
 
 use crate::node::Node;
 use sd_blocks::Blocks;
@@ -48,7 +48,7 @@ pub(crate) fn carry_out(
         Plan::Insert { at, node } => nodes.insert(alloc, at, node),
         Plan::Set { at, node } => nodes.set(alloc, at, node),
         Plan::Remove { at } => remove(alloc, nodes, at),
-        Plan::Exchange { from, to, run } => exchange(alloc, nodes, from, to, run),
+        Plan::Exchange { from, to, run } => nodes.exchange_run(alloc, from, to, run),
     }
 }
 
@@ -59,28 +59,5 @@ fn remove(alloc: Global, nodes: &mut Blocks<Node>, at: usize) -> Result<(), Allo
     ensures refused { OnErr result (nodes.new ≡ nodes.old) }
 {
     let _gone = nodes.remove(alloc, at)?;
-    Ok(())
-}
-
-/// As many nodes from the one place on give way to the run, which goes to the other, counted among those beside them.
-fn exchange(
-    alloc: Global,
-    nodes: &mut Blocks<Node>,
-    from: usize,
-    to: usize,
-    run: Vec<Node>,
-) -> Result<(), AllocError>
-    requires fits { from + vec_len run ≤ length nodes.old }
-    requires place { to + vec_len run ≤ length nodes.old }
-    ensures done { OnOk result (nodes.new ≡ exchanged from (length run.items) to run.items nodes.old) }
-    ensures refused { OnErr result (nodes.new ≡ nodes.old) }
-{
-    if from == to {
-        return nodes.write_run(alloc, to, run);
-    }
-    let mut changed = nodes.copy(alloc)?;
-    let _gone = changed.remove_run(alloc, from, run.len())?;
-    changed.insert_run(alloc, to, run)?;
-    *nodes = changed;
     Ok(())
 }
