@@ -240,7 +240,24 @@ fn runs_are_exchanged_and_inserted(rt: HostRuntime) {
     assert!(rt; is_same(&list, &[13, 0, 4, 8, 9, 10, 11, 12, 14, 15]));
 }
 
-/// Whether elements go from random places to others as in a vector, within a block and from one to another, while a
+/// An element of both gives way to another, where both positions are in both. Whether they were.
+fn exchange(
+    alloc: Global,
+    list: &mut Blocks<u64>,
+    items: &mut Vec<u64>,
+    from: usize,
+    to: usize,
+    item: u64,
+) -> Result<bool, AllocError> {
+    if from >= items.len() || to >= items.len() {
+        return Ok(false);
+    }
+    let _gone = items.remove(from);
+    items.insert(to, item)?;
+    Ok(exchange_run(alloc, list, from, to, vec![in alloc; item]?))
+}
+
+/// Whether elements go from random positions to others as in a vector, within a block and from one to another, while a
 /// snapshot stays.
 fn moved(alloc: Global) -> Result<bool, AllocError> {
     let (mut list, mut items) = evens(alloc, MANY)?;
@@ -249,21 +266,15 @@ fn moved(alloc: Global) -> Result<bool, AllocError> {
     let mut x = 1;
     for number in 0..MANY {
         x = next(x);
-        let from = (x >> 33) as usize % 20_000;
+        let from = position(x, 19_990);
         let to = if number % 2 == 0 {
-            from ^ 7
+            from.saturating_add(7)
         } else {
-            (x >> 17) as usize % 20_000
+            position(next(x), 19_990)
         };
-        let run = vec![in alloc; number]?;
-        if !exchange_run(alloc, &mut list, from, to, run) || from >= items.len() {
+        if !exchange(alloc, &mut list, &mut items, from, to, number)? {
             return Ok(false);
         }
-        let _gone = items.remove(from);
-        if to > items.len() {
-            return Ok(false);
-        }
-        items.insert(to, number)?;
     }
     Ok(is_same(&list, &items) && is_same(&snapshot, &before))
 }
