@@ -1,7 +1,8 @@
 -- Hexadecimal with signs between bytes, part by part.
 use Rattle.std.proofs.Common.{◌≡◌, ℕ, ◌+◌, ◌-◌, ◌<◌, ◌≤◌, Bool, false, All, List, [], ◌∷◌, ◌++◌, length, take, drop, Ok, Err, refl, sym, ◌∙◌, ap, append_assoc, append-nil, arith, Some, None, cond, ltb, true}
 use Rattle.std.specs.List.{slice_split, position_or_len, before_first, after_first}
-use Rattle.std.proofs.lemmas.Bool.Decides.{nat_tests}
+use Rattle.std.specs.Option.{unwrap_or}
+use Rattle.std.proofs.lemmas.Bool.{ltb-false}
 use Rattle.std.proofs.lemmas.List.{take_rest, drop_all, length-take-le, length-drop}
 use Rattle.hex.specs.Hex.{decode_pairs}
 use Rattle.std.proofs.lemmas.List.Splits.{slice_split_first, slice_split_none}
@@ -12,13 +13,12 @@ use Rattle.sd_commands.specs.Bytes.{BytesRead, is_between, joined, part_read, pa
 none_pass : (p : ℕ → Bool) (xs : List ℕ) → length xs ≤ position_or_len p xs → All (λ x. p x ≡ false) xs
 none_pass p xs far = λ k d low. fails_before_first p xs k d (omega (arith, low, far))
 
--- the place that a search tells
-pub place_some : (b : Bool) (n i : ℕ) → Some i ≡ cond b (Some n) None → i ≡ n
-place_some true n i is = cc
-place_some false n i is = cc
-
-pub place_none : (n m : ℕ) → None ≡ cond (ltb n m) (Some n) None → m ≤ n
-place_none n m is = grind (arith, nat_tests)
+-- the place that a search tells, or the end
+pub place_or_end : (n m : ℕ) → n ≤ m → unwrap_or (cond (ltb n m) (Some n) None) m ≡ n
+place_or_end n m within = elim (ltb n m) as (λ b. ltb n m ≡ b → unwrap_or (cond b (Some n) None) m ≡ n) [
+  | true ↦ λ is. refl
+  | false ↦ λ is. omega (arith, ltb-false n m is)
+] refl
 
 -- ---- results that are joined
 

@@ -1,6 +1,5 @@
 pub mod CharStart
 pub mod Commas
-pub mod Texts
 pub mod BytesByPart
 pub mod SortedOrder
 pub mod Sorting

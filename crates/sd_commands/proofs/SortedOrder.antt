@@ -1,6 +1,9 @@
 -- A sorted list is in canonical order, and one that is stays as it is.
 use Rattle.std.proofs.Common.{◌≡◌, ◌∙◌, Bool, true, false, cond, not, ◌&&◌, List, [], ◌∷◌, ◌++◌, filter, ap, refl, sym}
 use Rattle.std.specs.Prelude.{◌||◌}
+use Rattle.std.proofs.Math.Bool.{and-false}
+use Rattle.std.proofs.lemmas.Bool.{not-true}
+use Rattle.std.proofs.lemmas.Map.Views.{any-filter_same}
 use Rattle.std.specs.List.{list_any}
 use Rattle.std.proofs.lemmas.List.{append-nil}
 use Rattle.std.proofs.lemmas.List.Elements.{filter-append}
@@ -12,10 +15,6 @@ use Rattle.sd_commands.specs.Sort.{CanonicalStays, SortedIsCanonical, sorted}
 or_false : (a b : Bool) → (a || b) ≡ false → (a ≡ false) × (b ≡ false)
 or_false true b is = absurd (cc (is))
 or_false false b is = (refl, is)
-
-and_false : (a : Bool) → (a && false) ≡ false
-and_false true = refl
-and_false false = refl
 
 both_not : (a b : Bool) → (not a && not b) ≡ true → (a ≡ false) × (b ≡ false)
 both_not true b is = absurd (cc (is))
@@ -44,18 +43,10 @@ module _ (p : Ace → Bool) where
 
   -- none is left that fails the test, or that passes it
   none_early : (es : List Ace) → list_any early (filter p es) ≡ false
-  none_early [] = refl
-  none_early (e ∷ es) = elim (p e) as (λ b. p e ≡ b → list_any early (cond b (e ∷ filter p es) (filter p es)) ≡ false) [
-    | true ↦ λ is. rw is (none_early es)
-    | false ↦ λ is. none_early es
-  ] refl
+  none_early = any-filter_same early p false (λ e is. not-true (p e) is)
 
   none_late : (es : List Ace) → list_any p (filter early es) ≡ false
-  none_late [] = refl
-  none_late (e ∷ es) = elim (p e) as (λ b. p e ≡ b → list_any p (cond (not b) (e ∷ filter early es) (filter early es)) ≡ false) [
-    | true ↦ λ is. none_late es
-    | false ↦ λ is. rw is (none_late es)
-  ] refl
+  none_late = any-filter_same p early false (λ e is. ap not is)
 
   -- a part by the test is all or nothing
   all_early : (es : List Ace) → list_any p es ≡ false → filter early es ≡ es
@@ -82,7 +73,7 @@ module _ (p : Ace → Bool) where
   behind_late [] none = refl
   behind_late (e ∷ es) none =
       let both = or_false (early e) (list_any early es) none in
-      rw (both.1, behind_late es both.1, and_false (p e)) refl
+      rw (both.1, behind_late es both.1, and-false (p e)) refl
 
   behind_both : (front back : List Ace) → list_any p front ≡ false → list_any early back ≡ false → behind (front ++ back) ≡ false
   behind_both [] back none last = behind_late back last

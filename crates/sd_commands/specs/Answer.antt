@@ -8,7 +8,7 @@ use Rattle.hex.specs.Hex.{encode_lower}
 use Rattle.sd_sid.specs.Sid.{SidValue}
 use Rattle.sd_acl.specs.Descriptor.{DescriptorValue, descriptor_of}
 use Rattle.sd_check.specs.declared.verdict.Verdict.{Verdict}
-use Rattle.sd_check.specs.declared.verdict.Verdict.TheVariants.{Granted, Denied, Reserved, EmptyRequest}
+use Rattle.sd_check.specs.declared.verdict.Verdict.TheVariants.{Granted}
 use Rattle.sd_text.specs.Grammar.{Grammar, Spells, HasFault}
 use Rattle.sd_text.specs.Sid.{sid_text_in}
 use Rattle.sd_text.specs.Canon.{canon_in}
@@ -57,9 +57,7 @@ use Rattle.sd_commands.specs.declared.verdict.Form.TheVariants.{Short, Explained
 
 abbrev pub verdict_outcome : Verdict → Outcome
 verdict_outcome (Granted mask) = Done
-verdict_outcome (Denied missing) = Refused
-verdict_outcome (Reserved mask) = Refused
-verdict_outcome EmptyRequest = Refused
+verdict_outcome verdict = Refused
 
 -- the line for bytes that hold no descriptor
 abbrev pub wire_fault_line : WireFault → List ℕ
@@ -89,13 +87,17 @@ answer_of answer = record {
   outcome = answer.outcome;
 }
 
+abbrev pub IsAnswer : List ℕ → List ℕ → Outcome → AnswerValue → Type 0
+IsAnswer printed told outcome answer =
+    (answer.printed ≡ printed) × (answer.told ≡ told) × (answer.outcome ≡ outcome)
+
 -- this text is printed, and what was asked for was done
 abbrev pub IsDone : List ℕ → AnswerValue → Type 0
-IsDone expected answer = (answer.printed ≡ expected) × (answer.told ≡ []) × (answer.outcome ≡ Done)
+IsDone printed = IsAnswer printed [] Done
 
 -- this line of a fault is printed, and this is told of it
 abbrev pub IsFault : List ℕ → List ℕ → AnswerValue → Type 0
-IsFault expected told answer = (answer.printed ≡ expected) × (answer.told ≡ told) × (answer.outcome ≡ Refused)
+IsFault printed told = IsAnswer printed told Refused
 
 -- an argument's text has this first fault
 abbrev pub IsTextFault : {A : Type 0} → Settings → Grammar A → List ℕ → List ℕ → List ℕ → AnswerValue → Type 0
@@ -103,12 +105,17 @@ IsTextFault settings grammar text expected argument answer =
     (fault : TextFault) × (place : ℕ) × HasFault grammar text fault place
     × IsFault expected (told_line argument (fault_text settings.points text fault place)) answer
 
--- the mask that is asked for has this first fault
-abbrev pub IsMaskFault : Settings → List ℕ → AnswerValue → Type 0
-IsMaskFault settings mask answer =
-    (fault : TextFault) × (place : ℕ) × IsMaskErrorIn settings.spelling mask (Fault fault place)
+-- what is answered of the mask that a text is, or its first fault
+abbrev pub AnswersOfMask : Settings → List ℕ → (ℕ → AnswerValue → Type 0) → AnswerValue → Type 0
+AnswersOfMask settings mask Answers answer =
+    ((asked : ℕ) × IsMaskIn settings.spelling mask asked × Answers asked answer)
+    ⊎ ((fault : TextFault) × (place : ℕ) × IsMaskErrorIn settings.spelling mask (Fault fault place)
     × IsFault (fault_line (codes "mask"))
-    (told_line (codes "MASK") (fault_text settings.points mask fault place)) answer
+    (told_line (codes "MASK") (fault_text settings.points mask fault place)) answer)
+
+-- the word at the place is the first that is none, for this reason
+abbrev pub IsTokenFault : ℕ → List ℕ → List ℕ → AnswerValue → Type 0
+IsTokenFault place word reason = IsFault (fault_line (codes "token")) (told_line (word_argument place word) reason)
 
 -- ---- arguments
 
@@ -125,10 +132,14 @@ AnswersSddlFault argument settings written answer =
     × IsFault (sddl_fault_line fault place)
     (told_line argument (sddl_fault_text settings.points written fault place)) answer
 
--- what is answered otherwise, and where a SACL was left out, that is told first
+-- the other answer, and where a SACL was left out, that is told first
+unfoldable pub IsNoted : List ℕ → Bool → AnswerValue → AnswerValue → Type 0
+IsNoted argument left_out inner answer = answer ≡ record inner { told = sacl_note argument left_out ++ inner.told }
+
+-- what is answered otherwise, with that
 abbrev pub Noting : List ℕ → Bool → (AnswerValue → Type 0) → AnswerValue → Type 0
 Noting argument left_out Answers answer =
-    (inner : AnswerValue) × Answers inner × (answer ≡ record inner { told = sacl_note argument left_out ++ inner.told })
+    (inner : AnswerValue) × IsNoted argument left_out inner answer × Answers inner
 
 -- the descriptor lacks the list that is required
 abbrev pub IsMissingDacl : List ℕ → List ℕ → AnswerValue → Type 0
@@ -164,7 +175,7 @@ AnswersOfArgument argument settings written Answers answer =
     ⊎ IsRefusedArgument argument settings written answer
 
 abbrev pub AnswersOfText : Settings → List ℕ → (DescriptorValue → AnswerValue → Type 0) → AnswerValue → Type 0
-AnswersOfText settings written Answers answer = AnswersOfArgument (codes "SDDL") settings written Answers answer
+AnswersOfText = AnswersOfArgument (codes "SDDL")
 
 -- ---- verdicts
 
@@ -177,16 +188,15 @@ form_text settings Explained d token asked = why_text settings.mapping settings.
 -- the verdict is printed, in this form
 abbrev pub IsVerdict : Settings → Form → DescriptorValue → TokenValue → ℕ → AnswerValue → Type 0
 IsVerdict settings form d token asked answer =
-    (answer.printed ≡ form_text settings form d token asked)
-    × (answer.told ≡ [])
-    × (answer.outcome ≡ verdict_outcome (verdict d.owner (dacl_entries d.dacl) settings.mapping token asked))
+    IsAnswer (form_text settings form d token asked) []
+    (verdict_outcome (verdict d.owner (dacl_entries d.dacl) settings.mapping token asked)) answer
 
 -- the first of the words that is none, and why
 abbrev pub IsWordFault : Settings → List (List ℕ) → AnswerValue → Type 0
 IsWordFault settings words answer =
     (place : ℕ) × IsFirstNoWord settings.aliases words place
     × (reason : List ℕ) × IsWordReason settings.points settings.aliases (word_at words place) reason
-    × IsFault (fault_line (codes "token")) (told_line (word_argument place (word_at words place)) reason) answer
+    × IsTokenFault place (word_at words place) reason answer
 
 -- the words make a token, for which this is the verdict; or one of them is no word
 abbrev pub AnswersWords : Settings → Form → DescriptorValue → SidValue → ℕ → List (Bor (List ℕ)) → AnswerValue → Type 0
@@ -197,9 +207,8 @@ AnswersWords settings form d user asked words answer =
 
 abbrev pub AnswersMask : Settings → Form → DescriptorValue → SidValue → List ℕ → List (Bor (List ℕ)) → AnswerValue
     → Type 0
-AnswersMask settings form d user mask words answer =
-    ((asked : ℕ) × IsMaskIn settings.spelling mask asked × AnswersWords settings form d user asked words answer)
-    ⊎ IsMaskFault settings mask answer
+AnswersMask settings form d user mask words = AnswersOfMask settings mask
+    (λ asked. AnswersWords settings form d user asked words)
 
 abbrev pub AnswersUser : Settings → Form → List ℕ → List ℕ → List (Bor (List ℕ)) → DescriptorValue → AnswerValue
     → Type 0
@@ -208,14 +217,10 @@ AnswersUser settings form user mask words d answer =
     × AnswersMask settings form d sid mask words answer)
     ⊎ IsTextFault settings (sid_text_in settings.aliases) user (fault_line (codes "sid")) (codes "USER") answer
 
-abbrev pub AnswersVerdictOf : Settings → Form → List ℕ → List ℕ → List ℕ → List (Bor (List ℕ)) → AnswerValue → Type 0
-AnswersVerdictOf settings form written user mask words answer = AnswersOfText settings written
-    (AnswersUser settings form user mask words) answer
-
 -- the arguments after the descriptor are the user, the mask and words
 abbrev pub AnswersVerdict : Settings → Form → List ℕ → List (Bor (List ℕ)) → AnswerValue → Type 0
-AnswersVerdict settings form written arguments answer =
-    AnswersVerdictOf settings form written (argument arguments 0) (argument arguments 1) (drop 2 arguments) answer
+AnswersVerdict settings form written arguments = AnswersOfText settings written
+    (AnswersUser settings form (argument arguments 0) (argument arguments 1) (drop 2 arguments))
 
 -- ---- other forms
 
@@ -224,21 +229,19 @@ abbrev pub printed_line : Spelling → DescriptorValue → List ℕ
 printed_line spelling d = line (canon_in (right_names_of spelling) d)
 
 abbrev pub AnswersPrint : Settings → List ℕ → AnswerValue → Type 0
-AnswersPrint settings written answer = AnswersOfText settings written
-    (λ d. IsDone (printed_line settings.spelling d)) answer
+AnswersPrint settings written = AnswersOfText settings written (λ d. IsDone (printed_line settings.spelling d))
 
 -- the same with the DACL in canonical order; standard error says what moved
 abbrev pub IsSorted : Settings → DescriptorValue → AnswerValue → Type 0
-IsSorted settings d answer = (answer.printed ≡ printed_line settings.spelling (sorted_descriptor d))
-    × (answer.told ≡ move_notes settings.spelling d.dacl) × (answer.outcome ≡ Done)
+IsSorted settings d = IsAnswer (printed_line settings.spelling (sorted_descriptor d))
+    (move_notes settings.spelling d.dacl) Done
 
 abbrev pub AnswersSort : Settings → List ℕ → AnswerValue → Type 0
-AnswersSort settings written answer = AnswersOfText settings written (IsSorted settings) answer
+AnswersSort settings written = AnswersOfText settings written (IsSorted settings)
 
 -- the self-relative form in hexadecimal
 abbrev pub AnswersToBinary : Settings → List ℕ → AnswerValue → Type 0
-AnswersToBinary settings written answer = AnswersOfText settings written
-    (λ d. IsDone (line (encode_lower (wire_of d)))) answer
+AnswersToBinary settings written = AnswersOfText settings written (λ d. IsDone (line (encode_lower (wire_of d))))
 
 -- the printed text of a descriptor, where it doesn't lack the list that is required
 abbrev pub AnswersFit : Settings → Option (List ℕ) → DescriptorValue → AnswerValue → Type 0
@@ -267,24 +270,23 @@ AnswersDecoded settings written (Err (what, place)) answer = IsFault (fault_line
     (told_line (codes "BYTES") (at_byte what place ++ pointed settings.points written place)) answer
 
 abbrev pub AnswersFromBinary : Settings → List ℕ → AnswerValue → Type 0
-AnswersFromBinary settings written answer =
-    AnswersDecoded settings written (bytes_read settings.bytes written) answer
+AnswersFromBinary settings written = AnswersDecoded settings written (bytes_read settings.bytes written)
 
 -- ---- whom rights are granted to, and changes
 
 -- the first of the words that is no group, and why
-abbrev pub IsGroupFault : Settings → List (Bor (List ℕ)) → AnswerValue → Type 0
+abbrev pub IsGroupFault : Settings → List (List ℕ) → AnswerValue → Type 0
 IsGroupFault settings words answer =
-    (place : ℕ) × IsFirstNoGroup settings.aliases (texts words) place
-    × (reason : List ℕ) × IsStateReason settings.points settings.aliases (argument words place) reason
-    × IsFault (fault_line (codes "token")) (told_line (word_argument place (argument words place)) reason) answer
+    (place : ℕ) × IsFirstNoGroup settings.aliases words place
+    × (reason : List ℕ) × IsStateReason settings.points settings.aliases (word_at words place) reason
+    × IsTokenFault place (word_at words place) reason answer
 
 -- the words are a base, of which this is answered; or one of them is no group
 abbrev pub AnswersOfBase : Settings → List (Bor (List ℕ)) → (List (SidValue × GroupState) → AnswerValue → Type 0)
     → AnswerValue → Type 0
 AnswersOfBase settings words Answers answer =
     ((base : List (SidValue × GroupState)) × AreGroups settings.aliases (texts words) base × Answers base answer)
-    ⊎ IsGroupFault settings words answer
+    ⊎ IsGroupFault settings (texts words) answer
 
 -- whom the rights are granted to is printed
 abbrev pub PrintsWho : Settings → ℕ → DescriptorValue → List (SidValue × GroupState) → AnswerValue → Type 0
@@ -293,19 +295,13 @@ PrintsWho settings asked d base answer =
     × IsDone (who_text settings.spelling accesses) answer
 
 abbrev pub AnswersWhoMask : Settings → List ℕ → List (Bor (List ℕ)) → DescriptorValue → AnswerValue → Type 0
-AnswersWhoMask settings mask words d answer =
-    ((asked : ℕ) × IsMaskIn settings.spelling mask asked
-    × AnswersOfBase settings words (PrintsWho settings asked d) answer)
-    ⊎ IsMaskFault settings mask answer
-
-abbrev pub AnswersWhoOf : Settings → List ℕ → List ℕ → List (Bor (List ℕ)) → AnswerValue → Type 0
-AnswersWhoOf settings written mask words answer = AnswersOfText settings written
-    (AnswersWhoMask settings mask words) answer
+AnswersWhoMask settings mask words d = AnswersOfMask settings mask
+    (λ asked. AnswersOfBase settings words (PrintsWho settings asked d))
 
 -- the arguments after the descriptor are the mask and a base
 abbrev pub AnswersWho : Settings → List ℕ → List (Bor (List ℕ)) → AnswerValue → Type 0
-AnswersWho settings written arguments answer = AnswersWhoOf settings written (argument arguments 0)
-    (drop 1 arguments) answer
+AnswersWho settings written arguments = AnswersOfText settings written
+    (AnswersWhoMask settings (argument arguments 0) (drop 1 arguments))
 
 -- what tokens gain and lose is printed, or that they are the same
 abbrev pub PrintsComparison : Settings → DescriptorValue → DescriptorValue → List (SidValue × GroupState) → AnswerValue
@@ -314,22 +310,17 @@ PrintsComparison settings old new base answer =
     (gained : List Change) × (lost : List Change)
     × AreGains settings.mapping base (parts_in old) (parts_in new) gained
     × AreGains settings.mapping base (parts_in new) (parts_in old) lost
-    × (answer.printed ≡ compare_text settings.spelling (parts_in old) (parts_in new) gained lost)
-    × (answer.told ≡ []) × (answer.outcome ≡ compare_outcome gained lost)
+    × IsAnswer (compare_text settings.spelling (parts_in old) (parts_in new) gained lost) []
+    (compare_outcome gained lost) answer
 
 abbrev pub AnswersNew : Settings → List ℕ → List (Bor (List ℕ)) → DescriptorValue → AnswerValue → Type 0
-AnswersNew settings new words old answer =
-    AnswersOfArgument (codes "NEW") settings new
-    (λ d. AnswersOfBase settings words (PrintsComparison settings old d)) answer
-
-abbrev pub AnswersCompareOf : Settings → List ℕ → List ℕ → List (Bor (List ℕ)) → AnswerValue → Type 0
-AnswersCompareOf settings old new words answer = AnswersOfArgument (codes "OLD") settings old
-    (AnswersNew settings new words) answer
+AnswersNew settings new words old = AnswersOfArgument (codes "NEW") settings new
+    (λ d. AnswersOfBase settings words (PrintsComparison settings old d))
 
 -- the arguments after the old descriptor are the new one and a base
 abbrev pub AnswersCompare : Settings → List ℕ → List (Bor (List ℕ)) → AnswerValue → Type 0
-AnswersCompare settings old arguments answer = AnswersCompareOf settings old (argument arguments 0)
-    (drop 1 arguments) answer
+AnswersCompare settings old arguments = AnswersOfArgument (codes "OLD") settings old
+    (AnswersNew settings (argument arguments 0) (drop 1 arguments))
 
 -- ---- findings
 
@@ -344,7 +335,7 @@ lint_outcome (b ∷ bs) = Refused
 
 -- the findings are printed, or that there are none
 abbrev pub IsLinted : List ℕ → AnswerValue → Type 0
-IsLinted lines answer = (answer.printed ≡ or_clean lines) × (answer.told ≡ []) × (answer.outcome ≡ lint_outcome lines)
+IsLinted lines = IsAnswer (or_clean lines) [] (lint_outcome lines)
 
 abbrev pub PrintsFindings : Settings → DescriptorValue → List (SidValue × GroupState) → AnswerValue → Type 0
 PrintsFindings settings d base answer = (lines : List ℕ) × IsLintText settings.mapping settings.spelling base d lines
@@ -352,16 +343,14 @@ PrintsFindings settings d base answer = (lines : List ℕ) × IsLintText setting
 
 -- the arguments after the descriptor are a base
 abbrev pub AnswersLint : Settings → List ℕ → List (Bor (List ℕ)) → AnswerValue → Type 0
-AnswersLint settings written words answer = AnswersOfText settings written
-    (λ d. AnswersOfBase settings words (PrintsFindings settings d)) answer
+AnswersLint settings written words = AnswersOfText settings written
+    (λ d. AnswersOfBase settings words (PrintsFindings settings d))
 
 -- ---- rights
 
 -- the mask's rights by name
 abbrev pub AnswersRights : Settings → List ℕ → AnswerValue → Type 0
-AnswersRights settings mask answer =
-    ((asked : ℕ) × IsMaskIn settings.spelling mask asked × IsDone (rights_line settings.kind asked) answer)
-    ⊎ IsMaskFault settings mask answer
+AnswersRights settings mask = AnswersOfMask settings mask (λ asked. IsDone (rights_line settings.kind asked))
 
 -- ---- commands
 

@@ -96,14 +96,9 @@ bytes_read Hex text = reasoned (hex_reason text) (hex.decode_of text)
 bytes_read Loose text = held (value_read text (value_in text))
 bytes_read Base64 text = reasoned (base64_reason text) (base64.decode_of standard text)
 
-abbrev pub IsBytesError : ByteForm → List ℕ → BytesError → Type 0
-IsBytesError form text (NoBytes what place) = bytes_read form text ≡ Err (what.now, place)
-IsBytesError form text Memory = Unit {0}
-
--- the same of a value's, and of a part of it
-abbrev pub IsValueError : BytesRead → BytesError → Type 0
-IsValueError read (NoBytes what place) = read ≡ Err (what.now, place)
-IsValueError read Memory = Unit {0}
+abbrev pub IsBytesError : BytesRead → BytesError → Type 0
+IsBytesError read (NoBytes what place) = read ≡ Err (what.now, place)
+IsBytesError read Memory = Unit {0}
 
 -- what the text should have been
 abbrev pub form_name : ByteForm → List ℕ

@@ -5,14 +5,13 @@ ghost use Rattle.sd_analysis.specs.Sufficient.{parts_of};
 ghost use Rattle.sd_answer.specs.Word.{IsFirstNoGroup, texts};
 ghost use Rattle.sd_check.specs.Check.{dacl_entries, entries_of};
 ghost use Rattle.sd_commands.specs.Analysis.{compare_outcome, parts_in};
-ghost use Rattle.sd_commands.specs.Answer.{AnswersCompare, AnswersCompareOf, AnswersNew, AnswersOfBase};
-ghost use Rattle.sd_commands.specs.Answer.{AnswersWho, AnswersWhoMask, AnswersWhoOf, IsGroupFault, PrintsComparison};
-ghost use Rattle.sd_commands.specs.Answer.{PrintsWho, answer_of};
+ghost use Rattle.sd_commands.specs.Answer.{AnswersCompare, AnswersNew, AnswersOfBase, AnswersWho, AnswersWhoMask};
+ghost use Rattle.sd_commands.specs.Answer.{IsGroupFault, PrintsComparison, PrintsWho, answer_of};
 
-use crate::answer::{Answer, Outcome, fault, text_fault};
+use crate::answer::{Answer, Outcome, text_fault, token_fault};
 use crate::descriptor::{Given, noting, read_argument};
 use crate::settings::Settings;
-use crate::told::{state_reason, told_line, word_argument};
+use crate::told::state_reason;
 use crate::words::{argument, arguments_from};
 use sd_acl::{Dacl, Descriptor};
 use sd_analysis::{Base, Comparison, DescriptorRef, compare, who};
@@ -34,18 +33,6 @@ pub(crate) fn answer_who(
 {
     let mask = argument(arguments, 0);
     let words = arguments_from(arguments, 1);
-    who_on_text(alloc, settings, sddl, mask, words)
-}
-
-fn who_on_text(
-    alloc: Global,
-    settings: Settings,
-    sddl: &str,
-    mask: &str,
-    words: &[&str],
-) -> Result<Answer, AllocError>
-    ensures { IfOk result (λ answer. AnswersWhoOf settings sddl.now mask.now words.now (answer_of answer)) }
-{
     let read = match read_argument(alloc, settings, "SDDL", sddl)? {
         Given::Descriptor(read) => read,
         Given::Refused(answer) => return Ok(answer),
@@ -117,16 +104,11 @@ pub(crate) fn group_fault(
 ) -> Result<Answer, AllocError>
     requires first { IsFirstNoGroup settings.aliases (texts words.now) place }
     requires within { place < length words.now }
-    ensures { IfOk result (λ answer. IsGroupFault settings words.now (answer_of answer)) }
+    ensures { IfOk result (λ answer. IsGroupFault settings (texts words.now) (answer_of answer)) }
 {
-    let word = argument(words, place);
-    let argument = word_argument(alloc, place, word)?;
+    let word = words[place];
     let reason = state_reason(alloc, settings.points, settings.aliases, word)?;
-    fault(
-        alloc,
-        "token",
-        told_line(alloc, argument.as_str(), reason.as_str())?,
-    )
+    token_fault(alloc, place, word, reason.as_str())
 }
 
 /// What tokens gain and lose where the new descriptor takes the place of the old one, where the new one and the base
@@ -141,18 +123,6 @@ pub(crate) fn answer_compare(
 {
     let new = argument(arguments, 0);
     let words = arguments_from(arguments, 1);
-    compare_on_texts(alloc, settings, old, new, words)
-}
-
-fn compare_on_texts(
-    alloc: Global,
-    settings: Settings,
-    old: &str,
-    new: &str,
-    words: &[&str],
-) -> Result<Answer, AllocError>
-    ensures { IfOk result (λ answer. AnswersCompareOf settings old.now new.now words.now (answer_of answer)) }
-{
     let read = match read_argument(alloc, settings, "OLD", old)? {
         Given::Descriptor(read) => read,
         Given::Refused(answer) => return Ok(answer),
@@ -208,11 +178,8 @@ fn compare_lines(
 {
     let (old, new, base) = (descriptor_ref(old), descriptor_ref(new), Base { groups });
     let comparison = compare(alloc, &old, &new, &settings.mapping, &base)?;
-    Ok(Answer {
-        text: compare_text(alloc, settings.spelling, &old, &new, &comparison)?,
-        told: String::new(alloc),
-        outcome: compare_outcome(&comparison),
-    })
+    let text = compare_text(alloc, settings.spelling, &old, &new, &comparison)?;
+    Ok(Answer::of(alloc, text, compare_outcome(&comparison)))
 }
 
 fn compare_outcome(comparison: &Comparison) -> Outcome

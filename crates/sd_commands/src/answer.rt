@@ -1,7 +1,8 @@
 //! The answer to a command about a descriptor: what is printed, and whether that is what was asked for.
-ghost use Rattle.std.specs.Prelude.{◌≡◌, IfOk, string_bytes};
+ghost use Rattle.std.specs.Prelude.{◌≡◌, ◌<◌, ◌^◌, [], IfOk, string_bytes};
 ghost use Rattle.sd_answer.specs.Answer.{fault_line, sddl_fault_line};
-ghost use Rattle.sd_commands.specs.Answer.{AnswersQuestion, IsDone, IsFault, answer_of, is_refusal, outcome_status};
+ghost use Rattle.sd_commands.specs.Answer.{AnswersQuestion, IsAnswer, IsDone, IsFault, IsTokenFault, answer_of};
+ghost use Rattle.sd_commands.specs.Answer.{is_refusal, outcome_status};
 ghost use Rattle.sd_commands.specs.Told.{fault_text, sddl_fault_text, told_line};
 
 use crate::analysis::{answer_compare, answer_who};
@@ -10,7 +11,7 @@ use crate::lint::answer_lint;
 use crate::rights::answer_rights;
 use crate::settings::Settings;
 use crate::sort::answer_sort;
-use crate::told::{fault_text, sddl_fault_text, told_line};
+use crate::told::{fault_text, sddl_fault_text, told_line, word_argument};
 use crate::verdict::{Form, answer_verdict};
 use sd_answer::{fault_line, sddl_fault_line};
 use sd_text::TextFault;
@@ -60,10 +61,18 @@ impl Answer {
     pub fn done(alloc: Global, text: String) -> Answer
         ensures { IsDone (string_bytes text) (answer_of result) }
     {
+        Answer::of(alloc, text, Outcome::Done)
+    }
+
+    /// Nothing is told beside what is printed.
+    pub(crate) fn of(alloc: Global, text: String, outcome: Outcome) -> Answer
+        ensures { IsAnswer (string_bytes text) [] outcome (answer_of result) }
+    {
+        let told = String::new(alloc);
         Answer {
             text,
-            told: String::new(alloc),
-            outcome: Outcome::Done,
+            told,
+            outcome,
         }
     }
 }
@@ -102,6 +111,20 @@ pub fn fault(alloc: Global, what: &str, told: String) -> Result<Answer, AllocErr
         told,
         outcome: Outcome::Refused,
     })
+}
+
+/// The answer to words of which the one at the place is the first that is none, for this reason.
+pub(crate) fn token_fault(
+    alloc: Global,
+    place: usize,
+    word: &str,
+    reason: &str,
+) -> Result<Answer, AllocError>
+    requires { place < 2 ^ 63 }
+    ensures { IfOk result (λ answer. IsTokenFault place word.now reason.now (answer_of answer)) }
+{
+    let argument = word_argument(alloc, place, word)?;
+    fault(alloc, "token", told_line(alloc, argument.as_str(), reason)?)
 }
 
 /// The answer to an argument whose text has this first fault.

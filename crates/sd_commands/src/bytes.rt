@@ -53,7 +53,7 @@ impl ByteForm {
 /// The bytes that the text spells in this form.
 pub(crate) fn read_bytes(alloc: Global, form: ByteForm, text: &str) -> Result<Vec<u8>, BytesError>
     ensures ok { IfOk result (λ bytes. bytes_read form text.now ≡ Ok bytes.items) }
-    ensures err { IfErr result (IsBytesError form text.now) }
+    ensures err { IfErr result (IsBytesError (bytes_read form text.now)) }
 {
     match form {
         ByteForm::Hex => hex_bytes(alloc, text),
@@ -65,7 +65,7 @@ pub(crate) fn read_bytes(alloc: Global, form: ByteForm, text: &str) -> Result<Ve
 /// The bytes of a descriptor in the value that the text has.
 fn held_bytes(alloc: Global, text: &[u8]) -> Result<Vec<u8>, BytesError>
     ensures ok { IfOk result (λ bytes. bytes_read Loose text.now ≡ Ok bytes.items) }
-    ensures err { IfErr result (IsBytesError Loose text.now) }
+    ensures err { IfErr result (IsBytesError (bytes_read Loose text.now)) }
 {
     let bytes = loose_bytes(alloc, text)?;
     Ok(descriptor_in(alloc, bytes)?)
@@ -73,7 +73,7 @@ fn held_bytes(alloc: Global, text: &[u8]) -> Result<Vec<u8>, BytesError>
 
 fn hex_bytes(alloc: Global, text: &str) -> Result<Vec<u8>, BytesError>
     ensures ok { IfOk result (λ bytes. bytes_read Hex text.now ≡ Ok bytes.items) }
-    ensures err { IfErr result (IsBytesError Hex text.now) }
+    ensures err { IfErr result (IsBytesError (bytes_read Hex text.now)) }
 {
     match hex::decode(alloc, text) {
         Ok(bytes) => Ok(bytes),
@@ -97,7 +97,7 @@ fn hex_reason(text: &str, error: FromHexError) -> (&'static str, usize)
 
 fn base64_bytes(alloc: Global, text: &str) -> Result<Vec<u8>, BytesError>
     ensures ok { IfOk result (λ bytes. bytes_read Base64 text.now ≡ Ok bytes.items) }
-    ensures err { IfErr result (IsBytesError Base64 text.now) }
+    ensures err { IfErr result (IsBytesError (bytes_read Base64 text.now)) }
 {
     match STANDARD.decode(alloc, text.as_bytes()) {
         Ok(bytes) => Ok(bytes),

@@ -1,6 +1,6 @@
 //! The descriptor that an argument's text is, with a SACL that is left out where that is asked for.
-ghost use Rattle.std.specs.Prelude.{◌≡◌, IfOk};
-ghost use Rattle.sd_commands.specs.Answer.{IsGiven, Noting, answer_of};
+ghost use Rattle.std.specs.Prelude.{IfOk};
+ghost use Rattle.sd_commands.specs.Answer.{IsGiven, IsNoted, answer_of};
 
 use crate::answer::{Answer, sddl_fault};
 use crate::missing_dacl::{missing_dacl, missing_dacl_fault};
@@ -46,25 +46,17 @@ pub(crate) fn read_argument(
 }
 
 /// The answer, and before what is told beside it, that a SACL was left out of the argument, where one was.
+#[tactic(auto, unfolding(crate::specs::Answer::IsNoted))]
 pub(crate) fn noting(
     alloc: Global,
     argument: &str,
     left_out: bool,
-    answer: Answer,
+    mut answer: Answer,
 ) -> Result<Answer, AllocError>
-    ensures { IfOk result
-        (λ noted. Noting argument.now left_out (λ inner. inner ≡ answer_of answer) (answer_of noted)) }
+    ensures { IfOk result (λ noted. IsNoted argument.now left_out (answer_of answer) (answer_of noted)) }
 {
-    let Answer {
-        text,
-        told,
-        outcome,
-    } = answer;
-    let mut noted = sacl_note(alloc, argument, left_out)?;
-    noted.push_str(told.as_str())?;
-    Ok(Answer {
-        text,
-        told: noted,
-        outcome,
-    })
+    let mut told = sacl_note(alloc, argument, left_out)?;
+    told.push_str(answer.told.as_str())?;
+    answer.told = told;
+    Ok(answer)
 }

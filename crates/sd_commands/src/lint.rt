@@ -73,10 +73,6 @@ fn found(alloc: Global, lines: String) -> Result<Answer, AllocError>
     if lines.is_empty() {
         Ok(Answer::done(alloc, String::from_str(alloc, "clean\n")?))
     } else {
-        Ok(Answer {
-            text: lines,
-            told: String::new(alloc),
-            outcome: Outcome::Refused,
-        })
+        Ok(Answer::of(alloc, lines, Outcome::Refused))
     }
 }

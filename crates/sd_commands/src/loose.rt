@@ -2,7 +2,7 @@
 //! backslashes and line ends between bytes.
 ghost use Rattle.std.specs.Prelude.{◌≡◌, ◌<◌, ◌≤◌, ◌+◌, ◌-◌, ℕ, Ok, Err, Some, IfErr, IfOk, filter, length, not};
 ghost use Rattle.std.specs.List.{position_or_len, slice_split};
-ghost use Rattle.sd_commands.specs.Bytes.{IsValueError, digits_of, is_between, is_blank_byte, joined};
+ghost use Rattle.sd_commands.specs.Bytes.{IsBytesError, digits_of, is_between, is_blank_byte, joined};
 ghost use Rattle.sd_commands.specs.Bytes.{no_bytes, part_read, parts_read, value_read};
 ghost use Rattle.sd_commands.specs.Value.{value_in};
 ghost use Rattle.sd_commands.specs.declared.value.Value.TheVariants as values;
@@ -17,7 +17,7 @@ use std::alloc::{AllocError, Global};
 /// The bytes of the value that the text has.
 pub(crate) fn loose_bytes(alloc: Global, text: &[u8]) -> Result<Vec<u8>, BytesError>
     ensures ok { IfOk result (λ bytes. value_read text.now (value_in text.now) ≡ Ok bytes.items) }
-    ensures err { IfErr result (IsValueError (value_read text.now (value_in text.now))) }
+    ensures err { IfErr result (IsBytesError (value_read text.now (value_in text.now))) }
 {
     match value_in(text) {
         Some(Value::Hex(place)) => hex_value(alloc, text, place),
@@ -28,7 +28,7 @@ pub(crate) fn loose_bytes(alloc: Global, text: &[u8]) -> Result<Vec<u8>, BytesEr
 
 /// That no bytes are spelled at this place.
 fn no_bytes(place: usize) -> BytesError
-    ensures { IsValueError (Err (no_bytes place)) result }
+    ensures { IsBytesError (Err (no_bytes place)) result }
 {
     BytesError::NoBytes {
         what: "no bytes",
@@ -40,7 +40,7 @@ fn no_bytes(place: usize) -> BytesError
 fn base64_value(alloc: Global, text: &[u8], place: usize) -> Result<Vec<u8>, BytesError>
     requires { place ≤ length text.now }
     ensures ok { IfOk result (λ bytes. value_read text.now (Some (values.Base64 place)) ≡ Ok bytes.items) }
-    ensures err { IfErr result (IsValueError (value_read text.now (Some (values.Base64 place)))) }
+    ensures err { IfErr result (IsBytesError (value_read text.now (Some (values.Base64 place)))) }
 {
     let digits = filled(alloc, &text[place..])?;
     match STANDARD.decode(alloc, digits.as_slice()) {
@@ -73,7 +73,7 @@ fn is_blank_byte(b: u8) -> bool
 fn hex_value(alloc: Global, text: &[u8], place: usize) -> Result<Vec<u8>, BytesError>
     requires { place ≤ length text.now }
     ensures ok { IfOk result (λ bytes. value_read text.now (Some (values.Hex place)) ≡ Ok bytes.items) }
-    ensures err { IfErr result (IsValueError (value_read text.now (Some (values.Hex place)))) }
+    ensures err { IfErr result (IsBytesError (value_read text.now (Some (values.Hex place)))) }
 {
     let mut bytes = Vec::new(alloc);
     let mut rest = &text[place..];
@@ -107,10 +107,8 @@ fn part_len(text: &[u8]) -> usize
     ensures place { result ≡ position_or_len is_between text.now }
     ensures within { result ≤ length text.now }
 {
-    match text.iter().position(|b| is_between(*b)) {
-        Some(end) => end,
-        None => text.len(),
-    }
+    let end = text.iter().position(|b| is_between(*b));
+    end.unwrap_or(text.len())
 }
 
 fn is_between(b: u8) -> bool
@@ -122,7 +120,7 @@ fn is_between(b: u8) -> bool
 /// The bytes of a part, which begins at this byte of the text.
 fn part_bytes(alloc: Global, place: usize, part: &[u8]) -> Result<Vec<u8>, BytesError>
     ensures ok { IfOk result (λ bytes. part_read place part.now ≡ Ok bytes.items) }
-    ensures err { IfErr result (IsValueError (part_read place part.now)) }
+    ensures err { IfErr result (IsBytesError (part_read place part.now)) }
 {
     match hex::decode(alloc, digits(part)) {
         Ok(bytes) => Ok(bytes),

@@ -46,10 +46,8 @@ fn first(byte: u8, text: &[u8]) -> usize
     ensures place { result ≡ first byte text.now }
     ensures within { result ≤ length text.now }
 {
-    match text.iter().position(|b| *b == byte) {
-        Some(end) => end,
-        None => text.len(),
-    }
+    let end = text.iter().position(|b| *b == byte);
+    end.unwrap_or(text.len())
 }
 
 /// The text from the place on.

@@ -3,13 +3,13 @@ ghost use Rattle.std.specs.Prelude.{◌≡◌, ◌<◌, IfOk, length, string_byt
 ghost use Rattle.sd_acl.specs.Descriptor.{descriptor_of};
 ghost use Rattle.sd_check.specs.Check.{verdict};
 ghost use Rattle.sd_answer.specs.Word.{IsFirstNoWord, texts};
-ghost use Rattle.sd_commands.specs.Answer.{AnswersVerdict, AnswersVerdictOf, AnswersUser, AnswersMask, AnswersWords};
+ghost use Rattle.sd_commands.specs.Answer.{AnswersVerdict, AnswersUser, AnswersMask, AnswersWords};
 ghost use Rattle.sd_commands.specs.Answer.{IsWordFault, answer_of, form_text, verdict_outcome};
 
-use crate::answer::{Answer, Outcome, fault, text_fault};
+use crate::answer::{Answer, Outcome, text_fault, token_fault};
 use crate::descriptor::{Given, noting, read_argument};
 use crate::settings::Settings;
-use crate::told::{told_line, word_argument, word_reason};
+use crate::told::word_reason;
 use crate::words::{argument, arguments_from};
 use sd_acl::Descriptor;
 use sd_answer::{TokenError, read_mask_in, read_token, verdict_line, why_text};
@@ -41,21 +41,6 @@ pub(crate) fn answer_verdict(
     let user = argument(arguments, 0);
     let mask = argument(arguments, 1);
     let words = arguments_from(arguments, 2);
-    verdict_on_text(alloc, settings, form, sddl, user, mask, words)
-}
-
-fn verdict_on_text(
-    alloc: Global,
-    settings: Settings,
-    form: Form,
-    sddl: &str,
-    user: &str,
-    mask: &str,
-    words: &[&str],
-) -> Result<Answer, AllocError>
-    ensures { IfOk result (λ answer. AnswersVerdictOf settings form sddl.now user.now mask.now words.now
-        (answer_of answer)) }
-{
     let read = match read_argument(alloc, settings, "SDDL", sddl)? {
         Given::Descriptor(read) => read,
         Given::Refused(answer) => return Ok(answer),
@@ -122,11 +107,8 @@ fn verdict_with_words(
     match read_token(alloc, settings.aliases, user, words) {
         Ok(token) => {
             let verdict = check(descriptor, &settings.mapping, &token, asked);
-            Ok(Answer {
-                text: text_of(alloc, settings, form, descriptor, &token, asked)?,
-                told: String::new(alloc),
-                outcome: outcome_of(verdict),
-            })
+            let text = text_of(alloc, settings, form, descriptor, &token, asked)?;
+            Ok(Answer::of(alloc, text, outcome_of(verdict)))
         }
         Err(TokenError::NoWord { place }) => word_fault(alloc, settings, words, place),
         Err(TokenError::Memory) => Err(AllocError),
@@ -145,13 +127,8 @@ fn word_fault(
     ensures { IfOk result (λ answer. IsWordFault settings (texts words.now) (answer_of answer)) }
 {
     let word = words[place];
-    let argument = word_argument(alloc, place, word)?;
     let reason = word_reason(alloc, settings.points, settings.aliases, word)?;
-    fault(
-        alloc,
-        "token",
-        told_line(alloc, argument.as_str(), reason.as_str())?,
-    )
+    token_fault(alloc, place, word, reason.as_str())
 }
 
 /// The verdict's line, or with it the reasons.
@@ -183,8 +160,6 @@ fn outcome_of(verdict: Verdict) -> Outcome
 {
     match verdict {
         Verdict::Granted(_) => Outcome::Done,
-        Verdict::Denied { .. } => Outcome::Refused,
-        Verdict::Reserved(_) => Outcome::Refused,
-        Verdict::EmptyRequest => Outcome::Refused,
+        _ => Outcome::Refused,
     }
 }

@@ -1,20 +1,14 @@
-use Rattle.std.proofs.Common.{◌≤◌, Some, None, length, rules, tests, arith}
-use Rattle.std.specs.List.{position_or_len}
+use Rattle.std.proofs.Common.{◌∙◌, ap, length, rules, tests}
+use Rattle.std.specs.Option.{unwrap_or}
 use Rattle.std.proofs.lemmas.Iterator.{YieldsList-from_slice}
 use Rattle.std.proofs.lemmas.Iterator.Search.{position_from_yields_List}
 use Rattle.std.proofs.lemmas.List.Sums.{prefix_len-le-length}
-use Rattle.sd_commands.proofs.BytesByPart.{place_none, place_some}
 use Rattle.sd_commands.specs.Bytes.{is_between}
+use Rattle.sd_commands.proofs.BytesByPart.{place_or_end}
 use Rattle.sd_commands.proofs.loose.part_len.Goals as goal
 
-pub returns-in-Some-clause-place : goal.returns-in-Some-clause-place
-returns-in-Some-clause-place c =
-    place_some _ _ _ (position_from_yields_List is_between _ _ (Some c.in-Some.end) c.in-Some.ensures.ran (YieldsList-from_slice _ c.iter.ensures.rest) (λ x b q k. search (rules, tests)))
-
-pub returns-in-None-clause-place : goal.returns-in-None-clause-place
-returns-in-None-clause-place c =
+pub returns-clause-place : goal.returns-clause-place
+returns-clause-place c =
     let text = c.args.text.now in
-    let most : position_or_len is_between text ≤ length text = prefix_len-le-length _ text in
-    let none : length text ≤ position_or_len is_between text =
-    place_none _ _ (position_from_yields_List is_between _ _ None c.in-None.ensures.ran (YieldsList-from_slice text c.iter.ensures.rest) (λ x b q k. search (rules, tests))) in
-    omega arith
+    c.unwrap_or.ensures ∙ ap (λ end. unwrap_or end (length text)) (position_from_yields_List is_between _ _ _ c.position-end.ensures.ran
+    (YieldsList-from_slice text c.iter.ensures.rest) (λ x b q k. search (rules, tests))) ∙ place_or_end _ _ (prefix_len-le-length _ text)

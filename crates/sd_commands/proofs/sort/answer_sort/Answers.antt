@@ -1,11 +1,12 @@
-use Rattle.std.proofs.Common.{codes}
-use Rattle.sd_commands.specs.Answer.{IsSorted, answer_of}
-use Rattle.sd_commands.proofs.Texts.{answered}
+use Rattle.std.proofs.Common.{inl}
+use Rattle.sd_acl.specs.Descriptor.{descriptor_of}
+use Rattle.sd_commands.specs.Answer.{answer_of}
 use Rattle.sd_commands.proofs.sort.answer_sort.Goals as goal
 
 pub returns : goal.returns
-returns c =
-    answered (codes "SDDL") c.args.settings c.args.sddl.now
-    (IsSorted c.args.settings)
-    c.in_ok-read.field-0 c.in-Descriptor.read (answer_of c.in_ok-answer.answer) (answer_of c.in_ok-noting.field-0)
-    c.in_ok-read.ensures c.in-Descriptor.is c.in_ok-answer.ensures c.in_ok-noting.ensures
+returns c = inl (
+  descriptor_of c.in-Descriptor.read.descriptor,
+  c.in-Descriptor.read.left_out,
+  rw c.in-Descriptor.is at c.in_ok-read.ensures,
+  (answer_of c.in_ok-answer.answer, c.in_ok-noting.ensures, c.in_ok-answer.ensures),
+)

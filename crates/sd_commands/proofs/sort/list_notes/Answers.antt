@@ -1,4 +1,4 @@
-use Rattle.std.proofs.Common.{◌≡◌, ◌++◌, Some, refl, sym, ◌∙◌, ap, arith, add-one, length, slice_get}
+use Rattle.std.proofs.Common.{◌≡◌, ◌++◌, Some, refl, sym, ◌∙◌, ap, add-one, length, slice_get}
 use Rattle.std.proofs.lemmas.Option.{slice_get_read}
 use Rattle.sd_commands.specs.Sort.{note_at, notes_below}
 use Rattle.sd_commands.proofs.sort.list_notes.Goals as goal
@@ -20,8 +20,3 @@ loop-place-preserved c =
     ∙ ap (λ notes. notes_below spelling entries place ++ notes)
     (c.as_str.ensures.value ∙ c.in_ok-note.ensures ∙ ap (note_at spelling entries place) (sym stands))
     ∙ ap (notes_below spelling entries) (sym (add-one place))
-
-pub returns : goal.returns
-returns c =
-    let all : c.loop-place.place ≡ length c.args.entries.now = omega (arith, c.loop-place-test.false, c.loop-place.auto.place-end) in
-    c.loop-place.invariant ∙ ap (notes_below c.args.spelling c.args.entries.now) all
