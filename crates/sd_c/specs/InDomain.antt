@@ -26,12 +26,9 @@ IsOfNoDomain bytes =
 
 -- bytes are refused: they start with no SID, or with none of a domain
 abbrev pub RefusesDomain : List ℕ → Refusal → Type 0
-RefusesDomain bytes Memory = ⊥
-RefusesDomain bytes (Utf8 place) = ⊥
-RefusesDomain bytes (Text fault place) = ⊥
-RefusesDomain bytes (Wire fault) = ⊥
 RefusesDomain bytes (Sid fault) = sid_reading bytes ≡ Err fault
 RefusesDomain bytes NoDomain = IsOfNoDomain bytes
+RefusesDomain bytes _ = ⊥
 
 -- the domain's bytes are refused, or the text that is parsed in it
 abbrev pub RefusesIn : {A : Type 0} → (Aliases → Grammar A) → List ℕ → List ℕ → Refusal → Type 0

@@ -68,10 +68,9 @@ Asks view path token asked told =
 -- ---- lengths
 
 abbrev pub length_in : Kept → Written
-length_in (kinds.Descriptor d) = not_written 11 0 0
-length_in (kinds.Token t) = not_written 11 0 0
 length_in (kinds.Store s) = length_told (length (accepted s.value))
 length_in (kinds.View v) = length_told (length v.journal)
+length_in _ = not_written 11 0 0
 
 abbrev pub TellsLength : Handle → Written → Type 0
 TellsLength handle told =
