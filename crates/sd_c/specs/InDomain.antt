@@ -12,7 +12,7 @@ use Rattle.sd_text.specs.declared.alias.Aliases.{Aliases}
 use Rattle.sd_text.specs.declared.domain.Domain.{Domain}
 use Rattle.sd_wire.specs.Writing.{wire_of}
 use Rattle.sd_c.specs.declared.refusal.Refusal.{Refusal}
-use Rattle.sd_c.specs.declared.refusal.Refusal.TheVariants.{Memory, Utf8, Text, Wire, Sid, NoDomain}
+use Rattle.sd_c.specs.declared.refusal.Refusal.TheVariants.{Sid, NoDomain}
 use Rattle.sd_c.specs.Written.{RefusesText}
 
 -- the domain's SID is at the front of the bytes

@@ -8,7 +8,7 @@ use Rattle.sd_wire.specs.Writing.{wire_of}
 use Rattle.sd_wire.specs.declared.fault.WireFault.{WireFault}
 use Rattle.sd_wire.specs.declared.fault.WireFault.TheVariants.{Short}
 use Rattle.sd_c.specs.declared.refusal.Refusal.{Refusal}
-use Rattle.sd_c.specs.declared.refusal.Refusal.TheVariants.{Memory, Utf8, Text, Wire, Sid, NoDomain}
+use Rattle.sd_c.specs.declared.refusal.Refusal.TheVariants.{Memory, Wire}
 use Rattle.sd_c.specs.declared.trim.Trimmed.{Trimmed}
 use Rattle.sd_c.specs.Written.{Writes, refused}
 
