@@ -1,10 +1,8 @@
 -- Reading groups one after the other, as a loop does.
-use Rattle.std.proofs.Common.{◌≡◌, ℕ, suc, ◌-◌, ◌+◌, ◌≤◌, ◌<◌, List, [], ◌∷◌, ◌++◌, length, drop, slice_index, Result, Ok, Err, refl, sym, ap, ◌∙◌, append_assoc, arith}
-use Rattle.std.proofs.lemmas.List.{append-nil}
+use Rattle.std.proofs.Common.{◌≡◌, ℕ, suc, ◌-◌, ◌+◌, ◌<◌, List, [], ◌∷◌, ◌++◌, drop, slice_index, Result, Ok, Err, refl, sym, ap, ◌∙◌, append_assoc, arith}
 use Rattle.sd_sid.specs.Sid.{SidValue}
 use Rattle.sd_check.specs.declared.token.GroupState.{GroupState}
 use Rattle.sd_c.specs.declared.stop.NotRead.{NotRead}
-use Rattle.sd_c.specs.declared.stop.NotRead.TheVariants.{BehindGroups}
 use Rattle.sd_c.specs.Request.{◌>>=◌, group_read, groups_read}
 
 -- what was read before, and what is still read
@@ -31,22 +29,4 @@ unfolding groups_read
 ends rest states count k front why total lt h so_far =
     let left : count - k ≡ suc (count - (k + 1)) = omega arith in
     let one : behind front (groups_read rest states k (count - k)) ≡ Err why = rw (left, h) refl in
-    sym so_far ∙ one
-
--- behind the last group nothing stands
-pub is_done : (rest : List ℕ) (states : List ℕ) (count k : ℕ) (front : List (SidValue × GroupState)) (total : Result (List (SidValue × GroupState)) NotRead)
-    → count ≤ k → length rest ≡ 0 → behind front (groups_read rest states k (count - k)) ≡ total → total ≡ Ok front
-unfolding groups_read
-is_done rest states count k front total le empty so_far =
-    let left : count - k ≡ 0 = omega arith in
-    let one : behind front (groups_read rest states k (count - k)) ≡ Ok front = rw (left, empty) (ap (λ (x : List (SidValue × GroupState)). Ok x) (append-nil front)) in
-    sym so_far ∙ one
-
--- or something does
-pub has_more : (rest : List ℕ) (states : List ℕ) (count k : ℕ) (front : List (SidValue × GroupState)) (total : Result (List (SidValue × GroupState)) NotRead)
-    → count ≤ k → 0 < length rest → behind front (groups_read rest states k (count - k)) ≡ total → total ≡ Err (BehindGroups k)
-unfolding groups_read
-has_more rest states count k front total le some so_far =
-    let left : count - k ≡ 0 = omega arith in
-    let one : behind front (groups_read rest states k (count - k)) ≡ Err (BehindGroups k) = rw left (search (arith)) in
     sym so_far ∙ one

@@ -1,5 +1,5 @@
 -- Reading restricting SIDs one after the other, as a loop does.
-use Rattle.std.proofs.Common.{◌≡◌, ℕ, suc, ◌-◌, ◌+◌, ◌≤◌, ◌<◌, ◌==◌, true, false, List, [], ◌∷◌, ◌++◌, length, drop, Result, Ok, Err, refl, sym, ap, ◌∙◌, arith}
+use Rattle.std.proofs.Common.{◌≡◌, ℕ, suc, ◌-◌, ◌+◌, ◌<◌, ◌==◌, true, false, List, [], ◌∷◌, ◌++◌, length, drop, Result, Ok, Err, refl, sym, ap, ◌∙◌, arith}
 use Rattle.std.proofs.lemmas.List.{append-nil}
 use Rattle.sd_sid.specs.Sid.{SidValue}
 use Rattle.sd_sid.specs.SidBytes.{sid_reading}
@@ -33,13 +33,4 @@ unfolding sids_read
 at_the_end rest count k front total lt none so_far =
     let left : count - k ≡ suc (count - (k + 1)) = omega arith in
     let one : behind front (sids_read rest k (count - k)) ≡ Ok front = rw (left, none) (ap (λ (x : List SidValue). Ok x) (append-nil front)) in
-    sym so_far ∙ one
-
--- nor behind as many as there are bytes
-pub at_the_last : (rest : List ℕ) (count k : ℕ) (front : List SidValue) (total : Result (List SidValue) NotRead)
-    → count ≤ k → behind front (sids_read rest k (count - k)) ≡ total → total ≡ Ok front
-unfolding sids_read
-at_the_last rest count k front total le so_far =
-    let left : count - k ≡ 0 = omega arith in
-    let one : behind front (sids_read rest k (count - k)) ≡ Ok front = rw left (ap (λ (x : List SidValue). Ok x) (append-nil front)) in
     sym so_far ∙ one

@@ -13,7 +13,7 @@ use Rattle.sd_review.specs.Parts.{parts_in}
 use Rattle.sd_review.specs.Review.{Trees}
 use Rattle.sd_review.specs.declared.compared.Compared.{Compared}
 use Rattle.sd_c.specs.Analysis.{bits_of}
-use Rattle.sd_c.specs.Review.{AreChanges, AreChangesOf, AreNone, published_at}
+use Rattle.sd_c.specs.Review.{AreChanges, AreChangesOf, published_at}
 use Rattle.sd_c.specs.declared.review.Changes.{Changes}
 
 pub changes_of_both : (g : MappingValue) (x y : Option DescriptorValue) (c : Compared) (changes : Changes) → IsOfBoth g x y (Some c)
@@ -24,12 +24,6 @@ changes_of_both g (Some a) (Some b) c changes of is =
     subst (λ (p : Parts). AreChanges g (parts_in a) p changes) of.1
     (subst (λ (p : Parts). AreChanges g p (parts_in (descriptor_of c.after)) changes) of.0
     (is (right_one g (parts_in a) (parts_in b) c of)))
-
-pub changes_of_none : (g : MappingValue) (x y : Option DescriptorValue) (changes : Changes) → IsOfBoth g x y None → AreNone changes
-    → AreChangesOf g x y changes
-changes_of_none g None y changes of is = is
-changes_of_none g (Some a) None changes of is = is
-changes_of_none g (Some a) (Some b) changes of is = absurd of
 
 -- the lines and the bits are those of what was compared
 pub are_changes : (g : MappingValue) (c : Compared) (changes : Changes) → IsRight g c

@@ -25,10 +25,10 @@ use Rattle.sd_c.specs.declared.stop.NotRead.{NotRead}
 use Rattle.sd_c.specs.declared.stop.NotRead.TheVariants.{DescriptorHandle, NewHandle}
 use Rattle.sd_c.specs.declared.stop.Stop.{Stop}
 use Rattle.sd_c.specs.declared.stop.Stop.TheVariants as stops
-use Rattle.sd_c.specs.Answer.{check_memory, not_read}
+use Rattle.sd_c.specs.Answer.{unwritten, why_not}
 use Rattle.sd_c.specs.Kept.{descriptor_in, is_kept}
 use Rattle.sd_c.specs.Request.{◌>>=◌, Fails, groups_read, mapping_read}
-use Rattle.sd_c.specs.Written.{Writes, not_written}
+use Rattle.sd_c.specs.Written.{Writes}
 
 -- ---- the arguments, from the left
 
@@ -72,10 +72,6 @@ Stops kept groups states mapping stop =
     Fails stop (asked_over kept groups states mapping)
     × (stop ≡ stops.Memory → IsOk kept × ((0 < length states) ⊎ IsOk (asked_over kept groups states mapping)))
 
-abbrev pub why_not : Stop → CheckAnswer
-why_not (stops.NotRead why) = not_read why
-why_not stops.Memory = check_memory
-
 -- ---- who
 
 -- the lines of accesses that say exactly who is granted each right once, of the tokens with the base
@@ -94,7 +90,7 @@ IsWhoOf kept groups states mapping asked printed =
     × IsWhoText d base asked printed
 
 abbrev pub no_accesses : CheckAnswer → WhoAnswer
-no_accesses told = record { written = not_written told.status told.fault told.place; argument = told.argument }
+no_accesses told = record { written = unwritten told; argument = told.argument }
 
 -- the lines are written, or the buffer is too small for them; or nothing is, for a reason that holds
 abbrev pub AnswersWho : Result DescriptorValue NotRead → List ℕ → List ℕ → Mapping → ℕ → List ℕ → List ℕ → WhoAnswer
@@ -129,13 +125,7 @@ IsCompareOf kept groups states mapping printed gained lost =
     × IsCompareText ds.0 ds.1 base printed gained lost
 
 abbrev pub no_comparison : CheckAnswer → CompareAnswer
-no_comparison told =
-    record {
-      written = not_written told.status told.fault told.place;
-      argument = told.argument;
-      gained = 0;
-      lost = 0;
-    }
+no_comparison told = record { written = unwritten told; argument = told.argument; gained = 0; lost = 0 }
 
 abbrev pub AnswersCompare :
     Result (DescriptorValue × DescriptorValue) NotRead → List ℕ → List ℕ → Mapping → List ℕ → List ℕ → CompareAnswer

@@ -5,10 +5,13 @@ use Rattle.sd_wire.specs.Fault.{wire_fault_number}
 use Rattle.sd_check.specs.declared.verdict.Verdict.{Verdict}
 use Rattle.sd_check.specs.declared.verdict.Verdict.TheVariants.{Granted, Denied, Reserved, EmptyRequest}
 use Rattle.sd_c.specs.declared.answer.CheckAnswer.{CheckAnswer}
+use Rattle.sd_c.specs.declared.answer.Written.{Written}
 use Rattle.sd_c.specs.declared.stop.NotRead.{NotRead}
 use Rattle.sd_c.specs.declared.stop.NotRead.TheVariants.{Descriptor, User, Group, BehindGroups, State, Restricting}
 use Rattle.sd_c.specs.declared.stop.NotRead.TheVariants.{PrivilegeBits, MappingBits, DescriptorHandle, TokenHandle}
 use Rattle.sd_c.specs.declared.stop.NotRead.TheVariants.{NewHandle}
+use Rattle.sd_c.specs.declared.stop.Stop.{Stop}
+use Rattle.sd_c.specs.declared.stop.Stop.TheVariants as stops
 use Rattle.sd_c.specs.Request.{RequestValue, verdict_of}
 
 -- ---- a check
@@ -27,6 +30,10 @@ abbrev pub unread : ℕ → ℕ → ℕ → ℕ → CheckAnswer
 unread status argument fault place =
     record { status = status; argument = argument; fault = fault; kind = 0; place = place; mask = 0 }
 
+-- the same reason, of a call that writes nothing
+abbrev pub unwritten : CheckAnswer → Written
+unwritten told = record { status = told.status; fault = told.fault; place = told.place; length = 0 }
+
 abbrev pub not_read : NotRead → CheckAnswer
 not_read (Descriptor fault) = unread 5 1 (wire_fault_number fault) 0
 not_read (User fault) = unread 6 2 (sid_error_number fault) 0
@@ -43,6 +50,11 @@ not_read NewHandle = unread 11 14 0 0
 -- out of memory
 abbrev pub check_memory : CheckAnswer
 check_memory = unread 1 0 0 0
+
+-- why a check stops
+abbrev pub why_not : Stop → CheckAnswer
+why_not (stops.NotRead why) = not_read why
+why_not stops.Memory = check_memory
 
 -- the verdict on the parsed arguments, or which one is invalid
 abbrev pub check_answer : Result RequestValue NotRead → ℕ → CheckAnswer

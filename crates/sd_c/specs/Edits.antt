@@ -75,83 +75,30 @@ IsNoKind kind value = (kind ≡ 0) ⊎ (8 < kind) ⊎ (((kind ≡ 6) ⊎ (kind �
 -- take none
 abbrev pub IsNoPath : PathArgument → List ℕ → NotDone → Type 0
 IsNoPath given bytes reasons.Memory = IsOkAnd (path_of bytes) (λ path. is_root path ≡ false)
-IsNoPath given bytes reasons.StoreHandle = ⊥
-IsNoPath given bytes reasons.ViewHandle = ⊥
-IsNoPath given bytes reasons.TokenHandle = ⊥
-IsNoPath given bytes reasons.MappingBits = ⊥
-IsNoPath given bytes (reasons.Limits fault) = ⊥
-IsNoPath given bytes reasons.EditKind = ⊥
 IsNoPath given bytes (reasons.Utf8 argument place) = (argument ≡ given) × IsNotUtf8 bytes place
 IsNoPath given bytes (reasons.Path argument fault) = (argument ≡ given) × (path_of bytes ≡ Err fault)
-IsNoPath given bytes (reasons.Descriptor fault) = ⊥
-IsNoPath given bytes reasons.Parts = ⊥
-IsNoPath given bytes (reasons.Sid fault) = ⊥
-IsNoPath given bytes (reasons.Refused refusal) = ⊥
-IsNoPath given bytes reasons.NoNode = ⊥
+IsNoPath given bytes _ = ⊥
 
 abbrev pub IsNoSid : List ℕ → NotDone → Type 0
-IsNoSid bytes reasons.Memory = ⊥
-IsNoSid bytes reasons.StoreHandle = ⊥
-IsNoSid bytes reasons.ViewHandle = ⊥
-IsNoSid bytes reasons.TokenHandle = ⊥
-IsNoSid bytes reasons.MappingBits = ⊥
-IsNoSid bytes (reasons.Limits fault) = ⊥
-IsNoSid bytes reasons.EditKind = ⊥
-IsNoSid bytes (reasons.Utf8 argument place) = ⊥
-IsNoSid bytes (reasons.Path argument fault) = ⊥
-IsNoSid bytes (reasons.Descriptor fault) = ⊥
-IsNoSid bytes reasons.Parts = ⊥
 IsNoSid bytes (reasons.Sid fault) = sid_reading bytes ≡ Err fault
-IsNoSid bytes (reasons.Refused refusal) = ⊥
-IsNoSid bytes reasons.NoNode = ⊥
+IsNoSid bytes _ = ⊥
 
 abbrev pub IsNoDescriptor : List ℕ → NotDone → Type 0
 IsNoDescriptor bytes reasons.Memory = TakesMemory bytes
-IsNoDescriptor bytes reasons.StoreHandle = ⊥
-IsNoDescriptor bytes reasons.ViewHandle = ⊥
-IsNoDescriptor bytes reasons.TokenHandle = ⊥
-IsNoDescriptor bytes reasons.MappingBits = ⊥
-IsNoDescriptor bytes (reasons.Limits fault) = ⊥
-IsNoDescriptor bytes reasons.EditKind = ⊥
-IsNoDescriptor bytes (reasons.Utf8 argument place) = ⊥
-IsNoDescriptor bytes (reasons.Path argument fault) = ⊥
 IsNoDescriptor bytes (reasons.Descriptor fault) = descriptor_read bytes ≡ Err fault
-IsNoDescriptor bytes reasons.Parts = ⊥
-IsNoDescriptor bytes (reasons.Sid fault) = ⊥
-IsNoDescriptor bytes (reasons.Refused refusal) = ⊥
-IsNoDescriptor bytes reasons.NoNode = ⊥
+IsNoDescriptor bytes _ = ⊥
 
 abbrev pub IsNoNode : List ℕ → NotDone → Type 0
 IsNoNode bytes reasons.Memory = TakesMemory bytes ⊎ HasNode bytes
-IsNoNode bytes reasons.StoreHandle = ⊥
-IsNoNode bytes reasons.ViewHandle = ⊥
-IsNoNode bytes reasons.TokenHandle = ⊥
-IsNoNode bytes reasons.MappingBits = ⊥
-IsNoNode bytes (reasons.Limits fault) = ⊥
-IsNoNode bytes reasons.EditKind = ⊥
-IsNoNode bytes (reasons.Utf8 argument place) = ⊥
-IsNoNode bytes (reasons.Path argument fault) = ⊥
 IsNoNode bytes (reasons.Descriptor fault) = descriptor_read bytes ≡ Err fault
 IsNoNode bytes reasons.Parts = LacksTrustee bytes
-IsNoNode bytes (reasons.Sid fault) = ⊥
-IsNoNode bytes (reasons.Refused refusal) = ⊥
-IsNoNode bytes reasons.NoNode = ⊥
+IsNoNode bytes _ = ⊥
 
 abbrev pub IsNoDacl : List ℕ → NotDone → Type 0
 IsNoDacl bytes reasons.Memory = TakesMemory bytes ⊎ ((dacl : NodeDacl) × IsDacl bytes dacl)
-IsNoDacl bytes reasons.StoreHandle = ⊥
-IsNoDacl bytes reasons.ViewHandle = ⊥
-IsNoDacl bytes reasons.TokenHandle = ⊥
-IsNoDacl bytes reasons.MappingBits = ⊥
-IsNoDacl bytes (reasons.Limits fault) = ⊥
-IsNoDacl bytes reasons.EditKind = ⊥
-IsNoDacl bytes (reasons.Utf8 argument place) = ⊥
-IsNoDacl bytes (reasons.Path argument fault) = ⊥
 IsNoDacl bytes (reasons.Descriptor fault) = descriptor_read bytes ≡ Err fault
 IsNoDacl bytes reasons.Parts = HasTrustee bytes
-IsNoDacl bytes (reasons.Sid fault) = ⊥
-IsNoDacl bytes (reasons.Refused refusal) = ⊥
-IsNoDacl bytes reasons.NoNode = ⊥
+IsNoDacl bytes _ = ⊥
 
 -- why the value is invalid, by the kind of edit
 abbrev pub IsNoValue : ℕ → List ℕ → NotDone → Type 0

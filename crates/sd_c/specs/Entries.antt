@@ -28,9 +28,8 @@ use Rattle.sd_c.specs.Written.{Writes, not_written}
 -- ---- the parts
 
 abbrev pub entry_at : ℕ → Dacl → Option Ace
-entry_at index dacls.Absent = None
-entry_at index dacls.Null = None
 entry_at index (dacls.List entries) = slice_get entries index
+entry_at index _ = None
 
 abbrev pub entry_in : ℕ → DescriptorValue → Option Ace
 entry_in index d = entry_at index d.dacl
@@ -109,9 +108,8 @@ dacl_kind dacls.Null = 2
 dacl_kind (dacls.List entries) = 3
 
 abbrev pub entry_count : Dacl → ℕ
-entry_count dacls.Absent = 0
-entry_count dacls.Null = 0
 entry_count (dacls.List entries) = length entries
+entry_count _ = 0
 
 abbrev pub dacl_answer : DescriptorValue → DaclAnswer
 dacl_answer d = record { status = 0; kind = dacl_kind d.dacl; control = control_of d; entries = entry_count d.dacl }
@@ -121,9 +119,7 @@ no_dacl = record { status = 11; kind = 0; control = 0; entries = 0 }
 
 abbrev pub dacl_in : Kept → DaclAnswer
 dacl_in (kinds.Descriptor d) = dacl_answer (descriptor_of (arc_value d))
-dacl_in (kinds.Token t) = no_dacl
-dacl_in (kinds.Store s) = no_dacl
-dacl_in (kinds.View v) = no_dacl
+dacl_in _ = no_dacl
 
 abbrev pub ReturnsDacl : Handle → DaclAnswer → Type 0
 ReturnsDacl handle answer =

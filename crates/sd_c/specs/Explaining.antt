@@ -31,15 +31,9 @@ no_pass = record { entry = 0; kind = 0 }
 
 -- what each of the two passes found, where the list is the cause
 abbrev pub findings_of : Cause → FindingAnswer × FindingAnswer
-findings_of NoList = (no_pass, no_pass)
 findings_of (Listed finding) = (finding_told finding, no_pass)
 findings_of (Restricted first second) = (finding_told first, finding_told second)
-findings_of Owner = (no_pass, no_pass)
-findings_of TakeOwnership = (no_pass, no_pass)
-findings_of Security = (no_pass, no_pass)
-findings_of NoSecurity = (no_pass, no_pass)
-findings_of BeyondAll = (no_pass, no_pass)
-findings_of Reserved = (no_pass, no_pass)
+findings_of _ = (no_pass, no_pass)
 
 abbrev pub cause_number : Cause → ℕ
 cause_number NoList = 1

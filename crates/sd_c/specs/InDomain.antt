@@ -12,7 +12,7 @@ use Rattle.sd_text.specs.declared.alias.Aliases.{Aliases}
 use Rattle.sd_text.specs.declared.domain.Domain.{Domain}
 use Rattle.sd_wire.specs.Writing.{wire_of}
 use Rattle.sd_c.specs.declared.refusal.Refusal.{Refusal}
-use Rattle.sd_c.specs.declared.refusal.Refusal.TheVariants.{Memory, Utf8, Text, Wire, Sid, NoDomain}
+use Rattle.sd_c.specs.declared.refusal.Refusal.TheVariants.{Sid, NoDomain}
 use Rattle.sd_c.specs.Written.{RefusesText}
 
 -- the domain's SID is at the front of the bytes
@@ -26,12 +26,9 @@ IsOfNoDomain bytes =
 
 -- bytes are refused: they start with no SID, or with none of a domain
 abbrev pub RefusesDomain : List ℕ → Refusal → Type 0
-RefusesDomain bytes Memory = ⊥
-RefusesDomain bytes (Utf8 place) = ⊥
-RefusesDomain bytes (Text fault place) = ⊥
-RefusesDomain bytes (Wire fault) = ⊥
 RefusesDomain bytes (Sid fault) = sid_reading bytes ≡ Err fault
 RefusesDomain bytes NoDomain = IsOfNoDomain bytes
+RefusesDomain bytes _ = ⊥
 
 -- the domain's bytes are refused, or the text that is parsed in it
 abbrev pub RefusesIn : {A : Type 0} → (Aliases → Grammar A) → List ℕ → List ℕ → Refusal → Type 0

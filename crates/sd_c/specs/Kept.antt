@@ -28,29 +28,21 @@ is_kept is_there why = if is_there == 0 then Err why else Ok tt
 
 abbrev pub descriptor_in : Kept → Result DescriptorValue NotRead
 descriptor_in (kinds.Descriptor d) = Ok (descriptor_of (arc_value d))
-descriptor_in (kinds.Token t) = Err DescriptorHandle
-descriptor_in (kinds.Store s) = Err DescriptorHandle
-descriptor_in (kinds.View v) = Err DescriptorHandle
+descriptor_in _ = Err DescriptorHandle
 
 abbrev pub token_in : Kept → Result TokenValue NotRead
-token_in (kinds.Descriptor d) = Err TokenHandle
 token_in (kinds.Token t) = Ok (arc_value t)
-token_in (kinds.Store s) = Err TokenHandle
-token_in (kinds.View v) = Err TokenHandle
+token_in _ = Err TokenHandle
 
 -- of a store its published edits and those that are pending
 abbrev pub store_in : Kept → Option VersionsValue
-store_in (kinds.Descriptor d) = None
-store_in (kinds.Token t) = None
 store_in (kinds.Store s) = Some s.value
-store_in (kinds.View v) = None
+store_in _ = None
 
 -- of a view the tree as it was published
 abbrev pub view_in : Kept → Option History
-view_in (kinds.Descriptor d) = None
-view_in (kinds.Token t) = None
-view_in (kinds.Store s) = None
 view_in (kinds.View v) = Some (history_of v)
+view_in _ = None
 
 -- the request of a kept descriptor and a kept token
 unfoldable pub asked_of : Kept → Kept → Mapping → Result RequestValue NotRead

@@ -5,7 +5,7 @@ use Rattle.sd_sid.specs.Sid.{SidValue}
 use Rattle.sd_sid.specs.SidBytes.{u32_at}
 use Rattle.sd_acl.specs.Descriptor.{DescriptorValue, IsDescriptor}
 use Rattle.sd_acl.specs.Dacl.{Dacl}
-use Rattle.sd_acl.specs.declared.descriptor.DaclOf.TheVariants.{Absent, Null, List as Entries}
+use Rattle.sd_acl.specs.declared.descriptor.DaclOf.TheVariants.{List as Entries}
 use Rattle.sd_wire.specs.Reading.{u16_at, descriptor_read}
 use Rattle.sd_c.specs.declared.answer.Written.{Written}
 use Rattle.sd_c.specs.declared.refusal.Refusal.{Refusal}
@@ -18,15 +18,13 @@ trustee_end o (Some s) = o + (8 + 4 * length s.subs)
 
 -- the end of the list at the offset, by its AclSize; of none, the header's end
 abbrev pub dacl_end : List ℕ → ℕ → Dacl → ℕ
-dacl_end bytes o Absent = 20
-dacl_end bytes o Null = 20
 dacl_end bytes o (Entries es) = o + u16_at bytes (o + 2)
+dacl_end bytes o _ = 20
 
 -- where there is a list, the bytes have the front of its header
 abbrev pub HasListRoom : List ℕ → ℕ → Dacl → Type 0
-HasListRoom bytes o Absent = Unit {0}
-HasListRoom bytes o Null = Unit {0}
 HasListRoom bytes o (Entries es) = o + 4 ≤ length bytes
+HasListRoom bytes o _ = Unit {0}
 
 -- the end of the last part
 abbrev pub descriptor_end : List ℕ → DescriptorValue → ℕ

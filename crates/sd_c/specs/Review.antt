@@ -46,8 +46,7 @@ AreNone changes = (string_bytes changes.lines ≡ []) × (changes.gained ≡ 0) 
 
 abbrev pub AreChangesOf : MappingValue → Option DescriptorValue → Option DescriptorValue → Changes → Type 0
 AreChangesOf g (Some old) (Some new) changes = AreChanges g (parts_in old) (parts_in new) changes
-AreChangesOf g None new changes = AreNone changes
-AreChangesOf g (Some old) None changes = AreNone changes
+AreChangesOf g _ _ changes = AreNone changes
 
 -- of the node at a path, beside the node at a path of the published tree
 abbrev pub AreChangesAt : Trees → Names → Names → Changes → Type 0

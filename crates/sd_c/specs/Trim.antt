@@ -8,7 +8,7 @@ use Rattle.sd_wire.specs.Writing.{wire_of}
 use Rattle.sd_wire.specs.declared.fault.WireFault.{WireFault}
 use Rattle.sd_wire.specs.declared.fault.WireFault.TheVariants.{Short}
 use Rattle.sd_c.specs.declared.refusal.Refusal.{Refusal}
-use Rattle.sd_c.specs.declared.refusal.Refusal.TheVariants.{Memory, Utf8, Text, Wire, Sid, NoDomain}
+use Rattle.sd_c.specs.declared.refusal.Refusal.TheVariants.{Memory, Wire}
 use Rattle.sd_c.specs.declared.trim.Trimmed.{Trimmed}
 use Rattle.sd_c.specs.Written.{Writes, refused}
 
@@ -45,11 +45,8 @@ IsFormIn blob place leaves bytes = (d : DescriptorValue) × (read_in blob place 
 
 abbrev pub RefusesBlob : List ℕ → ℕ → Bool → Refusal → Type 0
 RefusesBlob blob place leaves Memory = Unit {0}
-RefusesBlob blob place leaves (Utf8 at) = ⊥
-RefusesBlob blob place leaves (Text fault at) = ⊥
 RefusesBlob blob place leaves (Wire fault) = read_in blob place leaves ≡ Err fault
-RefusesBlob blob place leaves (Sid fault) = ⊥
-RefusesBlob blob place leaves NoDomain = ⊥
+RefusesBlob blob place leaves _ = ⊥
 
 -- the form is written and what it leaves out returned, or the call refuses for a reason that holds, and writes nothing
 abbrev pub Trims : List ℕ → ℕ → ℕ → List ℕ → List ℕ → Trimmed → Type 0

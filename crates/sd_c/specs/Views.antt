@@ -21,7 +21,7 @@ use Rattle.sd_c.specs.declared.not_done.NotDone.TheVariants as reasons
 use Rattle.sd_c.specs.declared.not_done.PathArgument.TheVariants as arguments
 use Rattle.sd_c.specs.declared.stop.NotRead.TheVariants.{TokenHandle}
 use Rattle.sd_c.specs.declared.views.ViewAnswer.{ViewAnswer}
-use Rattle.sd_c.specs.Answer.{verdict_given}
+use Rattle.sd_c.specs.Answer.{unwritten, verdict_given}
 use Rattle.sd_c.specs.Edits.{IsNoPath}
 use Rattle.sd_c.specs.Kept.{token_in, view_in}
 use Rattle.sd_c.specs.Length.{length_told}
@@ -68,10 +68,9 @@ Asks view path token asked told =
 -- ---- lengths
 
 abbrev pub length_in : Kept → Written
-length_in (kinds.Descriptor d) = not_written 11 0 0
-length_in (kinds.Token t) = not_written 11 0 0
 length_in (kinds.Store s) = length_told (length (accepted s.value))
 length_in (kinds.View v) = length_told (length v.journal)
+length_in _ = not_written 11 0 0
 
 abbrev pub TellsLength : Handle → Written → Type 0
 TellsLength handle told =
@@ -104,8 +103,7 @@ IsNoFormAt view path why =
     × IsNotFound (descriptor_at h.opening.mapping (replay h.opening h.journal) names) why)
 
 abbrev pub not_told : NotDone → Written
-not_told why =
-    record { status = (not_done why).status; fault = (not_done why).fault; place = (not_done why).place; length = 0 }
+not_told why = unwritten (not_done why)
 
 abbrev pub WritesNode : Handle → List ℕ → List ℕ → List ℕ → Written → Type 0
 WritesNode view path old new told =

@@ -74,27 +74,19 @@ abbrev pub RefusesText : {A : Type 0} → Grammar A → List ℕ → Refusal →
 RefusesText grammar text Memory = Unit {0}
 RefusesText grammar text (Utf8 place) = IsNotUtf8 text place
 RefusesText grammar text (Text fault place) = HasFault grammar text fault place
-RefusesText grammar text (Wire fault) = ⊥
-RefusesText grammar text (Sid fault) = ⊥
-RefusesText grammar text NoDomain = ⊥
+RefusesText grammar text _ = ⊥
 
 -- bytes are refused: they hold no descriptor
 abbrev pub RefusesBytes : List ℕ → Refusal → Type 0
 RefusesBytes bytes Memory = Unit {0}
-RefusesBytes bytes (Utf8 place) = ⊥
-RefusesBytes bytes (Text fault place) = ⊥
 RefusesBytes bytes (Wire fault) = descriptor_read bytes ≡ Err fault
-RefusesBytes bytes (Sid fault) = ⊥
-RefusesBytes bytes NoDomain = ⊥
+RefusesBytes bytes _ = ⊥
 
 -- bytes are refused: they don't start with a SID
 abbrev pub RefusesSid : List ℕ → Refusal → Type 0
 RefusesSid bytes Memory = Unit {0}
-RefusesSid bytes (Utf8 place) = ⊥
-RefusesSid bytes (Text fault place) = ⊥
-RefusesSid bytes (Wire fault) = ⊥
 RefusesSid bytes (Sid fault) = sid_reading bytes ≡ Err fault
-RefusesSid bytes NoDomain = ⊥
+RefusesSid bytes _ = ⊥
 
 -- the reason for an error of a text
 abbrev pub text_refusal : TextError → Refusal
@@ -138,12 +130,9 @@ no_mask why =
 
 -- the text of a mask is refused, never out of memory
 abbrev pub RefusesMask : List ℕ → Refusal → Type 0
-RefusesMask text Memory = ⊥
 RefusesMask text (Utf8 place) = IsNotUtf8 text place
 RefusesMask text (Text fault place) = HasFault mask_text text fault place
-RefusesMask text (Wire fault) = ⊥
-RefusesMask text (Sid fault) = ⊥
-RefusesMask text NoDomain = ⊥
+RefusesMask text _ = ⊥
 
 -- the mask that the text spells, or a reason that holds
 abbrev pub AnswersMask : List ℕ → MaskAnswer → Type 0
@@ -157,9 +146,4 @@ IsNamesOf mask names = names ≡ mask_names mask
 
 -- nothing is refused, except out of memory
 abbrev pub RefusesMemory : Refusal → Type 0
-RefusesMemory Memory = Unit {0}
-RefusesMemory (Utf8 place) = ⊥
-RefusesMemory (Text fault place) = ⊥
-RefusesMemory (Wire fault) = ⊥
-RefusesMemory (Sid fault) = ⊥
-RefusesMemory NoDomain = ⊥
+RefusesMemory why = why ≡ Memory

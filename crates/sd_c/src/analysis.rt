@@ -4,10 +4,9 @@ ghost use Rattle.std.specs.Prelude.{◌≡◌, IfErr, IfOk, string_bytes};
 ghost use Rattle.sd_acl.specs.Descriptor.{descriptor_of as descriptor_value};
 ghost use Rattle.sd_c.specs.Analysis.{AnswersCompare, AnswersWho, IsCompareOf, IsCompareText, IsWhoOf, IsWhoText};
 ghost use Rattle.sd_c.specs.Analysis.{Stops, bits_of, both_kept, descriptors_in, kept_in, no_accesses, no_comparison};
-ghost use Rattle.sd_c.specs.Analysis.{why_not};
 ghost use Rattle.sd_c.specs.Kept.{Stays, descriptor_in};
 
-use crate::answer::{CheckAnswer, MEMORY, Written, not_read, not_written, unread, write};
+use crate::answer::{CheckAnswer, Written, not_read, unwritten, why_not, write};
 use crate::handle::{Handle, Kept};
 use crate::mapping::Mapping;
 use crate::request::{groups_of, mapping_of};
@@ -131,26 +130,6 @@ fn no_comparison(told: CheckAnswer) -> CompareAnswer
         argument: told.argument,
         gained: 0,
         lost: 0,
-    }
-}
-
-fn unwritten(told: CheckAnswer) -> Written
-    ensures { result ≡ record { status = told.status; fault = told.fault; place = told.place; length = 0 } }
-{
-    Written {
-        status: told.status,
-        fault: told.fault,
-        place: told.place,
-        length: 0,
-    }
-}
-
-fn why_not(stop: Stop) -> CheckAnswer
-    ensures { result ≡ why_not stop }
-{
-    match stop {
-        Stop::NotRead(why) => not_read(why),
-        Stop::Memory => unread(MEMORY, 0, 0, 0),
     }
 }
 

@@ -1,12 +1,12 @@
 //! The answers of the calls, as C takes them: by value, and as numbers.
 
 ghost use Rattle.std.specs.Prelude.{◌≡◌};
-ghost use Rattle.sd_c.specs.Answer.{given, verdict_given, unread, not_read};
+ghost use Rattle.sd_c.specs.Answer.{given, verdict_given, unread, not_read, unwritten, why_not};
 ghost use Rattle.sd_c.specs.Length.{length_told};
 ghost use Rattle.sd_c.specs.Written.{Writes, mask_given, no_mask, not_written, refused};
 
 use crate::refusal::Refusal;
-use crate::stop::NotRead;
+use crate::stop::{NotRead, Stop};
 use sd_check::Verdict;
 use sd_sid::Mask;
 
@@ -125,6 +125,16 @@ pub(crate) fn not_read(why: NotRead) -> CheckAnswer
     }
 }
 
+/// The answer that says why a check stops.
+pub(crate) fn why_not(stop: Stop) -> CheckAnswer
+    ensures { result ≡ why_not stop }
+{
+    match stop {
+        Stop::NotRead(why) => not_read(why),
+        Stop::Memory => unread(MEMORY, 0, 0, 0),
+    }
+}
+
 /// The answer of a call that writes.
 #[repr(C)]
 #[derive(Clone, Copy, Debug, PartialEq, Eq)]
@@ -177,6 +187,18 @@ pub(crate) fn not_written(status: u32, fault: u8, place: u64) -> Written
     }
 }
 
+/// The answer of a call that writes nothing, for the same reason.
+pub(crate) fn unwritten(told: CheckAnswer) -> Written
+    ensures { result ≡ unwritten told }
+{
+    Written {
+        status: told.status,
+        fault: told.fault,
+        place: told.place,
+        length: 0,
+    }
+}
+
 /// The answer that says why nothing is written.
 pub(crate) fn refused(why: Refusal) -> Written
     ensures { result ≡ refused why }
@@ -219,16 +241,11 @@ pub(crate) fn mask_given(mask: Mask) -> MaskAnswer
 pub(crate) fn no_mask(why: Refusal) -> MaskAnswer
     ensures { result ≡ no_mask why }
 {
-    let Written {
-        status,
-        fault,
-        place,
-        ..
-    } = refused(why);
+    let told = refused(why);
     MaskAnswer {
-        status,
-        fault,
-        place,
+        status: told.status,
+        fault: told.fault,
+        place: told.place,
         mask: 0,
     }
 }

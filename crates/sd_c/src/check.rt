@@ -5,7 +5,7 @@ ghost use Rattle.sd_wire.specs.Memory.{TakesMemory};
 ghost use Rattle.sd_c.specs.Answer.{check_answer, check_memory};
 ghost use Rattle.sd_c.specs.Request.{Gives, request_read, verdict_read};
 
-use crate::answer::{CheckAnswer, MEMORY, not_read, unread, verdict_given};
+use crate::answer::{CheckAnswer, verdict_given, why_not};
 use crate::mapping::Mapping;
 use crate::request::{descriptor_of, mapping_of, token_of};
 use crate::stop::Stop;
@@ -47,8 +47,7 @@ pub extern "C" fn hudarin_check(
         asked,
     ) {
         Ok(verdict) => verdict_given(verdict),
-        Err(Stop::NotRead(why)) => not_read(why),
-        Err(Stop::Memory) => unread(MEMORY, 0, 0, 0),
+        Err(stop) => why_not(stop),
     }
 }
 

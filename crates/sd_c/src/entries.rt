@@ -220,8 +220,7 @@ fn entry_at(dacl: &Dacl, index: u64) -> Option<Ace>
     ensures { result ≡ entry_at index dacl.now }
 {
     match dacl {
-        Dacl::Absent => None,
-        Dacl::Null => None,
+        Dacl::Absent | Dacl::Null => None,
         Dacl::List(list) => list.entries().get(index as usize).copied(),
     }
 }

@@ -163,8 +163,7 @@ fn cause_number(cause: Cause) -> u32
 {
     match cause {
         Cause::NoList => 1,
-        Cause::Listed(_) => 2,
-        Cause::Restricted(_, _) => 2,
+        Cause::Listed(_) | Cause::Restricted(_, _) => 2,
         Cause::Owner => 3,
         Cause::TakeOwnership => 4,
         Cause::Security => 5,
@@ -181,13 +180,7 @@ fn findings_of(cause: Cause) -> (FindingAnswer, FindingAnswer)
     match cause {
         Cause::Listed(finding) => (finding_told(finding), NO_PASS),
         Cause::Restricted(first, second) => (finding_told(first), finding_told(second)),
-        Cause::NoList => (NO_PASS, NO_PASS),
-        Cause::Owner => (NO_PASS, NO_PASS),
-        Cause::TakeOwnership => (NO_PASS, NO_PASS),
-        Cause::Security => (NO_PASS, NO_PASS),
-        Cause::NoSecurity => (NO_PASS, NO_PASS),
-        Cause::BeyondAll => (NO_PASS, NO_PASS),
-        Cause::Reserved => (NO_PASS, NO_PASS),
+        _ => (NO_PASS, NO_PASS),
     }
 }
 

@@ -10,9 +10,7 @@ ghost use Rattle.sd_c.specs.Kept.{TokenTakesMemory, descriptor_in, token_in};
 ghost use Rattle.sd_c.specs.Request.{Fails, token_read};
 ghost use Rattle.sd_c.specs.Written.{RefusesBytes, RefusesText};
 
-use crate::answer::{
-    CheckAnswer, HANDLE, MEMORY, OK, Written, not_read, not_written, refused, unread,
-};
+use crate::answer::{CheckAnswer, HANDLE, OK, Written, not_written, refused, unread, why_not};
 use crate::handle::{Handle, Kept};
 use crate::refusal::Refusal;
 use crate::request::token_of;
@@ -86,8 +84,7 @@ pub extern "C" fn hudarin_keep_token(
             handle.put(kept);
             unread(OK, 0, 0, 0)
         }
-        Err(Stop::NotRead(why)) => not_read(why),
-        Err(Stop::Memory) => unread(MEMORY, 0, 0, 0),
+        Err(stop) => why_not(stop),
     }
 }
 

@@ -8,7 +8,9 @@ ghost use Rattle.sd_c.specs.Kept.{Stays};
 ghost use Rattle.sd_c.specs.Views.{Asks, IsAnswered, IsFormAt, IsFormIn, IsNoFormAt, IsNotAsked, IsNotFound};
 ghost use Rattle.sd_c.specs.Views.{TellsLength, WritesNode, length_in, not_told, reply_given, unasked, view_answer};
 
-use crate::answer::{CheckAnswer, HANDLE, Written, length_told, not_written, verdict_given, write};
+use crate::answer::{
+    CheckAnswer, HANDLE, Written, length_told, not_written, unwritten, verdict_given, write,
+};
 use crate::edits::path_of;
 use crate::handle::{Handle, Kept};
 use crate::not_done::{NotDone, PathArgument, not_done};
@@ -180,16 +182,5 @@ fn form_in(alloc: Global, tree: &Tree, path: &Path) -> Result<Vec<u8>, NotDone>
 pub(crate) fn not_told(why: NotDone) -> Written
     ensures { result ≡ not_told why }
 {
-    let CheckAnswer {
-        status,
-        fault,
-        place,
-        ..
-    } = not_done(why);
-    Written {
-        status,
-        fault,
-        place,
-        length: 0,
-    }
+    unwritten(not_done(why))
 }
