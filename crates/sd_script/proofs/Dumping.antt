@@ -1,5 +1,5 @@
 -- The lines that make a tree, and whether they are read as what makes it.
-use Rattle.std.proofs.Common.{◌≡◌, ℕ, zero, suc, ◌+◌, ◌<◌, ◌≤◌, Bool, true, false, List, [], ◌∷◌, ◌++◌, length, get_or, Option, Some, None, Result, Ok, Err, refl, sym, ◌∙◌, ap, subst, inl, inr, append_assoc, append-nil, arith}
+use Rattle.std.proofs.Common.{◌≡◌, ℕ, ◌+◌, ◌<◌, ◌≤◌, Bool, true, false, List, [], ◌∷◌, ◌++◌, length, Option, Some, None, Result, Ok, Err, refl, sym, ◌∙◌, ap, subst, inl, inr, add-one, append_assoc, append-nil, arith}
 use Rattle.std.specs.Prelude.{IfOk, drop, nat_lt, slice_get, option_map, codes}
 use Rattle.std.specs.Bool.{Decides}
 use Rattle.std.specs.Fmt.{decimal}
@@ -9,7 +9,9 @@ use Rattle.std.specs.Ordering.{eq_by_cmp}
 use Rattle.std.specs.declared.alloc.AllocError.{AllocError}
 use Rattle.std.specs.Str.Lines.{lines, strip_carriage_return}
 use Rattle.std.proofs.Math.ListN.{drop_of_length-le}
+use Rattle.std.proofs.Math.Seq.{drop-cons}
 use Rattle.std.proofs.lemmas.Bool.{cases_lt, false≢true, lt-ltb}
+use Rattle.std.proofs.lemmas.Option.{get_or_from_slice_get, slice_get_cases, slice_get_within}
 use Rattle.sd_acl.specs.Descriptor.{DescriptorValue}
 use Rattle.sd_tree.specs.Names.{Names, is_root, names_cmp}
 use Rattle.sd_tree.specs.Plain.{PlainTree, row_at}
@@ -49,28 +51,29 @@ adding_line notation readers (name ∷ names) row is = refl
 
 -- ---- the nodes one after the other
 
-pub there_at : {A : Type 0} (xs : List A) (k : ℕ) (d x : A) → Some x ≡ slice_get xs k → (k < length xs) × (get_or xs k d ≡ x)
-there_at [] k d x is = absurd (cc (is))
-there_at (y ∷ xs) zero d x is = let same : x ≡ y = cc (is) in (omega arith, sym same)
-there_at (y ∷ xs) (suc k) d x is = let rest = there_at xs k d x is in (let low = rest.0 in omega (arith, low), rest.1)
+-- one that is there, and those behind it
+pub next_left : {A : Type 0} (xs : List A) (k : ℕ) (x : A) → Some x ≡ slice_get xs k → drop k xs ≡ x ∷ drop (k + 1) xs
+next_left xs k x at =
+    rw (add-one, drop-cons xs k x (slice_get_within xs k x (sym at)), get_or_from_slice_get xs k x x (sym at)) refl
 
-pub none_past : {A : Type 0} (xs : List A) (k : ℕ) → k < length xs → None ≡ slice_get xs k → ⊥
-none_past [] k low none = omega (arith, low)
-none_past (x ∷ xs) zero low none = cc (none)
-none_past (x ∷ xs) (suc k) low none = none_past xs k (omega (arith, low)) none
+-- below a tree's number of nodes there is one
+pub none_past : (t : PlainTree) (k n : ℕ) → n ≡ len t → k < n → None ≡ slice_get (entries t) k → ⊥
+none_past t k n count low none = elim (slice_get_cases (entries t) k).1 [
+  | inl (x, within, is, at) ↦ cc (none, is)
+  | inr (past, is) ↦ let size = len-entries t in omega (arith, size, count, low, past)
+]
 
-pub below_count : (t : PlainTree) (k n : ℕ) → n ≡ len t → k < n → k < length (entries t)
-below_count t k n count low = let size = len-entries t in omega (arith, size, count, low)
-
-pub past_count : (t : PlainTree) (k n : ℕ) → n ≡ len t → n ≤ k → length (entries t) ≤ k
-past_count t k n count past = let size = len-entries t in omega (arith, size, count, past)
+pub nothing_left : (t : PlainTree) (k n : ℕ) → n ≡ len t → n ≤ k → drop k (entries t) ≡ []
+nothing_left t k n count past =
+    let size = len-entries t in drop_of_length-le (entries t) (omega (arith, size, count, past))
 
 -- what was given to the node of an entry
 pub given_there : (t : PlainTree) (k : ℕ) (path : Names) (row : Row) → Some (path, row) ≡ slice_get (entries t) k
     → given_at t path ≡ Some (row.kind, own_descriptor_of_row row)
 given_there t k path row is =
-    let at : (k < length (entries t)) × (get_or (entries t) k (path, row) ≡ (path, row)) = there_at (entries t) k (path, row) (path, row) is in
-    let stands = subst (λ (e : Names × Row). row_at t e.0 ≡ Some e.1) at.1 (entry_there t k (path, row) at.0) in
+    let low = slice_get_within (entries t) k (path, row) (sym is) in
+    let at = get_or_from_slice_get (entries t) k (path, row) (path, row) (sym is) in
+    let stands = subst (λ (e : Names × Row). row_at t e.0 ≡ Some e.1) at (entry_there t k (path, row) low) in
     ap (option_map (λ (r : Row). (r.kind, own_descriptor_of_row r))) stands
 
 -- two that are told the same
@@ -84,25 +87,16 @@ second d (Some pair) = pair.1
 pub second_of : (a b : NodeKind) (x y : DescriptorValue) → told a x ≡ told b y → x ≡ y
 second_of a b x y e = ap (second x) e
 
--- the piece of a node, and those of the nodes behind it
-next_piece : {A : Type 0} (f : A → List ℕ) (es : List A) (k : ℕ) (piece : List ℕ) → Some piece ≡ option_map f (slice_get es k)
-    → flat_map f (drop k es) ≡ piece ++ flat_map f (drop (suc k) es)
-next_piece f [] k piece is = absurd (cc (is))
-next_piece f (e ∷ es) zero piece is = let same : piece ≡ f e = cc (is) in ap (λ xs. xs ++ flat_map f es) (sym same)
-next_piece f (e ∷ es) (suc k) piece is = next_piece f es k piece is
+-- the piece of one more node
+pub piece_more : {A : Type 0} (f : A → List ℕ) (es : List A) (k : ℕ) (x : A) (text piece grown whole : List ℕ) → Some x ≡ slice_get es k
+    → piece ≡ f x → grown ≡ text ++ piece → text ++ flat_map f (drop k es) ≡ whole → grown ++ flat_map f (drop (k + 1) es) ≡ whole
+piece_more f es k x text piece grown whole at is more so_far =
+    rw (more, is) (append_assoc text (f x) (flat_map f (drop (k + 1) es)) ∙ ap (λ xs. text ++ flat_map f xs) (sym (next_left es k x at)) ∙ so_far)
 
-pub piece_more : {A : Type 0} (f : A → List ℕ) (es : List A) (k : ℕ) (text piece grown whole : List ℕ) → Some piece ≡ option_map f (slice_get es k)
-    → grown ≡ text ++ piece → text ++ flat_map f (drop k es) ≡ whole → grown ++ flat_map f (drop (k + 1) es) ≡ whole
-piece_more f es k text piece grown whole is more so_far =
-    let next : k + 1 ≡ suc k = omega arith in
-    rw (more, next) (append_assoc text piece (flat_map f (drop (suc k) es)) ∙ ap (λ xs. text ++ xs) (sym (next_piece f es k piece is)) ∙ so_far)
-
-pub none_left : (f : Names × Row → List ℕ) (t : PlainTree) (k n : ℕ) (text whole : List ℕ) → len t ≡ n → n ≤ k
+pub none_left : (f : Names × Row → List ℕ) (t : PlainTree) (k n : ℕ) (text whole : List ℕ) → n ≡ len t → n ≤ k
     → text ++ flat_map f (drop k (entries t)) ≡ whole → text ≡ whole
 none_left f t k n text whole count past so_far =
-    let size = len-entries t in
-    let none : drop k (entries t) ≡ [] = drop_of_length-le (entries t) (omega (arith, size, count, past)) in
-    sym (append-nil text) ∙ ap (λ es. text ++ flat_map f es) (sym none) ∙ so_far
+    sym (append-nil text) ∙ ap (λ es. text ++ flat_map f es) (sym (nothing_left t k n count past)) ∙ so_far
 
 -- ---- whether a line is read as this
 
@@ -167,23 +161,13 @@ pub record Same (P Q : Type 0) : Type 0 where
   pub there : P → Q
   pub back : Q → P
 
-pub some_there : {A : Type 0} (xs : List A) (k : ℕ) → k < length xs → (x : A) × (Some x ≡ slice_get xs k)
-some_there [] k low = absurd (omega (arith, low))
-some_there (x ∷ xs) zero low = (x, refl)
-some_there (x ∷ xs) (suc k) low = some_there xs k (omega (arith, low))
-
-pub next_left : {A : Type 0} (xs : List A) (k : ℕ) (x : A) → Some x ≡ slice_get xs k → drop k xs ≡ x ∷ drop (suc k) xs
-next_left [] k x is = absurd (cc (is))
-next_left (y ∷ xs) zero x is = let same : x ≡ y = cc (is) in ap (λ z. z ∷ xs) (sym same)
-next_left (y ∷ xs) (suc k) x is = next_left xs k x is
-
 module _ (notation : Notation) (readers : ℕ) (es : List (Names × Row)) (behind : List Asked) where
   abbrev Left : Bool → List (List ℕ) → ℕ → Type 0
   Left is_open texts k = AreAskedBy notation is_open texts (makings readers (drop k es) ++ behind)
 
   -- the first of the lines that are left is the next node's, and the others are left behind it
   left_is : (is_open : Bool) (texts : List (List ℕ)) (text : List ℕ) (more : List (List ℕ)) (k : ℕ) (node : Names × Row) → Some node ≡ slice_get es k
-      → texts ≡ text ∷ more → Same (IsAskedBy notation is_open text (making readers node.0 node.1) × Left true more (suc k)) (Left is_open texts k)
+      → texts ≡ text ∷ more → Same (IsAskedBy notation is_open text (making readers node.0 node.1) × Left true more (k + 1)) (Left is_open texts k)
   left_is is_open texts text more k node is cut = rw (cut, next_left es k node is) (record { there = λ x. (x.0, x.1); back = λ x. (x.0, x.1) })
 
   opened : (k : ℕ) → nat_lt 0 (k + 1) ≡ true
@@ -194,19 +178,17 @@ module _ (notation : Notation) (readers : ℕ) (es : List (Names × Row)) (behin
       → Same (Left (nat_lt 0 (k + 1)) more (k + 1)) whole
   next_same texts text more k node whole is cut asked same =
       let split = left_is (nat_lt 0 k) texts text more k node is cut in
-      let next : k + 1 ≡ suc k = omega arith in
-      rw (opened k, next) (record { there = λ left. same.there (split.there (asked, left)); back = λ all. (split.back (same.back all)).1 })
+      rw (opened k) (record { there = λ left. same.there (split.there (asked, left)); back = λ all. (split.back (same.back all)).1 })
 
   pub not_next : (texts : List (List ℕ)) (text : List ℕ) (more : List (List ℕ)) (k : ℕ) (node : Names × Row) (whole : Type 0) → Some node ≡ slice_get es k
       → texts ≡ text ∷ more → (IsAskedBy notation (nat_lt 0 k) text (making readers node.0 node.1) → ⊥) → Same (Left (nat_lt 0 k) texts k) whole → whole → ⊥
   not_next texts text more k node whole is cut unasked same all = unasked ((left_is (nat_lt 0 k) texts text more k node is cut).back (same.back all)).0
 
 -- where no node is left, what is asked last tells of all
-pub last_same : (notation : Notation) (readers : ℕ) (t : PlainTree) (behind : List Asked) (texts : List (List ℕ)) (k n : ℕ) (whole : Type 0) → len t ≡ n → k ≡ n
+pub last_same : (notation : Notation) (readers : ℕ) (t : PlainTree) (behind : List Asked) (texts : List (List ℕ)) (k n : ℕ) (whole : Type 0) → n ≡ len t → k ≡ n
     → Same (AreAskedBy notation (nat_lt 0 k) texts (makings readers (drop k (entries t)) ++ behind)) whole → Same (AreAskedBy notation (nat_lt 0 n) texts behind) whole
 last_same notation readers t behind texts k n whole count at same =
-    let size = len-entries t in
-    let none : drop k (entries t) ≡ [] = drop_of_length-le (entries t) (omega (arith, size, count, at)) in
+    let none = nothing_left t k n count (omega (arith, at)) in
     let P : List (Names × Row) → Type 0 = λ es. Same (AreAskedBy notation (nat_lt 0 k) texts (makings readers es ++ behind)) whole in
     let left : Same (AreAskedBy notation (nat_lt 0 k) texts behind) whole = subst P none same in
     let Q : ℕ → Type 0 = λ m. Same (AreAskedBy notation (nat_lt 0 m) texts behind) whole in

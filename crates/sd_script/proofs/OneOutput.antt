@@ -43,7 +43,7 @@ use Rattle.sd_script.specs.declared.carried.Carried.{Carried}
 use Rattle.sd_script.specs.declared.manner.Manner.{Manner}
 use Rattle.sd_script.specs.declared.manner.Notation.{Notation}
 use Rattle.sd_script.specs.declared.session.Session.{Session}
-use Rattle.sd_script.specs.declared.session.Session.TheVariants.{Closed, Opened}
+use Rattle.sd_script.specs.declared.session.Session.TheVariants.{Opened}
 use Rattle.sd_script.specs.Tally.{tallied}
 use Rattle.sd_script.specs.View.{IsViewed}
 use Rattle.sd_script.specs.declared.listing.Which.TheVariants.{Granting}
@@ -272,26 +272,21 @@ done-one old (Opening readers root) p q x y one other =
 done-one (Opened notation m) (Asking r) p q x y one other =
     let same = one_step notation.spelling m r one.0 one.1 p one.2 one.3 ∙ sym (one_step notation.spelling m r other.0 other.1 q other.2 other.3) in
     (λ plain. ap (λ (z : List ℕ × Machine). z.0) same, one.4 ∙ ap (λ (z : List ℕ × Machine). Opened notation z.1) same ∙ sym other.4)
-done-one (Closed manner) (Asking r) p q x y one other = absurd one
 done-one (Opened notation m) (Explaining reader names t asked) p q x y one other =
     let same = one_explained notation.spelling m reader names t asked one.0 one.1 p one.2 one.3 ∙ sym (one_explained notation.spelling m reader names t asked other.0 other.1 q other.2 other.3) in
     (λ plain. ap (λ (z : List ℕ × Machine). z.0) same, one.4 ∙ ap (λ (z : List ℕ × Machine). Opened notation z.1) same ∙ sym other.4)
-done-one (Closed manner) (Explaining reader names t asked) p q x y one other = absurd one
 done-one (Opened notation m) (Finding reader names t asked) p q x y one other =
     let same = one_found notation m reader names t asked one.0 one.1 p one.2 one.3 ∙ sym (one_found notation m reader names t asked other.0 other.1 q other.2 other.3) in
     (λ plain. ap (λ (z : List ℕ × Machine). z.0) same, one.4 ∙ ap (λ (z : List ℕ × Machine). Opened notation z.1) same ∙ sym other.4)
-done-one (Closed manner) (Finding reader names t asked) p q x y one other = absurd one
 done-one (Opened notation m) (Deleting reader names t) p q x y one other =
     let by_parent = parent_grants m.opening m.published names t in
     let same = one_deletion notation.spelling m by_parent reader names t one.0 one.1 p one.2 one.3 ∙ sym (one_deletion notation.spelling m by_parent reader names t other.0 other.1 q other.2 other.3) in
     (λ plain. ap (λ (z : List ℕ × Machine). z.0) same, one.4 ∙ ap (λ (z : List ℕ × Machine). Opened notation z.1) same ∙ sym other.4)
-done-one (Closed manner) (Deleting reader names t) p q x y one other = absurd one
 done-one (Opened notation m) (Viewing view) p q x y one other = (λ plain. viewed-one notation m view p q plain one.0 other.0, one.1 ∙ sym other.1)
-done-one (Closed manner) (Viewing view) p q x y one other = absurd one
 done-one (Opened notation m) (Importing e path given) p q x y one other =
     let stepped = step-one notation.spelling m e one.0 other.0 one.1 other.1 p q path given one.2 other.2 one.3 other.3 in
     (λ plain. stepped.0, one.4 ∙ ap (Opened notation) stepped.1 ∙ sym other.4)
-done-one (Closed manner) (Importing e path given) p q x y one other = absurd one
+done-one old asked p q x y one other = absurd one
 
 told-one : (old : Session) (text p q : List ℕ) (x y : Session) → IsTold old text p x → IsTold old text q y
     → (AsksNoAnalysis text → p ≡ q) × (x ≡ y)

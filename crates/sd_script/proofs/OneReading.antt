@@ -129,15 +129,10 @@ descriptor-one notation word (Err f) (Err g) x y =
     let other = y.3 in
     cc (faults, places, one, other)
 
-node-one : (notation : Notation) (word : List ℕ) → IsOne (node notation word)
-node-one notation word = Then-one (descriptor notation word) (λ d read. read ≡ node_of d) (descriptor-one notation word) (λ d r s x y. x ∙ sym y)
-
-dacl-one : (notation : Notation) (word : List ℕ) → IsOne (dacl notation word)
-dacl-one notation word = Then-one (descriptor notation word) (λ d read. read ≡ dacl_of d) (descriptor-one notation word) (λ d r s x y. x ∙ sym y)
-
-imported-one : (notation : Notation) (word : List ℕ) → IsOne (imported notation word)
-imported-one notation word =
-    Then-one (descriptor notation word) (λ d read. read ≡ import_of d) (descriptor-one notation word) (λ d r s x y. x ∙ sym y)
+-- what a descriptor is for
+described-one : {A : Type 0} (notation : Notation) (word : List ℕ) (f : DescriptorValue → Result A LineFault)
+    → IsOne (Then (descriptor notation word) (λ d read. read ≡ f d))
+described-one notation word f = Then-one (descriptor notation word) (λ d read. read ≡ f d) (descriptor-one notation word) (λ d r s x y. x ∙ sym y)
 
 -- ---- arguments
 
@@ -149,9 +144,9 @@ reads-one notation (Sid word next) = Then-one (sid notation word) (λ s. reads n
 reads-one notation (Mask word next) = Then-one (mask notation word) (λ m. reads notation (next m)) (mask-one notation word) (λ m. reads-one notation (next m))
 reads-one notation (Token user words next) = Then-one (token notation user words) (λ t. reads notation (next t)) (token-one notation user words) (λ t. reads-one notation (next t))
 reads-one notation (Groups words next) = Then-one (base notation words) (λ groups. reads notation (next groups)) (base-one notation words) (λ groups. reads-one notation (next groups))
-reads-one notation (Node word next) = Then-one (node notation word) (λ n. reads notation (next n)) (node-one notation word) (λ n. reads-one notation (next n))
-reads-one notation (Dacl word next) = Then-one (dacl notation word) (λ d. reads notation (next d)) (dacl-one notation word) (λ d. reads-one notation (next d))
-reads-one notation (Imported word next) = Then-one (imported notation word) (λ i. reads notation (next i)) (imported-one notation word) (λ i. reads-one notation (next i))
+reads-one notation (Node word next) = Then-one (node notation word) (λ n. reads notation (next n)) (described-one notation word node_of) (λ n. reads-one notation (next n))
+reads-one notation (Dacl word next) = Then-one (dacl notation word) (λ d. reads notation (next d)) (described-one notation word dacl_of) (λ d. reads-one notation (next d))
+reads-one notation (Imported word next) = Then-one (imported notation word) (λ i. reads notation (next i)) (described-one notation word import_of) (λ i. reads-one notation (next i))
 
 by_time : (notation : Notation) (untimely : Bool) (arguments : Arguments) (r s : Result Asked LineFault)
     → MatchBool untimely (r ≡ Err faults.Open) (reads notation arguments r) → MatchBool untimely (s ≡ Err faults.Open) (reads notation arguments s) → r ≡ s

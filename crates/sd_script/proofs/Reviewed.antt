@@ -1,7 +1,6 @@
 -- The lines of a review, one step after the other.
-use Rattle.std.proofs.Common.{◌≡◌, ℕ, zero, suc, ◌+◌, ◌<◌, ◌≤◌, List, [], ◌∷◌, ◌++◌, length, drop, Option, Some, None, refl, sym, ◌∙◌, ap, subst, append_assoc, append-nil, arith}
-use Rattle.std.specs.Prelude.{codes}
-use Rattle.std.proofs.Math.ListN.{drop_of_length-le}
+use Rattle.std.proofs.Common.{◌≡◌, ℕ, ◌+◌, List, [], ◌++◌, length, drop, Option, Some, None, refl, sym, ◌∙◌, ap, subst, append_assoc, append-nil}
+use Rattle.std.specs.Prelude.{codes, slice_get}
 use Rattle.sd_sid.specs.Mapping.{MappingValue}
 use Rattle.sd_acl.specs.Descriptor.{DescriptorValue, descriptor_of}
 use Rattle.sd_tree.specs.Names.{Names}
@@ -15,32 +14,26 @@ use Rattle.sd_review.specs.Review.{Trees, stands_in}
 use Rattle.sd_review.specs.declared.compared.Compared.{Compared}
 use Rattle.sd_review.proofs.RightOnes.{right_one}
 use Rattle.sd_answer.specs.declared.answer.Spelling.{Spelling}
-use Rattle.sd_script.specs.Review.{ArePrinted, IsChangeOf, IsChangeText, IsPrintedAt, IsReview, IsReviewOf, has_no_words, reviewed_line, trees_in}
+use Rattle.sd_script.specs.Review.{ArePrinted, IsChangeOf, IsChangeText, IsReview, IsReviewOf, has_no_words, reviewed_line, trees_in}
 use Rattle.sd_script.specs.declared.manner.Notation.{Notation}
+use Rattle.sd_script.proofs.Dumping.{next_left}
 
 -- ---- what is printed of each
-
-printed_from : {A : Type 0} (P : A → List ℕ → Type 0) (xs : List A) (i : ℕ) (one rest : List ℕ)
-    → IsPrintedAt P xs i one → i < length xs → ArePrinted P (drop (suc i) xs) rest → ArePrinted P (drop i xs) (one ++ rest)
-printed_from P [] i one rest at low more = absurd (omega (arith, low))
-printed_from P (x ∷ xs) zero one rest at low more = (one, rest, at x refl, more, refl)
-printed_from P (x ∷ xs) (suc i) one rest at low more = printed_from P xs i one rest at (omega (arith, low)) more
 
 -- the text so far has the lines of all but those that are left
 abbrev pub ArePrintedTo : {A : Type 0} → (A → List ℕ → Type 0) → List A → ℕ → List ℕ → Type 0
 ArePrintedTo P xs i text = (rest : List ℕ) → ArePrinted P (drop i xs) rest → ArePrinted P xs (text ++ rest)
 
-pub printed_next : {A : Type 0} (P : A → List ℕ → Type 0) (xs : List A) (i : ℕ) (text one after : List ℕ)
-    → ArePrintedTo P xs i text → IsPrintedAt P xs i one → i < length xs → after ≡ text ++ one → ArePrintedTo P xs (i + 1) after
-printed_next P xs i text one after before at low is rest more =
-    let next : i + 1 ≡ suc i = omega arith in
-    let from = printed_from P xs i one rest at low (subst (λ k. ArePrinted P (drop k xs) rest) next more) in
+pub printed_next : {A : Type 0} (P : A → List ℕ → Type 0) (xs : List A) (i : ℕ) (x : A) (text one after : List ℕ)
+    → ArePrintedTo P xs i text → Some x ≡ slice_get xs i → P x one → after ≡ text ++ one → ArePrintedTo P xs (i + 1) after
+printed_next P xs i x text one after before at first is rest more =
+    let from : ArePrinted P (drop i xs) (one ++ rest) = rw (next_left xs i x at) (one, rest, first, more, refl) in
     subst (λ t. ArePrinted P xs (t ++ rest)) (sym is) (subst (ArePrinted P xs) (sym (append_assoc text one rest)) (before (one ++ rest) from))
 
 pub printed_all : {A : Type 0} (P : A → List ℕ → Type 0) (xs : List A) (i : ℕ) (text : List ℕ)
-    → ArePrintedTo P xs i text → length xs ≤ i → ArePrinted P xs text
-printed_all P xs i text before past =
-    subst (ArePrinted P xs) (append-nil text) (before [] (subst (λ left. ArePrinted P left []) (sym (drop_of_length-le xs past)) refl))
+    → ArePrintedTo P xs i text → drop i xs ≡ [] → ArePrinted P xs text
+printed_all P xs i text before none =
+    subst (ArePrinted P xs) (append-nil text) (before [] (subst (λ left. ArePrinted P left []) (sym none) refl))
 
 -- ---- what two descriptors change
 

@@ -161,19 +161,14 @@ found_silent P (e ∷ es) path row found printed =
           (subst (ArePrinted P es) parts.1 printed.3)
     ]
 
+pieces_printed : (f : Names × Row → List ℕ) (es : List (Names × Row)) → ArePrinted (λ e printed. printed ≡ f e) es (flat_map f es)
+pieces_printed f [] = refl
+pieces_printed f (e ∷ es) = (f e, flat_map f es, refl, pieces_printed f es, refl)
+
 found_none : (f : Names × Row → List ℕ) (es : List (Names × Row)) (path : Names) (row : Row) → find names_cmp path es ≡ Some row
     → flat_map f es ≡ [] → f (path, row) ≡ []
-found_none f [] path row found none = absurd (cc (found))
-found_none f (e ∷ es) path row found none =
-    let parts = parts_empty (f e) (flat_map f es) none in
-    elim (cases_Bool (eq_by_cmp names_cmp path e.0)) [
-      | inl same ↦
-          let first : Some e.1 ≡ Some row = sym (ap (λ (b : Bool). cond b (Some e.1) (find names_cmp path es)) same) ∙ found in
-          let here : e.1 ≡ row = cc (first) in
-          subst (λ r. f (path, r) ≡ []) here (subst (λ p. f (p, e.1) ≡ []) (sym (one_path path e.0 same)) parts.0)
-      | inr other ↦
-          found_none f es path row (sym (ap (λ (b : Bool). cond b (Some e.1) (find names_cmp path es)) other) ∙ found) parts.1
-    ]
+found_none f es path row found none =
+    sym (found_silent (λ e printed. printed ≡ f e) es path row found (subst (ArePrinted (λ e printed. printed ≡ f e) es) none (pieces_printed f es)))
 
 -- where a node goes, its line is printed
 gone_there : (notation : Notation) (ts : Trees) (top path : Names) (row : Row) → is_within top path ≡ true → row_at ts.new path ≡ None
@@ -220,3 +215,5 @@ pub silent_review_changes_nothing : SilentReviewChangesNothing
 silent_review_changes_nothing notation m top path token asked is within plain =
     by_case notation (trees_in m) top path token asked (length m.published) (length (accepted m))
     (stands_in (trees_in m) top) (has_no_words notation.paths (trees_in m)) is within plain
+
+pub ruleset silence = (silent_node_is_unchanged, silent_review_changes_nothing)

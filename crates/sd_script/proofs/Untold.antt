@@ -4,23 +4,18 @@ use Rattle.sd_script.specs.Output.{IsDone, IsMade, IsTold, IsUntold}
 use Rattle.sd_script.specs.declared.asked.Asked.{Asked}
 use Rattle.sd_script.specs.declared.asked.Asked.TheVariants.{Opening, Asking, Explaining, Finding, Deleting, Viewing, Importing}
 use Rattle.sd_script.specs.declared.session.Session.{Session}
-use Rattle.sd_script.specs.declared.session.Session.TheVariants.{Closed, Opened}
+use Rattle.sd_script.specs.declared.session.Session.TheVariants.{Opened}
 
 pub made : (old new : Session) (asked : Asked) (printed : List ℕ) → IsDone old asked printed new → (new ≡ old) ⊎ IsMade old asked new
 made old new (Opening readers root) printed (inl (few, none, said, is)) = inr (inl (few, none, is))
 made old new (Opening readers root) printed (inr (error, why, said, is)) = inr (inr is)
 made (Opened notation m) new (Asking request) printed (reply, machine, steps, said, is) = inr (reply, machine, steps, is)
-made (Closed manner) new (Asking request) printed done = absurd done
 made (Opened notation m) new (Explaining reader path token asked) printed (reply, machine, steps, said, is) = inr (reply, machine, steps, is)
-made (Closed manner) new (Explaining reader path token asked) printed done = absurd done
 made (Opened notation m) new (Finding reader path token asked) printed (reply, machine, steps, said, is) = inr (reply, machine, steps, is)
-made (Closed manner) new (Finding reader path token asked) printed done = absurd done
 made (Opened notation m) new (Deleting reader path token) printed (reply, machine, steps, said, is) = inr (reply, machine, steps, is)
-made (Closed manner) new (Deleting reader path token) printed done = absurd done
 made (Opened notation m) new (Viewing view) printed (viewed, is) = inl is
-made (Closed manner) new (Viewing view) printed done = absurd done
 made (Opened notation m) new (Importing edit path given) printed (reply, machine, steps, said, is) = inr (reply, machine, steps, is)
-made (Closed manner) new (Importing edit path given) printed done = absurd done
+made old new asked printed done = absurd done
 
 -- a line that was told, whose answer doesn't grow to its end
 pub told_untold : (old new : Session) (line told : List ℕ) → IsTold old line told new → IsUntold old line new

@@ -67,14 +67,12 @@ own_dacl protected (dacls.List entries) = Entries protected entries
 -- an owner, a group and a DACL, where both are there
 abbrev pub with_parts : Option SidValue → Option SidValue → NodeDacl → Result RootSpec LineFault
 with_parts (Some owner) (Some group) dacl = Ok (record { owner = owner; group = group; dacl = dacl })
-with_parts (Some owner) None dacl = Err Parts
-with_parts None group dacl = Err Parts
+with_parts owner group dacl = Err Parts
 
 -- a DACL, where neither is
 abbrev pub without_parts : Option SidValue → Option SidValue → NodeDacl → Result NodeDacl LineFault
 without_parts None None dacl = Ok dacl
-without_parts None (Some group) dacl = Err Parts
-without_parts (Some owner) group dacl = Err Parts
+without_parts owner group dacl = Err Parts
 
 abbrev pub node_of : DescriptorValue → Result RootSpec LineFault
 node_of d = with_parts d.owner d.group (own_dacl d.protected d.dacl)
@@ -94,15 +92,13 @@ dacl notation word = Then (descriptor notation word) (λ d read. read ≡ dacl_o
 
 -- the DACL that it gives a node: what the node had of its own, the denies first; what it had inherited is left out
 abbrev pub imported_dacl : Bool → Dacl → NodeDacl
-imported_dacl protected dacls.Absent = Entries false []
-imported_dacl protected dacls.Null = Null
 imported_dacl protected (dacls.List entries) = Entries protected (canonical_order (filter is_explicit entries))
+imported_dacl protected dacl = own_dacl protected dacl
 
 -- the entries of a list
 abbrev pub entries_in : Dacl → List Ace
-entries_in dacls.Absent = []
-entries_in dacls.Null = []
 entries_in (dacls.List entries) = entries
+entries_in dacl = []
 
 abbrev pub with_given : List Ace → Result RootSpec LineFault → Result Import LineFault
 with_given given (Ok node) = Ok (record { node = node; given = given })

@@ -62,10 +62,9 @@ IsAskedBy notation is_open text asked = (is_silent text ≡ false) × line_asks 
 -- these lines ask for these, one for one, where the first opens the store
 abbrev pub AreAskedBy : Notation → Bool → List (List ℕ) → List Asked → Type 0
 AreAskedBy notation is_open [] [] = ⊤
-AreAskedBy notation is_open [] (asked ∷ more) = ⊥
-AreAskedBy notation is_open (text ∷ texts) [] = ⊥
-AreAskedBy notation is_open (text ∷ texts) (asked ∷ more) = IsAskedBy notation is_open text asked
-    × AreAskedBy notation true texts more
+AreAskedBy notation is_open (text ∷ texts) (asked ∷ more) =
+    IsAskedBy notation is_open text asked × AreAskedBy notation true texts more
+AreAskedBy notation is_open texts more = ⊥
 
 -- the nodes' lines, and then the publish
 abbrev pub dump_text : Notation → ℕ → PlainTree → List ℕ

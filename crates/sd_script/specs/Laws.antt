@@ -19,27 +19,19 @@ use Rattle.sd_review.specs.Review.{Trees}
 use Rattle.sd_script.specs.Reply.{seen_line}
 use Rattle.sd_script.specs.Review.{IsNodeReview, IsReview, reviewed_line}
 use Rattle.sd_script.specs.declared.asked.Asked.{Asked}
-use Rattle.sd_script.specs.declared.asked.Asked.TheVariants.{Opening, Asking, Explaining, Finding, Deleting, Viewing}
-use Rattle.sd_script.specs.declared.asked.Asked.TheVariants.{Importing}
+use Rattle.sd_script.specs.declared.asked.Asked.TheVariants.{Asking, Explaining, Deleting, Viewing}
 use Rattle.sd_script.specs.declared.manner.Manner.{Manner}
 use Rattle.sd_script.specs.declared.manner.Notation.{Notation}
 use Rattle.sd_script.specs.declared.session.Session.{Session}
 use Rattle.sd_script.specs.declared.session.Session.TheVariants.{Opened}
-use Rattle.sd_script.specs.declared.view.View.TheVariants.{List as Lists, Dump, Who, Review}
+use Rattle.sd_script.specs.declared.view.View.TheVariants.{Who, Review}
 
 -- what is asked is who is granted a right, or who is by the pending edits: the lines are exact in what they say of
 -- tokens, not in their letters
 abbrev pub is_analysis : Asked → Bool
-is_analysis (Opening readers root) = false
-is_analysis (Asking request) = false
-is_analysis (Explaining reader path token asked) = false
-is_analysis (Finding reader path token asked) = false
-is_analysis (Deleting reader path token) = false
-is_analysis (Viewing (Lists path)) = false
-is_analysis (Viewing Dump) = false
 is_analysis (Viewing (Who path groups asked)) = true
 is_analysis (Viewing (Review path)) = true
-is_analysis (Importing edit path given) = false
+is_analysis asked = false
 
 -- the line asks for no analysis, whatever stands before it
 abbrev pub AsksNoAnalysis : List ℕ → Type 0

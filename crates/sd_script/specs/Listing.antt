@@ -7,14 +7,14 @@ use Rattle.sd_sid.specs.Mapping.{MappingValue}
 use Rattle.sd_acl.specs.Descriptor.{DescriptorValue}
 use Rattle.sd_tree.specs.Names.{Names, is_within}
 use Rattle.sd_tree.specs.Plain.{PlainTree}
-use Rattle.sd_check.specs.declared.verdict.Verdict.TheVariants.{Granted, Denied, Reserved, EmptyRequest}
+use Rattle.sd_check.specs.declared.verdict.Verdict.TheVariants.{Granted}
 use Rattle.sd_tree.specs.Answers.{descriptor_at, kind_at, reply_in}
 use Rattle.sd_tree.specs.Journal.{replay}
 use Rattle.sd_tree.specs.declared.node.NodeKind.{NodeKind}
 use Rattle.sd_tree.specs.declared.node.NodeKind.TheVariants.{Container, Object}
 use Rattle.sd_tree.specs.declared.node.Row.{Row}
 use Rattle.sd_tree.specs.declared.tree.CheckReply.{CheckReply}
-use Rattle.sd_tree.specs.declared.tree.CheckReply.TheVariants.{Verdict, NoNode}
+use Rattle.sd_tree.specs.declared.tree.CheckReply.TheVariants.{Verdict}
 use Rattle.sd_desk.specs.Machine.{Machine}
 use Rattle.sd_answer.specs.Answer.{line, fault_line}
 use Rattle.sd_script.specs.Paths.{is_split, path_word}
@@ -38,10 +38,7 @@ node_line notation kind path (Some d) =
 -- a check is granted
 abbrev pub grants : CheckReply → Bool
 grants (Verdict (Granted mask)) = true
-grants (Verdict (Denied missing)) = false
-grants (Verdict (Reserved mask)) = false
-grants (Verdict EmptyRequest) = false
-grants NoNode = false
+grants reply = false
 
 -- a node's line: of all nodes that with the descriptor; or of those whose check grants what is asked the path
 abbrev pub line_of : Notation → MappingValue → PlainTree → Which → Names × Row → List ℕ

@@ -1,6 +1,6 @@
 -- What `review` prints: what the pending edits change, node by node, for all tokens.
 use Rattle.std.specs.Prelude.{◌≡◌, ℕ, Bool, true, false, ◌||◌, List, [], ◌∷◌, ◌++◌, length, MatchBool}
-use Rattle.std.specs.Prelude.{if◌then◌else◌, Option, Some, None, is_some, slice_get, codes}
+use Rattle.std.specs.Prelude.{if◌then◌else◌, Option, Some, None, is_some, codes}
 use Rattle.std.specs.Fmt.{decimal}
 use Rattle.std.specs.FinMap.{entries}
 use Rattle.std.specs.List.{flat_map}
@@ -42,8 +42,7 @@ abbrev pub IsChangeOf : Spelling → MappingValue → List ℕ → Option Descri
     → Type 0
 IsChangeOf spelling g head (Some old) (Some new) printed =
     IsChangeText spelling g head (parts_in old) (parts_in new) printed
-IsChangeOf spelling g head None new printed = printed ≡ []
-IsChangeOf spelling g head (Some old) None printed = printed ≡ []
+IsChangeOf spelling g head old new printed = printed ≡ []
 
 -- of the node at a path, beside the node at a path of the old tree
 abbrev pub IsCompared : Notation → Trees → Names → Names → List ℕ → Type 0
@@ -82,10 +81,6 @@ abbrev pub ArePrinted : {A : Type 0} → (A → List ℕ → Type 0) → List A 
 ArePrinted P [] printed = printed ≡ []
 ArePrinted P (x ∷ xs) printed = (one : List ℕ) × (rest : List ℕ) × P x one × ArePrinted P xs rest
     × (printed ≡ one ++ rest)
-
--- those of the one at a place, if there is one
-abbrev pub IsPrintedAt : {A : Type 0} → (A → List ℕ → Type 0) → List A → ℕ → List ℕ → Type 0
-IsPrintedAt {A = A} P xs index printed = (x : A) → slice_get xs index ≡ Some x → P x printed
 
 -- the last line: the lengths of the journals that were compared
 abbrev pub reviewed_line : ℕ → ℕ → List ℕ

@@ -88,10 +88,10 @@ pub(crate) fn command_of<'a>(words: &'a [&'a str]) -> Option<Command<'a>>
         return None;
     }
     match words {
-        [word, arguments @ ..] => match CommandName::named(word) {
-            Some(name) => Some(Command { name, arguments }),
-            None => None,
-        },
+        [word, arguments @ ..] => {
+            let name = CommandName::named(word)?;
+            Some(Command { name, arguments })
+        }
         [] => None,
     }
 }

@@ -1,5 +1,5 @@
 //! A published tree as lines of a script.
-ghost use Rattle.std.specs.Prelude.{◌≡◌, ◌<◌, ◌∷◌, IfOk, Some, [], length, nat_lt, option_map, slice_get, string_bytes};
+ghost use Rattle.std.specs.Prelude.{◌≡◌, ◌∷◌, IfOk, [], string_bytes};
 ghost use Rattle.std.specs.Bool.{Decides};
 ghost use Rattle.std.specs.FinMap.{entries};
 ghost use Rattle.sd_tree.specs.Journal.{replay};
@@ -7,8 +7,6 @@ ghost use Rattle.sd_tree.specs.Listing.{listed};
 ghost use Rattle.std.specs.Str.Lines.{lines};
 ghost use Rattle.sd_acl.specs.Descriptor.{descriptor_of};
 ghost use Rattle.sd_tree.specs.Descriptors.{own_descriptor_of_row};
-ghost use Rattle.sd_tree.specs.Names.{Names};
-ghost use Rattle.sd_tree.specs.declared.node.Row.{Row};
 ghost use Rattle.sd_script.specs.Dump.{AreAskedBy, IsAskedBy, IsDumpOf, IsReadBack, adding_word as adding_word_of};
 ghost use Rattle.sd_script.specs.Dump.{making, making_line as making_line_of, making_lines as making_lines_of};
 ghost use Rattle.sd_script.specs.declared.asked.Asked.TheVariants.{Asking};
@@ -60,32 +58,16 @@ fn making_lines(
 {
     let mut text = String::new(alloc);
     for index in 0..tree.node_count() {
-        let line = line_at(alloc, notation, tree, readers, index)?;
+        let Some(node) = tree.node(index) else {
+            unreachable!()
+        };
+        let Some((_, given)) = tree.given(node.path)? else {
+            unreachable!()
+        };
+        let line = making_line(alloc, notation, readers, &node, &given)?;
         text.push_str(&line)?;
     }
     Ok(text)
-}
-
-/// The line that makes the node of a place.
-fn line_at(
-    alloc: Global,
-    notation: Notation,
-    tree: &Tree,
-    readers: u64,
-    index: usize,
-) -> Result<String, AllocError>
-    requires { index < length (entries (replay tree.now.opening tree.now.journal)) }
-    ensures { IfOk result (λ text. Some (string_bytes text) ≡ option_map
-        (λ node. making_line_of notation readers node.0 node.1)
-        (slice_get (entries (replay tree.now.opening tree.now.journal)) index)) }
-{
-    match tree.node(index) {
-        Some(node) => match tree.given(node.path)? {
-            Some((_, given)) => making_line(alloc, notation, readers, &node, &given),
-            None => unreachable!(),
-        },
-        None => unreachable!(),
-    }
 }
 
 /// The line that makes a node with this descriptor of its own: an opening for the root, and else an addition.
@@ -120,7 +102,8 @@ fn adding_word(kind: NodeKind) -> &'static str
     }
 }
 
-/// Whether the text is parsed to what makes the tree, line by line, and a publish.
+/// Whether the text is parsed to what makes the tree, line by line, and a publish. Only for the first line no store is
+/// open.
 fn is_read_back(
     alloc: Global,
     notation: Notation,
@@ -137,31 +120,15 @@ fn is_read_back(
             return Ok(false);
         }
         let (line, after) = first_line(Ending::Feed, rest);
-        if !is_read_as_node(alloc, notation, tree, readers, index, line)? {
+        let Some(node) = tree.node(index) else {
+            unreachable!()
+        };
+        if !is_read_as(alloc, notation, index > 0, line, readers, &node)? {
             return Ok(false);
         }
         rest = after;
     }
     is_read_as_publish(alloc, notation, tree.node_count() > 0, rest)
-}
-
-/// Whether a line is parsed to what makes the node of a place; only for the first no store is open.
-fn is_read_as_node(
-    alloc: Global,
-    notation: Notation,
-    tree: &Tree,
-    readers: u64,
-    index: usize,
-    line: &[u8],
-) -> Result<bool, AllocError>
-    requires { index < length (entries (replay tree.now.opening tree.now.journal)) }
-    ensures { (node : Names × Row) → Some node ≡ slice_get (entries (replay tree.now.opening tree.now.journal)) index
-        → IfOk result (λ is. Decides is (IsAskedBy notation (nat_lt 0 index) line.now (making readers node.0 node.1))) }
-{
-    match tree.node(index) {
-        Some(node) => is_read_as(alloc, notation, index > 0, line, readers, &node),
-        None => unreachable!(),
-    }
 }
 
 /// Whether a line is parsed to what makes the node.

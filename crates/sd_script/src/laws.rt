@@ -5,6 +5,7 @@ ghost use Rattle.sd_script.specs.Laws.{SilentNodeIsUnchanged, SilentReviewChange
 
 /// A line leaves one store and has one answer, unless it asks who is granted a right, or who is by the pending edits:
 /// those lines are exact in what they say.
+#[tactic(auto, using(crate::proofs::OneOutput::has_one_answer))]
 pub fn lines_have_one_answer()
     ensures { HasOneAnswer }
 {}
@@ -32,6 +33,7 @@ pub fn no_command_without_an_id()
 
 /// Where a review prints no line for a node, no check of it changes by the pending edits: of no token, for no request
 /// without MAXIMUM_ALLOWED ([MS-DTYP] 2.5.3.2). Where it prints its last line alone, none at or below its path does.
+#[tactic(auto, using(crate::proofs::Silence::silence))]
 pub fn silent_review_changes_nothing()
     ensures node { SilentNodeIsUnchanged }
     ensures review { SilentReviewChangesNothing }

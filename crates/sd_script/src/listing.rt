@@ -1,5 +1,5 @@
 //! The nodes of a published tree, a line for each.
-ghost use Rattle.std.specs.Prelude.{◌≡◌, ◌++◌, ◌<◌, IfOk, OnOk, Some, [], length, if◌then◌else◌, option_map, slice_get};
+ghost use Rattle.std.specs.Prelude.{◌≡◌, IfOk, option_map};
 ghost use Rattle.std.specs.Prelude.{string_bytes};
 ghost use Rattle.std.specs.FinMap.{entries};
 ghost use Rattle.std.specs.List.{flat_map, list_any};
@@ -10,7 +10,7 @@ ghost use Rattle.sd_tree.specs.Listing.{listed};
 ghost use Rattle.sd_tree.specs.Names.{is_within};
 ghost use Rattle.sd_script.specs.Listing.{is_split_below as is_split_below_of, kind_word as kind_word_of, grants};
 ghost use Rattle.sd_script.specs.Listing.{lacks_words as lacks_words_of, line_below as line_below_of};
-ghost use Rattle.sd_script.specs.Listing.{line_of as line_of_of, listed_in, node_line as node_line_of};
+ghost use Rattle.sd_script.specs.Listing.{listed_in, node_line as node_line_of};
 
 use crate::manner::Notation;
 use crate::paths::{PathSpelling, is_split, path_word};
@@ -72,23 +72,14 @@ fn has_split_path(alloc: Global, tree: &Tree, top: &Path) -> Result<bool, AllocE
         (entries (replay tree.now.opening tree.now.journal))) }
 {
     for index in 0..tree.node_count() {
-        if is_split_at(alloc, tree, top, index)? {
+        let Some(node) = tree.node(index) else {
+            unreachable!()
+        };
+        if is_split_below(alloc, top, &node)? {
             return Ok(true);
         }
     }
     Ok(false)
-}
-
-/// Whether that of the node of a place would.
-fn is_split_at(alloc: Global, tree: &Tree, top: &Path, index: usize) -> Result<bool, AllocError>
-    requires { index < length (entries (replay tree.now.opening tree.now.journal)) }
-    ensures { IfOk result (λ is. Some is ≡ option_map (is_split_below_of top.now)
-        (slice_get (entries (replay tree.now.opening tree.now.journal)) index)) }
-{
-    match tree.node(index) {
-        Some(node) => is_split_below(alloc, top, &node),
-        None => unreachable!(),
-    }
 }
 
 fn is_split_below(alloc: Global, top: &Path, node: &NodeRef<'_>) -> Result<bool, AllocError>
@@ -114,32 +105,16 @@ pub(crate) fn lines_below(
 {
     let mut text = String::new(alloc);
     for index in 0..tree.node_count() {
-        let line = line_at(alloc, notation, tree, top, which, index)?;
+        let Some(node) = tree.node(index) else {
+            unreachable!()
+        };
+        let line = line_below(alloc, notation, tree, top, which, &node)?;
         text.push_str(&line)?;
     }
     Ok(text)
 }
 
-/// The line of the node of a place, where it stands at or below the path, and else nothing.
-fn line_at(
-    alloc: Global,
-    notation: Notation,
-    tree: &Tree,
-    top: &Path,
-    which: &Which,
-    index: usize,
-) -> Result<String, AllocError>
-    requires { index < length (entries (replay tree.now.opening tree.now.journal)) }
-    ensures { IfOk result (λ text. Some (string_bytes text) ≡ option_map
-        (line_below_of notation tree.now.opening.mapping (replay tree.now.opening tree.now.journal) top.now which.now)
-        (slice_get (entries (replay tree.now.opening tree.now.journal)) index)) }
-{
-    match tree.node(index) {
-        Some(node) => line_below(alloc, notation, tree, top, which, &node),
-        None => unreachable!(),
-    }
-}
-
+/// The line of a node, where it stands at or below the path, and else nothing.
 fn line_below(
     alloc: Global,
     notation: Notation,
@@ -154,19 +129,6 @@ fn line_below(
     if !node.path.as_path_ref().is_within(&top.as_path_ref()) {
         return Ok(String::new(alloc));
     }
-    line_of(alloc, notation, tree, which, node)
-}
-
-fn line_of(
-    alloc: Global,
-    notation: Notation,
-    tree: &Tree,
-    which: &Which,
-    node: &NodeRef<'_>,
-) -> Result<String, AllocError>
-    ensures { IfOk result (λ text. string_bytes text ≡ line_of_of notation tree.now.opening.mapping
-        (replay tree.now.opening tree.now.journal) which.now (listed node.now)) }
-{
     match which {
         Which::All => {
             let descriptor = tree.descriptor(node.path)?;

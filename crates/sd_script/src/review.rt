@@ -1,6 +1,6 @@
 //! What the pending edits change, node by node, for all tokens.
-ghost use Rattle.std.specs.Prelude.{◌≡◌, ◌<◌, [], ◌++◌, IfOk, OnOk, Some, codes, length, option_map, slice_get};
-ghost use Rattle.std.specs.Prelude.{string_bytes, true};
+ghost use Rattle.std.specs.Prelude.{◌≡◌, ◌++◌, IfOk, OnOk, codes, length};
+ghost use Rattle.std.specs.Prelude.{string_bytes};
 ghost use Rattle.std.specs.FinMap.{entries};
 ghost use Rattle.std.specs.List.{flat_map};
 ghost use Rattle.std.specs.Option.{ForSome};
@@ -9,9 +9,9 @@ ghost use Rattle.sd_acl.specs.Descriptor.{descriptor_of};
 ghost use Rattle.sd_tree.specs.Listing.{listed};
 ghost use Rattle.sd_review.specs.Compared.{IsRight};
 ghost use Rattle.sd_review.specs.Parts.{parts_in};
-ghost use Rattle.sd_review.specs.Review.{former, stands_in, trees_of};
+ghost use Rattle.sd_review.specs.Review.{stands_in, trees_of};
 ghost use Rattle.sd_script.specs.Paths.{path_word};
-ghost use Rattle.sd_script.specs.Review.{ArePrinted, IsChangeText, IsCompared, IsNodeReview, IsNodeText, IsPrintedAt};
+ghost use Rattle.sd_script.specs.Review.{ArePrinted, IsChangeText, IsCompared, IsNodeReview};
 ghost use Rattle.sd_script.specs.Review.{IsReview, IsReviewOf, gone_line, has_no_words, moved_line, new_line};
 ghost use Rattle.sd_script.specs.Review.{reviewed_line};
 
@@ -102,57 +102,40 @@ impl ReviewText<'_> {
         let mut text = String::new(alloc);
         let mut last = None;
         for index in 0..self.review.new.node_count() {
-            let lines = self.changes_at(alloc, &mut last, top, index)?;
+            let Some(node) = self.review.new.node(index) else {
+                unreachable!()
+            };
+            let lines = self.changes_at(alloc, &mut last, top, &node)?;
             text.push_str(&lines)?;
         }
         Ok(text)
     }
 
-    /// Those of the node of a place.
+    /// Those of a node.
     fn changes_at(
         &self,
         alloc: Global,
         last: &mut Option<Compared>,
         top: &Path,
-        index: usize,
+        node: &NodeRef<'_>,
     ) -> Result<String, AllocError>
         requires { ForSome last.old (IsRight self.now.review.old.now.opening.mapping) }
-        ensures text { IfOk result (λ text. IsPrintedAt
-            (IsNodeReview self.now.notation (trees_of self.now.review) top.now)
-            (entries (trees_of self.now.review).new) index (string_bytes text)) }
+        ensures text { IfOk result (λ text. IsNodeReview self.now.notation (trees_of self.now.review) top.now
+            (listed node.now) (string_bytes text)) }
         ensures right { OnOk result (ForSome last.new (IsRight self.now.review.old.now.opening.mapping)) }
     {
-        let Some(node) = self.review.new.node(index) else {
-            return Ok(String::new(alloc));
-        };
         if !node.path.as_path_ref().is_within(&top.as_path_ref()) {
             return Ok(String::new(alloc));
         }
-        let text = self.node_text(alloc, last, node.path)?;
-        Ok(text)
-    }
-
-    /// Those of the node of a path.
-    fn node_text(
-        &self,
-        alloc: Global,
-        last: &mut Option<Compared>,
-        path: &Path,
-    ) -> Result<String, AllocError>
-        requires { ForSome last.old (IsRight self.now.review.old.now.opening.mapping) }
-        ensures text { IfOk result (λ text. IsNodeText self.now.notation (trees_of self.now.review) path.now
-            (former (trees_of self.now.review) path.now) (string_bytes text)) }
-        ensures right { OnOk result (ForSome last.new (IsRight self.now.review.old.now.opening.mapping)) }
-    {
-        match self.review.former(alloc, path)? {
-            Former::Same => self.compared(alloc, last, path, path),
+        match self.review.former(alloc, node.path)? {
+            Former::Same => self.compared(alloc, last, node.path, node.path),
             Former::Moved(before) => {
-                let mut text = moved_line(alloc, self.notation.paths, &before, path)?;
-                let changes = self.compared(alloc, last, &before, path)?;
+                let mut text = moved_line(alloc, self.notation.paths, &before, node.path)?;
+                let changes = self.compared(alloc, last, &before, node.path)?;
                 text.push_str(&changes)?;
                 Ok(text)
             }
-            Former::New => new_line(alloc, self.notation.paths, path),
+            Former::New => new_line(alloc, self.notation.paths, node.path),
         }
     }
 
@@ -187,23 +170,13 @@ impl ReviewText<'_> {
     {
         let mut text = String::new(alloc);
         for index in 0..self.review.old.node_count() {
-            let line = self.gone_at(alloc, top, index)?;
+            let Some(node) = self.review.old.node(index) else {
+                unreachable!()
+            };
+            let line = self.gone_line(alloc, top, &node)?;
             text.push_str(&line)?;
         }
         Ok(text)
-    }
-
-    /// That of the node of a place.
-    fn gone_at(&self, alloc: Global, top: &Path, index: usize) -> Result<String, AllocError>
-        requires { index < length (entries (trees_of self.now.review).old) }
-        ensures { IfOk result (λ text. Some (string_bytes text) ≡ option_map
-            (gone_line self.now.notation.paths (trees_of self.now.review) top.now)
-            (slice_get (entries (trees_of self.now.review).old) index)) }
-    {
-        match self.review.old.node(index) {
-            Some(node) => self.gone_line(alloc, top, &node),
-            None => unreachable!(),
-        }
     }
 
     fn gone_line(&self, alloc: Global, top: &Path, node: &NodeRef<'_>) -> Result<String, AllocError>
@@ -217,9 +190,7 @@ impl ReviewText<'_> {
             return Ok(String::new(alloc));
         }
         let path = path_word(alloc, self.notation.paths, node.path)?;
-        let path = path.as_str();
-        let text = format!(in alloc; "gone {path}\n")?;
-        Ok(text)
+        format!(in alloc; "gone {path}\n")
     }
 }
 
@@ -246,9 +217,7 @@ fn new_line(alloc: Global, paths: PathSpelling, path: &Path) -> Result<String, A
     ensures { IfOk result (λ text. string_bytes text ≡ new_line paths path.now) }
 {
     let path = path_word(alloc, paths, path)?;
-    let path = path.as_str();
-    let text = format!(in alloc; "new {path}\n")?;
-    Ok(text)
+    format!(in alloc; "new {path}\n")
 }
 
 fn moved_line(
@@ -259,10 +228,8 @@ fn moved_line(
 ) -> Result<String, AllocError>
     ensures { IfOk result (λ text. string_bytes text ≡ moved_line paths before.now path.now) }
 {
-    let (before, path) = (
-        path_word(alloc, paths, before)?,
-        path_word(alloc, paths, path)?,
-    );
+    let before = path_word(alloc, paths, before)?;
+    let path = path_word(alloc, paths, path)?;
     let (before, path) = (before.as_str(), path.as_str());
     let text = format!(in alloc; "moved {before} {path}\n")?;
     Ok(text)
