@@ -233,14 +233,9 @@ options_keep_texts name option domain sid word dashes sddl user mask words names
 
 -- what is asked of a text, where that is asked for
 abbrev request_in : RequestValue → InvocationValue → RequestValue
-request_in other (Ask text request) = other
 request_in other (AskInput request) = request
-request_in other Script = other
-request_in other (Serve has_ids) = other
-request_in other (Audit workers) = other
 request_in other (Each lines request) = request
-request_in other (Help command) = other
-request_in other Version = other
+request_in other invocation = other
 
 abbrev request_of_asked : RequestValue → Result AskedValue Mistake → RequestValue
 request_of_asked other (Err mistake) = other

@@ -48,15 +48,11 @@ version_lines = line (codes "sdstore " ++ VERSION.now) ++ line KIT.now
 
 -- what is printed for an invocation that needs no input, under these settings; the help's text is `clap`'s
 abbrev pub AnswersUnder : Settings → InvocationValue → AnswerValue → Type 0
-AnswersUnder settings
-    (Ask text request) answer = AnswersQuestion settings request.question text request.arguments answer
+AnswersUnder settings (Ask text request) answer =
+    AnswersQuestion settings request.question text request.arguments answer
 AnswersUnder settings (Help command) answer = (answer.told ≡ []) × (answer.outcome ≡ Done)
 AnswersUnder settings Version answer = IsDone version_lines answer
-AnswersUnder settings (AskInput request) answer = ⊥
-AnswersUnder settings AsksScript answer = ⊥
-AnswersUnder settings (AsksServe has_ids) answer = ⊥
-AnswersUnder settings (AsksAudit workers) answer = ⊥
-AnswersUnder settings (AsksEach lines request) answer = ⊥
+AnswersUnder settings invocation answer = ⊥
 
 -- the value of an option isn't read
 abbrev pub IsBadOption : List ℕ → List ℕ → AnswerValue → Type 0
@@ -81,7 +77,7 @@ AnswersWith options Answers answer =
     (settings : Result Settings BadValue) × GivesSettings options settings × AnswersBy Answers settings answer
 
 abbrev pub AnswersArguments : OptionsValue → InvocationValue → AnswerValue → Type 0
-AnswersArguments options invocation answer = AnswersWith options (λ settings. AnswersUnder settings invocation) answer
+AnswersArguments options invocation = AnswersWith options (λ settings. AnswersUnder settings invocation)
 
 -- ---- as it is printed
 

@@ -61,8 +61,11 @@ pub record CommandLineValue : Type 0 where
   pub options : OptionsValue
   pub invocation : InvocationValue
 
+abbrev pub asking : OptionsValue → InvocationValue → CommandLineValue
+asking options invocation = record { options = options; invocation = invocation }
+
 abbrev pub command_line_of : CommandLine → CommandLineValue
-command_line_of line = record { options = options_of line.options; invocation = invocation_of line.invocation }
+command_line_of line = asking (options_of line.options) (invocation_of line.invocation)
 
 -- what is asked for, and how many arguments there are from the command on: of `each` from the one for its lines
 pub record AskedValue : Type 0 where
@@ -203,7 +206,7 @@ abbrev pub with_options : OptionsValue → List (Bor (List ℕ)) → AskedValue 
 with_options options words asked =
     elim (misplaced_in (word_at words asked.named) asked.named options words) [
       | Some wrong ↦ Err wrong
-      | None ↦ Ok (record { options = options; invocation = asked.invocation })
+      | None ↦ Ok (asking options asked.invocation)
     ]
 
 abbrev pub after_options : List (Bor (List ℕ)) → OptionsValue × List (Bor (List ℕ)) → Result CommandLineValue Mistake
@@ -242,7 +245,7 @@ shown_by (word ∷ next ∷ other ∷ words) = None
 abbrev after_name : List (Bor (List ℕ)) → Result CommandLineValue Mistake
 after_name words =
     elim (shown_by words) [
-      | Some shown ↦ Ok (record { options = no_options; invocation = shown })
+      | Some shown ↦ Ok (asking no_options shown)
       | None ↦ run_by words
     ]
 
@@ -272,14 +275,9 @@ runs_script invocation = false
 
 -- whether what is asked for is answered from the input: a script, or a question of it or of each line
 abbrev pub uses_input : InvocationValue → Bool
-uses_input Script = true
-uses_input (Serve has_ids) = true
-uses_input (Audit workers) = true
 uses_input (AskInput request) = true
 uses_input (Each lines request) = true
-uses_input (Ask text request) = false
-uses_input (Help command) = false
-uses_input Version = false
+uses_input invocation = runs_script invocation
 
 -- the arguments ask for what is answered from the input
 abbrev pub asks_input : List (Bor (List ℕ)) → Bool

@@ -36,14 +36,12 @@ with_line progress is_refused = if is_refused then AnyRefused else AllDone
 
 -- an input without a line is refused too, and standard error says so
 abbrev pub outcome_of_lines : Progress → Outcome
-outcome_of_lines NoLine = Refused
 outcome_of_lines AllDone = Done
-outcome_of_lines AnyRefused = Refused
+outcome_of_lines progress = Refused
 
 abbrev pub no_line_note : List ℕ
 no_line_note = told_line (codes "standard input") (codes "no line")
 
 abbrev pub told_of_lines : Progress → List ℕ
 told_of_lines NoLine = no_line_note
-told_of_lines AllDone = []
-told_of_lines AnyRefused = []
+told_of_lines progress = []

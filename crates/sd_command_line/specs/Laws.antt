@@ -7,8 +7,8 @@ use Rattle.sd_answer.specs.Laws.{are_distinct}
 use Rattle.sd_usage.specs.declared.row.OptionName.TheVariants.{Domain, Names}
 use Rattle.sd_usage.specs.declared.row.Question.TheVariants as questions
 use Rattle.sd_usage.specs.declared.table.TheConstants.{COMMANDS, OPTIONS}
-use Rattle.sd_command_line.specs.CommandLine.{InvocationValue, Ask, AskInput, Script, Serve, Audit, Each, Help}
-use Rattle.sd_command_line.specs.CommandLine.{Version, CommandLineValue, RequestValue, CallValue, asks, reading}
+use Rattle.sd_command_line.specs.CommandLine.{InvocationValue, Ask, AskInput, Each, Help}
+use Rattle.sd_command_line.specs.CommandLine.{Version, CommandLineValue, RequestValue, CallValue, asking, asks, reading}
 use Rattle.sd_command_line.specs.CommandLine.{request_on, text_request}
 use Rattle.sd_command_line.specs.Options.{no_options, with_value}
 use Rattle.sd_command_line.specs.declared.flags.Lines.{Lines}
@@ -24,12 +24,7 @@ OptionsAreDistinct = are_distinct (map (λ row. row.0.now) OPTIONS.now) ≡ true
 abbrev pub is_shown : InvocationValue → Bool
 is_shown (Help command) = true
 is_shown Version = true
-is_shown (Ask text request) = false
-is_shown (AskInput request) = false
-is_shown Script = false
-is_shown (Serve has_ids) = false
-is_shown (Audit workers) = false
-is_shown (Each lines request) = false
+is_shown invocation = false
 
 abbrev pub shows : Option CommandLineValue → Bool
 shows read = option_map_or (λ line. is_shown line.invocation) read false
@@ -42,27 +37,22 @@ HelpStandsAlone = (words : List (Bor (List ℕ))) → shows (reading words) ≡ 
 abbrev pub DashesKeepTexts : Type 0
 DashesKeepTexts = (name word dashes sddl user mask : Bor (List ℕ)) (words : List (Bor (List ℕ)))
     → word.now ≡ codes "verdict" → dashes.now ≡ codes "--"
-    → reading (name ∷ word ∷ dashes ∷ sddl ∷ user ∷ mask ∷ words) ≡ Some (record {
-      options = no_options;
-      invocation = Ask sddl.now (record { question = questions.Verdict; arguments = user ∷ mask ∷ words });
-    })
+    → reading (name ∷ word ∷ dashes ∷ sddl ∷ user ∷ mask ∷ words) ≡ Some (asking no_options
+    (Ask sddl.now (record { question = questions.Verdict; arguments = user ∷ mask ∷ words })))
 
 abbrev pub DashesKeepTextsOfWhy : Type 0
 DashesKeepTextsOfWhy = (name word dashes sddl user mask : Bor (List ℕ)) (words : List (Bor (List ℕ)))
     → word.now ≡ codes "why" → dashes.now ≡ codes "--"
-    → reading (name ∷ word ∷ dashes ∷ sddl ∷ user ∷ mask ∷ words) ≡ Some (record {
-      options = no_options;
-      invocation = Ask sddl.now (record { question = questions.Why; arguments = user ∷ mask ∷ words });
-    })
+    → reading (name ∷ word ∷ dashes ∷ sddl ∷ user ∷ mask ∷ words) ≡ Some (asking no_options
+    (Ask sddl.now (record { question = questions.Why; arguments = user ∷ mask ∷ words })))
 
 -- the same with options before the command
 abbrev pub OptionsKeepTexts : Type 0
 OptionsKeepTexts = (name option domain sid word dashes sddl user mask : Bor (List ℕ)) (words : List (Bor (List ℕ)))
     → option.now ≡ codes "--names" → domain.now ≡ codes "--domain" → word.now ≡ codes "why" → dashes.now ≡ codes "--"
-    → reading (name ∷ option ∷ domain ∷ sid ∷ word ∷ dashes ∷ sddl ∷ user ∷ mask ∷ words) ≡ Some (record {
-      options = with_value (with_value no_options Names []) Domain sid.now;
-      invocation = Ask sddl.now (record { question = questions.Why; arguments = user ∷ mask ∷ words });
-    })
+    → reading (name ∷ option ∷ domain ∷ sid ∷ word ∷ dashes ∷ sddl ∷ user ∷ mask ∷ words) ≡ Some (asking
+    (with_value (with_value no_options Names []) Domain sid.now)
+    (Ask sddl.now (record { question = questions.Why; arguments = user ∷ mask ∷ words })))
 
 -- what is asked of each line is what the command asks with the line as its first argument
 abbrev pub EachAsksTheCommand : Type 0

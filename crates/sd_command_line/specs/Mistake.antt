@@ -68,14 +68,12 @@ hint name NoCommand = line (codes "commands: " ++ listed_commands All [])
 hint name UnknownCommand = line (codes "commands: " ++ listed_commands All [])
 hint name UnknownOption = line (codes "'sdstore help' lists the options")
 hint name NotAlone = line (codes "usage: sdstore help [COMMAND]")
-hint name RepeatedOption = []
-hint name NoValue = []
 hint name (MisplacedOption option) = line (codes "it goes before " ++ listed_commands (Taking option) [])
-hint name ExcludedOption = []
 hint name NoText = line (codes "commands that do: " ++ listed_commands Answering [])
 hint name (MissingArgument argument command) = line (codes "usage: " ++ usage_line name command)
 hint name (SurplusArgument command) = line (codes "usage: " ++ usage_line name command)
 hint name (NoWorkers command) = line (codes "usage: " ++ usage_line name command)
+hint name wrong = []
 
 abbrev pub message : List (Bor (List ℕ)) → Mistake → List ℕ
 message words is =

@@ -136,9 +136,8 @@ is_strict options = has options Strict
 -- the text is the SID of this domain, or neither is there
 abbrev pub GivesDomain : Option (List ℕ) → Option DomainValue → Type 0
 GivesDomain None None = ⊤
-GivesDomain None (Some domain) = ⊥
-GivesDomain (Some text) None = ⊥
 GivesDomain (Some text) (Some domain) = Spells sid_text text (domain_sid domain)
+GivesDomain given domain = ⊥
 
 -- the text is no domain's SID
 abbrev pub IsNoDomain : List ℕ → Type 0
@@ -163,8 +162,7 @@ HasBadValue options (NoDomain text points) =
     (given options Domain ≡ Some text.now) × IsNoDomain text.now × (points ≡ has options Caret)
 HasBadValue options NoMapping = ((domain : Option DomainValue) × GivesDomain (given options Domain) domain)
     × GivesNoMapping (given options Mapping)
-HasBadValue options NoNodes = ⊥
-HasBadValue options NoEdits = ⊥
+HasBadValue options bad = ⊥
 
 -- these settings, or this value that isn't read
 abbrev pub GivesSettings : OptionsValue → Result Settings BadValue → Type 0

@@ -45,11 +45,8 @@ pub record AppendsPartOfAnswerTo (line : CommandLineValue) (input old new : Opti
 
 -- nothing was written before an error, but for a write's own
 abbrev pub LeavesAnswerTo : CommandLineValue → Option (List ℕ) → Option (List ℕ) → Option (List ℕ) → RunError → Type 0
-LeavesAnswerTo line input old new Read = Keeps old new
-LeavesAnswerTo line input old new TooLong = Keeps old new
 LeavesAnswerTo line input old new Write = AppendsPartOfAnswerTo line input old new
-LeavesAnswerTo line input old new Memory = Keeps old new
-LeavesAnswerTo line input old new Thread = Keeps old new
+LeavesAnswerTo line input old new error = Keeps old new
 
 -- line by line, what was answered until then
 pub record LeavesServed (line : CommandLineValue) (input left old new : Option (List ℕ))
@@ -135,14 +132,12 @@ failure_text (Run error) = error_line error
 
 -- whether the answer is that the reader failed, or that the writer did
 abbrev pub blames_reader : {T : Type 0} → Result T Failure → Bool
-blames_reader (Ok x) = false
-blames_reader (Err (Unread reason)) = false
 blames_reader (Err (Run error)) = is_read_error {T = Unit {0}} (Err error)
+blames_reader result = false
 
 abbrev pub blames_writer : {T : Type 0} → Result T Failure → Bool
-blames_writer (Ok x) = false
-blames_writer (Err (Unread reason)) = false
 blames_writer (Err (Run error)) = is_write_error {T = Unit {0}} (Err error)
+blames_writer result = false
 
 -- an error blames a stream just where that stream failed, TooLong comes only where too much was read, and Thread of an
 -- audit alone; of want of memory no stream tells

@@ -50,13 +50,9 @@ fn answer_under(
         Invocation::Ask { text, request } => {
             answer_question(alloc, settings, request.question, text, request.arguments)
         }
-        Invocation::AskInput { .. }
-        | Invocation::Script
-        | Invocation::Serve { .. }
-        | Invocation::Audit { .. }
-        | Invocation::Each { .. } => unreachable!(),
         Invocation::Help { command } => Ok(Answer::done(alloc, help(alloc, command)?)),
         Invocation::Version => Ok(Answer::done(alloc, version_text(alloc)?)),
+        _ => unreachable!(),
     }
 }
 

@@ -47,14 +47,10 @@ impl Invocation<'_> {
     pub(crate) fn uses_input(self) -> bool
         ensures { result ≡ uses_input (invocation_of self.entry) }
     {
-        match self {
-            Invocation::AskInput { .. }
-            | Invocation::Script
-            | Invocation::Serve { .. }
-            | Invocation::Audit { .. }
-            | Invocation::Each { .. } => true,
-            Invocation::Ask { .. } | Invocation::Help { .. } | Invocation::Version => false,
-        }
+        !matches!(
+            self,
+            Invocation::Ask { .. } | Invocation::Help { .. } | Invocation::Version
+        )
     }
 }
 
@@ -159,13 +155,9 @@ fn shown_by<'a>(words: &[&str]) -> Option<Invocation<'a>>
 fn run_by<'a>(words: &'a [&'a str]) -> Result<CommandLine<'a>, Mistake>
     ensures { map_read command_line_of result ≡ run_by words.entry.now }
 {
-    match options_in(words) {
-        Ok((options, rest)) => match command_in(options.is_from_input(), rest) {
-            Ok(asked) => with_options(options, words, asked),
-            Err(mistake) => Err(mistake),
-        },
-        Err(mistake) => Err(mistake),
-    }
+    let (options, rest) = options_in(words)?;
+    let asked = command_in(options.is_from_input(), rest)?;
+    with_options(options, words, asked)
 }
 
 /// What is asked for, where each of these options, with which the arguments begin, may go before the command.
@@ -190,15 +182,11 @@ fn with_options<'a>(
 fn command_in<'a>(from_input: bool, words: &'a [&'a str]) -> Result<Asked<'a>, Mistake>
     ensures { map_read asked_of result ≡ command_in from_input words.entry.now }
 {
-    match call_in(words) {
-        Ok(call) => {
-            if from_input {
-                input_request(call)
-            } else {
-                request_on(call)
-            }
-        }
-        Err(mistake) => Err(mistake),
+    let call = call_in(words)?;
+    if from_input {
+        input_request(call)
+    } else {
+        request_on(call)
     }
 }
 
@@ -257,23 +245,17 @@ fn request_on<'a>(call: Call<'a>) -> Result<Asked<'a>, Mistake>
 fn line_request<'a>(lines: Lines, words: &'a [&'a str]) -> Result<Asked<'a>, Mistake>
     ensures { map_read asked_of result ≡ then_read (text_request (Each lines)) (call_in words.entry.now) }
 {
-    match call_in(words) {
-        Ok(call) => match call.request_after() {
-            Ok(request) => Ok(call.asks(Invocation::Each { lines, request })),
-            Err(mistake) => Err(mistake),
-        },
-        Err(mistake) => Err(mistake),
-    }
+    let call = call_in(words)?;
+    let request = call.request_after()?;
+    Ok(call.asks(Invocation::Each { lines, request }))
 }
 
 /// What a command asks of the text that the input is.
 fn input_request<'a>(call: Call<'a>) -> Result<Asked<'a>, Mistake>
     ensures { map_read asked_of result ≡ text_request AskInput (call_of call.entry) }
 {
-    match call.request_after() {
-        Ok(request) => Ok(call.asks(Invocation::AskInput { request })),
-        Err(mistake) => Err(mistake),
-    }
+    let request = call.request_after()?;
+    Ok(call.asks(Invocation::AskInput { request }))
 }
 
 /// The help that a text after `help` asks for: on the command that it names, or, as `help` itself, on the program.

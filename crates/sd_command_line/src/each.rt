@@ -226,10 +226,8 @@ fn key_len(line: &[u8]) -> usize
     ensures len { result ≡ key_len line.now }
     ensures within { result ≤ length line.now }
 {
-    match line.iter().position(|byte| *byte == b'\t') {
-        Some(place) => place,
-        None => line.len(),
-    }
+    let len = line.iter().position(|byte| *byte == b'\t');
+    len.unwrap_or(line.len())
 }
 
 fn has_feed(key: &[u8]) -> bool

@@ -58,10 +58,7 @@ impl<'a> Options<'a> {
     fn has(self, option: OptionName) -> bool
         ensures { result ≡ has (options_of self.entry) option }
     {
-        match self.given(option) {
-            Some(_) => true,
-            None => false,
-        }
+        self.given(option).is_some()
     }
 
     /// These, and this one.
@@ -316,16 +313,12 @@ fn options_after<'a>(
         return Ok((options, words));
     };
     let Some(_) = option.value else {
-        return match options.with_option(words.len(), option.name, "") {
-            Ok(options) => options_after(options, after),
-            Err(mistake) => Err(mistake),
-        };
+        let options = options.with_option(words.len(), option.name, "")?;
+        return options_after(options, after);
     };
     let [value, after @ ..] = after else {
         return Err(Mistake::new(words.len(), 0, Wrong::NoValue));
     };
-    match options.with_option(words.len(), option.name, value) {
-        Ok(options) => options_after(options, after),
-        Err(mistake) => Err(mistake),
-    }
+    let options = options.with_option(words.len(), option.name, value)?;
+    options_after(options, after)
 }

@@ -5,7 +5,7 @@ ghost use Rattle.sd_stream.specs.Watched.{has_failed, inner_of};
 ghost use Rattle.sd_stream.specs.Whole.{AppendsBeginning, ReadsPart, is_read_error, is_write_error};
 ghost use Rattle.sd_commands.specs.Answer.{outcome_status};
 ghost use Rattle.sd_command_line.specs.CommandLine.{AskInput, Audit, Each, command_line_of, invocation_of, uses_input};
-ghost use Rattle.sd_command_line.specs.CommandLine.{request_of, runs_script};
+ghost use Rattle.sd_command_line.specs.CommandLine.{asking, request_of, runs_script};
 ghost use Rattle.sd_command_line.specs.Options.{IsManner, is_strict, options_of};
 ghost use Rattle.sd_command_line.specs.Output.{AppendsAnswerTo, LeavesAfter, LeavesAfterFailure, blames_reader};
 ghost use Rattle.sd_command_line.specs.Output.{blames_writer};
@@ -81,17 +81,12 @@ fn perform_input<R: Read, W: Write>(
     reader: &mut Watched<R>,
     writer: &mut Watched<W>,
 ) -> Result<Ended, Failure>
-    ensures ok { IfOk result
-        (λ ended. AppendsAnswerTo
-        (record { options = options_of options.entry; invocation = AskInput (request_of request.entry) })
-        (R.remaining (inner_of reader.old))
+    ensures ok { IfOk result (λ ended. AppendsAnswerTo
+        (asking (options_of options.entry) (AskInput (request_of request.entry))) (R.remaining (inner_of reader.old))
         (W.contents (inner_of writer.old)) (W.contents (inner_of writer.new)) (string_bytes ended.told)
         (outcome_status ended.outcome)) }
-    ensures err { IfErr result
-        (LeavesAfterFailure (record {
-          options = options_of options.entry;
-          invocation = AskInput (request_of request.entry);
-        })
+    ensures err { IfErr result (LeavesAfterFailure
+        (asking (options_of options.entry) (AskInput (request_of request.entry)))
         (R.remaining (inner_of reader.old)) (R.remaining (inner_of reader.new))
         (W.contents (inner_of writer.old)) (W.contents (inner_of writer.new))) }
     ensures read { has_failed reader.new ≡ (has_failed reader.old || blames_reader result) }
@@ -196,17 +191,12 @@ fn perform_each<R: Read, W: Write>(
     reader: &mut Watched<R>,
     writer: &mut Watched<W>,
 ) -> Result<Ended, Failure>
-    ensures ok { IfOk result
-        (λ ended. AppendsAnswerTo
-        (record { options = options_of options.entry; invocation = Each lines (request_of request.entry) })
-        (R.remaining (inner_of reader.old))
+    ensures ok { IfOk result (λ ended. AppendsAnswerTo
+        (asking (options_of options.entry) (Each lines (request_of request.entry))) (R.remaining (inner_of reader.old))
         (W.contents (inner_of writer.old)) (W.contents (inner_of writer.new)) (string_bytes ended.told)
         (outcome_status ended.outcome)) }
-    ensures err { IfErr result
-        (LeavesAfterFailure (record {
-          options = options_of options.entry;
-          invocation = Each lines (request_of request.entry);
-        })
+    ensures err { IfErr result (LeavesAfterFailure
+        (asking (options_of options.entry) (Each lines (request_of request.entry)))
         (R.remaining (inner_of reader.old)) (R.remaining (inner_of reader.new))
         (W.contents (inner_of writer.old)) (W.contents (inner_of writer.new))) }
     ensures read { has_failed reader.new ≡ (has_failed reader.old || blames_reader result) }
