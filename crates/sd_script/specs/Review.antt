@@ -1,6 +1,6 @@
 -- What `review` prints: what the pending edits change, node by node, for all tokens.
 use Rattle.std.specs.Prelude.{◌≡◌, ℕ, Bool, true, false, ◌||◌, List, [], ◌∷◌, ◌++◌, length, MatchBool}
-use Rattle.std.specs.Prelude.{if◌then◌else◌, Option, Some, None, is_some, codes}
+use Rattle.std.specs.Prelude.{if◌then◌else◌, Option, Some, is_some, codes}
 use Rattle.std.specs.Fmt.{decimal}
 use Rattle.std.specs.FinMap.{entries}
 use Rattle.std.specs.List.{flat_map}
