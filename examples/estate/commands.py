@@ -22,7 +22,7 @@ from script import Script, read_script
 from table import Table, plural, say
 from texts import Assumed, TextFile
 from volumes import Volume
-from whole import whole_file
+from atomic_file import atomic_file
 from writing import Move, apply, backward, check_target, forward
 
 ATTRIBUTES = {"ntfs": Attribute.NTFS, "samba": Attribute.SAMBA}
@@ -31,7 +31,7 @@ ATTRIBUTES = {"ntfs": Attribute.NTFS, "samba": Attribute.SAMBA}
 def read(arguments: argparse.Namespace, table: Table) -> int:
     """The nodes of a source as a script."""
     root = _descriptor("--root", arguments.root)
-    with whole_file(arguments.script) as script:
+    with atomic_file(arguments.script) as script:
         reading = Reading(script, table, arguments.folders)
         if os.path.isdir(arguments.source):
             with _volume(arguments.source, arguments) as volume, Progress(volume.node_count) as progress:

@@ -7,7 +7,7 @@ from paths import spelled
 from script import Change, Script
 from sddl import parts_of
 from table import Table, plural
-from whole import whole_file
+from atomic_file import atomic_file
 
 #: What no name has on Windows.
 _NOT_IN_NAMES = re.compile(r'[\x00-\x1f\x7f<>:"/\\|?*]')
@@ -26,7 +26,7 @@ def write_icacls(script: Script, name: str, folder: str, is_old: bool, table: Ta
             table.row("stop", {"path": spelled(change.path), "why": why})
     if stops:
         raise Stopped(f"{plural(stops, 'node')} can't be written so: nothing is written")
-    with whole_file(name) as file:
+    with atomic_file(name) as file:
         for change in changes:
             path = "\\".join([folder, *(part.decode() for part in change.path)])
             text = change.read if is_old else change.after

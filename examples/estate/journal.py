@@ -17,7 +17,7 @@ from typing import Any, BinaryIO
 from errors import Failed, Invalid, Stopped
 from forms import Attribute
 from paths import Path, parsed, spelled
-from whole import sync_folder
+from atomic_file import sync_folder
 
 _VERSION = 1
 

@@ -16,7 +16,7 @@ from questions import Difference, Grant, findings_of, grants_of, reviewed
 from script import Script
 from sddl import Entry, Parts, parts_of
 from table import plural, safe
-from whole import whole_file
+from atomic_file import atomic_file
 
 _HERE = File(__file__).resolve().parent
 #: The masks of files that have a name in Windows' own editor.
@@ -154,7 +154,7 @@ class Report:
         before, after = page.split("@data@")
         for key, value in values.items():
             before, after = before.replace(f"@{key}@", value), after.replace(f"@{key}@", value)
-        with whole_file(name) as file:
+        with atomic_file(name) as file:
             file.write((before + inside + after).encode())
 
 

@@ -1,7 +1,7 @@
 //! Who is granted rights by a kept descriptor at all, and what a change of a descriptor grants and takes away.
 
 ghost use Rattle.std.specs.Prelude.{◌≡◌, IfErr, IfOk, string_bytes};
-ghost use Rattle.sd_acl.specs.Descriptor.{descriptor_of as descriptor_value};
+ghost use Rattle.sd_acl.specs.Descriptor.{descriptor_of};
 ghost use Rattle.sd_c.specs.Analysis.{AnswersCompare, AnswersWho, IsCompareOf, IsCompareText, IsWhoOf, IsWhoText};
 ghost use Rattle.sd_c.specs.Analysis.{Stops, bits_of, both_kept, descriptors_in, kept_in, no_accesses, no_comparison};
 ghost use Rattle.sd_c.specs.Kept.{Stays, descriptor_in};
@@ -162,7 +162,7 @@ fn who_lines(
     mapping: &GenericMapping,
     asked: Mask,
 ) -> Result<String, AllocError>
-    ensures { IfOk result (λ text. IsWhoText (descriptor_value descriptor.now)
+    ensures { IfOk result (λ text. IsWhoText (descriptor_of descriptor.now)
         (record { groups = groups.now; mapping = mapping.now }) asked (string_bytes text)) }
 {
     let base = Base { groups };
@@ -213,7 +213,7 @@ fn comparison_of(
     groups: &[(Sid, GroupState)],
     mapping: &GenericMapping,
 ) -> Result<Compared, AllocError>
-    ensures { IfOk result (λ made. IsCompareText (descriptor_value old.now) (descriptor_value new.now)
+    ensures { IfOk result (λ made. IsCompareText (descriptor_of old.now) (descriptor_of new.now)
         (record { groups = groups.now; mapping = mapping.now }) (string_bytes made.text) made.gained made.lost) }
 {
     let (old, new, base) = (looked_at(old), looked_at(new), Base { groups });

@@ -1,8 +1,8 @@
 //! The edit that the arguments of a call say.
 
 ghost use Rattle.std.specs.Prelude.{◌≡◌, IfErr, IfOk, Ok};
-ghost use Rattle.sd_acl.specs.Descriptor.{descriptor_of as value_of};
-ghost use Rattle.sd_path.specs.PathText.{path_of as path_read};
+ghost use Rattle.sd_acl.specs.Descriptor.{descriptor_of};
+ghost use Rattle.sd_path.specs.PathText.{path_of};
 ghost use Rattle.sd_wire.specs.Reading.{descriptor_read};
 ghost use Rattle.sd_c.specs.Edits.{IsDacl, IsEdit, IsNoDacl, IsNoDescriptor, IsNoEdit, IsNoNode, IsNoPath, IsNoSid};
 ghost use Rattle.sd_c.specs.Edits.{IsNode, IsSid, own_dacl};
@@ -82,7 +82,7 @@ pub(crate) fn edit_of(alloc: Global, kind: u32, path: &[u8], value: &[u8]) -> Re
 
 /// The path that an argument says.
 pub(crate) fn path_of(alloc: Global, argument: PathArgument, bytes: &[u8]) -> Result<Path, NotDone>
-    ensures ok { IfOk result (λ path. path_read bytes.now ≡ Ok path) }
+    ensures ok { IfOk result (λ path. path_of bytes.now ≡ Ok path) }
     ensures err { IfErr result (λ why. IsNoPath argument bytes.now why) }
 {
     let text = match utf8_of(bytes) {
@@ -134,7 +134,7 @@ fn dacl_of(alloc: Global, bytes: &[u8]) -> Result<NodeDacl, NotDone>
 }
 
 fn descriptor_of(alloc: Global, bytes: &[u8]) -> Result<Descriptor, NotDone>
-    ensures ok { IfOk result (λ d. descriptor_read bytes.now ≡ Ok (value_of d)) }
+    ensures ok { IfOk result (λ d. descriptor_read bytes.now ≡ Ok (descriptor_of d)) }
     ensures err { IfErr result (λ why. IsNoDescriptor bytes.now why) }
 {
     match read_descriptor(alloc, bytes) {

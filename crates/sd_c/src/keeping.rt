@@ -1,7 +1,7 @@
 //! The calls that keep what they parse in a handle.
 
 ghost use Rattle.std.specs.Prelude.{◌≡◌, ◌⊎◌, Ok, IfErr, IfOk, IsErrOf};
-ghost use Rattle.sd_acl.specs.Descriptor.{DescriptorValue, descriptor_of as descriptor_value};
+ghost use Rattle.sd_acl.specs.Descriptor.{DescriptorValue, descriptor_of};
 ghost use Rattle.sd_check.specs.Token.{TokenValue};
 ghost use Rattle.sd_text.specs.Grammar.{Spells};
 ghost use Rattle.sd_text.specs.Sddl.{sddl};
@@ -99,7 +99,7 @@ fn kept_text(alloc: Global, text: &[u8]) -> Result<Box<Kept>, Refusal>
 
 /// The descriptor, for one handle.
 fn boxed_descriptor(alloc: Global, descriptor: Descriptor) -> Result<Box<Kept>, AllocError>
-    ensures { IfOk result (λ kept. descriptor_in kept.value ≡ Ok (descriptor_value descriptor)) }
+    ensures { IfOk result (λ kept. descriptor_in kept.value ≡ Ok (descriptor_of descriptor)) }
 {
     let descriptor = Arc::new(alloc, descriptor)?;
     Ok(Box::new(alloc, Kept::Descriptor(descriptor))?)

@@ -1,7 +1,7 @@
 //! The calls that turn a text into bytes, a canonical text or a number.
 
 ghost use Rattle.std.specs.Prelude.{◌≡◌, IfOk, IfErr, string_bytes};
-ghost use Rattle.sd_acl.specs.Descriptor.{descriptor_of as value_of};
+ghost use Rattle.sd_acl.specs.Descriptor.{descriptor_of};
 ghost use Rattle.sd_text.specs.Alias.{in_domain};
 ghost use Rattle.sd_text.specs.Grammar.{Spells};
 ghost use Rattle.sd_text.specs.Rights.{mask_text};
@@ -109,7 +109,7 @@ pub(crate) fn descriptor_of(
     domain: Option<Domain>,
     text: &[u8],
 ) -> Result<Descriptor, Refusal>
-    ensures ok { IfOk result (λ d. Spells (sddl_in (in_domain domain)) text.now (value_of d)) }
+    ensures ok { IfOk result (λ d. Spells (sddl_in (in_domain domain)) text.now (descriptor_of d)) }
     ensures err { IfErr result (λ why. RefusesText (sddl_in (in_domain domain)) text.now why) }
 {
     match utf8_of(text) {

@@ -1,7 +1,7 @@
 //! The call that parses the text of a descriptor with a SACL, which no descriptor keeps.
 
 ghost use Rattle.std.specs.Prelude.{◌<◌, IfErr, IfOk, length};
-ghost use Rattle.sd_acl.specs.Descriptor.{descriptor_of as value_of};
+ghost use Rattle.sd_acl.specs.Descriptor.{descriptor_of};
 ghost use Rattle.sd_text.specs.Alias.{in_domain};
 ghost use Rattle.sd_text.specs.Grammar.{Spells};
 ghost use Rattle.sd_text.specs.Sacl.{sddl_without_sacl};
@@ -69,7 +69,7 @@ fn domain_argument(bytes: &[u8]) -> Result<Option<Domain>, Refusal>
 /// The descriptor that the text spells, without its SACL.
 fn parsed(alloc: Global, domain: Option<Domain>, text: &[u8]) -> Result<WithoutSacl, Refusal>
     ensures ok { IfOk result (λ r. Spells (sddl_without_sacl (in_domain domain)) text.now
-        (value_of r.descriptor, r.left_out)) }
+        (descriptor_of r.descriptor, r.left_out)) }
     ensures err { IfErr result (λ why. RefusesText (sddl_without_sacl (in_domain domain)) text.now why) }
 {
     match utf8_of(text) {

@@ -10,8 +10,8 @@ use Rattle.sd_usage.specs.declared.row.CommandName.{CommandName}
 use Rattle.sd_usage.specs.declared.row.CommandName.TheVariants as names
 use Rattle.sd_usage.specs.declared.row.Command.{Command}
 use Rattle.sd_usage.specs.declared.row.Flag.{Flag}
-use Rattle.sd_usage.specs.declared.row.Question.{Question}
-use Rattle.sd_usage.specs.declared.row.Question.TheVariants as questions
+use Rattle.sd_usage.specs.declared.row.TextCommand.{TextCommand}
+use Rattle.sd_usage.specs.declared.row.TextCommand.TheVariants as questions
 use Rattle.sd_command_line.specs.CommandLine.{AskedValue, CallValue, CommandLineValue, InvocationValue, RequestValue, Ask, AskInput, Audit, Each, Help, Script, Serve, Version, after_options, asked_by, asks, call_in, call_with, command_in, miscounted, no_command, reading, request_after, request_by, request_on, text_request, with_options, workers_of}
 use Rattle.sd_command_line.specs.Laws.{is_shown, shows, EachAsksTheCommand, InputAsksTheCommand, HelpStandsAlone, DashesKeepTexts, DashesKeepTextsOfWhy, OptionsKeepTexts}
 use Rattle.sd_command_line.specs.Flags.{flags_in, is_given, lines_by, no_flags, with_flag}
@@ -136,7 +136,7 @@ three_or_more : (command : Command) (sddl user mask : Bor (List ℕ)) (words : L
 three_or_more command sddl user mask words count more =
     rw (count, more, le-leb 3 (length (sddl ∷ user ∷ mask ∷ words)) (omega arith)) refl
 
-asked_of_three : (question : Question) (command : Command) (call : CallValue) (sddl : Bor (List ℕ)) (arguments : List (Bor (List ℕ)))
+asked_of_three : (question : TextCommand) (command : Command) (call : CallValue) (sddl : Bor (List ℕ)) (arguments : List (Bor (List ℕ)))
     → command.name ≡ names.Ask question
     → request_by command.name call (sddl ∷ arguments)
     ≡ Ok (asks call (Ask sddl.now (record { question = question; arguments = arguments })))
@@ -152,7 +152,7 @@ goes_before call options all invocation fits =
     ]) (Ok (record { options = options; invocation = invocation }))) (sym fits) refl
 
 -- a command with a descriptor, a user, a mask and words, after options that it takes
-keeps : (question : Question) (command : Command) (options : OptionsValue) (found : Option Command) (mistake : Mistake)
+keeps : (question : TextCommand) (command : Command) (options : OptionsValue) (found : Option Command) (mistake : Mistake)
     (all : List (Bor (List ℕ))) (named : ℕ) (dashes sddl user mask : Bor (List ℕ)) (words : List (Bor (List ℕ)))
     → found ≡ Some command → command.name ≡ names.Ask question → flag_named command dashes.now ≡ None
     → count_of command.arguments ≡ 3 → is_some command.repeated ≡ true
@@ -192,7 +192,7 @@ after_three option domain sid word rest =
 of_text : (Holds : Bor (List ℕ) → Type 0) (word : Bor (List ℕ)) (text : List ℕ) → word.now ≡ text → Holds (record word { now = text }) → Holds word
 of_text Holds word text is holds = subst (λ now. Holds (record word { now = now })) (sym is) holds
 
-abbrev Reads : Question → OptionsValue → List ℕ → List (Bor (List ℕ)) → List (Bor (List ℕ)) → Type 0
+abbrev Reads : TextCommand → OptionsValue → List ℕ → List (Bor (List ℕ)) → List (Bor (List ℕ)) → Type 0
 Reads question options text arguments all =
     reading all ≡ Some (record { options = options; invocation = Ask text (record { question = question; arguments = arguments }) })
 

@@ -4,7 +4,7 @@ use Rattle.std.specs.Prelude.{◌||◌, ◌⊎◌, IfErr, IfSome}
 use Rattle.std.proofs.lemmas.List.{length-append}
 use Rattle.std.specs.Io.KnownBytes.{Appends, Keeps}
 use Rattle.std.specs.Borrow.{Bor}
-use Rattle.sd_stream.specs.Whole.{AppendsBeginning, ReadsPart}
+use Rattle.sd_stream.specs.Streams.{AppendsBeginning, ReadsPart}
 use Rattle.sd_stream.specs.declared.error.RunError.{RunError}
 use Rattle.sd_stream.specs.declared.error.RunError.TheVariants.{Read, TooLong, Write, Memory, Thread}
 use Rattle.sd_lines.specs.Output.{AppendsOutput, IsOutput, LeavesAnswers, LeavesOutput}

@@ -19,8 +19,8 @@ use Rattle.sd_command_line.specs.Scripts.{IsToldOfScript, script_outcome}
 use Rattle.sd_json.specs.Text.{printed_as}
 use Rattle.sd_json.specs.declared.tagging.Tagging.{Tagging}
 use Rattle.sd_json.specs.declared.tagging.Tagging.TheVariants.{Key, Nothing}
-use Rattle.sd_usage.specs.declared.row.Question.{Question}
-use Rattle.sd_usage.specs.declared.row.Question.TheVariants as questions
+use Rattle.sd_usage.specs.declared.row.TextCommand.{TextCommand}
+use Rattle.sd_usage.specs.declared.row.TextCommand.TheVariants as questions
 use Rattle.sd_command_line.specs.CommandLine.{CommandLineValue, InvocationValue, Ask, AskInput, Script as AsksScript}
 use Rattle.sd_command_line.specs.CommandLine.{Serve as AsksServe, Audit as AsksAudit, Each as AsksEach, Help, Version}
 use Rattle.sd_command_line.specs.CommandLine.{RequestValue}
@@ -32,7 +32,7 @@ use Rattle.sd_command_line.specs.declared.each.Progress.TheVariants.{NoLine}
 use Rattle.sd_command_line.specs.Options.{OptionsValue, GivesManner, GivesSettings, is_json, is_strict}
 use Rattle.sd_text.specs.Alias.{in_domain}
 use Rattle.sd_commands.specs.Answer.{AnswerValue, AnswersQuestion, IsDone, IsFault, is_refusal}
-use Rattle.sd_commands.specs.Told.{told_line, IsSidReason}
+use Rattle.sd_commands.specs.Diagnostic.{told_line, IsSidReason}
 use Rattle.sd_commands.specs.declared.answer.Outcome.TheVariants.{Done}
 use Rattle.sd_command_line.specs.declared.options.BadValue.{BadValue}
 use Rattle.sd_command_line.specs.declared.shown.Shown.{Shown}
@@ -155,7 +155,7 @@ AnswersTold settings request (Some text) answer =
     ⊎ ((IsUtf8 text → ⊥) × IsFault (fault_line (codes "utf8")) [] answer)
 
 -- what follows each answer: an empty line, where an answer may have several lines
-abbrev pub after_answer : Question → List ℕ
+abbrev pub after_answer : TextCommand → List ℕ
 after_answer questions.Why = codes "\n"
 after_answer questions.Who = codes "\n"
 after_answer questions.Compare = codes "\n"

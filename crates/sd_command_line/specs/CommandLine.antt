@@ -12,11 +12,11 @@ use Rattle.sd_usage.specs.Table.{argument_at, command_named, count_of as require
 use Rattle.sd_usage.specs.declared.row.Command.{Command}
 use Rattle.sd_usage.specs.declared.row.CommandName.{CommandName}
 use Rattle.sd_usage.specs.declared.row.CommandName.TheVariants as names
-use Rattle.sd_usage.specs.declared.row.Question.{Question}
+use Rattle.sd_usage.specs.declared.row.TextCommand.{TextCommand}
 use Rattle.sd_command_line.specs.declared.command_line.Asked.{Asked}
 use Rattle.sd_command_line.specs.declared.command_line.Call.{Call}
 use Rattle.sd_command_line.specs.declared.command_line.CommandLine.{CommandLine}
-use Rattle.sd_command_line.specs.declared.command_line.Request.{Request}
+use Rattle.sd_command_line.specs.declared.command_line.TextRequest.{TextRequest}
 use Rattle.sd_command_line.specs.declared.command_line.Invocation.{Invocation}
 use Rattle.sd_command_line.specs.declared.command_line.Invocation.TheVariants as invocations
 use Rattle.sd_command_line.specs.Flags.{flags_in, lines_by, no_flags}
@@ -29,10 +29,10 @@ use Rattle.sd_command_line.specs.Options.{OptionsValue, is_from_input, misplaced
 
 -- a command that answers a text, with its arguments after that
 pub record RequestValue : Type 0 where
-  pub question : Question
+  pub question : TextCommand
   pub arguments : List (Bor (List ℕ))
 
-abbrev pub request_of : Request → RequestValue
+abbrev pub request_of : TextRequest → RequestValue
 request_of request = record { question = request.question; arguments = request.arguments.now }
 
 -- what is asked for: the answer to a text, or to an input; help on a command or on the program; or the version

@@ -1,7 +1,7 @@
 -- What comes of the lines of `each`: what their keys are, and how all were answered.
 use Rattle.std.specs.Prelude.{ℕ, ◌+◌, ◌==◌, nat_lt, Bool, not, ◌&&◌, if◌then◌else◌, List, [], length, take, drop, codes}
 use Rattle.std.specs.List.{list_any, position_or_len}
-use Rattle.sd_commands.specs.Told.{told_line}
+use Rattle.sd_commands.specs.Diagnostic.{told_line}
 use Rattle.sd_commands.specs.declared.answer.Outcome.{Outcome}
 use Rattle.sd_commands.specs.declared.answer.Outcome.TheVariants.{Done, Refused}
 use Rattle.sd_command_line.specs.declared.each.Progress.{Progress}

@@ -5,7 +5,7 @@ use Rattle.std.specs.Option.{option_map_or}
 use Rattle.std.specs.Borrow.{Bor}
 use Rattle.sd_answer.specs.Laws.{are_distinct}
 use Rattle.sd_usage.specs.declared.row.OptionName.TheVariants.{Domain, Names}
-use Rattle.sd_usage.specs.declared.row.Question.TheVariants as questions
+use Rattle.sd_usage.specs.declared.row.TextCommand.TheVariants as questions
 use Rattle.sd_usage.specs.declared.table.TheConstants.{COMMANDS, OPTIONS}
 use Rattle.sd_command_line.specs.CommandLine.{InvocationValue, Ask, AskInput, Each, Help}
 use Rattle.sd_command_line.specs.CommandLine.{Version, CommandLineValue, RequestValue, CallValue, asking, asks, reading}

@@ -3,8 +3,8 @@ use Rattle.std.specs.Prelude.{ℕ, ◌-◌, ◌==◌, if◌then◌else◌, List,
 use Rattle.std.specs.Fmt.{decimal}
 use Rattle.std.specs.Borrow.{Bor}
 use Rattle.sd_answer.specs.Answer.{line}
-use Rattle.sd_commands.specs.Shown.{shown}
-use Rattle.sd_commands.specs.Told.{told_line}
+use Rattle.sd_commands.specs.Escaped.{escaped}
+use Rattle.sd_commands.specs.Diagnostic.{told_line}
 use Rattle.sd_usage.specs.Texts.{argument_name, listed_commands, usage_line}
 use Rattle.sd_usage.specs.declared.names.Commands.TheVariants.{All, Answering, Taking}
 use Rattle.sd_command_line.specs.declared.mistake.Mistake.{Mistake}
@@ -37,7 +37,7 @@ word_at (word ∷ words) left = if length (word ∷ words) == left then word.now
 -- which argument it is, counted from 1 since the first word is the program's name, and its text, if it is there
 abbrev pub place_text : List (Bor (List ℕ)) → ℕ → List ℕ
 place_text words left = codes "argument " ++ decimal (length words - left)
-    ++ (if left == 0 then [] else codes ", \"" ++ shown (word_at words left) ++ codes "\"")
+    ++ (if left == 0 then [] else codes ", \"" ++ escaped (word_at words left) ++ codes "\"")
 
 -- what the phrase is about
 abbrev pub subject : List ℕ → Wrong → List ℕ

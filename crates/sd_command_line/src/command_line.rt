@@ -12,7 +12,7 @@ use crate::flags::{GivenFlags, Lines, flags_in};
 use crate::mistake::{Mistake, Wrong, word_at};
 use crate::options::{Options, misplaced_in, options_in};
 use crate::words::{is_help, is_help_flag, is_version_flag, no_command};
-use sd_usage::{Command, CommandName, Flag, Question, command_named};
+use sd_usage::{Command, CommandName, Flag, TextCommand, command_named};
 
 /// What a command line asks for, and with which options.
 #[derive(Clone, Copy, Debug)]
@@ -25,19 +25,33 @@ pub(crate) struct CommandLine<'a> {
 #[derive(Clone, Copy, Debug)]
 pub(crate) enum Invocation<'a> {
     /// The answer to a text.
-    Ask { text: &'a str, request: Request<'a> },
+    Ask {
+        text: &'a str,
+        request: TextRequest<'a>,
+    },
     /// The answer to the text that standard input is.
-    AskInput { request: Request<'a> },
+    AskInput {
+        request: TextRequest<'a>,
+    },
     /// The output of the script on standard input.
     Script,
     /// The same, line by line, where lines may have ids.
-    Serve { has_ids: bool },
+    Serve {
+        has_ids: bool,
+    },
     /// The output of its audit by so many workers.
-    Audit { workers: u64 },
+    Audit {
+        workers: u64,
+    },
     /// The answer to each line of standard input.
-    Each { lines: Lines, request: Request<'a> },
+    Each {
+        lines: Lines,
+        request: TextRequest<'a>,
+    },
     /// The help on a command, or on the program.
-    Help { command: Option<CommandName> },
+    Help {
+        command: Option<CommandName>,
+    },
     /// The version of the program.
     Version,
 }
@@ -56,8 +70,8 @@ impl Invocation<'_> {
 
 /// A command that answers a text, with its arguments after that.
 #[derive(Clone, Copy, Debug)]
-pub(crate) struct Request<'a> {
-    pub(crate) question: Question,
+pub(crate) struct TextRequest<'a> {
+    pub(crate) question: TextCommand,
     pub(crate) arguments: &'a [&'a str],
 }
 
@@ -106,7 +120,7 @@ impl<'a> Call<'a> {
     }
 
     /// What a command that answers a text asks of one that the arguments follow.
-    fn request_after(self) -> Result<Request<'a>, Mistake>
+    fn request_after(self) -> Result<TextRequest<'a>, Mistake>
         ensures { map_read request_of result ≡ request_after self.entry.command.name (call_of self.entry) }
     {
         let CommandName::Ask(question) = self.command.name else {
@@ -115,7 +129,7 @@ impl<'a> Call<'a> {
         if !self.command.takes_count(1 + self.arguments.len()) {
             return Err(self.miscounted(1 + self.arguments.len()));
         }
-        Ok(Request {
+        Ok(TextRequest {
             question,
             arguments: self.arguments,
         })
@@ -218,7 +232,7 @@ fn request_on<'a>(call: Call<'a>) -> Result<Asked<'a>, Mistake>
     }
     match (call.command.name, call.arguments) {
         (CommandName::Ask(question), [text, arguments @ ..]) => {
-            let request = Request {
+            let request = TextRequest {
                 question,
                 arguments,
             };

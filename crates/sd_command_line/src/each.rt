@@ -2,7 +2,7 @@
 ghost use Rattle.std.specs.Prelude.{◌≡◌, ◌≤◌, ◌||◌, ◌++◌, true, false, IfErr, IfNone, IfOk, IfSome, length};
 ghost use Rattle.std.specs.Prelude.{option_map, string_bytes};
 ghost use Rattle.sd_stream.specs.Watched.{has_failed, inner_of};
-ghost use Rattle.sd_stream.specs.Whole.{is_read_error, is_write_error};
+ghost use Rattle.sd_stream.specs.Streams.{is_read_error, is_write_error};
 ghost use Rattle.sd_commands.specs.Answer.{answer_of, is_refusal};
 ghost use Rattle.sd_command_line.specs.Answer.{AnswersKeyed, AnswersLine, AnswersNext, AnswersText, AnswersTold};
 ghost use Rattle.sd_command_line.specs.Answer.{AppendsEach, after_answer, form_of, tagging_of};
@@ -13,7 +13,7 @@ ghost use Rattle.sd_command_line.specs.Options.{options_of};
 ghost use Rattle.sd_command_line.specs.Output.{LeavesEachAnswers};
 
 use crate::answer::bad_value;
-use crate::command_line::Request;
+use crate::command_line::TextRequest;
 use crate::flags::Lines;
 use crate::input::is_blank;
 use crate::options::{BadValue, Options};
@@ -22,7 +22,7 @@ use sd_json::{Tagging, printed_as};
 use sd_lines::{Answers, Ending, Form, answer_lines};
 use sd_script::tagged;
 use sd_stream::{RunError, Watched};
-use sd_usage::Question;
+use sd_usage::TextCommand;
 use std::alloc::{AllocError, Global};
 use std::io::{Read, Write};
 use std::str::from_utf8;
@@ -93,7 +93,7 @@ pub(crate) struct LineQuestion<'a> {
     is_json: bool,
     /// What its options say, or which of their values isn't read.
     settings: Result<Settings, BadValue<'a>>,
-    request: Request<'a>,
+    request: TextRequest<'a>,
 }
 
 impl Answers for LineQuestion<'_> {
@@ -196,7 +196,7 @@ impl LineQuestion<'_> {
         if is_blank(text.as_bytes()) {
             return fault(alloc, "blank", String::new(alloc));
         }
-        let Request {
+        let TextRequest {
             question,
             arguments,
         } = self.request;
@@ -237,11 +237,11 @@ fn has_feed(key: &[u8]) -> bool
 }
 
 /// What follows each answer: an empty line, where an answer may have several lines.
-fn after_answer(question: Question) -> &'static str
+fn after_answer(question: TextCommand) -> &'static str
     ensures { result.now ≡ after_answer question }
 {
     match question {
-        Question::Why | Question::Who | Question::Compare | Question::Lint => "\n",
+        TextCommand::Why | TextCommand::Who | TextCommand::Compare | TextCommand::Lint => "\n",
         _ => "",
     }
 }
@@ -263,7 +263,7 @@ pub(crate) fn answer_each<R: Read, W: Write>(
     alloc: Global,
     options: Options<'_>,
     lines: Lines,
-    request: Request<'_>,
+    request: TextRequest<'_>,
     reader: &mut Watched<R>,
     writer: &mut Watched<W>,
 ) -> Result<Progress, RunError>

@@ -7,7 +7,7 @@ ghost use Rattle.sd_command_line.specs.Answer.{AnswersFilled, AnswersInput, IsIn
 ghost use Rattle.sd_command_line.specs.CommandLine.{request_of};
 ghost use Rattle.sd_command_line.specs.Input.{is_blank, is_utf16, is_white, without_end};
 
-use crate::command_line::Request;
+use crate::command_line::TextRequest;
 use sd_commands::{Answer, Settings, answer_question, fault, told_line};
 use sd_stream::Decoder;
 use std::alloc::{AllocError, Global};
@@ -18,7 +18,7 @@ use std::str::from_utf8;
 pub(crate) fn answer_input(
     alloc: Global,
     settings: Settings,
-    request: Request<'_>,
+    request: TextRequest<'_>,
     input: &[u8],
 ) -> Result<Answer, AllocError>
     ensures { IfOk result
@@ -56,7 +56,7 @@ fn no_text(alloc: Global, input: &[u8]) -> Result<Answer, AllocError>
 fn answer_filled(
     alloc: Global,
     settings: Settings,
-    request: Request<'_>,
+    request: TextRequest<'_>,
     text: &str,
 ) -> Result<Answer, AllocError>
     ensures { IfOk result

@@ -4,7 +4,7 @@ ghost use Rattle.sd_answer.specs.Answer.{line};
 ghost use Rattle.sd_usage.specs.Texts.{listed_commands, usage_line};
 ghost use Rattle.sd_command_line.specs.Mistake.{hint, message, mistake, phrase, place_text, subject, word_at};
 
-use sd_commands::shown_word;
+use sd_commands::escaped_word;
 use sd_usage::{
     Argument, Command, Commands, OptionName, argument_name, listed_commands, usage_line,
 };
@@ -120,7 +120,7 @@ fn place_text(alloc: Global, words: &[&str], left: usize) -> Result<String, Allo
     let text = if left == 0 {
         format!(in alloc; "argument {place}")?
     } else {
-        let word = shown_word(alloc, word_at(words, left))?;
+        let word = escaped_word(alloc, word_at(words, left))?;
         format!(in alloc; "argument {place}, \"{word}\"")?
     };
     Ok(text)

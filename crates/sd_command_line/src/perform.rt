@@ -2,7 +2,7 @@
 ghost use Rattle.std.specs.Prelude.{◌≡◌, ◌≢◌, ◌||◌, ℕ, List, true, false, Err, IfErr, IfOk, string_bytes};
 ghost use Rattle.std.specs.Io.KnownBytes.{Appends};
 ghost use Rattle.sd_stream.specs.Watched.{has_failed, inner_of};
-ghost use Rattle.sd_stream.specs.Whole.{AppendsBeginning, ReadsPart, is_read_error, is_write_error};
+ghost use Rattle.sd_stream.specs.Streams.{AppendsBeginning, ReadsPart, is_read_error, is_write_error};
 ghost use Rattle.sd_commands.specs.Answer.{outcome_status};
 ghost use Rattle.sd_command_line.specs.CommandLine.{AskInput, Audit, Each, command_line_of, invocation_of, uses_input};
 ghost use Rattle.sd_command_line.specs.CommandLine.{asking, request_of, runs_script};
@@ -12,7 +12,7 @@ ghost use Rattle.sd_command_line.specs.Output.{blames_writer};
 ghost use Rattle.sd_command_line.specs.Scripts.{IsToldOfScript, script_outcome};
 
 use crate::answer::{answer_to, bad_value};
-use crate::command_line::{CommandLine, Invocation, Request};
+use crate::command_line::{CommandLine, Invocation, TextRequest};
 use crate::each::{answer_each, no_line_note};
 use crate::failure::Failure;
 use crate::flags::Lines;
@@ -77,7 +77,7 @@ pub(crate) fn perform<T: Threads + Wait + Sync, R: Read, W: Write>(
 fn perform_input<R: Read, W: Write>(
     alloc: Global,
     options: Options<'_>,
-    request: Request<'_>,
+    request: TextRequest<'_>,
     reader: &mut Watched<R>,
     writer: &mut Watched<W>,
 ) -> Result<Ended, Failure>
@@ -187,7 +187,7 @@ fn perform_each<R: Read, W: Write>(
     alloc: Global,
     options: Options<'_>,
     lines: Lines,
-    request: Request<'_>,
+    request: TextRequest<'_>,
     reader: &mut Watched<R>,
     writer: &mut Watched<W>,
 ) -> Result<Ended, Failure>

@@ -3,7 +3,7 @@ ghost use Rattle.std.specs.Prelude.{◌≡◌, ◌≤◌, ◌⊎◌, ◌||◌, �
 ghost use Rattle.std.specs.Prelude.{string_bytes};
 ghost use Rattle.std.specs.Io.KnownBytes.{Keeps};
 ghost use Rattle.sd_stream.specs.Watched.{has_failed, inner_of};
-ghost use Rattle.sd_stream.specs.Whole.{AppendsBeginning, ReadsPart};
+ghost use Rattle.sd_stream.specs.Streams.{AppendsBeginning, ReadsPart};
 ghost use Rattle.sd_stream.specs.declared.error.RunError.{RunError as Error};
 ghost use Rattle.sd_command_line.specs.CommandLine.{IsAudit, IsUnread, asks_input, mistake_in, reading};
 ghost use Rattle.sd_command_line.specs.Laws.{shows};

@@ -7,7 +7,7 @@ use Rattle.std.specs.Str.Pattern.{FindsChar}
 use Rattle.std.proofs.lemmas.List.Sums.{position_or_len_is}
 use Rattle.std.proofs.lemmas.Str.Pattern.{find_char}
 use Rattle.sd_answer.specs.Word.{texts}
-use Rattle.sd_commands.specs.Told.{sid_length, word_at}
+use Rattle.sd_commands.specs.Diagnostic.{sid_length, word_at}
 
 -- the word at a place, as it stands among those that are lent
 pub word_is : (lent : List (Bor (List ℕ))) (place : ℕ) (d : Bor (List ℕ)) → place < length lent → (get_or lent place d).now ≡ word_at (texts lent) place

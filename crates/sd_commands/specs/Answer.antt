@@ -34,15 +34,15 @@ use Rattle.sd_answer.specs.Why.{why_text}
 use Rattle.sd_answer.specs.Word.{AreGroups, IsFirstNoGroup, IsFirstNoWord, IsToken, texts}
 use Rattle.sd_commands.specs.Analysis.{AreAccesses, compare_outcome, parts_in}
 use Rattle.sd_commands.specs.Bytes.{BytesRead, bytes_read, form_name, has_sacl, without_sacl}
-use Rattle.sd_usage.specs.declared.row.Question.{Question}
-use Rattle.sd_usage.specs.declared.row.Question.TheVariants as questions
+use Rattle.sd_usage.specs.declared.row.TextCommand.{TextCommand}
+use Rattle.sd_usage.specs.declared.row.TextCommand.TheVariants as questions
 use Rattle.sd_commands.specs.MissingDacl.{missing_dacl}
 use Rattle.sd_commands.specs.Pointer.{pointed}
 use Rattle.sd_commands.specs.Risks.{risk_lines}
 use Rattle.sd_commands.specs.Sort.{move_notes, sorted_descriptor}
-use Rattle.sd_commands.specs.Told.{at_byte, fault_text, sacl_note, sddl_fault_text, told_line, told_wire_fault}
-use Rattle.sd_commands.specs.Told.{wire_fault_text, word_argument, word_at}
-use Rattle.sd_commands.specs.Told.{IsStateReason, IsWordReason}
+use Rattle.sd_commands.specs.Diagnostic.{at_byte, fault_text, sacl_note, sddl_fault_text, told_line, told_wire_fault}
+use Rattle.sd_commands.specs.Diagnostic.{wire_fault_text, word_argument, word_at}
+use Rattle.sd_commands.specs.Diagnostic.{IsStateReason, IsWordReason}
 use Rattle.sd_commands.specs.declared.answer.Answer.{Answer}
 use Rattle.sd_commands.specs.declared.answer.Outcome.{Outcome}
 use Rattle.sd_commands.specs.declared.answer.Outcome.TheVariants.{Done, Refused}
@@ -355,7 +355,7 @@ AnswersRights settings mask = AnswersOfMask settings mask (λ asked. IsDone (rig
 -- ---- commands
 
 -- what a command answers to a text and the arguments after it
-abbrev pub AnswersQuestion : Settings → Question → List ℕ → List (Bor (List ℕ)) → AnswerValue → Type 0
+abbrev pub AnswersQuestion : Settings → TextCommand → List ℕ → List (Bor (List ℕ)) → AnswerValue → Type 0
 AnswersQuestion settings questions.Verdict text arguments answer = AnswersVerdict settings Short text arguments answer
 AnswersQuestion settings questions.Why text arguments answer = AnswersVerdict settings Explained text arguments answer
 AnswersQuestion settings questions.Who text arguments answer = AnswersWho settings text arguments answer

@@ -1,12 +1,12 @@
-pub mod Answer
 pub mod Analysis
+pub mod Answer
 pub mod Bytes
+pub mod Diagnostic
+pub mod Escaped
 pub mod Kinds
 pub mod Mapping
 pub mod MissingDacl
 pub mod Pointer
 pub mod Risks
-pub mod Shown
 pub mod Sort
-pub mod Told
 pub mod Value

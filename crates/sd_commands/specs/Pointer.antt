@@ -4,7 +4,7 @@ use Rattle.std.specs.Prelude.{ℕ, zero, suc, ◌-◌, Bool, List, [], ◌++◌,
 use Rattle.std.specs.Fmt.Cut.{floor_char_boundary}
 use Rattle.std.specs.List.{repeat}
 use Rattle.std.specs.Str.{chars}
-use Rattle.sd_commands.specs.Shown.{shown_chars}
+use Rattle.sd_commands.specs.Escaped.{escaped_chars}
 
 -- what stands for so many characters that are left out
 abbrev pub dots : ℕ → List ℕ
@@ -13,10 +13,10 @@ dots (suc n) = codes ".."
 
 -- the last 30 of the characters before the byte; the first 45 of those from it on
 abbrev pub end_shown : List ℕ → List ℕ
-end_shown cs = dots (length cs - 30) ++ shown_chars (drop (length cs - 30) cs)
+end_shown cs = dots (length cs - 30) ++ escaped_chars (drop (length cs - 30) cs)
 
 abbrev pub start_shown : List ℕ → List ℕ
-start_shown cs = shown_chars (take 45 cs) ++ dots (length cs - 45)
+start_shown cs = escaped_chars (take 45 cs) ++ dots (length cs - 45)
 
 -- two lines, each behind the end of the line above it; a character takes one column
 abbrev pub lines_of : List ℕ → List ℕ → List ℕ

@@ -9,7 +9,7 @@ use Rattle.sd_acl.specs.declared.ace.Ace.{Ace}
 use Rattle.sd_acl.specs.declared.descriptor.DaclOf.TheVariants.{Absent, Null, List as Entries}
 use Rattle.sd_answer.specs.Lint.{entry_head, is_misplaced}
 use Rattle.sd_answer.specs.declared.answer.Spelling.{Spelling}
-use Rattle.sd_commands.specs.Told.{told_line}
+use Rattle.sd_commands.specs.Diagnostic.{told_line}
 
 -- ---- the order
 

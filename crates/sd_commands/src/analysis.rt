@@ -10,8 +10,8 @@ ghost use Rattle.sd_commands.specs.Answer.{IsGroupFault, PrintsComparison, Print
 
 use crate::answer::{Answer, Outcome, text_fault, token_fault};
 use crate::descriptor::{Given, noting, read_argument};
+use crate::diagnostic::state_reason;
 use crate::settings::Settings;
-use crate::told::state_reason;
 use crate::words::{argument, arguments_from};
 use sd_acl::{Dacl, Descriptor};
 use sd_analysis::{Base, Comparison, DescriptorRef, compare, who};

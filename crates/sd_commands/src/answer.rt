@@ -3,19 +3,19 @@ ghost use Rattle.std.specs.Prelude.{◌≡◌, ◌<◌, ◌^◌, [], IfOk, strin
 ghost use Rattle.sd_answer.specs.Answer.{fault_line, sddl_fault_line};
 ghost use Rattle.sd_commands.specs.Answer.{AnswersQuestion, IsAnswer, IsDone, IsFault, IsTokenFault, answer_of};
 ghost use Rattle.sd_commands.specs.Answer.{is_refusal, outcome_status};
-ghost use Rattle.sd_commands.specs.Told.{fault_text, sddl_fault_text, told_line};
+ghost use Rattle.sd_commands.specs.Diagnostic.{fault_text, sddl_fault_text, told_line};
 
 use crate::analysis::{answer_compare, answer_who};
 use crate::convert::{answer_from_binary, answer_print, answer_to_binary};
+use crate::diagnostic::{fault_text, sddl_fault_text, told_line, word_argument};
 use crate::lint::answer_lint;
 use crate::rights::answer_rights;
 use crate::settings::Settings;
 use crate::sort::answer_sort;
-use crate::told::{fault_text, sddl_fault_text, told_line, word_argument};
 use crate::verdict::{Form, answer_verdict};
 use sd_answer::{fault_line, sddl_fault_line};
 use sd_text::TextFault;
-use sd_usage::Question;
+use sd_usage::TextCommand;
 use std::alloc::{AllocError, Global};
 
 /// What came of a command.
@@ -81,23 +81,23 @@ impl Answer {
 pub fn answer_question(
     alloc: Global,
     settings: Settings,
-    question: Question,
+    question: TextCommand,
     text: &str,
     arguments: &[&str],
 ) -> Result<Answer, AllocError>
     ensures { IfOk result (λ answer. AnswersQuestion settings question text.now arguments.now (answer_of answer)) }
 {
     match question {
-        Question::Verdict => answer_verdict(alloc, settings, Form::Short, text, arguments),
-        Question::Why => answer_verdict(alloc, settings, Form::Explained, text, arguments),
-        Question::Who => answer_who(alloc, settings, text, arguments),
-        Question::Compare => answer_compare(alloc, settings, text, arguments),
-        Question::Lint => answer_lint(alloc, settings, text, arguments),
-        Question::Print => answer_print(alloc, settings, text),
-        Question::Sort => answer_sort(alloc, settings, text),
-        Question::ToBinary => answer_to_binary(alloc, settings, text),
-        Question::FromBinary => answer_from_binary(alloc, settings, text),
-        Question::Rights => answer_rights(alloc, settings, text),
+        TextCommand::Verdict => answer_verdict(alloc, settings, Form::Short, text, arguments),
+        TextCommand::Why => answer_verdict(alloc, settings, Form::Explained, text, arguments),
+        TextCommand::Who => answer_who(alloc, settings, text, arguments),
+        TextCommand::Compare => answer_compare(alloc, settings, text, arguments),
+        TextCommand::Lint => answer_lint(alloc, settings, text, arguments),
+        TextCommand::Print => answer_print(alloc, settings, text),
+        TextCommand::Sort => answer_sort(alloc, settings, text),
+        TextCommand::ToBinary => answer_to_binary(alloc, settings, text),
+        TextCommand::FromBinary => answer_from_binary(alloc, settings, text),
+        TextCommand::Rights => answer_rights(alloc, settings, text),
     }
 }
 

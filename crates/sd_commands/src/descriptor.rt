@@ -3,9 +3,9 @@ ghost use Rattle.std.specs.Prelude.{IfOk};
 ghost use Rattle.sd_commands.specs.Answer.{IsGiven, IsNoted, answer_of};
 
 use crate::answer::{Answer, sddl_fault};
+use crate::diagnostic::sacl_note;
 use crate::missing_dacl::{missing_dacl, missing_dacl_fault};
 use crate::settings::Settings;
-use crate::told::sacl_note;
 use sd_answer::read_sddl_argument;
 use sd_text::{TextError, WithoutSacl};
 use std::alloc::{AllocError, Global};

@@ -6,7 +6,7 @@
 //!
 //! ```text
 //! let arguments = ["S-1-1-0", "0x1"];
-//! let answer = answer_question(alloc, settings, Question::Verdict, "D:(A;;0x1;;;S-1-1-0)", &arguments)?;
+//! let answer = answer_question(alloc, settings, TextCommand::Verdict, "D:(A;;0x1;;;S-1-1-0)", &arguments)?;
 //! // answer.text is "granted 0x1\n", and answer.outcome.status() is 0
 //! ```
 #![tactic(auto)]
@@ -16,6 +16,8 @@ mod answer;
 mod bytes;
 mod convert;
 mod descriptor;
+mod diagnostic;
+mod escaped;
 mod kinds;
 mod laws;
 mod lint;
@@ -26,16 +28,14 @@ mod pointer;
 mod rights;
 mod risks;
 mod settings;
-mod shown;
 mod sort;
-mod told;
 mod value;
 mod verdict;
 mod words;
 
 pub use answer::{Answer, Outcome, answer_question, fault};
+pub use diagnostic::{sid_reason, told_line};
+pub use escaped::escaped_word;
 pub use laws::sorted_is_canonical;
 pub use mapping::{kind_given, mapping_given};
 pub use settings::{ByteForm, Settings};
-pub use shown::shown_word;
-pub use told::{sid_reason, told_line};

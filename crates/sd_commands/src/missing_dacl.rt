@@ -3,11 +3,11 @@ ghost use Rattle.std.specs.Prelude.{◌≡◌, IfOk, codes, option_map};
 ghost use Rattle.sd_answer.specs.Answer.{fault_line};
 ghost use Rattle.sd_commands.specs.Answer.{IsFault, answer_of};
 ghost use Rattle.sd_commands.specs.MissingDacl.{missing_dacl, without_list};
-ghost use Rattle.sd_commands.specs.Told.{told_line};
+ghost use Rattle.sd_commands.specs.Diagnostic.{told_line};
 
 use crate::answer::{Answer, fault};
+use crate::diagnostic::told_line;
 use crate::settings::Settings;
-use crate::told::told_line;
 use sd_acl::Dacl;
 use std::alloc::{AllocError, Global};
 

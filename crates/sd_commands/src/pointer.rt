@@ -3,7 +3,7 @@ ghost use Rattle.std.specs.Prelude.{◌≡◌, ◌++◌, IfOk, length, string_by
 ghost use Rattle.std.specs.Str.{chars};
 ghost use Rattle.sd_commands.specs.Pointer.{dots, end_shown, lines_of, pointed, pointer, start_shown};
 
-use crate::shown::{shown_from, shown_part};
+use crate::escaped::{escaped_from, escaped_part};
 use std::alloc::{AllocError, Global};
 
 /// How many characters before the byte are shown, and how many from it on: with dots they fit into 80 columns.
@@ -53,7 +53,7 @@ fn end_shown(alloc: Global, text: &str) -> Result<String, AllocError>
 {
     let left_out = char_count(text).saturating_sub(BEFORE);
     let mut shown = String::from_str(alloc, dots(left_out))?;
-    let end = shown_from(alloc, text, left_out)?;
+    let end = escaped_from(alloc, text, left_out)?;
     shown.push_str(end.as_str())?;
     Ok(shown)
 }
@@ -62,7 +62,7 @@ fn end_shown(alloc: Global, text: &str) -> Result<String, AllocError>
 fn start_shown(alloc: Global, text: &str) -> Result<String, AllocError>
     ensures { IfOk result (λ shown. string_bytes shown ≡ start_shown (chars text.now)) }
 {
-    let mut shown = shown_part(alloc, text, 0, FROM)?;
+    let mut shown = escaped_part(alloc, text, 0, FROM)?;
     let left_out = char_count(text).saturating_sub(FROM);
     shown.push_str(dots(left_out))?;
     Ok(shown)

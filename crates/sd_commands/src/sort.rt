@@ -8,8 +8,8 @@ ghost use Rattle.sd_commands.specs.Sort.{move_notes, note_of, notes_below, sorte
 
 use crate::answer::{Answer, Outcome};
 use crate::descriptor::{Given, noting, read_argument};
+use crate::diagnostic::told_line;
 use crate::settings::Settings;
-use crate::told::told_line;
 use sd_acl::{Ace, AceList, Dacl, Descriptor, canonicalize};
 use sd_answer::Spelling;
 use sd_text::{print_entry_in, print_sddl_in};

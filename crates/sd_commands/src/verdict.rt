@@ -8,8 +8,8 @@ ghost use Rattle.sd_commands.specs.Answer.{IsWordFault, answer_of, form_text, ve
 
 use crate::answer::{Answer, Outcome, text_fault, token_fault};
 use crate::descriptor::{Given, noting, read_argument};
+use crate::diagnostic::word_reason;
 use crate::settings::Settings;
-use crate::told::word_reason;
 use crate::words::{argument, arguments_from};
 use sd_acl::Descriptor;
 use sd_answer::{TokenError, read_mask_in, read_token, verdict_line, why_text};

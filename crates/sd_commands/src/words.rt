@@ -2,7 +2,7 @@
 ghost use Rattle.std.specs.Prelude.{◌≡◌, ◌≤◌, drop, length};
 ghost use Rattle.std.specs.Str.{IsCharBoundary};
 ghost use Rattle.sd_commands.specs.Answer.{argument};
-ghost use Rattle.sd_commands.specs.Told.{sid_length};
+ghost use Rattle.sd_commands.specs.Diagnostic.{sid_length};
 
 /// The argument at the place, empty where there is none.
 pub(crate) fn argument<'a>(arguments: &'a [&'a str], place: usize) -> &'a str

@@ -8,9 +8,9 @@ ghost use Rattle.sd_sid.specs.Mapping.{mapped};
 ghost use Rattle.sd_sid.specs.Mask.{holds};
 ghost use Rattle.sd_check.specs.Fold.{rights_in, wanted_bits, part_of};
 ghost use Rattle.sd_check.specs.Token.{is_restricted};
-ghost use Rattle.sd_explain.specs.Reasons.{finding_of, given_or as given_or_of, granting_or as granting_or_of};
-ghost use Rattle.sd_explain.specs.Reasons.{high_cause as high_cause_of, named_cause as named_cause_of};
-ghost use Rattle.sd_explain.specs.Reasons.{maximum_cause as maximum_cause_of, reason_at, reasons_of};
+ghost use Rattle.sd_explain.specs.Reasons.{finding_of, given_or, granting_or};
+ghost use Rattle.sd_explain.specs.Reasons.{high_cause, named_cause};
+ghost use Rattle.sd_explain.specs.Reasons.{maximum_cause, reason_at, reasons_of};
 ghost use Rattle.sd_explain.specs.Findings.{given_to, IsFoundIn, IsListed, listed_by, of_case};
 
 use crate::explanation::PLACES;
@@ -51,7 +51,7 @@ fn found(kind: AceKind, place: usize) -> Finding
 
 /// Where a cause doesn't grant the bit, what is granted without an entry does, or nothing.
 fn granting_or(given: Implied, place: u32, cause: Cause) -> Cause
-    ensures { result ≡ granting_or_of given place cause }
+    ensures { result ≡ granting_or given place cause }
 {
     if cause.grants() {
         cause
@@ -62,7 +62,7 @@ fn granting_or(given: Implied, place: u32, cause: Cause) -> Cause
 
 /// What is granted without an entry, or else the other cause.
 fn given_or(given: Implied, place: u32, other: Cause) -> Cause
-    ensures { result ≡ given_or_of given place other }
+    ensures { result ≡ given_or given place other }
 {
     if given.owner && (place == READ_CONTROL || place == WRITE_DAC) {
         Cause::Owner
@@ -75,7 +75,7 @@ fn given_or(given: Implied, place: u32, other: Cause) -> Cause
 
 /// Of a bit that no list grants.
 fn high_cause(given: Implied, place: u32) -> Cause
-    ensures { result ≡ high_cause_of given place }
+    ensures { result ≡ high_cause given place }
 {
     if given.security && place == ACCESS_SYSTEM_SECURITY {
         Cause::Security
@@ -220,7 +220,7 @@ impl Case<'_> {
         requires place { place < 32 }
         requires given { given ≡ given_to self.now }
         requires listed { place < 21 → IsListed self.now first.now second.now place }
-        ensures { result ≡ of_case named_cause_of self.now place }
+        ensures { result ≡ of_case named_cause self.now place }
     {
         if place >= RIGHTS_END {
             return high_cause(given, place);
@@ -245,7 +245,7 @@ impl Case<'_> {
         requires place { place < 32 }
         requires given { given ≡ given_to self.now }
         requires listed { place < 21 → IsListed self.now first.now second.now place }
-        ensures { result ≡ of_case maximum_cause_of self.now place }
+        ensures { result ≡ of_case maximum_cause self.now place }
     {
         match self.dacl {
             DaclRef::List(_) => self.named_cause(place, given, first, second),

@@ -9,14 +9,14 @@ use std::sync::atomic::{AtomicBool, Ordering};
 use std::test::*;
 use std::thread::{Threads, join, yield_now};
 
-/// The clauses of `written` say what the fronts have seen. A front has no bytes, and a pencil those of one word.
+/// The clauses of `written` say what the fronts have seen. A front has no bytes, and a writer those of one word.
 #[test]
 fn fronts_of_two_edits(rt: HostRuntime) {
     let (empty, one, both) = written::<Brand>(Opened::new(), 5, 7);
     for front in [empty, one, both] {
         assert_eq!(rt; size_of_val(&front), 0);
     }
-    assert_eq!(rt; size_of::<Pencil<u64, Brand>>(), size_of::<u64>());
+    assert_eq!(rt; size_of::<HistoryWriter<u64, Brand>>(), size_of::<u64>());
 }
 
 #[test]
@@ -36,17 +36,17 @@ fn written<J: Chain>(
     ensures both { items_from J.first result.2.log ≡ first ∷ second ∷ [] }
     ensures comparable { (k : ℕ) → Comparable (items_from k result.2.log) (items_from k result.1.log) }
 {
-    let mut pencil = history.named::<J>();
-    let empty = pencil.front();
-    pencil.write(&first);
-    let one = pencil.front();
-    pencil.write(&second);
-    let both = pencil.front();
+    let mut writer = history.named::<J>();
+    let empty = writer.front();
+    writer.write(&first);
+    let one = writer.front();
+    writer.write(&second);
+    let both = writer.front();
     both.meet(&one);
     (empty, one, both)
 }
 
-/// One thread writes with the pencil; another one waits for that, and then copies a front from before it. Returns
+/// One thread writes with the writer; another one waits for that, and then copies a front from before it. Returns
 /// whether the wait ended in time.
 fn is_shared<J: Chain + Send + Sync, R: Threads + Abort + Sync>(
     rt: &R,
@@ -54,18 +54,18 @@ fn is_shared<J: Chain + Send + Sync, R: Threads + Abort + Sync>(
 ) -> bool
     requires { (history.book ≡ J.book) × (history.first ≡ J.first) }
 {
-    let mut pencil = history.named::<J>();
-    pencil.write(&1);
-    let early = pencil.front();
+    let mut writer = history.named::<J>();
+    writer.write(&1);
+    let early = writer.front();
     let written = AtomicBool::new(false);
     let (late, copy) = join(
         rt,
         || -> Front<u64>
             ensures { result.book ≡ J.book }
         {
-            pencil.write(&2);
+            writer.write(&2);
             written.store(true, Ordering::SeqCst);
-            pencil.front()
+            writer.front()
         },
         || -> (Front<u64>, bool)
             ensures { result.0 ≡ early }

@@ -6,7 +6,7 @@ use Rattle.std.proofs.lemmas.List.Elements.{All-append}
 use Rattle.std.specs.Io.KnownBytes.{Appends, Consumes, IsAtEnd}
 use Rattle.std.proofs.KnownBytes.{Appends-kept, Appends-trans, Consumes-all, Consumes-trans}
 use Rattle.sd_stream.specs.Decoder.{text_after}
-use Rattle.sd_stream.specs.Whole.{AppendsBeginning}
+use Rattle.sd_stream.specs.Streams.{AppendsBeginning}
 use Rattle.sd_stream.specs.declared.decoder.Decoder.{Decoder}
 use Rattle.sd_stream.specs.declared.error.RunError.{RunError}
 use Rattle.sd_stream.specs.declared.error.RunError.TheVariants.{Read, TooLong, Write, Memory, Thread}

@@ -3,7 +3,7 @@
 ghost use Rattle.std.specs.Prelude.{◌≡◌, ◌||◌, ◌++◌, [], IfErr, OnOk};
 ghost use Rattle.std.specs.Io.KnownBytes.{Appends};
 ghost use Rattle.sd_stream.specs.Watched.{inner_of, has_failed};
-ghost use Rattle.sd_stream.specs.Whole.{is_write_error};
+ghost use Rattle.sd_stream.specs.Streams.{is_write_error};
 ghost use Rattle.sd_lines.specs.Steps.{AnswersLast, FailsIn, FailsLast, StopsIn, TakesFrom, goes_on};
 
 use crate::answers::Answers;

@@ -2,7 +2,7 @@
 
 ghost use Rattle.std.specs.Prelude.{◌≡◌, ◌||◌, IfErr, OnOk};
 ghost use Rattle.sd_stream.specs.Watched.{inner_of, has_failed};
-ghost use Rattle.sd_stream.specs.Whole.{is_read_error, is_write_error};
+ghost use Rattle.sd_stream.specs.Streams.{is_read_error, is_write_error};
 ghost use Rattle.sd_lines.specs.Answers.{Prints, PrintsAndLeaves};
 ghost use Rattle.sd_lines.specs.Output.{AppendsOutput, LeavesAnswers};
 

@@ -10,8 +10,8 @@ ghost use Rattle.sd_review.specs.Compared.{HasParts, IsOf, IsOfBoth, IsRight};
 ghost use Rattle.sd_review.specs.Lines.{lines};
 ghost use Rattle.sd_review.specs.Parts.{parts_in};
 
-use crate::alike::is_alike;
 use crate::compared::Compared;
+use crate::equality::is_alike;
 use sd_acl::{Dacl, Descriptor};
 use sd_analysis::{Base, Comparison, DescriptorRef, compare};
 use sd_answer::{Spelling, gains_and_losses};

@@ -18,15 +18,15 @@
 //! ```
 #![tactic(auto)]
 
-mod alike;
 mod compared;
 mod comparing;
+mod equality;
 mod origin;
 mod pending;
 mod review;
 
-pub use alike::same_entries;
 pub use compared::Compared;
 pub use comparing::{borrowed, looked_at};
+pub use equality::same_entries;
 pub use pending::Review;
 pub use review::Former;

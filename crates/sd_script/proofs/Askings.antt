@@ -6,18 +6,18 @@ use Rattle.sd_script.specs.Command.{Arguments, Parses, asks, asks_where, command
 use Rattle.sd_script.specs.Fault.{UnlessMemory}
 use Rattle.sd_script.specs.Lines.{words_of}
 use Rattle.sd_script.specs.declared.asked.Asked.{Asked}
-use Rattle.sd_script.specs.declared.command.CommandName.{CommandName}
+use Rattle.sd_script.specs.declared.command.ScriptCommand.{ScriptCommand}
 use Rattle.sd_script.specs.declared.fault.LineFault.{LineFault}
 use Rattle.sd_script.specs.declared.fault.LineFault.TheVariants as faults
-use Rattle.sd_script.specs.declared.fault.Stop.{Stop}
-use Rattle.sd_script.specs.declared.fault.Stop.TheVariants.{Fault}
+use Rattle.sd_script.specs.declared.fault.LineStop.{LineStop}
+use Rattle.sd_script.specs.declared.fault.LineStop.TheVariants.{Fault}
 use Rattle.sd_script.specs.declared.manner.Notation.{Notation}
 use Rattle.sd_script.proofs.Readings.{UnlessMemory-weaker}
 
 -- a line of text whose words are this command
-module _ (notation : Notation) (is_open : Bool) (line text : List ℕ) (words arguments : List (List ℕ)) (name : CommandName)
+module _ (notation : Notation) (is_open : Bool) (line text : List ℕ) (words arguments : List (List ℕ)) (name : ScriptCommand)
     (same : text ≡ line) (utf8 : IsUtf8 line) (parted : words ≡ words_of text) (found : Some (name, arguments) ≡ command_of words) where
-  asks_as_command : (r : Result Asked Stop) → UnlessMemory (reads_where notation is_open name (asks name arguments)) r
+  asks_as_command : (r : Result Asked LineStop) → UnlessMemory (reads_where notation is_open name (asks name arguments)) r
       → UnlessMemory (line_asks notation is_open line) r
   asks_as_command r read =
       UnlessMemory-weaker (reads_where notation is_open name (asks name arguments)) (line_asks notation is_open line) r (λ told asked. inl (
@@ -26,7 +26,7 @@ module _ (notation : Notation) (is_open : Bool) (line text : List ℕ) (words ar
       )) read
 
   -- it is for where no store is open, or for where one is
-  pub line_untimely : (r : Result Asked Stop) → Parses notation (asks name arguments) (Some r) → is_untimely is_open name ≡ true
+  pub line_untimely : (r : Result Asked LineStop) → Parses notation (asks name arguments) (Some r) → is_untimely is_open name ≡ true
       → UnlessMemory (line_asks notation is_open line) (Err (Fault faults.Open))
   line_untimely r some untimely = asks_as_command (Err (Fault faults.Open)) (comes (asks name arguments) some) where
     by_test : (test : Bool) (asked : Arguments) (told : Result Asked LineFault) → test ≡ true → told ≡ Err faults.Open
@@ -39,7 +39,7 @@ module _ (notation : Notation) (is_open : Bool) (line text : List ℕ) (words ar
     comes (Some asked) some = by_test (is_untimely is_open name) asked (Err faults.Open) untimely refl
 
   -- it is timely, and the line asks for what its arguments ask for
-  pub line_reads : (r : Result Asked Stop) → Parses notation (asks name arguments) (Some r) → is_untimely is_open name ≡ false
+  pub line_reads : (r : Result Asked LineStop) → Parses notation (asks name arguments) (Some r) → is_untimely is_open name ≡ false
       → UnlessMemory (line_asks notation is_open line) r
   line_reads r some timely = asks_as_command r (comes (asks name arguments) some) where
     comes : (asked : Option Arguments) → Parses notation asked (Some r) → UnlessMemory (reads_where notation is_open name asked) r

@@ -26,7 +26,7 @@ use Rattle.sd_script.specs.Fault.{Reading, SomeOr, Just, Then}
 use Rattle.sd_script.specs.Lines.{words_of}
 use Rattle.sd_script.specs.Paths.{IsPath}
 use Rattle.sd_script.specs.declared.asked.Asked.{Asked}
-use Rattle.sd_script.specs.declared.command.CommandName.{CommandName}
+use Rattle.sd_script.specs.declared.command.ScriptCommand.{ScriptCommand}
 use Rattle.sd_script.specs.declared.fault.LineFault.{LineFault}
 use Rattle.sd_script.specs.declared.fault.LineFault.TheVariants as faults
 use Rattle.sd_script.specs.declared.manner.Notation.{Notation}
@@ -153,11 +153,11 @@ by_time : (notation : Notation) (untimely : Bool) (arguments : Arguments) (r s :
 by_time notation true arguments r s x y = x ∙ sym y
 by_time notation false arguments r s x y = reads-one notation arguments r s x y
 
-reads_where-one : (notation : Notation) (is_open : Bool) (name : CommandName) (arguments : Option Arguments) → IsOne (reads_where notation is_open name arguments)
+reads_where-one : (notation : Notation) (is_open : Bool) (name : ScriptCommand) (arguments : Option Arguments) → IsOne (reads_where notation is_open name arguments)
 reads_where-one notation is_open name None r s x y = x ∙ sym y
 reads_where-one notation is_open name (Some arguments) r s x y = by_time notation (is_untimely is_open name) arguments r s x y
 
-where-one : (notation : Notation) (is_open : Bool) (command : Option (CommandName × List (List ℕ))) → IsOne (asks_where notation is_open command)
+where-one : (notation : Notation) (is_open : Bool) (command : Option (ScriptCommand × List (List ℕ))) → IsOne (asks_where notation is_open command)
 where-one notation is_open None r s x y = x ∙ sym y
 where-one notation is_open (Some command) r s x y = reads_where-one notation is_open command.0 (asks command.0 command.1) r s x y
 

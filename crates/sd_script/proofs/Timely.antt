@@ -16,8 +16,8 @@ use Rattle.sd_script.specs.Lines.{words_of}
 use Rattle.sd_script.specs.Output.{is_open, line_asks_in}
 use Rattle.sd_script.specs.declared.asked.Asked.{Asked}
 use Rattle.sd_script.specs.declared.asked.Asked.TheVariants.{Opening, Asking, Explaining, Finding, Deleting, Viewing, Importing}
-use Rattle.sd_script.specs.declared.command.CommandName.{CommandName}
-use Rattle.sd_script.specs.declared.command.CommandName.TheVariants.{Open, AddContainer, AddObject, SetOwner, SetGroup, SetDacl, Remove, Protect, Move, Publish, Tell, Learn, Check, Why, Find, Show, ListNodes, Dump, Who, Review, ImportNode, Delete}
+use Rattle.sd_script.specs.declared.command.ScriptCommand.{ScriptCommand}
+use Rattle.sd_script.specs.declared.command.ScriptCommand.TheVariants.{Open, AddContainer, AddObject, SetOwner, SetGroup, SetDacl, Remove, Protect, Move, Publish, Tell, Learn, Check, Why, Find, Show, ListNodes, Dump, Who, Review, ImportNode, Delete}
 use Rattle.sd_script.specs.declared.fault.LineFault.TheVariants as faults
 use Rattle.sd_script.specs.declared.importing.Import.{Import}
 use Rattle.sd_script.specs.declared.manner.Notation.{Notation}
@@ -40,7 +40,7 @@ opens (Deleting reader path token) = false
 opens (Viewing view) = false
 opens (Importing edit path given) = false
 
-abbrev is_opening : CommandName → Bool
+abbrev is_opening : ScriptCommand → Bool
 is_opening Open = true
 is_opening name = false
 
@@ -86,7 +86,7 @@ imports_open at sddl None = tt
 imports_open at sddl (Some kind) = λ p i. refl
 
 -- only an opening opens
-words_open : (name : CommandName) (arguments : List (List ℕ)) → AllOf (Opens (is_opening name)) (asks name arguments)
+words_open : (name : ScriptCommand) (arguments : List (List ℕ)) → AllOf (Opens (is_opening name)) (asks name arguments)
 words_open Open (readers ∷ sddl ∷ []) = λ n root. refl
 words_open AddContainer (at ∷ sddl ∷ []) = λ p n. refl
 words_open AddObject (at ∷ sddl ∷ []) = λ p n. refl
@@ -113,7 +113,7 @@ words_open ImportNode (kind ∷ at ∷ sddl ∷ []) = imports_open at sddl (kind
 words_open Delete (reader ∷ at ∷ user ∷ words) = λ i p s t. refl
 words_open name arguments = tt
 
-untimely_is : (is_open : Bool) (name : CommandName) → is_untimely is_open name ≡ (if is_opening name then is_open else not is_open)
+untimely_is : (is_open : Bool) (name : ScriptCommand) → is_untimely is_open name ≡ (if is_opening name then is_open else not is_open)
 untimely_is is_open Open = refl
 untimely_is is_open name = refl
 
@@ -124,13 +124,13 @@ by_test notation true false arguments b all h = all_given (Opens false) notation
 by_test notation false true arguments b all h = all_given (Opens true) notation arguments all b h
 by_test notation false false arguments b all h = absurd (cc (h))
 
-reads_open : (notation : Notation) (is_open : Bool) (name : CommandName) (arguments : Option Arguments) → AllOf (Opens (is_opening name)) arguments
+reads_open : (notation : Notation) (is_open : Bool) (name : ScriptCommand) (arguments : Option Arguments) → AllOf (Opens (is_opening name)) arguments
     → Gives (Opens (not is_open)) (reads_where notation is_open name arguments)
 reads_open notation is_open name None all b h = absurd (cc (h))
 reads_open notation is_open name (Some arguments) all b h =
     by_test notation is_open (is_opening name) arguments b all (subst (λ t. MatchBool t (Ok b ≡ Err faults.Open) (reads notation arguments (Ok b))) (untimely_is is_open name) h)
 
-where_open : (notation : Notation) (is_open : Bool) (command : Option (CommandName × List (List ℕ))) → Gives (Opens (not is_open)) (asks_where notation is_open command)
+where_open : (notation : Notation) (is_open : Bool) (command : Option (ScriptCommand × List (List ℕ))) → Gives (Opens (not is_open)) (asks_where notation is_open command)
 where_open notation is_open None b h = absurd (cc (h))
 where_open notation is_open (Some command) b h =
     reads_open notation is_open command.0 (asks command.0 command.1) (words_open command.0 command.1) b h

@@ -24,17 +24,17 @@ use Rattle.sd_script.specs.declared.asked.Asked.{Asked}
 use Rattle.sd_script.specs.declared.asked.Asked.TheVariants.{Opening, Asking, Explaining, Finding, Deleting, Viewing}
 use Rattle.sd_script.specs.declared.asked.Asked.TheVariants.{Importing}
 use Rattle.sd_script.specs.declared.asked.OnGroups.{OnGroups}
-use Rattle.sd_script.specs.declared.asked.Question.{Question}
-use Rattle.sd_script.specs.declared.asked.Question.TheVariants as questions
+use Rattle.sd_script.specs.declared.asked.TokenQuestion.{TokenQuestion}
+use Rattle.sd_script.specs.declared.asked.TokenQuestion.TheVariants as questions
 use Rattle.sd_script.specs.declared.deletion.OnUser.{OnUser}
 use Rattle.sd_script.specs.declared.command.Command.{Command}
-use Rattle.sd_script.specs.declared.command.CommandName.{CommandName}
-use Rattle.sd_script.specs.declared.command.CommandName.TheVariants.{Open, AddContainer, AddObject, SetOwner, SetGroup}
-use Rattle.sd_script.specs.declared.command.CommandName.TheVariants.{SetDacl, Remove, Protect, Move, Publish, Tell}
-use Rattle.sd_script.specs.declared.command.CommandName.TheVariants.{Learn, Check, Why, Find, Show, ListNodes, Dump}
-use Rattle.sd_script.specs.declared.command.CommandName.TheVariants.{Who, Review, ImportNode, Delete}
+use Rattle.sd_script.specs.declared.command.ScriptCommand.{ScriptCommand}
+use Rattle.sd_script.specs.declared.command.ScriptCommand.TheVariants.{Open, AddContainer, AddObject, SetOwner, SetGroup}
+use Rattle.sd_script.specs.declared.command.ScriptCommand.TheVariants.{SetDacl, Remove, Protect, Move, Publish, Tell}
+use Rattle.sd_script.specs.declared.command.ScriptCommand.TheVariants.{Learn, Check, Why, Find, Show, ListNodes, Dump}
+use Rattle.sd_script.specs.declared.command.ScriptCommand.TheVariants.{Who, Review, ImportNode, Delete}
 use Rattle.sd_script.specs.declared.fault.LineFault.TheVariants as faults
-use Rattle.sd_script.specs.declared.fault.Stop.{Stop}
+use Rattle.sd_script.specs.declared.fault.LineStop.{LineStop}
 use Rattle.sd_script.specs.declared.importing.Import.{Import}
 use Rattle.sd_script.specs.declared.manner.Notation.{Notation}
 use Rattle.sd_script.specs.declared.view.View.{View}
@@ -70,7 +70,7 @@ reads notation (Imported word next) = Then (imported notation word) (λ i. reads
 
 -- ---- the table: each command's name, its arguments by kind, and what it asks for
 
-abbrev pub names : List (List ℕ × CommandName)
+abbrev pub names : List (List ℕ × ScriptCommand)
 names =
     (codes "open", Open) ∷ (codes "addc", AddContainer) ∷ (codes "addo", AddObject) ∷ (codes "owner", SetOwner)
     ∷ (codes "group", SetGroup) ∷ (codes "dacl", SetDacl) ∷ (codes "remove", Remove) ∷ (codes "protect", Protect)
@@ -96,12 +96,12 @@ abbrev pub view : View → Arguments
 view v = Asks (Viewing v)
 
 -- a question for a token, to a reader, of a path
-abbrev pub poses : Question → ℕ → Names → TokenValue → ℕ → Asked
+abbrev pub poses : TokenQuestion → ℕ → Names → TokenValue → ℕ → Asked
 poses questions.Check reader p t asked = Asking (requests.Check reader p t asked)
 poses questions.Why reader p t asked = Explaining reader p t asked
 poses questions.Find reader p t asked = Finding reader p t asked
 
-abbrev pub posed : Question → List ℕ → List ℕ → List ℕ → List ℕ → List (List ℕ) → Arguments
+abbrev pub posed : TokenQuestion → List ℕ → List ℕ → List ℕ → List ℕ → List (List ℕ) → Arguments
 posed question reader at user asked words =
     Number reader (λ i. Path at (λ p. Sid user (λ s. Mask asked (λ m. Token s words
     (λ t. Asks (poses question i p t m))))))
@@ -140,7 +140,7 @@ abbrev pub asks_who : List (List ℕ) → Option Arguments
 asks_who arguments = option_map asks_groups (groups_given arguments)
 
 -- each other command on these arguments, where they are as many as it takes
-abbrev pub asks_taking : CommandName → List (List ℕ) → Option Arguments
+abbrev pub asks_taking : ScriptCommand → List (List ℕ) → Option Arguments
 asks_taking Open (readers ∷ sddl ∷ []) = Some (Number readers (λ n. Node sddl (λ root. Asks (Opening n root))))
 asks_taking AddContainer (at ∷ sddl ∷ []) = Some (adds Container at sddl)
 asks_taking AddObject (at ∷ sddl ∷ []) = Some (adds Object at sddl)
@@ -165,13 +165,13 @@ asks_taking Review (at ∷ []) = Some (Path at (λ p. view (views.Review p)))
 asks_taking ImportNode (kind ∷ at ∷ sddl ∷ []) = option_map (imports at sddl) (kind_named kind)
 asks_taking name arguments = None
 
-abbrev pub asks : CommandName → List (List ℕ) → Option Arguments
+abbrev pub asks : ScriptCommand → List (List ℕ) → Option Arguments
 asks Who arguments = asks_who arguments
 asks Delete arguments = asks_delete arguments
 asks name arguments = asks_taking name arguments
 
 -- a store is opened where none is open, and each other command is for where one is
-abbrev pub is_untimely : Bool → CommandName → Bool
+abbrev pub is_untimely : Bool → ScriptCommand → Bool
 is_untimely is_open Open = is_open
 is_untimely is_open name = not is_open
 
@@ -185,7 +185,7 @@ beside word (row ∷ rows) = if bytes_eq word row.0 then Some row.1 else beside 
 abbrev pub is_empty : List ℕ → Bool
 is_empty word = length word == 0
 
-abbrev pub command_named : List ℕ → Option CommandName
+abbrev pub command_named : List ℕ → Option ScriptCommand
 command_named word = beside word names
 
 abbrev pub on_user_value : OnUser → List ℕ × List ℕ × List ℕ × List (List ℕ)
@@ -194,21 +194,21 @@ on_user_value given = (given.reader.now, given.path.now, given.user.now, texts g
 abbrev pub on_groups_value : OnGroups → List ℕ × List ℕ × List (List ℕ)
 on_groups_value given = (given.path.now, given.mask.now, texts given.words.now)
 
-abbrev pub command_value : Command → CommandName × List (List ℕ)
+abbrev pub command_value : Command → ScriptCommand × List (List ℕ)
 command_value command = (command.name, texts command.arguments.now)
 
 -- the command that the words name, none of which is empty, and its arguments
-abbrev pub command_of : List (List ℕ) → Option (CommandName × List (List ℕ))
+abbrev pub command_of : List (List ℕ) → Option (ScriptCommand × List (List ℕ))
 command_of [] = None
 command_of (word ∷ words) =
     if list_any is_empty (word ∷ words) then None else option_map (λ name. (name, words)) (command_named word)
 
-abbrev pub reads_where : Notation → Bool → CommandName → Option Arguments → Reading Asked
+abbrev pub reads_where : Notation → Bool → ScriptCommand → Option Arguments → Reading Asked
 reads_where notation is_open name None read = read ≡ Err faults.Words
 reads_where notation is_open name (Some arguments) read =
     MatchBool (is_untimely is_open name) (read ≡ Err faults.Open) (reads notation arguments read)
 
-abbrev pub asks_where : Notation → Bool → Option (CommandName × List (List ℕ)) → Reading Asked
+abbrev pub asks_where : Notation → Bool → Option (ScriptCommand × List (List ℕ)) → Reading Asked
 asks_where notation is_open None read = read ≡ Err faults.Words
 asks_where notation is_open (Some command) read = reads_where notation is_open command.0 (asks command.0 command.1) read
 
@@ -219,7 +219,7 @@ line_asks notation is_open line read =
 
 -- ---- what parses a command's arguments and may be out of memory; nothing, where they aren't as many as it takes
 
-abbrev pub Parses : Notation → Option Arguments → Option (Result Asked Stop) → Type 0
+abbrev pub Parses : Notation → Option Arguments → Option (Result Asked LineStop) → Type 0
 Parses notation None None = ⊤
 Parses notation (Some arguments) (Some result) = UnlessMemory (reads notation arguments) result
 Parses notation arguments result = ⊥

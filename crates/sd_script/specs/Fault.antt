@@ -4,8 +4,8 @@ use Rattle.sd_answer.specs.Answer.{fault_line, sddl_fault_line}
 use Rattle.sd_script.specs.declared.fault.LineFault.{LineFault}
 use Rattle.sd_script.specs.declared.fault.LineFault.TheVariants.{Utf8, Words, Open, Number, Path, Sid, Sddl, Parts}
 use Rattle.sd_script.specs.declared.fault.LineFault.TheVariants.{Mask, Token}
-use Rattle.sd_script.specs.declared.fault.Stop.{Stop}
-use Rattle.sd_script.specs.declared.fault.Stop.TheVariants.{Fault, Memory}
+use Rattle.sd_script.specs.declared.fault.LineStop.{LineStop}
+use Rattle.sd_script.specs.declared.fault.LineStop.TheVariants.{Fault, Memory}
 
 abbrev pub line_of_fault : LineFault → List ℕ
 line_of_fault Utf8 = fault_line (codes "utf8")
@@ -39,7 +39,7 @@ Then {A = A} first next read =
     ⊎ ((fault : LineFault) × first (Err fault) × (read ≡ Err fault))
 
 -- what a parser returns that may be out of memory
-abbrev pub UnlessMemory : {A : Type 0} → Reading A → Result A Stop → Type 0
+abbrev pub UnlessMemory : {A : Type 0} → Reading A → Result A LineStop → Type 0
 UnlessMemory reading (Ok a) = reading (Ok a)
 UnlessMemory reading (Err (Fault fault)) = reading (Err fault)
 UnlessMemory reading (Err Memory) = ⊤

@@ -6,7 +6,7 @@ ghost use Rattle.sd_script.specs.Argument.{token};
 ghost use Rattle.sd_script.specs.Fault.{UnlessMemory};
 ghost use Rattle.sd_answer.specs.Word.{texts};
 
-use crate::fault::{LineFault, Stop};
+use crate::fault::{LineFault, LineStop};
 use crate::manner::Notation;
 use crate::view::Groups;
 use sd_acl::{Dacl, Descriptor};
@@ -56,24 +56,24 @@ pub(crate) fn token_in(
     notation: Notation,
     user: Sid,
     words: &[&str],
-) -> Result<Token, Stop>
+) -> Result<Token, LineStop>
     ensures { UnlessMemory (token notation user (texts words.now)) result }
 {
     match read_token(alloc, notation.aliases, user, words) {
         Ok(token) => Ok(token),
-        Err(TokenError::NoWord { place: _ }) => Err(Stop::Fault(LineFault::Token)),
-        Err(TokenError::Memory) => Err(Stop::Memory),
+        Err(TokenError::NoWord { place: _ }) => Err(LineStop::Fault(LineFault::Token)),
+        Err(TokenError::Memory) => Err(LineStop::Memory),
     }
 }
 
 /// The groups that words are.
-pub(crate) fn base_in(alloc: Global, notation: Notation, words: &[&str]) -> Result<Groups, Stop>
+pub(crate) fn base_in(alloc: Global, notation: Notation, words: &[&str]) -> Result<Groups, LineStop>
     ensures { UnlessMemory (base notation (texts words.now)) result }
 {
     match read_base(alloc, notation.aliases, words) {
         Ok(groups) => Ok(Groups::new(groups)),
-        Err(TokenError::NoWord { place: _ }) => Err(Stop::Fault(LineFault::Token)),
-        Err(TokenError::Memory) => Err(Stop::Memory),
+        Err(TokenError::NoWord { place: _ }) => Err(LineStop::Fault(LineFault::Token)),
+        Err(TokenError::Memory) => Err(LineStop::Memory),
     }
 }
 
@@ -82,21 +82,21 @@ pub(crate) fn descriptor_in(
     alloc: Global,
     notation: Notation,
     word: &str,
-) -> Result<Descriptor, Stop>
+) -> Result<Descriptor, LineStop>
     ensures read { IfOk result (λ d. descriptor notation word.now (Ok (descriptor_of d))) }
     ensures stop { IfErr result (λ stop. UnlessMemory (descriptor notation word.now) (Err stop)) }
 {
     match read_sddl_argument(alloc, notation.aliases, notation.without_sacl, word) {
         Ok(WithoutSacl { descriptor, .. }) => Ok(descriptor),
         Err(TextError::Fault { fault, place }) => {
-            Err(Stop::Fault(LineFault::Sddl { fault, place }))
+            Err(LineStop::Fault(LineFault::Sddl { fault, place }))
         }
-        Err(TextError::Memory) => Err(Stop::Memory),
+        Err(TextError::Memory) => Err(LineStop::Memory),
     }
 }
 
 /// The text of a descriptor with an owner and a group.
-pub(crate) fn node_in(alloc: Global, notation: Notation, word: &str) -> Result<RootSpec, Stop>
+pub(crate) fn node_in(alloc: Global, notation: Notation, word: &str) -> Result<RootSpec, LineStop>
     ensures { UnlessMemory (node notation word.now) result }
 {
     let descriptor = descriptor_in(alloc, notation, word)?;
@@ -104,14 +104,14 @@ pub(crate) fn node_in(alloc: Global, notation: Notation, word: &str) -> Result<R
 }
 
 /// The text of a descriptor with neither.
-pub(crate) fn dacl_in(alloc: Global, notation: Notation, word: &str) -> Result<NodeDacl, Stop>
+pub(crate) fn dacl_in(alloc: Global, notation: Notation, word: &str) -> Result<NodeDacl, LineStop>
     ensures { UnlessMemory (dacl notation word.now) result }
 {
     let descriptor = descriptor_in(alloc, notation, word)?;
     dacl_of(alloc, &descriptor)
 }
 
-fn node_of(alloc: Global, descriptor: &Descriptor) -> Result<RootSpec, Stop>
+fn node_of(alloc: Global, descriptor: &Descriptor) -> Result<RootSpec, LineStop>
     ensures { UnlessMemory (λ read. read ≡ node_of (descriptor_of descriptor.now)) result }
 {
     match (descriptor.owner, descriptor.group) {
@@ -119,16 +119,16 @@ fn node_of(alloc: Global, descriptor: &Descriptor) -> Result<RootSpec, Stop>
             let dacl = own_dacl(alloc, descriptor)?;
             Ok(RootSpec { owner, group, dacl })
         }
-        _ => Err(Stop::Fault(LineFault::Parts)),
+        _ => Err(LineStop::Fault(LineFault::Parts)),
     }
 }
 
-fn dacl_of(alloc: Global, descriptor: &Descriptor) -> Result<NodeDacl, Stop>
+fn dacl_of(alloc: Global, descriptor: &Descriptor) -> Result<NodeDacl, LineStop>
     ensures { UnlessMemory (λ read. read ≡ dacl_of (descriptor_of descriptor.now)) result }
 {
     match (descriptor.owner, descriptor.group) {
         (None, None) => Ok(own_dacl(alloc, descriptor)?),
-        _ => Err(Stop::Fault(LineFault::Parts)),
+        _ => Err(LineStop::Fault(LineFault::Parts)),
     }
 }
 

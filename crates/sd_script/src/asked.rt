@@ -3,15 +3,15 @@ ghost use Rattle.std.specs.Prelude.{◌≡◌, ◌∷◌, [], Some, option_map};
 ghost use Rattle.sd_script.specs.Command.{Parses, asks, asks_taking, asks_who, kind_named, posed, poses};
 ghost use Rattle.sd_script.specs.Command.{asks_groups, groups_given, on_groups_value, reads};
 ghost use Rattle.sd_script.specs.Fault.{UnlessMemory};
-ghost use Rattle.sd_script.specs.declared.command.CommandName.TheVariants.{Open, Learn, Show, ListNodes, Review};
+ghost use Rattle.sd_script.specs.declared.command.ScriptCommand.TheVariants.{Open, Learn, Show, ListNodes, Review};
 ghost use Rattle.sd_answer.specs.Word.{texts};
 ghost use Rattle.sd_script.specs.declared.manner.Notation.{Notation as NotationValue};
 
 use crate::argument::{base_in, mask_in, node_in, number_in, sid_in, token_in};
-use crate::command::{Command, CommandName};
+use crate::command::{Command, ScriptCommand};
 use crate::deletion::deletion;
 use crate::edits::{added, moved, protected, removed, set_dacl, set_group, set_owner};
-use crate::fault::Stop;
+use crate::fault::LineStop;
 use crate::importing::importing;
 use crate::manner::Notation;
 use crate::paths::path_in;
@@ -73,7 +73,7 @@ struct OnGroups<'a> {
 
 /// What is asked of a reader and a path for a token.
 #[derive(Clone, Copy)]
-enum Question {
+enum TokenQuestion {
     Check,
     Why,
     Find,
@@ -85,18 +85,18 @@ pub(crate) fn asked_by(
     alloc: Global,
     notation: Notation,
     command: Command<'_>,
-) -> Option<Result<Asked, Stop>>
+) -> Option<Result<Asked, LineStop>>
     ensures { Parses notation (asks command.entry.name (texts command.entry.arguments.now)) result }
 {
     match command.name {
-        CommandName::Who => who(alloc, notation, command.arguments),
-        CommandName::Delete => deletion(alloc, notation, command.arguments),
+        ScriptCommand::Who => who(alloc, notation, command.arguments),
+        ScriptCommand::Delete => deletion(alloc, notation, command.arguments),
         _ => taking(alloc, notation, command.name, command.arguments),
     }
 }
 
 /// Who is granted a mask on a path, of groups.
-fn who(alloc: Global, notation: Notation, arguments: &[&str]) -> Option<Result<Asked, Stop>>
+fn who(alloc: Global, notation: Notation, arguments: &[&str]) -> Option<Result<Asked, LineStop>>
     ensures { Parses notation (asks_who (texts arguments.now)) result }
 {
     match on_groups(arguments) {
@@ -119,9 +119,9 @@ fn on_groups<'a>(arguments: &'a [&'a str]) -> Option<OnGroups<'a>>
 fn taking(
     alloc: Global,
     notation: Notation,
-    name: CommandName,
+    name: ScriptCommand,
     arguments: &[&str],
-) -> Option<Result<Asked, Stop>>
+) -> Option<Result<Asked, LineStop>>
     ensures { Parses notation (asks_taking name (texts arguments.now)) result }
 {
     match arguments {
@@ -136,15 +136,15 @@ fn taking(
 }
 
 /// Without an argument.
-fn alone(alloc: Global, notation: Notation, name: CommandName) -> Option<Result<Asked, Stop>>
+fn alone(alloc: Global, notation: Notation, name: ScriptCommand) -> Option<Result<Asked, LineStop>>
     ensures { Parses notation (asks_taking name []) result }
 {
     match name {
-        CommandName::Publish => Some(Ok(Asked::Asking(Request::Publish))),
-        CommandName::Tell => Some(Ok(Asked::Asking(Request::Tell))),
-        CommandName::Dump => Some(Ok(Asked::Viewing(View::Dump))),
-        CommandName::ListNodes => Some(listed(alloc, notation, "/")),
-        CommandName::Review => Some(reviewed(alloc, notation, "/")),
+        ScriptCommand::Publish => Some(Ok(Asked::Asking(Request::Publish))),
+        ScriptCommand::Tell => Some(Ok(Asked::Asking(Request::Tell))),
+        ScriptCommand::Dump => Some(Ok(Asked::Viewing(View::Dump))),
+        ScriptCommand::ListNodes => Some(listed(alloc, notation, "/")),
+        ScriptCommand::Review => Some(reviewed(alloc, notation, "/")),
         _ => None,
     }
 }
@@ -153,16 +153,16 @@ fn alone(alloc: Global, notation: Notation, name: CommandName) -> Option<Result<
 fn on_one(
     alloc: Global,
     notation: Notation,
-    name: CommandName,
+    name: ScriptCommand,
     path: &str,
-) -> Option<Result<Asked, Stop>>
+) -> Option<Result<Asked, LineStop>>
     ensures { Parses notation (asks_taking name (path.now ∷ [])) result }
 {
     match name {
-        CommandName::Remove => Some(removed(alloc, notation, path)),
-        CommandName::Protect => Some(protected(alloc, notation, path)),
-        CommandName::ListNodes => Some(listed(alloc, notation, path)),
-        CommandName::Review => Some(reviewed(alloc, notation, path)),
+        ScriptCommand::Remove => Some(removed(alloc, notation, path)),
+        ScriptCommand::Protect => Some(protected(alloc, notation, path)),
+        ScriptCommand::ListNodes => Some(listed(alloc, notation, path)),
+        ScriptCommand::Review => Some(reviewed(alloc, notation, path)),
         _ => None,
     }
 }
@@ -171,28 +171,28 @@ fn on_one(
 fn on_two(
     alloc: Global,
     notation: Notation,
-    name: CommandName,
+    name: ScriptCommand,
     first: &str,
     second: &str,
-) -> Option<Result<Asked, Stop>>
+) -> Option<Result<Asked, LineStop>>
     ensures { Parses notation (asks_taking name (first.now ∷ second.now ∷ [])) result }
 {
     match name {
-        CommandName::Open => Some(opening(alloc, notation, first, second)),
-        CommandName::AddContainer => Some(added(
+        ScriptCommand::Open => Some(opening(alloc, notation, first, second)),
+        ScriptCommand::AddContainer => Some(added(
             alloc,
             notation,
             NodeKind::Container,
             first,
             second,
         )),
-        CommandName::AddObject => Some(added(alloc, notation, NodeKind::Object, first, second)),
-        CommandName::SetOwner => Some(set_owner(alloc, notation, first, second)),
-        CommandName::SetGroup => Some(set_group(alloc, notation, first, second)),
-        CommandName::SetDacl => Some(set_dacl(alloc, notation, first, second)),
-        CommandName::Move => Some(moved(alloc, notation, first, second)),
-        CommandName::Learn => Some(learned(first, second)),
-        CommandName::Show => Some(shown(alloc, notation, first, second)),
+        ScriptCommand::AddObject => Some(added(alloc, notation, NodeKind::Object, first, second)),
+        ScriptCommand::SetOwner => Some(set_owner(alloc, notation, first, second)),
+        ScriptCommand::SetGroup => Some(set_group(alloc, notation, first, second)),
+        ScriptCommand::SetDacl => Some(set_dacl(alloc, notation, first, second)),
+        ScriptCommand::Move => Some(moved(alloc, notation, first, second)),
+        ScriptCommand::Learn => Some(learned(first, second)),
+        ScriptCommand::Show => Some(shown(alloc, notation, first, second)),
         _ => None,
     }
 }
@@ -201,15 +201,15 @@ fn on_two(
 fn on_three(
     alloc: Global,
     notation: Notation,
-    name: CommandName,
+    name: ScriptCommand,
     kind: &str,
     path: &str,
     sddl: &str,
-) -> Option<Result<Asked, Stop>>
+) -> Option<Result<Asked, LineStop>>
     ensures { Parses notation (asks_taking name (kind.now ∷ path.now ∷ sddl.now ∷ [])) result }
 {
     match name {
-        CommandName::ImportNode => {
+        ScriptCommand::ImportNode => {
             let kind = kind_named(kind)?;
             Some(importing(alloc, notation, kind, path, sddl))
         }
@@ -232,26 +232,26 @@ fn kind_named(word: &str) -> Option<NodeKind>
 fn on_question(
     alloc: Global,
     notation: Notation,
-    name: CommandName,
+    name: ScriptCommand,
     reader: &str,
     path: &str,
     user: &str,
     mask: &str,
     words: &[&str],
-) -> Option<Result<Asked, Stop>>
+) -> Option<Result<Asked, LineStop>>
     ensures { Parses notation
         (asks_taking name (reader.now ∷ path.now ∷ user.now ∷ mask.now ∷ texts words.now)) result }
 {
     let question = match name {
-        CommandName::Check => Question::Check,
-        CommandName::Why => Question::Why,
-        CommandName::Find => Question::Find,
+        ScriptCommand::Check => TokenQuestion::Check,
+        ScriptCommand::Why => TokenQuestion::Why,
+        ScriptCommand::Find => TokenQuestion::Find,
         _ => return None,
     };
     Some(posed(alloc, notation, question, reader, path, user, mask, words))
 }
 
-fn opening(alloc: Global, notation: Notation, readers: &str, sddl: &str) -> Result<Asked, Stop>
+fn opening(alloc: Global, notation: Notation, readers: &str, sddl: &str) -> Result<Asked, LineStop>
     ensures { Parses notation (asks_taking Open (readers.now ∷ sddl.now ∷ [])) (Some result) }
 {
     let readers = number_in(readers)?;
@@ -259,7 +259,7 @@ fn opening(alloc: Global, notation: Notation, readers: &str, sddl: &str) -> Resu
     Ok(Asked::Opening { readers, root })
 }
 
-fn learned(reader: &str, length: &str) -> Result<Asked, Stop>
+fn learned(reader: &str, length: &str) -> Result<Asked, LineStop>
     ensures { (notation : NotationValue)
         → Parses notation (asks_taking Learn (reader.now ∷ length.now ∷ [])) (Some result) }
 {
@@ -271,13 +271,13 @@ fn learned(reader: &str, length: &str) -> Result<Asked, Stop>
 fn posed(
     alloc: Global,
     notation: Notation,
-    question: Question,
+    question: TokenQuestion,
     reader: &str,
     path: &str,
     user: &str,
     mask: &str,
     words: &[&str],
-) -> Result<Asked, Stop>
+) -> Result<Asked, LineStop>
     ensures { UnlessMemory
         (reads notation (posed question reader.now path.now user.now mask.now (texts words.now))) result }
 {
@@ -289,24 +289,24 @@ fn posed(
     Ok(question.about(reader, path, token, asked))
 }
 
-impl Question {
+impl TokenQuestion {
     fn about(self, reader: u64, path: Path, token: Token, asked: Mask) -> Asked
         ensures { result ≡ poses self reader path token asked }
     {
         match self {
-            Question::Check => Asked::Asking(Request::Check {
+            TokenQuestion::Check => Asked::Asking(Request::Check {
                 reader,
                 path,
                 token,
                 asked,
             }),
-            Question::Why => Asked::Explaining {
+            TokenQuestion::Why => Asked::Explaining {
                 reader,
                 path,
                 token,
                 asked,
             },
-            Question::Find => Asked::Finding {
+            TokenQuestion::Find => Asked::Finding {
                 reader,
                 path,
                 token,
@@ -316,7 +316,7 @@ impl Question {
     }
 }
 
-fn shown(alloc: Global, notation: Notation, reader: &str, path: &str) -> Result<Asked, Stop>
+fn shown(alloc: Global, notation: Notation, reader: &str, path: &str) -> Result<Asked, LineStop>
     ensures { Parses notation (asks_taking Show (reader.now ∷ path.now ∷ [])) (Some result) }
 {
     let reader = number_in(reader)?;
@@ -324,7 +324,7 @@ fn shown(alloc: Global, notation: Notation, reader: &str, path: &str) -> Result<
     Ok(Asked::Asking(Request::Show { reader, path }))
 }
 
-fn listed(alloc: Global, notation: Notation, path: &str) -> Result<Asked, Stop>
+fn listed(alloc: Global, notation: Notation, path: &str) -> Result<Asked, LineStop>
     ensures { Parses notation (asks_taking ListNodes (path.now ∷ [])) (Some result) }
 {
     let path = path_in(alloc, notation.paths, path)?;
@@ -337,7 +337,7 @@ fn granted(
     path: &str,
     mask: &str,
     words: &[&str],
-) -> Result<Asked, Stop>
+) -> Result<Asked, LineStop>
     ensures { UnlessMemory (reads notation (asks_groups (path.now, mask.now, texts words.now))) result }
 {
     let path = path_in(alloc, notation.paths, path)?;
@@ -350,7 +350,7 @@ fn granted(
     }))
 }
 
-fn reviewed(alloc: Global, notation: Notation, path: &str) -> Result<Asked, Stop>
+fn reviewed(alloc: Global, notation: Notation, path: &str) -> Result<Asked, LineStop>
     ensures { Parses notation (asks_taking Review (path.now ∷ [])) (Some result) }
 {
     let path = path_in(alloc, notation.paths, path)?;

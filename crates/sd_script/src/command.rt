@@ -6,7 +6,7 @@ ghost use Rattle.sd_answer.specs.Word.{texts};
 
 /// A command's name.
 #[derive(Clone, Copy)]
-pub(crate) enum CommandName {
+pub(crate) enum ScriptCommand {
     Open,
     AddContainer,
     AddObject,
@@ -34,37 +34,37 @@ pub(crate) enum CommandName {
 /// A command with its arguments.
 #[derive(Clone, Copy)]
 pub(crate) struct Command<'a> {
-    pub(crate) name: CommandName,
+    pub(crate) name: ScriptCommand,
     pub(crate) arguments: &'a [&'a str],
 }
 
-impl CommandName {
-    fn named(word: &str) -> Option<CommandName>
+impl ScriptCommand {
+    fn named(word: &str) -> Option<ScriptCommand>
         ensures { result ≡ command_named word.now }
     {
         match word {
-            "open" => Some(CommandName::Open),
-            "addc" => Some(CommandName::AddContainer),
-            "addo" => Some(CommandName::AddObject),
-            "owner" => Some(CommandName::SetOwner),
-            "group" => Some(CommandName::SetGroup),
-            "dacl" => Some(CommandName::SetDacl),
-            "remove" => Some(CommandName::Remove),
-            "protect" => Some(CommandName::Protect),
-            "move" => Some(CommandName::Move),
-            "publish" => Some(CommandName::Publish),
-            "tell" => Some(CommandName::Tell),
-            "learn" => Some(CommandName::Learn),
-            "check" => Some(CommandName::Check),
-            "why" => Some(CommandName::Why),
-            "find" => Some(CommandName::Find),
-            "show" => Some(CommandName::Show),
-            "list" => Some(CommandName::ListNodes),
-            "dump" => Some(CommandName::Dump),
-            "who" => Some(CommandName::Who),
-            "review" => Some(CommandName::Review),
-            "import" => Some(CommandName::ImportNode),
-            "delete" => Some(CommandName::Delete),
+            "open" => Some(ScriptCommand::Open),
+            "addc" => Some(ScriptCommand::AddContainer),
+            "addo" => Some(ScriptCommand::AddObject),
+            "owner" => Some(ScriptCommand::SetOwner),
+            "group" => Some(ScriptCommand::SetGroup),
+            "dacl" => Some(ScriptCommand::SetDacl),
+            "remove" => Some(ScriptCommand::Remove),
+            "protect" => Some(ScriptCommand::Protect),
+            "move" => Some(ScriptCommand::Move),
+            "publish" => Some(ScriptCommand::Publish),
+            "tell" => Some(ScriptCommand::Tell),
+            "learn" => Some(ScriptCommand::Learn),
+            "check" => Some(ScriptCommand::Check),
+            "why" => Some(ScriptCommand::Why),
+            "find" => Some(ScriptCommand::Find),
+            "show" => Some(ScriptCommand::Show),
+            "list" => Some(ScriptCommand::ListNodes),
+            "dump" => Some(ScriptCommand::Dump),
+            "who" => Some(ScriptCommand::Who),
+            "review" => Some(ScriptCommand::Review),
+            "import" => Some(ScriptCommand::ImportNode),
+            "delete" => Some(ScriptCommand::Delete),
             _ => None,
         }
     }
@@ -74,7 +74,7 @@ impl CommandName {
         ensures { result ≡ is_untimely is_open self }
     {
         match self {
-            CommandName::Open => is_open,
+            ScriptCommand::Open => is_open,
             _ => !is_open,
         }
     }
@@ -89,7 +89,7 @@ pub(crate) fn command_of<'a>(words: &'a [&'a str]) -> Option<Command<'a>>
     }
     match words {
         [word, arguments @ ..] => {
-            let name = CommandName::named(word)?;
+            let name = ScriptCommand::named(word)?;
             Some(Command { name, arguments })
         }
         [] => None,

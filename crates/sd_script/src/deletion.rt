@@ -7,7 +7,7 @@ ghost use Rattle.sd_script.specs.Fault.{UnlessMemory};
 
 use crate::argument::{number_in, sid_in, token_in};
 use crate::asked::Asked;
-use crate::fault::Stop;
+use crate::fault::LineStop;
 use crate::listing::grants;
 use crate::manner::Notation;
 use crate::paths::path_in;
@@ -40,7 +40,7 @@ pub(crate) fn deletion(
     alloc: Global,
     notation: Notation,
     arguments: &[&str],
-) -> Option<Result<Asked, Stop>>
+) -> Option<Result<Asked, LineStop>>
     ensures { Parses notation (asks_delete (texts arguments.now)) result }
 {
     match on_user(arguments) {
@@ -79,7 +79,7 @@ fn deleting(
     path: &str,
     user: &str,
     words: &[&str],
-) -> Result<Asked, Stop>
+) -> Result<Asked, LineStop>
     ensures { UnlessMemory (reads notation (deletes (reader.now, path.now, user.now, texts words.now))) result }
 {
     let reader = number_in(reader)?;

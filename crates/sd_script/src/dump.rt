@@ -7,13 +7,13 @@ ghost use Rattle.sd_tree.specs.Listing.{listed};
 ghost use Rattle.std.specs.Str.Lines.{lines};
 ghost use Rattle.sd_acl.specs.Descriptor.{descriptor_of};
 ghost use Rattle.sd_tree.specs.Descriptors.{own_descriptor_of_row};
-ghost use Rattle.sd_script.specs.Dump.{AreAskedBy, IsAskedBy, IsDumpOf, IsReadBack, adding_word as adding_word_of};
-ghost use Rattle.sd_script.specs.Dump.{making, making_line as making_line_of, making_lines as making_lines_of};
+ghost use Rattle.sd_script.specs.Dump.{AreAskedBy, IsAskedBy, IsDumpOf, IsReadBack, adding_word};
+ghost use Rattle.sd_script.specs.Dump.{making, making_line, making_lines};
 ghost use Rattle.sd_script.specs.declared.asked.Asked.TheVariants.{Asking};
 ghost use Rattle.sd_desk.specs.declared.request.Request.TheVariants.{Publish};
 
 use crate::asked::Asked;
-use crate::fault::Stop;
+use crate::fault::LineStop;
 use crate::line::read_line;
 use crate::lines::is_silent;
 use crate::manner::Notation;
@@ -54,7 +54,7 @@ fn making_lines(
     readers: u64,
 ) -> Result<String, AllocError>
     ensures { IfOk result (λ text. string_bytes text
-        ≡ making_lines_of notation readers (entries (replay tree.now.opening tree.now.journal))) }
+        ≡ making_lines notation readers (entries (replay tree.now.opening tree.now.journal))) }
 {
     let mut text = String::new(alloc);
     for index in 0..tree.node_count() {
@@ -80,7 +80,7 @@ fn making_line(
 ) -> Result<String, AllocError>
     requires { descriptor_of given.now ≡ own_descriptor_of_row (listed node.now).1 }
     ensures { IfOk result (λ text. string_bytes text
-        ≡ making_line_of notation readers (listed node.now).0 (listed node.now).1) }
+        ≡ making_line notation readers (listed node.now).0 (listed node.now).1) }
 {
     let sddl = shown_sddl(alloc, notation.spelling, given)?;
     if node.path.as_path_ref().is_root() {
@@ -94,7 +94,7 @@ fn making_line(
 }
 
 fn adding_word(kind: NodeKind) -> &'static str
-    ensures { result.now ≡ adding_word_of kind }
+    ensures { result.now ≡ adding_word kind }
 {
     match kind {
         NodeKind::Container => "addc",
@@ -148,8 +148,8 @@ fn is_read_as(
     }
     match read_line(alloc, notation, is_open, line) {
         Ok(asked) => Ok(is_making(&asked, readers, node)),
-        Err(Stop::Fault(_)) => Ok(false),
-        Err(Stop::Memory) => Err(AllocError),
+        Err(LineStop::Fault(_)) => Ok(false),
+        Err(LineStop::Memory) => Err(AllocError),
     }
 }
 
@@ -171,7 +171,7 @@ fn is_read_as_publish(
     }
     match read_line(alloc, notation, is_open, line) {
         Ok(asked) => Ok(is_publishing(&asked)),
-        Err(Stop::Fault(_)) => Ok(false),
-        Err(Stop::Memory) => Err(AllocError),
+        Err(LineStop::Fault(_)) => Ok(false),
+        Err(LineStop::Memory) => Err(AllocError),
     }
 }

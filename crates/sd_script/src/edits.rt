@@ -1,14 +1,14 @@
 //! What a line that edits the tree asks for: its arguments, parsed from the left.
 ghost use Rattle.std.specs.Prelude.{◌≡◌, ◌∷◌, [], Some};
-ghost use Rattle.sd_script.specs.Addition.{addition as addition_of, row_of};
+ghost use Rattle.sd_script.specs.Addition.{addition, row_of};
 ghost use Rattle.sd_script.specs.Command.{Parses, adds, asks_taking, reads};
 ghost use Rattle.sd_script.specs.Fault.{UnlessMemory};
-ghost use Rattle.sd_script.specs.declared.command.CommandName.TheVariants.{SetOwner, SetGroup};
-ghost use Rattle.sd_script.specs.declared.command.CommandName.TheVariants.{SetDacl, Remove, Protect, Move};
+ghost use Rattle.sd_script.specs.declared.command.ScriptCommand.TheVariants.{SetOwner, SetGroup};
+ghost use Rattle.sd_script.specs.declared.command.ScriptCommand.TheVariants.{SetDacl, Remove, Protect, Move};
 
 use crate::argument::{dacl_in, node_in, sid_in};
 use crate::asked::Asked;
-use crate::fault::Stop;
+use crate::fault::LineStop;
 use crate::manner::Notation;
 use crate::paths::path_in;
 use sd_desk::Request;
@@ -22,7 +22,7 @@ pub(crate) fn added(
     kind: NodeKind,
     path: &str,
     sddl: &str,
-) -> Result<Asked, Stop>
+) -> Result<Asked, LineStop>
     ensures { UnlessMemory (reads notation (adds kind path.now sddl.now)) result }
 {
     let path = path_in(alloc, notation.paths, path)?;
@@ -32,7 +32,7 @@ pub(crate) fn added(
 
 /// The edit that adds a node of the kind with this of its own.
 pub(crate) fn addition(kind: NodeKind, path: Path, node: RootSpec) -> Edit
-    ensures { result ≡ addition_of kind path (row_of kind node) }
+    ensures { result ≡ addition kind path (row_of kind node) }
 {
     let RootSpec { owner, group, dacl } = node;
     match kind {
@@ -57,7 +57,7 @@ pub(crate) fn set_owner(
     notation: Notation,
     path: &str,
     sid: &str,
-) -> Result<Asked, Stop>
+) -> Result<Asked, LineStop>
     ensures { Parses notation (asks_taking SetOwner (path.now ∷ sid.now ∷ [])) (Some result) }
 {
     let path = path_in(alloc, notation.paths, path)?;
@@ -71,7 +71,7 @@ pub(crate) fn set_group(
     notation: Notation,
     path: &str,
     sid: &str,
-) -> Result<Asked, Stop>
+) -> Result<Asked, LineStop>
     ensures { Parses notation (asks_taking SetGroup (path.now ∷ sid.now ∷ [])) (Some result) }
 {
     let path = path_in(alloc, notation.paths, path)?;
@@ -85,7 +85,7 @@ pub(crate) fn set_dacl(
     notation: Notation,
     path: &str,
     sddl: &str,
-) -> Result<Asked, Stop>
+) -> Result<Asked, LineStop>
     ensures { Parses notation (asks_taking SetDacl (path.now ∷ sddl.now ∷ [])) (Some result) }
 {
     let path = path_in(alloc, notation.paths, path)?;
@@ -94,7 +94,7 @@ pub(crate) fn set_dacl(
 }
 
 /// That a node is removed.
-pub(crate) fn removed(alloc: Global, notation: Notation, path: &str) -> Result<Asked, Stop>
+pub(crate) fn removed(alloc: Global, notation: Notation, path: &str) -> Result<Asked, LineStop>
     ensures { Parses notation (asks_taking Remove (path.now ∷ [])) (Some result) }
 {
     let path = path_in(alloc, notation.paths, path)?;
@@ -102,7 +102,7 @@ pub(crate) fn removed(alloc: Global, notation: Notation, path: &str) -> Result<A
 }
 
 /// That a node is protected, and keeps what it had inherited.
-pub(crate) fn protected(alloc: Global, notation: Notation, path: &str) -> Result<Asked, Stop>
+pub(crate) fn protected(alloc: Global, notation: Notation, path: &str) -> Result<Asked, LineStop>
     ensures { Parses notation (asks_taking Protect (path.now ∷ [])) (Some result) }
 {
     let path = path_in(alloc, notation.paths, path)?;
@@ -115,7 +115,7 @@ pub(crate) fn moved(
     notation: Notation,
     source: &str,
     target: &str,
-) -> Result<Asked, Stop>
+) -> Result<Asked, LineStop>
     ensures { Parses notation (asks_taking Move (source.now ∷ target.now ∷ [])) (Some result) }
 {
     let source = path_in(alloc, notation.paths, source)?;

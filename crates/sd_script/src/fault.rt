@@ -1,7 +1,7 @@
 //! What is wrong with a line.
 ghost use Rattle.std.specs.Prelude.{◌≡◌, IfOk, string_bytes};
 ghost use Rattle.sd_script.specs.Fault.{line_of_fault};
-ghost use Rattle.sd_script.specs.declared.fault.Stop.TheVariants as stops;
+ghost use Rattle.sd_script.specs.declared.fault.LineStop.TheVariants as stops;
 
 use sd_answer::{fault_line, sddl_fault_line};
 use sd_text::TextFault;
@@ -34,34 +34,34 @@ pub enum LineFault {
 
 /// Why a line isn't parsed.
 #[derive(Clone, Copy, Debug, PartialEq, Eq)]
-pub enum Stop {
+pub enum LineStop {
     /// The line's first fault.
     Fault(LineFault),
     /// Out of memory.
     Memory,
 }
 
-impl From<LineFault> for Stop {
+impl From<LineFault> for LineStop {
     ghost from_gives = { λ fault stop. stop ≡ stops.Fault fault };
 
-    fn from(fault: LineFault) -> Stop {
-        Stop::Fault(fault)
+    fn from(fault: LineFault) -> LineStop {
+        LineStop::Fault(fault)
     }
 }
 
-impl From<AllocError> for Stop {
+impl From<AllocError> for LineStop {
     ghost from_gives = { λ _ stop. stop ≡ stops.Memory };
 
-    fn from(_error: AllocError) -> Stop {
-        Stop::Memory
+    fn from(_error: AllocError) -> LineStop {
+        LineStop::Memory
     }
 }
 
-impl<T: Drop> From<AllocFailed<T>> for Stop {
+impl<T: Drop> From<AllocFailed<T>> for LineStop {
     ghost from_gives = { λ _ stop. stop ≡ stops.Memory };
 
-    fn from(_error: AllocFailed<T>) -> Stop {
-        Stop::Memory
+    fn from(_error: AllocFailed<T>) -> LineStop {
+        LineStop::Memory
     }
 }
 

@@ -3,8 +3,8 @@ ghost use Rattle.std.specs.Prelude.{◌≡◌, IfOk, filter, string_bytes};
 ghost use Rattle.std.specs.Bool.{Decides};
 ghost use Rattle.sd_acl.specs.Canonical.{is_explicit, is_inherited};
 ghost use Rattle.sd_acl.specs.Descriptor.{descriptor_of};
-ghost use Rattle.sd_script.specs.Argument.{entries_in as entries_in_of, import_of as import_from, imported};
-ghost use Rattle.sd_script.specs.Argument.{imported_dacl as imported_dacl_of};
+ghost use Rattle.sd_script.specs.Argument.{entries_in, import_of, imported};
+ghost use Rattle.sd_script.specs.Argument.{imported_dacl};
 ghost use Rattle.sd_script.specs.Command.{imports, reads};
 ghost use Rattle.sd_script.specs.Fault.{UnlessMemory};
 ghost use Rattle.sd_script.specs.Importing.{AreOrderedAlike, InheritAlike, IsImported, entries_by, imported_line};
@@ -15,7 +15,7 @@ ghost use Rattle.sd_tree.specs.Journal.{replay};
 use crate::argument::{descriptor_in, own_dacl};
 use crate::asked::Asked;
 use crate::edits::addition;
-use crate::fault::{LineFault, Stop};
+use crate::fault::{LineFault, LineStop};
 use crate::manner::Notation;
 use crate::paths::path_in;
 use crate::reply::reply_line;
@@ -40,7 +40,7 @@ pub(crate) fn importing(
     kind: NodeKind,
     path: &str,
     sddl: &str,
-) -> Result<Asked, Stop>
+) -> Result<Asked, LineStop>
     ensures { UnlessMemory (reads notation (imports path.now sddl.now kind)) result }
 {
     let path = path_in(alloc, notation.paths, path)?;
@@ -51,15 +51,15 @@ pub(crate) fn importing(
 }
 
 /// The text of a descriptor with an owner and a group, as a node had it.
-fn import_in(alloc: Global, notation: Notation, word: &str) -> Result<Import, Stop>
+fn import_in(alloc: Global, notation: Notation, word: &str) -> Result<Import, LineStop>
     ensures { UnlessMemory (imported notation word.now) result }
 {
     let descriptor = descriptor_in(alloc, notation, word)?;
     import_of(alloc, &descriptor)
 }
 
-fn import_of(alloc: Global, descriptor: &Descriptor) -> Result<Import, Stop>
-    ensures { UnlessMemory (λ read. read ≡ import_from (descriptor_of descriptor.now)) result }
+fn import_of(alloc: Global, descriptor: &Descriptor) -> Result<Import, LineStop>
+    ensures { UnlessMemory (λ read. read ≡ import_of (descriptor_of descriptor.now)) result }
 {
     match (descriptor.owner, descriptor.group) {
         (Some(owner), Some(group)) => {
@@ -68,13 +68,13 @@ fn import_of(alloc: Global, descriptor: &Descriptor) -> Result<Import, Stop>
             let node = RootSpec { owner, group, dacl };
             Ok(Import { node, given })
         }
-        _ => Err(Stop::Fault(LineFault::Parts)),
+        _ => Err(LineStop::Fault(LineFault::Parts)),
     }
 }
 
 /// What the node had of its own, the denies first ([MS-DTYP] 2.4.5).
 fn imported_dacl(alloc: Global, descriptor: &Descriptor) -> Result<NodeDacl, AllocError>
-    ensures { IfOk result (λ given. given ≡ imported_dacl_of descriptor.now.protected descriptor.now.dacl) }
+    ensures { IfOk result (λ given. given ≡ imported_dacl descriptor.now.protected descriptor.now.dacl) }
 {
     match &descriptor.dacl {
         Dacl::List(list) => {
@@ -90,7 +90,7 @@ fn imported_dacl(alloc: Global, descriptor: &Descriptor) -> Result<NodeDacl, All
 
 /// The entries of a list; a null one and an absent one have none.
 fn entries_in(alloc: Global, dacl: &Dacl) -> Result<Vec<Ace>, AllocError>
-    ensures { IfOk result (λ entries. entries.items ≡ entries_in_of dacl.now) }
+    ensures { IfOk result (λ entries. entries.items ≡ entries_in dacl.now) }
 {
     match dacl {
         Dacl::List(list) => Vec::from_slice(alloc, list.entries()),

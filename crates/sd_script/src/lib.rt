@@ -49,7 +49,7 @@ pub use argument::number_in;
 pub use asked::Asked;
 pub use carried::Carried;
 pub use expect::{LastAnswer, expects};
-pub use fault::{LineFault, Stop, line_of_fault};
+pub use fault::{LineFault, LineStop, line_of_fault};
 pub use ids::{LINES, tagged};
 pub use importing::import_line;
 pub use laws::{

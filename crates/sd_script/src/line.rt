@@ -4,7 +4,7 @@ ghost use Rattle.sd_script.specs.Fault.{UnlessMemory};
 
 use crate::asked::{Asked, asked_by};
 use crate::command::command_of;
-use crate::fault::{LineFault, Stop};
+use crate::fault::{LineFault, LineStop};
 use crate::lines::words_of;
 use crate::manner::Notation;
 use std::alloc::Global;
@@ -16,21 +16,21 @@ pub fn read_line(
     notation: Notation,
     is_open: bool,
     line: &[u8],
-) -> Result<Asked, Stop>
+) -> Result<Asked, LineStop>
     ensures { UnlessMemory (line_asks notation is_open line.now) result }
 {
     let Ok(text) = from_utf8(line) else {
-        return Err(Stop::Fault(LineFault::Utf8));
+        return Err(LineStop::Fault(LineFault::Utf8));
     };
     let words = words_of(alloc, text)?;
     let Some(command) = command_of(&words) else {
-        return Err(Stop::Fault(LineFault::Words));
+        return Err(LineStop::Fault(LineFault::Words));
     };
     let Some(asked) = asked_by(alloc, notation, command) else {
-        return Err(Stop::Fault(LineFault::Words));
+        return Err(LineStop::Fault(LineFault::Words));
     };
     if command.name.is_untimely(is_open) {
-        return Err(Stop::Fault(LineFault::Open));
+        return Err(LineStop::Fault(LineFault::Open));
     }
     asked
 }

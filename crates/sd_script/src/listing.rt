@@ -7,9 +7,9 @@ ghost use Rattle.sd_acl.specs.Descriptor.{descriptor_of};
 ghost use Rattle.sd_tree.specs.Journal.{replay};
 ghost use Rattle.sd_tree.specs.Listing.{listed};
 ghost use Rattle.sd_tree.specs.Names.{is_within};
-ghost use Rattle.sd_script.specs.Listing.{is_split_below as is_split_below_of, kind_word as kind_word_of, grants};
-ghost use Rattle.sd_script.specs.Listing.{lacks_words as lacks_words_of, line_below as line_below_of};
-ghost use Rattle.sd_script.specs.Listing.{listed_in, node_line as node_line_of};
+ghost use Rattle.sd_script.specs.Listing.{is_split_below, kind_word, grants};
+ghost use Rattle.sd_script.specs.Listing.{lacks_words, line_below};
+ghost use Rattle.sd_script.specs.Listing.{listed_in, node_line};
 
 use crate::manner::Notation;
 use crate::paths::{PathSpelling, is_split, path_word};
@@ -57,7 +57,7 @@ pub(crate) fn lacks_words(
     tree: &Tree,
     top: &Path,
 ) -> Result<bool, AllocError>
-    ensures { IfOk result (λ lacks. lacks ≡ lacks_words_of paths (replay tree.now.opening tree.now.journal) top.now) }
+    ensures { IfOk result (λ lacks. lacks ≡ lacks_words paths (replay tree.now.opening tree.now.journal) top.now) }
 {
     match paths {
         PathSpelling::Plain => has_split_path(alloc, tree, top),
@@ -67,7 +67,7 @@ pub(crate) fn lacks_words(
 
 /// Whether the path of some node that stands at or below this one would be more than one word.
 fn has_split_path(alloc: Global, tree: &Tree, top: &Path) -> Result<bool, AllocError>
-    ensures { IfOk result (λ has. has ≡ list_any (is_split_below_of top.now)
+    ensures { IfOk result (λ has. has ≡ list_any (is_split_below top.now)
         (entries (replay tree.now.opening tree.now.journal))) }
 {
     for index in 0..tree.node_count() {
@@ -82,7 +82,7 @@ fn has_split_path(alloc: Global, tree: &Tree, top: &Path) -> Result<bool, AllocE
 }
 
 fn is_split_below(alloc: Global, top: &Path, node: &NodeRef<'_>) -> Result<bool, AllocError>
-    ensures { IfOk result (λ is. is ≡ is_split_below_of top.now (listed node.now)) }
+    ensures { IfOk result (λ is. is ≡ is_split_below top.now (listed node.now)) }
 {
     if !node.path.as_path_ref().is_within(&top.as_path_ref()) {
         return Ok(false);
@@ -99,7 +99,7 @@ pub(crate) fn lines_below(
     which: &Which,
 ) -> Result<String, AllocError>
     ensures { IfOk result (λ text. string_bytes text ≡ flat_map
-        (line_below_of notation tree.now.opening.mapping (replay tree.now.opening tree.now.journal) top.now which.now)
+        (line_below notation tree.now.opening.mapping (replay tree.now.opening tree.now.journal) top.now which.now)
         (entries (replay tree.now.opening tree.now.journal))) }
 {
     let mut text = String::new(alloc);
@@ -122,7 +122,7 @@ fn line_below(
     which: &Which,
     node: &NodeRef<'_>,
 ) -> Result<String, AllocError>
-    ensures { IfOk result (λ text. string_bytes text ≡ line_below_of notation tree.now.opening.mapping
+    ensures { IfOk result (λ text. string_bytes text ≡ line_below notation tree.now.opening.mapping
         (replay tree.now.opening tree.now.journal) top.now which.now (listed node.now)) }
 {
     if !node.path.as_path_ref().is_within(&top.as_path_ref()) {
@@ -158,7 +158,7 @@ fn node_line(
     descriptor: &Option<Descriptor>,
 ) -> Result<String, AllocError>
     ensures { IfOk result (λ text. string_bytes text
-        ≡ node_line_of notation kind path.now (option_map descriptor_of descriptor.now)) }
+        ≡ node_line notation kind path.now (option_map descriptor_of descriptor.now)) }
 {
     match descriptor {
         None => Ok(String::new(alloc)),
@@ -173,7 +173,7 @@ fn node_line(
 }
 
 fn kind_word(kind: NodeKind) -> &'static str
-    ensures { result.now ≡ kind_word_of kind }
+    ensures { result.now ≡ kind_word kind }
 {
     match kind {
         NodeKind::Container => "container",

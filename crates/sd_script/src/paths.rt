@@ -5,7 +5,7 @@ ghost use Rattle.sd_script.specs.Fault.{UnlessMemory};
 ghost use Rattle.sd_script.specs.Paths.{is_split, path_word};
 ghost use Rattle.sd_script.specs.declared.paths.PathSpelling.TheVariants as spellings;
 
-use crate::fault::{LineFault, Stop};
+use crate::fault::{LineFault, LineStop};
 use percent_encoding::{
     AsciiSet, CONTROLS, DecodeError, ascii_set, percent_decode, utf8_percent_encode,
 };
@@ -25,7 +25,7 @@ pub enum PathSpelling {
 pub(crate) const SPELLED: AsciiSet = ascii_set!(CONTROLS.add(b' ').add(b'%'));
 
 /// The path that a word spells.
-pub(crate) fn path_in(alloc: Global, paths: PathSpelling, word: &str) -> Result<Path, Stop>
+pub(crate) fn path_in(alloc: Global, paths: PathSpelling, word: &str) -> Result<Path, LineStop>
     ensures { UnlessMemory (path paths word.now) result }
 {
     match paths {
@@ -34,27 +34,27 @@ pub(crate) fn path_in(alloc: Global, paths: PathSpelling, word: &str) -> Result<
     }
 }
 
-fn plain_path(alloc: Global, word: &str) -> Result<Path, Stop>
+fn plain_path(alloc: Global, word: &str) -> Result<Path, LineStop>
     ensures { UnlessMemory (path spellings.Plain word.now) result }
 {
     match Path::read(alloc, word) {
         Ok(path) => Ok(path),
-        Err(PathError::Memory) => Err(Stop::Memory),
-        Err(_) => Err(Stop::Fault(LineFault::Path)),
+        Err(PathError::Memory) => Err(LineStop::Memory),
+        Err(_) => Err(LineStop::Fault(LineFault::Path)),
     }
 }
 
 /// A name has no `/`, so that none is spelled by `%`: what is a part of a name never parts two.
-fn percent_path(alloc: Global, word: &str) -> Result<Path, Stop>
+fn percent_path(alloc: Global, word: &str) -> Result<Path, LineStop>
     ensures { UnlessMemory (path spellings.Percent word.now) result }
 {
     if word.contains("%2F") || word.contains("%2f") {
-        return Err(Stop::Fault(LineFault::Path));
+        return Err(LineStop::Fault(LineFault::Path));
     }
     match percent_decode(word.as_bytes()).decode_utf8(alloc) {
         Ok(spelled) => plain_path(alloc, &spelled),
-        Err(DecodeError::Utf8(_)) => Err(Stop::Fault(LineFault::Path)),
-        Err(DecodeError::OutOfMemory) => Err(Stop::Memory),
+        Err(DecodeError::Utf8(_)) => Err(LineStop::Fault(LineFault::Path)),
+        Err(DecodeError::OutOfMemory) => Err(LineStop::Memory),
     }
 }
 

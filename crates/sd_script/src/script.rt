@@ -10,7 +10,7 @@ use crate::asked::Asked;
 use crate::carried::Carried;
 use crate::deletion::{DELETE, deletion_reply, parent_grants};
 use crate::expect::{LastAnswer, expect_line, expects};
-use crate::fault::{Stop, line_of_fault};
+use crate::fault::{LineStop, line_of_fault};
 use crate::find::found_reply;
 use crate::ids::{LINES, Script};
 use crate::importing::import_line;
@@ -134,8 +134,8 @@ fn told(alloc: Global, session: &mut Session, line: &[u8]) -> Result<String, All
         ) => delete(alloc, session, reader, path, token),
         Ok(Asked::Viewing(asked)) => viewed(alloc, session, &asked),
         Ok(Asked::Importing { edit, path, given }) => import(alloc, session, edit, &path, &given),
-        Err(Stop::Fault(fault)) => line_of_fault(alloc, fault),
-        Err(Stop::Memory) => Err(AllocError),
+        Err(LineStop::Fault(fault)) => line_of_fault(alloc, fault),
+        Err(LineStop::Memory) => Err(AllocError),
     }
 }
 

@@ -2,7 +2,7 @@
 
 ghost use Rattle.std.specs.Prelude.{◌≡◌, ◌≢◌, ◌||◌, Err, IfErr, IfOk};
 ghost use Rattle.sd_stream.specs.Watched.{inner_of, has_failed};
-ghost use Rattle.sd_stream.specs.Whole.{is_read_error, is_write_error, ReadsPart};
+ghost use Rattle.sd_stream.specs.Streams.{is_read_error, is_write_error, ReadsPart};
 ghost use Rattle.sd_script.specs.Output.{PrintsAndCounts};
 ghost use Rattle.sd_script.specs.Printed.{PrintsAndCountsServed, PrintsAs, PrintsServed};
 ghost use Rattle.sd_lines.specs.Output.{AppendsOutput, LeavesAnswers, LeavesOutput};

@@ -8,7 +8,7 @@ ghost use Rattle.sd_script_audit.specs.Audit.{AreAnsweredInAudit, IsAnsweredInAu
 ghost use Rattle.sd_script_audit.specs.Parts.{audited, machine_of, progress};
 ghost use Rattle.sd_script.specs.declared.tally.Tally.{Tally};
 ghost use Rattle.sd_store.specs.declared.query.Query.{Query as Kept};
-ghost use Rattle.sd_answer.specs.Answer.{fault_line as fault_line_of};
+ghost use Rattle.sd_answer.specs.Answer.{fault_line};
 ghost use Rattle.sd_script.specs.declared.asked.Asked.TheVariants.{Asking, Importing};
 
 use crate::counted::Counted;
@@ -146,7 +146,7 @@ fn import<J: Naming>(
 
 /// The line of a command that only a script carries out.
 pub(crate) fn only_in_scripts(alloc: Global) -> Result<String, AllocError>
-    ensures { IfOk result (λ text. string_bytes text ≡ fault_line_of (codes "audit")) }
+    ensures { IfOk result (λ text. string_bytes text ≡ fault_line (codes "audit")) }
 {
     fault_line(alloc, "audit")
 }

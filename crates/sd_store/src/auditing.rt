@@ -1,18 +1,19 @@
 //! A report over a store that goes on being edited: many queries, dealt among the checkers.
 
-ghost use Rattle.std.specs.Prelude.{◌≡◌, ◌^◌, ◌<◌, length, vec_len, IfOk, IfErr};
+ghost use Rattle.std.specs.Prelude.{◌≡◌, ◌+◌, ◌*◌, ◌^◌, ◌<◌, ◌≤◌, ℕ, None, Some, length, vec_len, slice_index_or};
+ghost use Rattle.std.specs.Prelude.{IfOk, IfErr, MatchOption};
 ghost use Rattle.sd_store.specs.Audits.{AreAnswers, HaveGrown};
-ghost use Rattle.sd_store.specs.Workers.{AreDone, AreInformed, IsDone};
+ghost use Rattle.sd_store.specs.Sights.{Sight};
+ghost use Rattle.sd_store.specs.Workers.{AreDone, AreInformed, IsDealt, IsDone};
 ghost use Rattle.sd_store.specs.declared.error.AuditError.TheVariants as failed;
 
 use crate::checker::Checker;
-use crate::drawing::work;
 use crate::error::AuditError;
 use crate::gate::Gate;
-use crate::gathering::{first_failure, gathered};
 use crate::naming::Naming;
 use crate::notice::Notice;
 use crate::query::Query;
+use crate::worker::work;
 use sd_versions::Answer;
 use std::alloc::Global;
 use std::thread;
@@ -79,4 +80,53 @@ fn spread<J: Naming + Send + Sync, G: Gate + Sync, R: Threads + Sync>(
             ensures { IsDone J.opening G.always queries.entry.now step worker checker.entry.now checker.exit.now }
         { work(alloc, worker, step, queries, gate, checker) },
     );
+}
+
+/// Why the first worker that failed has no answers.
+fn first_failure<J: Naming>(checkers: &[Checker<J>]) -> Option<AuditError>
+    ensures { MatchOption result
+        ((i : ℕ) (d : Sight) → i < length checkers.now → (slice_index_or checkers.now i d).failed ≡ None)
+        (λ e. (i : ℕ) × (i < length checkers.now) × ((d : Sight) → (slice_index_or checkers.now i d).failed ≡ Some e)) }
+{
+    for checker in checkers {
+        if let Some(error) = checker.failed() {
+            return Some(error);
+        }
+    }
+    None
+}
+
+/// The answers to so many queries, in the order of the queries.
+fn gathered<J: Naming>(
+    alloc: Global,
+    checkers: &[Checker<J>],
+    count: usize,
+) -> Result<Vec<Answer>, AuditError>
+    requires some { 0 < length checkers.now }
+    requires enough { (i : ℕ) (d : Sight) → i < length checkers.now
+        → count ≤ i + length (slice_index_or checkers.now i d).drawn * length checkers.now }
+    ensures count { IfOk result (λ answers. vec_len answers ≡ count) }
+    ensures dealt { IfOk result (λ answers. IsDealt checkers.now answers.items) }
+    ensures memory { IfErr result (λ e. e ≡ Memory) }
+{
+    let mut answers = Vec::with_capacity(alloc, count).map_err(|_| AuditError::Memory)?;
+    for place in 0..count {
+        let worker = place % checkers.len();
+        answers.push_reserved(checkers[worker].drawn()[place / checkers.len()]);
+    }
+    Ok(answers)
+}
+
+impl<J: Naming> Checker<J> {
+    fn drawn(&self) -> &[Answer]
+        ensures { result.now ≡ self.now.drawn }
+    {
+        &self.drawn
+    }
+
+    fn failed(&self) -> Option<AuditError>
+        ensures { result ≡ self.now.failed }
+    {
+        self.failed
+    }
 }

@@ -21,11 +21,9 @@
 mod answers;
 mod auditing;
 mod checker;
-mod drawing;
 mod error;
 mod floor;
 mod gate;
-mod gathering;
 mod naming;
 mod notice;
 mod opening;
@@ -35,6 +33,7 @@ mod publishing;
 mod query;
 mod read;
 mod rule;
+mod worker;
 mod writer;
 
 pub use answers::Answers;

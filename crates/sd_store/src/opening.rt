@@ -73,14 +73,14 @@ pub fn start_within<J: Naming, R: Wait>(
     }
     let versions = Versions::opening(alloc, mapping, root, limits)?;
     let tree = versions.snapshot()?;
-    let pencil = history.named::<J>();
-    let front = pencil.front();
+    let history = history.named::<J>();
+    let front = history.front();
     let cell = opened::<J>(alloc, &tree, &front, readers)?;
     match seated(alloc, &cell, &front, readers) {
         Ok(checkers) => {
             let writer = StoreWriter {
                 versions,
-                pencil,
+                history,
                 cell: Some(cell),
             };
             Ok((writer, checkers))

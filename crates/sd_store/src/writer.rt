@@ -10,7 +10,7 @@ use crate::notice::{Listed, Notice};
 use crate::publishing::publish_all;
 use crate::rule::Cell;
 use boxcar::tag::Tag;
-use sd_history::Pencil;
+use sd_history::HistoryWriter;
 use sd_tree::{Edit, Tree};
 use sd_versions::Versions;
 use std::marker::{Model, PhantomData};
@@ -23,7 +23,7 @@ pub struct StoreWriter<J: Naming> {
     /// The tree that readers see, and the one that takes the edits.
     pub(crate) versions: Versions,
     /// What writes the history of accepted edits.
-    pub(crate) pencil: Pencil<Edit, J>,
+    pub(crate) history: HistoryWriter<Edit, J>,
     /// The shared store; away during a publish alone.
     pub(crate) cell: Option<Cell<J>>,
 }
@@ -45,7 +45,7 @@ impl<J: Naming> Model for StoreWriter<J> {
         (client_of c.desk.place) c.desk.shown.value (drop c.behind c.log.items)
         × (w.versions.opening ≡ J.opening)
         × (w.versions.published ≡ c.desk.shown.value.tree.journal)
-        × (w.pencil ≡ accepted w.versions)) };
+        × (w.history ≡ accepted w.versions)) };
 }
 
 /// Shows the length of the published journal, and how many edits are pending.
@@ -72,7 +72,7 @@ impl<J: Naming> StoreWriter<J> {
             IsEditError e (refusal J.opening (self.old.journal ++ self.old.pending) edit.now)) }
     {
         self.versions.edit(edit)?;
-        self.pencil.write(edit);
+        self.history.write(edit);
         Ok(())
     }
 
@@ -86,7 +86,7 @@ impl<J: Naming> StoreWriter<J> {
         ensures pending { OnOk result (self.new.pending ≡ []) }
         ensures refused { IfErr result (λ _. self.new ≡ self.old) }
     {
-        let front = self.pencil.front();
+        let front = self.history.front();
         let Ok(tree) = self.versions.draft_snapshot() else {
             return Err(PublishError::Memory);
         };
@@ -149,7 +149,7 @@ impl<J: Naming> StoreWriter<J> {
     pub fn end<R: Wait>(self, rt: &R) {
         let StoreWriter {
             versions: _versions,
-            pencil: _pencil,
+            history: _history,
             cell,
         } = self;
         match cell {

@@ -3,7 +3,7 @@
 ghost use Rattle.std.specs.Prelude.{◌≡◌, ◌||◌, ◌<◌, ◌≤◌, IfOk, IfErr, OnOk, IfSome, length, vec_len};
 ghost use Rattle.std.specs.Io.KnownBytes.{IsAtEnd};
 ghost use Rattle.sd_stream.specs.Watched.{inner_of, has_failed};
-ghost use Rattle.sd_stream.specs.Whole.{is_read_error, ReadsPart};
+ghost use Rattle.sd_stream.specs.Streams.{is_read_error, ReadsPart};
 
 use crate::error::RunError;
 use crate::watched::Watched;

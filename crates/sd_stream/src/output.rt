@@ -3,7 +3,7 @@
 ghost use Rattle.std.specs.Prelude.{◌≡◌, ◌||◌, IfErr, OnErr, OnOk, is_err};
 ghost use Rattle.std.specs.Io.KnownBytes.{Appends};
 ghost use Rattle.sd_stream.specs.Watched.{inner_of, has_failed};
-ghost use Rattle.sd_stream.specs.Whole.{AppendsBeginning};
+ghost use Rattle.sd_stream.specs.Streams.{AppendsBeginning};
 
 use crate::error::RunError;
 use crate::watched::Watched;

@@ -9,7 +9,7 @@ use Rattle.sd_tree.specs.Plain.{dacl_here, dacl_at}
 use Rattle.sd_tree.specs.Refusals.{own_entries}
 use Rattle.sd_tree.specs.Sharing.{IsSibling, AreMadeFor, InheritOne}
 use Rattle.sd_tree.specs.Stored.{path_of_node, tree_of, AreStanding}
-use Rattle.sd_tree.specs.Whole.{behind_own, dacl_with, whole_with, inherits}
+use Rattle.sd_tree.specs.Node.{behind_own, dacl_with, whole_with, inherits}
 use Rattle.sd_tree.specs.declared.node.NodeDacl.{NodeDacl}
 use Rattle.sd_tree.specs.declared.node.NodeDacl.TheVariants.{Null, List as Entries}
 use Rattle.sd_tree.specs.declared.node.Node.{Node}

@@ -15,6 +15,7 @@ pub mod Listed
 pub mod Lists
 pub mod Moved
 pub mod Moves
+pub mod NewRow
 pub mod OneDacl
 pub mod Places
 pub mod Planned
@@ -28,4 +29,3 @@ pub mod Staying
 pub mod Trustees
 pub mod TwoTests
 pub mod Under
-pub mod Wholes

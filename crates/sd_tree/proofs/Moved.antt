@@ -20,7 +20,7 @@ use Rattle.sd_tree.proofs.Below.{nothing_below}
 use Rattle.sd_tree.proofs.Dacls.{dacl_at_up, dacl_at_alike}
 use Rattle.sd_tree.proofs.Rows.{other_path}
 use Rattle.sd_tree.proofs.Sorted.{find_at}
-use Rattle.sd_tree.proofs.Wholes.{up_outside, whole_below}
+use Rattle.sd_tree.proofs.NewRow.{up_outside, whole_below}
 
 -- ---- what is found once each key is another
 

@@ -31,7 +31,7 @@ use Rattle.sd_tree.proofs.Moved.{row_at-moved_there, dacl_at-moved_top}
 use Rattle.sd_tree.proofs.Planned.{out_source, back_low, back_high, forth_low, forth_high, not_within, moving}
 use Rattle.sd_tree.proofs.Rebuilding.{large_error, found_by}
 use Rattle.sd_tree.proofs.Rows.{one_path}
-use Rattle.sd_tree.proofs.Wholes.{size_error}
+use Rattle.sd_tree.proofs.NewRow.{size_error}
 
 pub moved_length : (source target path : Names) → is_within source path ≡ true
     → (length (moved_path source target path) + length source ≡ length target + length path) × (length source ≤ length path)

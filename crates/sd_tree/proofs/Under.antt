@@ -14,7 +14,7 @@ use Rattle.sd_tree.specs.Refusals.{dacl_size}
 use Rattle.sd_tree.specs.Sharing.{AreMadeFor}
 use Rattle.sd_tree.specs.Sizes.{IsSizeError}
 use Rattle.sd_tree.specs.Stored.{path_of_node, IsInOrder, tree_of, AreStanding}
-use Rattle.sd_tree.specs.Whole.{behind_own}
+use Rattle.sd_tree.specs.Node.{behind_own}
 use Rattle.sd_tree.specs.declared.node.Node.{Node}
 use Rattle.sd_tree.specs.declared.node.Row.{Row}
 use Rattle.sd_tree.specs.declared.refusal.TreeError.{TreeError}
@@ -24,7 +24,7 @@ use Rattle.sd_tree.proofs.Dacls.{dacl_at_up, dacl_at-append, below_up}
 use Rattle.sd_tree.proofs.Kept.{row_here}
 use Rattle.sd_tree.proofs.Moved.{below_shift}
 use Rattle.sd_tree.proofs.Rebuilding.{run_other, run_below_root, parent_place, large_error}
-use Rattle.sd_tree.proofs.Wholes.{size_error}
+use Rattle.sd_tree.proofs.NewRow.{size_error}
 
 -- what stands at a place behind one more element
 more_cases : {X : Type 0} (xs : List X) (x d : X) (k : ℕ) → k < length (xs ++ x ∷ [])

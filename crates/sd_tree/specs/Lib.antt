@@ -8,6 +8,7 @@ pub mod Inheritance
 pub mod Journal
 pub mod Limits
 pub mod Listing
+pub mod Node
 pub mod Plain
 pub mod Plans
 pub mod Refusals
@@ -15,6 +16,5 @@ pub mod Sharing
 pub mod Sizes
 pub mod Stored
 pub mod View
-pub mod Whole
 pub use Rattle.sd_path.specs.Names
 pub use Rattle.sd_path.specs.PathText

@@ -8,7 +8,7 @@ use Rattle.sd_acl.specs.declared.ace.Ace.{Ace}
 use Rattle.sd_path.specs.Names.{Names, up, is_root}
 use Rattle.sd_tree.specs.Inheritance.{creator_owner, creator_group, handed_on}
 use Rattle.sd_tree.specs.Stored.{path_of_node}
-use Rattle.sd_tree.specs.Whole.{behind_own, inherits}
+use Rattle.sd_tree.specs.Node.{behind_own, inherits}
 use Rattle.sd_tree.specs.declared.node.Row.{Row}
 use Rattle.sd_tree.specs.declared.node.Node.{Node}
 

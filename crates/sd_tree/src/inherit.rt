@@ -6,12 +6,12 @@ ghost use Rattle.sd_sid.specs.Sid.{same_sid};
 ghost use Rattle.sd_tree.specs.Inheritance.{object_inherit, container_inherit, no_propagate, creator_owner};
 ghost use Rattle.sd_tree.specs.Inheritance.{creator_group, created_by, effective_copy, waiting_copy, whole_copy};
 ghost use Rattle.sd_tree.specs.Inheritance.{is_split, to_object, to_container, pass_on, handed_on, dacl_of_row};
-ghost use Rattle.sd_tree.specs.Whole.{whole_with};
+ghost use Rattle.sd_tree.specs.Node.{whole_with};
 
-use crate::alike::inherits;
 use crate::entries::Entries;
 use crate::node::{Node, NodeKind, RowRef};
 use crate::shared::Shared;
+use crate::sharing::inherits;
 use bitflags::Flags;
 use sd_acl::{Ace, AceFlags};
 use sd_sid::{GenericMapping, Sid};

@@ -14,7 +14,6 @@
 #![tactic(auto)]
 
 mod addition;
-mod alike;
 mod describe;
 mod edit;
 mod edit_plan;
@@ -33,6 +32,7 @@ mod opening;
 mod plan;
 mod refusal;
 mod shared;
+mod sharing;
 mod siblings;
 mod subtree;
 mod tree;

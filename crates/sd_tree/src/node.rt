@@ -4,7 +4,7 @@ ghost use Rattle.std.specs.Prelude.{◌≡◌, ◌++◌, ◌≤◌, None, Some, 
 ghost use Rattle.sd_tree.specs.Plans.{changed_row, is_of_trustee};
 ghost use Rattle.sd_tree.specs.Refusals.{dacl_size};
 ghost use Rattle.sd_tree.specs.Sizes.{IsSizeError};
-ghost use Rattle.sd_tree.specs.Whole.{whole_with};
+ghost use Rattle.sd_tree.specs.Node.{whole_with};
 
 use crate::addition::Addition;
 use crate::entries::Entries;
@@ -147,7 +147,7 @@ pub(crate) struct Node {
 impl Model for Node {
     ghost use Rattle.std.specs.Prelude.{◌≤◌};
     ghost use Rattle.sd_tree.specs.Refusals.{dacl_size};
-    ghost use Rattle.sd_tree.specs.Whole.{NodeValue, whole_with};
+    ghost use Rattle.sd_tree.specs.Node.{NodeValue, whole_with};
 
     ghost Value = { NodeValue };
 

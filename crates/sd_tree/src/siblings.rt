@@ -6,9 +6,9 @@ ghost use Rattle.sd_tree.specs.Sharing.{trustees_matter, IsSibling};
 ghost use Rattle.sd_tree.specs.View.{IsView};
 ghost use Rattle.sd_tree.specs.declared.node.Node.{Node};
 
-use crate::alike::{are_alike, inherits, trustees_matter};
 use crate::node::{Node, RowRef};
 use crate::nodes::locate;
+use crate::sharing::{are_alike, inherits, trustees_matter};
 use crate::tree_view::TreeView;
 use sd_path::PathRef;
 

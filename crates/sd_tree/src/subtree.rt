@@ -13,11 +13,11 @@ ghost use Rattle.sd_tree.specs.Stored.{path_of_node};
 ghost use Rattle.sd_tree.specs.View.{IsView, tree_in};
 ghost use Rattle.sd_tree.specs.declared.node.Node.{Node};
 
-use crate::alike::have_one_dacl;
 use crate::inherit::inherited_below;
 use crate::node::Node;
 use crate::nodes::Walk;
 use crate::refusal::TreeError;
+use crate::sharing::have_one_dacl;
 use crate::tree_view::TreeView;
 use sd_blocks::{Sought, TryCopy};
 use sd_path::PathRef;

@@ -7,7 +7,7 @@ ghost use Rattle.sd_path.specs.Names.{is_root, up};
 ghost use Rattle.sd_tree.specs.Plain.{row_at, dacl_at};
 ghost use Rattle.sd_tree.specs.Stored.{path_of_node};
 ghost use Rattle.sd_tree.specs.View.{IsView, tree_in};
-ghost use Rattle.sd_tree.specs.Whole.{whole_with};
+ghost use Rattle.sd_tree.specs.Node.{whole_with};
 ghost use Rattle.sd_tree.specs.declared.node.Node.{Node};
 
 use crate::entries::Entries;

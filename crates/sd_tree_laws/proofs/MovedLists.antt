@@ -15,7 +15,7 @@ use Rattle.sd_tree.specs.declared.node.Row.{Row}
 use Rattle.sd_tree.proofs.Closed.{closed_replay}
 use Rattle.sd_tree.proofs.Dacls.{dacl_at_here, dacl_over, dacl_at-append, dacl_at_up}
 use Rattle.sd_tree.proofs.Moved.{below_shift, dacl_at-moved_other, row_at-moved_there, way_outside}
-use Rattle.sd_tree.proofs.Wholes.{up_outside}
+use Rattle.sd_tree.proofs.NewRow.{up_outside}
 use Rattle.sd_tree_laws.proofs.Moves.{accepted_can}
 use Rattle.sd_tree_laws.proofs.Reach.{nothing_from_above}
 use Rattle.sd_tree_laws.specs.Laws.{GivenKeepLists, NullKeepLists, ProtectedKeepLists, RenamedKeepLists}

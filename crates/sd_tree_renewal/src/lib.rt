@@ -10,9 +10,9 @@
 #![tactic(auto)]
 
 mod adding;
-mod alike;
 mod anew;
+mod laws;
 
 pub use adding::{Beginning, no_journal_is_shorter, shortest};
-pub use alike::same_tree_answers_alike;
 pub use anew::renewed;
+pub use laws::same_tree_answers_alike;

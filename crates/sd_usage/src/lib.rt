@@ -22,7 +22,7 @@ mod usage;
 pub use names::{Commands, argument_name, listed_commands, usage_line};
 pub use row::{
     Argument, Arguments, Command, CommandName, CommandRow, Flag, Flags, OPTION_COUNT, OptionName,
-    OptionRow, ProgramOption, Question, Value, command_named, option_named, takes_option,
+    OptionRow, ProgramOption, TextCommand, Value, command_named, option_named, takes_option,
 };
 pub use table::{COMMANDS, OPTIONS};
 pub use usage::help;

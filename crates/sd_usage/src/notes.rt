@@ -1,20 +1,20 @@
 //! The end of the help on each command, and on the program.
 
-use crate::row::{CommandName, Question};
+use crate::row::{CommandName, TextCommand};
 
 /// The end of a command's help, before its example.
 pub(crate) fn notes_of(command: CommandName) -> &'static str {
     match command {
-        CommandName::Ask(Question::Verdict) => VERDICT_NOTES,
-        CommandName::Ask(Question::Why) => WHY_NOTES,
-        CommandName::Ask(Question::Who) => WHO_NOTES,
-        CommandName::Ask(Question::Compare) => COMPARE_NOTES,
-        CommandName::Ask(Question::Lint) => LINT_NOTES,
-        CommandName::Ask(Question::Print) => PRINT_NOTES,
-        CommandName::Ask(Question::Sort) => SORT_NOTES,
-        CommandName::Ask(Question::ToBinary) => TO_BINARY_NOTES,
-        CommandName::Ask(Question::FromBinary) => FROM_BINARY_NOTES,
-        CommandName::Ask(Question::Rights) => RIGHTS_NOTES,
+        CommandName::Ask(TextCommand::Verdict) => VERDICT_NOTES,
+        CommandName::Ask(TextCommand::Why) => WHY_NOTES,
+        CommandName::Ask(TextCommand::Who) => WHO_NOTES,
+        CommandName::Ask(TextCommand::Compare) => COMPARE_NOTES,
+        CommandName::Ask(TextCommand::Lint) => LINT_NOTES,
+        CommandName::Ask(TextCommand::Print) => PRINT_NOTES,
+        CommandName::Ask(TextCommand::Sort) => SORT_NOTES,
+        CommandName::Ask(TextCommand::ToBinary) => TO_BINARY_NOTES,
+        CommandName::Ask(TextCommand::FromBinary) => FROM_BINARY_NOTES,
+        CommandName::Ask(TextCommand::Rights) => RIGHTS_NOTES,
         CommandName::Script => SCRIPT_NOTES,
         CommandName::Serve => SERVE_NOTES,
         CommandName::Audit => AUDIT_NOTES,

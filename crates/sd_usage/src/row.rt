@@ -24,7 +24,7 @@ pub type OptionRow = (&'static str, ProgramOption, &'static str);
 #[derive(Clone, Copy, Debug, PartialEq, Eq)]
 pub enum CommandName {
     /// One that answers its arguments, of which the first can be a line of `each`.
-    Ask(Question),
+    Ask(TextCommand),
     /// `script`.
     Script,
     /// `serve`.
@@ -37,7 +37,7 @@ pub enum CommandName {
 
 /// A command that answers its arguments.
 #[derive(Clone, Copy, Debug, PartialEq, Eq)]
-pub enum Question {
+pub enum TextCommand {
     /// `verdict`.
     Verdict,
     /// `why`.

@@ -5,7 +5,7 @@ use crate::options::{
 };
 use crate::row::{
     Argument, Arguments, Command, CommandName, CommandRow, Flag, Flags, OptionName, OptionRow,
-    ProgramOption, Question, Value,
+    ProgramOption, TextCommand, Value,
 };
 
 /// The commands, in the order in which help lists them.
@@ -13,7 +13,7 @@ pub const COMMANDS: &[CommandRow] = &[
     (
         "verdict",
         Command {
-            name: CommandName::Ask(Question::Verdict),
+            name: CommandName::Ask(TextCommand::Verdict),
             flags: Flags::Nothing,
             arguments: Arguments::Three(Argument::Descriptor, Argument::User, Argument::Mask),
             repeated: Some(Argument::Word),
@@ -26,7 +26,7 @@ sdstore verdict 'D:(D;;0x2;;;S-1-5-21-1-2-3-1001)(A;;0x1f01ff;;;S-1-5-21-1-2-3-1
     (
         "why",
         Command {
-            name: CommandName::Ask(Question::Why),
+            name: CommandName::Ask(TextCommand::Why),
             flags: Flags::Nothing,
             arguments: Arguments::Three(Argument::Descriptor, Argument::User, Argument::Mask),
             repeated: Some(Argument::Word),
@@ -38,7 +38,7 @@ sdstore verdict 'D:(D;;0x2;;;S-1-5-21-1-2-3-1001)(A;;0x1f01ff;;;S-1-5-21-1-2-3-1
     (
         "who",
         Command {
-            name: CommandName::Ask(Question::Who),
+            name: CommandName::Ask(TextCommand::Who),
             flags: Flags::Nothing,
             arguments: Arguments::Two(Argument::Descriptor, Argument::Mask),
             repeated: Some(Argument::Group),
@@ -50,7 +50,7 @@ sdstore verdict 'D:(D;;0x2;;;S-1-5-21-1-2-3-1001)(A;;0x1f01ff;;;S-1-5-21-1-2-3-1
     (
         "compare",
         Command {
-            name: CommandName::Ask(Question::Compare),
+            name: CommandName::Ask(TextCommand::Compare),
             flags: Flags::Nothing,
             arguments: Arguments::Two(Argument::Old, Argument::New),
             repeated: Some(Argument::Group),
@@ -62,7 +62,7 @@ sdstore verdict 'D:(D;;0x2;;;S-1-5-21-1-2-3-1001)(A;;0x1f01ff;;;S-1-5-21-1-2-3-1
     (
         "lint",
         Command {
-            name: CommandName::Ask(Question::Lint),
+            name: CommandName::Ask(TextCommand::Lint),
             flags: Flags::Nothing,
             arguments: Arguments::One(Argument::Descriptor),
             repeated: Some(Argument::Group),
@@ -74,7 +74,7 @@ sdstore verdict 'D:(D;;0x2;;;S-1-5-21-1-2-3-1001)(A;;0x1f01ff;;;S-1-5-21-1-2-3-1
     (
         "print",
         Command {
-            name: CommandName::Ask(Question::Print),
+            name: CommandName::Ask(TextCommand::Print),
             flags: Flags::Nothing,
             arguments: Arguments::One(Argument::Descriptor),
             repeated: None,
@@ -86,7 +86,7 @@ sdstore verdict 'D:(D;;0x2;;;S-1-5-21-1-2-3-1001)(A;;0x1f01ff;;;S-1-5-21-1-2-3-1
     (
         "sort",
         Command {
-            name: CommandName::Ask(Question::Sort),
+            name: CommandName::Ask(TextCommand::Sort),
             flags: Flags::Nothing,
             arguments: Arguments::One(Argument::Descriptor),
             repeated: None,
@@ -98,7 +98,7 @@ sdstore verdict 'D:(D;;0x2;;;S-1-5-21-1-2-3-1001)(A;;0x1f01ff;;;S-1-5-21-1-2-3-1
     (
         "tobin",
         Command {
-            name: CommandName::Ask(Question::ToBinary),
+            name: CommandName::Ask(TextCommand::ToBinary),
             flags: Flags::Nothing,
             arguments: Arguments::One(Argument::Descriptor),
             repeated: None,
@@ -110,7 +110,7 @@ sdstore verdict 'D:(D;;0x2;;;S-1-5-21-1-2-3-1001)(A;;0x1f01ff;;;S-1-5-21-1-2-3-1
     (
         "frombin",
         Command {
-            name: CommandName::Ask(Question::FromBinary),
+            name: CommandName::Ask(TextCommand::FromBinary),
             flags: Flags::Nothing,
             arguments: Arguments::One(Argument::Bytes),
             repeated: None,
@@ -122,7 +122,7 @@ sdstore verdict 'D:(D;;0x2;;;S-1-5-21-1-2-3-1001)(A;;0x1f01ff;;;S-1-5-21-1-2-3-1
     (
         "rights",
         Command {
-            name: CommandName::Ask(Question::Rights),
+            name: CommandName::Ask(TextCommand::Rights),
             flags: Flags::Nothing,
             arguments: Arguments::One(Argument::Mask),
             repeated: None,

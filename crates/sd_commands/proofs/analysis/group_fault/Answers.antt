@@ -1,7 +1,7 @@
 -- The word is the one at the place.
 use Rattle.std.proofs.Common.{ap₂, string_bytes, subst, ◌∙◌}
 use Rattle.std.proofs.lemmas.Result.{IfOk-weaker}
-use Rattle.sd_commands.specs.Told.{IsStateReason, told_line, word_argument}
+use Rattle.sd_commands.specs.Diagnostic.{IsStateReason, told_line, word_argument}
 use Rattle.sd_commands.proofs.Arguments.{word_is}
 use Rattle.sd_commands.proofs.analysis.group_fault.Goals as goal
 

@@ -4,7 +4,7 @@ use Rattle.std.specs.Fmt.{decimal}
 use Rattle.std.proofs.lemmas.Result.{IfOk-weaker}
 use Rattle.sd_answer.specs.Lint.{entry_head, is_misplaced}
 use Rattle.sd_commands.specs.Sort.{move_note}
-use Rattle.sd_commands.specs.Told.{told_line}
+use Rattle.sd_commands.specs.Diagnostic.{told_line}
 use Rattle.sd_commands.proofs.sort.note_of.Goals as goal
 
 pub returns-in_ok-what-in-Some : goal.returns-in_ok-what-in-Some

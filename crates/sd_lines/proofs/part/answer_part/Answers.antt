@@ -3,7 +3,7 @@ use Rattle.std.specs.Prelude.{⊤}
 use Rattle.std.specs.Io.KnownBytes.{Appends}
 use Rattle.std.proofs.lemmas.Result.{err_from_is_err_and}
 use Rattle.sd_stream.specs.Watched.{inner_of}
-use Rattle.sd_stream.specs.Whole.{AppendsBeginning}
+use Rattle.sd_stream.specs.Streams.{AppendsBeginning}
 use Rattle.sd_lines.specs.Lines.{IsLong}
 use Rattle.sd_lines.proofs.Parts.{fails_stop, long_line, stops_is, taken_stops}
 use Rattle.sd_lines.proofs.part.answer_part.Goals as goal

@@ -4,7 +4,7 @@ use Rattle.std.proofs.lemmas.Result.{err_from_is_err_and}
 use Rattle.sd_answer.specs.Word.{texts}
 use Rattle.sd_script.specs.Argument.{mask, number, path, sid, token}
 use Rattle.sd_script.specs.Command.{Asks, Mask, Path, Sid, Token, poses, reads}
-use Rattle.sd_script.specs.declared.fault.Stop.TheVariants.{Fault}
+use Rattle.sd_script.specs.declared.fault.LineStop.TheVariants.{Fault}
 use Rattle.sd_script.proofs.Readings.{Then-fault, Then-value, Then-stop}
 use Rattle.sd_script.proofs.asked.posed.Goals as goal
 

@@ -5,7 +5,7 @@ use Rattle.sd_answer.specs.Word.{texts}
 use Rattle.sd_script.specs.Argument.{number, path, sid, token}
 use Rattle.sd_script.specs.Command.{Asks, Path, Sid, Token, reads}
 use Rattle.sd_script.specs.declared.asked.Asked.TheVariants.{Deleting}
-use Rattle.sd_script.specs.declared.fault.Stop.TheVariants.{Fault}
+use Rattle.sd_script.specs.declared.fault.LineStop.TheVariants.{Fault}
 use Rattle.sd_script.proofs.Readings.{Then-fault, Then-value, Then-stop}
 use Rattle.sd_script.proofs.deletion.deleting.Goals as goal
 

@@ -3,10 +3,10 @@ use Rattle.std.proofs.lemmas.Result.{IfOk-weaker}
 use Rattle.std.specs.List.{HoldsAt}
 use Rattle.sd_path.specs.Names.{up}
 use Rattle.sd_tree.specs.Stored.{path_of_node, tree_of}
-use Rattle.sd_tree.specs.Whole.{whole_with}
+use Rattle.sd_tree.specs.Node.{whole_with}
 use Rattle.sd_tree.proofs.Beside.{dacl_beside}
 use Rattle.sd_tree.proofs.OneDacl.{own_alone}
-use Rattle.sd_tree.proofs.Wholes.{whole_at_root, stored_whole, below_stored}
+use Rattle.sd_tree.proofs.NewRow.{whole_at_root, stored_whole, below_stored}
 use Rattle.sd_tree.proofs.tree_view.TreeView.inherited_at.Goals as goal
 
 pub returns-then-is_root : goal.returns-then-is_root

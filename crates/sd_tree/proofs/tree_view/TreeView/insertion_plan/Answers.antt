@@ -5,7 +5,7 @@ use Rattle.sd_tree.specs.declared.node.Node.{Node}
 use Rattle.sd_tree.proofs.Rows.{row_at-insert_same}
 use Rattle.sd_tree.proofs.Adding.{insertion}
 use Rattle.sd_tree.proofs.Rebuilding.{large_error, row_there}
-use Rattle.sd_tree.proofs.Wholes.{size_error}
+use Rattle.sd_tree.proofs.NewRow.{size_error}
 use Rattle.sd_tree.proofs.tree_view.TreeView.insertion_plan.Goals as goal
 
 not_both : {X : Type 0} (o : Option X) (x : X) → o ≡ None → o ≡ Some x → ⊥

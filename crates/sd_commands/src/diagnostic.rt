@@ -1,0 +1,162 @@
+//! What standard error is told beside an answer: which argument isn't read, and why; or that a SACL is left out.
+ghost use Rattle.std.specs.Prelude.{◌≡◌, ◌<◌, ◌^◌, ◌++◌, IfOk, string_bytes};
+ghost use Rattle.sd_commands.specs.Pointer.{pointed};
+ghost use Rattle.sd_commands.specs.Diagnostic.{IsSidReason, IsStateReason, IsWordReason, at_byte, begins_by_plus};
+ghost use Rattle.sd_commands.specs.Diagnostic.{fault_name, fault_text, sacl_note, sddl_fault_text, told_line};
+ghost use Rattle.sd_commands.specs.Diagnostic.{word_argument};
+
+use crate::escaped::escaped_word;
+use crate::kinds::kind_note;
+use crate::pointer::with_pointer;
+use crate::words::sid_length;
+use sd_text::{Aliases, TextError, TextFault, read_sid_text_in};
+use std::alloc::{AllocError, Global};
+
+/// The line that tells what is wrong with an argument, as `sdstore: MASK: 1 Syntax at 2`. The only error is out of
+/// memory.
+pub fn told_line(alloc: Global, argument: &str, what: &str) -> Result<String, AllocError>
+    ensures { IfOk result (λ text. string_bytes text ≡ told_line argument.now what.now) }
+{
+    let text = format!(in alloc; "sdstore: {argument}: {what}\n")?;
+    Ok(text)
+}
+
+/// A fault by number and name, and its byte.
+fn fault_name(alloc: Global, fault: TextFault, place: u64) -> Result<String, AllocError>
+    ensures { IfOk result (λ text. string_bytes text ≡ fault_name fault place) }
+{
+    let number = fault.number();
+    let name = fault.name();
+    let text = format!(in alloc; "{number} {name} at {place}")?;
+    Ok(text)
+}
+
+/// The same, and where that is asked for, the text there.
+pub(crate) fn fault_text(
+    alloc: Global,
+    points: bool,
+    text: &str,
+    fault: TextFault,
+    place: u64,
+) -> Result<String, AllocError>
+    ensures { IfOk result (λ what. string_bytes what ≡ fault_text points text.now fault place) }
+{
+    let what = fault_name(alloc, fault, place)?;
+    with_pointer(alloc, points, text, place as usize, what)
+}
+
+/// The same of a descriptor's text, and which kind an entry is that isn't taken.
+pub(crate) fn sddl_fault_text(
+    alloc: Global,
+    points: bool,
+    sddl: &str,
+    fault: TextFault,
+    place: u64,
+) -> Result<String, AllocError>
+    ensures { IfOk result (λ what. string_bytes what ≡ sddl_fault_text points sddl.now fault place) }
+{
+    let mut what = fault_name(alloc, fault, place)?;
+    let note = kind_note(alloc, sddl, fault, place)?;
+    what.push_str(note.as_str())?;
+    with_pointer(alloc, points, sddl, place as usize, what)
+}
+
+/// What is wrong with a text and at which byte, and where that is asked for, the text there.
+pub(crate) fn text_at_byte(
+    alloc: Global,
+    points: bool,
+    text: &str,
+    what: &str,
+    place: usize,
+) -> Result<String, AllocError>
+    ensures { IfOk result
+        (λ said. string_bytes said ≡ at_byte what.now place ++ pointed points text.now place) }
+{
+    let said = at_byte(alloc, what, place)?;
+    with_pointer(alloc, points, text, place, said)
+}
+
+fn at_byte(alloc: Global, what: &str, place: usize) -> Result<String, AllocError>
+    ensures { IfOk result (λ said. string_bytes said ≡ at_byte what.now place) }
+{
+    let said = format!(in alloc; "{what} at {place}")?;
+    Ok(said)
+}
+
+/// That a SACL was left out, where one was.
+pub(crate) fn sacl_note(alloc: Global, argument: &str, left_out: bool) -> Result<String, AllocError>
+    ensures { IfOk result (λ text. string_bytes text ≡ sacl_note argument.now left_out) }
+{
+    if left_out {
+        told_line(alloc, argument, "the SACL is left out")
+    } else {
+        Ok(String::new(alloc))
+    }
+}
+
+/// Why a text isn't what it should be: the first fault of its SID ([MS-DTYP] 2.4.2.1), or where it is one, that it
+/// isn't a fit one. With `points`, the text stands below its fault. The only error is out of memory.
+pub fn sid_reason(
+    alloc: Global,
+    points: bool,
+    known: Aliases,
+    unfit: &str,
+    text: &str,
+) -> Result<String, AllocError>
+    ensures { IfOk result (λ reason. IsSidReason points known unfit.now text.now (string_bytes reason)) }
+{
+    match read_sid_text_in(known, text) {
+        Ok(_) => String::from_str(alloc, unfit),
+        Err(TextError::Fault { fault, place }) => fault_text(alloc, points, text, fault, place),
+        Err(TextError::Memory) => Err(AllocError),
+    }
+}
+
+/// Why a text is no word.
+pub(crate) fn word_reason(
+    alloc: Global,
+    points: bool,
+    known: Aliases,
+    word: &str,
+) -> Result<String, AllocError>
+    ensures { IfOk result (λ reason. IsWordReason points known word.now (string_bytes reason)) }
+{
+    if begins_by_plus(word) {
+        return String::from_str(alloc, "no such privilege");
+    }
+    state_reason(alloc, points, known, word)
+}
+
+/// Why a text is no SID with a state.
+pub(crate) fn state_reason(
+    alloc: Global,
+    points: bool,
+    known: Aliases,
+    word: &str,
+) -> Result<String, AllocError>
+    ensures { IfOk result (λ reason. IsStateReason points known word.now (string_bytes reason)) }
+{
+    let (sid, _) = word.split_at(sid_length(word));
+    sid_reason(alloc, points, known, "no such state", sid)
+}
+
+fn begins_by_plus(word: &str) -> bool
+    ensures { result ≡ begins_by_plus word.now }
+{
+    match word.as_bytes() {
+        [] => false,
+        [first, ..] => *first == b'+',
+    }
+}
+
+/// Which WORD it is, at this place counted from 0, and what it says.
+pub(crate) fn word_argument(alloc: Global, place: usize, word: &str) -> Result<String, AllocError>
+    requires { place < 2 ^ 63 }
+    ensures { IfOk result (λ text. string_bytes text ≡ word_argument place word.now) }
+{
+    let number = place + 1;
+    let shown = escaped_word(alloc, word)?;
+    let shown = shown.as_str();
+    let text = format!(in alloc; "WORD {number}, \"{shown}\"")?;
+    Ok(text)
+}

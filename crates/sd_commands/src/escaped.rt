@@ -1,0 +1,67 @@
+//! A word of a command line, as a message shows it.
+ghost use Rattle.std.specs.Prelude.{◌≡◌, IfOk, drop, string_bytes, take};
+ghost use Rattle.std.specs.Str.{chars};
+ghost use Rattle.sd_commands.specs.Escaped.{is_hidden, escaped, escaped_char, escaped_chars};
+
+use std::alloc::{AllocError, Global};
+
+/// A word with its control characters and line separators as `\u{1b}`: it can neither write a line of its own into a
+/// log nor reach a terminal. The only error is out of memory.
+pub fn escaped_word(alloc: Global, word: &str) -> Result<String, AllocError>
+    ensures { IfOk result (λ text. string_bytes text ≡ escaped word.now) }
+{
+    escaped_from(alloc, word, 0)
+}
+
+/// The same of a text's characters from the `start`th on, counted from 0.
+pub(crate) fn escaped_from(alloc: Global, text: &str, start: usize) -> Result<String, AllocError>
+    ensures { IfOk result (λ shown. string_bytes shown ≡ escaped_chars (drop start (chars text.now))) }
+{
+    escaped_part(alloc, text, start, text.len())
+}
+
+/// The same of at most `count` characters.
+pub(crate) fn escaped_part(
+    alloc: Global,
+    text: &str,
+    start: usize,
+    count: usize,
+) -> Result<String, AllocError>
+    ensures { IfOk result
+        (λ shown. string_bytes shown ≡ escaped_chars (take count (drop start (chars text.now)))) }
+{
+    let mut shown = String::new(alloc);
+    let (mut before, mut left) = (start, count);
+    for c in text.chars() {
+        if 0 < before {
+            before -= 1;
+        } else if 0 < left {
+            left -= 1;
+            let c = escaped_char(alloc, c)?;
+            shown.push_str(c.as_str())?;
+        }
+    }
+    Ok(shown)
+}
+
+fn escaped_char(alloc: Global, c: char) -> Result<String, AllocError>
+    ensures { IfOk result (λ text. string_bytes text ≡ escaped_char c) }
+{
+    if is_hidden(c) {
+        let code = u32::from(c);
+        let text = format!(in alloc; "\\u{{{code:x}}}")?;
+        Ok(text)
+    } else {
+        let mut text = String::new(alloc);
+        text.push(c)?;
+        Ok(text)
+    }
+}
+
+/// Whether a character is a control character (C0, DEL or C1), or separates lines or paragraphs.
+fn is_hidden(c: char) -> bool
+    ensures { result ≡ is_hidden c }
+{
+    let code = u32::from(c);
+    code < 32 || (127 <= code && code <= 159) || code == 0x2028 || code == 0x2029
+}

@@ -1,6 +1,0 @@
-use Rattle.std.proofs.Common.{◌≡◌, ◌≤◌, vec_len, vec_capacity}
-use Rattle.sd_store.specs.Workers.{IsDealt}
-use Rattle.sd_store.proofs.gathering.gathered.Given as goal
-
-abbrev pub invariant-loop-place : goal.invariant-loop-place
-invariant-loop-place g l = (vec_len l.answers ≡ l.place) × (l.count ≤ vec_capacity l.answers) × IsDealt l.checkers l.answers.items
