@@ -19,7 +19,7 @@ use crate::input::is_blank;
 use crate::options::{BadValue, Options};
 use sd_commands::{Answer, Outcome, Settings, answer_question, fault, told_line};
 use sd_json::{Tagging, printed_as};
-use sd_lines::{Answers, Ending, Form, answer_lines};
+use sd_lines::{AnswersLines, Ending, Form, answer_lines};
 use sd_script::tagged;
 use sd_stream::{RunError, Watched};
 use sd_usage::TextCommand;
@@ -96,7 +96,7 @@ pub(crate) struct LineQuestion<'a> {
     request: TextRequest<'a>,
 }
 
-impl Answers for LineQuestion<'_> {
+impl AnswersLines for LineQuestion<'_> {
     type State = Progress;
 
     ghost answers = { λ question before told printed after. AnswersNext question.has_keys question.is_json

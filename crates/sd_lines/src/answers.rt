@@ -5,7 +5,7 @@ ghost use Rattle.std.specs.Prelude.{◌≡◌, ◌++◌, ℕ, List, Option, OnOk
 use std::alloc::{AllocError, Global};
 
 /// What answers the lines of an input, one after the other.
-pub trait Answers {
+pub trait AnswersLines {
     /// What one line leaves for the next.
     type State;
 

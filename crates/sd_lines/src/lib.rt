@@ -1,6 +1,6 @@
 //! The lines of an input and their answers, one line after the other.
 //!
-//! `Answers` says how one line is answered, and what that changes for the lines after it. `answer_lines` reads an input
+//! `AnswersLines` says how one line is answered, and what that changes for the lines after it. `answer_lines` reads an input
 //! to its end and writes the answers, and `answer_text` appends the answers to the lines of a text; `AreAnswered` in
 //! specs/Answers.antt is what both say. What has been written where a run ended early is `LeavesAnswers` in
 //! specs/Output.antt. `Form` says what ends a line and when its answer is written. All lines that have ended are
@@ -22,7 +22,7 @@ mod part;
 mod streams;
 mod text;
 
-pub use answers::Answers;
+pub use answers::AnswersLines;
 pub use ending::{Ending, first_line};
 pub use form::Form;
 pub use streams::answer_lines;

@@ -6,7 +6,7 @@ ghost use Rattle.sd_stream.specs.Watched.{inner_of, has_failed};
 ghost use Rattle.sd_stream.specs.Streams.{is_write_error};
 ghost use Rattle.sd_lines.specs.Steps.{AnswersLast, FailsIn, FailsLast, StopsIn, TakesFrom, goes_on};
 
-use crate::answers::Answers;
+use crate::answers::AnswersLines;
 use crate::begun::Begun;
 use crate::form::Form;
 use crate::text::answer_ended;
@@ -15,7 +15,7 @@ use std::alloc::Global;
 use std::io::Write;
 
 /// Writes the answers to the lines that end in the bytes, part by part. `text` is empty, before and after.
-pub(crate) fn answer_parts<A: Answers, W: Write>(
+pub(crate) fn answer_parts<A: AnswersLines, W: Write>(
     alloc: Global,
     answers: &A,
     state: &mut A::State,
@@ -46,7 +46,7 @@ pub(crate) fn answer_parts<A: Answers, W: Write>(
 }
 
 /// Writes the answers to the lines that end in a part.
-fn answer_part<A: Answers, W: Write>(
+fn answer_part<A: AnswersLines, W: Write>(
     alloc: Global,
     answers: &A,
     state: &mut A::State,
@@ -76,7 +76,7 @@ fn answer_part<A: Answers, W: Write>(
 }
 
 /// Appends the answers to the lines that end in a part.
-fn append_answers<A: Answers>(
+fn append_answers<A: AnswersLines>(
     alloc: Global,
     answers: &A,
     state: &mut A::State,
@@ -105,7 +105,7 @@ fn append_answers<A: Answers>(
 }
 
 /// Writes the answer to the last line, where it lacks its end. `text` is empty.
-pub(crate) fn answer_last<A: Answers, W: Write>(
+pub(crate) fn answer_last<A: AnswersLines, W: Write>(
     alloc: Global,
     answers: &A,
     state: &mut A::State,

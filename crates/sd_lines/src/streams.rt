@@ -6,7 +6,7 @@ ghost use Rattle.sd_stream.specs.Streams.{is_read_error, is_write_error};
 ghost use Rattle.sd_lines.specs.Answers.{Prints, PrintsAndLeaves};
 ghost use Rattle.sd_lines.specs.Output.{AppendsOutput, LeavesAnswers};
 
-use crate::answers::Answers;
+use crate::answers::AnswersLines;
 use crate::begun::Begun;
 use crate::form::Form;
 use crate::part::{answer_last, answer_parts};
@@ -26,7 +26,7 @@ const BUFFER_BYTES: usize = 65536;
 /// - `Write`: the writer failed; a prefix of the answers to what was read was written.
 /// - `Memory`: out of memory; the lines that ended in the reads before are answered, and line by line all before the
 ///   one whose answer failed.
-pub fn answer_lines<A: Answers, R: Read, W: Write>(
+pub fn answer_lines<A: AnswersLines, R: Read, W: Write>(
     alloc: Global,
     answers: &A,
     state: &mut A::State,

@@ -5,12 +5,12 @@ ghost use Rattle.sd_lines.specs.Answers.{AreAnswered, of_form};
 ghost use Rattle.sd_lines.specs.Lines.{HasNoEnd, lines_in};
 ghost use Rattle.sd_lines.specs.Steps.{Takes};
 
-use crate::answers::Answers;
+use crate::answers::AnswersLines;
 use crate::form::Form;
 use std::alloc::{AllocError, Global};
 
 /// Appends the answers to all lines of a text, of which the last may lack its end. Fails only where memory is refused.
-pub fn answer_text<A: Answers>(
+pub fn answer_text<A: AnswersLines>(
     alloc: Global,
     answers: &A,
     state: &mut A::State,
@@ -30,7 +30,7 @@ pub fn answer_text<A: Answers>(
 }
 
 /// Appends the answers to the lines that end in the bytes, and returns the bytes after them.
-pub(crate) fn answer_ended<'a, A: Answers>(
+pub(crate) fn answer_ended<'a, A: AnswersLines>(
     alloc: Global,
     answers: &A,
     state: &mut A::State,

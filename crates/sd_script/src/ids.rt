@@ -9,7 +9,7 @@ use crate::carried::Carried;
 use crate::lines::{head_len, is_silent, word_len};
 use crate::script::answer_line;
 use sd_json::{Tagging, printed_as};
-use sd_lines::{Answers, Ending, Form};
+use sd_lines::{AnswersLines, Ending, Form};
 use std::alloc::{AllocError, Global};
 
 /// The lines of a script. One that is too long ends it, and each answer is written before the next line is answered.
@@ -29,7 +29,7 @@ pub(crate) struct Script {
     pub(crate) is_json: bool,
 }
 
-impl Answers for Script {
+impl AnswersLines for Script {
     type State = Carried;
 
     ghost answers = { λ script old line printed new. IfSome line

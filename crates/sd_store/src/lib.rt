@@ -15,7 +15,7 @@
 //! let answer = checker.check(&path, &token, Mask(0x1))?;
 //! ```
 //!
-//! `crates/sd_store_client` is such a client, proved.
+//! `crates/sd_store_example` is such a client, proved.
 #![tactic(auto)]
 
 mod answers;

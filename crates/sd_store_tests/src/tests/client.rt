@@ -3,7 +3,7 @@
 use super::*;
 use sd_history::Opened;
 use sd_sid::GenericMapping;
-use sd_store_client::answer_behind;
+use sd_store_example::answer_behind;
 use sd_versions::Answer;
 use std::marker::Brand;
 use std::sync::Wait;

@@ -10,7 +10,7 @@ returns-clause-ok g c =
     let text : c.deref.result.now ≡ said.0 = c.deref.ensures.value ∙ said.1 ∙ ap (λ l. l ++ said.0) c.requires.text in
     on_ok_weaker c.write_whole.result (λ wrote begun holds none. (
       said.0,
-      one_last (of_form c.args.form (g.A.Answers.answers c.args.answers.now)) c.args.form.ending _ _ begun said.0 none
+      one_last (of_form c.args.form (g.A.AnswersLines.answers c.args.answers.now)) c.args.form.ending _ _ begun said.0 none
           (c.is_empty.ensures.some c.if-is_empty.false c.args.form begun holds) (rw (c.last.ensures begun holds) at said.2),
       rw text at wrote,
     )) c.write_whole.ensures.ok
@@ -23,7 +23,7 @@ returns-clause-err g c =
       c.answer.new.state,
       λ begun holds none. (
         said.0,
-        one_last (of_form c.args.form (g.A.Answers.answers c.args.answers.now)) c.args.form.ending _ _ begun said.0 none
+        one_last (of_form c.args.form (g.A.AnswersLines.answers c.args.answers.now)) c.args.form.ending _ _ begun said.0 none
             (c.is_empty.ensures.some c.if-is_empty.false c.args.form begun holds) (rw (c.last.ensures begun holds) at said.2),
         rw text at wrote,
       ),

@@ -8,7 +8,7 @@ use Rattle.sd_lines.proofs.part.answer_parts.Given as goal
 
 abbrev pub invariant-loop-rest : goal.invariant-loop-rest
 invariant-loop-rest g l = record {
-  takes : TakesSome l.form (g.A.Answers.answers l.answers)
+  takes : TakesSome l.form (g.A.AnswersLines.answers l.answers)
       (Appends (g.W.Write.contents (inner_of l.initial.writer)) (g.W.Write.contents (inner_of l.writer)))
       l.initial.state l.initial.line l.initial.rest l.state l.line l.rest;
   none : l.text.items ≡ [];

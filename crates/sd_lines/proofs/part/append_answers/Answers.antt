@@ -11,7 +11,7 @@ pub returns-in_default-clause-ok : goal.returns-in_default-clause-ok
 returns-in_default-clause-ok g c begun holds none = (
   begun ++ c.args.part.now,
   c.in_ok-grow.ensures begun holds,
-  takes_none (of_form c.args.form (g.A.Answers.answers c.args.answers.now)) c.args.form.ending (HasNoEnd c.args.form.ending)
+  takes_none (of_form c.args.form (g.A.AnswersLines.answers c.args.answers.now)) c.args.form.ending (HasNoEnd c.args.form.ending)
       (λ printed. c.args.text.now.items ≡ c.args.text.now.items ++ printed) c.args.state.now (begun ++ c.args.part.now)
       (All-append (λ b. ends c.args.form.ending b ≡ false) begun c.args.part.now none c.in_default.ensures.none)
       (sym (append-nil c.args.text.now.items)),
@@ -32,7 +32,7 @@ returns-then-stops-clause-err g c =
 
 pub returns-clause-ok : goal.returns-clause-ok
 returns-clause-ok g c begun holds none =
-    let Next = of_form c.args.form (g.A.Answers.answers c.args.answers.now) in
+    let Next = of_form c.args.form (g.A.AnswersLines.answers c.args.answers.now) in
     let ending = c.args.form.ending in
     let found = c.in-Some.ensures.some in
     let line = begun ++ c.in-Some.before.now in

@@ -7,7 +7,7 @@ use Rattle.sd_lines.proofs.streams.answer_lines.Given as goal
 
 abbrev pub invariant-loop : goal.invariant-loop
 invariant-loop g l = record {
-  stands : Stands l.form (g.A.Answers.answers l.answers) l.initial.state
+  stands : Stands l.form (g.A.AnswersLines.answers l.answers) l.initial.state
       (g.R.Read.remaining (inner_of l.initial.reader)) (g.W.Write.contents (inner_of l.initial.writer))
       l.state l.line l.decoder (g.R.Read.remaining (inner_of l.reader)) (g.W.Write.contents (inner_of l.writer));
   none : l.text.items ≡ [];

@@ -6,13 +6,13 @@ use Rattle.sd_lines.proofs.text.answer_ended.Goals as goal
 
 pub lines-init : goal.lines-init
 lines-init g c =
-    takes_none (of_form c.args.form (g.A.Answers.answers c.args.answers.now)) c.args.form.ending (λ left. ⊤)
+    takes_none (of_form c.args.form (g.A.AnswersLines.answers c.args.answers.now)) c.args.form.ending (λ left. ⊤)
     (λ added. c.args.printed.now.items ≡ c.args.printed.now.items ++ added) c.args.state.now c.args.bytes.now tt
     (sym (append-nil c.args.printed.now.items))
 
 pub lines-preserved : goal.lines-preserved
 lines-preserved g c =
-    let Next = of_form c.args.form (g.A.Answers.answers c.args.answers.now) in
+    let Next = of_form c.args.form (g.A.AnswersLines.answers c.args.answers.now) in
     let found = c.in-Some.ensures.some in
     let said = c.in_ok-answer.ensures in
     let line = takes_line Next c.args.form.ending (λ left. ⊤) (λ added. c.answer.new.text.items ≡ c.lines.printed.items ++ added)

@@ -6,7 +6,7 @@ use Rattle.sd_lines.specs.Steps.{Takes}
 use Rattle.sd_lines.proofs.text.answer_ended.Given as goal
 
 abbrev pub invariant-lines : goal.invariant-lines
-invariant-lines g l = Takes (of_form l.form (g.A.Answers.answers l.answers)) l.form.ending (λ left. ⊤)
+invariant-lines g l = Takes (of_form l.form (g.A.AnswersLines.answers l.answers)) l.form.ending (λ left. ⊤)
     (λ added. l.printed.items ≡ l.initial.printed.items ++ added) l.initial.state l.initial.rest l.state l.rest
 
 abbrev pub decreases-lines : goal.decreases-lines

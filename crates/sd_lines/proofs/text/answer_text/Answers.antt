@@ -8,7 +8,7 @@ use Rattle.sd_lines.proofs.text.answer_text.Goals as goal
 
 pub returns-then-is_empty : goal.returns-then-is_empty
 returns-then-is_empty g c =
-    let Next = of_form c.args.form (g.A.Answers.answers c.args.answers.now) in
+    let Next = of_form c.args.form (g.A.AnswersLines.answers c.args.answers.now) in
     let t = c.in_ok-last.ensures in
     let none : c.in_ok-last.last.now ≡ [] = nil_from_length _ (let test = sym c.is_empty.ensures ∙ c.if-is_empty.true in grind (arith, nat_tests)) in (
       t.printed ++ [],
@@ -18,7 +18,7 @@ returns-then-is_empty g c =
 
 pub returns : goal.returns
 returns g c =
-    let Next = of_form c.args.form (g.A.Answers.answers c.args.answers.now) in
+    let Next = of_form c.args.form (g.A.AnswersLines.answers c.args.answers.now) in
     let t = c.in_ok-last.ensures in
     let some : 0 < length c.in_ok-last.last.now = let test = sym c.is_empty.ensures ∙ c.if-is_empty.false in grind (arith, nat_tests) in
     on_ok_weaker c.answer.result (λ said. (

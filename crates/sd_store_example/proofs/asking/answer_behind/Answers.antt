@@ -2,10 +2,10 @@ use Rattle.std.proofs.Common.{rules, ◌≡◌, None, sym, subst}
 use Rattle.std.proofs.lemmas.Result.{IfErr-weaker}
 use Rattle.sd_tree.specs.Journal.{opening_of, root_refusal}
 use Rattle.sd_tree.specs.declared.opening.Opening.{Opening}
-use Rattle.sd_store_client.specs.Behind.{IsAskError, IsAskedError}
-use Rattle.sd_store_client.specs.declared.error.AskError.{AskError}
-use Rattle.sd_store_client.proofs.Steps.{started_before}
-use Rattle.sd_store_client.proofs.asking.answer_behind.Goals as goal
+use Rattle.sd_store_example.specs.Behind.{IsAskError, IsAskedError}
+use Rattle.sd_store_example.specs.declared.error.AskError.{AskError}
+use Rattle.sd_store_example.proofs.Steps.{started_before}
+use Rattle.sd_store_example.proofs.asking.answer_behind.Goals as goal
 
 pub returns-clause-failed : goal.returns-clause-failed
 returns-clause-failed g c =

@@ -9,8 +9,8 @@ use Rattle.sd_store.specs.Audits.{reply_by}
 use Rattle.sd_store.specs.Errors.{IsEditError, IsStoreError}
 use Rattle.sd_store.specs.declared.error.EditError.{EditError}
 use Rattle.sd_store.specs.declared.query.Query.{Query}
-use Rattle.sd_store_client.specs.declared.error.AskError.{AskError}
-use Rattle.sd_store_client.specs.declared.error.AskError.TheVariants as ask
+use Rattle.sd_store_example.specs.declared.error.AskError.{AskError}
+use Rattle.sd_store_example.specs.declared.error.AskError.TheVariants as ask
 
 -- the answer is by this journal, whose edits were each accepted in turn, and of which the given ones are a prefix
 pub record IsBy (o : Opening) (edits : List Edit) (query : Query) (answer : Answer) (journal : List Edit) : Type 0 where

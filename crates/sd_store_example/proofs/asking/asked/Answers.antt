@@ -1,7 +1,7 @@
 use Rattle.std.proofs.Common.{◌∙◌}
 use Rattle.std.proofs.lemmas.Result.{err_from_is_err_and}
-use Rattle.sd_store_client.proofs.Steps.{waits_still, accepted_still, not_accepted}
-use Rattle.sd_store_client.proofs.asking.asked.Goals as goal
+use Rattle.sd_store_example.proofs.Steps.{waits_still, accepted_still, not_accepted}
+use Rattle.sd_store_example.proofs.asking.asked.Goals as goal
 
 pub returns-in_err-edit-clause-failed : goal.returns-in_err-edit-clause-failed
 returns-in_err-edit-clause-failed g c =

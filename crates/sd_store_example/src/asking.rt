@@ -2,7 +2,7 @@
 
 ghost use Rattle.std.specs.Prelude.{◌≡◌, [], None, IfErr, IfOk, OnOk};
 ghost use Rattle.sd_tree.specs.Journal.{opening_of, root_refusal};
-ghost use Rattle.sd_store_client.specs.Behind.{IsAskError, IsAskedError, IsBehind};
+ghost use Rattle.sd_store_example.specs.Behind.{IsAskError, IsAskedError, IsBehind};
 
 use crate::error::AskError;
 use sd_history::Opened;

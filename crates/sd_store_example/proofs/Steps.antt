@@ -9,9 +9,9 @@ use Rattle.sd_tree.specs.declared.opening.Opening.{Opening}
 use Rattle.sd_tree.proofs.Journals.{lawful_push}
 use Rattle.sd_store.specs.Errors.{IsEditError}
 use Rattle.sd_store.specs.declared.error.EditError.{EditError}
-use Rattle.sd_store_client.specs.Behind.{IsAskedError, IsAskError}
-use Rattle.sd_store_client.specs.declared.error.AskError.{AskError}
-use Rattle.sd_store_client.specs.declared.error.AskError.TheVariants as ask
+use Rattle.sd_store_example.specs.Behind.{IsAskedError, IsAskError}
+use Rattle.sd_store_example.specs.declared.error.AskError.{AskError}
+use Rattle.sd_store_example.specs.declared.error.AskError.TheVariants as ask
 
 pub started_before : (o : Opening) (edits : List Edit) → root_refusal o ≡ None
     → (error : AskError) → IsAskedError o edits error → IsAskError o edits error

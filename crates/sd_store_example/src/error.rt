@@ -23,7 +23,7 @@ pub enum AskError {
 
 impl From<StartError> for AskError {
     ghost use Rattle.std.specs.Prelude.{◌≡◌};
-    ghost use Rattle.sd_store_client.specs.declared.error.AskError.TheVariants as ask;
+    ghost use Rattle.sd_store_example.specs.declared.error.AskError.TheVariants as ask;
 
     ghost from_gives = { λ error given. given ≡ ask.Start error };
 
@@ -34,7 +34,7 @@ impl From<StartError> for AskError {
 
 impl From<EditError> for AskError {
     ghost use Rattle.std.specs.Prelude.{◌≡◌};
-    ghost use Rattle.sd_store_client.specs.declared.error.AskError.TheVariants as ask;
+    ghost use Rattle.sd_store_example.specs.declared.error.AskError.TheVariants as ask;
 
     ghost from_gives = { λ error given. given ≡ ask.Edit error };
 
@@ -45,7 +45,7 @@ impl From<EditError> for AskError {
 
 impl From<PublishError> for AskError {
     ghost use Rattle.std.specs.Prelude.{◌≡◌};
-    ghost use Rattle.sd_store_client.specs.declared.error.AskError.TheVariants as ask;
+    ghost use Rattle.sd_store_example.specs.declared.error.AskError.TheVariants as ask;
 
     ghost from_gives = { λ error given. given ≡ ask.Publish error };
 
@@ -56,7 +56,7 @@ impl From<PublishError> for AskError {
 
 impl From<Gone> for AskError {
     ghost use Rattle.std.specs.Prelude.{◌≡◌};
-    ghost use Rattle.sd_store_client.specs.declared.error.AskError.TheVariants as ask;
+    ghost use Rattle.sd_store_example.specs.declared.error.AskError.TheVariants as ask;
 
     ghost from_gives = { λ error given. given ≡ ask.Gone error };
 

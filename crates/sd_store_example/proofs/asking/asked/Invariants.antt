@@ -1,6 +1,6 @@
 use Rattle.std.proofs.Common.{◌≡◌, [], take}
 use Rattle.sd_tree.specs.Journal.{IsLawful}
-use Rattle.sd_store_client.proofs.asking.asked.Given as goal
+use Rattle.sd_store_example.proofs.asking.asked.Given as goal
 
 abbrev pub invariant-loop-edit : goal.invariant-loop-edit
 invariant-loop-edit g l =
