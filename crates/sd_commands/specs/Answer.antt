@@ -113,6 +113,12 @@ AnswersOfMask settings mask Answers answer =
     × IsFault (fault_line (codes "mask"))
     (told_line (codes "MASK") (fault_text settings.points mask fault place)) answer)
 
+-- what is answered of the SID that the argument of this name is, or its first fault
+abbrev pub AnswersOfSid : List ℕ → Settings → List ℕ → (SidValue → AnswerValue → Type 0) → AnswerValue → Type 0
+AnswersOfSid argument settings text Answers answer =
+    ((sid : SidValue) × Spells (sid_text_in settings.aliases) text sid × Answers sid answer)
+    ⊎ IsTextFault settings (sid_text_in settings.aliases) text (fault_line (codes "sid")) argument answer
+
 -- the word at the place is the first that is none, for this reason
 abbrev pub IsTokenFault : ℕ → List ℕ → List ℕ → AnswerValue → Type 0
 IsTokenFault place word reason = IsFault (fault_line (codes "token")) (told_line (word_argument place word) reason)
@@ -212,10 +218,8 @@ AnswersMask settings form d user mask words = AnswersOfMask settings mask
 
 abbrev pub AnswersUser : Settings → Form → List ℕ → List ℕ → List (Bor (List ℕ)) → DescriptorValue → AnswerValue
     → Type 0
-AnswersUser settings form user mask words d answer =
-    ((sid : SidValue) × Spells (sid_text_in settings.aliases) user sid
-    × AnswersMask settings form d sid mask words answer)
-    ⊎ IsTextFault settings (sid_text_in settings.aliases) user (fault_line (codes "sid")) (codes "USER") answer
+AnswersUser settings form user mask words d =
+    AnswersOfSid (codes "USER") settings user (λ sid. AnswersMask settings form d sid mask words)
 
 -- the arguments after the descriptor are the user, the mask and words
 abbrev pub AnswersVerdict : Settings → Form → List ℕ → List (Bor (List ℕ)) → AnswerValue → Type 0
