@@ -11,7 +11,7 @@ use Rattle.sd_check.specs.declared.verdict.Verdict.{Verdict}
 use Rattle.sd_check.specs.declared.verdict.Verdict.TheVariants.{Granted}
 use Rattle.sd_text.specs.Grammar.{Grammar, Spells, HasFault}
 use Rattle.sd_text.specs.Sid.{sid_text_in}
-use Rattle.sd_text.specs.Canon.{canon_in}
+use Rattle.sd_text.specs.Canon.{canon_in, full_canon}
 use Rattle.sd_text.specs.declared.fault.TextError.TheVariants.{Fault}
 use Rattle.sd_text.specs.declared.fault.TextFault.{TextFault}
 use Rattle.sd_wire.specs.Reading.{descriptor_read}
@@ -356,6 +356,10 @@ AnswersLint settings written words = AnswersOfText settings written
 abbrev pub AnswersRights : Settings → List ℕ → AnswerValue → Type 0
 AnswersRights settings mask = AnswersOfMask settings mask (λ asked. IsDone (rights_line settings.kind asked))
 
+-- the SID in full
+abbrev pub AnswersSid : Settings → List ℕ → AnswerValue → Type 0
+AnswersSid settings text = AnswersOfSid (codes "SID") settings text (λ sid. IsDone (line (full_canon sid)))
+
 -- ---- commands
 
 -- what a command answers to a text and the arguments after it
@@ -370,3 +374,4 @@ AnswersQuestion settings questions.Sort text arguments answer = AnswersSort sett
 AnswersQuestion settings questions.ToBinary text arguments answer = AnswersToBinary settings text answer
 AnswersQuestion settings questions.FromBinary text arguments answer = AnswersFromBinary settings text answer
 AnswersQuestion settings questions.Rights text arguments answer = AnswersRights settings text answer
+AnswersQuestion settings questions.Sid text arguments answer = AnswersSid settings text answer
