@@ -17,7 +17,7 @@ from pathlib import Path
 PROGRAM = sys.argv[1]
 TOP = Path(__file__).resolve().parent.parent.parent
 MARKS = "$#,*"
-COMMANDS = "verdict why who compare lint print sort tobin frombin rights each script serve audit".split()
+COMMANDS = "verdict why who compare lint print sort tobin frombin rights sid each script serve audit".split()
 
 
 def load(path):

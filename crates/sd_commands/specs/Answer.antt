@@ -11,7 +11,7 @@ use Rattle.sd_check.specs.declared.verdict.Verdict.{Verdict}
 use Rattle.sd_check.specs.declared.verdict.Verdict.TheVariants.{Granted}
 use Rattle.sd_text.specs.Grammar.{Grammar, Spells, HasFault}
 use Rattle.sd_text.specs.Sid.{sid_text_in}
-use Rattle.sd_text.specs.Canon.{canon_in}
+use Rattle.sd_text.specs.Canon.{canon_in, full_canon}
 use Rattle.sd_text.specs.declared.fault.TextError.TheVariants.{Fault}
 use Rattle.sd_text.specs.declared.fault.TextFault.{TextFault}
 use Rattle.sd_wire.specs.Reading.{descriptor_read}
@@ -113,6 +113,12 @@ AnswersOfMask settings mask Answers answer =
     × IsFault (fault_line (codes "mask"))
     (told_line (codes "MASK") (fault_text settings.points mask fault place)) answer)
 
+-- what is answered of the SID that the argument of this name is, or its first fault
+abbrev pub AnswersOfSid : List ℕ → Settings → List ℕ → (SidValue → AnswerValue → Type 0) → AnswerValue → Type 0
+AnswersOfSid argument settings text Answers answer =
+    ((sid : SidValue) × Spells (sid_text_in settings.aliases) text sid × Answers sid answer)
+    ⊎ IsTextFault settings (sid_text_in settings.aliases) text (fault_line (codes "sid")) argument answer
+
 -- the word at the place is the first that is none, for this reason
 abbrev pub IsTokenFault : ℕ → List ℕ → List ℕ → AnswerValue → Type 0
 IsTokenFault place word reason = IsFault (fault_line (codes "token")) (told_line (word_argument place word) reason)
@@ -212,10 +218,8 @@ AnswersMask settings form d user mask words = AnswersOfMask settings mask
 
 abbrev pub AnswersUser : Settings → Form → List ℕ → List ℕ → List (Bor (List ℕ)) → DescriptorValue → AnswerValue
     → Type 0
-AnswersUser settings form user mask words d answer =
-    ((sid : SidValue) × Spells (sid_text_in settings.aliases) user sid
-    × AnswersMask settings form d sid mask words answer)
-    ⊎ IsTextFault settings (sid_text_in settings.aliases) user (fault_line (codes "sid")) (codes "USER") answer
+AnswersUser settings form user mask words d =
+    AnswersOfSid (codes "USER") settings user (λ sid. AnswersMask settings form d sid mask words)
 
 -- the arguments after the descriptor are the user, the mask and words
 abbrev pub AnswersVerdict : Settings → Form → List ℕ → List (Bor (List ℕ)) → AnswerValue → Type 0
@@ -352,6 +356,10 @@ AnswersLint settings written words = AnswersOfText settings written
 abbrev pub AnswersRights : Settings → List ℕ → AnswerValue → Type 0
 AnswersRights settings mask = AnswersOfMask settings mask (λ asked. IsDone (rights_line settings.kind asked))
 
+-- the SID in full
+abbrev pub AnswersSid : Settings → List ℕ → AnswerValue → Type 0
+AnswersSid settings text = AnswersOfSid (codes "SID") settings text (λ sid. IsDone (line (full_canon sid)))
+
 -- ---- commands
 
 -- what a command answers to a text and the arguments after it
@@ -366,3 +374,4 @@ AnswersQuestion settings questions.Sort text arguments answer = AnswersSort sett
 AnswersQuestion settings questions.ToBinary text arguments answer = AnswersToBinary settings text answer
 AnswersQuestion settings questions.FromBinary text arguments answer = AnswersFromBinary settings text answer
 AnswersQuestion settings questions.Rights text arguments answer = AnswersRights settings text answer
+AnswersQuestion settings questions.Sid text arguments answer = AnswersSid settings text answer

@@ -11,6 +11,7 @@ use crate::diagnostic::{fault_text, sddl_fault_text, told_line, word_argument};
 use crate::lint::answer_lint;
 use crate::rights::answer_rights;
 use crate::settings::Settings;
+use crate::sid::answer_sid;
 use crate::sort::answer_sort;
 use crate::verdict::{Form, answer_verdict};
 use sd_answer::{fault_line, sddl_fault_line};
@@ -98,6 +99,7 @@ pub fn answer_question(
         TextCommand::ToBinary => answer_to_binary(alloc, settings, text),
         TextCommand::FromBinary => answer_from_binary(alloc, settings, text),
         TextCommand::Rights => answer_rights(alloc, settings, text),
+        TextCommand::Sid => answer_sid(alloc, settings, text),
     }
 }
 

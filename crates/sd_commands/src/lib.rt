@@ -28,6 +28,7 @@ mod pointer;
 mod rights;
 mod risks;
 mod settings;
+mod sid;
 mod sort;
 mod value;
 mod verdict;

@@ -101,6 +101,7 @@ pub fn argument_name(argument: Argument) -> &'static str
         Argument::Bytes => "BYTES",
         Argument::User => "USER",
         Argument::Mask => "MASK",
+        Argument::Sid => "SID",
         Argument::Word | Argument::Group => "WORD",
         Argument::Workers => "N",
         Argument::Command => "COMMAND",

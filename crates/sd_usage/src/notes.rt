@@ -15,6 +15,7 @@ pub(crate) fn notes_of(command: CommandName) -> &'static str {
         CommandName::Ask(TextCommand::ToBinary) => TO_BINARY_NOTES,
         CommandName::Ask(TextCommand::FromBinary) => FROM_BINARY_NOTES,
         CommandName::Ask(TextCommand::Rights) => RIGHTS_NOTES,
+        CommandName::Ask(TextCommand::Sid) => SID_NOTES,
         CommandName::Script => SCRIPT_NOTES,
         CommandName::Serve => SERVE_NOTES,
         CommandName::Audit => AUDIT_NOTES,
@@ -171,6 +172,15 @@ joined by '+', as 'Read & execute' or FR+DELETE.
 
 Statuses:
   0  the line was printed
+  1  an invalid argument
+  2  the arguments aren't a valid command line
+  3  out of memory, or an output error";
+
+const SID_NOTES: &str = "\
+A first '--' after 'sid' is dropped. Options go before 'sid': 'sdstore help' lists them.
+
+Statuses:
+  0  the SID was printed
   1  an invalid argument
   2  the arguments aren't a valid command line
   3  out of memory, or an output error";

@@ -70,3 +70,10 @@ pub(crate) const RIGHTS_OPTIONS: &[OptionName] = &[
     OptionName::Json,
     OptionName::Caret,
 ];
+
+pub(crate) const SID_OPTIONS: &[OptionName] = &[
+    OptionName::Domain,
+    OptionName::Aliases,
+    OptionName::Json,
+    OptionName::Caret,
+];

@@ -58,6 +58,8 @@ pub enum TextCommand {
     FromBinary,
     /// `rights`.
     Rights,
+    /// `sid`.
+    Sid,
 }
 
 /// An option before a command.
@@ -155,6 +157,8 @@ pub enum Argument {
     User,
     /// `MASK`: an access mask ([MS-DTYP] 2.4.3).
     Mask,
+    /// `SID`: a SID ([MS-DTYP] 2.4.2.1).
+    Sid,
     /// `WORD`: a group, a restricting SID or a privilege.
     Word,
     /// `WORD`: a group that every token in question has.

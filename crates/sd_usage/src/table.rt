@@ -1,7 +1,8 @@
 //! The table of commands and options. Nothing else says which arguments are a command line.
 
 use crate::options::{
-    BYTES_OPTIONS, LINT_OPTIONS, NAMED_TEXT_OPTIONS, RIGHTS_OPTIONS, SCRIPT_OPTIONS, TEXT_OPTIONS,
+    BYTES_OPTIONS, LINT_OPTIONS, NAMED_TEXT_OPTIONS, RIGHTS_OPTIONS, SCRIPT_OPTIONS, SID_OPTIONS,
+    TEXT_OPTIONS,
 };
 use crate::row::{
     Argument, Arguments, Command, CommandName, CommandRow, Flag, Flags, OptionName, OptionRow,
@@ -130,6 +131,18 @@ sdstore verdict 'D:(D;;0x2;;;S-1-5-21-1-2-3-1001)(A;;0x1f01ff;;;S-1-5-21-1-2-3-1
         RIGHTS_OPTIONS,
         "Prints the names of the rights of an access mask",
         "sdstore rights 0x1301bf",
+    ),
+    (
+        "sid",
+        Command {
+            name: CommandName::Ask(TextCommand::Sid),
+            flags: Flags::Nothing,
+            arguments: Arguments::One(Argument::Sid),
+            repeated: None,
+        },
+        SID_OPTIONS,
+        "Prints a SID in full",
+        "sdstore sid BA",
     ),
     (
         "script",
