@@ -107,7 +107,7 @@ fn gathered<J: Naming>(
         → count ≤ i + length (slice_index_or checkers.now i d).drawn * length checkers.now }
     ensures count { IfOk result (λ answers. vec_len answers ≡ count) }
     ensures dealt { IfOk result (λ answers. IsDealt checkers.now answers.items) }
-    ensures memory { IfErr result (λ e. e ≡ Memory) }
+    ensures memory { IfErr result (λ e. e ≡ failed.Memory) }
 {
     let mut answers = Vec::with_capacity(alloc, count).map_err(|_| AuditError::Memory)?;
     for place in 0..count {
