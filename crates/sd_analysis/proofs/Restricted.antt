@@ -101,16 +101,18 @@ owned_alone : (parts : Parts) (base : List (SidValue × GroupState)) (s : SidVal
 owned_alone parts base s denied b =
     ap (λ x. (x && not (limits_owner parts.dacl)) && (b == 17 || b == 18)) (sym (owner_alone base s denied parts.owner))
 
-pub worth_rest : (case : Case) (pass : Pass) (demand : Demand) (granted owned worth : ℕ) (s : SidValue) (denied : Option SidValue) (b : ℕ) → b < 21
-    → worth ≡ mask_of (λ k. holds granted k && holds owned k) 32
-    → holds owned b ≡ owns (old_of case) (sids_stand pass case.base.now (record { allowed = s; denied = None })) b
+pub worth_rest : (case : Case) (pass : Pass) (demand : Demand) (granted owned worth : ℕ) (alone : PassSids) (denied : Option SidValue) (b : ℕ) → b < 21
+    → alone.denied ≡ None → worth ≡ mask_of (λ k. holds granted k && holds owned k) 32
+    → holds owned b ≡ owns (old_of case) (sids_stand pass case.base.now alone) b
     → is_rest pass demand ≡ true → holds granted b ≡ true
-    → IsSought case pass demand (record { allowed = s; denied = denied }) b
+    → IsSought case pass demand (record { allowed = alone.allowed; denied = denied }) b
     → holds worth b ≡ true
-worth_rest case First demand granted owned worth s denied b low is is_owned rest h sought =
+worth_rest case First demand granted owned worth alone denied b low none is is_owned rest h sought =
     ap (λ m. holds m b) is
-    ∙ both_in granted owned b (omega (arith, low)) h (is_owned ∙ owned_alone (old_of case) case.base.now s denied b ∙ sought rest)
-worth_rest case Second demand granted owned worth s denied b low is is_owned rest h sought = absurd (false≢true rest)
+    ∙ both_in granted owned b (omega (arith, low)) h
+    (is_owned ∙ ap (λ d. owns (old_of case) (sids_stand First case.base.now (record { allowed = alone.allowed; denied = d })) b) none
+    ∙ owned_alone (old_of case) case.base.now alone.allowed denied b ∙ sought rest)
+worth_rest case Second demand granted owned worth alone denied b low none is is_owned rest h sought = absurd (false≢true rest)
 
 -- where no unrestricted token gains the bit, the old descriptor grants it as the owner's to whoever meets the rest
 pub sought : (case : Case) (pass : Pass) (demand : Demand) (sids : PassSids) (b : ℕ)

@@ -3,7 +3,7 @@ use Rattle.std.proofs.Common.{◌≡◌, ℕ, suc, zero, ◌<◌, ◌≤◌, ◌
 use Rattle.std.specs.List.{fold}
 use Rattle.std.specs.Option.{is_some}
 use Rattle.std.proofs.lemmas.Bool.{agree_below_at, and_from, and_left, and_right, cases_Bool, cases_eq, cond-false, cond-true, eq-eqb, eqb-true, false_from_ne_true, false≢true, lt-ltb, ne_eqb, or_cases, or_left, or_right}
-use Rattle.std.proofs.lemmas.List.{drop_all, drop_more, get_or-set_other, get_or_read, map-append, take_more}
+use Rattle.std.proofs.lemmas.List.{drop_all, drop_more, get_or-set_other, get_or_read}
 use Rattle.std.proofs.lemmas.Grind.{get_or-set_at}
 use Rattle.sd_sid.specs.Mask.{holds, mask_of}
 use Rattle.sd_sid.specs.Mapping.{MappingValue, mapped}
@@ -21,8 +21,8 @@ use Rattle.sd_check.specs.declared.grounds.Pass.TheVariants.{First, Second}
 use Rattle.sd_check.specs.declared.token.GroupState.{GroupState}
 use Rattle.sd_check.specs.declared.token.GroupState.TheVariants.{DenyOnly}
 use Rattle.sd_analysis.specs.Sufficient.{Parts, entries_or_none, is_among}
-use Rattle.sd_analysis.specs.Passes.{about, lists}
-use Rattle.sd_analysis.specs.Table.{AreShares, IsBeside, IsListing, Point, applies_in, common_of, counts_in, first_point, listed_of, nothing_decided, place_in, point_after, point_at, point_moved, row_for, row_of, share_after, stand_with}
+use Rattle.sd_analysis.specs.Passes.{about, lists, sids_stand}
+use Rattle.sd_analysis.specs.Table.{AreShares, IsBeside, IsListing, Point, applies_in, common_of, counts_in, first_point, listed_of, nothing_decided, place_in, point_after, point_at, point_moved, row_for, row_of, share_after, sids_of}
 use Rattle.sd_analysis.specs.declared.compare_table.Listing.{Listing}
 use Rattle.sd_analysis.specs.declared.compare_table.Role.{Role}
 use Rattle.sd_analysis.specs.declared.compare_table.Row.{Row}
@@ -142,14 +142,6 @@ pub among_right : (xs ys : List SidValue) (s : SidValue) → is_among ys s ≡ t
 among_right [] ys s h = h
 among_right (x ∷ xs) ys s h = or_right _ _ (among_right xs ys s h)
 
--- ---- a list that is made element by element
-
-pub mapped_more : {X Y : Type 0} (f : X → Y) (xs : List X) (i : ℕ) (x : X) (ys zs : List Y) → i < length xs → x ≡ get_or xs i x
-    → ys ≡ map f (take i xs) → zs ≡ ys ++ f x ∷ [] → zs ≡ map f (take (i + 1) xs)
-mapped_more f xs i x ys zs low is so_far one_more =
-    one_more ∙ ap (λ ws. ws ++ f x ∷ []) so_far ∙ sym (map-append f (take i xs) (x ∷ []))
-    ∙ ap (map f) (ap (λ y. take i xs ++ y ∷ []) is ∙ sym (take_more xs i x low))
-
 -- ---- whom an entry is for
 
 shuffled : (n s m : Bool) → ((n && s) && m) ≡ ((n && m) && s)
@@ -185,7 +177,7 @@ module _ (g : MappingValue) (base : List (SidValue × GroupState)) (sids : List 
   -- an entry that speaks of x counts where its place does
   stands_at : (pass : Pass) (beside : Option SidValue) (at : Option ℕ) → IsBeside sids beside at → (s : SidValue) → is_among sids s ≡ true
       → (e : Ace) (x : SidValue)
-      → stand_with pass base beside s e.kind x
+      → sids_stand pass base (sids_of beside s) e.kind x
       ≡ (applies_in pass at (row_for g base sids (Some x) e) || (counts_in pass at e.kind && (place_in sids x == place_in sids s)))
   stands_at First None at is s among e x =
       alone_first (same_sid s x) (a_group_stands_for base e.kind x)
@@ -207,7 +199,7 @@ module _ (g : MappingValue) (base : List (SidValue × GroupState)) (sids : List 
 
   row_decides_for : (pass : Pass) (beside : Option SidValue) (at : Option ℕ) → IsBeside sids beside at → (s : SidValue) → is_among sids s ≡ true
       → (e : Ace) (b : ℕ) (o : Option SidValue)
-      → ((not (is_inherit_only e) && about (stand_with pass base beside s) e.kind o) && holds (mapped g e.mask) b)
+      → ((not (is_inherit_only e) && about (sids_stand pass base (sids_of beside s)) e.kind o) && holds (mapped g e.mask) b)
       ≡ (holds (row_for g base sids o e).mask b
       && (applies_in pass at (row_for g base sids o e) || (counts_in pass at e.kind && ((row_for g base sids o e).place == place_in sids s))))
   row_decides_for pass beside at is s among e b None =
@@ -381,7 +373,7 @@ first_of false e o = refl
 module _ (g : MappingValue) (base : List (SidValue × GroupState)) (sids : List SidValue) (owner : Option SidValue) (role : Role)
     (beside : Option SidValue) (is : IsBeside sids beside role.beside) (s : SidValue) (among : is_among sids s ≡ true) (b : ℕ) (low : b < 32) where
   abbrev who : AceKind → SidValue → Bool
-  who kind x = about (stand_with role.pass base beside s) kind (subject owner x)
+  who kind x = about (sids_stand role.pass base (sids_of beside s)) kind (subject owner x)
 
   walked : (es : List Ace) (p : Point) → IsApart p b
       → holds (listed_of (fold (point_after role (place_in sids s)) p (map (row_of g base sids owner) es))) b
@@ -420,14 +412,14 @@ module _ (g : MappingValue) (base : List (SidValue × GroupState)) (sids : List 
     (beside : Option SidValue) (is : IsBeside sids beside role.beside) (s : SidValue) (among : is_among sids s ≡ true) (b : ℕ) (low : b < 21) where
   walk_lists : (owner : Option SidValue) (dacl : Option (List Ace))
       → holds (listed_of (fold (point_after role (place_in sids s)) (first_point (is_some dacl)) (map (row_of g base sids owner) (entries_or_none dacl)))) b
-      ≡ lists g (record { owner = owner; dacl = dacl }) (stand_with role.pass base beside s) b
+      ≡ lists g (record { owner = owner; dacl = dacl }) (sids_stand role.pass base (sids_of beside s)) b
   walk_lists owner None =
       walked g base sids owner role beside is s among b (omega arith) [] (first_point false) (start_apart false b low)
       ∙ none_starts b low _ ∙ sym (lt-ltb b 21 low)
   walk_lists owner (Some es) =
       walked g base sids owner role beside is s among b (omega arith) es (first_point true) (start_apart true b low)
       ∙ list_starts b low _
-      ∙ sym (ap (λ x. x && is_allowed_by (first g (λ kind x. about (stand_with role.pass base beside s) kind (subject owner x)) es b)) (lt-ltb b 21 low))
+      ∙ sym (ap (λ x. x && is_allowed_by (first g (λ kind x. about (sids_stand role.pass base (sids_of beside s)) kind (subject owner x)) es b)) (lt-ltb b 21 low))
 
 pub shares_are : (g : MappingValue) (base : List (SidValue × GroupState)) (sids : List SidValue) (parts : Parts) (listing : Listing) (role : Role)
     (beside : Option SidValue) (shares : Shares) → IsListing g base sids parts listing → IsBeside sids beside role.beside
