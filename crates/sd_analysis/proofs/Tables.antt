@@ -1,10 +1,9 @@
 -- One walk over a list says of each SID what the list grants with it.
-use Rattle.std.proofs.Common.{◌≡◌, ℕ, suc, zero, ◌<◌, ◌≤◌, ◌+◌, Bool, true, false, not, ◌&&◌, ◌||◌, ◌==◌, cond, List, [], ◌∷◌, ◌++◌, length, get_or, set, take, drop, map, Option, Some, None, ◌⊎◌, inl, inr, refl, sym, ◌∙◌, ap, arith}
+use Rattle.std.proofs.Common.{◌≡◌, ℕ, suc, zero, ◌<◌, Bool, true, false, not, ◌&&◌, ◌||◌, ◌==◌, cond, List, [], ◌∷◌, ◌++◌, length, get_or, take, map, Option, Some, None, ◌⊎◌, inl, inr, refl, sym, ◌∙◌, ap, arith}
 use Rattle.std.specs.List.{fold}
 use Rattle.std.specs.Option.{is_some}
-use Rattle.std.proofs.lemmas.Bool.{agree_below_at, and_from, and_left, and_right, cases_Bool, cases_eq, cond-false, cond-true, eq-eqb, eqb-true, false_from_ne_true, false≢true, lt-ltb, ne_eqb, or_cases, or_left, or_right}
-use Rattle.std.proofs.lemmas.List.{drop_all, drop_more, get_or-set_other, get_or_read}
-use Rattle.std.proofs.lemmas.Grind.{get_or-set_at}
+use Rattle.std.proofs.lemmas.Bool.{agree_below_at, and_right, cases_Bool, cond-false, cond-true, eq-eqb, eqb-true, false_from_ne_true, false≢true, lt-ltb, ne_eqb, or_cases, or_left, or_right}
+use Rattle.std.proofs.lemmas.List.{get_or_read}
 use Rattle.sd_sid.specs.Mask.{holds, mask_of}
 use Rattle.sd_sid.specs.Mapping.{MappingValue, mapped}
 use Rattle.sd_sid.specs.Sid.{SidValue, same_sid}
@@ -37,29 +36,6 @@ place_here one s sids h = cond-true (same_sid one s) 0 (suc (place_in sids s)) h
 
 pub place_next : (one s : SidValue) (sids : List SidValue) → same_sid one s ≡ false → place_in (one ∷ sids) s ≡ suc (place_in sids s)
 place_next one s sids h = cond-false (same_sid one s) 0 (suc (place_in sids s)) h
-
-at_index : (sids : List SidValue) (i : ℕ) (one s : SidValue) → i < length sids → one ≡ get_or sids i one
-    → place_in (drop i sids) s ≡ place_in (one ∷ drop (i + 1) sids) s
-at_index sids i one s low is =
-    ap (λ xs. place_in xs s) (drop_more sids i one low ∙ ap (λ (x : SidValue). x ∷ drop (i + 1) sids) (sym is))
-
-pub place_found : (sids : List SidValue) (i : ℕ) (one s : SidValue) → i < length sids → one ≡ get_or sids i one → same_sid one s ≡ true
-    → place_in sids s ≡ i + place_in (drop i sids) s → i ≡ place_in sids s
-place_found sids i one s low is h so_far =
-    let none : place_in (drop i sids) s ≡ 0 = at_index sids i one s low is ∙ place_here one s (drop (i + 1) sids) h in
-    omega (arith, so_far, none)
-
-pub place_more : (sids : List SidValue) (i : ℕ) (one s : SidValue) → i < length sids → one ≡ get_or sids i one → same_sid one s ≡ false
-    → place_in sids s ≡ i + place_in (drop i sids) s → place_in sids s ≡ (i + 1) + place_in (drop (i + 1) sids) s
-place_more sids i one s low is h so_far =
-    let next : place_in (drop i sids) s ≡ suc (place_in (drop (i + 1) sids) s) = at_index sids i one s low is ∙ place_next one s (drop (i + 1) sids) h in
-    omega (arith, so_far, next)
-
-pub place_end : (sids : List SidValue) (i : ℕ) (s : SidValue) → length sids ≤ i → i ≤ length sids
-    → place_in sids s ≡ i + place_in (drop i sids) s → length sids ≡ place_in sids s
-place_end sids i s past within so_far =
-    let none : place_in (drop i sids) s ≡ 0 = ap (λ xs. place_in xs s) (drop_all i sids past) in
-    omega (arith, so_far, none, past, within)
 
 pub place_low : (sids : List SidValue) (s : SidValue) → is_among sids s ≡ true → place_in sids s < length sids
 place_low [] s h = absurd (false≢true h)
@@ -447,56 +423,3 @@ listed_made shares place own low is common union is_common is_union =
 -- nobody beside
 pub nobody_beside : (sids : List SidValue) → IsBeside sids None None
 nobody_beside sids = record { at = refl; among = λ s is. absurd cc }
-
--- ---- one place of a walk
-
-same_parts : (a b c d : Share) → a ≡ b → c ≡ d → (let p : Point = record { common = a; own = c } in p) ≡ record { common = b; own = d }
-same_parts a b c d is_common is_own = ap (λ (x : Share). (let p : Point = record { common = x; own = c } in p)) is_common ∙ ap (λ (x : Share). (let p : Point = record { common = b; own = x } in p)) is_own
-
-module _ (role : Role) (row : Row) (old new : Shares) where
-  moved_by : (applies counts : Bool) (place : ℕ) → applies_in role.pass role.beside row ≡ applies
-      → (counts_in role.pass role.beside row.kind && (row.place == place)) ≡ counts
-      → point_moved applies counts row (point_at old place) ≡ point_after role place (point_at old place) row
-  moved_by applies counts place is is_counted =
-      ap (λ t. point_moved t counts row (point_at old place)) (sym is)
-      ∙ ap (λ t. point_moved (applies_in role.pass role.beside row) t row (point_at old place)) (sym is_counted)
-
-  -- an entry that applies to all
-  pub takes_common : applies_in role.pass role.beside row ≡ true
-      → new.common ≡ share_after old.common row.mask row.kind → new.own.items ≡ old.own.items
-      → (place : ℕ) → point_at new place ≡ point_after role place (point_at old place) row
-  takes_common applies is_common is_own place =
-      same_parts _ _ _ _ is_common (ap (λ xs. get_or xs place nothing_decided) is_own)
-      ∙ moved_by true (counts_in role.pass role.beside row.kind && (row.place == place)) place applies refl
-
-  -- one that counts where its SID is
-  pub takes_own : (one : Share) → applies_in role.pass role.beside row ≡ false → counts_in role.pass role.beside row.kind ≡ true
-      → row.place < length old.own.items → one ≡ get_or old.own.items row.place one
-      → new.common ≡ old.common → new.own.items ≡ set old.own.items row.place (share_after one (common_of row.mask old.common.undecided) row.kind)
-      → (place : ℕ) → point_at new place ≡ point_after role place (point_at old place) row
-  takes_own one applies counts low is is_common is_own place = elim (cases_eq place row.place) [
-    | inl here ↦
-        same_parts _ _ _ _ is_common
-        (ap (λ xs. get_or xs place nothing_decided) is_own
-        ∙ get_or-set_at old.own.items row.place place (share_after one (common_of row.mask old.common.undecided) row.kind) nothing_decided here low
-        ∙ ap (λ x. share_after x (common_of row.mask old.common.undecided) row.kind)
-        (get_or_read old.own.items row.place one low is nothing_decided ∙ ap (λ i. get_or old.own.items i nothing_decided) (sym here)))
-        ∙ moved_by false true place applies (and_from _ _ counts (eq-eqb row.place place (sym here)))
-    | inr elsewhere ↦
-        same_parts _ _ _ _ is_common
-        (ap (λ xs. get_or xs place nothing_decided) is_own
-        ∙ get_or-set_other old.own.items row.place place (share_after one (common_of row.mask old.common.undecided) row.kind) nothing_decided elsewhere)
-        ∙ moved_by false false place applies (and_right _ _ (ne_eqb row.place place (λ e. elsewhere (sym e))))
-  ]
-
-  -- and one that counts for nobody, or for no SID that has a place
-  pub takes_nothing : applies_in role.pass role.beside row ≡ false
-      → (counts_in role.pass role.beside row.kind ≡ false) ⊎ (length old.own.items ≤ row.place)
-      → new.common ≡ old.common → new.own.items ≡ old.own.items
-      → (place : ℕ) → place < length old.own.items → point_at new place ≡ point_after role place (point_at old place) row
-  takes_nothing applies none is_common is_own place low =
-      same_parts _ _ _ _ is_common (ap (λ xs. get_or xs place nothing_decided) is_own)
-      ∙ moved_by false false place applies (elim none [
-        | inl counts ↦ and_left _ _ counts
-        | inr beyond ↦ and_right _ _ (ne_eqb row.place place (λ e. omega (arith, e, beyond, low)))
-      ])
