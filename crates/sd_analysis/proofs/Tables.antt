@@ -121,33 +121,16 @@ among_right (x ∷ xs) ys s h = or_right _ _ (among_right xs ys s h)
 -- ---- whom an entry is for
 
 shuffled : (n s m : Bool) → ((n && s) && m) ≡ ((n && m) && s)
-shuffled true true true = refl
-shuffled true true false = refl
-shuffled true false true = refl
-shuffled true false false = refl
-shuffled false s m = refl
+shuffled n s m = grind arith
 
 alone_first : (x based : Bool) → (x || based) ≡ ((based || false) || (true && x))
-alone_first true true = refl
-alone_first true false = refl
-alone_first false true = refl
-alone_first false false = refl
+alone_first x based = grind arith
 
 alone_second : (x : Bool) → (x || false) ≡ ((false || false) || (true && x))
-alone_second true = refl
-alone_second false = refl
+alone_second x = grind arith
 
 pair_first : (p x based : Bool) (kind : AceKind) → (p || ((x && counts kind DenyOnly) || based)) ≡ ((based || p) || (not (is_allow kind) && x))
-pair_first true x true kind = refl
-pair_first true x false kind = refl
-pair_first false true true Allow = refl
-pair_first false true true Deny = refl
-pair_first false true false Allow = refl
-pair_first false true false Deny = refl
-pair_first false false true Allow = refl
-pair_first false false true Deny = refl
-pair_first false false false Allow = refl
-pair_first false false false Deny = refl
+pair_first p x based kind = grind arith
 
 module _ (g : MappingValue) (base : List (SidValue × GroupState)) (sids : List SidValue) where
   -- an entry that speaks of x counts where its place does
@@ -204,62 +187,10 @@ turn : (applies counts m allow rest u a v w : Bool) → (a && u) ≡ false
     → granted_with (cond applies (undecided_after u m) u) (cond applies (allowed_after u a m allow) a)
     (cond applies v (cond counts (undecided_after v (m && u)) v)) (cond applies w (cond counts (allowed_after v w (m && u) allow) w)) rest
     ≡ granted_with u a v w (cond (m && (applies || counts)) allow rest)
-turn true t true true rest false true v true apart = refl
-turn true t true true rest false true v false apart = refl
-turn true t true false rest false true v w apart = refl
-turn true t false true rest false true v w apart = refl
-turn true t false false rest false true v w apart = refl
-turn true t true true rest false false v w apart = refl
-turn true t true false rest false false v w apart = refl
-turn true t false true rest false false v w apart = refl
-turn true t false false rest false false v w apart = refl
-turn applies t m allow rest true true v w apart = absurd (false≢true (sym apart))
-turn true t true allow rest true false v true apart = refl
-turn true t true true rest true false true false apart = refl
-turn true t true true rest true false false false apart = refl
-turn true t true false rest true false true false apart = refl
-turn true t true false rest true false false false apart = refl
-turn true t false true rest true false v w apart = refl
-turn true t false false rest true false v w apart = refl
-turn false false true allow rest u a v w apart = refl
-turn false false false allow rest u a v w apart = refl
-turn false true true true rest false a true true apart = refl
-turn false true true true rest false a true false apart = refl
-turn false true true true rest false a false true apart = refl
-turn false true true true rest false a false false apart = refl
-turn false true true false rest false a true true apart = refl
-turn false true true false rest false a true false apart = refl
-turn false true true false rest false a false true apart = refl
-turn false true true false rest false a false false apart = refl
-turn false true false true rest u a true true apart = refl
-turn false true false true rest u a true false apart = refl
-turn false true false true rest u a false true apart = refl
-turn false true false true rest u a false false apart = refl
-turn false true false false rest u a true true apart = refl
-turn false true false false rest u a true false apart = refl
-turn false true false false rest u a false true apart = refl
-turn false true false false rest u a false false apart = refl
-turn false true true true rest true false true true apart = refl
-turn false true true true rest true false true false apart = refl
-turn false true true true rest true false false true apart = refl
-turn false true true true rest true false false false apart = refl
-turn false true true false rest true false true true apart = refl
-turn false true true false rest true false true false apart = refl
-turn false true true false rest true false false true apart = refl
-turn false true true false rest true false false false apart = refl
+turn applies counts m allow rest u a v w apart = grind arith
 
 apart_after : (applies m allow u a : Bool) → (a && u) ≡ false → (cond applies (allowed_after u a m allow) a && cond applies (undecided_after u m) u) ≡ false
-apart_after false m allow u a apart = apart
-apart_after true m allow true true apart = absurd (false≢true (sym apart))
-apart_after true m allow false true apart = refl
-apart_after true true true false false apart = refl
-apart_after true true false false false apart = refl
-apart_after true false true false false apart = refl
-apart_after true false false false false apart = refl
-apart_after true true true true false apart = refl
-apart_after true true false true false apart = refl
-apart_after true false true true false apart = refl
-apart_after true false false true false apart = refl
+apart_after applies m allow u a apart = grind arith
 
 common_held : (m n b : ℕ) → b < 32 → holds (common_of m n) b ≡ (holds m b && holds n b)
 common_held m n b low = holds_place (λ k. holds m k && holds n k) b low
@@ -329,10 +260,7 @@ module _ (row : Row) (p : Point) (b : ℕ) (low : b < 32) (rest : Bool) (apart :
   moved_apart false false = apart
 
 ends : (w x y : Bool) → (w || x) ≡ ((w || x) || (y && false))
-ends true x y = refl
-ends false true y = refl
-ends false false true = refl
-ends false false false = refl
+ends w x y = grind arith
 
 listed_held : (p : Point) (b : ℕ) → b < 32 → holds (listed_of p) b ≡ (holds p.own.allowed b || (holds p.common.allowed b && holds p.own.undecided b))
 listed_held p b low =
