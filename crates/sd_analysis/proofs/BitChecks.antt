@@ -25,8 +25,7 @@ one_missing p b low refused = ne_eqb _ 0 (λ none.
     false≢true (sym (ap (λ n. n == 1) (bit_at-zero b)) ∙ sym (ap (λ n. holds n b) none) ∙ held))
 
 denied_not : (n m : ℕ) (b : Bool) (q : ℕ) → b ≡ false → cond b (Granted q) (Denied n) ≡ Granted m → ⊥
-denied_not n m true q e h = cc
-denied_not n m false q e h = cc
+denied_not n m b q h j = grind arith
 
 pub bit_is_its_check : BitIsItsCheck
 bit_is_its_check owner dacl g t b low =

@@ -1,9 +1,9 @@
 -- What a token is granted, pass by pass; and which demands on its passes make a gain.
-use Rattle.std.proofs.Common.{◌≡◌, ℕ, Bool, true, false, not, ◌&&◌, ◌||◌, ◌==◌, cond, List, ◌∷◌, Option, Some, None, ◌⊎◌, inl, inr, refl, sym, ◌∙◌, ap}
+use Rattle.std.proofs.Common.{arith, ◌≡◌, ℕ, Bool, true, false, not, ◌&&◌, ◌||◌, ◌==◌, cond, List, ◌∷◌, Option, Some, None, ◌⊎◌, inl, inr, refl, sym, ◌∙◌, ap}
 use Rattle.std.specs.List.{list_any}
 use Rattle.std.specs.Option.{option_to_list}
-use Rattle.std.proofs.lemmas.Bool.{and_parts, and_from, or_cases, or_left, or_right, or_parts, or_from, and_left, and_right, false≢true, not-true, not_from_false}
-use Rattle.std.proofs.Math.Bool.{or-false, or_assoc}
+use Rattle.std.proofs.lemmas.Bool.{and_parts, and_from, or_cases, or_from, and_left, false≢true, not-true, not_from_false}
+use Rattle.std.proofs.Math.Bool.{or_assoc}
 use Rattle.std.proofs.Math.Dec.{eqb-suc-zero}
 use Rattle.sd_sid.specs.Mapping.{MappingValue}
 use Rattle.sd_sid.specs.Sid.{SidValue, same_sid}
@@ -43,16 +43,7 @@ abbrev pub in_passes : Bool → Bool → Bool → Bool
 in_passes restricted first second = first && (not restricted || second)
 
 owner_in_passes : (o p r limited place : Bool) → ((in_passes r o p && not limited) && place) ≡ in_passes r ((o && not limited) && place) ((p && not limited) && place)
-owner_in_passes false p r limited place = refl
-owner_in_passes true true true true place = refl
-owner_in_passes true false true true place = refl
-owner_in_passes true true true false true = refl
-owner_in_passes true false true false true = refl
-owner_in_passes true true true false false = refl
-owner_in_passes true false true false false = refl
-owner_in_passes true p false true place = refl
-owner_in_passes true p false false true = refl
-owner_in_passes true p false false false = refl
+owner_in_passes o p r limited place = grind arith
 
 pub granted_in_passes : (g : MappingValue) (parts : Parts) (t : TokenValue) (b : ℕ)
     → is_granted parts.owner parts.dacl g t b
@@ -85,12 +76,10 @@ pick true true false h = (false, (refl, inr (refl, refl)))
 pick true true true h = absurd (false≢true (sym h))
 
 there : (here m2 : Bool) → here ≡ true → not (not here && m2) ≡ true
-there true m2 h = refl
-there false m2 h = absurd (false≢true h)
+there here m2 h = grind arith
 
 second_too : (r first second : Bool) → in_passes r first second ≡ true → r ≡ true → second ≡ true
-second_too true first second h is = (and_parts first second h).1
-second_too false first second h is = absurd (false≢true is)
+second_too r first second h j = grind arith
 
 -- the old descriptor fails in the first pass alone, or the second pass shows the rest
 abbrev pub IsShown : (Demand → Bool) → (Demand → Bool) → Type 0
@@ -132,7 +121,7 @@ shown r l1 l2 n1 n2 m1 m2 q1 q2 by_owner granted not_listed not_owned =
 -- ---- gains
 
 neither : (x y z : Bool) → (x || (y || z)) ≡ false → (x ≡ false) × ((y ≡ false) × (z ≡ false))
-neither x y z h = let outer = or_parts x (y || z) h in let inner = or_parts y z outer.1 in (outer.0, (inner.0, inner.1))
+neither x y z h = grind arith
 
 module _ (g : MappingValue) (old new : Parts) (b : ℕ) where
   abbrev shows : (AceKind → SidValue → Bool) → Demand → Bool
@@ -164,21 +153,18 @@ module _ (g : MappingValue) (old new : Parts) (b : ℕ) where
 -- ---- and back: what the passes of a witness show, it gains
 
 refuse : (here m1 m2 : Bool) → not (here && m1) ≡ true → not (not here && m2) ≡ true → (m1 && m2) ≡ false
-refuse true m1 m2 first second = and_left m1 m2 (not-true m1 first)
-refuse false m1 m2 first second = and_right m1 m2 (not-true m2 second)
+refuse here m1 m2 h j = grind arith
 
 either : (by_owner l1 l2 n1 n2 r : Bool) → in_passes r (cond by_owner n1 l1) (cond by_owner n2 l2) ≡ true
     → (in_passes r l1 l2 || (in_passes r n1 n2 || false)) ≡ true
-either true l1 l2 n1 n2 r h = or_right (in_passes r l1 l2) _ (or_left (in_passes r n1 n2) false h)
-either false l1 l2 n1 n2 r h = or_left (in_passes r l1 l2) _ h
+either by_owner l1 l2 n1 n2 r h = grind arith
 
 unprivileged : (w : Witness) (base : List (SidValue × GroupState)) (b : ℕ) → privileged (token_of base w) b ≡ false
 unprivileged w base b = refl
 
 restricting_is : (allowed : SidValue) (denied : Option SidValue) (s : SidValue)
     → list_any (λ one. same_sid one s) (allowed ∷ option_to_list denied) ≡ (same_sid allowed s || has_sid denied s)
-restricting_is allowed None s = refl
-restricting_is allowed (Some d) s = ap (λ x. same_sid allowed s || x) (or-false (same_sid d s))
+restricting_is allowed denied s = grind arith
 
 module _ (g : MappingValue) (old new : Parts) (base : List (SidValue × GroupState)) (b : ℕ) where
   gain_of : (t : TokenValue) (by_owner : Bool) → privileged t b ≡ false

@@ -1,8 +1,7 @@
 -- Verdicts on all requests are the same just where the same bits are granted.
-use Rattle.std.proofs.Common.{subst, suc, length, [], ◌∷◌, ◌++◌, take, drop, append-nil, ◌≡◌, ℕ, ◌^◌, ◌<◌, ◌≤◌, Bool, true, false, not, ◌&&◌, ◌||◌, ◌==◌, nat_lt, List, Option, Some, None, inl, inr, refl, sym, ◌∙◌, ap, arith, remove}
-use Rattle.std.proofs.Math.Bool.{and-false}
+use Rattle.std.proofs.Common.{subst, suc, length, [], ◌∷◌, ◌++◌, take, drop, append-nil, ◌≡◌, ℕ, ◌^◌, ◌<◌, ◌≤◌, Bool, true, false, not, ◌&&◌, ◌||◌, ◌==◌, nat_lt, List, Option, Some, inl, inr, refl, sym, ◌∙◌, ap, arith, remove}
 use Rattle.std.proofs.Math.Dec.{eqb-suc-zero}
-use Rattle.std.proofs.lemmas.Bool.{and_parts, cases_lt, false≢true, le-ltb, ne_eqb, not-true, or_right}
+use Rattle.std.proofs.lemmas.Bool.{cases_lt, false≢true, le-ltb, or_right}
 use Rattle.std.proofs.lemmas.List.{take_all, drop_all}
 use Rattle.std.proofs.lemmas.List.Elements.{All-head}
 use Rattle.sd_sid.specs.Mask.{holds, mask_of}
@@ -34,9 +33,7 @@ unfolding judged_list
 same_verdicts owner es fewer g t same r = ap (λ p. judged_list g p r) (one_test _ _ same)
 
 both_or_neither : (a b : Bool) → (a ≡ true → b ≡ true) → (b ≡ true → a ≡ true) → a ≡ b
-both_or_neither true b there back = sym (there refl)
-both_or_neither false true there back = back refl
-both_or_neither false false there back = refl
+both_or_neither a b h j = grind arith
 
 -- neither list grants a token more than the other
 pub no_effect : (owner : Option SidValue) (es : List Ace) (g : MappingValue) (base : List (SidValue × GroupState)) (place : ℕ)
@@ -49,9 +46,7 @@ no_effect owner es g base place none_gained none_lost t r has =
 -- from place 21 on no list grants anything, and the owner has nothing
 high_bit : (low first again restricted own limited take security : Bool) (b : ℕ) → low ≡ false → 21 ≤ b
     → (((low && first) && (not restricted || (low && again))) || is_implied (own && not limited) take security b) ≡ is_implied false take security b
-high_bit low first again restricted own limited take security b is high =
-    let owners : (b == 17 || b == 18) ≡ false = rw (ne_eqb b 17 (λ e. absurd (omega arith)), ne_eqb b 18 (λ e. absurd (omega arith))) refl in
-    rw (is, owners, and-false (own && not limited)) refl
+high_bit low first again restricted own limited take security b h j = grind arith
 
 same_high : (owner : Option SidValue) (es others : List Ace) (g : MappingValue) (t : TokenValue) (b : ℕ) → 21 ≤ b
     → is_granted owner (Some es) g t b ≡ is_granted owner (Some others) g t b
@@ -77,7 +72,7 @@ two_verdicts owner es others g t b granted refused same =
     false≢true (sym refused ∙ (bit_is_its_check owner (Some others) g t b low).0 (sym same ∙ here))
 
 gained_parts : (now before : Bool) → (now && not before) ≡ true → (now ≡ true) × (before ≡ false)
-gained_parts now before h = let parts = and_parts now (not before) h in (parts.0, not-true before parts.1)
+gained_parts now before h = grind arith
 
 -- a token that gains a bit without the entry, or loses one
 pub effect_gains : (owner : Option SidValue) (es : List Ace) (g : MappingValue) (base : List (SidValue × GroupState)) (place : ℕ) (t : TokenValue) (b : ℕ)
@@ -108,8 +103,7 @@ whole owner es = record { owner = owner; dacl = Some es }
 
 still_there : (base : List (SidValue × GroupState)) (denied : Option SidValue) (kind : AceKind) (s : SidValue)
     → a_group_stands_for base kind s ≡ true → a_group_stands_for (with_denied base denied) kind s ≡ true
-still_there base None kind s h = h
-still_there base (Some d) kind s h = or_right _ _ h
+still_there base denied kind s h = grind arith
 
 -- a token has the base where its groups are the base, or that and one more
 pub has_base_with : (base : List (SidValue × GroupState)) (denied : Option SidValue) (t : TokenValue) → t.groups ≡ with_denied base denied → HasBase base t

@@ -1,5 +1,5 @@
 -- The SIDs of a pass that decide: with these alone it shows what it showed.
-use Rattle.std.proofs.Common.{◌≡◌, ℕ, Bool, true, false, not, ◌&&◌, ◌||◌, nat_lt, cond, List, [], ◌∷◌, Option, Some, None, ◌⊎◌, inl, inr, refl, sym, ◌∙◌, ap}
+use Rattle.std.proofs.Common.{arith, ◌≡◌, ℕ, Bool, true, false, not, ◌&&◌, ◌||◌, nat_lt, cond, List, [], ◌∷◌, Option, Some, None, ◌⊎◌, inl, inr, refl, sym, ◌∙◌, ap}
 use Rattle.std.specs.List.{AllByRecursion, list_any, filter_map, cons_option}
 use Rattle.std.specs.Option.{option_to_list}
 use Rattle.std.proofs.lemmas.Bool.{and_parts, and_from, or_left, or_right, cases_Bool, false≢true, not_from_false}
@@ -17,12 +17,10 @@ use Rattle.sd_analysis.specs.Passes.{about, lists}
 use Rattle.sd_analysis.proofs.Narrowed.{IsLess, IsIn, allow_decides, none_allowed}
 
 is_allow-Allow : (kind : AceKind) → is_allow kind ≡ true → kind ≡ Allow
-is_allow-Allow Allow h = refl
-is_allow-Allow Deny h = absurd (false≢true h)
+is_allow-Allow kind h = grind arith
 
 is_allow-Deny : (kind : AceKind) → is_allow kind ≡ false → kind ≡ Deny
-is_allow-Deny Allow h = absurd (false≢true (sym h))
-is_allow-Deny Deny h = refl
+is_allow-Deny kind h = grind arith
 
 pub about_some : (stands : AceKind → SidValue → Bool) (kind : AceKind) (who : Option SidValue) → about stands kind who ≡ true
     → (s : SidValue) × ((who ≡ Some s) × (stands kind s ≡ true))
@@ -64,12 +62,10 @@ IsWithin parts before now = (kind : AceKind) (s : SidValue) → is_named parts s
 pub about_less : (before now : AceKind → SidValue → Bool) (kind : AceKind) (who : Option SidValue)
     → ((s : SidValue) → who ≡ Some s → now kind s ≡ true → before kind s ≡ true)
     → about now kind who ≡ true → about before kind who ≡ true
-about_less before now kind None h is = is
-about_less before now kind (Some s) h is = h s refl is
+about_less before now kind who h j = grind arith
 
 pub owner_named : (owner : Option SidValue) (dacl : Option (List Ace)) (s : SidValue) → owner ≡ Some s → is_named (record { owner = owner; dacl = dacl }) s ≡ true
-owner_named None dacl s is = absurd cc
-owner_named (Some o) dacl s is = let same : o ≡ s = cc in or_left _ _ (ap (λ x. same_sid o x) (sym same) ∙ same_sid-itself o)
+owner_named owner dacl s h = grind (arith, same_sid-itself)
 
 -- of whom an entry speaks, the descriptor names
 pub subject_named : (owner : Option SidValue) (es : List Ace) (e : Ace) (s : SidValue) → IsIn e es → subject owner e.sid ≡ Some s

@@ -1,7 +1,7 @@
 -- What a pass shows of two descriptors, two SIDs show.
 use Rattle.std.proofs.Common.{◌≡◌, ℕ, Bool, true, false, not, ◌&&◌, ◌||◌, ◌==◌, nat_lt, cond, List, [], ◌∷◌, Option, Some, None, ◌⊎◌, inl, inr, refl, sym, ◌∙◌, ap, arith}
 use Rattle.std.specs.List.{list_any}
-use Rattle.std.proofs.lemmas.Bool.{and_parts, and_from, or_cases, or_left, or_right, false≢true, not-true, eqb-true, lt-ltb, and_right, not_from_false, false_from_ne_true}
+use Rattle.std.proofs.lemmas.Bool.{and_parts, and_from, or_cases, or_left, or_right, false≢true, not-true, and_right, not_from_false, false_from_ne_true}
 use Rattle.sd_sid.specs.Mapping.{MappingValue}
 use Rattle.sd_sid.specs.Sid.{SidValue, same_sid}
 use Rattle.sd_sid.proofs.Compared.{same_sid-true, same_sid-itself}
@@ -13,7 +13,6 @@ use Rattle.sd_check.specs.Token.{TokenValue, counts, a_group_stands_for, stands_
 use Rattle.sd_check.specs.declared.grounds.Pass.{Pass}
 use Rattle.sd_check.specs.declared.grounds.Pass.TheVariants.{First, Second}
 use Rattle.sd_check.specs.declared.token.GroupState.{GroupState}
-use Rattle.sd_check.specs.declared.token.GroupState.TheVariants.{Enabled, DenyOnly, Disabled}
 use Rattle.sd_analysis.specs.Base.{HasBase}
 use Rattle.sd_analysis.specs.Sufficient.{Parts, with_denied, is_named, has_sid, allowed_sids, denied_sids, is_among, MayDecide}
 use Rattle.sd_analysis.specs.Passes.{about, lists, owns, meets, stands_in, sids_stand}
@@ -24,10 +23,7 @@ use Rattle.sd_analysis.proofs.Kept.{about_less, owner_named, IsWithin, keeps_lis
 -- ---- the owner
 
 low_places : (b : ℕ) → (b == 17 || b == 18) ≡ true → nat_lt b 21 ≡ true
-low_places b h = elim (or_cases (b == 17) (b == 18) h) [
-  | inl is ↦ let e : b ≡ 17 = eqb-true b 17 is in lt-ltb b 21 (omega arith)
-  | inr is ↦ let e : b ≡ 18 = eqb-true b 18 is in lt-ltb b 21 (omega arith)
-]
+low_places b h = grind arith
 
 -- the owner's SID, through which the descriptor grants the bit as the owner's
 keeps_owned : (owner : Option SidValue) (dacl : Option (List Ace)) (other : SidValue) (stands : AceKind → SidValue → Bool) (b : ℕ)
@@ -73,16 +69,13 @@ pub record Kept (g : MappingValue) (old new : Parts) (demand : Demand) (other : 
 
 lists_low : (g : MappingValue) (owner : Option SidValue) (dacl : Option (List Ace)) (stands : AceKind → SidValue → Bool) (b : ℕ)
     → lists g (record { owner = owner; dacl = dacl }) stands b ≡ true → nat_lt b 21 ≡ true
-lists_low g owner None stands b h = h
-lists_low g owner (Some es) stands b h = (and_parts (nat_lt b 21) _ h).0
+lists_low g owner dacl stands b h = grind arith
 
 pub not_and : (x y : Bool) → not (x && y) ≡ true → x ≡ true → y ≡ false
-not_and true y h is = not-true y h
-not_and false y h is = absurd (false≢true is)
+not_and x y h j = grind arith
 
 not_and_from : (x y : Bool) → (x ≡ true → y ≡ false) → not (x && y) ≡ true
-not_and_from true y h = not_from_false y (h refl)
-not_and_from false y h = refl
+not_and_from x y h = grind arith
 
 module _ (g : MappingValue) (old new : Parts) (other : SidValue) (stands : AceKind → SidValue → Bool) (b : ℕ) where
   keeps_granted : (by_owner : Bool) → cond by_owner (owns new stands b) (lists g new stands b) ≡ true
@@ -141,10 +134,7 @@ any_more p q h (x ∷ xs) is = elim (or_cases (p x) (list_any p xs) is) [
 ]
 
 counts_more : (same : Bool) (state : GroupState) → (same && counts Allow state) ≡ true → (same && counts Deny state) ≡ true
-counts_more same Enabled h = h
-counts_more true DenyOnly h = refl
-counts_more false DenyOnly h = h
-counts_more same Disabled h = h
+counts_more same state h = grind arith
 
 -- who stands for a SID in allows does in denies
 stands_more : (pass : Pass) (t : TokenValue) (kind : AceKind) (s : SidValue) → stands_in pass t Allow s ≡ true → stands_in pass t kind s ≡ true
@@ -197,13 +187,10 @@ module _ (base : List (SidValue × GroupState)) (t : TokenValue) (has : HasBase 
     ]
 
 allowed_stands : (pass : Pass) (base : List (SidValue × GroupState)) (sids : PassSids) → sids_stand pass base sids Allow sids.allowed ≡ true
-allowed_stands First base sids = or_left _ _ (same_sid-itself sids.allowed)
-allowed_stands Second base sids = or_left _ _ (same_sid-itself sids.allowed)
+allowed_stands pass base sids = grind (arith, same_sid-itself)
 
 denied_stands : (pass : Pass) (base : List (SidValue × GroupState)) (sids : PassSids) (s : SidValue) → sids.denied ≡ Some s → sids_stand pass base sids Deny s ≡ true
-denied_stands First base sids s is =
-    or_right (same_sid sids.allowed s) _ (ap (λ d. a_group_stands_for (with_denied base d) Deny s) is ∙ or_left _ _ (and_from _ _ (same_sid-itself s) refl))
-denied_stands Second base sids s is = or_right (same_sid sids.allowed s) _ (ap (λ d. has_sid d s) is ∙ same_sid-itself s)
+denied_stands pass base sids s h = grind (arith, same_sid-itself)
 
 -- what a token shows in a pass, the base shows with two SIDs of those that may decide
 pub two_suffice : (g : MappingValue) (old new : Parts) (base : List (SidValue × GroupState)) (t : TokenValue) (other : SidValue) (b : ℕ) (pass : Pass) (demand : Demand)

@@ -14,11 +14,7 @@ use Rattle.sd_analysis.specs.declared.compare_report.Report.{Report}
 use Rattle.sd_analysis.specs.declared.witness.Witness.{Witness}
 
 swap_last : (a q r : Bool) → ((a || q) || r) ≡ ((a || r) || q)
-swap_last true q r = refl
-swap_last false true true = refl
-swap_last false true false = refl
-swap_last false false true = refl
-swap_last false false false = refl
+swap_last a q r = grind arith
 
 -- where an element is written that passes as it did, or where q does
 any_set : {X : Type 0} (p : X → Bool) (q : Bool) (xs : List X) (i : ℕ) (y d : X) → i < length xs → p y ≡ (p (get_or xs i d) || q)

@@ -1,8 +1,8 @@
 -- Rights that a list decides alike.
-use Rattle.std.proofs.Common.{add-zero, count_by, ◌≡◌, ℕ, ◌+◌, ◌<◌, Bool, true, false, not, ◌&&◌, ◌||◌, ◌==◌, nat_lt, cond, List, [], ◌∷◌, ◌++◌, length, get_or, take, Option, Some, None, inl, inr, sym, refl, ◌∙◌, ap, arith, Bor}
+use Rattle.std.proofs.Common.{count_by, ◌≡◌, ℕ, ◌+◌, ◌<◌, Bool, true, false, not, ◌&&◌, ◌||◌, ◌==◌, nat_lt, cond, List, [], ◌∷◌, ◌++◌, length, get_or, take, Option, Some, None, inl, inr, sym, refl, ◌∙◌, ap, arith, Bor}
 use Rattle.std.specs.Bool.{beq}
 use Rattle.std.specs.List.{list_all, list_any}
-use Rattle.std.proofs.Math.Bool.{and-false, and-true, or-false}
+use Rattle.std.proofs.Math.Bool.{and-false, and-true}
 use Rattle.std.proofs.lemmas.Bool.{agree_below_at, and_from, and_parts, cases_lt, lt-ltb, ltb-true}
 use Rattle.std.proofs.lemmas.List.Elements.{All-push}
 use Rattle.std.proofs.lemmas.List.Folds.{list_all_more, list_any-append}
@@ -36,30 +36,20 @@ rights_place b low = agree_below_at (holds 0x001FFFFF) (λ k. nat_lt k 21) 32 b 
 -- ---- the side of a right
 
 same_itself : (x : Bool) → beq x x ≡ true
-same_itself true = refl
-same_itself false = refl
+same_itself x = grind arith
 
 same_is : (x y : Bool) → beq x y ≡ true → x ≡ y
-same_is true true h = refl
-same_is true false h = absurd cc
-same_is false true h = absurd cc
-same_is false false h = refl
+same_is x y h = grind arith
 
 with_it : (x y : Bool) → y ≡ true → x ≡ beq x y
-with_it true true h = refl
-with_it false true h = refl
-with_it x false h = absurd cc
+with_it x y h = grind arith
 
 without_it : (x y : Bool) → y ≡ false → not x ≡ beq x y
-without_it true false h = refl
-without_it false false h = refl
-without_it x true h = absurd cc
+without_it x y h = grind arith
 
 pub side_with : (rights named place r b : ℕ) → r ≡ mask_of (λ k. holds rights k && holds named k) 32 → holds named place ≡ true → b < 32
     → holds r b ≡ (holds rights b && beq (holds named b) (holds named place))
-side_with rights named place r b is side low =
-    ap (λ n. holds n b) is ∙ holds_place (λ k. holds rights k && holds named k) b low
-    ∙ ap (λ x. holds rights b && x) (with_it (holds named b) (holds named place) side)
+side_with rights named place r b h j k2 = grind (arith, holds_place)
 
 pub side_without : (rights named place r b : ℕ) → r ≡ mask_of (λ k. holds rights k && not (holds named k)) 32 → holds named place ≡ false → b < 32
     → holds r b ≡ (holds rights b && beq (holds named b) (holds named place))
@@ -80,13 +70,10 @@ alike_first among place r b low_place low is =
 
 named_places : (g : MappingValue) (e : Ace) (waits : Bool) (mask named k : ℕ) → waits ≡ is_inherit_only e → mask ≡ mapped g e.mask → named ≡ cond (not waits) mask 0
     → holds named k ≡ names g k e
-named_places g e waits mask named k is_waiting is_mask is =
-    ap (λ n. holds n k) is ∙ holds_when (not waits) mask k ∙ ap (λ x. not x && holds mask k) is_waiting ∙ ap (λ n. not (is_inherit_only e) && holds n k) is_mask
+named_places g e waits mask named k h j k2 = grind (arith, holds_when)
 
 and_then : (a b c d : Bool) → ((a && (b && c)) && d) ≡ (a && (b && (c && d)))
-and_then true true c d = refl
-and_then true false c d = refl
-and_then false b c d = refl
+and_then a b c d = grind arith
 
 pub alike_next : (g : MappingValue) (es : List Ace) (i : ℕ) (e : Ace) (among front waits : Bool) (mask named place old r b : ℕ) → i < length es → e ≡ get_or es i e
     → waits ≡ is_inherit_only e → mask ≡ mapped g e.mask → named ≡ cond (not waits) mask 0
@@ -135,25 +122,12 @@ module _ (owner : Option SidValue) (g : MappingValue) (b place : ℕ) (t : Token
 -- ---- what a token without restriction and privileges is granted
 
 stands_where : (t : TokenValue) (owner : Option SidValue) (x : Bool) → stands_for_subject t Allow (cond x owner None) ≡ (stands_for_subject t Allow owner && x)
-stands_where t owner true = sym (and-true _)
-stands_where t owner false = sym (and-false _)
+stands_where t owner x = grind arith
 
 plain_bits : (low allowed again restricted own own_again limited place take security nineteen twenty_four : Bool) → low ≡ true → restricted ≡ false → take ≡ false → security ≡ false
     → (((low && allowed) && (not restricted || again)) || (((((own && (not restricted || own_again)) && not limited) && place) || (take && nineteen)) || (security && twenty_four)))
     ≡ ((own && (place && not limited)) || allowed)
-plain_bits low allowed again restricted own own_again limited place take security nineteen twenty_four is_low free untaking insecure =
-    simp (is_low, free, untaking, insecure, and-true, or-false) (settled allowed own limited place) where
-      settled : (allowed own limited place : Bool) → (allowed || ((own && not limited) && place)) ≡ ((own && (place && not limited)) || allowed)
-      settled true true true true = refl
-      settled true true true false = refl
-      settled true true false true = refl
-      settled true true false false = refl
-      settled true false limited place = refl
-      settled false true true true = refl
-      settled false true true false = refl
-      settled false true false true = refl
-      settled false true false false = refl
-      settled false false limited place = refl
+plain_bits low allowed again restricted own own_again limited place take security nineteen twenty_four h j k2 h2 = grind arith
 
 pub plain_granted : (owner : Option SidValue) (es : List Ace) (g : MappingValue) (t : TokenValue) (b : ℕ) → IsPlain t → b < 21
     → is_granted owner (Some es) g t b ≡ granted_by (implied_holder owner es b) owner g es b t
@@ -168,23 +142,16 @@ plain_granted owner es g t b plain low =
 -- the bit of a right that was left, and is no longer where the new one takes it
 pushed : (asked left taken granted holds_now : Bool) → (taken ≡ true → (left ≡ true) × (asked ≡ true) × (holds_now ≡ granted))
     → (((asked && not left) && granted) || ((taken && holds_now) || false)) ≡ ((asked && not (left && not taken)) && granted)
-pushed asked left true granted holds_now is =
-    let known = is refl in simp (known.0, known.1, known.2, or-false) refl
-pushed asked left false granted holds_now is = simp (and-true, or-false) refl
+pushed asked left taken granted holds_now h = grind arith
 
 taken_bits : (asked left same all granted holds_now taken : Bool) → taken ≡ (left && (same && all)) → (left ≡ true → asked ≡ true)
     → (asked ≡ true → same ≡ true → all ≡ true → holds_now ≡ granted)
     → taken ≡ true → (left ≡ true) × (asked ≡ true) × (holds_now ≡ granted)
-taken_bits asked left same all granted holds_now taken is among exact h =
-    let outer = and_parts left (same && all) (sym is ∙ h) in
-    let inner = and_parts same all outer.1 in
-    (outer.0, among outer.0, exact (among outer.0) inner.0 inner.1)
+taken_bits asked left same all granted holds_now taken h j k2 h2 = grind arith
 
 counted : (asked left taken : Bool) → (taken ≡ true → (left ≡ true) × (asked ≡ true))
     → cond (asked && not left) 1 0 + (0 + cond taken 1 0) ≡ cond (asked && not (left && not taken)) 1 0
-counted asked left true is = let known = is refl in rw (known.0, known.1) refl
-counted asked true false is = add-zero _
-counted asked false false is = add-zero _
+counted asked left taken h = grind arith
 
 module _ (owner : Option SidValue) (es : List Ace) (g : MappingValue) (base : List (SidValue × GroupState)) (rights left taken rest place : ℕ) (before : List Access) (access : Access)
     (low_rights : (b : ℕ) → b < 32 → holds rights b ≡ true → b < 21)
@@ -235,10 +202,7 @@ module _ (owner : Option SidValue) (es : List Ace) (g : MappingValue) (base : Li
 
 -- no right was left at the place
 pub below_kept : (left place : ℕ) → holds left place ≡ false → ((b : ℕ) → b < place → holds left b ≡ false) → (b : ℕ) → b < place + 1 → holds left b ≡ false
-below_kept left place none below b low = elim (cases_lt b place) [
-  | inl before_it ↦ below b before_it
-  | inr not_before ↦ let here : b ≡ place = omega arith in ap (holds left) here ∙ none
-]
+below_kept left place b h j k2 = grind arith
 
 pub beyond_next : (base : List (SidValue × GroupState)) (before : List Access) (access : Access)
     → AllBeyond base before → IsBeyond base access.denied.items access.alternatives.items → AllBeyond base (before ++ access ∷ [])
@@ -255,10 +219,7 @@ pub asked_low : (rights r : ℕ) → r ≡ mask_of (λ k. holds rights k && hold
 asked_low rights r is b low h = ltb-true b 21 (and_parts (holds rights b) (nat_lt b 21) (sym (asked_place rights r b is low) ∙ h)).1
 
 without_list : (low asked again restricted given : Bool) → restricted ≡ false → (asked && low) ≡ ((asked && low) && ((low && (not restricted || again)) || given))
-without_list true true again restricted given free = rw free refl
-without_list true false again restricted given free = refl
-without_list false true again restricted given free = refl
-without_list false false again restricted given free = refl
+without_list low asked again restricted given h = grind arith
 
 no_list_is_who : (owner : Option SidValue) (g : MappingValue) (base : List (SidValue × GroupState)) (rights r : ℕ) (accesses : List Access)
     → r ≡ mask_of (λ k. holds rights k && holds 0x001FFFFF k) 32

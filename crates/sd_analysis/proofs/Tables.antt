@@ -12,7 +12,6 @@ use Rattle.sd_sid.proofs.Masks.{holds_place, holds_when}
 use Rattle.sd_acl.specs.Ace.{is_allow, is_inherit_only}
 use Rattle.sd_acl.specs.declared.ace.Ace.{Ace}
 use Rattle.sd_acl.specs.declared.ace.AceKind.{AceKind}
-use Rattle.sd_acl.specs.declared.ace.AceKind.TheVariants.{Allow, Deny}
 use Rattle.sd_check.specs.Check.{decides, first, is_allowed_by, subject}
 use Rattle.sd_check.specs.Token.{a_group_stands_for, counts}
 use Rattle.sd_check.specs.declared.grounds.Pass.{Pass}
@@ -269,8 +268,7 @@ listed_held p b low =
 
 -- the first of more entries
 first_of : (here : Bool) (e : Ace) (o : Option Ace) → is_allowed_by (cond here (Some e) o) ≡ cond here (is_allow e.kind) (is_allowed_by o)
-first_of true e o = refl
-first_of false e o = refl
+first_of here e o = grind arith
 
 -- ---- a whole list
 
@@ -295,21 +293,16 @@ module _ (g : MappingValue) (base : List (SidValue × GroupState)) (sids : List 
       ∙ sym (first_of (decides g who b e) e (first g who es b)))
 
 start_apart : (is_list : Bool) (b : ℕ) → b < 21 → IsApart (first_point is_list) b
-start_apart true b low = ap (λ x. x && holds 0x001FFFFF b) (none_held 0 b refl)
-start_apart false b low = ap (λ x. holds 0x001FFFFF b && x) (none_held 0 b refl) ∙ and_right (holds 0x001FFFFF b) false refl
+start_apart is_list b h = grind (arith, none_held)
 
 all_low : (b : ℕ) → b < 21 → holds 0x001FFFFF b ≡ true
 all_low b low = agree_below_at (holds 0x001FFFFF) (λ k. true) 21 b refl low
 
 list_starts : (b : ℕ) → b < 21 → (rest : Bool) → granted_at_point (first_point true) b rest ≡ rest
-list_starts b low rest =
-    ap (λ u. granted_with u (holds 0 b) u (holds 0 b) rest) (all_low b low)
-    ∙ ap (λ n. granted_with true n true n rest) (none_held 0 b refl)
+list_starts b rest h = grind (arith, none_held, all_low)
 
 none_starts : (b : ℕ) → b < 21 → (rest : Bool) → granted_at_point (first_point false) b rest ≡ true
-none_starts b low rest =
-    ap (λ u. granted_with (holds 0 b) u u (holds 0 b) rest) (all_low b low)
-    ∙ ap (λ n. granted_with n true true n rest) (none_held 0 b refl)
+none_starts b rest h = grind (arith, none_held, all_low)
 
 -- what a walk from the start comes to at the place of a SID
 module _ (g : MappingValue) (base : List (SidValue × GroupState)) (sids : List SidValue) (role : Role)

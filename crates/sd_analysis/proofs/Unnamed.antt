@@ -2,7 +2,7 @@
 use Rattle.std.proofs.Common.{◌≡◌, ℕ, suc, zero, ◌<◌, ◌≤◌, ◌+◌, ◌^◌, ◌/◌, ◌%◌, Bool, true, false, ◌||◌, cond, List, [], ◌∷◌, ◌++◌, length, map, Option, Some, None, Ok, Result, inl, inr, refl, sym, ◌∙◌, ap, arith}
 use Rattle.std.specs.List.{list_any}
 use Rattle.std.specs.Option.{option_to_list}
-use Rattle.std.proofs.lemmas.Bool.{cases_Bool, cases_eq, false_from_ne_true, le-ltb, lt-ltb, ne_eqb}
+use Rattle.std.proofs.lemmas.Bool.{cases_Bool, false_from_ne_true, le-ltb, lt-ltb, ne_eqb}
 use Rattle.std.proofs.lemmas.List.Folds.{list_any-append}
 use Rattle.std.proofs.lemmas.List.{length-append, length-map}
 use Rattle.std.proofs.Math.Bool.{or-false}
@@ -28,10 +28,7 @@ count p zero = 0
 count p (suc k) = cond (p k) 1 0 + count p k
 
 one_either : (x y : Bool) (a b c : ℕ) → a ≤ b + c → cond (x || y) 1 0 + a ≤ (cond x 1 0 + b) + (cond y 1 0 + c)
-one_either true true a b c h = omega arith
-one_either true false a b c h = omega arith
-one_either false true a b c h = omega arith
-one_either false false a b c h = omega arith
+one_either x y a b c h = grind arith
 
 count_either : (p q : ℕ → Bool) (n : ℕ) → count (λ k. p k || q k) n ≤ count p n + count q n
 unfolding count
@@ -124,7 +121,4 @@ one_unnamed old new n all es ds is_es is_ds many =
 pub named_more : (old new : Parts) (n : ℕ) → ((k : ℕ) → k < n → (is_named old (numbered k) || is_named new (numbered k)) ≡ true)
     → (is_named old (numbered n) || is_named new (numbered n)) ≡ true
     → (k : ℕ) → k < n + 1 → (is_named old (numbered k) || is_named new (numbered k)) ≡ true
-named_more old new n below here k low = elim (cases_eq k n) [
-  | inl same ↦ ap (λ i. is_named old (numbered i) || is_named new (numbered i)) same ∙ here
-  | inr other ↦ below k (omega arith)
-]
+named_more old new n k h j k2 = grind arith
