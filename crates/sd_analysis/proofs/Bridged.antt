@@ -2,7 +2,7 @@
 use Rattle.std.proofs.Common.{arith, ◌≡◌, ℕ, Bool, true, false, not, ◌&&◌, ◌||◌, ◌==◌, cond, List, ◌∷◌, Option, Some, None, ◌⊎◌, inl, inr, refl, sym, ◌∙◌, ap}
 use Rattle.std.specs.List.{list_any}
 use Rattle.std.specs.Option.{option_to_list}
-use Rattle.std.proofs.lemmas.Bool.{and_parts, and_from, or_cases, or_from, and_left, false≢true, not-true, not_from_false}
+use Rattle.std.proofs.lemmas.Bool.{and_parts, and_from, or_cases, and_left, false≢true, not-true}
 use Rattle.std.proofs.Math.Bool.{or_assoc}
 use Rattle.std.proofs.Math.Dec.{eqb-suc-zero}
 use Rattle.sd_sid.specs.Mapping.{MappingValue}
@@ -17,7 +17,6 @@ use Rattle.sd_analysis.specs.Sufficient.{Parts, gains, token_of, has_sid}
 use Rattle.sd_analysis.specs.Passes.{about, lists, owns, meets, stands_in, sids_stand}
 use Rattle.sd_analysis.specs.declared.witness.Demand.{Demand}
 use Rattle.sd_analysis.specs.declared.witness.PassSids.{PassSids}
-use Rattle.sd_analysis.specs.declared.witness.Witness.{Witness}
 
 -- ---- a token in its passes
 
@@ -159,9 +158,6 @@ either : (by_owner l1 l2 n1 n2 r : Bool) → in_passes r (cond by_owner n1 l1) (
     → (in_passes r l1 l2 || (in_passes r n1 n2 || false)) ≡ true
 either by_owner l1 l2 n1 n2 r h = grind arith
 
-unprivileged : (w : Witness) (base : List (SidValue × GroupState)) (b : ℕ) → privileged (token_of base w) b ≡ false
-unprivileged w base b = refl
-
 restricting_is : (allowed : SidValue) (denied : Option SidValue) (s : SidValue)
     → list_any (λ one. same_sid one s) (allowed ∷ option_to_list denied) ≡ (same_sid allowed s || has_sid denied s)
 restricting_is allowed denied s = grind arith
@@ -174,12 +170,7 @@ module _ (g : MappingValue) (old new : Parts) (base : List (SidValue × GroupSta
       → in_passes (is_restricted t) (lists g old (stands_in First t) b) (lists g old (stands_in Second t) b) ≡ false
       → in_passes (is_restricted t) (owns old (stands_in First t) b) (owns old (stands_in Second t) b) ≡ false
       → gains g old new t b ≡ true
-  gain_of t by_owner none granted not_listed not_owned = and_from _ _
-      (granted_in_passes g new t b
-      ∙ ap (λ x. in_passes (is_restricted t) (lists g new (stands_in First t) b) (lists g new (stands_in Second t) b)
-      || (in_passes (is_restricted t) (owns new (stands_in First t) b) (owns new (stands_in Second t) b) || x)) none
-      ∙ either by_owner _ _ _ _ (is_restricted t) granted)
-      (not_from_false _ (granted_in_passes g old t b ∙ or_from _ _ not_listed (or_from _ _ not_owned none)))
+  gain_of t by_owner h j k l = grind (arith, granted_in_passes g new t b, granted_in_passes g old t b)
 
   -- by its first pass alone
   pub unrestricted_gains : (by_owner : Bool) (sids : PassSids)

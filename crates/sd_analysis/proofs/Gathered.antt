@@ -127,22 +127,12 @@ module _ (case : Case) where
       (t : TokenValue) (b : ℕ) → b < 21 → HasBase case.base.now t → holds report.wanted b ≡ true
       → (token_meets case First (record { by_owner = by_owner; unlisted = true; unowned = true }) t b ≡ false) × IsRefusedAgain case t by_owner b
 
-  refuted : {P Q : Bool} → (P ≡ false) ⊎ (Q ≡ false) → P ≡ true → Q ≡ true → ⊥
-  refuted (inl p) h k = false≢true (sym p ∙ h)
-  refuted (inr q) h k = false≢true (sym q ∙ k)
-
   not_shown : (t : TokenValue) (b : ℕ) (by_owner unlisted unowned : Bool)
       → (token_meets case First (record { by_owner = by_owner; unlisted = true; unowned = true }) t b ≡ false) × IsRefusedAgain case t by_owner b
       → token_meets case First (record { by_owner = by_owner; unlisted = unlisted; unowned = unowned }) t b ≡ true
       → ((unlisted ≡ true) × (unowned ≡ true)) ⊎ (token_meets case Second (record { by_owner = by_owner; unlisted = not unlisted; unowned = not unowned }) t b ≡ true)
       → ⊥
-  not_shown t b by_owner true true none first rest = false≢true (sym none.0 ∙ first)
-  not_shown t b by_owner true false none first (inl both) = false≢true both.1
-  not_shown t b by_owner true false none first (inr second) = refuted none.1.owner_second first second
-  not_shown t b by_owner false true none first (inl both) = false≢true both.0
-  not_shown t b by_owner false true none first (inr second) = refuted none.1.list_second first second
-  not_shown t b by_owner false false none first (inl both) = false≢true both.0
-  not_shown t b by_owner false false none first (inr second) = refuted none.1.both_second first second
+  not_shown t b by_owner unlisted unowned none first rest = grind arith
 
   at_either : (P : Bool → Type 0) (x : Bool) → P false → P true → P x
   at_either P false f t = f

@@ -1,7 +1,7 @@
 -- What a pass shows of two descriptors, two SIDs show.
 use Rattle.std.proofs.Common.{◌≡◌, ℕ, Bool, true, false, not, ◌&&◌, ◌||◌, ◌==◌, nat_lt, cond, List, [], ◌∷◌, Option, Some, None, ◌⊎◌, inl, inr, refl, sym, ◌∙◌, ap, arith}
 use Rattle.std.specs.List.{list_any}
-use Rattle.std.proofs.lemmas.Bool.{and_parts, and_from, or_cases, or_left, or_right, false≢true, not-true, and_right, not_from_false, false_from_ne_true}
+use Rattle.std.proofs.lemmas.Bool.{and_parts, and_from, or_cases, or_left, or_right, false≢true, not-true, and_right, not_from_false}
 use Rattle.sd_sid.specs.Mapping.{MappingValue}
 use Rattle.sd_sid.specs.Sid.{SidValue, same_sid}
 use Rattle.sd_sid.proofs.Compared.{same_sid-true, same_sid-itself}
@@ -15,7 +15,7 @@ use Rattle.sd_check.specs.declared.grounds.Pass.TheVariants.{First, Second}
 use Rattle.sd_check.specs.declared.token.GroupState.{GroupState}
 use Rattle.sd_analysis.specs.Base.{HasBase}
 use Rattle.sd_analysis.specs.Sufficient.{Parts, with_denied, is_named, has_sid, allowed_sids, denied_sids, is_among, MayDecide}
-use Rattle.sd_analysis.specs.Passes.{about, lists, owns, meets, stands_in, sids_stand}
+use Rattle.sd_analysis.specs.Passes.{lists, owns, meets, stands_in, sids_stand}
 use Rattle.sd_analysis.specs.declared.witness.Demand.{Demand}
 use Rattle.sd_analysis.specs.declared.witness.PassSids.{PassSids}
 use Rattle.sd_analysis.proofs.Kept.{about_less, owner_named, IsWithin, keeps_listed, keeps_unlisted}
@@ -47,11 +47,7 @@ keeps_owned (Some o) dacl other stands b h =
 keeps_unowned : (owner : Option SidValue) (dacl : Option (List Ace)) (stands now : AceKind → SidValue → Bool) (b : ℕ)
     → IsWithin (record { owner = owner; dacl = dacl }) stands now
     → owns (record { owner = owner; dacl = dacl }) stands b ≡ false → owns (record { owner = owner; dacl = dacl }) now b ≡ false
-keeps_unowned owner dacl stands now b within h = false_from_ne_true _ (λ is.
-    let outer = and_parts (about now Allow owner && not (limits_owner dacl)) (b == 17 || b == 18) is in
-    let inner = and_parts (about now Allow owner) (not (limits_owner dacl)) outer.0 in
-    let before = about_less stands now Allow owner (λ s eq. within Allow s (owner_named owner dacl s eq)) inner.0 in
-    false≢true (sym h ∙ and_from _ _ (and_from _ _ before inner.1) outer.1))
+keeps_unowned owner dacl stands now b within h = grind (arith, about_less, owner_named)
 
 -- ---- all that is demanded
 
@@ -90,8 +86,7 @@ module _ (g : MappingValue) (old new : Parts) (other : SidValue) (stands : AceKi
   keeps_granted false h = keeps_listed g new.owner stands b other new.dacl h
 
   granted_low : (by_owner : Bool) → cond by_owner (owns new stands b) (lists g new stands b) ≡ true → nat_lt b 21 ≡ true
-  granted_low true h = low_places b (and_parts (about stands Allow new.owner && not (limits_owner new.dacl)) (b == 17 || b == 18) h).1
-  granted_low false h = lists_low g new.owner new.dacl stands b h
+  granted_low by_owner h = grind (arith, low_places, lists_low)
 
   keeps_refused : (unlisted : Bool) → nat_lt b 21 ≡ true → not (unlisted && lists g old stands b) ≡ true
       → (denied : Option SidValue)

@@ -64,19 +64,12 @@ module _ (case : Case) where
     both_second = inr (never Second true t b);
   }
 
--- what isn't met even where the old descriptor may grant as the owner's
-weaker : (granted listed owned : Bool) → (granted && (not listed && true)) ≡ false → (granted && (not listed && not owned)) ≡ false
-weaker granted listed owned h = grind arith
-
 pub less_asked : (case : Case) (by_owner : Bool) (t : TokenValue) (b : ℕ)
     → token_meets case Second (record { by_owner = by_owner; unlisted = true; unowned = false }) t b ≡ false
     → token_meets case Second (record { by_owner = by_owner; unlisted = true; unowned = true }) t b ≡ false
 less_asked case by_owner t b h = grind arith
 
 -- ---- the rest of the first pass
-
-no_more : (same other based : Bool) → (same || ((other && false) || based)) ≡ (same || based)
-no_more same other based = grind arith
 
 -- a group for denies alone doesn't make anybody the owner
 owner_alone : (base : List (SidValue × GroupState)) (s : SidValue) (denied who : Option SidValue)
@@ -126,9 +119,6 @@ enabled (Some s) = (s, Enabled) ∷ []
 -- the unrestricted token of the SIDs that a second pass has
 abbrev unrestricted : PassSids → TokenValue
 unrestricted sids = record { user = sids.allowed; groups = enabled sids.denied; restricting = []; privileges = no_privileges }
-
-one_group : (x : Bool) → ((x && true) || false) ≡ x
-one_group x = grind arith
 
 enabled_stands : (denied : Option SidValue) (kind : AceKind) (s : SidValue) → a_group_stands_for (enabled denied) kind s ≡ has_sid denied s
 enabled_stands denied kind s = grind arith

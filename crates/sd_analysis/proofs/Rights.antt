@@ -2,7 +2,7 @@
 use Rattle.std.proofs.Common.{count_by, ◌≡◌, ℕ, ◌+◌, ◌<◌, Bool, true, false, not, ◌&&◌, ◌||◌, ◌==◌, nat_lt, cond, List, [], ◌∷◌, ◌++◌, length, get_or, take, Option, Some, None, inl, inr, sym, refl, ◌∙◌, ap, arith, Bor}
 use Rattle.std.specs.Bool.{beq}
 use Rattle.std.specs.List.{list_all, list_any}
-use Rattle.std.proofs.Math.Bool.{and-false, and-true}
+use Rattle.std.proofs.Math.Bool.{and-false}
 use Rattle.std.proofs.lemmas.Bool.{agree_below_at, and_from, and_parts, cases_lt, lt-ltb, ltb-true}
 use Rattle.std.proofs.lemmas.List.Elements.{All-push}
 use Rattle.std.proofs.lemmas.List.Folds.{list_all_more, list_any-append}
@@ -14,7 +14,7 @@ use Rattle.sd_sid.proofs.Masks.{holds_place, holds_when}
 use Rattle.sd_acl.specs.Ace.{is_inherit_only}
 use Rattle.sd_acl.specs.declared.ace.Ace.{Ace}
 use Rattle.sd_acl.specs.declared.ace.AceKind.TheVariants.{Allow}
-use Rattle.sd_check.specs.Check.{DaclRef, applies, applies_again, acl_grants, decides, first, is_allowed_by, is_given, is_granted, is_restricting_subject, entries_of, limits_owner, stands_for_subject}
+use Rattle.sd_check.specs.Check.{DaclRef, applies, decides, first, is_given, is_granted, entries_of, stands_for_subject}
 use Rattle.sd_check.specs.Laws.{restricted_to}
 use Rattle.sd_acl.specs.declared.descriptor.DaclOf.TheVariants as dacls
 use Rattle.sd_check.specs.Token.{TokenValue, is_restricted}
@@ -38,12 +38,6 @@ rights_place b low = agree_below_at (holds 0x001FFFFF) (λ k. nat_lt k 21) 32 b 
 same_itself : (x : Bool) → beq x x ≡ true
 same_itself x = grind arith
 
-same_is : (x y : Bool) → beq x y ≡ true → x ≡ y
-same_is x y h = grind arith
-
-with_it : (x y : Bool) → y ≡ true → x ≡ beq x y
-with_it x y h = grind arith
-
 without_it : (x y : Bool) → y ≡ false → not x ≡ beq x y
 without_it x y h = grind arith
 
@@ -64,30 +58,17 @@ alike g b place e = beq (names g b e) (names g place e)
 
 pub alike_first : (among place r b : ℕ) → place < 32 → b < 32 → holds r b ≡ (holds among b && beq (holds 0x00060000 b) (holds 0x00060000 place))
     → holds r b ≡ (holds among b && (beq (b == 17 || b == 18) (place == 17 || place == 18) && true))
-alike_first among place r b low_place low is =
-    is ∙ ap (λ x. holds among b && beq x (holds 0x00060000 place)) (owners_place b low)
-    ∙ ap (λ x. holds among b && beq (b == 17 || b == 18) x) (owners_place place low_place) ∙ ap (λ x. holds among b && x) (sym (and-true _))
+alike_first among place r b place_low low is = grind (arith, owners_place)
 
 named_places : (g : MappingValue) (e : Ace) (waits : Bool) (mask named k : ℕ) → waits ≡ is_inherit_only e → mask ≡ mapped g e.mask → named ≡ cond (not waits) mask 0
     → holds named k ≡ names g k e
 named_places g e waits mask named k h j k2 = grind (arith, holds_when)
 
-and_then : (a b c d : Bool) → ((a && (b && c)) && d) ≡ (a && (b && (c && d)))
-and_then a b c d = grind arith
-
 pub alike_next : (g : MappingValue) (es : List Ace) (i : ℕ) (e : Ace) (among front waits : Bool) (mask named place old r b : ℕ) → i < length es → e ≡ get_or es i e
     → waits ≡ is_inherit_only e → mask ≡ mapped g e.mask → named ≡ cond (not waits) mask 0
     → holds r b ≡ (holds old b && beq (holds named b) (holds named place)) → holds old b ≡ (among && (front && list_all (alike g b place) (take i es)))
     → holds r b ≡ (among && (front && list_all (alike g b place) (take (i + 1) es)))
-alike_next g es i e among front waits mask named place old r b inside here is_waiting is_mask is_named next so_far =
-    let name : (k : ℕ) → holds named k ≡ names g k e = λ k. named_places g e waits mask named k is_waiting is_mask is_named in
-    let before = list_all (alike g b place) (take i es) in
-    next ∙ ap (λ x. x && beq (holds named b) (holds named place)) so_far
-    ∙ ap (λ x. (among && (front && before)) && beq x (holds named place)) (name b)
-    ∙ ap (λ x. (among && (front && before)) && beq (names g b e) x) (name place)
-    ∙ and_then among front before (alike g b place e)
-    ∙ ap (λ (one : Ace). among && (front && (before && alike g b place one))) here
-    ∙ ap (λ x. among && (front && x)) (sym (list_all_more (alike g b place) es i e inside))
+alike_next g es i e among front waits mask named place old r b inside here is_waiting is_mask is_named next so_far = grind (arith, named_places, list_all_more (alike g b place) es i e inside)
 
 pub alike_itself : (g : MappingValue) (place : ℕ) (es : List Ace) → list_all (alike g place place) es ≡ true
 alike_itself g place [] = refl
@@ -97,14 +78,7 @@ alike_itself g place (e ∷ es) = and_from _ _ (same_itself (names g place e)) (
 
 module _ (owner : Option SidValue) (g : MappingValue) (b place : ℕ) (t : TokenValue) where
   decided_alike : (e : Ace) → alike g b place e ≡ true → decides g (applies t owner) b e ≡ decides g (applies t owner) place e
-  decided_alike e h =
-      regrouped (not (is_inherit_only e)) (applies t owner e.kind e.sid) (holds (mapped g e.mask) b)
-      ∙ ap (λ x. x && applies t owner e.kind e.sid) (same_is (names g b e) (names g place e) h)
-      ∙ sym (regrouped (not (is_inherit_only e)) (applies t owner e.kind e.sid) (holds (mapped g e.mask) place)) where
-        regrouped : (a who c : Bool) → ((a && who) && c) ≡ ((a && c) && who)
-        regrouped true true c = sym (and-true c)
-        regrouped true false c = sym (and-false c)
-        regrouped false who c = refl
+  decided_alike e h = grind arith
 
   first_alike : (es : List Ace) → list_all (alike g b place) es ≡ true → first g (applies t owner) es b ≡ first g (applies t owner) es place
   first_alike [] h = refl
@@ -115,27 +89,16 @@ module _ (owner : Option SidValue) (g : MappingValue) (b place : ℕ) (t : Token
 
   pub granted_alike : (es : List Ace) → beq (b == 17 || b == 18) (place == 17 || place == 18) ≡ true → list_all (alike g b place) es ≡ true
       → granted_by (implied_holder owner es b) owner g es b t ≡ granted_by (implied_holder owner es place) owner g es place t
-  granted_alike es owners each =
-      ap (λ x. stands_for_subject t Allow (cond (x && not (limits_owner (Some es))) owner None) || is_allowed_by (first g (applies t owner) es b)) (same_is _ _ owners)
-      ∙ ap (λ (o : Option Ace). stands_for_subject t Allow (implied_holder owner es place) || is_allowed_by o) (first_alike es each)
+  granted_alike es h each = grind (arith, first_alike)
 
 -- ---- what a token without restriction and privileges is granted
 
 stands_where : (t : TokenValue) (owner : Option SidValue) (x : Bool) → stands_for_subject t Allow (cond x owner None) ≡ (stands_for_subject t Allow owner && x)
 stands_where t owner x = grind arith
 
-plain_bits : (low allowed again restricted own own_again limited place take security nineteen twenty_four : Bool) → low ≡ true → restricted ≡ false → take ≡ false → security ≡ false
-    → (((low && allowed) && (not restricted || again)) || (((((own && (not restricted || own_again)) && not limited) && place) || (take && nineteen)) || (security && twenty_four)))
-    ≡ ((own && (place && not limited)) || allowed)
-plain_bits low allowed again restricted own own_again limited place take security nineteen twenty_four h j k2 h2 = grind arith
-
 pub plain_granted : (owner : Option SidValue) (es : List Ace) (g : MappingValue) (t : TokenValue) (b : ℕ) → IsPlain t → b < 21
     → is_granted owner (Some es) g t b ≡ granted_by (implied_holder owner es b) owner g es b t
-plain_granted owner es g t b plain low =
-    plain_bits (nat_lt b 21) (is_allowed_by (first g (applies t owner) es b)) (acl_grants g (applies_again t owner) (Some es) b) _ (stands_for_subject t Allow owner)
-    (is_restricting_subject t owner) (limits_owner (Some es)) (b == 17 || b == 18) t.privileges.take_ownership t.privileges.security (b == 19) (b == 24)
-    (lt-ltb b 21 low) plain.unrestricted (ap (λ p. p.take_ownership) plain.unprivileged) (ap (λ p. p.security) plain.unprivileged)
-    ∙ ap (λ x. x || is_allowed_by (first g (applies t owner) es b)) (sym (stands_where t owner ((b == 17 || b == 18) && not (limits_owner (Some es)))))
+plain_granted owner es g t b plain low = grind (arith, stands_where, plain.unrestricted, plain.unprivileged)
 
 -- ---- one more `Access`
 

@@ -4,7 +4,6 @@ use Rattle.std.specs.List.{All}
 use Rattle.std.proofs.lemmas.Bool.{and_from, and_parts, not-true, or_cases, or_parts, false≢true, false_from_ne_true, not_from_false}
 use Rattle.std.proofs.lemmas.List.Elements.{All-push}
 use Rattle.std.proofs.lemmas.List.Folds.{list_any_more, list_any-append}
-use Rattle.std.proofs.Math.Bool.{or-false}
 use Rattle.sd_sid.specs.Mask.{holds, mask_of}
 use Rattle.sd_sid.specs.Sid.{SidValue, same_sid}
 use Rattle.sd_sid.proofs.Compared.{same_sid-true}
@@ -33,8 +32,7 @@ pub still_left : (before now : Found) (b : ℕ) → IsLessLeft before now → ho
 still_left before now b less gone = false_from_ne_true _ (λ still. false≢true (sym gone ∙ less b still))
 
 found_push : (fs : List Finding) (f : Finding) (b : ℕ) → is_found (fs ++ f ∷ []) b ≡ (is_found fs b || holds f.mask b)
-found_push fs f b =
-    list_any-append (λ (x : Finding). holds x.mask b) fs (f ∷ []) ∙ ap (λ x. is_found fs b || x) (or-false (holds f.mask b))
+found_push fs f b = grind (arith, list_any-append)
 
 pub found_one_more : (case : Case) (pass : Pass) (demand : Demand) (wanted : ℕ) (before now : Found) (sids : PassSids) (mask : ℕ)
     → ((b : ℕ) → holds mask b ≡ true → b < 21)

@@ -2,7 +2,7 @@
 use Rattle.std.proofs.Common.{◌≡◌, ℕ, suc, zero, ◌<◌, Bool, true, false, not, ◌&&◌, ◌||◌, ◌==◌, cond, List, [], ◌∷◌, ◌++◌, length, get_or, take, map, Option, Some, None, ◌⊎◌, inl, inr, refl, sym, ◌∙◌, ap, arith}
 use Rattle.std.specs.List.{fold}
 use Rattle.std.specs.Option.{is_some}
-use Rattle.std.proofs.lemmas.Bool.{agree_below_at, and_right, cases_Bool, cond-false, cond-true, eq-eqb, eqb-true, false_from_ne_true, false≢true, lt-ltb, ne_eqb, or_cases, or_left, or_right}
+use Rattle.std.proofs.lemmas.Bool.{agree_below_at, cases_Bool, cond-false, cond-true, eq-eqb, eqb-true, false_from_ne_true, false≢true, lt-ltb, ne_eqb, or_cases, or_left, or_right}
 use Rattle.std.proofs.lemmas.List.{get_or_read}
 use Rattle.sd_sid.specs.Mask.{holds, mask_of}
 use Rattle.sd_sid.specs.Mapping.{MappingValue, mapped}
@@ -13,11 +13,9 @@ use Rattle.sd_acl.specs.Ace.{is_allow, is_inherit_only}
 use Rattle.sd_acl.specs.declared.ace.Ace.{Ace}
 use Rattle.sd_acl.specs.declared.ace.AceKind.{AceKind}
 use Rattle.sd_check.specs.Check.{decides, first, is_allowed_by, subject}
-use Rattle.sd_check.specs.Token.{a_group_stands_for, counts}
+use Rattle.sd_check.specs.Token.{counts}
 use Rattle.sd_check.specs.declared.grounds.Pass.{Pass}
-use Rattle.sd_check.specs.declared.grounds.Pass.TheVariants.{First, Second}
 use Rattle.sd_check.specs.declared.token.GroupState.{GroupState}
-use Rattle.sd_check.specs.declared.token.GroupState.TheVariants.{DenyOnly}
 use Rattle.sd_analysis.specs.Sufficient.{Parts, entries_or_none, is_among}
 use Rattle.sd_analysis.specs.Passes.{about, lists, sids_stand}
 use Rattle.sd_analysis.specs.Table.{AreShares, IsBeside, IsListing, Point, applies_in, common_of, counts_in, first_point, listed_of, nothing_decided, place_in, point_after, point_at, point_moved, row_for, row_of, share_after, sids_of}
@@ -119,55 +117,20 @@ among_right (x ∷ xs) ys s h = or_right _ _ (among_right xs ys s h)
 
 -- ---- whom an entry is for
 
-shuffled : (n s m : Bool) → ((n && s) && m) ≡ ((n && m) && s)
-shuffled n s m = grind arith
-
-alone_first : (x based : Bool) → (x || based) ≡ ((based || false) || (true && x))
-alone_first x based = grind arith
-
-alone_second : (x : Bool) → (x || false) ≡ ((false || false) || (true && x))
-alone_second x = grind arith
-
-pair_first : (p x based : Bool) (kind : AceKind) → (p || ((x && counts kind DenyOnly) || based)) ≡ ((based || p) || (not (is_allow kind) && x))
-pair_first p x based kind = grind arith
-
 module _ (g : MappingValue) (base : List (SidValue × GroupState)) (sids : List SidValue) where
   -- an entry that speaks of x counts where its place does
   stands_at : (pass : Pass) (beside : Option SidValue) (at : Option ℕ) → IsBeside sids beside at → (s : SidValue) → is_among sids s ≡ true
       → (e : Ace) (x : SidValue)
       → sids_stand pass base (sids_of beside s) e.kind x
       ≡ (applies_in pass at (row_for g base sids (Some x) e) || (counts_in pass at e.kind && (place_in sids x == place_in sids s)))
-  stands_at First None at is s among e x =
-      alone_first (same_sid s x) (a_group_stands_for base e.kind x)
-      ∙ ap (λ y. (a_group_stands_for base e.kind x || false) || (true && y)) (sym (place_same sids x s among))
-      ∙ ap (λ p. applies_in First p (row_for g base sids (Some x) e) || (counts_in First p e.kind && (place_in sids x == place_in sids s))) (sym is.at)
-  stands_at Second None at is s among e x =
-      alone_second (same_sid s x)
-      ∙ ap (λ y. (false || false) || (true && y)) (sym (place_same sids x s among))
-      ∙ ap (λ p. applies_in Second p (row_for g base sids (Some x) e) || (counts_in Second p e.kind && (place_in sids x == place_in sids s))) (sym is.at)
-  stands_at First (Some p) at is s among e x =
-      pair_first (same_sid p x) (same_sid s x) (a_group_stands_for base e.kind x) e.kind
-      ∙ ap (λ y. (a_group_stands_for base e.kind x || y) || (not (is_allow e.kind) && same_sid s x)) (sym (place_same sids x p (is.among p refl)))
-      ∙ ap (λ y. (a_group_stands_for base e.kind x || (place_in sids x == place_in sids p)) || (not (is_allow e.kind) && y)) (sym (place_same sids x s among))
-      ∙ ap (λ o. applies_in First o (row_for g base sids (Some x) e) || (counts_in First o e.kind && (place_in sids x == place_in sids s))) (sym is.at)
-  stands_at Second (Some p) at is s among e x =
-      ap (λ y. y || same_sid s x) (sym (place_same sids x p (is.among p refl)))
-      ∙ ap (λ y. (place_in sids x == place_in sids p) || y) (sym (place_same sids x s among))
-      ∙ ap (λ o. applies_in Second o (row_for g base sids (Some x) e) || (counts_in Second o e.kind && (place_in sids x == place_in sids s))) (sym is.at)
+  stands_at pass beside at is s among e x = grind (arith, place_same, is.at, is.among)
 
   row_decides_for : (pass : Pass) (beside : Option SidValue) (at : Option ℕ) → IsBeside sids beside at → (s : SidValue) → is_among sids s ≡ true
       → (e : Ace) (b : ℕ) (o : Option SidValue)
       → ((not (is_inherit_only e) && about (sids_stand pass base (sids_of beside s)) e.kind o) && holds (mapped g e.mask) b)
       ≡ (holds (row_for g base sids o e).mask b
       && (applies_in pass at (row_for g base sids o e) || (counts_in pass at e.kind && ((row_for g base sids o e).place == place_in sids s))))
-  row_decides_for pass beside at is s among e b None =
-      ap (λ x. x && holds (mapped g e.mask) b) (and_right (not (is_inherit_only e)) false refl)
-      ∙ ap (λ x. x && (applies_in pass at (row_for g base sids None e) || (counts_in pass at e.kind && (length sids == place_in sids s)))) (sym (none_held 0 b refl))
-  row_decides_for pass beside at is s among e b (Some x) =
-      ap (λ y. (not (is_inherit_only e) && y) && holds (mapped g e.mask) b) (stands_at pass beside at is s among e x)
-      ∙ shuffled (not (is_inherit_only e)) _ (holds (mapped g e.mask) b)
-      ∙ ap (λ y. y && (applies_in pass at (row_for g base sids (Some x) e) || (counts_in pass at e.kind && (place_in sids x == place_in sids s))))
-      (sym (holds_when (not (is_inherit_only e)) (mapped g e.mask) b))
+  row_decides_for pass beside at is s among e b o = grind (arith, stands_at, none_held, holds_when)
 
 -- ---- an entry more, bit by bit
 
@@ -181,24 +144,12 @@ undecided_after undecided m = undecided && not (m && undecided)
 abbrev allowed_after : Bool → Bool → Bool → Bool → Bool
 allowed_after undecided allowed m allow = allowed || (allow && (m && undecided))
 
--- the bits after an entry that applies, or counts where it is, or neither
-turn : (applies counts m allow rest u a v w : Bool) → (a && u) ≡ false
-    → granted_with (cond applies (undecided_after u m) u) (cond applies (allowed_after u a m allow) a)
-    (cond applies v (cond counts (undecided_after v (m && u)) v)) (cond applies w (cond counts (allowed_after v w (m && u) allow) w)) rest
-    ≡ granted_with u a v w (cond (m && (applies || counts)) allow rest)
-turn applies counts m allow rest u a v w apart = grind arith
-
-apart_after : (applies m allow u a : Bool) → (a && u) ≡ false → (cond applies (allowed_after u a m allow) a && cond applies (undecided_after u m) u) ≡ false
-apart_after applies m allow u a apart = grind arith
-
 common_held : (m n b : ℕ) → b < 32 → holds (common_of m n) b ≡ (holds m b && holds n b)
 common_held m n b low = holds_place (λ k. holds m k && holds n k) b low
 
 undecided_held : (share : Share) (mask : ℕ) (kind : AceKind) (b : ℕ) → b < 32
     → holds (share_after share mask kind).undecided b ≡ undecided_after (holds share.undecided b) (holds mask b)
-undecided_held share mask kind b low =
-    holds_place (λ k. holds share.undecided k && not (holds (common_of mask share.undecided) k)) b low
-    ∙ ap (λ x. holds share.undecided b && not x) (common_held mask share.undecided b low)
+undecided_held share mask kind b low = grind (arith, holds_place)
 
 -- what the code makes of a share
 pub shared : (share : Share) (mask : ℕ) (kind : AceKind) (decided undecided more allowed : ℕ) (allows : Bool)
@@ -216,10 +167,7 @@ shared share mask kind decided undecided more allowed allows is_decided is_undec
 
 allowed_held : (share : Share) (mask : ℕ) (kind : AceKind) (b : ℕ) → b < 32
     → holds (share_after share mask kind).allowed b ≡ allowed_after (holds share.undecided b) (holds share.allowed b) (holds mask b) (is_allow kind)
-allowed_held share mask kind b low =
-    holds_place (λ k. holds share.allowed k || holds (cond (is_allow kind) (common_of mask share.undecided) 0) k) b low
-    ∙ ap (λ x. holds share.allowed b || x)
-    (holds_when (is_allow kind) (common_of mask share.undecided) b ∙ ap (λ x. is_allow kind && x) (common_held mask share.undecided b low))
+allowed_held share mask kind b low = grind (arith, holds_place, holds_when)
 
 -- what the point grants at the bit, where the entries to come do or don't
 abbrev granted_at_point : Point → ℕ → Bool → Bool
@@ -232,39 +180,23 @@ module _ (row : Row) (p : Point) (b : ℕ) (low : b < 32) (rest : Bool) (apart :
   moved_is : (applies counts : Bool)
       → granted_at_point (point_moved applies counts row p) b rest
       ≡ granted_at_point p b (cond (holds row.mask b && (applies || counts)) (is_allow row.kind) rest)
-  moved_is true counts =
-      ap (λ u. granted_with u (holds (share_after p.common row.mask row.kind).allowed b) (holds p.own.undecided b) (holds p.own.allowed b) rest)
-      (undecided_held p.common row.mask row.kind b low)
-      ∙ ap (λ a. granted_with (undecided_after (holds p.common.undecided b) (holds row.mask b)) a (holds p.own.undecided b) (holds p.own.allowed b) rest)
-      (allowed_held p.common row.mask row.kind b low)
-      ∙ turn true counts (holds row.mask b) (is_allow row.kind) rest (holds p.common.undecided b) (holds p.common.allowed b) (holds p.own.undecided b) (holds p.own.allowed b) apart
-  moved_is false true =
-      ap (λ v. granted_with (holds p.common.undecided b) (holds p.common.allowed b) v (holds (share_after p.own (common_of row.mask p.common.undecided) row.kind).allowed b) rest)
-      (undecided_held p.own (common_of row.mask p.common.undecided) row.kind b low
-      ∙ ap (undecided_after (holds p.own.undecided b)) (common_held row.mask p.common.undecided b low))
-      ∙ ap (λ w. granted_with (holds p.common.undecided b) (holds p.common.allowed b) (undecided_after (holds p.own.undecided b) (holds row.mask b && holds p.common.undecided b)) w rest)
-      (allowed_held p.own (common_of row.mask p.common.undecided) row.kind b low
-      ∙ ap (λ m. allowed_after (holds p.own.undecided b) (holds p.own.allowed b) m (is_allow row.kind)) (common_held row.mask p.common.undecided b low))
-      ∙ turn false true (holds row.mask b) (is_allow row.kind) rest (holds p.common.undecided b) (holds p.common.allowed b) (holds p.own.undecided b) (holds p.own.allowed b) apart
-  moved_is false false =
-      turn false false (holds row.mask b) (is_allow row.kind) rest (holds p.common.undecided b) (holds p.common.allowed b) (holds p.own.undecided b) (holds p.own.allowed b) apart
+  moved_is applies counts = grind (
+    arith,
+    undecided_held p.common row.mask row.kind b low,
+    allowed_held p.common row.mask row.kind b low,
+    undecided_held p.own (common_of row.mask p.common.undecided) row.kind b low,
+    allowed_held p.own (common_of row.mask p.common.undecided) row.kind b low,
+    common_held row.mask p.common.undecided b low,
+  )
 
   moved_apart : (applies counts : Bool) → IsApart (point_moved applies counts row p) b
-  moved_apart true counts =
-      ap (λ a. a && holds (share_after p.common row.mask row.kind).undecided b) (allowed_held p.common row.mask row.kind b low)
-      ∙ ap (λ u. allowed_after (holds p.common.undecided b) (holds p.common.allowed b) (holds row.mask b) (is_allow row.kind) && u)
-      (undecided_held p.common row.mask row.kind b low)
-      ∙ apart_after true (holds row.mask b) (is_allow row.kind) (holds p.common.undecided b) (holds p.common.allowed b) apart
-  moved_apart false true = apart
-  moved_apart false false = apart
+  moved_apart applies counts = grind (arith, undecided_held p.common row.mask row.kind b low, allowed_held p.common row.mask row.kind b low)
 
 ends : (w x y : Bool) → (w || x) ≡ ((w || x) || (y && false))
 ends w x y = grind arith
 
 listed_held : (p : Point) (b : ℕ) → b < 32 → holds (listed_of p) b ≡ (holds p.own.allowed b || (holds p.common.allowed b && holds p.own.undecided b))
-listed_held p b low =
-    holds_place (λ k. holds p.own.allowed k || holds (common_of p.common.allowed p.own.undecided) k) b low
-    ∙ ap (λ x. holds p.own.allowed b || x) (common_held p.common.allowed p.own.undecided b low)
+listed_held p b low = grind (arith, holds_place)
 
 -- the first of more entries
 first_of : (here : Bool) (e : Ace) (o : Option Ace) → is_allowed_by (cond here (Some e) o) ≡ cond here (is_allow e.kind) (is_allowed_by o)
