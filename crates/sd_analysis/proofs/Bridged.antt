@@ -4,7 +4,6 @@ use Rattle.std.specs.List.{list_any}
 use Rattle.std.specs.Option.{option_to_list}
 use Rattle.std.proofs.lemmas.Bool.{and_parts, and_from, or_cases, and_left, false≢true, not-true}
 use Rattle.std.proofs.Math.Bool.{or_assoc}
-use Rattle.std.proofs.Math.Dec.{eqb-suc-zero}
 use Rattle.sd_sid.specs.Mapping.{MappingValue}
 use Rattle.sd_sid.specs.Sid.{SidValue, same_sid}
 use Rattle.sd_acl.specs.declared.ace.AceKind.{AceKind}
@@ -187,7 +186,7 @@ module _ (g : MappingValue) (old new : Parts) (base : List (SidValue × GroupSta
   again_is sids more = λ i kind s. restricting_is more.allowed more.denied s i
 
   restricted_is : (sids more : PassSids) → is_restricted (token_of base (record { first = sids; second = Some more })) ≡ true
-  restricted_is sids more = ap not (eqb-suc-zero _)
+  restricted_is sids more = grind arith
 
   -- and by both
   pub restricted_gains : (by_owner unlisted unowned : Bool) (sids more : PassSids)

@@ -1,7 +1,7 @@
 -- Verdicts on all requests are the same just where the same bits are granted.
-use Rattle.std.proofs.Common.{subst, suc, length, [], ◌∷◌, ◌++◌, take, drop, append-nil, ◌≡◌, ℕ, ◌^◌, ◌<◌, ◌≤◌, Bool, true, false, not, ◌&&◌, ◌||◌, ◌==◌, nat_lt, List, Option, Some, inl, inr, refl, sym, ◌∙◌, ap, arith, remove}
+use Rattle.std.proofs.Common.{subst, suc, length, [], ◌∷◌, ◌++◌, take, drop, append-nil, ◌≡◌, ℕ, ◌^◌, ◌<◌, ◌≤◌, Bool, true, false, not, ◌&&◌, ◌||◌, ◌==◌, nat_lt, List, Option, Some, refl, sym, ◌∙◌, ap, arith, remove}
 use Rattle.std.proofs.Math.Dec.{eqb-suc-zero}
-use Rattle.std.proofs.lemmas.Bool.{cases_lt, false≢true, le-ltb, or_right}
+use Rattle.std.proofs.lemmas.Bool.{false≢true, le-ltb, or_right}
 use Rattle.std.proofs.lemmas.List.{take_all, drop_all}
 use Rattle.std.proofs.lemmas.List.Elements.{All-head}
 use Rattle.sd_sid.specs.Mask.{holds, mask_of}
@@ -17,7 +17,7 @@ use Rattle.sd_check.specs.declared.verdict.Verdict.TheVariants.{Granted}
 use Rattle.sd_check.proofs.LawProofs.{one_test}
 use Rattle.sd_analysis.specs.Base.{HasBase}
 use Rattle.sd_analysis.specs.Compare.{AreGains, HasABit}
-use Rattle.sd_analysis.specs.Effect.{HasEffect, HasNoEffect}
+use Rattle.sd_analysis.specs.Effect.{HasEffect, HasNoEffect, parts_with}
 use Rattle.sd_analysis.specs.Sufficient.{Parts, gains, token_of, with_denied}
 use Rattle.sd_analysis.specs.declared.compare_report.Change.{Change}
 use Rattle.sd_analysis.proofs.BitChecks.{bit_is_its_check}
@@ -57,10 +57,7 @@ same_high owner es others g t b high = privileged es ∙ sym (privileged others)
 -- a bit that one list grants a token and the other doesn't is below place 21
 low_bit : (owner : Option SidValue) (es others : List Ace) (g : MappingValue) (t : TokenValue) (b : ℕ)
     → is_granted owner (Some es) g t b ≡ true → is_granted owner (Some others) g t b ≡ false → b < 21
-low_bit owner es others g t b granted refused = elim (cases_lt b 21) [
-  | inl low ↦ low
-  | inr high ↦ absurd (false≢true (sym refused ∙ (sym (same_high owner es others g t b high) ∙ granted)))
-]
+low_bit owner es others g t b granted refused = grind (arith, same_high owner es others g t b)
 
 -- and a request for it has two verdicts
 two_verdicts : (owner : Option SidValue) (es others : List Ace) (g : MappingValue) (t : TokenValue) (b : ℕ)
@@ -97,10 +94,6 @@ effect_loses owner es g base place t b has lost = record {
 
 -- ---- what a comparison with the list without the entry comes to
 
--- the list, and the same without the entry
-abbrev whole : Option SidValue → List Ace → Parts
-whole owner es = record { owner = owner; dacl = Some es }
-
 still_there : (base : List (SidValue × GroupState)) (denied : Option SidValue) (kind : AceKind) (s : SidValue)
     → a_group_stands_for base kind s ≡ true → a_group_stands_for (with_denied base denied) kind s ≡ true
 still_there base denied kind s h = grind arith
@@ -129,28 +122,28 @@ none_gains g base old new (c ∷ cs) are none t b has granted = absurd (false≢
 
 module _ (owner : Option SidValue) (es others : List Ace) (g : MappingValue) (base : List (SidValue × GroupState)) (place : ℕ) (is : others ≡ remove es place) where
   -- a token that gains a bit, or loses one
-  pub effect_by_gain : (changes : List Change) → AreGains g base (whole owner es) (whole owner others) changes → (length changes == 0) ≡ false
+  pub effect_by_gain : (changes : List Change) → AreGains g base (parts_with owner es) (parts_with owner others) changes → (length changes == 0) ≡ false
       → HasEffect owner es g base place
   effect_by_gain changes are some =
-      let shown = gains_show g base (whole owner es) (whole owner others) changes are some in
+      let shown = gains_show g base (parts_with owner es) (parts_with owner others) changes are some in
       effect_gains owner es g base place shown.0 shown.1 shown.2.0
-      (subst (λ (list : List Ace). gains g (whole owner es) (whole owner list) shown.0 shown.1 ≡ true) is shown.2.1)
+      (subst (λ (list : List Ace). gains g (parts_with owner es) (parts_with owner list) shown.0 shown.1 ≡ true) is shown.2.1)
 
-  pub effect_by_loss : (changes : List Change) → AreGains g base (whole owner others) (whole owner es) changes → (length changes == 0) ≡ false
+  pub effect_by_loss : (changes : List Change) → AreGains g base (parts_with owner others) (parts_with owner es) changes → (length changes == 0) ≡ false
       → HasEffect owner es g base place
   effect_by_loss changes are some =
-      let shown = gains_show g base (whole owner others) (whole owner es) changes are some in
+      let shown = gains_show g base (parts_with owner others) (parts_with owner es) changes are some in
       effect_loses owner es g base place shown.0 shown.1 shown.2.0
-      (subst (λ (list : List Ace). gains g (whole owner list) (whole owner es) shown.0 shown.1 ≡ true) is shown.2.1)
+      (subst (λ (list : List Ace). gains g (parts_with owner list) (parts_with owner es) shown.0 shown.1 ≡ true) is shown.2.1)
 
-  pub no_effect_by_none : (gained lost : List Change) → AreGains g base (whole owner es) (whole owner others) gained → AreGains g base (whole owner others) (whole owner es) lost
+  pub no_effect_by_none : (gained lost : List Change) → AreGains g base (parts_with owner es) (parts_with owner others) gained → AreGains g base (parts_with owner others) (parts_with owner es) lost
       → (length gained == 0) ≡ true → (length lost == 0) ≡ true → HasNoEffect owner es g base place
   no_effect_by_none gained lost are_gained are_lost none nothing =
       no_effect owner es g base place
-      (λ t b has granted. none_gains g base (whole owner es) (whole owner others) gained are_gained none t b has
+      (λ t b has granted. none_gains g base (parts_with owner es) (parts_with owner others) gained are_gained none t b has
       (subst (λ (list : List Ace). is_granted owner (Some list) g t b ≡ true) (sym is) granted))
       (λ t b has granted. subst (λ (list : List Ace). is_granted owner (Some list) g t b ≡ true) is
-      (none_gains g base (whole owner others) (whole owner es) lost are_lost nothing t b has granted))
+      (none_gains g base (parts_with owner others) (parts_with owner es) lost are_lost nothing t b has granted))
 
 -- there is no entry at a place beyond the list
 pub no_effect_beyond : (owner : Option SidValue) (es : List Ace) (g : MappingValue) (base : List (SidValue × GroupState)) (place : ℕ)

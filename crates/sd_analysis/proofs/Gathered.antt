@@ -35,7 +35,7 @@ found_more fs i f b low is h =
     ]
 
 pub still_gone : (before now : Report) (b : ℕ) → IsLess before now → holds before.wanted b ≡ false → holds now.wanted b ≡ false
-still_gone before now b less gone = false_from_ne_true _ (λ still. false≢true (sym gone ∙ less b still))
+still_gone before now b less gone = grind (arith, less b)
 
 pub at_item : {X : Type 0} (P : X → Type 0) (xs : List X) (i : ℕ) (x : X) → i < length xs → x ≡ get_or xs i x → All P xs → P x
 at_item P xs i x low is all = subst P (sym is) (all i x low)

@@ -2,17 +2,17 @@
 use Rattle.std.proofs.Common.{arith, ◌≡◌, ℕ, Bool, true, false, not, ◌&&◌, ◌||◌, nat_lt, cond, List, [], ◌∷◌, Option, Some, None, ◌⊎◌, inl, inr, refl, sym, ◌∙◌, ap}
 use Rattle.std.specs.List.{AllByRecursion, list_any, filter_map, cons_option}
 use Rattle.std.specs.Option.{option_to_list}
-use Rattle.std.proofs.lemmas.Bool.{and_parts, and_from, or_left, or_right, cases_Bool, false≢true, not_from_false}
+use Rattle.std.proofs.lemmas.Bool.{and_parts, and_from, or_left, or_right, false≢true, not_from_false}
 use Rattle.std.proofs.lemmas.List.Folds.{list_any-append}
 use Rattle.sd_sid.specs.Mapping.{MappingValue}
-use Rattle.sd_sid.specs.Sid.{SidValue, same_sid, owner_rights}
+use Rattle.sd_sid.specs.Sid.{SidValue, same_sid}
 use Rattle.sd_sid.proofs.Compared.{same_sid-itself}
 use Rattle.sd_acl.specs.Ace.{is_allow, is_inherit_only}
 use Rattle.sd_acl.specs.declared.ace.Ace.{Ace}
 use Rattle.sd_acl.specs.declared.ace.AceKind.{AceKind}
 use Rattle.sd_acl.specs.declared.ace.AceKind.TheVariants.{Allow, Deny}
 use Rattle.sd_check.specs.Check.{first, is_allowed_by, subject}
-use Rattle.sd_analysis.specs.Sufficient.{Parts, is_of_kind, subject_if, is_named, has_sid, allowed_sids, denied_sids, is_among}
+use Rattle.sd_analysis.specs.Sufficient.{Parts, is_of_kind, subject_if, is_named, allowed_sids, denied_sids, is_among}
 use Rattle.sd_analysis.specs.Passes.{about, lists}
 use Rattle.sd_analysis.proofs.Narrowed.{IsLess, IsIn, allow_decides, none_allowed}
 
@@ -70,13 +70,7 @@ owner_named owner dacl s h = grind (arith, same_sid-itself)
 -- of whom an entry speaks, the descriptor names
 pub subject_named : (owner : Option SidValue) (es : List Ace) (e : Ace) (s : SidValue) → IsIn e es → subject owner e.sid ≡ Some s
     → is_named (record { owner = owner; dacl = Some es }) s ≡ true
-subject_named owner es e s is_in is = elim (cases_Bool (same_sid e.sid owner_rights)) [
-  | inl special ↦ owner_named owner (Some es) s (sym (ap (λ c. cond c owner (Some e.sid)) special) ∙ is)
-  | inr plain ↦
-      let same : Some e.sid ≡ Some s = sym (ap (λ c. cond c owner (Some e.sid)) plain) ∙ is in
-      let eq : e.sid ≡ s = cc in
-      or_right (has_sid owner s) _ (is_in (λ x. same_sid x.sid s) (ap (λ x. same_sid x s) eq ∙ same_sid-itself s))
-]
+subject_named owner es e s is_in is = grind (arith, same_sid-itself, is_in (λ x. same_sid x.sid s))
 
 all_less : (before now : AceKind → SidValue → Bool) (es : List Ace) → ((e : Ace) → IsIn e es → IsLess before now e) → AllByRecursion (IsLess before now) es
 all_less before now [] h = tt

@@ -1,6 +1,5 @@
 -- What a pass shows of two descriptors, two SIDs show.
-use Rattle.std.proofs.Common.{◌≡◌, ℕ, Bool, true, false, not, ◌&&◌, ◌||◌, ◌==◌, nat_lt, cond, List, [], ◌∷◌, Option, Some, None, ◌⊎◌, inl, inr, refl, sym, ◌∙◌, ap, arith}
-use Rattle.std.specs.List.{list_any}
+use Rattle.std.proofs.Common.{◌≡◌, ℕ, Bool, true, false, not, ◌&&◌, ◌||◌, ◌==◌, nat_lt, cond, List, [], Option, Some, None, ◌⊎◌, inl, inr, refl, sym, ◌∙◌, ap, arith}
 use Rattle.std.proofs.lemmas.Bool.{and_parts, and_from, or_cases, or_left, or_right, false≢true, not-true, and_right, not_from_false}
 use Rattle.sd_sid.specs.Mapping.{MappingValue}
 use Rattle.sd_sid.specs.Sid.{SidValue, same_sid}
@@ -9,7 +8,7 @@ use Rattle.sd_acl.specs.declared.ace.Ace.{Ace}
 use Rattle.sd_acl.specs.declared.ace.AceKind.{AceKind}
 use Rattle.sd_acl.specs.declared.ace.AceKind.TheVariants.{Allow, Deny}
 use Rattle.sd_check.specs.Check.{limits_owner}
-use Rattle.sd_check.specs.Token.{TokenValue, counts, a_group_stands_for, stands_for}
+use Rattle.sd_check.specs.Token.{TokenValue, a_group_stands_for, stands_for}
 use Rattle.sd_check.specs.declared.grounds.Pass.{Pass}
 use Rattle.sd_check.specs.declared.grounds.Pass.TheVariants.{First, Second}
 use Rattle.sd_check.specs.declared.token.GroupState.{GroupState}
@@ -18,6 +17,7 @@ use Rattle.sd_analysis.specs.Sufficient.{Parts, with_denied, is_named, has_sid, 
 use Rattle.sd_analysis.specs.Passes.{lists, owns, meets, stands_in, sids_stand}
 use Rattle.sd_analysis.specs.declared.witness.Demand.{Demand}
 use Rattle.sd_analysis.specs.declared.witness.PassSids.{PassSids}
+use Rattle.sd_analysis.proofs.Walks.{stands_for_deny}
 use Rattle.sd_analysis.proofs.Kept.{about_less, owner_named, IsWithin, keeps_listed, keeps_unlisted}
 
 -- ---- the owner
@@ -121,23 +121,10 @@ module _ (g : MappingValue) (old new : Parts) (other : SidValue) (stands : AceKi
 
 -- ---- a base with two SIDs
 
-any_more : {X : Type 0} (p q : X → Bool) → ((x : X) → p x ≡ true → q x ≡ true) → (xs : List X) → list_any p xs ≡ true → list_any q xs ≡ true
-any_more p q h [] is = is
-any_more p q h (x ∷ xs) is = elim (or_cases (p x) (list_any p xs) is) [
-  | inl here ↦ or_left _ _ (h x here)
-  | inr later ↦ or_right _ _ (any_more p q h xs later)
-]
-
-counts_more : (same : Bool) (state : GroupState) → (same && counts Allow state) ≡ true → (same && counts Deny state) ≡ true
-counts_more same state h = grind arith
-
 -- who stands for a SID in allows does in denies
 stands_more : (pass : Pass) (t : TokenValue) (kind : AceKind) (s : SidValue) → stands_in pass t Allow s ≡ true → stands_in pass t kind s ≡ true
 stands_more First t Allow s h = h
-stands_more First t Deny s h = elim (or_cases (same_sid t.user s) (a_group_stands_for t.groups Allow s) h) [
-  | inl user ↦ or_left _ _ user
-  | inr group ↦ or_right _ _ (any_more _ _ (λ (x : SidValue × GroupState). counts_more (same_sid x.0 s) x.1) t.groups group)
-]
+stands_more First t Deny s h = stands_for_deny t s h
 stands_more Second t kind s h = h
 
 module _ (base : List (SidValue × GroupState)) (t : TokenValue) (has : HasBase base t) where

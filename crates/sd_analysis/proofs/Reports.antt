@@ -1,7 +1,7 @@
 -- What a report keeps as changes come to it.
 use Rattle.std.proofs.Common.{◌≡◌, ℕ, suc, zero, ◌<◌, ◌+◌, ◌*◌, ◌^◌, cond, inl, inr, Bool, true, false, not, ◌&&◌, ◌||◌, ◌==◌, List, [], ◌∷◌, length, get_or, set, refl, sym, ◌∙◌, ap, arith}
 use Rattle.std.specs.List.{list_any, All}
-use Rattle.std.proofs.lemmas.Bool.{and_parts, and_from, or_parts, or_right, or_cases, false≢true, cases_Bool, eqb-true, eq-eqb, not-true, false_from_ne_true, not_from_false}
+use Rattle.std.proofs.lemmas.Bool.{and_parts, and_from, or_parts, or_right, or_cases, false≢true, cases_Bool, eqb-true, eq-eqb, not_from_false}
 use Rattle.std.proofs.lemmas.Nat.Bits.{bit_at-zero}
 use Rattle.std.proofs.lemmas.List.Elements.{All-set}
 use Rattle.std.proofs.Math.Bool.{or_assoc}
@@ -29,17 +29,13 @@ pub joined_holds : (m n b : ℕ) → b < 32 → holds (mask_of (λ k. holds m k 
 joined_holds m n b low = holds_place (λ k. holds m k || holds n k) b low
 
 pub in_both : (m n b : ℕ) → holds (mask_of (λ k. holds m k && holds n k) 32) b ≡ true → (holds m b ≡ true) × (holds n b ≡ true)
-in_both m n b h =
-    let outer = and_parts _ (holds m b && holds n b) (sym (holds-mask_of (λ k. holds m k && holds n k) 32 b) ∙ h) in
-    and_parts (holds m b) (holds n b) outer.1
+in_both m n b h = grind (arith, holds-mask_of (λ k. holds m k && holds n k) 32 b)
 
 pub both_in : (m n b : ℕ) → b < 32 → holds m b ≡ true → holds n b ≡ true → holds (mask_of (λ k. holds m k && holds n k) 32) b ≡ true
 both_in m n b low hm hn = holds_place (λ k. holds m k && holds n k) b low ∙ and_from _ _ hm hn
 
 pub in_difference : (m n b : ℕ) → holds (mask_of (λ k. holds m k && not (holds n k)) 32) b ≡ true → (holds m b ≡ true) × (not (holds n b) ≡ true)
-in_difference m n b h =
-    let outer = and_parts _ (holds m b && not (holds n b)) (sym (holds-mask_of (λ k. holds m k && not (holds n k)) 32 b) ∙ h) in
-    and_parts (holds m b) (not (holds n b)) outer.1
+in_difference m n b h = grind (arith, holds-mask_of (λ k. holds m k && not (holds n k)) 32 b)
 
 pub none_held : (m b : ℕ) → (m == 0) ≡ true → holds m b ≡ false
 none_held m b h = ap (λ n. holds n b) (eqb-true m 0 h) ∙ ap (λ n. n == 1) (bit_at-zero b)
@@ -119,11 +115,8 @@ wanted_less wanted bits now b is h = (in_difference wanted bits b (sym (ap (λ m
 
 pub wanted_gone : (mask wanted bits now b : ℕ) → bits ≡ mask_of (λ k. holds mask k && holds wanted k) 32
     → now ≡ mask_of (λ k. holds wanted k && not (holds bits k)) 32 → b < 21 → holds mask b ≡ true → holds now b ≡ false
-wanted_gone mask wanted bits now b is is_now low h = false_from_ne_true _ (λ still.
-    let parts = in_difference wanted bits b (sym (ap (λ m. holds m b) is_now) ∙ still) in
-    false≢true (sym (not-true _ parts.1) ∙ ap (λ m. holds m b) is ∙ both_in mask wanted b (omega arith) h parts.0))
+wanted_gone mask wanted bits now b is is_now low h = grind (arith, holds_place (λ k. holds mask k && holds wanted k) b (omega arith), holds_place (λ k. holds wanted k && not (holds bits k)) b (omega arith))
 
 pub none_wanted : (mask wanted bits b : ℕ) → bits ≡ mask_of (λ k. holds mask k && holds wanted k) 32 → (bits == 0) ≡ true
     → b < 21 → holds mask b ≡ true → holds wanted b ≡ false
-none_wanted mask wanted bits b is none low h = false_from_ne_true _ (λ still.
-    false≢true (sym (none_held bits b none) ∙ ap (λ m. holds m b) is ∙ both_in mask wanted b (omega arith) h still))
+none_wanted mask wanted bits b is none low h = grind (arith, none_held bits b none, both_in mask wanted b (omega arith))

@@ -1,9 +1,8 @@
 -- Rights that a list decides alike.
-use Rattle.std.proofs.Common.{count_by, ◌≡◌, ℕ, ◌+◌, ◌<◌, Bool, true, false, not, ◌&&◌, ◌||◌, ◌==◌, nat_lt, cond, List, [], ◌∷◌, ◌++◌, length, get_or, take, Option, Some, None, inl, inr, sym, refl, ◌∙◌, ap, arith, Bor}
+use Rattle.std.proofs.Common.{count_by, ◌≡◌, ℕ, ◌+◌, ◌<◌, Bool, true, false, not, ◌&&◌, ◌||◌, ◌==◌, nat_lt, cond, List, [], ◌∷◌, ◌++◌, length, get_or, take, Option, Some, None, sym, refl, ◌∙◌, ap, arith, Bor}
 use Rattle.std.specs.Bool.{beq}
 use Rattle.std.specs.List.{list_all, list_any}
-use Rattle.std.proofs.Math.Bool.{and-false}
-use Rattle.std.proofs.lemmas.Bool.{agree_below_at, and_from, and_parts, cases_lt, lt-ltb, ltb-true}
+use Rattle.std.proofs.lemmas.Bool.{agree_below_at, and_from, and_parts, lt-ltb, ltb-true}
 use Rattle.std.proofs.lemmas.List.Elements.{All-push}
 use Rattle.std.proofs.lemmas.List.Folds.{list_all_more, list_any-append}
 use Rattle.std.proofs.lemmas.List.Sums.{sum_by-append}
@@ -14,10 +13,10 @@ use Rattle.sd_sid.proofs.Masks.{holds_place, holds_when}
 use Rattle.sd_acl.specs.Ace.{is_inherit_only}
 use Rattle.sd_acl.specs.declared.ace.Ace.{Ace}
 use Rattle.sd_acl.specs.declared.ace.AceKind.TheVariants.{Allow}
-use Rattle.sd_check.specs.Check.{DaclRef, applies, decides, first, is_given, is_granted, entries_of, stands_for_subject}
+use Rattle.sd_check.specs.Check.{DaclRef, applies, decides, first, is_granted, entries_of, stands_for_subject}
 use Rattle.sd_check.specs.Laws.{restricted_to}
 use Rattle.sd_acl.specs.declared.descriptor.DaclOf.TheVariants as dacls
-use Rattle.sd_check.specs.Token.{TokenValue, is_restricted}
+use Rattle.sd_check.specs.Token.{TokenValue}
 use Rattle.sd_check.specs.declared.token.GroupState.{GroupState}
 use Rattle.sd_check.proofs.RestrictionProofs.{restriction_grants_no_bit}
 use Rattle.sd_analysis.specs.Base.{HasBase, IsPlain}
@@ -38,18 +37,13 @@ rights_place b low = agree_below_at (holds 0x001FFFFF) (λ k. nat_lt k 21) 32 b 
 same_itself : (x : Bool) → beq x x ≡ true
 same_itself x = grind arith
 
-without_it : (x y : Bool) → y ≡ false → not x ≡ beq x y
-without_it x y h = grind arith
-
 pub side_with : (rights named place r b : ℕ) → r ≡ mask_of (λ k. holds rights k && holds named k) 32 → holds named place ≡ true → b < 32
     → holds r b ≡ (holds rights b && beq (holds named b) (holds named place))
 side_with rights named place r b h j k2 = grind (arith, holds_place)
 
 pub side_without : (rights named place r b : ℕ) → r ≡ mask_of (λ k. holds rights k && not (holds named k)) 32 → holds named place ≡ false → b < 32
     → holds r b ≡ (holds rights b && beq (holds named b) (holds named place))
-side_without rights named place r b is side low =
-    ap (λ n. holds n b) is ∙ holds_place (λ k. holds rights k && not (holds named k)) b low
-    ∙ ap (λ x. holds rights b && x) (without_it (holds named b) (holds named place) side)
+side_without rights named place r b is side low = grind (arith, holds_place)
 
 -- ---- rights that each entry names together
 
@@ -141,27 +135,13 @@ module _ (owner : Option SidValue) (es : List Ace) (g : MappingValue) (base : Li
   pub each_next : access.mask ≡ taken
       → ((b : ℕ) → b < 32 → count_by (λ (one : Access). holds one.mask b) before ≡ cond (holds rights b && not (holds left b)) 1 0)
       → (b : ℕ) → b < 32 → count_by (λ (one : Access). holds one.mask b) (before ++ access ∷ []) ≡ cond (holds rights b && not (holds rest b)) 1 0
-  each_next is_mask so_far b low =
-      sum_by-append (λ (one : Access). cond (holds one.mask b) 1 0) before (access ∷ [])
-      ∙ ap (λ n. n + (0 + cond (holds access.mask b) 1 0)) (so_far b low)
-      ∙ ap (λ n. cond (holds rights b && not (holds left b)) 1 0 + (0 + cond (holds n b) 1 0)) is_mask
-      ∙ counted (holds rights b) (holds left b) (holds taken b) (λ h. let there = (and_parts (holds left b) _ (sym (is_taken b low) ∙ h)).0 in (there, among b low there))
-      ∙ ap (λ x. cond (holds rights b && not x) 1 0) (sym (ap (λ n. holds n b) is_rest ∙ holds_place (λ k. holds left k && not (holds taken k)) b low))
+  each_next is_mask so_far b low = grind (arith, sum_by-append (λ (one : Access). cond (holds one.mask b) 1 0) before (access ∷ []), so_far b low, is_taken b low, among b low, holds_place (λ k. holds left k && not (holds taken k)) b low)
 
   pub among_next : (b : ℕ) → b < 32 → holds rest b ≡ true → holds rights b ≡ true
-  among_next b low h = among b low (and_parts (holds left b) (not (holds taken b)) (sym (ap (λ n. holds n b) is_rest ∙ holds_place (λ k. holds left k && not (holds taken k)) b low) ∙ h)).0
+  among_next b low h = grind (arith, among b low, holds_place (λ k. holds left k && not (holds taken k)) b low)
 
   pub below_next : holds left place ≡ true → ((b : ℕ) → b < place → holds left b ≡ false) → (b : ℕ) → b < place + 1 → holds rest b ≡ false
-  below_next there below b low =
-      let small : b < 32 = omega arith in
-      ap (λ n. holds n b) is_rest ∙ holds_place (λ k. holds left k && not (holds taken k)) b small
-      ∙ elim (cases_lt b place) [
-        | inl before_it ↦ ap (λ x. x && not (holds taken b)) (below b before_it)
-        | inr not_before ↦
-            let here : b ≡ place = omega arith in
-            let gone : holds taken place ≡ true = is_taken place (omega arith) ∙ and_from _ _ there (and_from _ _ (same_itself (place == 17 || place == 18)) (alike_itself g place es)) in
-            ap (λ k. holds left k && not (holds taken k)) here ∙ ap (λ x. holds left place && not x) gone ∙ and-false (holds left place)
-      ]
+  below_next there below b low = grind (arith, below, is_taken place (omega arith), alike_itself g place es, holds_place (λ k. holds left k && not (holds taken k)) b (omega arith))
 
 -- no right was left at the place
 pub below_kept : (left place : ℕ) → holds left place ≡ false → ((b : ℕ) → b < place → holds left b ≡ false) → (b : ℕ) → b < place + 1 → holds left b ≡ false
@@ -175,22 +155,16 @@ beyond_next base before access so_far is = All-push (λ (one : Access). IsBeyond
 
 -- those of the asked rights that a list can grant
 pub asked_place : (rights r b : ℕ) → r ≡ mask_of (λ k. holds rights k && holds 0x001FFFFF k) 32 → b < 32 → holds r b ≡ (holds rights b && nat_lt b 21)
-asked_place rights r b is low =
-    ap (λ n. holds n b) is ∙ holds_place (λ k. holds rights k && holds 0x001FFFFF k) b low ∙ ap (λ x. holds rights b && x) (rights_place b low)
+asked_place rights r b is low = grind (arith, holds_place, rights_place)
 
 pub asked_low : (rights r : ℕ) → r ≡ mask_of (λ k. holds rights k && holds 0x001FFFFF k) 32 → (b : ℕ) → b < 32 → holds r b ≡ true → b < 21
 asked_low rights r is b low h = ltb-true b 21 (and_parts (holds rights b) (nat_lt b 21) (sym (asked_place rights r b is low) ∙ h)).1
-
-without_list : (low asked again restricted given : Bool) → restricted ≡ false → (asked && low) ≡ ((asked && low) && ((low && (not restricted || again)) || given))
-without_list low asked again restricted given h = grind arith
 
 no_list_is_who : (owner : Option SidValue) (g : MappingValue) (base : List (SidValue × GroupState)) (rights r : ℕ) (accesses : List Access)
     → r ≡ mask_of (λ k. holds rights k && holds 0x001FFFFF k) 32
     → ((t : TokenValue) (b : ℕ) → b < 32 → list_any (has_right t b) accesses ≡ holds r b)
     → IsWho owner None g base rights accesses
-no_list_is_who owner g base rights r accesses is exact t b plain has low =
-    exact t b low ∙ asked_place rights r b is low
-    ∙ without_list (nat_lt b 21) (holds rights b) (nat_lt b 21) (is_restricted t) (is_given owner None t b) plain.unrestricted
+no_list_is_who owner g base rights r accesses is exact t b plain has low = grind (arith, exact t b low, asked_place, plain.unrestricted)
 
 pub everyone_is_who : (owner : Option SidValue) (dacl : DaclRef) (g : MappingValue) (base : List (SidValue × GroupState)) (rights r : ℕ) (accesses : List Access)
     → ((es : Bor (List Ace)) → dacl ≡ dacls.List es → ⊥)
@@ -209,8 +183,7 @@ pub list_is_who : (owner : Option SidValue) (es : List Ace) (g : MappingValue) (
     → r ≡ mask_of (λ k. holds rights k && holds 0x001FFFFF k) 32
     → ((t : TokenValue) (b : ℕ) → IsPlain t → HasBase base t → b < 32 → list_any (has_right t b) accesses ≡ (holds r b && is_granted owner (Some es) g t b))
     → IsWho owner (Some es) g base rights accesses
-list_is_who owner es g base rights r accesses is exact t b plain has low =
-    exact t b plain has low ∙ ap (λ x. x && is_granted owner (Some es) g t b) (asked_place rights r b is low)
+list_is_who owner es g base rights r accesses is exact t b plain has low = grind (arith, exact t b plain has low, asked_place)
 
 -- a restricted token is granted nothing beyond what it is without the restriction
 pub who_is_most : (owner : Option SidValue) (dacl : Option (List Ace)) (g : MappingValue) (base : List (SidValue × GroupState)) (rights : ℕ) (accesses : List Access)

@@ -29,7 +29,7 @@ among_more sids i one s low is h =
     ]
 
 pub still_left : (before now : Found) (b : ℕ) → IsLessLeft before now → holds before.left b ≡ false → holds now.left b ≡ false
-still_left before now b less gone = false_from_ne_true _ (λ still. false≢true (sym gone ∙ less b still))
+still_left before now b less gone = grind (arith, less b)
 
 found_push : (fs : List Finding) (f : Finding) (b : ℕ) → is_found (fs ++ f ∷ []) b ≡ (is_found fs b || holds f.mask b)
 found_push fs f b = grind (arith, list_any-append)
@@ -54,7 +54,7 @@ found_one_more case pass demand wanted before now sids mask within is_met is_ite
 
 -- what the SIDs meet is left no more
 pub none_left : (left mask b : ℕ) (met : Bool) → holds mask b ≡ (met && holds left b) → (mask == 0) ≡ true → met ≡ true → holds left b ≡ false
-none_left left mask b met is none h = sym (ap (λ x. x && holds left b) h) ∙ sym is ∙ none_held mask b none
+none_left left mask b met is none h = grind (arith, none_held)
 
 pub sids_gone : (left mask now b : ℕ) (met : Bool) → holds mask b ≡ (met && holds left b) → now ≡ mask_of (λ k. holds left k && not (holds mask k)) 32
     → met ≡ true → holds now b ≡ false

@@ -1,11 +1,10 @@
 -- There is always a SID that neither descriptor names: more are numbered than named.
-use Rattle.std.proofs.Common.{◌≡◌, ℕ, suc, zero, ◌<◌, ◌≤◌, ◌+◌, ◌^◌, ◌/◌, ◌%◌, Bool, true, false, ◌||◌, cond, List, [], ◌∷◌, ◌++◌, length, map, Option, Some, None, Ok, Result, inl, inr, refl, sym, ◌∙◌, ap, arith}
+use Rattle.std.proofs.Common.{◌≡◌, ℕ, suc, zero, ◌<◌, ◌≤◌, ◌+◌, ◌^◌, ◌/◌, ◌%◌, Bool, true, false, ◌||◌, cond, List, [], ◌∷◌, ◌++◌, length, map, Option, Ok, Result, inl, inr, refl, sym, ◌∙◌, ap, arith}
 use Rattle.std.specs.List.{list_any}
 use Rattle.std.specs.Option.{option_to_list}
 use Rattle.std.proofs.lemmas.Bool.{cases_Bool, false_from_ne_true, le-ltb, lt-ltb, ne_eqb}
 use Rattle.std.proofs.lemmas.List.Folds.{list_any-append}
 use Rattle.std.proofs.lemmas.List.{length-append, length-map}
-use Rattle.std.proofs.Math.Bool.{or-false}
 use Rattle.sd_sid.specs.Sid.{SidValue, same_sid, sid_of}
 use Rattle.sd_sid.specs.declared.sid.SidError.{SidError}
 use Rattle.sd_sid.proofs.Compared.{same_sid-true}
@@ -82,8 +81,7 @@ entries_among [] s = refl
 entries_among (e ∷ es) s = ap (λ x. same_sid e.sid s || x) (entries_among es s)
 
 owner_among : (owner : Option SidValue) (s : SidValue) → has_sid owner s ≡ is_among (option_to_list owner) s
-owner_among None s = refl
-owner_among (Some o) s = sym (or-false (same_sid o s))
+owner_among owner s = grind arith
 
 named_among : (parts : Parts) (s : SidValue) → is_named parts s ≡ is_among (names_of parts) s
 unfolding names_of
@@ -93,8 +91,7 @@ named_among parts s =
     ∙ sym (list_any-append (λ x. same_sid x s) (option_to_list parts.owner) (map (λ (e : Ace). e.sid) (entries_or_none parts.dacl)))
 
 owner_length : (owner : Option SidValue) → length (option_to_list owner) ≤ 1
-owner_length None = omega arith
-owner_length (Some o) = omega arith
+owner_length owner = grind arith
 
 names_length : (parts : Parts) → length (names_of parts) ≤ length (entries_or_none parts.dacl) + 1
 unfolding names_of

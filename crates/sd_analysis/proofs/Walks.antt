@@ -206,7 +206,7 @@ pub waits : (owner : Option SidValue) (g : MappingValue) (b : ℕ) (e : Ace) →
 waits owner g b e h t = rw h refl
 
 pub names_not : (owner : Option SidValue) (g : MappingValue) (b : ℕ) (e : Ace) → holds (mapped g e.mask) b ≡ false → (t : TokenValue) → decides g (applies t owner) b e ≡ false
-names_not owner g b e h t = ap (λ x. (not (is_inherit_only e) && applies t owner e.kind e.sid) && x) h ∙ and-false _
+names_not owner g b e h t = grind arith
 
 pub speaks_of_nobody : (owner : Option SidValue) (g : MappingValue) (b : ℕ) (e : Ace) → None ≡ subject owner e.sid → (t : TokenValue) → decides g (applies t owner) b e ≡ false
 speaks_of_nobody owner g b e t h = grind arith
