@@ -37,24 +37,9 @@ found_more fs i f b low is h =
 pub still_gone : (before now : Report) (b : ℕ) → IsLess before now → holds before.wanted b ≡ false → holds now.wanted b ≡ false
 still_gone before now b less gone = grind (arith, less b)
 
+-- at the item of a step
 pub at_item : {X : Type 0} (P : X → Type 0) (xs : List X) (i : ℕ) (x : X) → i < length xs → x ≡ get_or xs i x → All P xs → P x
 at_item P xs i x low is all = subst P (sym is) (all i x low)
-
--- at the item of a step
-pub at_each : (shows : Witness → ℕ → Bool) (fs : List Finding) (i : ℕ) (f : Finding) → i < length fs → f ≡ get_or fs i f
-    → All (λ (x : Finding). (b : ℕ) → holds x.mask b ≡ true → shows (record { first = x.sids; second = None }) b ≡ true) fs
-    → (b : ℕ) → holds f.mask b ≡ true → shows (record { first = f.sids; second = None }) b ≡ true
-at_each shows fs i f low is all = at_item (λ (x : Finding). (b : ℕ) → holds x.mask b ≡ true → shows (record { first = x.sids; second = None }) b ≡ true) fs i f low is all
-
-pub at_second : (shows : Witness → ℕ → Bool) (first : Finding) (fs : List Finding) (i : ℕ) (f : Finding) → i < length fs → f ≡ get_or fs i f
-    → All (λ (x : Finding). (b : ℕ) → holds first.mask b ≡ true → holds x.mask b ≡ true → shows (record { first = first.sids; second = Some x.sids }) b ≡ true) fs
-    → (b : ℕ) → holds first.mask b ≡ true → holds f.mask b ≡ true → shows (record { first = first.sids; second = Some f.sids }) b ≡ true
-at_second shows first fs i f low is all = at_item (λ (x : Finding). (b : ℕ) → holds first.mask b ≡ true → holds x.mask b ≡ true → shows (record { first = first.sids; second = Some x.sids }) b ≡ true) fs i f low is all
-
-pub at_first : (shows : Witness → ℕ → Bool) (ss fs : List Finding) (i : ℕ) (f : Finding) → i < length fs → f ≡ get_or fs i f
-    → All (λ (x : Finding). All (λ (s : Finding). (b : ℕ) → holds x.mask b ≡ true → holds s.mask b ≡ true → shows (record { first = x.sids; second = Some s.sids }) b ≡ true) ss) fs
-    → All (λ (s : Finding). (b : ℕ) → holds f.mask b ≡ true → holds s.mask b ≡ true → shows (record { first = f.sids; second = Some s.sids }) b ≡ true) ss
-at_first shows ss fs i f low is all = at_item (λ (x : Finding). All (λ (s : Finding). (b : ℕ) → holds x.mask b ≡ true → holds s.mask b ≡ true → shows (record { first = x.sids; second = Some s.sids }) b ≡ true) ss) fs i f low is all
 
 pub none_found : (fs : List Finding) (b : ℕ) → length fs ≡ 0 → is_found fs b ≡ false
 none_found [] b h = refl

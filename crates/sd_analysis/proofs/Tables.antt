@@ -4,6 +4,7 @@ use Rattle.std.specs.List.{fold}
 use Rattle.std.specs.Option.{is_some}
 use Rattle.std.proofs.lemmas.Bool.{agree_below_at, cases_Bool, cond-false, cond-true, eq-eqb, eqb-true, false_from_ne_true, false≢true, lt-ltb, ne_eqb, or_cases, or_left, or_right}
 use Rattle.std.proofs.lemmas.List.{get_or_read}
+use Rattle.std.proofs.lemmas.List.Folds.{list_any-append}
 use Rattle.sd_sid.specs.Mask.{holds, mask_of}
 use Rattle.sd_sid.specs.Mapping.{MappingValue, mapped}
 use Rattle.sd_sid.specs.Sid.{SidValue, same_sid}
@@ -36,16 +37,7 @@ place_next one s sids h = cond-false (same_sid one s) 0 (suc (place_in sids s)) 
 
 pub place_low : (sids : List SidValue) (s : SidValue) → is_among sids s ≡ true → place_in sids s < length sids
 place_low [] s h = absurd (false≢true h)
-place_low (one ∷ sids) s h = elim (cases_Bool (same_sid one s)) [
-  | inl here ↦ let is : place_in (one ∷ sids) s ≡ 0 = place_here one s sids here in omega (arith, is)
-  | inr not_here ↦ elim (or_cases (same_sid one s) (is_among sids s) h) [
-    | inl here ↦ absurd (false≢true (sym not_here ∙ here))
-    | inr later ↦
-        let is : place_in (one ∷ sids) s ≡ suc (place_in sids s) = place_next one s sids not_here in
-        let low : place_in sids s < length sids = place_low sids s later in
-        omega (arith, is, low)
-  ]
-]
+place_low (one ∷ sids) s h = grind (arith, place_low sids s)
 
 different : (a b : ℕ) → (a ≡ b → ⊥) → (t : Bool) → t ≡ false → (a == b) ≡ t
 different a b ne t is = ne_eqb a b ne ∙ sym is
@@ -53,51 +45,14 @@ different a b ne t is = ne_eqb a b ne ∙ sym is
 -- two SIDs have one place if they are the same, where one of them has a place at all
 pub place_same : (sids : List SidValue) (x s : SidValue) → is_among sids s ≡ true → (place_in sids x == place_in sids s) ≡ same_sid s x
 place_same [] x s h = absurd (false≢true h)
-place_same (one ∷ sids) x s h = elim (cases_Bool (same_sid one s)) [
-  | inl here ↦
-      let is : place_in (one ∷ sids) s ≡ 0 = place_here one s sids here in
-      let same : one ≡ s = same_sid-true one s here in
-      elim (cases_Bool (same_sid one x)) [
-        | inl both ↦
-            let is_x : place_in (one ∷ sids) x ≡ 0 = place_here one x sids both in
-            eq-eqb _ _ (is_x ∙ sym is) ∙ sym (ap (λ y. same_sid y x) (sym same) ∙ both)
-        | inr other ↦
-            let is_x : place_in (one ∷ sids) x ≡ suc (place_in sids x) = place_next one x sids other in
-            different _ _ (λ e. omega (arith, e, is, is_x)) _ (ap (λ y. same_sid y x) (sym same) ∙ other)
-      ]
-  | inr not_here ↦
-      let is : place_in (one ∷ sids) s ≡ suc (place_in sids s) = place_next one s sids not_here in
-      elim (or_cases (same_sid one s) (is_among sids s) h) [
-        | inl here ↦ absurd (false≢true (sym not_here ∙ here))
-        | inr later ↦ elim (cases_Bool (same_sid one x)) [
-          | inl at_x ↦
-              let is_x : place_in (one ∷ sids) x ≡ 0 = place_here one x sids at_x in
-              different _ _ (λ e. omega (arith, e, is, is_x)) _
-              (false_from_ne_true _ (λ same. false≢true (sym not_here ∙ ap (same_sid one) (same_sid-true s x same) ∙ at_x)))
-          | inr not_x ↦
-              let is_x : place_in (one ∷ sids) x ≡ suc (place_in sids x) = place_next one x sids not_x in
-              let rest = place_same sids x s later in
-              elim (cases_Bool (same_sid s x)) [
-                | inl same ↦ eq-eqb _ _ (omega (arith, is, is_x, eqb-true _ _ (rest ∙ same))) ∙ sym same
-                | inr other ↦ different _ _
-                    (λ e. false≢true (sym (rest ∙ other) ∙ eq-eqb _ _ (omega (arith, e, is, is_x)))) _ other
-              ]
-        ]
-      ]
-]
+place_same (one ∷ sids) x s h = grind (arith, same_sid-true one s, same_sid-true s x, place_same sids x s)
 
 -- a SID is at its own place, or one before is the same
 pub first_or_before : (sids : List SidValue) (i : ℕ) (d : SidValue) → i < length sids
     → (place_in sids (get_or sids i d) ≡ i) ⊎ (is_among (take i sids) (get_or sids i d) ≡ true)
 first_or_before [] i d low = absurd (omega arith)
 first_or_before (one ∷ sids) zero d low = inl (place_here one one sids (same_sid-itself one))
-first_or_before (one ∷ sids) (suc i) d low = elim (cases_Bool (same_sid one (get_or sids i d))) [
-  | inl here ↦ inr (or_left _ _ here)
-  | inr not_here ↦ elim (first_or_before sids i d (omega arith)) [
-    | inl is ↦ inl (place_next one (get_or sids i d) sids not_here ∙ ap suc is)
-    | inr before ↦ inr (or_right _ _ before)
-  ]
-]
+first_or_before (one ∷ sids) (suc i) d low = grind (arith, first_or_before sids i d)
 
 pub among_at : (sids : List SidValue) (i : ℕ) (d : SidValue) → i < length sids → is_among sids (get_or sids i d) ≡ true
 among_at [] i d low = absurd (omega arith)
@@ -105,15 +60,10 @@ among_at (one ∷ sids) zero d low = or_left _ _ (same_sid-itself one)
 among_at (one ∷ sids) (suc i) d low = or_right _ _ (among_at sids i d (omega arith))
 
 pub among_left : (xs ys : List SidValue) (s : SidValue) → is_among xs s ≡ true → is_among (xs ++ ys) s ≡ true
-among_left [] ys s h = absurd (false≢true h)
-among_left (x ∷ xs) ys s h = elim (or_cases (same_sid x s) (is_among xs s) h) [
-  | inl here ↦ or_left _ _ here
-  | inr later ↦ or_right _ _ (among_left xs ys s later)
-]
+among_left xs ys s h = list_any-append (λ one. same_sid one s) xs ys ∙ or_left _ _ h
 
 pub among_right : (xs ys : List SidValue) (s : SidValue) → is_among ys s ≡ true → is_among (xs ++ ys) s ≡ true
-among_right [] ys s h = h
-among_right (x ∷ xs) ys s h = or_right _ _ (among_right xs ys s h)
+among_right xs ys s h = list_any-append (λ one. same_sid one s) xs ys ∙ or_right _ _ h
 
 -- ---- whom an entry is for
 
