@@ -2,7 +2,7 @@
 use Rattle.std.proofs.Common.{arith, ◌≡◌, ℕ, Bool, true, false, not, ◌&&◌, ◌||◌, ◌==◌, cond, List, ◌∷◌, Option, Some, None, ◌⊎◌, inl, inr, refl, sym, ◌∙◌, ap}
 use Rattle.std.specs.List.{list_any}
 use Rattle.std.specs.Option.{option_to_list}
-use Rattle.std.proofs.lemmas.Bool.{and_parts, and_from, or_cases, and_left, false≢true, not-true}
+use Rattle.std.proofs.lemmas.Bool.{cases_Bool, and_parts, and_from, or_cases, and_left, false≢true, not-true}
 use Rattle.std.proofs.Math.Bool.{or_assoc}
 use Rattle.sd_sid.specs.Mapping.{MappingValue}
 use Rattle.sd_sid.specs.Sid.{SidValue, same_sid}
@@ -66,19 +66,6 @@ granted_in_passes g parts t b =
 abbrev pub asks : Demand → Bool → Bool → Bool → Bool → Bool
 asks demand l n m q = cond demand.by_owner n l && (not (demand.unlisted && m) && not (demand.unowned && q))
 
--- where the old descriptor fails in a pass
-pick : (r m1 m2 : Bool) → in_passes r m1 m2 ≡ false → (here : Bool) × ((not (here && m1) ≡ true) × ((here ≡ true) ⊎ ((r ≡ true) × (not (not here && m2) ≡ true))))
-pick r false m2 h = (true, (refl, inl refl))
-pick false true m2 h = absurd (false≢true (sym h))
-pick true true false h = (false, (refl, inr (refl, refl)))
-pick true true true h = absurd (false≢true (sym h))
-
-there : (here m2 : Bool) → here ≡ true → not (not here && m2) ≡ true
-there here m2 h = grind arith
-
-second_too : (r first second : Bool) → in_passes r first second ≡ true → r ≡ true → second ≡ true
-second_too r first second h j = grind arith
-
 -- the old descriptor fails in the first pass alone, or the second pass shows the rest
 abbrev pub IsShown : (Demand → Bool) → (Demand → Bool) → Type 0
 IsShown first second =
@@ -90,31 +77,22 @@ IsShown first second =
 shown : (r l1 l2 n1 n2 m1 m2 q1 q2 by_owner : Bool) → in_passes r (cond by_owner n1 l1) (cond by_owner n2 l2) ≡ true
     → in_passes r m1 m2 ≡ false → in_passes r q1 q2 ≡ false
     → IsShown (λ demand. asks demand l1 n1 m1 q1) (λ demand. asks demand l2 n2 m2 q2)
-shown r l1 l2 n1 n2 m1 m2 q1 q2 by_owner granted not_listed not_owned =
-    let i = pick r m1 m2 not_listed in
-    let j = pick r q1 q2 not_owned in
-    let both : r ≡ true → cond by_owner n2 l2 ≡ true = second_too r (cond by_owner n1 l1) (cond by_owner n2 l2) granted in (
-      by_owner,
+shown r l1 l2 n1 n2 m1 m2 q1 q2 by_owner granted not_listed not_owned = (
+  by_owner,
+  (
+    not m1,
+    (
+      not q1,
       (
-        i.0,
-        (
-          j.0,
-          (
-            and_from _ _ (and_parts (cond by_owner n1 l1) _ granted).0 (and_from _ _ i.1.0 j.1.0),
-            elim i.1.1 [
-              | inl i_here ↦ elim j.1.1 [
-                | inl j_here ↦ inl (i_here, j_here)
-                | inr j_there ↦ inr (and_from _ _ (both j_there.0) (and_from _ _ (there i.0 m2 i_here) j_there.1))
-              ]
-              | inr i_there ↦ inr (and_from _ _ (both i_there.0) (and_from _ _ i_there.1 (elim j.1.1 [
-                | inl j_here ↦ there j.0 q2 j_here
-                | inr j_there ↦ j_there.1
-              ])))
-            ],
-          ),
-        ),
+        grind arith,
+        elim (cases_Bool (m1 || q1)) [
+          | inl second ↦ inr (grind arith)
+          | inr first ↦ inl (grind arith, grind arith)
+        ],
       ),
-    )
+    ),
+  ),
+)
 
 -- ---- gains
 

@@ -71,27 +71,6 @@ two_verdicts owner es others g t b granted refused same =
 gained_parts : (now before : Bool) → (now && not before) ≡ true → (now ≡ true) × (before ≡ false)
 gained_parts now before h = grind arith
 
--- a token that gains a bit without the entry, or loses one
-pub effect_gains : (owner : Option SidValue) (es : List Ace) (g : MappingValue) (base : List (SidValue × GroupState)) (place : ℕ) (t : TokenValue) (b : ℕ)
-    → HasBase base t → (is_granted owner (Some (remove es place)) g t b && not (is_granted owner (Some es) g t b)) ≡ true
-    → HasEffect owner es g base place
-effect_gains owner es g base place t b has gained = record {
-  token = t;
-  has_base = has;
-  request = 2 ^ b;
-  differs = let parts = gained_parts _ _ gained in two_verdicts owner (remove es place) es g t b parts.0 parts.1;
-}
-
-pub effect_loses : (owner : Option SidValue) (es : List Ace) (g : MappingValue) (base : List (SidValue × GroupState)) (place : ℕ) (t : TokenValue) (b : ℕ)
-    → HasBase base t → (is_granted owner (Some es) g t b && not (is_granted owner (Some (remove es place)) g t b)) ≡ true
-    → HasEffect owner es g base place
-effect_loses owner es g base place t b has lost = record {
-  token = t;
-  has_base = has;
-  request = 2 ^ b;
-  differs = λ same. let parts = gained_parts _ _ lost in two_verdicts owner es (remove es place) g t b parts.0 parts.1 (sym same);
-}
-
 -- ---- what a comparison with the list without the entry comes to
 
 still_there : (base : List (SidValue × GroupState)) (denied : Option SidValue) (kind : AceKind) (s : SidValue)
@@ -126,15 +105,27 @@ module _ (owner : Option SidValue) (es others : List Ace) (g : MappingValue) (ba
       → HasEffect owner es g base place
   effect_by_gain changes are some =
       let shown = gains_show g base (parts_with owner es) (parts_with owner others) changes are some in
-      effect_gains owner es g base place shown.0 shown.1 shown.2.0
-      (subst (λ (list : List Ace). gains g (parts_with owner es) (parts_with owner list) shown.0 shown.1 ≡ true) is shown.2.1)
+      record {
+        token = shown.0;
+        has_base = shown.2.0;
+        request = 2 ^ shown.1;
+        differs =
+            let parts = gained_parts _ _ (subst (λ (list : List Ace). gains g (parts_with owner es) (parts_with owner list) shown.0 shown.1 ≡ true) is shown.2.1) in
+            two_verdicts owner (remove es place) es g shown.0 shown.1 parts.0 parts.1;
+      }
 
   pub effect_by_loss : (changes : List Change) → AreGains g base (parts_with owner others) (parts_with owner es) changes → (length changes == 0) ≡ false
       → HasEffect owner es g base place
   effect_by_loss changes are some =
       let shown = gains_show g base (parts_with owner others) (parts_with owner es) changes are some in
-      effect_loses owner es g base place shown.0 shown.1 shown.2.0
-      (subst (λ (list : List Ace). gains g (parts_with owner list) (parts_with owner es) shown.0 shown.1 ≡ true) is shown.2.1)
+      record {
+        token = shown.0;
+        has_base = shown.2.0;
+        request = 2 ^ shown.1;
+        differs = λ same.
+            let parts = gained_parts _ _ (subst (λ (list : List Ace). gains g (parts_with owner list) (parts_with owner es) shown.0 shown.1 ≡ true) is shown.2.1) in
+            two_verdicts owner es (remove es place) g shown.0 shown.1 parts.0 parts.1 (sym same);
+      }
 
   pub no_effect_by_none : (gained lost : List Change) → AreGains g base (parts_with owner es) (parts_with owner others) gained → AreGains g base (parts_with owner others) (parts_with owner es) lost
       → (length gained == 0) ≡ true → (length lost == 0) ≡ true → HasNoEffect owner es g base place

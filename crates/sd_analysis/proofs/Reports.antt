@@ -4,7 +4,6 @@ use Rattle.std.specs.List.{list_any, All}
 use Rattle.std.proofs.lemmas.Bool.{and_parts, and_from, or_parts, or_right, or_cases, false≢true, cases_Bool, eqb-true, eq-eqb, not_from_false}
 use Rattle.std.proofs.lemmas.Nat.Bits.{bit_at-zero}
 use Rattle.std.proofs.lemmas.List.Elements.{All-set}
-use Rattle.std.proofs.Math.Bool.{or_assoc}
 use Rattle.sd_sid.specs.Mask.{holds, mask_of}
 use Rattle.sd_sid.proofs.Masks.{holds-mask_of, holds_place}
 use Rattle.sd_analysis.specs.Compare.{HasABit, is_reported}
@@ -21,8 +20,7 @@ any_set : {X : Type 0} (p : X → Bool) (q : Bool) (xs : List X) (i : ℕ) (y d 
     → list_any p (set xs i y) ≡ (list_any p xs || q)
 any_set p q [] i y d low is = absurd (omega arith)
 any_set p q (x ∷ xs) zero y d low is = ap (λ a. a || list_any p xs) is ∙ swap_last (p x) q (list_any p xs)
-any_set p q (x ∷ xs) (suc i) y d low is =
-    ap (λ a. p x || a) (any_set p q xs i y d (omega arith) is) ∙ sym (or_assoc (p x) (list_any p xs) q)
+any_set p q (x ∷ xs) (suc i) y d low is = grind (arith, any_set p q xs i y d)
 
 -- of a mask that is made of two
 pub joined_holds : (m n b : ℕ) → b < 32 → holds (mask_of (λ k. holds m k || holds n k) 32) b ≡ (holds m b || holds n b)

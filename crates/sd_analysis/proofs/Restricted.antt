@@ -1,6 +1,6 @@
 -- What is left to restricted tokens where no unrestricted one gains the bit.
-use Rattle.std.proofs.Common.{◌≡◌, ℕ, ◌<◌, Bool, true, false, not, ◌&&◌, ◌||◌, ◌==◌, cond, List, [], ◌∷◌, Option, Some, None, inl, inr, refl, sym, ◌∙◌, ap, arith}
-use Rattle.std.proofs.lemmas.Bool.{and_parts, and_from, false≢true, false_from_ne_true, true_from_ne_false, not_from_false, not-true}
+use Rattle.std.proofs.Common.{◌≡◌, ℕ, ◌<◌, Bool, true, false, not, ◌&&◌, ◌||◌, ◌==◌, List, [], ◌∷◌, Option, Some, None, inl, inr, refl, sym, ◌∙◌, ap, arith}
+use Rattle.std.proofs.lemmas.Bool.{and_parts, and_from, false≢true, false_from_ne_true, not-true}
 use Rattle.sd_sid.specs.Mask.{holds, mask_of}
 use Rattle.sd_sid.specs.Sid.{SidValue, same_sid}
 use Rattle.sd_sid.proofs.Compared.{same_sid-true}
@@ -20,7 +20,7 @@ use Rattle.sd_analysis.specs.declared.compare_search.Case.{Case}
 use Rattle.sd_analysis.specs.declared.witness.Demand.{Demand}
 use Rattle.sd_analysis.specs.declared.witness.PassSids.{PassSids}
 use Rattle.sd_analysis.proofs.Effects.{has_base_with}
-use Rattle.sd_analysis.proofs.Passed.{not_and, two_suffice}
+use Rattle.sd_analysis.proofs.Passed.{two_suffice}
 use Rattle.sd_analysis.proofs.Reports.{both_in}
 
 -- ---- an owner that both descriptors have
@@ -100,14 +100,9 @@ worth_rest case Second demand granted owned worth alone denied b low none is is_
 pub sought : (case : Case) (pass : Pass) (demand : Demand) (sids : PassSids) (b : ℕ)
     → (is_rest pass demand ≡ true → IsNotGained case demand.by_owner b)
     → sids_meet case pass demand sids b ≡ true → IsSought case pass demand sids b
-sought case First demand sids b not_gained met rest = true_from_ne_false _ (λ not_owned.
-    let stands = sids_stand First case.base.now sids in
+sought case First demand sids b not_gained met rest =
     let t = token_of case.base.now (record { first = sids; second = None }) in
-    let asked = and_parts demand.unlisted (not demand.unowned) rest in
-    let outer = and_parts (cond demand.by_owner (owns (new_of case) stands b) (lists case.mapping.now (new_of case) stands b)) _ met in
-    let inner = and_parts (not (demand.unlisted && lists case.mapping.now (old_of case) stands b)) (not (demand.unowned && owns (old_of case) stands b)) outer.1 in
-    false≢true (sym (not_gained rest t (has_base_with case.base.now sids.denied t refl))
-    ∙ and_from _ _ outer.0 (and_from _ _ (not_from_false _ (not_and demand.unlisted _ inner.0 asked.0)) (not_from_false _ not_owned))))
+    grind (arith, not_gained rest t (has_base_with case.base.now sids.denied t refl))
 sought case Second demand sids b not_gained met rest = absurd (false≢true rest)
 
 -- ---- without a base

@@ -1,8 +1,8 @@
 -- One walk over a list says of each SID what the list grants with it.
-use Rattle.std.proofs.Common.{◌≡◌, ℕ, suc, zero, ◌<◌, Bool, true, false, not, ◌&&◌, ◌||◌, ◌==◌, cond, List, [], ◌∷◌, ◌++◌, length, get_or, take, map, Option, Some, None, ◌⊎◌, inl, inr, refl, sym, ◌∙◌, ap, arith}
+use Rattle.std.proofs.Common.{◌≡◌, ℕ, suc, zero, ◌<◌, Bool, true, false, not, ◌&&◌, ◌||◌, ◌==◌, cond, List, [], ◌∷◌, ◌++◌, length, get_or, take, map, Option, Some, None, ◌⊎◌, inl, refl, sym, ◌∙◌, ap, arith}
 use Rattle.std.specs.List.{fold}
 use Rattle.std.specs.Option.{is_some}
-use Rattle.std.proofs.lemmas.Bool.{agree_below_at, cases_Bool, cond-false, cond-true, eq-eqb, eqb-true, false_from_ne_true, false≢true, lt-ltb, ne_eqb, or_cases, or_left, or_right}
+use Rattle.std.proofs.lemmas.Bool.{agree_below_at, cond-true, false≢true, lt-ltb, or_left, or_right}
 use Rattle.std.proofs.lemmas.List.{get_or_read}
 use Rattle.std.proofs.lemmas.List.Folds.{list_any-append}
 use Rattle.sd_sid.specs.Mask.{holds, mask_of}
@@ -32,15 +32,9 @@ use Rattle.sd_analysis.proofs.Reports.{none_held}
 pub place_here : (one s : SidValue) (sids : List SidValue) → same_sid one s ≡ true → place_in (one ∷ sids) s ≡ 0
 place_here one s sids h = cond-true (same_sid one s) 0 (suc (place_in sids s)) h
 
-pub place_next : (one s : SidValue) (sids : List SidValue) → same_sid one s ≡ false → place_in (one ∷ sids) s ≡ suc (place_in sids s)
-place_next one s sids h = cond-false (same_sid one s) 0 (suc (place_in sids s)) h
-
 pub place_low : (sids : List SidValue) (s : SidValue) → is_among sids s ≡ true → place_in sids s < length sids
 place_low [] s h = absurd (false≢true h)
 place_low (one ∷ sids) s h = grind (arith, place_low sids s)
-
-different : (a b : ℕ) → (a ≡ b → ⊥) → (t : Bool) → t ≡ false → (a == b) ≡ t
-different a b ne t is = ne_eqb a b ne ∙ sym is
 
 -- two SIDs have one place if they are the same, where one of them has a place at all
 pub place_same : (sids : List SidValue) (x s : SidValue) → is_among sids s ≡ true → (place_in sids x == place_in sids s) ≡ same_sid s x

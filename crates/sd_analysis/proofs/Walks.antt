@@ -129,10 +129,7 @@ same_alternatives t denied s (a ∷ those) within =
 
 within_more : (n m : ℕ) (those : List Alternative) → n ≤ m → list_all (λ (a : Alternative). nat_le a.unless n) those ≡ true → list_all (λ (a : Alternative). nat_le a.unless m) those ≡ true
 within_more n m [] more h = h
-within_more n m (a ∷ those) more h =
-    let parts = and_parts (nat_le a.unless n) (list_all (λ (other : Alternative). nat_le other.unless n) those) h in
-    let here : a.unless ≤ n = leb-true _ _ parts.0 in
-    and_from _ _ (le-leb a.unless m (omega arith)) (within_more n m those more parts.1)
+within_more n m (a ∷ those) more h = grind (arith, within_more n m those more, leb-true a.unless n, le-leb a.unless m)
 
 denied_more : (u x d : Bool) → u ≡ not d → (u && not x) ≡ not (d || (x || false))
 denied_more u x d h = grind arith

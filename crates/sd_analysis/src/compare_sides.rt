@@ -171,10 +171,7 @@ fn has_entry(entries: &[Ace], sid: &Sid) -> bool
 fn has_sid(one: &Option<Sid>, sid: &Sid) -> bool
     ensures { result ≡ has_sid one.now sid.now }
 {
-    match one {
-        None => false,
-        Some(one) => one.is(sid),
-    }
+    one.as_ref().is_some_and(|one| one.is(sid))
 }
 
 /// Whom an entry speaks of, where it is effective, and allows or denies as said.
