@@ -8,7 +8,7 @@ ghost use Rattle.sd_sid.specs.Sid.{same_sid};
 ghost use Rattle.sd_acl.specs.declared.ace.Ace.{Ace};
 ghost use Rattle.sd_acl.specs.declared.ace.AceKind.{AceKind};
 ghost use Rattle.sd_check.specs.Check.{entries_of, is_limit, limits_owner};
-ghost use Rattle.sd_analysis.specs.Sufficient.{allowed_sids, denied_sids, entries_or_none, has_sid, is_named, parts_of};
+ghost use Rattle.sd_analysis.specs.Sufficient.{allowed_sids, entries_or_none, has_sid, is_named, parts_of};
 ghost use Rattle.sd_analysis.specs.Sufficient.{subject_if, subjects_in};
 ghost use Rattle.sd_analysis.specs.Passes.{about, numbered, owns, sids_stand};
 ghost use Rattle.sd_analysis.specs.Report.{IsNeverMet};
@@ -74,7 +74,7 @@ impl DescriptorRef<'_> {
     }
 
     /// Whom its effective allows, or its denies, speak of.
-    fn subjects(&self, alloc: Global, allows: bool) -> Result<Vec<Sid>, AllocError>
+    pub(crate) fn subjects(&self, alloc: Global, allows: bool) -> Result<Vec<Sid>, AllocError>
         ensures { IfOk result (λ sids. sids.items ≡ subjects_in allows (parts_of self.now)) }
     {
         self.entries()
@@ -93,13 +93,6 @@ impl DescriptorRef<'_> {
         let subjects = self.subjects(alloc, true)?;
         sids.extend_from_slice(&subjects)?;
         Ok(sids)
-    }
-
-    /// Whom it may deny a bit through.
-    pub(crate) fn denied(&self, alloc: Global) -> Result<Vec<Sid>, AllocError>
-        ensures { IfOk result (λ sids. sids.items ≡ denied_sids (parts_of self.now)) }
-    {
-        self.subjects(alloc, false)
     }
 }
 
