@@ -145,7 +145,8 @@ pub record AreShares (g : MappingValue)
     (beside : Option SidValue) (shares : Shares) : Type 0 where
   pub room : length shares.own.items ≡ length sids
   pub listed : (s : SidValue) (b : ℕ) → is_among sids s ≡ true → b < 21
-      → holds (listed_of (point_at shares (place_in sids s))) b ≡ lists g parts (sids_stand pass base (sids_of beside s)) b
+      → holds (listed_of (point_at shares (place_in sids s))) b
+      ≡ lists g parts (sids_stand pass base (sids_of beside s)) b
 
 pub record AreBoth (g : MappingValue)
     (base : List (SidValue × GroupState)) (sids : List SidValue) (old new : Parts) (pass : Pass)
